@@ -1,0 +1,94 @@
+-- A purge keeps what the core holds in agreement with the trail.
+use Rattle.std.proofs.Common.{◌≡◌, ℕ, suc, ◌+◌, ◌-◌, ◌≤◌, nat_lt, Bool, true, false, not, if◌then◌else◌, ◌||◌, ◌&&◌, List, [], ◌∷◌, refl, ◌∙◌, ap, arith}
+use Rattle.std.proofs.lemmas.Bool.{lt-ltb}
+use Rattle.std.proofs.lemmas.Bool.Decides.{nat_tests}
+use Rattle.bp_lruk.specs.Burst.{Reference}
+use Rattle.bp_lruk.specs.Histories.{Blocks, is_held, HasStampsOf, SameAt, SameSettings}
+use Rattle.bp_core.specs.declared.entries.Call.TheVariants.{Purge}
+use Rattle.bp_core.specs.declared.entries.Reply.TheVariants.{Forgot}
+use Rattle.bp_core.specs.Parameters.{Parameters}
+use Rattle.bp_core.specs.Trail.{Trail}
+use Rattle.bp_core.specs.Clock.{clock}
+use Rattle.bp_core.specs.Places.{resident, loading}
+use Rattle.bp_core.specs.Images.{held}
+use Rattle.bp_core.specs.Room.{free}
+use Rattle.bp_core.specs.References.{references}
+use Rattle.bp_core.specs.Agreement.{State, Agrees}
+use Rattle.bp_core.proofs.StampsKept.{stamps-kept, told-alike}
+use Rattle.bp_core.proofs.Steps.{by}
+use Rattle.bp_lruk.specs.Burst.{last_time}
+use Rattle.bp_lruk.specs.Stamp.{IsTimed}
+use Rattle.bp_lruk.specs.Histories.{last_of, forgets, count_below}
+use Rattle.bp_core.specs.References.{is_empty, forgotten, forgets as forgets_page}
+use Rattle.bp_core.specs.Lists.{count_below as numbers_below}
+use Rattle.bp_core.proofs.Timed.{references-timed}
+use Rattle.bp_core.proofs.Ranges.{referred}
+use Rattle.std.proofs.Common.{zero}
+
+same-count : (f g : ℕ → Bool) → ((n : ℕ) → f n ≡ g n) → (n : ℕ) → count_below f n ≡ numbers_below g n
+same-count f g same zero = refl
+same-count f g same (suc n) = ap (λ b. count_below f n + (if b then 1 else 0)) (same n) ∙ go (g n) (same-count f g same n)
+  where
+    go : (b : Bool) → count_below f n ≡ numbers_below g n → count_below f n + (if b then 1 else 0) ≡ (if b then suc (numbers_below g n) else numbers_below g n)
+    go true ih = omega (arith, ih)
+    go false ih = omega (arith, ih)
+
+positive-is : (refs : List Reference) → IsTimed refs → nat_lt 0 (last_time refs) ≡ not (is_empty refs)
+positive-is [] t = refl
+positive-is (r ∷ older) t = lt-ltb 0 (last_time (r ∷ older)) (omega (arith, t.from_one))
+
+turned : (x y z : Bool) → (not x && (y && z)) ≡ (y && (not x && z))
+turned true true z = refl
+turned true false z = refl
+turned false true z = refl
+turned false false z = refl
+
+module _ (c : Parameters) (past : Trail) (x : State) (a : Agrees c past x) where
+  pub forgets-same : (p : ℕ) → forgets x.blocks x.now p ≡ forgets_page c past p (references c past p)
+  forgets-same p =
+      let last = (a.observed.stamps_are p).last in
+      ap (λ b. not b && (nat_lt 0 (last_of x.blocks p) && nat_lt x.blocks.retained (x.now - last_of x.blocks p))) (a.observed.held_is p)
+      ∙ ap (λ n. not (resident past p || loading past p) && (nat_lt 0 n && nat_lt x.blocks.retained (x.now - n))) last
+      ∙ ap (λ n. not (resident past p || loading past p) && (nat_lt 0 (last_time (references c past p)) && nat_lt n (x.now - last_time (references c past p)))) a.retained_is
+      ∙ ap (λ n. not (resident past p || loading past p) && (nat_lt 0 (last_time (references c past p)) && nat_lt c.retained (n - last_time (references c past p)))) a.observed.clock_is
+      ∙ ap (λ b. not (resident past p || loading past p) && (b && nat_lt c.retained (clock past - last_time (references c past p)))) (positive-is (references c past p) (references-timed c past p).timed)
+      ∙ turned (resident past p || loading past p) (not (is_empty (references c past p))) (nat_lt c.retained (clock past - last_time (references c past p)))
+
+  pub count-same : count_below (forgets x.blocks x.now) c.pages ≡ forgotten c past
+  count-same = same-count (forgets x.blocks x.now) (λ p. forgets_page c past p (references c past p)) forgets-same c.pages
+
+  -- no page beyond the file has a hist
+  pub nothing-beyond : (p : ℕ) → c.pages ≤ p → last_of x.blocks p ≡ 0
+  nothing-beyond p le = (a.observed.stamps_are p).last ∙ none (references c past p) ((referred c past a.legal).within p)
+    where
+      none : (refs : List Reference) → (is_empty refs ≡ false → nat_lt p c.pages ≡ true) → last_time refs ≡ 0
+      none [] w = refl
+      none (r ∷ older) w = let k = w refl in absurd (grind (arith, nat_tests))
+
+  pub agrees-purge : (who n : ℕ) (h : Blocks) → nat_lt who c.clients ≡ true → 1 ≤ free c past → n ≡ forgotten c past → SameSettings x.blocks h
+      → ((p : ℕ) → forgets x.blocks x.now p ≡ true → HasStampsOf h p []) → ((p : ℕ) → forgets x.blocks x.now p ≡ false → SameAt x.blocks h p) → ((p : ℕ) → is_held h p ≡ is_held x.blocks p)
+      → Agrees c (by who Purge (Forgot n) ∷ past) (record x { blocks = h })
+  agrees-purge who n h client enough counted settings gone kept held = record {
+    legal = record { here = record { client = client; allowed = refl; reply = ap Forgot counted }; before = a.legal };
+    observed = record {
+      clock_is = a.observed.clock_is;
+      durable_is = a.observed.durable_is;
+      passes_is = a.observed.passes_is;
+      tickets_is = a.observed.tickets_is;
+      out_is = a.observed.out_is;
+      reads_is = a.observed.reads_is;
+      writes_is = a.observed.writes_is;
+      frames_is = a.observed.frames_is;
+      stamps_are = λ p. stamped p (forgets_page c past p (references c past p)) refl;
+      held_is = λ p. held p ∙ a.observed.held_is p;
+    };
+    k_is = settings.k ∙ a.k_is;
+    correlated_is = settings.correlated ∙ a.correlated_is;
+    retained_is = settings.retained ∙ a.retained_is;
+    in_time = a.in_time;
+    in_room = omega arith;
+  }
+    where
+      stamped : (p : ℕ) (b : Bool) → forgets_page c past p (references c past p) ≡ b → HasStampsOf h p (if b then [] else references c past p)
+      stamped p true e = gone p (forgets-same p ∙ e)
+      stamped p false e = stamps-kept x.blocks h p (references c past p) settings (told-alike x.blocks h p (kept p (forgets-same p ∙ e))) (a.observed.stamps_are p)

@@ -1,0 +1,17 @@
+-- What holds of images in every legal trail.
+use Rattle.std.specs.Prelude.{◌≡◌, ℕ, List, true, IsSome}
+use Rattle.bp_core.specs.Event.{grant}
+use Rattle.bp_core.specs.Trail.{Trail}
+use Rattle.bp_core.specs.Passes.{reads_out}
+use Rattle.bp_core.specs.Places.{resident}
+use Rattle.bp_core.specs.Images.{held, plain_map}
+use Rattle.bp_core.specs.Legal.{is_out}
+use Rattle.bp_core.specs.Device.{due, Honest}
+
+-- with a device that gives back what was written, a resident page holds the plain map's image
+abbrev pub HeldIsPlain : Trail → Type 0
+HeldIsPlain past = (m : ℕ → List ℕ) (p : ℕ) → Honest m past → resident past p ≡ true → held past p ≡ plain_map m past p
+
+-- what each read that is out is due to give is known
+abbrev pub ReadsAreKnown : Trail → Type 0
+ReadsAreKnown past = (m : ℕ → List ℕ) (who p t : ℕ) → is_out (grant who p t) (reads_out past) ≡ true → IsSome (due m past p)

@@ -1,0 +1,58 @@
+-- Words on lists. A trail is newest first, so that what stands before an element follows it in the list.
+--     total ns, greatest ns      the sum of numbers, and the greatest, or 0
+--     some p xs, every p xs, count p xs      whether some element passes, whether each does, and how many do
+--     EachEntry P xs      P of each element and what stands before it
+--     after_last p xs      the elements after the last that passes p, or all where none does
+--     since start stop xs      some element passes start, and no later one passes stop
+--     outstanding key gives ends xs      what the elements gave that no later one ended, newest first; one ends all that have its key
+use Rattle.std.specs.Prelude.{ℕ, zero, suc, ◌+◌, max, Bool, true, false, not, ◌&&◌, ◌||◌, ◌==◌, if◌then◌else◌, List, [], ◌∷◌, filter, length, Option, Some, None}
+use Rattle.std.specs.List.{list_any}
+
+abbrev pub total : List ℕ → ℕ
+total [] = 0
+total (n ∷ ns) = n + total ns
+
+abbrev pub greatest : List ℕ → ℕ
+greatest [] = 0
+greatest (n ∷ ns) = max n (greatest ns)
+
+abbrev pub some : {X : Type 0} → (X → Bool) → List X → Bool
+some p xs = list_any p xs
+
+abbrev pub every : {X : Type 0} → (X → Bool) → List X → Bool
+every p [] = true
+every p (x ∷ xs) = p x && every p xs
+
+abbrev pub count : {X : Type 0} → (X → Bool) → List X → ℕ
+count p xs = length (filter p xs)
+
+abbrev pub after_last : {X : Type 0} → (X → Bool) → List X → List X
+after_last p [] = []
+after_last p (x ∷ xs) = if p x then [] else x ∷ after_last p xs
+
+abbrev pub since : {X : Type 0} → (X → Bool) → (X → Bool) → List X → Bool
+since start stop [] = false
+since start stop (x ∷ xs) = start x || (not (stop x) && since start stop xs)
+
+-- one more, if there is one; and those without the key that is ended, if one is
+abbrev pub and_given : {Y : Type 0} → Option Y → List Y → List Y
+and_given None ys = ys
+and_given (Some y) ys = y ∷ ys
+
+abbrev pub without : {Y : Type 0} → (Y → ℕ) → Option ℕ → List Y → List Y
+without key None ys = ys
+without key (Some n) ys = filter (λ y. not (key y == n)) ys
+
+abbrev pub outstanding : {X Y : Type 0} → (Y → ℕ) → (X → Option Y) → (X → Option ℕ) → List X → List Y
+outstanding key gives ends [] = []
+outstanding key gives ends (x ∷ xs) = and_given (gives x) (without key (ends x) (outstanding key gives ends xs))
+
+-- P of each element and what stands before it
+abbrev pub EachEntry : {X : Type 0} → (List X → X → Type 0) → List X → Type 0
+EachEntry P [] = Unit {0}
+EachEntry P (x ∷ xs) = record { here : P xs x; before : EachEntry P xs }
+
+-- how many numbers below n pass
+abbrev pub count_below : (ℕ → Bool) → ℕ → ℕ
+count_below p zero = 0
+count_below p (suc n) = if p n then suc (count_below p n) else count_below p n

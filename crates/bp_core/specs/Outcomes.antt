@@ -1,0 +1,189 @@
+-- What each call answers and leaves.
+use Rattle.std.specs.Prelude.{◌≡◌, ℕ, ◌+◌, ◌^◌, ◌<◌, ◌≤◌, Bool, true, false, List, [], ◌∷◌, Some, None, Result, Ok, Err}
+use Rattle.bp_page.specs.declared.refusals.Refusal.{Refusal}
+use Rattle.bp_page.specs.declared.refusals.Refusal.TheVariants as refusal
+use Rattle.bp_page.specs.declared.refusals.PortFault.{PortFault}
+use Rattle.bp_core.specs.Parameters.{Parameters}
+use Rattle.bp_core.specs.Event.{grant}
+use Rattle.bp_core.specs.Clock.{clock}
+use Rattle.bp_core.specs.Passes.{passes_out, reads_out, writes_out}
+use Rattle.bp_core.specs.Saved.{top}
+use Rattle.bp_core.specs.Room.{free}
+use Rattle.bp_core.specs.Legal.{is_out, Legal}
+use Rattle.bp_core.specs.Trail.{Trail}
+use Rattle.bp_core.specs.CoreView.{CoreView, EachPast, with_entry, HasRoomFor, LacksRoomFor}
+use Rattle.bp_core.specs.declared.entries.Call.{Call}
+use Rattle.bp_core.specs.declared.entries.Call.TheVariants.{Tick, Fix, ReadEnd, WriteEnd, Read, Write, Unfix, Flush, Purge}
+use Rattle.bp_core.specs.declared.entries.Reply.{Reply}
+use Rattle.bp_core.specs.declared.entries.Reply.TheVariants.{Done, Hit, Load, WriteFirst, NoVictim, NeedLog, Busy, Fixed, ReadFailed, Cleaned, StillDirty, WriteFailed, Content, Clean, Absent, Forgot}
+use Rattle.bp_core.specs.declared.passes.Pass.{Pass}
+use Rattle.bp_core.specs.declared.passes.ReadTicket.{ReadTicket}
+use Rattle.bp_core.specs.declared.passes.WriteTicket.{WriteTicket}
+use Rattle.bp_core.specs.declared.passes.Fix.{Fix as Fixing}
+use Rattle.bp_core.specs.declared.passes.Fix.TheVariants as fixing
+use Rattle.bp_core.specs.declared.passes.Flush.{Flush as Flushing}
+use Rattle.bp_core.specs.declared.passes.Flush.TheVariants as flushing
+use Rattle.bp_core.specs.declared.passes.Ended.{Ended}
+use Rattle.bp_core.specs.declared.passes.Ended.TheVariants as ended
+use Rattle.bp_core.specs.declared.passes.EndRefusal.{EndRefusal}
+use Rattle.bp_core.specs.declared.passes.EndRefusal.TheVariants as end_refusal
+
+-- the room that is left
+abbrev pub room_left : CoreView → ℕ
+room_left core = free core.parameters core.past
+
+-- one more entry, of a legal trail
+pub record Adds (old : CoreView) (client : ℕ) (call : Call) (reply : Reply) (new : CoreView) : Type 0 where
+  pub is : new ≡ with_entry old client call reply
+  pub legal : EachPast new (Legal new.parameters)
+
+-- a pass or ticket is out where it was given so and not given back
+abbrev pub pass_is_out : Pass → Trail → Bool
+pass_is_out pass past = is_out (grant pass.client pass.page pass.serial) (passes_out past)
+
+abbrev pub read_is_out : ReadTicket → Trail → Bool
+read_is_out ticket past = is_out (grant ticket.client ticket.page ticket.serial) (reads_out past)
+
+abbrev pub write_is_out : WriteTicket → Trail → Bool
+write_is_out ticket past = is_out (grant ticket.client ticket.page ticket.serial) (writes_out past)
+
+abbrev pub KnowsPass : CoreView → Pass → Type 0
+KnowsPass core pass = EachPast core (λ past. pass_is_out pass past ≡ true)
+
+abbrev pub LacksPass : CoreView → Pass → Type 0
+LacksPass core pass = EachPast core (λ past. pass_is_out pass past ≡ false)
+
+abbrev pub KnowsRead : CoreView → ReadTicket → Type 0
+KnowsRead core ticket = EachPast core (λ past. read_is_out ticket past ≡ true)
+
+abbrev pub LacksRead : CoreView → ReadTicket → Type 0
+LacksRead core ticket = EachPast core (λ past. read_is_out ticket past ≡ false)
+
+abbrev pub KnowsWrite : CoreView → WriteTicket → Type 0
+KnowsWrite core ticket = EachPast core (λ past. write_is_out ticket past ≡ true)
+
+abbrev pub LacksWrite : CoreView → WriteTicket → Type 0
+LacksWrite core ticket = EachPast core (λ past. write_is_out ticket past ≡ false)
+
+abbrev pub knows : CoreView → Pass → Bool
+knows core pass = pass_is_out pass core.past
+
+-- an entry that changes nothing but the trail
+pub data IsQuiet : Call → Reply → Type 0 where
+  fix_busy : (p : ℕ) → IsQuiet (Fix p) Busy
+  fix_none : (p : ℕ) → IsQuiet (Fix p) NoVictim
+  fix_log : (p lsn : ℕ) → IsQuiet (Fix p) (NeedLog lsn)
+  flush_busy : (p : ℕ) → IsQuiet (Flush p) Busy
+  flush_absent : (p : ℕ) → IsQuiet (Flush p) Absent
+  flush_clean : (p : ℕ) → IsQuiet (Flush p) Clean
+  flush_log : (p lsn : ℕ) → IsQuiet (Flush p) (NeedLog lsn)
+  page_read : (n p : ℕ) (image : List ℕ) → IsQuiet (Read n p) (Content image)
+
+-- the calls by which a write-out begins
+pub data IsBegin : Call → Type 0 where
+  by_fix : (p : ℕ) → IsBegin (Fix p)
+  by_flush : (p : ℕ) → IsBegin (Flush p)
+
+abbrev pub BeginOutcome : CoreView → ℕ → Call → ℕ → Result WriteTicket Refusal → CoreView → Type 0
+BeginOutcome old client call page (Ok ticket) new =
+    (ticket.client ≡ client) × (ticket.page ≡ page) × EachPast old (λ past. ticket.lsn ≡ top past page) × Adds old client call (WriteFirst ticket.serial ticket.page ticket.image) new
+BeginOutcome old client call page (Err refusal.OutOfMemory) new = new ≡ old
+BeginOutcome old client call page (Err _) new = ⊥
+
+-- what a core may be made with
+pub record IsFit (c : Parameters) : Type 0 where
+  pub frames : 1 ≤ c.frames
+  pub few_frames : c.frames ≤ 65536
+  pub clients : 1 ≤ c.clients
+  pub few_clients : c.clients ≤ 64
+  pub room : 1 ≤ c.room
+  pub small_room : c.room ≤ 16777216
+
+abbrev pub NewOutcome : Parameters → Result CoreView Refusal → Type 0
+NewOutcome c (Ok core) = IsFit c × (core ≡ record { parameters = c; past = [] })
+NewOutcome c (Err refusal.BadSettings) = ¬ IsFit c
+NewOutcome c (Err refusal.OutOfMemory) = IsFit c
+NewOutcome c (Err _) = ⊥
+
+-- a call that is refused for want of room alone
+abbrev pub StepOutcome : {A : Type 0} → CoreView → ℕ → Call → Result A Refusal → CoreView → Type 0
+StepOutcome old client call (Ok done) new = HasRoomFor 1 old × Adds old client call Done new
+StepOutcome old client call (Err refusal.TrailFull) new = LacksRoomFor 1 old × (new ≡ old)
+StepOutcome old client call (Err _) new = ⊥
+
+abbrev pub TickOutcome : {A : Type 0} → CoreView → ℕ → ℕ → Result A Refusal → CoreView → Type 0
+TickOutcome old client n (Ok done) new = HasRoomFor 1 old × EachPast old (λ past. clock past + n ≤ 2 ^ 62) × Adds old client (Tick n) Done new
+TickOutcome old client n (Err refusal.TrailFull) new = LacksRoomFor 1 old × (new ≡ old)
+TickOutcome old client n (Err refusal.ClockFull) new = HasRoomFor 1 old × EachPast old (λ past. 2 ^ 62 < clock past + n) × (new ≡ old)
+TickOutcome old client n (Err _) new = ⊥
+
+abbrev pub FixOutcome : CoreView → ℕ → ℕ → Result Fixing Refusal → CoreView → Type 0
+FixOutcome old client page (Ok (fixing.Hit pass)) new =
+    HasRoomFor 3 old × (pass.client ≡ client) × (pass.page ≡ page) × Adds old client (Fix page) (Hit pass.serial) new
+FixOutcome old client page (Ok (fixing.Load ticket evicted)) new =
+    HasRoomFor 3 old × (ticket.client ≡ client) × (ticket.page ≡ page) × Adds old client (Fix page) (Load ticket.serial evicted) new
+FixOutcome old client page (Ok (fixing.WriteFirst ticket)) new =
+    HasRoomFor 3 old × (ticket.client ≡ client) × EachPast old (λ past. ticket.lsn ≡ top past ticket.page) × Adds old client (Fix page) (WriteFirst ticket.serial ticket.page ticket.image) new
+FixOutcome old client page (Err refusal.NoVictim) new = HasRoomFor 3 old × Adds old client (Fix page) NoVictim new
+FixOutcome old client page (Err (refusal.NeedLog lsn)) new = HasRoomFor 3 old × Adds old client (Fix page) (NeedLog lsn) new
+FixOutcome old client page (Err refusal.Busy) new = HasRoomFor 3 old × Adds old client (Fix page) Busy new
+FixOutcome old client page (Err refusal.TrailFull) new = LacksRoomFor 3 old × (new ≡ old)
+FixOutcome old client page (Err refusal.OutOfMemory) new = HasRoomFor 3 old × (new ≡ old)
+FixOutcome old client page (Err _) new = ⊥
+
+abbrev pub FlushOutcome : CoreView → ℕ → ℕ → Result Flushing Refusal → CoreView → Type 0
+FlushOutcome old client page (Ok flushing.Clean) new = HasRoomFor 2 old × Adds old client (Flush page) Clean new
+FlushOutcome old client page (Ok flushing.Absent) new = HasRoomFor 2 old × Adds old client (Flush page) Absent new
+FlushOutcome old client page (Ok (flushing.WriteFirst ticket)) new =
+    HasRoomFor 2 old × (ticket.client ≡ client) × EachPast old (λ past. ticket.lsn ≡ top past ticket.page) × Adds old client (Flush page) (WriteFirst ticket.serial ticket.page ticket.image) new
+FlushOutcome old client page (Err (refusal.NeedLog lsn)) new = HasRoomFor 2 old × Adds old client (Flush page) (NeedLog lsn) new
+FlushOutcome old client page (Err refusal.Busy) new = HasRoomFor 2 old × Adds old client (Flush page) Busy new
+FlushOutcome old client page (Err refusal.TrailFull) new = LacksRoomFor 2 old × (new ≡ old)
+FlushOutcome old client page (Err refusal.OutOfMemory) new = HasRoomFor 2 old × (new ≡ old)
+FlushOutcome old client page (Err _) new = ⊥
+
+abbrev pub ReadEndOutcome : CoreView → ReadTicket → Result (List ℕ) PortFault → Result Pass (EndRefusal ReadTicket (Result (List ℕ) PortFault)) → CoreView → Type 0
+ReadEndOutcome old ticket (Ok image) (Ok pass) new =
+    (pass.client ≡ ticket.client) × (pass.page ≡ ticket.page) × KnowsRead old ticket
+    × Adds old ticket.client (ReadEnd ticket.serial ticket.page (Some image)) (Fixed pass.serial) new
+ReadEndOutcome old ticket (Err fault) (Err (end_refusal.Failed refusal.ReadFailed)) new =
+    KnowsRead old ticket
+    × Adds old ticket.client (ReadEnd ticket.serial ticket.page None) ReadFailed new
+ReadEndOutcome old ticket outcome (Err (end_refusal.Unknown same back)) new =
+    (same ≡ ticket) × (back ≡ outcome) × LacksRead old ticket × (new ≡ old)
+ReadEndOutcome old ticket _ _ new = ⊥
+
+abbrev pub WriteEndOutcome : CoreView → WriteTicket → Result (Unit {0}) PortFault → Result Ended (EndRefusal WriteTicket (Result (Unit {0}) PortFault)) → CoreView → Type 0
+WriteEndOutcome old ticket (Ok done) (Ok ended.Cleaned) new =
+    KnowsWrite old ticket × Adds old ticket.client (WriteEnd ticket.serial ticket.page true) Cleaned new
+WriteEndOutcome old ticket (Ok done) (Ok ended.StillDirty) new =
+    KnowsWrite old ticket × Adds old ticket.client (WriteEnd ticket.serial ticket.page true) StillDirty new
+WriteEndOutcome old ticket (Err fault) (Err (end_refusal.Failed refusal.WriteFailed)) new =
+    KnowsWrite old ticket × Adds old ticket.client (WriteEnd ticket.serial ticket.page false) WriteFailed new
+WriteEndOutcome old ticket outcome (Err (end_refusal.Unknown same back)) new =
+    (same ≡ ticket) × (back ≡ outcome) × LacksWrite old ticket × (new ≡ old)
+WriteEndOutcome old ticket _ _ new = ⊥
+
+abbrev pub ReadOutcome : CoreView → Pass → Result (List ℕ) Refusal → CoreView → Type 0
+ReadOutcome old pass (Ok image) new = HasRoomFor 1 old × KnowsPass old pass × Adds old pass.client (Read pass.serial pass.page) (Content image) new
+ReadOutcome old pass (Err refusal.UnknownPass) new = HasRoomFor 1 old × LacksPass old pass × (new ≡ old)
+ReadOutcome old pass (Err refusal.TrailFull) new = LacksRoomFor 1 old × (new ≡ old)
+ReadOutcome old pass (Err refusal.OutOfMemory) new = HasRoomFor 1 old × KnowsPass old pass × (new ≡ old)
+ReadOutcome old pass (Err _) new = ⊥
+
+abbrev pub WriteOutcome : {A : Type 0} → CoreView → Pass → ℕ → List ℕ → ℕ → Result A Refusal → CoreView → Type 0
+WriteOutcome old pass offset bytes lsn (Ok done) new =
+    HasRoomFor 1 old × KnowsPass old pass × Adds old pass.client (Write pass.serial pass.page offset bytes lsn) Done new
+WriteOutcome old pass offset bytes lsn (Err refusal.UnknownPass) new = HasRoomFor 1 old × LacksPass old pass × (new ≡ old)
+WriteOutcome old pass offset bytes lsn (Err refusal.TrailFull) new = LacksRoomFor 1 old × (new ≡ old)
+WriteOutcome old pass offset bytes lsn (Err refusal.OutOfMemory) new = HasRoomFor 1 old × KnowsPass old pass × (new ≡ old)
+WriteOutcome old pass offset bytes lsn (Err _) new = ⊥
+
+abbrev pub UnfixOutcome : {A : Type 0} → CoreView → Pass → Result A Pass → CoreView → Type 0
+UnfixOutcome old pass (Ok done) new = KnowsPass old pass × Adds old pass.client (Unfix pass.serial pass.page) Done new
+UnfixOutcome old pass (Err same) new = (same ≡ pass) × LacksPass old pass × (new ≡ old)
+
+abbrev pub PurgeOutcome : CoreView → ℕ → Result ℕ Refusal → CoreView → Type 0
+PurgeOutcome old client (Ok n) new = HasRoomFor 1 old × Adds old client Purge (Forgot n) new
+PurgeOutcome old client (Err refusal.TrailFull) new = LacksRoomFor 1 old × (new ≡ old)
+PurgeOutcome old client (Err _) new = ⊥

@@ -1,0 +1,18 @@
+//! The core of a buffer pool: each call is one step, and the trail of all steps is one legal history.
+//!
+//! The behaviour is that of the page buffer manager of Gray and Reuter (Transaction Processing, chapter 13), with
+//! replacement by LRU-K (O'Neil, O'Neil and Weikum, SIGMOD 1993, figure 2.1).
+#![tactic(auto)]
+
+pub mod config;
+pub mod entries;
+mod frame;
+mod grants;
+pub mod passes;
+pub mod pool;
+pub mod scripts;
+
+pub use entries::{Call, Entry, Reply};
+pub use passes::{EndRefusal, Ended, Fix, Flush, Pass, ReadTicket, WriteTicket};
+pub use pool::Core;
+pub use scripts::{Refused, Row, Step};

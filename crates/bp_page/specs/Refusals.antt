@@ -1,0 +1,29 @@
+-- The number of each refusal.
+use Rattle.std.specs.Prelude.{ℕ}
+use Rattle.bp_page.specs.declared.refusals.Refusal.{Refusal}
+use Rattle.bp_page.specs.declared.refusals.Refusal.TheVariants.{BadGeometry, BadSettings, BadLength, NoVictim, NeedLog, Busy, UnknownPass, UnknownTicket, ReadFailed, WriteFailed, TrailFull, ClockFull, OutOfMemory, RingFull, Disagree, BadShape, BadClient, BadOp, BadNumber, BadHex, OutOfPage, TooLong, ReadFault}
+
+abbrev pub number_of : Refusal → ℕ
+number_of BadGeometry = 1
+number_of BadSettings = 2
+number_of BadLength = 3
+number_of NoVictim = 11
+number_of (NeedLog lsn) = 12
+number_of Busy = 13
+number_of UnknownPass = 14
+number_of UnknownTicket = 16
+number_of ReadFailed = 17
+number_of WriteFailed = 18
+number_of TrailFull = 20
+number_of ClockFull = 21
+number_of OutOfMemory = 22
+number_of RingFull = 23
+number_of Disagree = 24
+number_of BadShape = 40
+number_of BadClient = 41
+number_of BadOp = 42
+number_of BadNumber = 43
+number_of BadHex = 44
+number_of OutOfPage = 45
+number_of TooLong = 46
+number_of ReadFault = 47

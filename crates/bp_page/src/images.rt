@@ -1,0 +1,137 @@
+//! The bytes of a page, and the bytes that a write puts there.
+ghost use Rattle.std.specs.Prelude.{◌≡◌, ℕ, ◌+◌, ◌≤◌, List, IfOk, length, replicate};
+ghost use Rattle.std.specs.Str.{bytes_eq};
+ghost use Rattle.std.specs.Cmp.Rules.{comparing};
+ghost use Rattle.std.proofs.Common.{rules};
+ghost use Rattle.bp_page.specs.Patched.{patched};
+
+use crate::limits::Geometry;
+use std::alloc::{AllocError, Global};
+use std::marker::Model;
+
+/// The bytes of one page, its own copy. Two images are equal where their bytes are.
+#[derive(Debug, Drop)]
+pub struct Image {
+    bytes: Vec<u8>,
+}
+
+impl Model for Image {
+    ghost Value = { List ℕ };
+
+    ghost view = { λ image. image.bytes.items };
+}
+
+impl PartialEq for Image {
+    ghost eq = { bytes_eq };
+
+    ghost laws = { Prim.search (comparing, rules) };
+
+    fn eq(&self, other: &Image) -> bool {
+        self.bytes == other.bytes
+    }
+}
+
+impl Eq for Image {
+    ghost laws = { Prim.search (comparing, rules) };
+}
+
+impl Image {
+    /// An image of these bytes. It fails by want of memory alone.
+    pub fn of(alloc: Global, bytes: &[u8]) -> Result<Image, AllocError>
+        ensures { IfOk result (λ image. image ≡ bytes.now) }
+    {
+        let mut own = Vec::new(alloc);
+        own.extend_from_slice(bytes)?;
+        Ok(Image { bytes: own })
+    }
+
+    /// An image of zeros, of the page size. It fails by want of memory alone.
+    pub fn blank(alloc: Global, geometry: &Geometry) -> Result<Image, AllocError>
+        ensures { IfOk result (λ image. image ≡ replicate geometry.now.size 0) }
+    {
+        let size = geometry.size;
+        Ok(Image {
+            bytes: vec![in alloc; 0; size]?,
+        })
+    }
+
+    /// Its bytes.
+    pub fn bytes(&self) -> &[u8]
+        ensures { result.now ≡ self.now }
+    {
+        &self.bytes
+    }
+
+    /// Takes the bytes of another image of the same length. It takes no memory.
+    pub fn copy_from(&mut self, other: &Image)
+        requires { length self.old ≡ length other.now }
+        ensures { self.new ≡ other.now }
+    {
+        self.bytes.copy_from_slice(&other.bytes);
+    }
+
+    /// Puts the bytes in place of as many from the offset on. It takes no memory.
+    pub fn patch(&mut self, offset: usize, bytes: &[u8])
+        requires { offset + length bytes.now ≤ length self.old }
+        ensures { self.new ≡ patched offset bytes.now self.old }
+    {
+        let rest = self.bytes.len() - offset;
+        prove!(bytes.len() <= rest);
+        let end = offset + bytes.len();
+        self.bytes[offset..end].copy_from_slice(bytes);
+    }
+
+    /// A new image with the bytes in place of as many from the offset on. It fails by want of memory alone.
+    pub fn patched(&self, alloc: Global, offset: usize, bytes: &[u8]) -> Result<Image, AllocError>
+        requires { offset + length bytes.now ≤ length self.now }
+        ensures { IfOk result (λ image. image ≡ patched offset bytes.now self.now) }
+    {
+        let mut image = Image::of(alloc, &self.bytes)?;
+        image.patch(offset, bytes);
+        Ok(image)
+    }
+}
+
+/// A list of bytes, its own copy. Two lists are equal where their bytes are.
+#[derive(Debug, Drop)]
+pub struct Bytes {
+    bytes: Vec<u8>,
+}
+
+impl Model for Bytes {
+    ghost Value = { List ℕ };
+
+    ghost view = { λ list. list.bytes.items };
+}
+
+impl PartialEq for Bytes {
+    ghost eq = { bytes_eq };
+
+    ghost laws = { Prim.search (comparing, rules) };
+
+    fn eq(&self, other: &Bytes) -> bool {
+        self.bytes == other.bytes
+    }
+}
+
+impl Eq for Bytes {
+    ghost laws = { Prim.search (comparing, rules) };
+}
+
+impl Bytes {
+    /// A list of these bytes. It fails by want of memory alone.
+    pub fn of(alloc: Global, bytes: &[u8]) -> Result<Bytes, AllocError>
+        ensures { IfOk result (λ list. list ≡ bytes.now) }
+    {
+        let mut own = Vec::new(alloc);
+        own.extend_from_slice(bytes)?;
+        Ok(Bytes { bytes: own })
+    }
+
+    /// Its bytes.
+    pub fn bytes(&self) -> &[u8]
+        ensures { result.now ≡ self.now }
+    {
+        &self.bytes
+    }
+}

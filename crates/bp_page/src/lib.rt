@@ -1,0 +1,12 @@
+//! Pages, log sequence numbers, page images, and why a call is refused.
+#![tactic(auto)]
+
+pub mod images;
+pub mod limits;
+pub mod numbers;
+pub mod refusals;
+
+pub use images::{Bytes, Image};
+pub use limits::Geometry;
+pub use numbers::{Lsn, PageNo};
+pub use refusals::{PortFault, Refusal};

@@ -1,0 +1,80 @@
+//! The numbers of pages and of log records.
+ghost use Rattle.std.specs.Prelude.{◌≡◌, ℕ};
+
+use std::fmt;
+use std::marker::Model;
+
+/// The number of a page in its file, from 0.
+#[derive(Clone, Copy, PartialEq, Eq, PartialOrd, Ord, Debug, Drop)]
+pub struct PageNo {
+    number: u64,
+}
+
+impl Model for PageNo {
+    ghost Value = { ℕ };
+
+    ghost view = { λ page. page.number };
+
+    ghost inverse = { λ n. record { number = n } };
+}
+
+impl PageNo {
+    /// The page with this number. Whether a file has it, its geometry tells.
+    pub fn new(number: u64) -> PageNo
+        ensures { result ≡ number }
+    {
+        PageNo { number }
+    }
+
+    /// Its number.
+    pub fn number(self) -> u64
+        ensures { result ≡ self }
+    {
+        self.number
+    }
+}
+
+impl fmt::Display for PageNo {
+    fn fmt<W: fmt::Write>(&self, f: &mut fmt::Formatter<W>) -> fmt::Result {
+        let number = self.number;
+        write!(f, "{number}")
+    }
+}
+
+/// A log sequence number: the place of a record in the log (Gray and Reuter, chapter 13). The page LSN is that of the
+/// record that the log must hold before the page may go out.
+#[derive(Clone, Copy, PartialEq, Eq, PartialOrd, Ord, Debug, Drop)]
+pub struct Lsn {
+    number: u64,
+}
+
+impl Model for Lsn {
+    ghost Value = { ℕ };
+
+    ghost view = { λ lsn. lsn.number };
+
+    ghost inverse = { λ n. record { number = n } };
+}
+
+impl Lsn {
+    /// The place with this number in the log.
+    pub fn new(number: u64) -> Lsn
+        ensures { result ≡ number }
+    {
+        Lsn { number }
+    }
+
+    /// Its number.
+    pub fn number(self) -> u64
+        ensures { result ≡ self }
+    {
+        self.number
+    }
+}
+
+impl fmt::Display for Lsn {
+    fn fmt<W: fmt::Write>(&self, f: &mut fmt::Formatter<W>) -> fmt::Result {
+        let number = self.number;
+        write!(f, "{number}")
+    }
+}
