@@ -135,7 +135,7 @@ abbrev pub FlushOutcome : CoreView → ℕ → ℕ → Result Flushing Refusal �
 FlushOutcome old client page (Ok flushing.Clean) new = HasRoomFor 2 old × Adds old client (Flush page) Clean new
 FlushOutcome old client page (Ok flushing.Absent) new = HasRoomFor 2 old × Adds old client (Flush page) Absent new
 FlushOutcome old client page (Ok (flushing.WriteFirst ticket)) new =
-    HasRoomFor 2 old × (ticket.client ≡ client) × EachPast old (λ past. ticket.lsn ≡ top past ticket.page) × Adds old client (Flush page) (WriteFirst ticket.serial ticket.page ticket.image) new
+    HasRoomFor 2 old × (ticket.client ≡ client) × (ticket.page ≡ page) × EachPast old (λ past. ticket.lsn ≡ top past ticket.page) × Adds old client (Flush page) (WriteFirst ticket.serial ticket.page ticket.image) new
 FlushOutcome old client page (Err (refusal.NeedLog lsn)) new = HasRoomFor 2 old × Adds old client (Flush page) (NeedLog lsn) new
 FlushOutcome old client page (Err refusal.Busy) new = HasRoomFor 2 old × Adds old client (Flush page) Busy new
 FlushOutcome old client page (Err refusal.TrailFull) new = LacksRoomFor 2 old × (new ≡ old)

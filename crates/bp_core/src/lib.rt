@@ -13,6 +13,6 @@ pub mod pool;
 pub mod scripts;
 
 pub use entries::{Call, Entry, Reply};
-pub use passes::{EndRefusal, Ended, Fix, Flush, Pass, ReadTicket, WriteTicket};
+pub use passes::{EndRefusal, Ended, Fix, Flush, Pass, PassNote, ReadTicket, WriteTicket};
 pub use pool::Core;
 pub use scripts::{Refused, Row, Step};

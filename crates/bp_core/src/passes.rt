@@ -1,7 +1,9 @@
 //! Passes and tickets. Each has to be spent, so it can be neither copied nor dropped.
 ghost use Rattle.std.specs.Prelude.{◌≡◌};
+ghost use Rattle.bp_core.specs.Event.{grant};
 
 use bp_page::{Image, Lsn, PageNo, Refusal};
+use std::marker::Model;
 
 /// The right to use a page that is in a frame. Its serial number is the number of passes given before it, from 0.
 #[derive(Debug)]
@@ -27,6 +29,24 @@ pub struct WriteTicket {
     pub(crate) serial: u64,
     pub(crate) image: Image,
     pub(crate) lsn: Lsn,
+}
+
+/// What a pass stands for: a plain note, which may be copied and dropped. A dropped note leaves its page pinned.
+#[derive(Clone, Copy, Debug)]
+pub struct PassNote {
+    client: u8,
+    page: PageNo,
+    serial: u64,
+}
+
+impl Model for PassNote {
+    ghost use Rattle.bp_core.specs.Event.{Grant, grant};
+
+    ghost Value = { Grant };
+
+    ghost view = { λ note. grant note.client note.page note.serial };
+
+    ghost inverse = { λ g. record { client = g.client; page = g.page; serial = g.serial } };
 }
 
 /// What `fix` gave.
@@ -81,6 +101,60 @@ impl Pass {
         ensures { result ≡ self.now.serial }
     {
         self.serial
+    }
+}
+
+impl Pass {
+    /// A note of the pass, in its place. No core is asked.
+    pub fn note(self) -> PassNote
+        ensures { result ≡ grant self.client self.page self.serial }
+    {
+        let Pass {
+            client,
+            page,
+            serial,
+        } = self;
+        PassNote {
+            client,
+            page,
+            serial,
+        }
+    }
+}
+
+impl PassNote {
+    /// Whose pass it stands for.
+    pub fn client(&self) -> u8
+        ensures { result ≡ self.now.client }
+    {
+        self.client
+    }
+
+    /// The page of that pass.
+    pub fn page(&self) -> PageNo
+        ensures { result ≡ self.now.page }
+    {
+        self.page
+    }
+
+    /// The serial number of that pass.
+    pub fn serial(&self) -> u64
+        ensures { result ≡ self.now.serial }
+    {
+        self.serial
+    }
+
+    /// The pass again. Whether a core knows it, that core tells.
+    pub fn pass(self) -> Pass
+        ensures client { result.client ≡ self.client }
+        ensures page { result.page ≡ self.page }
+        ensures serial { result.serial ≡ self.serial }
+    {
+        Pass {
+            client: self.client,
+            page: self.page,
+            serial: self.serial,
+        }
     }
 }
 

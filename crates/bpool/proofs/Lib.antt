@@ -1,0 +1,4 @@
+pub mod Driving
+pub mod GivingBack
+pub mod RowSteps
+pub mod ScriptSteps
