@@ -1,13 +1,13 @@
 -- Each kind of step keeps the rule of the mark, and what the rule says of the last word.
-use Rattle.std.proofs.Common.{◌≡◌, ◌≢◌, ℕ, zero, suc, ◌≤◌, List, [], ◌∷◌, ◌++◌, set, max, Option, Some, None, IfSome, refl, sym, ap, ◌∙◌, subst, ⊎_elim, arith}
+use Rattle.std.proofs.Common.{◌≡◌, ◌≢◌, ℕ, ◌≤◌, List, [], ◌∷◌, ◌++◌, set, max, Option, Some, None, IfSome, refl, sym, ap, ◌∙◌, subst, ⊎_elim, arith}
 use Rattle.std.specs.Prelude.{slice_index}
 use Rattle.std.specs.Option.{option_map}
-use mathlib.Core.Option.{some, none, some-ne-none, some-injective}
+use mathlib.Core.Option.{some, none, some-injective}
 use lib.ListN.{get_elem?}
-use Rattle.atomic_table.specs.Table.{Me, step, keeps, opening, Allows, Splits, Joins, Final, Seen}
+use Rattle.atomic_table.specs.Table.{Me, step, keeps, Allows, Splits, Joins, Final, Seen}
 use Rattle.atomic_table.proofs.Lists.{at_set, at_snoc}
 use Rattle.bp_mark.specs.declared.views.View.{View}
-use Rattle.bp_mark.specs.Views.{log_end, reader, raised, looked, joined, Raises, Looks}
+use Rattle.bp_mark.specs.Views.{reader, raised, looked, joined, Raises, Looks}
 use Rattle.bp_mark.specs.Rule.{Fits, AllFit, MarkRule}
 
 -- One view changes to one that fits, and the others fit.
@@ -38,14 +38,6 @@ higher_fits word higher seat v apart above fits =
     still : (frontier : Option ℕ) → IfSome frontier (λ f. (seat ≡ 0) × (f ≡ word)) → IfSome frontier (λ f. (seat ≡ 0) × (f ≡ higher))
     still (Some f) at_zero = absurd (apart at_zero.0)
     still None nothing = tt
-
--- At the start the word is 0, and the log end has raised and seen nothing.
-pub opening_kept : MarkRule (opening (0 ∷ []) [] (log_end 0 0))
-opening_kept = record { word = 0; one_word = refl; views = alone }
-  where
-    alone : AllFit 0 (log_end 0 0 ∷ [])
-    alone zero v there = subst (Fits 0 0) (some-injective _ _ there) (record { seen = omega arith; frontier = (refl, refl) })
-    alone (suc seat) v there = absurd (some-ne-none v (sym there))
 
 -- Where a view has this frontier, its seat is seat 0, and the frontier is the word.
 with_frontier : (word seat frontier : ℕ) (v : View) → v.frontier ≡ Some frontier → Fits word seat v → (seat ≡ 0) × (frontier ≡ word)
@@ -119,16 +111,9 @@ join_kept id other v u s rule there apart at_other =
       views = AllFit-set word (set s.views id (joined v u)) other (reader 0) (λ seat x _ at_seat. kept seat x at_seat) (reader_fits word other 0 (omega arith));
     }
 
--- At the end the word is the frontier.
-pub last_word : (id frontier last : ℕ) (v : View) (words homes : List ℕ) → v.frontier ≡ Some frontier → Final (Seen MarkRule id v) words homes → get_elem? words 0 ≡ some last → last ≡ frontier
-last_word id frontier last v words homes is final at_zero =
+-- At the end the seat's view fits the last word.
+pub last_fits : (id last : ℕ) (v : View) (words homes : List ℕ) → Final (Seen MarkRule id v) words homes → get_elem? words 0 ≡ some last → Fits last id v
+last_fits id last v words homes final at_zero =
     let rule = final.1.0 in
     let word : rule.word ≡ last = some-injective _ _ (ap (λ ws. get_elem? ws 0) (sym rule.one_word ∙ final.2) ∙ at_zero) in
-    sym word ∙ sym (with_frontier rule.word id frontier v is (rule.views id v final.1.1)).1
-
--- At the end no view has seen more than the word.
-pub seen_at_last : (id last : ℕ) (v : View) (words homes : List ℕ) → Final (Seen MarkRule id v) words homes → get_elem? words 0 ≡ some last → v.seen ≤ last
-seen_at_last id last v words homes final at_zero =
-    let rule = final.1.0 in
-    let word : rule.word ≡ last = some-injective _ _ (ap (λ ws. get_elem? ws 0) (sym rule.one_word ∙ final.2) ∙ at_zero) in
-    omega (arith, word, (rule.views id v final.1.1).seen)
+    subst (λ w. Fits w id v) word (rule.views id v final.1.1)

@@ -1,9 +1,10 @@
 //! The mark, from its first word to its last.
 ghost use Rattle.std.specs.Prelude.{◌≡◌, ◌≤◌, IfOk, OnErr};
+ghost use Rattle.bp_mark.specs.Rule.{Fits};
 
 use crate::log_end::LogEnd;
 use crate::readers::Reader;
-use crate::views::{First, Last, Word};
+use crate::views::{First, Last, Word, WordSeat};
 use atomic_table::Table;
 use bp_page::{Lsn, Refusal};
 use std::alloc::Global;
@@ -27,6 +28,18 @@ impl Model for Mark {
     ghost view = { λ m. m.table.shared.table_id };
 
     ghost invariant = { λ m. (m.table.shared.table_id.words ≡ 1) × (m.table.shared.table_id.slots ≡ 0) };
+}
+
+// The word at the end, which the seat's view fits.
+fn last_word(table: Word, seat: WordSeat) -> u64
+    requires seat { seat.table_id ≡ table.shared.table_id }
+    requires one_word { (table.shared.table_id.words ≡ 1) × (table.shared.table_id.slots ≡ 0) }
+    ensures { Fits result seat.id seat.me.0 }
+{
+    let closed = table.close_with(seat);
+    let word = closed.word(0);
+    closed.free();
+    word
 }
 
 impl Mark {
@@ -67,9 +80,6 @@ impl Mark {
         } = end;
         let Reader { seat: spent } = reader;
         table.shared.join_seat::<Last>(&mut seat, spent);
-        let closed = table.close_with(seat);
-        let word = closed.word(0);
-        closed.free();
-        Lsn::new(word)
+        Lsn::new(last_word(table, seat))
     }
 }
