@@ -1,4 +1,4 @@
 pub mod Driving
 pub mod GivingBack
-pub mod RowSteps
+pub mod PieceSteps
 pub mod ScriptSteps

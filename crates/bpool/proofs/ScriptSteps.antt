@@ -21,7 +21,7 @@ use Rattle.bp_core.proofs.Lists.{some-append, some-mono}
 use Rattle.bp_core.proofs.Counting.{reverse-push, filter-reverse}
 use Rattle.bpool.specs.Driver.{with_piece, AreHeld, EndsIn, DrivesRow, DrivesRows, GaveBack, AddsScript}
 use Rattle.bpool.proofs.GivingBack.{fewer-without}
-use Rattle.bpool.proofs.RowSteps.{find-there, known-there}
+use Rattle.bpool.proofs.PieceSteps.{find-there, known-there}
 
 pub rows-none : (core : CoreView) → DrivesRows core [] [] [] core
 rows-none core = record { said = []; ends = []; is = refl; are_held = refl; follows = (refl, refl) }

@@ -1,6 +1,6 @@
 -- The pass is held.
 use Rattle.std.proofs.Common.{◌∙◌, ap, ◌++◌, ◌∷◌, []}
-use Rattle.bpool.proofs.RowSteps.{fix-drives}
+use Rattle.bpool.proofs.PieceSteps.{fix-drives}
 use Rattle.bpool.proofs.driver.fix_row.Goals as goal
 
 pub returns-in-Ok-clause-outcome : goal.returns-in-Ok-clause-outcome

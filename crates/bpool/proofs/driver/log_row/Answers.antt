@@ -1,5 +1,5 @@
 -- The log was marked, or the row was refused.
-use Rattle.bpool.proofs.RowSteps.{log-drives}
+use Rattle.bpool.proofs.PieceSteps.{log-drives}
 use Rattle.bpool.proofs.driver.log_row.Goals as goal
 
 pub returns : goal.returns

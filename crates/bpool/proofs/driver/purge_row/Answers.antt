@@ -1,5 +1,5 @@
 -- The purge, or its refusal.
-use Rattle.bpool.proofs.RowSteps.{purge-drives, purge_refused-drives}
+use Rattle.bpool.proofs.PieceSteps.{purge-drives, purge_refused-drives}
 use Rattle.bpool.proofs.driver.purge_row.Goals as goal
 
 pub returns-in-Ok : goal.returns-in-Ok

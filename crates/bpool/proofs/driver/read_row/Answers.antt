@@ -1,6 +1,6 @@
 -- The read, or its refusal, by the latest pass.
 use Rattle.std.proofs.Common.{sym, ◌∙◌}
-use Rattle.bpool.proofs.RowSteps.{read-drives, read_refused-drives}
+use Rattle.bpool.proofs.PieceSteps.{read-drives, read_refused-drives}
 use Rattle.bpool.proofs.driver.read_row.Goals as goal
 
 pub returns-in-Err : goal.returns-in-Err

@@ -1,5 +1,5 @@
 -- The clock moved, or the row was refused.
-use Rattle.bpool.proofs.RowSteps.{tick-drives}
+use Rattle.bpool.proofs.PieceSteps.{tick-drives}
 use Rattle.bpool.proofs.driver.tick_row.Goals as goal
 
 pub returns : goal.returns

@@ -2,7 +2,7 @@
 use Rattle.std.proofs.Common.{◌≡◌, sym, ap, ◌∙◌, Some}
 use Rattle.std.specs.Prelude.{find, reverse}
 use Rattle.bp_core.specs.Script.{is_pass_of}
-use Rattle.bpool.proofs.RowSteps.{latest-known, unfix-drives}
+use Rattle.bpool.proofs.PieceSteps.{latest-known, unfix-drives}
 use Rattle.bpool.proofs.driver.unfix_row.Goals as goal
 
 pub give-requires : goal.give-requires

@@ -1,6 +1,6 @@
 -- The write, or its refusal, by the latest pass.
 use Rattle.std.proofs.Common.{sym, ◌∙◌}
-use Rattle.bpool.proofs.RowSteps.{write-drives, write_refused-drives}
+use Rattle.bpool.proofs.PieceSteps.{write-drives, write_refused-drives}
 use Rattle.bpool.proofs.driver.write_row.Goals as goal
 
 pub returns-in-Ok : goal.returns-in-Ok
