@@ -1,0 +1,8 @@
+-- What the bytes of a trace say, and what is printed of a run.
+pub mod Numbers
+pub mod Record
+pub mod Script
+pub mod Input
+pub mod Lines
+pub mod Totals
+pub mod Report
