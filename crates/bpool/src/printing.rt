@@ -57,3 +57,6 @@ pub fn report_rows<W: Write>(rows: &[Refused], writer: &mut W) -> io::Result<()>
     }
     Ok(())
 }
+
+#[cfg(test)]
+mod tests;
