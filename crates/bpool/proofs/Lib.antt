@@ -1,4 +1,10 @@
+pub mod CsvRecords
+pub mod Digits
 pub mod Driving
+pub mod Entries
 pub mod GivingBack
 pub mod PieceSteps
+pub mod RowSteps
 pub mod ScriptSteps
+pub mod SixFields
+pub mod Written

@@ -1,1 +1,9 @@
+-- What the bytes of a trace say, what a driver adds to its core, and what is printed of a run.
+pub mod Numbers
+pub mod Record
+pub mod Script
+pub mod Input
 pub mod Driver
+pub mod Lines
+pub mod Totals
+pub mod Report

@@ -1,6 +1,14 @@
-//! Runs a trace over a buffer pool and prints what it did.
+//! Runs a trace over a buffer pool and reports what the pool did.
 #![tactic(auto)]
 
-mod driver;
+pub mod driver;
+pub mod faults;
+pub mod input;
+pub mod lines;
+pub mod numbers;
+pub mod printing;
+pub mod record;
+pub mod script;
+pub mod totals;
 
 fn main() {}
