@@ -7,3 +7,4 @@ pub mod Driver
 pub mod Lines
 pub mod Totals
 pub mod Report
+pub mod Run

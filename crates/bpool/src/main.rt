@@ -8,6 +8,7 @@ pub mod lines;
 pub mod numbers;
 pub mod printing;
 pub mod record;
+pub mod run;
 pub mod script;
 pub mod totals;
 
