@@ -2,6 +2,7 @@ pub mod CsvRecords
 pub mod Digits
 pub mod Driving
 pub mod Entries
+pub mod Fitting
 pub mod GivingBack
 pub mod PieceSteps
 pub mod RowSteps

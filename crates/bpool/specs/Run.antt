@@ -1,5 +1,5 @@
 -- What a run of rows over a new core reports.
-use Rattle.std.specs.Prelude.{◌≡◌, ℕ, ◌+◌, ◌*◌, ◌==◌, min, Bool, List, [], ◌++◌, length, reverse, Option}
+use Rattle.std.specs.Prelude.{◌≡◌, ℕ, ◌+◌, ◌*◌, ◌==◌, min, Bool, List, [], ◌++◌, length, reverse, Option, Ok}
 use Rattle.std.specs.Io.KnownBytes.{Appends}
 use Rattle.bp_core.specs.declared.entries.Entry.{Entry}
 use Rattle.bp_core.specs.declared.scripts.Row.{Row}
@@ -9,6 +9,7 @@ use Rattle.bp_core.specs.Legal.{Legal}
 use Rattle.bp_core.specs.Pieces.Manner.{driver}
 use Rattle.bp_core.specs.Script.{Follows}
 use Rattle.bpool.specs.declared.run.Plan.{Plan}
+use Rattle.bpool.specs.Script.{script_of}
 use Rattle.bpool.specs.Report.{report_text, rows_text}
 
 -- the room of a trail for so many rows
@@ -36,3 +37,9 @@ pub record Reports (plan : Plan) (script : List Row) (all_accepted : Bool) (old 
   pub follows : Follows driver script (reverse trail) refused
   pub accepted : all_accepted ≡ (length refused == 0)
   pub written : Appends old new (report_text trail ++ rows_text refused)
+
+-- what was written is the report of such a run of the rows that the bytes of a trace say
+pub record Runs (plan : Plan) (bytes : List ℕ) (all_accepted : Bool) (old new : Option (List ℕ)) : Type 0 where
+  pub rows : List Row
+  pub read : script_of plan.geometry bytes ≡ Ok rows
+  pub reports : Reports plan rows all_accepted old new

@@ -47,3 +47,8 @@ IsOutside e = (e ≡ fault 0 refusal.OutOfMemory) ⊎ (e ≡ fault 0 refusal.Rea
 abbrev pub Answers : Result (Vec Row Global) TraceFault → Result (List Row) TraceFault → Type 0
 Answers (Ok rows) said = said ≡ Ok rows.items
 Answers (Err e) said = IsOutside e ⊎ (said ≡ Err e)
+
+-- the rows of some records
+pub record IsScriptOfSome (g : Geometry) (rows : List Row) : Type 0 where
+  pub found : List (List (List ℕ))
+  pub read : script_from g 1 found ≡ Ok rows

@@ -3,7 +3,7 @@ ghost use Rattle.std.specs.Prelude.{◌≡◌, ◌++◌, OnOk, ◌<◌, IfOk, If
 ghost use Rattle.bpool.specs.Driver.{RowFits};
 ghost use Rattle.std.specs.Io.KnownBytes.{Appends};
 ghost use Rattle.bpool.specs.Report.{report_text, rows_text};
-ghost use Rattle.bpool.specs.Run.{parameters_for, room_for, Reports};
+ghost use Rattle.bpool.specs.Run.{parameters_for, room_for, Reports, Runs};
 
 use crate::driver::drive_all;
 use crate::faults::TraceFault;
@@ -59,11 +59,23 @@ fn print_run<W: Write>(entries: &[Entry], refused: &[Refused], out: &mut W) -> R
 }
 
 /// Runs the rows over a new core, and writes the report and the refused rows. Answers whether all rows were accepted.
-fn run_rows<W: Write>(alloc: Global, plan: &Plan, rows: &[Row], out: &mut W) -> Result<bool, RunFault>
+fn run_rows<W: Write>(
+    alloc: Global,
+    plan: &Plan,
+    rows: &[Row],
+    out: &mut W,
+) -> Result<bool, RunFault>
     requires fits { All (RowFits (parameters_for plan.now (length rows.now))) rows.now }
     ensures { IfOk result (λ all_accepted. Reports plan.now rows.now all_accepted (W.contents out.old) (W.contents out.new)) }
 {
-    let mut core = match Core::new(alloc, plan.geometry, plan.settings, plan.frames, 1, room_for(rows.len())) {
+    let mut core = match Core::new(
+        alloc,
+        plan.geometry,
+        plan.settings,
+        plan.frames,
+        1,
+        room_for(rows.len()),
+    ) {
         Ok(core) => core,
         Err(refusal) => return Err(RunFault::Refused(refusal.number())),
     };
@@ -75,4 +87,22 @@ fn run_rows<W: Write>(alloc: Global, plan: &Plan, rows: &[Row], out: &mut W) -> 
         Ok(()) => Ok(refused.is_empty()),
         Err(fault) => Err(fault),
     }
+}
+
+/// Runs a trace over a new core, and writes the report and the refused rows. Answers whether all rows were accepted.
+///
+/// The trace is read whole first: where it has no script, nothing is written.
+pub fn run_trace<R: Read, W: Write>(
+    alloc: Global,
+    plan: &Plan,
+    reader: &mut R,
+    out: &mut W,
+) -> Result<bool, RunFault>
+    ensures { IfOk result (λ all_accepted. IfSome (R.remaining reader.old) (λ bytes. Runs plan.now bytes all_accepted (W.contents out.old) (W.contents out.new))) }
+{
+    let rows = match read_script(alloc, reader, &plan.geometry) {
+        Ok(rows) => rows,
+        Err(fault) => return Err(RunFault::Trace(fault)),
+    };
+    run_rows(alloc, plan, &rows, out)
 }

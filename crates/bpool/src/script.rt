@@ -1,8 +1,8 @@
 //! The rows of a trace.
-ghost use Rattle.std.specs.Prelude.{◌≡◌, ◌⊎◌, IfSome, OnOk};
+ghost use Rattle.std.specs.Prelude.{◌≡◌, ◌⊎◌, IfOk, IfSome, OnOk};
 ghost use Rattle.std.specs.Io.KnownBytes.{IsAtEnd};
 ghost use Rattle.csv.specs.Reading.{default_config, records, strip_bom};
-ghost use Rattle.bpool.specs.Script.{Answers, IsOutside, script_from, script_of};
+ghost use Rattle.bpool.specs.Script.{Answers, IsOutside, IsScriptOfSome, script_from, script_of};
 
 use crate::faults::TraceFault;
 use crate::input::read_all;
@@ -74,6 +74,9 @@ pub fn read_script<R: Read>(
 ) -> Result<Vec<Row>, TraceFault>
     ensures script { IfSome (R.remaining reader.old) (λ bytes. Answers result (script_of geometry.now bytes)) }
     ensures end { OnOk result (IsAtEnd (R.remaining reader.new)) }
+
+    // Also of a reader that does not tell its bytes, the rows are those of some records.
+    ensures some { IfOk result (λ rows. IsScriptOfSome geometry.now rows.items) }
 {
     let bytes = read_all(alloc, reader)?;
     rows_of(alloc, bytes.as_slice(), geometry)
