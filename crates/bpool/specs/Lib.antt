@@ -1,0 +1,4 @@
+-- The numbers of traces and words, and the command line.
+pub mod Number
+pub mod Command
+pub mod Words

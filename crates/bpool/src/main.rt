@@ -1,0 +1,12 @@
+//! Runs a trace over a buffer pool and reports what the pool did.
+#![tactic(auto)]
+
+mod command;
+mod number;
+mod words;
+
+use std::process::ExitCode;
+
+fn main(rt: HostRuntime) -> anyhow::Result<ExitCode> {
+    Ok(ExitCode::SUCCESS)
+}
