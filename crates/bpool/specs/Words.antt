@@ -1,11 +1,12 @@
 -- What the words of a command line name, in clap's own words.
-use Rattle.std.specs.Prelude.{◌≡◌, ℕ, ◌^◌, ◌&&◌, nat_lt, if◌then◌else◌, List, [], ◌∷◌, drop, take, codes, Option, Some, None, option_and_then}
+use Rattle.std.specs.Prelude.{◌≡◌, ℕ, ◌^◌, ◌&&◌, ◌≤◌, nat_lt, if◌then◌else◌, List, [], ◌∷◌, drop, take, codes, Option, Some, None, option_and_then}
 use Rattle.std.specs.Option.{option_map_or}
 use Rattle.std.specs.Str.{bytes_eq}
 use Rattle.std.specs.Str.Parse.{digits_value, without_leading_plus}
 use Rattle.clap.specs.Walk.{is_empty}
 use Rattle.clap.specs.ValueTests.{is_numeral}
 use Rattle.clap.specs.Words.{Row, Text, fault_of, first_of, one_of, subcommand_of}
+use Rattle.bp_lruk.specs.Limits.{IsWithinLimits}
 use Rattle.bpool.specs.Command.{bpool_app}
 use Rattle.bpool.specs.Number.{number_of}
 use Rattle.bpool.specs.declared.words.TraceSource.{TraceSource}
@@ -82,6 +83,12 @@ told_in (Some met) = if bytes_eq met.0 (codes "run") then told_by_rows met.1 els
 -- what the words tell a run, where clap takes them
 abbrev pub told_by : List Text → Option Told
 told_by words = if is_empty (fault_of bpool_app words) then told_in (subcommand_of bpool_app words) else None
+
+-- the numbers are in the limits of the options
+pub record IsInLimits (told : Told) : Type 0 where
+  pub some_frames : 1 ≤ told.frames
+  pub few_frames : told.frames ≤ 65536
+  pub settings : IsWithinLimits told.k told.correlated told.retained
 
 -- no words at all act as these
 abbrev pub default_words : List Text

@@ -1,12 +1,14 @@
 //! What the words of a command line name.
-ghost use Rattle.std.specs.Prelude.{◌≡◌, map, option_map, codes, Some, None, IfOk, IfErr, IfSome, IfNone};
-ghost use Rattle.clap.specs.Words.{fault_of, first_of, found_of, rows_of, subcommand_rows_of, HasKind};
+ghost use Rattle.std.specs.Prelude.{◌≡◌, [], ◌∷◌, map, option_map, codes, Some, None, IfOk, IfErr, IfSome, IfNone};
+ghost use Rattle.clap.specs.Walk.{texts};
+ghost use Rattle.clap.specs.Words.{fault_of, first_of, found_of, rows_of, subcommand_rows_of, FailsBy};
 ghost use Rattle.bpool.specs.Command.{bpool_app};
-ghost use Rattle.bpool.specs.Words.{number_at, told_by, told_by_rows, told_in, told_of};
+ghost use Rattle.bpool.specs.Words.{IsInLimits, number_at, told_by, told_by_rows, told_in, told_of, words_or_default, from_stdin, at_path, in_memory, in_file};
 ghost use Rattle.bpool.specs.Words as spec;
 
 use crate::command::bpool_command;
 use crate::number::number_of;
+use clap::error::ErrorKind;
 use clap::{ArgMatches, Error};
 use std::alloc::Global;
 
@@ -103,3 +105,29 @@ fn words_in<'a>(matches: &ArgMatches<'a>) -> Option<RunWords<'a>>
     let run = matches.subcommand_matches("run")?;
     run_words(run)
 }
+
+/// Reads the words of a command line, which leave out the program's name.
+///
+/// An `Err` is clap's, by the kind of the words' first fault: a mistake, a call for help, or want of memory.
+pub fn read_words<'a>(alloc: Global, words: &'a [&'a str]) -> Result<RunWords<'a>, Error>
+    ensures told { IfOk result (λ run. told_by (texts words.now) ≡ Some (told_of run)) }
+    ensures limits { IfOk result (λ run. IsInLimits (told_of run)) }
+    ensures faults { FailsBy (fault_of bpool_app (texts words.now)) result }
+{
+    let command = bpool_command(alloc)?;
+    let matches = command.try_get_matches_from(words)?;
+    let run = words_in(&matches).unwrap();
+    Ok(run)
+}
+
+/// What some words name, as the definition computes.
+pub fn words_by_example()
+    ensures none { told_by (words_or_default []) ≡ Some (record { trace = from_stdin; pages = in_memory 16; frames = 2; k = 1; correlated = 0; retained = 1000 }) }
+    ensures defaults { told_by (codes "run" ∷ codes "stdin" ∷ codes "mem:16" ∷ [])
+        ≡ Some (record { trace = from_stdin; pages = in_memory 16; frames = 8; k = 2; correlated = 0; retained = 1000 }) }
+    ensures all { told_by (codes "run" ∷ codes "--k" ∷ codes "16" ∷ codes "--correlated=4611686018427387904" ∷ codes "t.csv" ∷ codes "--retained" ∷ codes "0" ∷ codes "--frames" ∷ codes "65536" ∷ codes "mem:" ∷ [])
+        ≡ Some (record { trace = at_path (codes "t.csv"); pages = in_file (codes "mem:"); frames = 65536; k = 16; correlated = 4611686018427387904; retained = 0 }) }
+    ensures out_of_range { fault_of bpool_app (codes "run" ∷ codes "stdin" ∷ codes "mem:16" ∷ codes "--k" ∷ codes "17" ∷ []) ≡ ErrorKind.ValueValidation ∷ [] }
+    ensures unknown { fault_of bpool_app (codes "run" ∷ codes "stdin" ∷ codes "mem:16" ∷ codes "--page-size" ∷ codes "64" ∷ []) ≡ ErrorKind.UnknownArgument ∷ [] }
+    ensures help { fault_of bpool_app (codes "run" ∷ codes "--help" ∷ []) ≡ ErrorKind.DisplayHelp ∷ [] }
+{}
