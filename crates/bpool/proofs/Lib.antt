@@ -4,5 +4,7 @@ pub mod Digits
 pub mod Entering
 pub mod Fits
 pub mod Level
+pub mod Lines
+pub mod Messages
 pub mod Reading
 pub mod Walking

@@ -2,3 +2,6 @@
 pub mod Number
 pub mod Command
 pub mod Words
+pub mod Line
+pub mod Ending
+pub mod Decision

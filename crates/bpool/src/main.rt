@@ -2,6 +2,9 @@
 #![tactic(auto)]
 
 mod command;
+mod decision;
+mod ending;
+mod line;
 mod number;
 mod words;
 
