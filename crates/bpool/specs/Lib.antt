@@ -1,5 +1,10 @@
--- What the bytes of a trace say, what a driver adds to its core, and what is printed of a run.
+-- What the words of a command line name, what the bytes of a trace say, what a driver adds to its core, and what is printed of a run.
 pub mod Numbers
+pub mod Command
+pub mod Words
+pub mod Line
+pub mod Ending
+pub mod Decision
 pub mod Record
 pub mod Script
 pub mod Input

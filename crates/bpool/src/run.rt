@@ -1,45 +1,24 @@
 //! A run: the rows of a trace over a new core, and the report of what it did.
-ghost use Rattle.std.specs.Prelude.{◌≡◌, ◌++◌, OnOk, ◌<◌, IfOk, IfSome, All, length};
+ghost use Rattle.std.specs.Prelude.{◌≡◌, ◌≤◌, ◌++◌, OnOk, ◌<◌, IfOk, IfSome, All, length};
 ghost use Rattle.bpool.specs.Driver.{RowFits};
 ghost use Rattle.std.specs.Io.KnownBytes.{Appends};
 ghost use Rattle.bpool.specs.Report.{report_text, rows_text};
-ghost use Rattle.bpool.specs.Run.{parameters_for, room_for, Reports, Runs};
+ghost use Rattle.clap.specs.Walk.{texts};
+ghost use Rattle.bpool.specs.Decision.{AsksForHelp};
+ghost use Rattle.bpool.specs.Words.{words_or_default};
+ghost use Rattle.bpool.specs.Run.{RunsWords, parameters_for, room_for, Reports, Runs};
 
+use crate::decision::{RunOrder, decide};
 use crate::driver::drive_all;
-use crate::faults::TraceFault;
+use crate::ending::Ending;
 use crate::printing::{report, report_rows};
 use crate::script::read_script;
 use bp_core::{Core, Entry, Refused, Row};
-use bp_lruk::Settings;
-use bp_page::{Geometry, Refusal};
 use std::alloc::Global;
 use std::io::{Read, Write};
-use thiserror::Error;
 
 /// The most entries that a trail may have.
 const MAX_ROOM: usize = 16_777_216;
-
-/// What the core of a run is made with.
-#[derive(Clone, Copy, Debug)]
-pub struct Plan {
-    pub geometry: Geometry,
-    pub settings: Settings,
-    pub frames: usize,
-}
-
-/// Why a run has no report.
-#[derive(Clone, Copy, PartialEq, Eq, Debug, Error)]
-pub enum RunFault {
-    /// The trace has no script.
-    #[error("{0}")]
-    Trace(TraceFault),
-    /// The core or the driver was refused.
-    #[error("run refused {0}")]
-    Refused(u16),
-    /// The report could not be written; part of it may stand.
-    #[error("output failed")]
-    Output,
-}
 
 /// The room of a trail for so many rows.
 fn room_for(rows: usize) -> usize
@@ -49,11 +28,11 @@ fn room_for(rows: usize) -> usize
 }
 
 /// Writes the report of the entries, and the refused rows.
-fn print_run<W: Write>(entries: &[Entry], refused: &[Refused], out: &mut W) -> Result<(), RunFault>
+fn print_run<W: Write>(entries: &[Entry], refused: &[Refused], out: &mut W) -> Result<(), Ending>
     ensures { OnOk result (Appends (W.contents out.old) (W.contents out.new) (report_text entries.now ++ rows_text refused.now)) }
 {
     if report(entries, out).is_err() || report_rows(refused, out).is_err() {
-        return Err(RunFault::Output);
+        return Err(Ending::OutputFailed);
     }
     Ok(())
 }
@@ -61,27 +40,27 @@ fn print_run<W: Write>(entries: &[Entry], refused: &[Refused], out: &mut W) -> R
 /// Runs the rows over a new core, and writes the report and the refused rows. Answers whether all rows were accepted.
 fn run_rows<W: Write>(
     alloc: Global,
-    plan: &Plan,
+    order: &RunOrder,
     rows: &[Row],
     out: &mut W,
-) -> Result<bool, RunFault>
-    requires fits { All (RowFits (parameters_for plan.now (length rows.now))) rows.now }
-    ensures { IfOk result (λ all_accepted. Reports plan.now rows.now all_accepted (W.contents out.old) (W.contents out.new)) }
+) -> Result<bool, Ending>
+    requires fits { All (RowFits (parameters_for order.now (length rows.now))) rows.now }
+    ensures { IfOk result (λ all_accepted. Reports order.now rows.now all_accepted (W.contents out.old) (W.contents out.new)) }
 {
     let mut core = match Core::new(
         alloc,
-        plan.geometry,
-        plan.settings,
-        plan.frames,
+        order.geometry,
+        order.settings,
+        order.frames,
         1,
         room_for(rows.len()),
     ) {
         Ok(core) => core,
-        Err(refusal) => return Err(RunFault::Refused(refusal.number())),
+        Err(refusal) => return Err(Ending::RunRefused(refusal)),
     };
-    let refused = match drive_all(alloc, &mut core, &plan.geometry, rows) {
+    let refused = match drive_all(alloc, &mut core, &order.geometry, rows) {
         Ok(refused) => refused,
-        Err(refusal) => return Err(RunFault::Refused(refusal.number())),
+        Err(refusal) => return Err(Ending::RunRefused(refusal)),
     };
     match print_run(core.trail(), &refused, out) {
         Ok(()) => Ok(refused.is_empty()),
@@ -94,15 +73,40 @@ fn run_rows<W: Write>(
 /// The trace is read whole first: where it has no script, nothing is written.
 pub fn run_trace<R: Read, W: Write>(
     alloc: Global,
-    plan: &Plan,
+    order: &RunOrder,
     reader: &mut R,
     out: &mut W,
-) -> Result<bool, RunFault>
-    ensures { IfOk result (λ all_accepted. IfSome (R.remaining reader.old) (λ bytes. Runs plan.now bytes all_accepted (W.contents out.old) (W.contents out.new))) }
+) -> Result<bool, Ending>
+    ensures { IfOk result (λ all_accepted. IfSome (R.remaining reader.old) (λ bytes. Runs order.now bytes all_accepted (W.contents out.old) (W.contents out.new))) }
 {
-    let rows = match read_script(alloc, reader, &plan.geometry) {
+    let rows = match read_script(alloc, reader, &order.geometry) {
         Ok(rows) => rows,
-        Err(fault) => return Err(RunFault::Trace(fault)),
+        Err(fault) => return Err(Ending::TraceRefused(fault)),
     };
-    run_rows(alloc, plan, &rows, out)
+    run_rows(alloc, order, &rows, out)
 }
+
+/// Does what the words of the command line say, which leave out the program's name, and gives the status to end with.
+/// No words at all are those of the stored run.
+///
+/// Status 0: help, or a run whose rows were all accepted. Status 1: a run with refused rows. Their report, and then the
+/// refused rows, are on `out`. Status 2: one line on `err` says why there is no report; nothing is on `out`, but where
+/// the line is `output failed`, which comes after whatever was written.
+pub fn run_with<R: Read, W: Write, E: Write>(alloc: Global, words: &[&str], reader: &mut R, out: &mut W, err: &mut E) -> u8
+    ensures reported { ¬ AsksForHelp (words_or_default (texts words.entry.now)) → result < 2
+        → IfSome (R.remaining reader.old) (λ bytes. RunsWords (words_or_default (texts words.entry.now)) bytes result (W.contents out.old) (W.contents out.new)) }
+    ensures status { result ≤ 2 }
+{
+    let done = match decide(alloc, words) {
+        Ok(order) => run_trace(alloc, &order, reader, out),
+        Err(ending) => Err(ending),
+    };
+    match done {
+        Ok(true) => 0,
+        Ok(false) => 1,
+        Err(ending) => ending.finish(out, err),
+    }
+}
+
+#[cfg(test)]
+mod tests;

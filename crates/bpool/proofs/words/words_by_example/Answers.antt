@@ -1,0 +1,28 @@
+use Rattle.std.proofs.Common.{refl}
+use Rattle.clap.proofs.OnLiterals.{clap_on_literals}
+use Rattle.bpool.specs.Numbers.{number_in, digits_value, decimal_value}
+use Rattle.bpool.proofs.words.words_by_example.Goals as goal
+
+pub returns-clause-none : goal.returns-clause-none
+unfolding clap_on_literals number_in digits_value decimal_value
+returns-clause-none c = refl
+
+pub returns-clause-defaults : goal.returns-clause-defaults
+unfolding clap_on_literals number_in digits_value decimal_value
+returns-clause-defaults c = refl
+
+pub returns-clause-all : goal.returns-clause-all
+unfolding clap_on_literals number_in digits_value decimal_value
+returns-clause-all c = refl
+
+pub returns-clause-out_of_range : goal.returns-clause-out_of_range
+unfolding clap_on_literals
+returns-clause-out_of_range c = refl
+
+pub returns-clause-unknown : goal.returns-clause-unknown
+unfolding clap_on_literals
+returns-clause-unknown c = refl
+
+pub returns-clause-help : goal.returns-clause-help
+unfolding clap_on_literals
+returns-clause-help c = refl

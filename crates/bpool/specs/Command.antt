@@ -1,0 +1,33 @@
+-- The command line as clap reads it: what each word and option takes, and its default.
+use Rattle.std.specs.Prelude.{ℕ, true, List, [], ◌∷◌, codes, Some}
+use Rattle.clap.specs.Words.{App, Rule, Shape, Text, new_app, new_rule, with_subcommand}
+use Rattle.clap.specs.Simple.{new_shape}
+use Rattle.clap.specs.declared.builder.value_parser.ValueParser.TheVariants as parser
+
+-- a word that must be there
+abbrev pub positional : Text → Rule
+positional id = record (new_rule id) { value_names = 1; required = true }
+
+-- an option that takes a whole number from low to high
+abbrev pub number_option : Text → ℕ → ℕ → Text → Rule
+number_option id low high default =
+    record (new_rule id) { long = Some id; value_names = 1; parser = Some (parser.Unsigned low high); defaults = default ∷ [] }
+
+abbrev pub run_rules : List Rule
+run_rules =
+    positional (codes "trace")
+    ∷ positional (codes "page-file")
+    ∷ number_option (codes "frames") 1 65536 (codes "8")
+    ∷ number_option (codes "k") 1 16 (codes "2")
+    ∷ number_option (codes "correlated") 0 4611686018427387904 (codes "0")
+    ∷ number_option (codes "retained") 0 4611686018427387904 (codes "1000")
+    ∷ []
+
+abbrev pub run_shape : Shape
+run_shape = record (new_shape (codes "run")) { rules = run_rules }
+
+-- the words leave out the program's name, and one of them must be `run` or `help`
+abbrev pub bpool_app : App
+bpool_app =
+    let plain = new_app (codes "bpool") in
+    with_subcommand (record plain { top = record plain.top { no_binary_name = true; subcommand_required = true } }) run_shape

@@ -1,0 +1,24 @@
+-- A text as one line.
+use Rattle.std.specs.Prelude.{ℕ, ◌==◌, not, Bool, List, drop, length, map, take_while, codes}
+use Rattle.std.specs.Char.{is_ascii_whitespace}
+use Rattle.std.specs.List.{join_by, list_all, prefix_len}
+use Rattle.std.specs.Str.Lines.{lines}
+
+-- a line without the white space at its start
+abbrev pub unindented : List ℕ → List ℕ
+unindented line = drop (prefix_len is_ascii_whitespace line) line
+
+abbrev pub is_filled : List ℕ → Bool
+is_filled line = not (length line == 0)
+
+-- the lines before the first empty one
+abbrev pub first_lines : List ℕ → List (List ℕ)
+first_lines text = take_while is_filled (map unindented (lines text))
+
+-- the same, with a space between two
+abbrev pub first_paragraph : List ℕ → List ℕ
+first_paragraph text = join_by (λ line. line) (codes " ") (first_lines text)
+
+-- no byte is a line end
+abbrev pub is_line : List ℕ → Bool
+is_line text = list_all (λ b. not (b == 10)) text

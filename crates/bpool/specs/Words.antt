@@ -1,0 +1,112 @@
+-- What the words of a command line name, in clap's own words.
+use Rattle.std.specs.Prelude.{◌≡◌, ℕ, ◌^◌, ◌&&◌, ◌≤◌, nat_lt, if◌then◌else◌, List, [], ◌∷◌, drop, take, codes, Option, Some, None, option_and_then}
+use Rattle.std.specs.Option.{option_map_or}
+use Rattle.std.specs.Str.{bytes_eq}
+use Rattle.std.specs.Str.Parse.{digits_value, without_leading_plus}
+use Rattle.clap.specs.Walk.{is_empty}
+use Rattle.clap.specs.ValueTests.{is_numeral}
+use Rattle.clap.specs.Words.{Row, Text, fault_of, first_of, one_of, subcommand_of}
+use Rattle.bp_lruk.specs.Limits.{IsWithinLimits}
+use Rattle.bpool.specs.Command.{bpool_app}
+use Rattle.bpool.specs.Numbers.{number_in}
+use Rattle.bpool.specs.declared.words.TraceSource.{TraceSource}
+use Rattle.bpool.specs.declared.words.TraceSource.TheVariants as trace_source
+use Rattle.bpool.specs.declared.words.PageFile.{PageFile}
+use Rattle.bpool.specs.declared.words.PageFile.TheVariants as page_file
+use Rattle.bpool.specs.declared.words.RunWords.{RunWords}
+
+-- where a run reads its trace
+pub data Trace : Type 0 where
+  from_stdin : Trace
+  at_path : Text → Trace
+
+-- where the pages of a run stand
+pub data Pages : Type 0 where
+  in_memory : ℕ → Pages
+  in_file : Text → Pages
+
+-- what a run is told
+pub record Told : Type 0 where
+  pub trace : Trace
+  pub pages : Pages
+  pub frames : ℕ
+  pub k : ℕ
+  pub correlated : ℕ
+  pub retained : ℕ
+
+-- ---- one word
+
+abbrev pub trace_of : Text → Trace
+trace_of word = if bytes_eq word (codes "stdin") then from_stdin else at_path word
+
+abbrev pub pages_after : Text → Option ℕ → Pages
+pages_after word None = in_file word
+pages_after word (Some n) = in_memory n
+
+-- `mem:` with a number after it is so many pages in memory, and any other word is a path
+abbrev pub pages_of : Text → Pages
+pages_of word = pages_after word (if bytes_eq (take 4 word) (codes "mem:") then number_in (drop 4 word) else None)
+
+-- the number that `u64` reads from a text: digits, where a plus may stand before them
+abbrev pub unsigned_of : Text → Option ℕ
+unsigned_of text =
+    let digits = without_leading_plus text in
+    if is_numeral digits && nat_lt (digits_value 10 digits) (2 ^ 64) then Some (digits_value 10 digits) else None
+
+-- ---- all of them
+
+infixl 10 ◌>>=◌
+abbrev pub ◌>>=◌ : {A B : Type 0} → Option A → (A → Option B) → Option B
+None >>= f = None
+(Some x) >>= f = f x
+
+-- the number of an option
+abbrev pub number_at : Text → List Row → Option ℕ
+number_at id rows = one_of id rows >>= unsigned_of
+
+-- what a run's own rows tell it
+abbrev pub told_by_rows : List Row → Option Told
+told_by_rows rows = do
+  trace ← first_of (codes "trace") rows
+  pages ← first_of (codes "page-file") rows
+  frames ← number_at (codes "frames") rows
+  k ← number_at (codes "k") rows
+  correlated ← number_at (codes "correlated") rows
+  retained ← number_at (codes "retained") rows
+  Some (record { trace = trace_of trace; pages = pages_of pages; frames = frames; k = k; correlated = correlated; retained = retained })
+
+-- what the subcommand that was met is told, where it is `run`
+abbrev pub told_in : Option (Text × List Row) → Option Told
+told_in None = None
+told_in (Some met) = if bytes_eq met.0 (codes "run") then told_by_rows met.1 else None
+
+-- what the words tell a run, where clap takes them
+abbrev pub told_by : List Text → Option Told
+told_by words = if is_empty (fault_of bpool_app words) then told_in (subcommand_of bpool_app words) else None
+
+-- the numbers are in the limits of the options
+pub record IsInLimits (told : Told) : Type 0 where
+  pub some_frames : 1 ≤ told.frames
+  pub few_frames : told.frames ≤ 65536
+  pub settings : IsWithinLimits told.k told.correlated told.retained
+
+-- no words at all act as these
+abbrev pub default_words : List Text
+default_words = codes "run" ∷ codes "stdin" ∷ codes "mem:16" ∷ codes "--frames" ∷ codes "2" ∷ codes "--k" ∷ codes "1" ∷ []
+
+abbrev pub words_or_default : List Text → List Text
+words_or_default [] = default_words
+words_or_default (word ∷ words) = word ∷ words
+
+-- ---- the values of the code
+
+abbrev pub trace_told : TraceSource → Trace
+trace_told trace_source.Stdin = from_stdin
+trace_told (trace_source.Path path) = at_path path.now
+
+abbrev pub pages_told : PageFile → Pages
+pages_told (page_file.Memory n) = in_memory n
+pages_told (page_file.Path path) = in_file path.now
+
+abbrev pub told_of : RunWords → Told
+told_of w = record { trace = trace_told w.trace; pages = pages_told w.page_file; frames = w.frames; k = w.k; correlated = w.correlated; retained = w.retained }

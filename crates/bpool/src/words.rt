@@ -1,0 +1,133 @@
+//! What the words of a command line name.
+ghost use Rattle.std.specs.Prelude.{◌≡◌, [], ◌∷◌, map, option_map, codes, Some, None, IfOk, IfErr, IfSome, IfNone};
+ghost use Rattle.clap.specs.Walk.{texts};
+ghost use Rattle.clap.specs.Words.{fault_of, first_of, found_of, rows_of, subcommand_rows_of, FailsBy};
+ghost use Rattle.bpool.specs.Command.{bpool_app};
+ghost use Rattle.bpool.specs.Words.{IsInLimits, number_at, told_by, told_by_rows, told_in, told_of, words_or_default, from_stdin, at_path, in_memory, in_file};
+ghost use Rattle.bpool.specs.Words as spec;
+
+use crate::command::bpool_command;
+use crate::numbers::parse_number;
+use clap::error::ErrorKind;
+use clap::{ArgMatches, Error};
+use std::alloc::Global;
+
+/// Where a run reads its trace.
+#[derive(Clone, Copy, Debug, PartialEq, Eq)]
+pub enum TraceSource<'a> {
+    Stdin,
+    Path(&'a str),
+}
+
+/// Where the pages of a run stand.
+#[derive(Clone, Copy, Debug, PartialEq, Eq)]
+pub enum PageFile<'a> {
+    /// So many pages of zero bytes in memory.
+    Memory(u64),
+    Path(&'a str),
+}
+
+/// What the words of a run name.
+#[derive(Clone, Copy, Debug, PartialEq, Eq)]
+pub struct RunWords<'a> {
+    pub trace: TraceSource<'a>,
+    pub page_file: PageFile<'a>,
+    pub frames: usize,
+    pub k: usize,
+    pub correlated: u64,
+    pub retained: u64,
+}
+
+fn trace_source<'a>(word: &'a str) -> TraceSource<'a>
+    ensures { spec.trace_told result ≡ spec.trace_of word.entry.now }
+{
+    if word == "stdin" {
+        TraceSource::Stdin
+    } else {
+        TraceSource::Path(word)
+    }
+}
+
+fn page_file<'a>(word: &'a str) -> PageFile<'a>
+    ensures { spec.pages_told result ≡ spec.pages_of word.entry.now }
+{
+    match word.as_bytes().strip_prefix(b"mem:".as_slice()).and_then(parse_number) {
+        Some(pages) => PageFile::Memory(pages),
+        None => PageFile::Path(word),
+    }
+}
+
+/// The count that an option names.
+fn count_at(matches: &ArgMatches<'_>, id: &str) -> Option<usize>
+    ensures { result ≡ number_at id.now (rows_of (found_of matches.now)) }
+{
+    matches.get_one::<usize>(id)
+}
+
+/// The period that an option names.
+fn period_at(matches: &ArgMatches<'_>, id: &str) -> Option<u64>
+    ensures { result ≡ number_at id.now (rows_of (found_of matches.now)) }
+{
+    matches.get_one::<u64>(id)
+}
+
+/// The word that stands for an argument.
+fn word_at<'a>(matches: &ArgMatches<'a>, id: &str) -> Option<&'a str>
+    ensures { option_map (λ word. word.now) result ≡ first_of id.now (rows_of (found_of matches.now)) }
+{
+    matches.get_str(id)
+}
+
+/// What the matches of a run name.
+fn run_words<'a>(matches: &ArgMatches<'a>) -> Option<RunWords<'a>>
+    ensures { option_map told_of result ≡ told_by_rows (rows_of (found_of matches.now)) }
+{
+    let trace = word_at(matches, "trace")?;
+    let page_file_word = word_at(matches, "page-file")?;
+    let frames = count_at(matches, "frames")?;
+    let k = count_at(matches, "k")?;
+    let correlated = period_at(matches, "correlated")?;
+    let retained = period_at(matches, "retained")?;
+    Some(RunWords {
+        trace: trace_source(trace),
+        page_file: page_file(page_file_word),
+        frames,
+        k,
+        correlated,
+        retained,
+    })
+}
+
+/// What the matches of the program name, where they are those of a run.
+fn words_in<'a>(matches: &ArgMatches<'a>) -> Option<RunWords<'a>>
+    ensures { option_map told_of result ≡ told_in (subcommand_rows_of matches.now) }
+{
+    let run = matches.subcommand_matches("run")?;
+    run_words(run)
+}
+
+/// Reads the words of a command line, which leave out the program's name.
+///
+/// An `Err` is clap's, by the kind of the words' first fault: a mistake, a call for help, or want of memory.
+pub fn read_words<'a>(alloc: Global, words: &'a [&'a str]) -> Result<RunWords<'a>, Error>
+    ensures told { IfOk result (λ run. told_by (texts words.now) ≡ Some (told_of run)) }
+    ensures limits { IfOk result (λ run. IsInLimits (told_of run)) }
+    ensures faults { FailsBy (fault_of bpool_app (texts words.now)) result }
+{
+    let command = bpool_command(alloc)?;
+    let matches = command.try_get_matches_from(words)?;
+    let run = words_in(&matches).unwrap();
+    Ok(run)
+}
+
+/// What some words name, as the definition computes.
+pub fn words_by_example()
+    ensures none { told_by (words_or_default []) ≡ Some (record { trace = from_stdin; pages = in_memory 16; frames = 2; k = 1; correlated = 0; retained = 1000 }) }
+    ensures defaults { told_by (codes "run" ∷ codes "stdin" ∷ codes "mem:16" ∷ [])
+        ≡ Some (record { trace = from_stdin; pages = in_memory 16; frames = 8; k = 2; correlated = 0; retained = 1000 }) }
+    ensures all { told_by (codes "run" ∷ codes "--k" ∷ codes "16" ∷ codes "--correlated=4611686018427387904" ∷ codes "t.csv" ∷ codes "--retained" ∷ codes "0" ∷ codes "--frames" ∷ codes "65536" ∷ codes "mem:" ∷ [])
+        ≡ Some (record { trace = at_path (codes "t.csv"); pages = in_file (codes "mem:"); frames = 65536; k = 16; correlated = 4611686018427387904; retained = 0 }) }
+    ensures out_of_range { fault_of bpool_app (codes "run" ∷ codes "stdin" ∷ codes "mem:16" ∷ codes "--k" ∷ codes "17" ∷ []) ≡ ErrorKind.ValueValidation ∷ [] }
+    ensures unknown { fault_of bpool_app (codes "run" ∷ codes "stdin" ∷ codes "mem:16" ∷ codes "--page-size" ∷ codes "64" ∷ []) ≡ ErrorKind.UnknownArgument ∷ [] }
+    ensures help { fault_of bpool_app (codes "run" ∷ codes "--help" ∷ []) ≡ ErrorKind.DisplayHelp ∷ [] }
+{}
