@@ -7,4 +7,5 @@ pub mod Level
 pub mod Lines
 pub mod Messages
 pub mod Reading
+pub mod Refusals
 pub mod Walking

@@ -8,8 +8,20 @@ mod line;
 mod number;
 mod words;
 
+use decision::decide;
 use std::process::ExitCode;
+use std::{env, io};
 
 fn main(rt: HostRuntime) -> anyhow::Result<ExitCode> {
-    Ok(ExitCode::SUCCESS)
+    let alloc = rt.alloc();
+    let given: Vec<String> = env::args(&rt)?.skip(1).collect(alloc)?;
+    let mut words = Vec::new(alloc);
+    for word in &given {
+        words.push(word.as_str())?;
+    }
+    let status = match decide(alloc, words.as_slice()) {
+        Ok(_) => 0,
+        Err(ending) => ending.finish(&mut io::writer(&rt), &mut rt.stderr()),
+    };
+    Ok(ExitCode::from(status))
 }
