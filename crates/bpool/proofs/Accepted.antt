@@ -81,11 +81,11 @@ record IsNumber (id : Text) (low high : ℕ) (rows : List Row) : Type 0 where
 
 number_read : (id : Text) (low high : ℕ) (a : Rule) (rows : List Row) → a.parser ≡ Some (parser.Unsigned low high) → IsRead id a rows → IsNumber id low high rows
 number_read id low high a rows parses read = record {
-    number = value;
-    is = rw read.as_value (rw parses (rw (numeral.0, fits.0) refl));
-    at_least = leb-true low value range.0;
-    at_most = leb-true value high range.1;
-  }
+  number = value;
+  is = rw read.as_value (rw parses (rw (numeral.0, fits.0) refl));
+  at_least = leb-true low value range.0;
+  at_most = leb-true value high range.1;
+}
   where
     value : ℕ
     value = digits_value 10 (without_leading_plus read.word)
@@ -135,14 +135,14 @@ both_given false h e = cc
 
 pub rows_told : (rows : List Row) → IsFilled run_built rows → (told : Told) × (told_by_rows rows ≡ Some told) × IsInLimits told
 rows_told rows filled = (
-    record { trace = trace_of trace.word; pages = pages_of pages.word; frames = frames.number; k = k.number; correlated = correlated.number; retained = retained.number },
-    rw (trace.as_text, pages.as_text, frames.is, k.is, correlated.is, retained.is) refl,
-    record {
-      some_frames = frames.at_least;
-      few_frames = frames.at_most;
-      settings = record { at_least_one = k.at_least; at_most_sixteen = k.at_most; correlated_fits = correlated.at_most; retained_fits = retained.at_most };
-    },
-  )
+  record { trace = trace_of trace.word; pages = pages_of pages.word; frames = frames.number; k = k.number; correlated = correlated.number; retained = retained.number },
+  rw (trace.as_text, pages.as_text, frames.is, k.is, correlated.is, retained.is) refl,
+  record {
+    some_frames = frames.at_least;
+    few_frames = frames.at_most;
+    settings = record { at_least_one = k.at_least; at_most_sixteen = k.at_most; correlated_fits = correlated.at_most; retained_fits = retained.at_most };
+  },
+)
   where
     given : (is_given (codes "trace") rows ≡ true) × (is_given (codes "page-file") rows ≡ true)
     given = both_given (is_given (codes "trace") rows) (is_given (codes "page-file") rows) filled.checked

@@ -61,13 +61,13 @@ pub more_fits : (c : List Rule) (s : ValueSource) (values : List Text) (r : Row)
 more_fits [] s values r fits = fits
 more_fits (a ∷ rest) s values r fits = elim fits [
   | inl is ↦ inl (record {
-      id = is.id;
-      reading = is.reading;
-      first = is.first;
-      others = is.others ++ values;
-      values = ap (λ (vs : List Text). vs ++ values) is.values;
-      passes = is.passes;
-    })
+    id = is.id;
+    reading = is.reading;
+    first = is.first;
+    others = is.others ++ values;
+    values = ap (λ (vs : List Text). vs ++ values) is.values;
+    passes = is.passes;
+  })
   | inr later ↦ inr (more_fits rest s values r later)
 ]
 

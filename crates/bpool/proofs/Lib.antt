@@ -13,6 +13,7 @@ pub mod Messages
 pub mod OneLine
 pub mod PieceSteps
 pub mod Reading
+pub mod Refusals
 pub mod RowSteps
 pub mod ScriptSteps
 pub mod SixFields

@@ -38,9 +38,9 @@ message-line (ending.CommandLine line) e = line.unbroken
 message-line ending.PageFileNotOpened e = refl
 message-line (ending.PageFileRefused refusal) e = both-line (codes "page file refused ") (decimal (number_of refusal)) refl (decimal-line (number_of refusal))
 message-line ending.TraceNotOpened e = refl
-message-line (ending.TraceRefused row refusal) e =
-    both-line (codes "trace row ") (decimal row ++ (codes " refused " ++ decimal (number_of refusal))) refl
-    (both-line (decimal row) (codes " refused " ++ decimal (number_of refusal)) (decimal-line row)
-    (both-line (codes " refused ") (decimal (number_of refusal)) refl (decimal-line (number_of refusal))))
+message-line (ending.TraceRefused fault) e =
+    both-line (codes "trace row ") (decimal fault.row ++ (codes " refused " ++ decimal fault.number)) refl
+    (both-line (decimal fault.row) (codes " refused " ++ decimal fault.number) (decimal-line fault.row)
+    (both-line (codes " refused ") (decimal fault.number) refl (decimal-line fault.number)))
 message-line (ending.RunRefused refusal) e = both-line (codes "run refused ") (decimal (number_of refusal)) refl (decimal-line (number_of refusal))
 message-line ending.OutputFailed e = refl

@@ -3,7 +3,7 @@ use Rattle.std.specs.Prelude.{◌≡◌, ◌≢◌, ℕ, ◌&&◌, nat_le, if◌
 use Rattle.clap.specs.Kinds.{IsAmong, Kinds}
 use Rattle.clap.specs.Words.{Text, fault_of}
 use Rattle.clap.specs.declared.error.kind.ErrorKind.{ErrorKind}
-use Rattle.clap.specs.declared.error.kind.ErrorKind.TheVariants.{DisplayHelp}
+use Rattle.clap.specs.declared.error.kind.ErrorKind.TheVariants.{DisplayHelp, OutOfMemory as no_memory}
 use Rattle.bp_page.specs.declared.refusals.Refusal.TheVariants.{BadGeometry, OutOfMemory}
 use Rattle.bpool.specs.Command.{bpool_app}
 use Rattle.bpool.specs.Words.{Told, Trace, at_path, from_stdin, Pages, in_file, in_memory, told_by}
@@ -46,6 +46,13 @@ AsksForHelp words = IsAmong DisplayHelp (fault_of bpool_app words)
 
 abbrev pub HasFault : List Text → Type 0
 HasFault words = (kind : ErrorKind) × IsAmong kind (fault_of bpool_app words) × (kind ≢ DisplayHelp)
+
+-- what a refusal of this kind by clap comes to, but for want of memory
+abbrev pub IsRefusal : ErrorKind → Ending → Type 0
+IsRefusal kind (ending.Help text) = kind ≡ DisplayHelp
+IsRefusal kind (ending.CommandLine line) = (kind ≢ DisplayHelp) × (kind ≢ no_memory)
+IsRefusal kind (ending.RunRefused refusal) = refusal ≡ OutOfMemory
+IsRefusal kind _ = ⊥
 
 -- the words decide on the result, but for want of memory
 abbrev pub IsDecision : List Text → Result RunOrder Ending → Type 0

@@ -1,7 +1,8 @@
 //! How the program goes on after its words.
 ghost use Rattle.std.specs.Prelude.{◌≡◌, Ok, Err, MatchResult};
 ghost use Rattle.clap.specs.Walk.{texts};
-ghost use Rattle.bpool.specs.Decision.{IsDecision, begun, order_of};
+ghost use Rattle.clap.specs.Values.{kind_of};
+ghost use Rattle.bpool.specs.Decision.{IsDecision, IsRefusal, begun, order_of};
 ghost use Rattle.bpool.specs.Words.{IsInLimits, told_of, words_or_default};
 ghost use Rattle.bpool.specs.Words as spec;
 
@@ -53,4 +54,49 @@ fn begin(run: &RunWords<'_>) -> Result<RunOrder, Ending>
         frames: run.frames,
         settings,
     })
+}
+
+/// What a refusal of the words by clap comes to.
+fn refused(alloc: Global, error: &Error) -> Ending
+    ensures { IsRefusal (kind_of error.now) result }
+{
+    let no_memory = Ending::RunRefused(Refusal::OutOfMemory);
+    if error.kind() == ErrorKind::OutOfMemory {
+        return no_memory;
+    }
+    let Ok(text) = error.to_string(alloc) else {
+        return no_memory;
+    };
+    if error.kind() == ErrorKind::DisplayHelp {
+        return Ending::Help(text);
+    }
+    match Line::of(alloc, text.as_str()) {
+        Ok(line) => Ending::CommandLine(line),
+        Err(_) => no_memory,
+    }
+}
+
+/// Decides by words that are not left out.
+fn decide_by<'a>(alloc: Global, words: &'a [&'a str]) -> Result<RunOrder, Ending>
+    ensures { IsDecision (texts words.now) result }
+{
+    match read_words(alloc, words) {
+        Ok(run) => begin(&run),
+        Err(error) => Err(refused(alloc, &error)),
+    }
+}
+
+/// Decides by the words of the command line, which leave out the program's name, what is to be run. No words at all
+/// are those of the stored run.
+///
+/// An `Err` is how the program ends otherwise. It looks at the words first, then at the page file, and then at the
+/// trace.
+pub fn decide<'a>(alloc: Global, words: &'a [&'a str]) -> Result<RunOrder, Ending>
+    ensures { IsDecision (words_or_default (texts words.now)) result }
+{
+    if words.is_empty() {
+        decide_by(alloc, default_words())
+    } else {
+        decide_by(alloc, words)
+    }
 }

@@ -23,14 +23,17 @@ use std::{env, io};
 
 fn main(rt: HostRuntime) -> anyhow::Result<ExitCode> {
     let alloc = rt.alloc();
-    let mut given = Vec::new(alloc);
-    for word in env::args(&rt)?.skip(1) {
-        given.push(word)?;
-    }
+    let given: Vec<String> = env::args(&rt)?.skip(1).collect(alloc)?;
     let mut words = Vec::new(alloc);
     for word in &given {
         words.push(word.as_str())?;
     }
-    let status = run_with(alloc, words.as_slice(), &mut rt.reader(), &mut io::writer(&rt), &mut rt.stderr());
+    let status = run_with(
+        alloc,
+        words.as_slice(),
+        &mut rt.reader(),
+        &mut io::writer(&rt),
+        &mut rt.stderr(),
+    );
     Ok(ExitCode::from(status))
 }

@@ -1,10 +1,11 @@
 //! A run: the rows of a trace over a new core, and the report of what it did.
-ghost use Rattle.std.specs.Prelude.{◌≡◌, ◌≤◌, ◌++◌, OnOk, ◌<◌, IfOk, IfSome, All, length};
+ghost use Rattle.std.specs.Prelude.{◌≡◌, false, IfErr, if◌then◌else◌, ◌≤◌, ◌++◌, OnOk, ◌<◌, IfOk, IfSome, All, length};
 ghost use Rattle.bpool.specs.Driver.{RowFits};
 ghost use Rattle.std.specs.Io.KnownBytes.{Appends};
 ghost use Rattle.bpool.specs.Report.{report_text, rows_text};
 ghost use Rattle.clap.specs.Walk.{texts};
 ghost use Rattle.bpool.specs.Decision.{AsksForHelp};
+ghost use Rattle.bpool.specs.Ending.{is_help};
 ghost use Rattle.bpool.specs.Words.{words_or_default};
 ghost use Rattle.bpool.specs.Run.{RunsWords, parameters_for, room_for, Reports, Runs};
 
@@ -29,7 +30,8 @@ fn room_for(rows: usize) -> usize
 
 /// Writes the report of the entries, and the refused rows.
 fn print_run<W: Write>(entries: &[Entry], refused: &[Refused], out: &mut W) -> Result<(), Ending>
-    ensures { OnOk result (Appends (W.contents out.old) (W.contents out.new) (report_text entries.now ++ rows_text refused.now)) }
+    ensures written { OnOk result (Appends (W.contents out.old) (W.contents out.new) (report_text entries.now ++ rows_text refused.now)) }
+    ensures fault { IfErr result (λ ending. is_help ending ≡ false) }
 {
     if report(entries, out).is_err() || report_rows(refused, out).is_err() {
         return Err(Ending::OutputFailed);
@@ -45,7 +47,8 @@ fn run_rows<W: Write>(
     out: &mut W,
 ) -> Result<bool, Ending>
     requires fits { All (RowFits (parameters_for order.now (length rows.now))) rows.now }
-    ensures { IfOk result (λ all_accepted. Reports order.now rows.now all_accepted (W.contents out.old) (W.contents out.new)) }
+    ensures reported { IfOk result (λ all_accepted. Reports order.now rows.now all_accepted (W.contents out.old) (W.contents out.new)) }
+    ensures fault { IfErr result (λ ending. is_help ending ≡ false) }
 {
     let mut core = match Core::new(
         alloc,
@@ -77,7 +80,8 @@ pub fn run_trace<R: Read, W: Write>(
     reader: &mut R,
     out: &mut W,
 ) -> Result<bool, Ending>
-    ensures { IfOk result (λ all_accepted. IfSome (R.remaining reader.old) (λ bytes. Runs order.now bytes all_accepted (W.contents out.old) (W.contents out.new))) }
+    ensures ran { IfOk result (λ all_accepted. IfSome (R.remaining reader.old) (λ bytes. Runs order.now bytes all_accepted (W.contents out.old) (W.contents out.new))) }
+    ensures fault { IfErr result (λ ending. is_help ending ≡ false) }
 {
     let rows = match read_script(alloc, reader, &order.geometry) {
         Ok(rows) => rows,
@@ -86,24 +90,36 @@ pub fn run_trace<R: Read, W: Write>(
     run_rows(alloc, order, &rows, out)
 }
 
+/// The status of a run: 0 where all rows were accepted, else 1.
+fn status_of_run(all_accepted: bool) -> u8
+    ensures { result ≡ (if all_accepted then 0 else 1) }
+{
+    if all_accepted { 0 } else { 1 }
+}
+
 /// Does what the words of the command line say, which leave out the program's name, and gives the status to end with.
 /// No words at all are those of the stored run.
 ///
 /// Status 0: help, or a run whose rows were all accepted. Status 1: a run with refused rows. Their report, and then the
 /// refused rows, are on `out`. Status 2: one line on `err` says why there is no report; nothing is on `out`, but where
 /// the line is `output failed`, which comes after whatever was written.
-pub fn run_with<R: Read, W: Write, E: Write>(alloc: Global, words: &[&str], reader: &mut R, out: &mut W, err: &mut E) -> u8
+pub fn run_with<R: Read, W: Write, E: Write>(
+    alloc: Global,
+    words: &[&str],
+    reader: &mut R,
+    out: &mut W,
+    err: &mut E,
+) -> u8
     ensures reported { ¬ AsksForHelp (words_or_default (texts words.entry.now)) → result < 2
         → IfSome (R.remaining reader.old) (λ bytes. RunsWords (words_or_default (texts words.entry.now)) bytes result (W.contents out.old) (W.contents out.new)) }
     ensures status { result ≤ 2 }
 {
-    let done = match decide(alloc, words) {
-        Ok(order) => run_trace(alloc, &order, reader, out),
-        Err(ending) => Err(ending),
+    let order = match decide(alloc, words) {
+        Ok(order) => order,
+        Err(ending) => return ending.finish(out, err),
     };
-    match done {
-        Ok(true) => 0,
-        Ok(false) => 1,
+    match run_trace(alloc, &order, reader, out) {
+        Ok(all_accepted) => status_of_run(all_accepted),
         Err(ending) => ending.finish(out, err),
     }
 }

@@ -65,29 +65,64 @@ impl Read for Broken {
     }
 }
 
-const CLASSICAL: &[u8] = b"0,fix,1,,,\n0,unfix,1,,,\n0,tick,1,,,\n0,fix,1,,,\n0,unfix,1,,,\n0,tick,1,,,\n0,fix,2,,,\n0,unfix,2,,,\n0,tick,1,,,\n0,fix,3,,,\n0,unfix,3,,,\n";
+const CLASSICAL: &[u8] =
+    b"0,fix,1,,,\n0,unfix,1,,,\n0,tick,1,,,\n0,fix,1,,,\n0,unfix,1,,,\n0,tick,1,,,\n0,fix,2,,,\n0,unfix,2,,,\n0,tick,1,,,\n0,fix,3,,,\n0,unfix,3,,,\n";
 
 #[test]
 fn lru_one_is_classical_lru(rt: HostRuntime) {
     let report = "evict 4 1\nhits 1\nfaults 3\nevictions 1\nwrites 0\nfailed 0\nrefused 0\n";
     let words = ["run", "stdin", "mem:16", "--frames", "2", "--k", "1"];
-    expect_run(&rt, run(rt.alloc(), words.as_slice(), CLASSICAL), 0, report, "");
-    expect_run(&rt, run(rt.alloc(), [].as_slice(), CLASSICAL), 0, report, "");
+    expect_run(
+        &rt,
+        run(rt.alloc(), words.as_slice(), CLASSICAL),
+        0,
+        report,
+        "",
+    );
+    expect_run(
+        &rt,
+        run(rt.alloc(), [].as_slice(), CLASSICAL),
+        0,
+        report,
+        "",
+    );
 }
 
 #[test]
 fn two_references_outlive_one(rt: HostRuntime) {
     let words = ["run", "stdin", "mem:16", "--frames", "2"];
     let report = "evict 4 2\nhits 1\nfaults 3\nevictions 1\nwrites 0\nfailed 0\nrefused 0\n";
-    expect_run(&rt, run(rt.alloc(), words.as_slice(), CLASSICAL), 0, report, "");
+    expect_run(
+        &rt,
+        run(rt.alloc(), words.as_slice(), CLASSICAL),
+        0,
+        report,
+        "",
+    );
 }
 
 #[test]
 fn too_young_to_leave(rt: HostRuntime) {
-    let words = ["run", "stdin", "mem:16", "--frames", "1", "--correlated", "5"];
-    let trace = b"0,fix,1,,,\n0,unfix,1,,,\n0,tick,5,,,\n0,fix,2,,,\n0,tick,1,,,\n0,fix,2,,,\n0,unfix,2,,,\n";
-    let report = "evict 7 1\nhits 0\nfaults 2\nevictions 1\nwrites 0\nfailed 0\nrefused 1\nrow 4 refused 11\n";
-    expect_run(&rt, run(rt.alloc(), words.as_slice(), trace.as_slice()), 1, report, "");
+    let words = [
+        "run",
+        "stdin",
+        "mem:16",
+        "--frames",
+        "1",
+        "--correlated",
+        "5",
+    ];
+    let trace =
+        b"0,fix,1,,,\n0,unfix,1,,,\n0,tick,5,,,\n0,fix,2,,,\n0,tick,1,,,\n0,fix,2,,,\n0,unfix,2,,,\n";
+    let report =
+        "evict 7 1\nhits 0\nfaults 2\nevictions 1\nwrites 0\nfailed 0\nrefused 1\nrow 4 refused 11\n";
+    expect_run(
+        &rt,
+        run(rt.alloc(), words.as_slice(), trace.as_slice()),
+        1,
+        report,
+        "",
+    );
 }
 
 #[test]
@@ -95,7 +130,13 @@ fn pinned_page_stays(rt: HostRuntime) {
     let words = ["run", "stdin", "mem:16", "--frames", "1"];
     let trace = b"0,fix,1,,,\n0,tick,10,,,\n0,fix,2,,,\n";
     let report = "hits 0\nfaults 1\nevictions 0\nwrites 0\nfailed 0\nrefused 1\nrow 3 refused 11\n";
-    expect_run(&rt, run(rt.alloc(), words.as_slice(), trace.as_slice()), 1, report, "");
+    expect_run(
+        &rt,
+        run(rt.alloc(), words.as_slice(), trace.as_slice()),
+        1,
+        report,
+        "",
+    );
 }
 
 #[test]
@@ -103,33 +144,66 @@ fn pinned_page_stays_at_k_one(rt: HostRuntime) {
     let words = ["run", "stdin", "mem:16", "--frames", "1", "--k", "1"];
     let trace = b"0,fix,1,,,\n0,tick,10,,,\n0,fix,2,,,\n";
     let report = "hits 0\nfaults 1\nevictions 0\nwrites 0\nfailed 0\nrefused 1\nrow 3 refused 11\n";
-    expect_run(&rt, run(rt.alloc(), words.as_slice(), trace.as_slice()), 1, report, "");
+    expect_run(
+        &rt,
+        run(rt.alloc(), words.as_slice(), trace.as_slice()),
+        1,
+        report,
+        "",
+    );
 }
 
 #[test]
 fn ties_go_to_the_lower_page(rt: HostRuntime) {
     let words = ["run", "stdin", "mem:16", "--frames", "2"];
-    let trace = b"0,fix,5,,,\n0,unfix,5,,,\n0,fix,3,,,\n0,unfix,3,,,\n0,tick,1,,,\n0,fix,9,,,\n0,unfix,9,,,\n";
+    let trace =
+        b"0,fix,5,,,\n0,unfix,5,,,\n0,fix,3,,,\n0,unfix,3,,,\n0,tick,1,,,\n0,fix,9,,,\n0,unfix,9,,,\n";
     let report = "evict 2 3\nhits 0\nfaults 3\nevictions 1\nwrites 0\nfailed 0\nrefused 0\n";
-    expect_run(&rt, run(rt.alloc(), words.as_slice(), trace.as_slice()), 0, report, "");
+    expect_run(
+        &rt,
+        run(rt.alloc(), words.as_slice(), trace.as_slice()),
+        0,
+        report,
+        "",
+    );
 }
 
 #[test]
 fn empty_and_malformed_traces(rt: HostRuntime) {
     let words = ["run", "stdin", "mem:16"];
     let none = "hits 0\nfaults 0\nevictions 0\nwrites 0\nfailed 0\nrefused 0\n";
-    expect_run(&rt, run(rt.alloc(), words.as_slice(), b"".as_slice()), 0, none, "");
+    expect_run(
+        &rt,
+        run(rt.alloc(), words.as_slice(), b"".as_slice()),
+        0,
+        none,
+        "",
+    );
     let cut = b"0,fix,1,,,\n0,unfix,1,,,\n0,fi";
     let said = "trace row 3 refused 40\n";
-    expect_run(&rt, run(rt.alloc(), words.as_slice(), cut.as_slice()), 2, "", said);
+    expect_run(
+        &rt,
+        run(rt.alloc(), words.as_slice(), cut.as_slice()),
+        2,
+        "",
+        said,
+    );
 }
 
 #[test]
 fn refusals_of_rows(rt: HostRuntime) {
     let words = ["run", "stdin", "mem:16"];
-    let trace = b"0,unfix,1,,,\n0,fix,1,,,\n0,unfix,1,,,\n0,unfix,1,,,\n0,tick,4611686018427387904,,,\n0,tick,4611686018427387903,,,\n0,tick,0,,,\n";
-    let report = "hits 0\nfaults 1\nevictions 0\nwrites 0\nfailed 0\nrefused 0\nrow 1 refused 14\nrow 4 refused 14\nrow 5 refused 21\n";
-    expect_run(&rt, run(rt.alloc(), words.as_slice(), trace.as_slice()), 1, report, "");
+    let trace =
+        b"0,unfix,1,,,\n0,fix,1,,,\n0,unfix,1,,,\n0,unfix,1,,,\n0,tick,4611686018427387904,,,\n0,tick,4611686018427387903,,,\n0,tick,0,,,\n";
+    let report =
+        "hits 0\nfaults 1\nevictions 0\nwrites 0\nfailed 0\nrefused 0\nrow 1 refused 14\nrow 4 refused 14\nrow 5 refused 21\n";
+    expect_run(
+        &rt,
+        run(rt.alloc(), words.as_slice(), trace.as_slice()),
+        1,
+        report,
+        "",
+    );
 }
 
 #[test]
@@ -199,13 +273,25 @@ fn streams_that_fail(rt: HostRuntime) {
     };
     let mut err = Vec::new(rt.alloc());
     let mut reader = CLASSICAL;
-    let status = run_with(rt.alloc(), words.as_slice(), &mut reader, &mut out, &mut err);
+    let status = run_with(
+        rt.alloc(),
+        words.as_slice(),
+        &mut reader,
+        &mut out,
+        &mut err,
+    );
     assert_eq!(rt; status, 2);
     assert_eq!(rt; err.as_slice(), b"output failed\n".as_slice());
 
     let mut text = Vec::new(rt.alloc());
     let mut said = Vec::new(rt.alloc());
-    let status = run_with(rt.alloc(), words.as_slice(), &mut Broken, &mut text, &mut said);
+    let status = run_with(
+        rt.alloc(),
+        words.as_slice(),
+        &mut Broken,
+        &mut text,
+        &mut said,
+    );
     assert_eq!(rt; status, 2);
     assert_eq!(rt; text.len(), 0);
     assert_eq!(rt; said.as_slice(), b"trace row 0 refused 47\n".as_slice());
@@ -216,7 +302,13 @@ fn streams_that_fail(rt: HostRuntime) {
     };
     let mut nothing = Vec::new(rt.alloc());
     let mut malformed = b"0,fi".as_slice();
-    let status = run_with(rt.alloc(), words.as_slice(), &mut malformed, &mut nothing, &mut silent);
+    let status = run_with(
+        rt.alloc(),
+        words.as_slice(),
+        &mut malformed,
+        &mut nothing,
+        &mut silent,
+    );
     assert_eq!(rt; status, 2);
     assert_eq!(rt; nothing.len(), 0);
 }
