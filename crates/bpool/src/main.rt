@@ -1,13 +1,13 @@
 //! Runs a trace over a buffer pool.
 #![tactic(auto)]
 
-pub mod faults;
-pub mod input;
-pub mod lines;
-pub mod numbers;
-pub mod printing;
-pub mod record;
-pub mod script;
-pub mod totals;
+mod faults;
+mod input;
+mod lines;
+mod numbers;
+mod printing;
+mod record;
+mod script;
+mod totals;
 
 fn main() {}
