@@ -41,10 +41,13 @@ or_refuse e (Some x) = Ok x
 abbrev pub refused_if : Bool → Refusal → Result (Unit {0}) Refusal
 refused_if b e = if b then Err e else Ok tt
 
--- the one client is 0
+-- the greatest number of a client: there is one alone
+abbrev pub most_client : ℕ
+most_client = 0
+
 abbrev pub client_of : Option ℕ → Result ℕ Refusal
 client_of None = Err refusal.BadClient
-client_of (Some n) = if nat_le n 0 then Ok n else Err refusal.BadClient
+client_of (Some n) = if nat_le n most_client then Ok n else Err refusal.BadClient
 
 abbrev pub client_in : List ℕ → Result ℕ Refusal
 client_in text = client_of (number_in text)

@@ -2,6 +2,8 @@
 use Rattle.std.specs.Prelude.{◌≡◌, ℕ, ◌+◌, nat_lt, if◌then◌else◌, List, [], ◌∷◌, length, Result, Ok, Err, ◌⊎◌, Vec}
 use Rattle.std.specs.declared.alloc.Global.{Global}
 use Rattle.csv.specs.Reading.{default_config, records, strip_bom}
+use Rattle.csv.specs.declared.error.ErrorKind.{ErrorKind}
+use Rattle.csv.specs.declared.error.ErrorKind.TheVariants as kind
 use Rattle.bp_page.specs.Refusals.{number_of}
 use Rattle.bp_page.specs.declared.limits.Geometry.{Geometry}
 use Rattle.bp_page.specs.declared.refusals.Refusal.{Refusal}
@@ -40,6 +42,11 @@ abbrev pub script_of : Geometry → List ℕ → Result (List Row) TraceFault
 script_of g bytes =
     if nat_lt most_bytes (length bytes) then Err (fault 0 refusal.TooLong)
     else script_from g 1 (records default_config (strip_bom bytes))
+
+-- why csv failed: want of memory, or else the reader
+abbrev pub refusal_of : ErrorKind → Refusal
+refusal_of kind.OutOfMemory = refusal.OutOfMemory
+refusal_of _ = refusal.ReadFault
 
 -- want of memory, or a reader's fault
 abbrev pub IsOutside : TraceFault → Type 0
