@@ -1,6 +1,6 @@
 -- The lines and the totals of a list of entries, one entry after the other.
-use Rattle.std.proofs.Common.{◌≡◌, ◌∙◌, ℕ, suc, ◌+◌, ◌<◌, ◌≤◌, ◌^◌, cond, List, ◌∷◌, ◌++◌, length, drop, take, get_or, refl, sym, ap, arith, add-one, drop-cons, length-take}
-use Rattle.std.specs.Prelude.{Bool, count_by}
+use Rattle.std.proofs.Common.{◌≡◌, ◌∙◌, ℕ, suc, ◌+◌, ◌<◌, ◌^◌, cond, List, ◌∷◌, ◌++◌, length, drop, take, get_or, sym, ap, arith, add-one, drop-cons, length-take}
+use Rattle.std.specs.Prelude.{Bool}
 use Rattle.std.proofs.lemmas.List.Sums.{count_by-le-length, sum_by_more}
 use Rattle.bp_core.specs.declared.entries.Entry.{Entry}
 use Rattle.bp_core.specs.declared.entries.Call.{Call}

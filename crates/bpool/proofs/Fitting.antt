@@ -15,16 +15,16 @@ use Rattle.bpool.specs.declared.record.Op.TheVariants as op
 use Rattle.bpool.specs.declared.faults.TraceFault.{TraceFault}
 use Rattle.bpool.specs.Numbers.{number_in}
 use Rattle.bpool.specs.Record.{Texts, six_of, client_of, client_in, op_in, has_extra, number_wanted, or_refuse, refused_if, page_below, page_in, step_in, texts_row, row_in, ◌>>=◌}
-use Rattle.bpool.specs.Script.{fault, most_rows, IsScriptOfSome, script_from, row_then}
+use Rattle.bpool.specs.Script.{fault, most_rows, IsScriptOfSome, at_row, script_from}
 use Rattle.bpool.specs.Driver.{StepFits, RowFits}
 
 -- where a step and what follows it answer Ok, so did the step
-pub record Goes {A B : Type 0} (r : Result A Refusal) (f : A → Result B Refusal) (b : B) : Type 0 where
+pub record Goes {A B E : Type 0} (r : Result A E) (f : A → Result B E) (b : B) : Type 0 where
   pub value : A
   pub was : r ≡ Ok value
   pub then : f value ≡ Ok b
 
-goes : {A B : Type 0} (r : Result A Refusal) (f : A → Result B Refusal) (b : B) → (r >>= f) ≡ Ok b → Goes r f b
+goes : {A B E : Type 0} (r : Result A E) (f : A → Result B E) (b : B) → (r >>= f) ≡ Ok b → Goes r f b
 goes (Ok a) f b is = record { value = a; was = refl; then = is }
 goes (Err e) f b is = cc
 
@@ -74,17 +74,25 @@ pub row-fits : (g : Geometry) (c : Parameters) → c.pages ≡ g.pages → c.cli
 unfolding row_in
 row-fits g c pages clients n fields row is = let t = goes (or_refuse refusal.BadShape (six_of fields)) (λ t. texts_row g n t) row is in texts-fit g c pages clients n t.value row t.then
 
+at_row-ok : {X : Type 0} (n : ℕ) (r : Result X Refusal) (x : X) → at_row n r ≡ Ok x → r ≡ Ok x
+at_row-ok n (Ok y) x is = let same : y ≡ x = cc in ap (λ z. Ok z) same
+at_row-ok n (Err e) x is = cc
+
 script_from-fits : (g : Geometry) (c : Parameters) → c.pages ≡ g.pages → c.clients ≡ 1 → (n : ℕ) (rs : List (List (List ℕ))) (rows : List Row) → script_from g n rs ≡ Ok rows → All (RowFits c) rows
 unfolding script_from
 script_from-fits g c pages clients n [] rows is = let e : rows ≡ [] = cc in subst (All (RowFits c)) (sym e) (λ k d h. absurd (omega arith))
-script_from-fits g c pages clients n (r ∷ rest) rows is = more (nat_lt most_rows n) (row_in g n r) refl (script_from g (n + 1) rest) (script_from-fits g c pages clients (n + 1) rest) is
+script_from-fits g c pages clients n (r ∷ rest) rows is =
+    let within = goes (at_row n (refused_if (nat_lt most_rows n) refusal.TooLong)) (λ within. after_within) rows is in
+    let row = goes (at_row n (row_in g n r)) (λ row. after_row row) rows within.then in
+    let others = goes (script_from g (n + 1) rest) (λ others. Ok (row.value ∷ others)) rows row.then in
+    let e : row.value ∷ others.value ≡ rows = cc (others.then) in
+    subst (All (RowFits c)) e (All-cons (RowFits c) row.value others.value (row-fits g c pages clients n r row.value (at_row-ok n (row_in g n r) row.value row.was)) (script_from-fits g c pages clients (n + 1) rest others.value others.was))
   where
-    more : (b : Bool) (x : Result Row Refusal) → row_in g n r ≡ x → (later : Result (List Row) TraceFault) → ((rows : List Row) → later ≡ Ok rows → All (RowFits c) rows)
-        → cond {A = Result (List Row) TraceFault} b (Err (fault n refusal.TooLong)) (row_then n x later) ≡ Ok rows → All (RowFits c) rows
-    more true x was later ih is = cc
-    more false (Err e) was later ih is = cc
-    more false (Ok row) was (Err e) ih is = cc
-    more false (Ok row) was (Ok others) ih is = let e : row ∷ others ≡ rows = cc in subst (All (RowFits c)) e (All-cons (RowFits c) row others (row-fits g c pages clients n r row was) (ih others refl))
+    after_row : Row → Result (List Row) TraceFault
+    after_row row = script_from g (n + 1) rest >>= (λ others. Ok (row ∷ others))
+
+    after_within : Result (List Row) TraceFault
+    after_within = at_row n (row_in g n r) >>= (λ row. after_row row)
 
 pub some-fit : (g : Geometry) (c : Parameters) → c.pages ≡ g.pages → c.clients ≡ 1 → (rows : List Row) → IsScriptOfSome g rows → All (RowFits c) rows
 some-fit g c pages clients rows some = script_from-fits g c pages clients 1 some.found rows some.read

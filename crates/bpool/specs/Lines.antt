@@ -1,5 +1,5 @@
 -- The lines of a report, as bytes. A number is printed in decimal, without leading zeros.
-use Rattle.std.specs.Prelude.{ℕ, List, [], ◌∷◌, ◌++◌, codes, take, Some}
+use Rattle.std.specs.Prelude.{ℕ, List, [], ◌++◌, codes, take, Some}
 use Rattle.std.specs.Fmt.{decimal}
 use Rattle.hex.specs.Hex.{encode_lower}
 use Rattle.bp_core.specs.declared.entries.Entry.{Entry}

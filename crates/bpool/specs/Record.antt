@@ -1,5 +1,5 @@
 -- What one record of a trace says: a row, or the first refusal.
-use Rattle.std.specs.Prelude.{ℕ, ◌==◌, ◌&&◌, nat_lt, nat_le, not, Bool, true, false, if◌then◌else◌, List, [], ◌∷◌, length, codes, Option, Some, None, Result, Ok, Err}
+use Rattle.std.specs.Prelude.{ℕ, ◌==◌, ◌&&◌, nat_lt, nat_le, not, Bool, if◌then◌else◌, List, [], ◌∷◌, length, codes, Option, Some, None, Result, Ok, Err}
 use Rattle.std.specs.Str.{bytes_eq}
 use Rattle.bp_page.specs.declared.limits.Geometry.{Geometry}
 use Rattle.bp_page.specs.declared.refusals.Refusal.{Refusal}
@@ -28,9 +28,9 @@ unfoldable pub six_of : List (List ℕ) → Option Texts
 six_of (a ∷ b ∷ c ∷ d ∷ e ∷ f ∷ []) = Some (record { client = a; op = b; number = c; offset = d; bytes = e; lsn = f })
 six_of _ = None
 
--- one step after another, up to the first refusal
+-- one step after another, up to the first that fails
 infixl 10 ◌>>=◌
-abbrev pub ◌>>=◌ : {A B : Type 0} → Result A Refusal → (A → Result B Refusal) → Result B Refusal
+abbrev pub ◌>>=◌ : {A B E : Type 0} → Result A E → (A → Result B E) → Result B E
 (Ok x) >>= f = f x
 (Err e) >>= f = Err e
 
@@ -41,10 +41,13 @@ or_refuse e (Some x) = Ok x
 abbrev pub refused_if : Bool → Refusal → Result (Unit {0}) Refusal
 refused_if b e = if b then Err e else Ok tt
 
--- the one client is 0
+-- the greatest number of a client: there is one alone
+abbrev pub most_client : ℕ
+most_client = 0
+
 abbrev pub client_of : Option ℕ → Result ℕ Refusal
 client_of None = Err refusal.BadClient
-client_of (Some n) = if nat_le n 0 then Ok n else Err refusal.BadClient
+client_of (Some n) = if nat_le n most_client then Ok n else Err refusal.BadClient
 
 abbrev pub client_in : List ℕ → Result ℕ Refusal
 client_in text = client_of (number_in text)

@@ -2,13 +2,15 @@
 use Rattle.std.specs.Prelude.{◌≡◌, ℕ, ◌+◌, nat_lt, if◌then◌else◌, List, [], ◌∷◌, length, Result, Ok, Err, ◌⊎◌, Vec}
 use Rattle.std.specs.declared.alloc.Global.{Global}
 use Rattle.csv.specs.Reading.{default_config, records, strip_bom}
+use Rattle.csv.specs.declared.error.ErrorKind.{ErrorKind}
+use Rattle.csv.specs.declared.error.ErrorKind.TheVariants as kind
 use Rattle.bp_page.specs.Refusals.{number_of}
 use Rattle.bp_page.specs.declared.limits.Geometry.{Geometry}
 use Rattle.bp_page.specs.declared.refusals.Refusal.{Refusal}
 use Rattle.bp_page.specs.declared.refusals.Refusal.TheVariants as refusal
 use Rattle.bp_core.specs.declared.scripts.Row.{Row}
 use Rattle.bpool.specs.declared.faults.TraceFault.{TraceFault}
-use Rattle.bpool.specs.Record.{row_in}
+use Rattle.bpool.specs.Record.{◌>>=◌, refused_if, row_in}
 
 -- the most records and the most bytes of a trace
 abbrev pub most_rows : ℕ
@@ -21,23 +23,30 @@ most_bytes = 67108864
 abbrev pub fault : ℕ → Refusal → TraceFault
 fault n refused = record { row = n; number = number_of refused }
 
--- the row of the n-th record, and then the rows after it
-abbrev pub row_then : ℕ → Result Row Refusal → Result (List Row) TraceFault → Result (List Row) TraceFault
-row_then n (Err refused) later = Err (fault n refused)
-row_then n (Ok row) (Err e) = Err e
-row_then n (Ok row) (Ok rows) = Ok (row ∷ rows)
+-- a refusal is that of the n-th record
+abbrev pub at_row : {X : Type 0} → ℕ → Result X Refusal → Result X TraceFault
+at_row n (Ok x) = Ok x
+at_row n (Err refused) = Err (fault n refused)
 
 -- the rows of the records from the n-th on, or the first fault
 unfoldable pub script_from : Geometry → ℕ → List (List (List ℕ)) → Result (List Row) TraceFault
 script_from g n [] = Ok []
-script_from g n (r ∷ rest) =
-    if nat_lt most_rows n then Err (fault n refusal.TooLong) else row_then n (row_in g n r) (script_from g (n + 1) rest)
+script_from g n (r ∷ rest) = do
+  within ← at_row n (refused_if (nat_lt most_rows n) refusal.TooLong)
+  row ← at_row n (row_in g n r)
+  rows ← script_from g (n + 1) rest
+  Ok (row ∷ rows)
 
 -- the rows of the bytes: the records are those that csv reads, which takes a byte order mark off
 abbrev pub script_of : Geometry → List ℕ → Result (List Row) TraceFault
 script_of g bytes =
     if nat_lt most_bytes (length bytes) then Err (fault 0 refusal.TooLong)
     else script_from g 1 (records default_config (strip_bom bytes))
+
+-- why csv failed: want of memory, or else the reader
+abbrev pub refusal_of : ErrorKind → Refusal
+refusal_of kind.OutOfMemory = refusal.OutOfMemory
+refusal_of _ = refusal.ReadFault
 
 -- want of memory, or a reader's fault
 abbrev pub IsOutside : TraceFault → Type 0

@@ -1,5 +1,5 @@
 -- How many replies of each kind a list of entries has, and the lines that say so.
-use Rattle.std.specs.Prelude.{ℕ, ◌+◌, ◌-◌, ◌^◌, ◌<◌, Bool, true, false, if◌then◌else◌, List, ◌++◌, codes, Some, count_by}
+use Rattle.std.specs.Prelude.{ℕ, ◌+◌, ◌^◌, ◌<◌, Bool, true, false, if◌then◌else◌, List, ◌++◌, codes, Some, count_by}
 use Rattle.std.specs.Fmt.{decimal}
 use Rattle.bp_core.specs.declared.entries.Entry.{Entry}
 use Rattle.bp_core.specs.declared.entries.Reply.{Reply}

@@ -1,21 +1,21 @@
 //! Runs a trace over a buffer pool and reports what the pool did.
 #![tactic(auto)]
 
-pub mod command;
-pub mod decision;
-pub mod driver;
-pub mod ending;
-pub mod faults;
-pub mod input;
-pub mod line;
-pub mod lines;
-pub mod numbers;
-pub mod printing;
-pub mod record;
-pub mod run;
-pub mod script;
-pub mod totals;
-pub mod words;
+mod command;
+mod decision;
+mod driver;
+mod ending;
+mod faults;
+mod input;
+mod line;
+mod lines;
+mod numbers;
+mod printing;
+mod record;
+mod run;
+mod script;
+mod totals;
+mod words;
 
 use crate::run::run_with;
 use std::process::ExitCode;

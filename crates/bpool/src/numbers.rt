@@ -1,6 +1,7 @@
 //! The numbers of a trace.
-ghost use Rattle.std.specs.Prelude.{◌≡◌, ◌≤◌, length};
-ghost use Rattle.bpool.specs.Numbers.{digits_value, number_in};
+ghost use Rattle.std.specs.Prelude.{◌≡◌, ◌≤◌, ◌^◌, Some, length};
+ghost use Rattle.std.specs.Fmt.{decimal};
+ghost use Rattle.bpool.specs.Numbers.{digits_in, number_in};
 
 /// The most digits of a number.
 const MAX_DIGITS: usize = 19;
@@ -9,9 +10,9 @@ const MAX_DIGITS: usize = 19;
 const MAX_NUMBER: u64 = 1 << 62;
 
 /// The value of a text of decimal digits alone.
-fn digits_value(text: &[u8]) -> Option<u64>
+fn parse_digits(text: &[u8]) -> Option<u64>
     requires { length text.now ≤ MAX_DIGITS }
-    ensures { result ≡ digits_value text.now }
+    ensures { result ≡ digits_in text.now }
 {
     let mut value = 0;
     for byte in text {
@@ -32,5 +33,11 @@ pub fn parse_number(text: &[u8]) -> Option<u64>
     if text.is_empty() || text.len() > MAX_DIGITS {
         return None;
     }
-    digits_value(text).filter(|value| *value <= MAX_NUMBER)
+    parse_digits(text).filter(|value| *value <= MAX_NUMBER)
 }
+
+/// A law: each number up to 2^62 reads back as itself from the text that it is printed as.
+pub fn printed_number_reads_back(number: u64)
+    requires { number ≤ 2 ^ 62 }
+    ensures { number_in (decimal number) ≡ Some number }
+{}

@@ -1,8 +1,8 @@
 //! The rows of a trace.
 ghost use Rattle.std.specs.Prelude.{◌≡◌, ◌⊎◌, IfOk, IfSome, OnOk};
 ghost use Rattle.std.specs.Io.KnownBytes.{IsAtEnd};
-ghost use Rattle.csv.specs.Reading.{default_config, records, strip_bom};
-ghost use Rattle.bpool.specs.Script.{Answers, IsOutside, IsScriptOfSome, script_from, script_of};
+ghost use Rattle.csv.specs.Reading.{default_config, error_kind, records, strip_bom};
+ghost use Rattle.bpool.specs.Script.{Answers, IsScriptOfSome, fault, refusal_of, script_from, script_of};
 
 use crate::faults::TraceFault;
 use crate::input::read_all;
@@ -18,7 +18,7 @@ const MAX_ROWS: u64 = 262_144;
 
 /// What a failed read of a record is: memory ran out, or the reader failed.
 fn fault_of(error: Error) -> TraceFault
-    ensures { IsOutside result }
+    ensures { result ≡ fault 0 (refusal_of (error_kind error)) }
 {
     match error.into_kind() {
         ErrorKind::OutOfMemory => TraceFault::new(0, Refusal::OutOfMemory),

@@ -1,4 +1,4 @@
-use Rattle.std.proofs.Common.{◌≡◌, arith, sym, ◌∙◌, List, ℕ, Bor}
+use Rattle.std.proofs.Common.{arith, sym, ◌∙◌, List, ℕ, Bor}
 use Rattle.csv.specs.Records.{fields_of}
 use Rattle.bpool.proofs.SixFields.{no_seventh, seventh, six_of-short, six_of-whole}
 use Rattle.bpool.proofs.record.six_fields.Goals as goal
