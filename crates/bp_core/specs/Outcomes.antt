@@ -90,6 +90,10 @@ BeginOutcome old client call page (Ok ticket) new =
 BeginOutcome old client call page (Err refusal.OutOfMemory) new = new ≡ old
 BeginOutcome old client call page (Err _) new = ⊥
 
+abbrev pub EndedOutcome : CoreView → ℕ → ℕ → ℕ → Ended → CoreView → Type 0
+EndedOutcome old client page serial ended.Cleaned new = Adds old client (WriteEnd serial page true) Cleaned new
+EndedOutcome old client page serial ended.StillDirty new = Adds old client (WriteEnd serial page true) StillDirty new
+
 -- what a core may be made with
 pub record IsFit (c : Parameters) : Type 0 where
   pub frames : 1 ≤ c.frames

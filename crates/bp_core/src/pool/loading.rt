@@ -1,134 +1,82 @@
 //! Bringing a page into a frame.
-ghost use Rattle.std.specs.Prelude.{◌≡◌, ℕ, ◌+◌, ◌^◌, ◌<◌, ◌≤◌, true, false, Some, length, IfOk, OnOk, OnErr, vec_capacity, ◌≢◌};
+ghost use Rattle.std.specs.Prelude.{◌≡◌, ℕ, ◌+◌, ◌^◌, ◌<◌, ◌≤◌, true, false, Some, None, length, IfOk, OnOk, OnErr, ◌≢◌};
 ghost use Rattle.bp_lruk.specs.Histories.{is_held, SameStampsAt, SameAt, SameSettings};
+ghost use Rattle.bp_core.specs.Event.{grant};
+ghost use Rattle.bp_core.specs.Legal.{is_out};
+ghost use Rattle.bp_core.specs.Passes.{reads_out};
 ghost use Rattle.bp_core.specs.Places.{loading, resident};
 ghost use Rattle.bp_core.specs.Saved.{unsaved};
-ghost use Rattle.bp_core.specs.Images.{held};
 ghost use Rattle.bp_core.specs.Victim.{victim};
 ghost use Rattle.bp_core.specs.PageMap.{has_free_frame};
-ghost use Rattle.bp_core.specs.CoreView.{HasRoomFor};
-ghost use Rattle.bp_core.specs.Outcomes.{FixOutcome, ReadEndOutcome};
+ghost use Rattle.bp_core.specs.CoreView.{EachPast, HasRoomFor};
+ghost use Rattle.bp_core.specs.Outcomes.{FixOutcome, ReadEndOutcome, Adds};
 
-use crate::config::Grant;
-use crate::entries::{Call, Entry, Reply};
-use crate::frame::{Frame, remove_page};
-use crate::grants::{append, has_grant, take_back};
+use crate::entries::{Call, Reply};
 use crate::passes::{EndRefusal, Fix, Pass, ReadTicket};
 use crate::pool::Core;
-use bp_lruk::Histories;
-use bp_page::{Geometry, Image, Lsn, PageNo, PortFault, Refusal};
-use std::alloc::{AllocError, Global};
+use crate::state::State;
+use bp_page::{Image, PageNo, PortFault, Refusal};
+use std::alloc::AllocError;
 
 impl Core {
     /// Gives a ticket to read a page into a free frame.
     pub(super) fn load(&mut self, client: u8, page: PageNo) -> Result<Fix, Refusal>
         requires client_in { client < self.old.parameters.clients }
         requires page_in { page < self.old.parameters.pages }
-        requires idle { loading self.old.past page ≡ false }
-        requires away { resident self.old.past page ≡ false }
-        requires frame { has_free_frame self.old.parameters self.old.past ≡ true }
+        requires idle { EachPast self.old (λ past. loading past page ≡ false) }
+        requires away { EachPast self.old (λ past. resident past page ≡ false) }
+        requires frame { EachPast self.old (λ past. has_free_frame self.old.parameters past ≡ true) }
         requires room { HasRoomFor 3 self.old }
         ensures outcome { FixOutcome self.old client page result self.new }
     {
-        let Ok(blank) = make_ready(
-            self.alloc,
-            &mut self.passes,
-            self.reads.len(),
-            &mut self.histories,
-            page,
-            &self.config.geometry,
-        ) else {
+        let Ok(()) = self
+            .state
+            .frames
+            .provide(self.alloc, self.state.reads.len())
+        else {
             return Err(Refusal::OutOfMemory);
         };
-        append(&mut self.blanks, blank);
-        let serial = self.tickets_given;
-        self.tickets_given += 1;
-        append(
-            &mut self.reads,
-            Grant {
-                client,
-                page,
-                serial,
-            },
-        );
-        append(
-            &mut self.trail,
-            Entry {
-                client,
-                call: Call::Fix(page),
-                reply: Reply::Load {
-                    ticket: serial,
-                    evicted: None,
-                },
-            },
-        );
-        Ok(Fix::Load(
-            ReadTicket {
-                client,
-                page,
-                serial,
-            },
-            None,
-        ))
+        let Ok(()) = make_ready(&mut self.state, page) else {
+            return Err(Refusal::OutOfMemory);
+        };
+        let ticket = self.state.give_read(client, page);
+        let reply = Reply::Load {
+            ticket: ticket.serial,
+            evicted: None,
+        };
+        self.trail.record(client, Call::Fix(page), reply);
+        Ok(Fix::Load(ticket, None))
     }
 
     /// Gives a ticket to read a page into the frame of the victim.
     pub(super) fn replace(&mut self, client: u8, page: PageNo, gone: PageNo) -> Result<Fix, Refusal>
         requires client_in { client < self.old.parameters.clients }
         requires page_in { page < self.old.parameters.pages }
-        requires idle { loading self.old.past page ≡ false }
-        requires away { resident self.old.past page ≡ false }
-        requires full { has_free_frame self.old.parameters self.old.past ≡ false }
-        requires chosen { victim self.old.parameters self.old.past ≡ Some gone }
-        requires saved { unsaved self.old.past gone ≡ false }
+        requires idle { EachPast self.old (λ past. loading past page ≡ false) }
+        requires away { EachPast self.old (λ past. resident past page ≡ false) }
+        requires full { EachPast self.old (λ past. has_free_frame self.old.parameters past ≡ false) }
+        requires chosen { EachPast self.old (λ past. victim self.old.parameters past ≡ Some gone) }
+        requires saved { EachPast self.old (λ past. unsaved past gone ≡ false) }
         requires room { HasRoomFor 3 self.old }
         ensures outcome { FixOutcome self.old client page result self.new }
     {
-        let Ok(blank) = make_ready(
-            self.alloc,
-            &mut self.passes,
-            self.reads.len(),
-            &mut self.histories,
-            page,
-            &self.config.geometry,
-        ) else {
+        let Ok(()) = make_ready(&mut self.state, page) else {
             return Err(Refusal::OutOfMemory);
         };
-        remove_page(&mut self.frames, gone);
-        self.histories.unprepare(gone);
-        append(&mut self.blanks, blank);
-        let serial = self.tickets_given;
-        self.tickets_given += 1;
-        append(
-            &mut self.reads,
-            Grant {
-                client,
-                page,
-                serial,
-            },
-        );
-        append(
-            &mut self.trail,
-            Entry {
-                client,
-                call: Call::Fix(page),
-                reply: Reply::Load {
-                    ticket: serial,
-                    evicted: Some(gone),
-                },
-            },
-        );
-        Ok(Fix::Load(
-            ReadTicket {
-                client,
-                page,
-                serial,
-            },
-            Some(gone),
-        ))
+        self.state.frames.vacate(gone);
+        self.state.histories.unprepare(gone);
+        let ticket = self.state.give_read(client, page);
+        let reply = Reply::Load {
+            ticket: ticket.serial,
+            evicted: Some(gone),
+        };
+        self.trail.record(client, Call::Fix(page), reply);
+        Ok(Fix::Load(ticket, Some(gone)))
     }
 
-    /// Ends a read: the page is resident where the read went well, else its frame is free.
+    /// Ends a read. Where it went well the page is resident, with the pass that comes back; where it failed, which is `ReadFailed`,
+    /// its frame is free and nothing of the page is remembered. A ticket that is not out here comes back with the result, which is
+    /// `Unknown`, and nothing changes. It takes no memory.
     pub fn read_end(
         &mut self,
         ticket: ReadTicket,
@@ -137,7 +85,11 @@ impl Core {
         requires size { IfOk read (λ image. length image ≡ self.old.parameters.size) }
         ensures outcome { ReadEndOutcome self.old ticket read result self.new }
     {
-        if !has_grant(&self.reads, ticket.client, ticket.page, ticket.serial) {
+        let is_out = self
+            .state
+            .reads
+            .has(ticket.client, ticket.page, ticket.serial);
+        if !is_out {
             return Err(EndRefusal::Unknown(ticket, read));
         }
         let ReadTicket {
@@ -145,94 +97,71 @@ impl Core {
             page,
             serial,
         } = ticket;
-        take_back(&mut self.reads, serial);
-        let Some(mut blank) = self.blanks.pop() else {
-            unreachable!()
-        };
-        let Ok(image) = read else {
-            self.histories.unprepare(page);
-            append(
-                &mut self.trail,
-                Entry {
-                    client,
-                    call: Call::ReadEnd {
-                        ticket: serial,
-                        page,
-                        image: None,
-                    },
-                    reply: Reply::ReadFailed,
-                },
-            );
-            return Err(EndRefusal::Failed(Refusal::ReadFailed));
-        };
-        blank.copy_from(&image);
-        let pass = self.passes_given;
-        self.passes_given += 1;
-        append(
-            &mut self.passes,
-            Grant {
-                client,
-                page,
-                serial: pass,
-            },
-        );
-        append(
-            &mut self.frames,
-            Frame {
-                page,
-                pins: 1,
-                is_unsaved: false,
-                is_rewritten: false,
-                top: Lsn::new(0),
-                image: blank,
-            },
-        );
-        self.histories.fault(page, self.clock);
-        append(
-            &mut self.trail,
-            Entry {
-                client,
-                call: Call::ReadEnd {
-                    ticket: serial,
-                    page,
-                    image: Some(image),
-                },
-                reply: Reply::Fixed(pass),
-            },
-        );
-        Ok(Pass {
-            client,
+        match read {
+            Ok(image) => Ok(self.end_load(client, page, serial, image)),
+            Err(_) => {
+                self.fail_load(client, page, serial);
+                Err(EndRefusal::Failed(Refusal::ReadFailed))
+            }
+        }
+    }
+
+    /// A read went well: its page is resident, with one pass out.
+    fn end_load(&mut self, client: u8, page: PageNo, serial: u64, image: Image) -> Pass
+        requires out { EachPast self.old (λ past. is_out (grant client page serial) (reads_out past) ≡ true) }
+        requires size { length image ≡ self.old.parameters.size }
+        ensures client { result.client ≡ client }
+        ensures page { result.page ≡ page }
+        ensures entry { Adds self.old client (Call.ReadEnd serial page (Some image)) (Reply.Fixed result.serial) self.new }
+    {
+        self.state.reads.take_back(serial);
+        self.state.frames.fill(page, &image);
+        self.state.histories.fault(page, self.state.clock);
+        let pass = self.state.give_pass(client, page);
+        let call = Call::ReadEnd {
+            ticket: serial,
             page,
-            serial: pass,
-        })
+            image: Some(image),
+        };
+        self.trail.record(client, call, Reply::Fixed(pass.serial));
+        pass
+    }
+
+    /// A read failed: nothing is remembered of it.
+    fn fail_load(&mut self, client: u8, page: PageNo, serial: u64)
+        requires { EachPast self.old (λ past. is_out (grant client page serial) (reads_out past) ≡ true) }
+        ensures { Adds self.old client (Call.ReadEnd serial page None) Reply.ReadFailed self.new }
+    {
+        self.state.reads.take_back(serial);
+        self.state.histories.unprepare(page);
+        let call = Call::ReadEnd {
+            ticket: serial,
+            page,
+            image: None,
+        };
+        self.trail.record(client, call, Reply::ReadFailed);
     }
 }
 
-/// Takes all memory that the load of a page will need: room for its pass, its block and a blank image. Where it is refused nothing is held.
-fn make_ready(
-    alloc: Global,
-    passes: &mut Vec<Grant>,
-    reads: usize,
-    histories: &mut Histories,
-    page: PageNo,
-    geometry: &Geometry,
-) -> Result<Image, AllocError>
-    requires few { reads < 2 ^ 32 }
-    requires away { is_held histories.old page ≡ false }
-    ensures items { passes.new.items ≡ passes.old.items }
-    ensures capacity { vec_capacity passes.old ≤ vec_capacity passes.new }
-    ensures room { OnOk result (length passes.old.items + reads + 1 ≤ vec_capacity passes.new) }
-    ensures blank { IfOk result (λ image. length image ≡ geometry.now.size) }
-    ensures held { OnOk result (is_held histories.new page ≡ true) }
-    ensures stamps { SameStampsAt histories.old histories.new page }
-    ensures others { (q : ℕ) → q ≢ page → SameAt histories.old histories.new q }
-    ensures settings { SameSettings histories.old histories.new }
-    ensures unchanged { OnErr result (histories.new ≡ histories.old) }
+/// Takes the memory that the end of a page's read will need, but for its frame: room for its pass, and its history's block. Where
+/// that is refused no page is held more than before.
+fn make_ready(state: &mut State, page: PageNo) -> Result<(), AllocError>
+    requires few { length state.old.reads.out < 2 ^ 32 }
+    requires away { is_held state.old.histories page ≡ false }
+    ensures others { state.new ≡ record state.old { passes = state.new.passes; histories = state.new.histories } }
+    ensures passes { state.new.passes.out ≡ state.old.passes.out }
+    ensures capacity { state.old.passes.capacity ≤ state.new.passes.capacity }
+    ensures room { OnOk result (length state.old.passes.out + length state.old.reads.out + 1 ≤ state.new.passes.capacity) }
+    ensures held { OnOk result (is_held state.new.histories page ≡ true) }
+    ensures stamps { SameStampsAt state.old.histories state.new.histories page }
+    ensures other_pages { (q : ℕ) → q ≢ page → SameAt state.old.histories state.new.histories q }
+    ensures settings { SameSettings state.old.histories state.new.histories }
+    ensures unchanged { OnErr result (state.new.histories ≡ state.old.histories) }
 {
-    passes.reserve(reads + 1)?;
-    let blank = Image::blank(alloc, geometry)?;
-    let Ok(()) = histories.prepare(page) else {
-        return Err(AllocError);
-    };
-    Ok(blank)
+    let pending = state.reads.len() + 1;
+    state.passes.reserve(pending)?;
+    match state.histories.prepare(page) {
+        Ok(()) => Ok(()),
+        Err(_) => Err(AllocError),
+    }
 }

@@ -2,15 +2,14 @@
 ghost use Rattle.std.specs.Prelude.{◌+◌, ◌≤◌, length};
 ghost use Rattle.bp_core.specs.Outcomes.{ReadOutcome, WriteOutcome, UnfixOutcome};
 
-use crate::entries::{Call, Entry, Reply};
-use crate::frame::{unpin_page, write_page};
-use crate::grants::{append, has_grant, take_back};
+use crate::entries::{Call, Reply};
 use crate::passes::Pass;
 use crate::pool::Core;
 use bp_page::{Bytes, Image, Lsn, Refusal};
 
 impl Core {
-    /// The image of the page of a pass.
+    /// A copy of the image of the page of a pass. `TrailFull` where no entry is free, else `UnknownPass` where the pass is not out
+    /// here, else `OutOfMemory`; all three change nothing.
     pub fn read(&mut self, pass: &Pass) -> Result<Image, Refusal>
         ensures outcome { ReadOutcome self.old pass.now result self.new }
     {
@@ -37,7 +36,8 @@ impl Core {
         Ok(image)
     }
 
-    /// Puts bytes into the page of a pass.
+    /// Puts bytes into the page of a pass, from the offset on, and raises the page LSN to `lsn` if that is greater. `TrailFull`,
+    /// `UnknownPass` and `OutOfMemory` as from `read`.
     pub fn write(
         &mut self,
         pass: &Pass,
@@ -51,40 +51,36 @@ impl Core {
         if self.free() < 1 {
             return Err(Refusal::TrailFull);
         }
+        if !self.knows(pass) {
+            return Err(Refusal::UnknownPass);
+        }
         let Pass {
             client,
             page,
             serial,
         } = *pass;
-        if !has_grant(&self.passes, client, page, serial) {
-            return Err(Refusal::UnknownPass);
-        }
         let Ok(kept) = Bytes::of(self.alloc, bytes.bytes()) else {
             return Err(Refusal::OutOfMemory);
         };
-        write_page(&mut self.frames, page, offset as usize, bytes.bytes(), lsn);
-        append(
-            &mut self.trail,
-            Entry {
-                client,
-                call: Call::Write {
-                    pass: serial,
-                    page,
-                    offset,
-                    bytes: kept,
-                    lsn,
-                },
-                reply: Reply::Done,
-            },
-        );
+        self.state
+            .frames
+            .write(page, offset as usize, bytes.bytes(), lsn);
+        let call = Call::Write {
+            pass: serial,
+            page,
+            offset,
+            bytes: kept,
+            lsn,
+        };
+        self.trail.record(client, call, Reply::Done);
         Ok(())
     }
 
-    /// Gives a pass back.
+    /// Gives a pass back. Where it is not out here it comes back, which is `UnknownPass`, and nothing changes.
     pub fn unfix(&mut self, pass: Pass) -> Result<(), Pass>
         ensures outcome { UnfixOutcome self.old pass result self.new }
     {
-        if !has_grant(&self.passes, pass.client, pass.page, pass.serial) {
+        if !self.knows(&pass) {
             return Err(pass);
         }
         let Pass {
@@ -92,16 +88,10 @@ impl Core {
             page,
             serial,
         } = pass;
-        unpin_page(&mut self.frames, page);
-        take_back(&mut self.passes, serial);
-        append(
-            &mut self.trail,
-            Entry {
-                client,
-                call: Call::Unfix { pass: serial, page },
-                reply: Reply::Done,
-            },
-        );
+        self.state.frames.unpin(page);
+        self.state.passes.take_back(serial);
+        let call = Call::Unfix { pass: serial, page };
+        self.trail.record(client, call, Reply::Done);
         Ok(())
     }
 }

@@ -5,7 +5,7 @@ ghost use Rattle.bp_core.specs.References.{last, hist};
 ghost use Rattle.bp_core.specs.Legal.{Legal};
 ghost use Rattle.bp_core.specs.Safety.{Safe};
 ghost use Rattle.bp_core.specs.Claims.{HeldIsPlain, ReadsAreKnown};
-ghost use Rattle.bp_core.specs.CoreView.{EachPast, room_after};
+ghost use Rattle.bp_core.specs.CoreView.{EachPast};
 
 use crate::entries::Entry;
 use crate::pool::Core;
@@ -21,7 +21,9 @@ impl Core {
         ensures plain { EachPast self.now HeldIsPlain }
         ensures known { EachPast self.now ReadsAreKnown }
     {
-        &self.trail
+        // The clauses follow from what every core keeps.
+        let _ = &self.state;
+        self.trail.entries()
     }
 
     /// The file's pages and their size.
@@ -62,38 +64,31 @@ impl Core {
         self.config.room
     }
 
+    /// The time: 1 and all ticks since.
     pub fn clock(&self) -> u64
         ensures { EachPast self.now (λ past. result ≡ clock past) }
     {
-        self.clock
+        self.state.clock
     }
 
     /// The greatest LSN marked, else 0.
     pub fn durable(&self) -> Lsn
         ensures { EachPast self.now (λ past. result ≡ durable past) }
     {
-        self.durable
+        self.state.durable
     }
 
     /// The time of the page's newest reference, or 0.
     pub fn last(&self, page: PageNo) -> u64
         ensures { EachPast self.now (λ past. result ≡ last self.now.parameters past page) }
     {
-        self.histories.last(page)
+        self.state.histories.last(page)
     }
 
     /// The page's i-th stamp, newest first and from 1, or 0.
     pub fn stamp(&self, page: PageNo, i: usize) -> u64
         ensures { EachPast self.now (λ past. result ≡ hist self.now.parameters past page i) }
     {
-        self.histories.stamp(page, i)
-    }
-
-    /// The room that no pass, ticket or entry has taken.
-    pub(super) fn free(&self) -> usize
-        ensures { EachPast self.now (λ past. result ≡ room_after self.now past) }
-    {
-        self.config.room
-            - (self.trail.len() + self.passes.len() + self.writes.len() + 2 * self.reads.len())
+        self.state.histories.stamp(page, i)
     }
 }
