@@ -10,6 +10,7 @@ use Rattle.bp_core.specs.declared.state.State.{State}
 use Rattle.bp_core.specs.Parameters.{Parameters}
 use Rattle.bp_core.specs.Trail.{Trail}
 use Rattle.bp_core.specs.Passes.{passes, tickets, passes_out, reads_out, writes_out}
+use Rattle.bp_core.specs.Room.{free_keeping}
 use Rattle.bp_core.specs.PageMap.{reply_of}
 use Rattle.bp_core.specs.Legal.{allowed}
 use Rattle.bp_core.specs.CoreView.{CoreView, EachPast, with_entry, HasRoomFor}
@@ -31,9 +32,15 @@ longer c kept past capacity r later owed passes_fit tickets_fit = record {
 }
 
 module _ (c : Parameters) (trail : Kept) (x : State) (core : IsCore c trail x) (v : CoreView) (is : view_of c trail ≡ v) where
-  -- what is known of the value is known of the fields
-  pub seen : (P : CoreView → Type 0) → P v → P (view_of c trail)
-  seen P at = subst P (sym is) at
+  -- what is said of each past that a caller's view may have holds of the entries kept, and so for the parameters and the room
+  pub at-past : (P : Parameters → Trail → Type 0) → EachPast v (P v.parameters) → P c trail.past
+  at-past P each = subst (λ u. EachPast u (P u.parameters)) (sym is) each
+
+  pub at-parameters : (P : Parameters → Type 0) → P v.parameters → P c
+  at-parameters P holds = subst (λ u. P u.parameters) (sym is) holds
+
+  pub at-room : (n : ℕ) → HasRoomFor n v → n ≤ free_keeping c (length trail.past) trail.past
+  at-room n room = subst (HasRoomFor n) (sym is) room
 
   -- a caller sees the entry that was added
   pub adds : (who : ℕ) (call : Call) (reply : Reply) (later : Kept) (state : State) → later ≡ with_next trail who call reply → IsCore c later state → Adds v who call reply (view_of c later)
@@ -41,7 +48,7 @@ module _ (c : Parameters) (trail : Kept) (x : State) (core : IsCore c trail x) (
 
   pub keeps-quiet : (who : ℕ) (call : Call) (reply : Reply) → IsQuiet call reply → who < v.parameters.clients → EachPast v (λ past. allowed v.parameters past who call ≡ true) → EachPast v (λ past. reply ≡ reply_of v.parameters past call) → HasRoomFor 1 v → IsCore c (with_next trail who call reply) x
   keeps-quiet who call reply quiet client may lawful room = record {
-    agrees = agrees-quiet c trail.past (parts_of x) core.agrees who call reply quiet (seen (λ u. who < u.parameters.clients) client) (seen (λ u. EachPast u (λ past. allowed u.parameters past who call ≡ true)) may) (seen (λ u. EachPast u (λ past. reply ≡ reply_of u.parameters past call)) lawful);
+    agrees = agrees-quiet c trail.past (parts_of x) core.agrees who call reply quiet (at-parameters (λ q. who < q.clients) client) (at-past (λ q past. allowed q past who call ≡ true) may) (at-past (λ q past. reply ≡ reply_of q past call) lawful);
     trail_room = roomy call reply quiet;
     pass_room = core.pass_room;
     read_room = core.read_room;
@@ -49,20 +56,20 @@ module _ (c : Parameters) (trail : Kept) (x : State) (core : IsCore c trail x) (
   }
     where
       roomy : (call : Call) (reply : Reply) → IsQuiet call reply → HasTrailRoom c (suc (length trail.past)) (with_next trail who call reply).past trail.capacity
-      roomy _ _ (fix_busy p) = longer c _ _ _ core.trail_room _ (omega (arith, seen (HasRoomFor 1) room)) (omega arith) (omega arith)
-      roomy _ _ (fix_none p) = longer c _ _ _ core.trail_room _ (omega (arith, seen (HasRoomFor 1) room)) (omega arith) (omega arith)
-      roomy _ _ (fix_log p lsn) = longer c _ _ _ core.trail_room _ (omega (arith, seen (HasRoomFor 1) room)) (omega arith) (omega arith)
-      roomy _ _ (flush_busy p) = longer c _ _ _ core.trail_room _ (omega (arith, seen (HasRoomFor 1) room)) (omega arith) (omega arith)
-      roomy _ _ (flush_absent p) = longer c _ _ _ core.trail_room _ (omega (arith, seen (HasRoomFor 1) room)) (omega arith) (omega arith)
-      roomy _ _ (flush_clean p) = longer c _ _ _ core.trail_room _ (omega (arith, seen (HasRoomFor 1) room)) (omega arith) (omega arith)
-      roomy _ _ (flush_log p lsn) = longer c _ _ _ core.trail_room _ (omega (arith, seen (HasRoomFor 1) room)) (omega arith) (omega arith)
-      roomy _ _ (page_read n p image) = longer c _ _ _ core.trail_room _ (omega (arith, seen (HasRoomFor 1) room)) (omega arith) (omega arith)
+      roomy _ _ (fix_busy p) = longer c _ _ _ core.trail_room _ (omega (arith, at-room 1 room)) (omega arith) (omega arith)
+      roomy _ _ (fix_none p) = longer c _ _ _ core.trail_room _ (omega (arith, at-room 1 room)) (omega arith) (omega arith)
+      roomy _ _ (fix_log p lsn) = longer c _ _ _ core.trail_room _ (omega (arith, at-room 1 room)) (omega arith) (omega arith)
+      roomy _ _ (flush_busy p) = longer c _ _ _ core.trail_room _ (omega (arith, at-room 1 room)) (omega arith) (omega arith)
+      roomy _ _ (flush_absent p) = longer c _ _ _ core.trail_room _ (omega (arith, at-room 1 room)) (omega arith) (omega arith)
+      roomy _ _ (flush_clean p) = longer c _ _ _ core.trail_room _ (omega (arith, at-room 1 room)) (omega arith) (omega arith)
+      roomy _ _ (flush_log p lsn) = longer c _ _ _ core.trail_room _ (omega (arith, at-room 1 room)) (omega arith) (omega arith)
+      roomy _ _ (page_read n p image) = longer c _ _ _ core.trail_room _ (omega (arith, at-room 1 room)) (omega arith) (omega arith)
 
   -- ---- the clock, the mark and the histories
   pub keeps-tick : (who n : ℕ) → who < v.parameters.clients → x.clock + n ≤ 2 ^ 62 → HasRoomFor 1 v → IsCore c (with_next trail who (Tick n) Done) (record x { clock = x.clock + n })
   keeps-tick who n client fits room = record {
-    agrees = agrees-tick c trail.past (parts_of x) core.agrees who n (seen (λ u. who < u.parameters.clients) client) (omega (arith, core.agrees.observed.clock_is, fits));
-    trail_room = longer c _ _ _ core.trail_room _ (omega (arith, seen (HasRoomFor 1) room)) (omega arith) (omega arith);
+    agrees = agrees-tick c trail.past (parts_of x) core.agrees who n (at-parameters (λ q. who < q.clients) client) (omega (arith, core.agrees.observed.clock_is, fits));
+    trail_room = longer c _ _ _ core.trail_room _ (omega (arith, at-room 1 room)) (omega arith) (omega arith);
     pass_room = core.pass_room;
     read_room = core.read_room;
     frame_room = core.frame_room;
@@ -70,8 +77,8 @@ module _ (c : Parameters) (trail : Kept) (x : State) (core : IsCore c trail x) (
 
   pub keeps-mark : (who lsn : ℕ) → who < v.parameters.clients → HasRoomFor 1 v → IsCore c (with_next trail who (Mark lsn) Done) (record x { durable = max lsn x.durable })
   keeps-mark who lsn client room = record {
-    agrees = agrees-mark c trail.past (parts_of x) core.agrees who lsn (seen (λ u. who < u.parameters.clients) client);
-    trail_room = longer c _ _ _ core.trail_room _ (omega (arith, seen (HasRoomFor 1) room)) (omega arith) (omega arith);
+    agrees = agrees-mark c trail.past (parts_of x) core.agrees who lsn (at-parameters (λ q. who < q.clients) client);
+    trail_room = longer c _ _ _ core.trail_room _ (omega (arith, at-room 1 room)) (omega arith) (omega arith);
     pass_room = core.pass_room;
     read_room = core.read_room;
     frame_room = core.frame_room;
@@ -81,8 +88,8 @@ module _ (c : Parameters) (trail : Kept) (x : State) (core : IsCore c trail x) (
       → ((p : ℕ) → forgets x.histories x.clock p ≡ true → HasStampsOf h p []) → ((p : ℕ) → forgets x.histories x.clock p ≡ false → SameAt x.histories h p) → ((p : ℕ) → is_held h p ≡ is_held x.histories p)
       → IsCore c (with_next trail who Purge (Forgot n)) (record x { histories = h })
   keeps-purge who n h client room counted settings gone kept held = record {
-    agrees = agrees-purge c trail.past (parts_of x) core.agrees who n h (lt-ltb who c.clients (seen (λ u. who < u.parameters.clients) client)) (counted c.pages (nothing-beyond c trail.past (parts_of x) core.agrees) ∙ count-same c trail.past (parts_of x) core.agrees) settings gone kept held;
-    trail_room = longer c _ _ _ core.trail_room _ (omega (arith, seen (HasRoomFor 1) room)) (omega arith) (omega arith);
+    agrees = agrees-purge c trail.past (parts_of x) core.agrees who n h (lt-ltb who c.clients (at-parameters (λ q. who < q.clients) client)) (counted c.pages (nothing-beyond c trail.past (parts_of x) core.agrees) ∙ count-same c trail.past (parts_of x) core.agrees) settings gone kept held;
+    trail_room = longer c _ _ _ core.trail_room _ (omega (arith, at-room 1 room)) (omega arith) (omega arith);
     pass_room = core.pass_room;
     read_room = core.read_room;
     frame_room = core.frame_room;

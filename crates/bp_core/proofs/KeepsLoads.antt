@@ -31,22 +31,29 @@ use Rattle.bp_core.proofs.ReadSteps.{agrees-load, agrees-evict, agrees-failed, a
 use Rattle.bp_core.specs.declared.state.State.{State}
 use Rattle.bp_core.specs.Parameters.{Parameters}
 use Rattle.bp_core.specs.Event.{grant}
+use Rattle.bp_core.specs.Trail.{Trail}
 use Rattle.bp_core.specs.CoreView.{CoreView, EachPast, HasRoomFor}
 use Rattle.bp_core.specs.Lodging.{Kept, Given, with_next, with_grant}
 use Rattle.bp_core.specs.Agreement.{parts_of, IsCore, view_of}
-use Rattle.bp_core.proofs.Keeps.{longer, seen}
+use Rattle.bp_core.proofs.Keeps.{longer, at-past, at-parameters, at-room}
 
 module _ (c : Parameters) (trail : Kept) (x : State) (core : IsCore c trail x) (v : CoreView) (is : view_of c trail ≡ v) (who p : ℕ) where
+  at : (P : Parameters → Trail → Type 0) → EachPast v (P v.parameters) → P c trail.past
+  at = at-past c trail x core v is
+
+  given : (P : Parameters → Type 0) → P v.parameters → P c
+  given = at-parameters c trail x core v is
+
   -- ---- the victim is another page, and is resident
   module _ (gone : ℕ) (chosen : EachPast v (λ past. victim v.parameters past ≡ Some gone)) where
     victim-resident : resident trail.past gone ≡ true
-    victim-resident = candidate-resident c trail.past gone (victim-is c trail.past gone (seen c trail x core v is (λ u. EachPast u (λ past. victim u.parameters past ≡ Some gone)) chosen)).eligible
+    victim-resident = candidate-resident c trail.past gone (victim-is c trail.past gone (at (λ q past. victim q past ≡ Some gone) chosen)).eligible
 
     pub victim-here : some (is_frame_of gone) x.frames.frames ≡ true
     victim-here = resident_seen c trail.past (parts_of x) core.agrees gone ∙ victim-resident
 
     pub victim-apart : EachPast v (λ past. resident past p ≡ false) → gone ≢ p
-    victim-apart away e = true≢false (sym victim-resident ∙ ap (resident trail.past) e ∙ seen c trail x core v is (λ u. EachPast u (λ past. resident past p ≡ false)) away)
+    victim-apart away e = true≢false (sym victim-resident ∙ ap (resident trail.past) e ∙ at (λ q past. resident past p ≡ false) away)
 
     pub victim-held : is_held x.histories gone ≡ true
     victim-held = core.agrees.observed.held_is gone ∙ or_left (resident trail.past gone) (loading trail.past gone) victim-resident
@@ -57,13 +64,13 @@ module _ (c : Parameters) (trail : Kept) (x : State) (core : IsCore c trail x) (
 
   -- ---- a page that is asked for while it is neither resident nor loading
   pub free-frame : EachPast v (λ past. has_free_frame v.parameters past ≡ true) → length x.frames.frames + length x.reads.out < c.frames
-  free-frame frame = omega (arith, occupied_is c trail.past (parts_of x) core.agrees, ltb-true (length (residents trail.past) + length (reads_out trail.past)) c.frames (seen c trail x core v is (λ u. EachPast u (λ past. has_free_frame u.parameters past ≡ true)) frame))
+  free-frame frame = omega (arith, occupied_is c trail.past (parts_of x) core.agrees, ltb-true (length (residents trail.past) + length (reads_out trail.past)) c.frames (at (λ q past. has_free_frame q past ≡ true) frame))
 
   pub not-held : EachPast v (λ past. loading past p ≡ false) → EachPast v (λ past. resident past p ≡ false) → is_held x.histories p ≡ false
   not-held idle away =
       core.agrees.observed.held_is p
-      ∙ ap (λ b. b || loading trail.past p) (seen c trail x core v is (λ u. EachPast u (λ past. resident past p ≡ false)) away)
-      ∙ seen c trail x core v is (λ u. EachPast u (λ past. loading past p ≡ false)) idle
+      ∙ ap (λ b. b || loading trail.past p) (at (λ q past. resident past p ≡ false) away)
+      ∙ at (λ q past. loading past p ≡ false) idle
 
   -- ---- a read begins
   module _ (client : who < v.parameters.clients) (page : p < v.parameters.pages) (idle : EachPast v (λ past. loading past p ≡ false)) (away : EachPast v (λ past. resident past p ≡ false)) (room : HasRoomFor 3 v) (ps : Given) (same : ps.out ≡ x.passes.out) (capacity : length x.passes.out + length x.reads.out + 1 ≤ ps.capacity) where
@@ -71,12 +78,12 @@ module _ (c : Parameters) (trail : Kept) (x : State) (core : IsCore c trail x) (
         → (h : Blocks) → SameSettings x.histories h → SameStampsAt x.histories h p → ((q : ℕ) → q ≢ p → SameAt x.histories h q) → is_held h p ≡ true
         → IsCore c (with_next trail who (Fix p) (Load x.tickets_given None)) (record x { tickets_given = x.tickets_given + 1; reads = with_grant x.reads who p x.tickets_given; passes = ps; frames = fs; histories = h })
     keeps-load frame fs frames size limit spare h settings stamps others kept =
-        let next = agrees-load c trail.past (parts_of x) core.agrees who p (lt-ltb who c.clients (seen c trail x core v is (λ u. who < u.parameters.clients) client)) (lt-ltb p c.pages (seen c trail x core v is (λ u. p < u.parameters.pages) page))
-        (seen c trail x core v is (λ u. EachPast u (λ past. loading past p ≡ false)) idle) (seen c trail x core v is (λ u. EachPast u (λ past. resident past p ≡ false)) away) h settings (unprepared x.histories h p stamps others)
-        (seen c trail x core v is (λ u. EachPast u (λ past. has_free_frame u.parameters past ≡ true)) frame) kept (λ q n. (others q n).held) in
+        let next = agrees-load c trail.past (parts_of x) core.agrees who p (lt-ltb who c.clients (given (λ q. who < q.clients) client)) (lt-ltb p c.pages (given (λ q. p < q.pages) page))
+        (at (λ q past. loading past p ≡ false) idle) (at (λ q past. resident past p ≡ false) away) h settings (unprepared x.histories h p stamps others)
+        (at (λ q past. has_free_frame q past ≡ true) frame) kept (λ q n. (others q n).held) in
         record {
           agrees = rw (same, frames) next;
-          trail_room = longer c _ _ _ core.trail_room _ (omega (arith, seen c trail x core v is (HasRoomFor 3) room)) (omega arith) (omega arith);
+          trail_room = longer c _ _ _ core.trail_room _ (omega (arith, at-room c trail x core v is 3 room)) (omega arith) (omega arith);
           pass_room = record { reserved = omega (arith, capacity, ap length same) };
           read_room = core.read_room;
           frame_room = record { reserved = omega (arith, spare); size_is = omega (arith, size, core.frame_room.size_is); limit_is = omega (arith, limit, core.frame_room.limit_is) };
@@ -91,13 +98,13 @@ module _ (c : Parameters) (trail : Kept) (x : State) (core : IsCore c trail x) (
         let apart = victim-apart gone chosen away in
         let first = unprepared x.histories g p g_stamps g_others in
         let second = unprepared g h gone h_stamps h_others in
-        let next = agrees-evict c trail.past (parts_of x) core.agrees who p (lt-ltb who c.clients (seen c trail x core v is (λ u. who < u.parameters.clients) client)) (lt-ltb p c.pages (seen c trail x core v is (λ u. p < u.parameters.pages) page))
-        (seen c trail x core v is (λ u. EachPast u (λ past. loading past p ≡ false)) idle) (seen c trail x core v is (λ u. EachPast u (λ past. resident past p ≡ false)) away) h (settings-after x.histories g h g_settings h_settings) (λ q. same-after x.histories g h q (first q) (second q))
-        gone (seen c trail x core v is (λ u. EachPast u (λ past. has_free_frame u.parameters past ≡ false)) full) (seen c trail x core v is (λ u. EachPast u (λ past. victim u.parameters past ≡ Some gone)) chosen) (seen c trail x core v is (λ u. EachPast u (λ past. unsaved past gone ≡ false)) saved)
+        let next = agrees-evict c trail.past (parts_of x) core.agrees who p (lt-ltb who c.clients (given (λ q. who < q.clients) client)) (lt-ltb p c.pages (given (λ q. p < q.pages) page))
+        (at (λ q past. loading past p ≡ false) idle) (at (λ q past. resident past p ≡ false) away) h (settings-after x.histories g h g_settings h_settings) (λ q. same-after x.histories g h q (first q) (second q))
+        gone (at (λ q past. has_free_frame q past ≡ false) full) (at (λ q past. victim q past ≡ Some gone) chosen) (at (λ q past. unsaved past gone ≡ false) saved)
         ((h_others p (λ e. apart (sym e))).held ∙ g_kept) h_gone (λ q n m. (h_others q m).held ∙ (g_others q n).held) in
         record {
           agrees = rw same next;
-          trail_room = longer c _ _ _ core.trail_room _ (omega (arith, seen c trail x core v is (HasRoomFor 3) room)) (omega arith) (omega arith);
+          trail_room = longer c _ _ _ core.trail_room _ (omega (arith, at-room c trail x core v is 3 room)) (omega arith) (omega arith);
           pass_room = record { reserved = omega (arith, capacity, ap length same) };
           read_room = core.read_room;
           frame_room = record { reserved = omega (arith, core.frame_room.reserved); size_is = core.frame_room.size_is; limit_is = core.frame_room.limit_is };
@@ -106,7 +113,7 @@ module _ (c : Parameters) (trail : Kept) (x : State) (core : IsCore c trail x) (
   -- ---- a read ends
   module _ (t : ℕ) (known : EachPast v (λ past. is_out (grant who p t) (reads_out past) ≡ true)) where
     out-now : is_out (grant who p t) (reads_out trail.past) ≡ true
-    out-now = seen c trail x core v is (λ u. EachPast u (λ past. is_out (grant who p t) (reads_out past) ≡ true)) known
+    out-now = at (λ q past. is_out (grant who p t) (reads_out past) ≡ true) known
 
     -- its page is held, and has no frame
     pub held-now : is_held x.histories p ≡ true
@@ -140,7 +147,7 @@ module _ (c : Parameters) (trail : Kept) (x : State) (core : IsCore c trail x) (
         let refs = references c trail.past p in
         let stamped = subst (λ u. HasStampsOf h p (fault u ∷ refs)) a.observed.clock_is (stamps refs (references-timed c trail.past p).timed (a.observed.stamps_are p)) in
         record {
-          agrees = agrees-fixed c trail.past (parts_of x) a who p t out-now h settings image (seen c trail x core v is (λ u. length image ≡ u.parameters.size) fits) fs.frames moved stamped others kept;
+          agrees = agrees-fixed c trail.past (parts_of x) a who p t out-now h settings image (given (λ q. length image ≡ q.size) fits) fs.frames moved stamped others kept;
           trail_room = longer c _ _ _ core.trail_room _ (omega (arith, core.trail_room.owed, fewer)) (omega arith) (omega arith);
           pass_room = record { reserved = omega (arith, core.pass_room.reserved, fewer-kept) };
           read_room = core.read_room;

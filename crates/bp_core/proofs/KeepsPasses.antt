@@ -22,16 +22,23 @@ use Rattle.bp_core.proofs.PassSteps.{agrees-unfix, agrees-write, agrees-hit}
 use Rattle.bp_core.specs.declared.state.State.{State}
 use Rattle.bp_core.specs.Parameters.{Parameters}
 use Rattle.bp_core.specs.Event.{grant}
+use Rattle.bp_core.specs.Trail.{Trail}
 use Rattle.bp_core.specs.CoreView.{CoreView, EachPast, HasRoomFor}
 use Rattle.bp_core.specs.Lodging.{Kept, Given, with_next, with_grant}
 use Rattle.bp_core.specs.Agreement.{parts_of, IsCore, view_of}
-use Rattle.bp_core.proofs.Keeps.{longer, seen}
+use Rattle.bp_core.proofs.Keeps.{longer, at-past, at-parameters, at-room}
 
 module _ (c : Parameters) (trail : Kept) (x : State) (core : IsCore c trail x) (v : CoreView) (is : view_of c trail ≡ v) where
+  at : (P : Parameters → Trail → Type 0) → EachPast v (P v.parameters) → P c trail.past
+  at = at-past c trail x core v is
+
+  given : (P : Parameters → Type 0) → P v.parameters → P c
+  given = at-parameters c trail x core v is
+
   pub keeps-unfix : (who p n : ℕ) → EachPast v (λ past. is_out (grant who p n) (passes_out past) ≡ true)
       → IsCore c (with_next trail who (Unfix n p) Done) (record x { frames = with_changed x.frames p unpinned; passes = record x.passes { out = filter (λ g. not (g.serial == n)) x.passes.out } })
   keeps-unfix who p n known =
-      let out = seen c trail x core v is (λ u. EachPast u (λ past. is_out (grant who p n) (passes_out past) ≡ true)) known in
+      let out = at (λ q past. is_out (grant who p n) (passes_out past) ≡ true) known in
       let fewer = reads-rest who p n (passes_out trail.past) (numbered c trail.past core.agrees.legal).passes_once out in
       record {
         agrees = agrees-unfix c trail.past (parts_of x) core.agrees who p n out;
@@ -44,10 +51,10 @@ module _ (c : Parameters) (trail : Kept) (x : State) (core : IsCore c trail x) (
   pub keeps-write : (who p n offset : ℕ) (bytes : List ℕ) (lsn : ℕ) → EachPast v (λ past. is_out (grant who p n) (passes_out past) ≡ true) → offset + length bytes ≤ v.parameters.size → HasRoomFor 1 v
       → IsCore c (with_next trail who (Write n p offset bytes lsn) Done) (record x { frames = with_changed x.frames p (written_on offset bytes lsn) })
   keeps-write who p n offset bytes lsn known fits room =
-      let out = seen c trail x core v is (λ u. EachPast u (λ past. is_out (grant who p n) (passes_out past) ≡ true)) known in
+      let out = at (λ q past. is_out (grant who p n) (passes_out past) ≡ true) known in
       record {
-        agrees = agrees-write c trail.past (parts_of x) core.agrees who p n offset bytes lsn out (seen c trail x core v is (λ u. offset + length bytes ≤ u.parameters.size) fits);
-        trail_room = longer c _ _ _ core.trail_room _ (omega (arith, seen c trail x core v is (HasRoomFor 1) room)) (omega arith) (omega arith);
+        agrees = agrees-write c trail.past (parts_of x) core.agrees who p n offset bytes lsn out (given (λ q. offset + length bytes ≤ q.size) fits);
+        trail_room = longer c _ _ _ core.trail_room _ (omega (arith, at-room c trail x core v is 1 room)) (omega arith) (omega arith);
         pass_room = core.pass_room;
         read_room = core.read_room;
         frame_room = core.frame_room;
@@ -61,10 +68,10 @@ module _ (c : Parameters) (trail : Kept) (x : State) (core : IsCore c trail x) (
       let a = core.agrees in
       let refs = references c trail.past p in
       let stamped = subst (λ t. HasStampsOf h p (hit t ∷ refs)) a.observed.clock_is (stamps refs (references-timed c trail.past p).timed (a.observed.stamps_are p)) in
-      let next = agrees-hit c trail.past (parts_of x) a who p h (lt-ltb who c.clients (seen c trail x core v is (λ u. who < u.parameters.clients) client)) (lt-ltb p c.pages (seen c trail x core v is (λ u. p < u.parameters.pages) page)) (seen c trail x core v is (λ u. EachPast u (λ past. resident past p ≡ true)) here) settings stamped others kept in
+      let next = agrees-hit c trail.past (parts_of x) a who p h (lt-ltb who c.clients (given (λ q. who < q.clients) client)) (lt-ltb p c.pages (given (λ q. p < q.pages) page)) (at (λ q past. resident past p ≡ true) here) settings stamped others kept in
       record {
         agrees = rw same next;
-        trail_room = longer c _ _ _ core.trail_room _ (omega (arith, seen c trail x core v is (HasRoomFor 3) room)) (omega arith) (omega arith);
+        trail_room = longer c _ _ _ core.trail_room _ (omega (arith, at-room c trail x core v is 3 room)) (omega arith) (omega arith);
         pass_room = record { reserved = omega (arith, capacity, ap length same) };
         read_room = core.read_room;
         frame_room = core.frame_room;

@@ -2,9 +2,8 @@ use Rattle.std.proofs.Common.{◌≡◌, ap, true, arith}
 use Rattle.bp_core.specs.declared.entries.Call.TheVariants.{Fix}
 use Rattle.bp_core.specs.declared.entries.Reply.TheVariants.{Hit}
 use Rattle.bp_core.specs.Places.{resident}
-use Rattle.bp_core.specs.CoreView.{EachPast}
 use Rattle.bp_core.proofs.Seen.{few_pins, now_is, known_is, newest_pass}
-use Rattle.bp_core.proofs.Keeps.{seen, adds}
+use Rattle.bp_core.proofs.Keeps.{at-past, adds}
 use Rattle.bp_core.proofs.KeepsPasses.{keeps-hit}
 use Rattle.bp_core.proofs.pool.Core.hit.Goals as goal
 
@@ -15,7 +14,7 @@ pin-requires c =
 
 pub hit-requires-clause-known : goal.hit-requires-clause-known
 hit-requires-clause-known c =
-    known_is _ _ _ c.self.invariant.agrees c.args.page (seen _ _ _ c.self.invariant _ c.self.view_is (λ v. EachPast v (λ past. resident past c.args.page ≡ true)) c.requires.here)
+    known_is _ _ _ c.self.invariant.agrees c.args.page (at-past _ _ _ c.self.invariant _ c.self.view_is (λ q past. resident past c.args.page ≡ true) c.requires.here)
 
 pub hit-requires-clause-now : goal.hit-requires-clause-now
 hit-requires-clause-now c = now_is _ _ _ c.self.invariant.agrees

@@ -4,20 +4,19 @@ use Rattle.bp_core.specs.Event.{grant}
 use Rattle.bp_core.specs.Passes.{passes_out}
 use Rattle.bp_core.specs.Places.{resident}
 use Rattle.bp_core.specs.Legal.{is_out}
-use Rattle.bp_core.specs.CoreView.{EachPast}
 use Rattle.bp_core.specs.Outcomes.IsQuiet.{page_read}
 use Rattle.bp_core.specs.Agreement.{parameters_of}
 use Rattle.bp_core.proofs.Places.{places, out-of_page}
 use Rattle.bp_core.proofs.Ranges.{owned, owner}
-use Rattle.bp_core.proofs.Keeps.{seen}
+use Rattle.bp_core.proofs.Keeps.{at-past}
 use Rattle.bp_core.proofs.pool.Core.read.Goals as goal
 
 pub unreachable-requires : goal.unreachable-requires
 unreachable-requires c =
     let a = c.self.invariant.agrees in
     let p = c.args.pass.now in
-    let out = seen _ _ _ c.self.invariant _ c.self.view_is (λ v. EachPast v (λ past. is_out (grant p.client p.page p.serial) (passes_out past) ≡ true)) (sym c.knows.ensures ∙ c.if-not-knows.false) in
-    let away = seen _ _ _ c.self.invariant _ c.self.view_is (λ v. EachPast v (λ past. resident past p.page ≡ false)) c.in_default.ensures.away in
+    let out = at-past _ _ _ c.self.invariant _ c.self.view_is (λ q past. is_out (grant p.client p.page p.serial) (passes_out past) ≡ true) (sym c.knows.ensures ∙ c.if-not-knows.false) in
+    let away = at-past _ _ _ c.self.invariant _ c.self.view_is (λ q past. resident past p.page ≡ false) c.in_default.ensures.away in
     true≢false (sym ((places _ _ a.legal).pinned p.page (out-of_page p.client p.page p.serial _ out)) ∙ away)
 
 pub answer-requires-clause-quiet : goal.answer-requires-clause-quiet
@@ -28,5 +27,5 @@ pub answer-requires-clause-client_in : goal.answer-requires-clause-client_in
 answer-requires-clause-client_in c =
     let a = c.self.invariant.agrees in
     let p = c.args.pass.now in
-    let out = seen _ _ _ c.self.invariant _ c.self.view_is (λ v. EachPast v (λ past. is_out (grant p.client p.page p.serial) (passes_out past) ≡ true)) (sym c.knows.ensures ∙ c.if-not-knows.false) in
+    let out = at-past _ _ _ c.self.invariant _ c.self.view_is (λ q past. is_out (grant p.client p.page p.serial) (passes_out past) ≡ true) (sym c.knows.ensures ∙ c.if-not-knows.false) in
     subst (λ v. p.client < v.parameters.clients) c.self.view_is (ltb-true p.client c.self.inside.config.clients (owner (parameters_of c.self.inside.config) p.client p.page p.serial _ (owned (parameters_of c.self.inside.config) _ a.legal).passes out))
