@@ -1,0 +1,132 @@
+//! Candidates for replacement as a plain list, which `victim` scans from end to end, as figure 2.1 of the LRU-K paper
+//! (SIGMOD 1993) does. It is the body that others are compared with. For use take [`crate::Candidates`], which has the
+//! same contract.
+ghost use Rattle.std.specs.Prelude.{◌≡◌, ◌≢◌, ℕ, ◌+◌, ◌-◌, ◌<◌, ◌≤◌, ◌==◌, ◌↔◌, nat_lt, [], IsTrue, IsFalse, IsSome, Some, None, IfOk, OnErr, IfSome, IfNone, length, filter, position};
+ghost use Rattle.std.specs.List.{list_any, reduce};
+ghost use Rattle.bp_lruk.specs.Candidates.{earlier, entry_of, is_entered, is_eligible, IsVictim, NoPageTwice, SameLimits};
+
+use crate::candidates::precedes;
+use crate::settings::Settings;
+use bp_page::{PageNo, Refusal};
+use std::alloc::Global;
+use std::marker::Model;
+
+/// The pages that may be replaced, in the order in which they were entered.
+#[derive(Drop)]
+pub struct Candidates {
+    frames: usize,
+    correlated: u64,
+    entries: Vec<(u64, u64, PageNo)>,
+}
+
+impl Model for Candidates {
+    ghost use Rattle.std.specs.Prelude.{◌≤◌, length, vec_len};
+    ghost use Rattle.std.specs.Vec.{vec_capacity};
+    ghost use Rattle.bp_lruk.specs.Candidates.{NoPageTwice, Entered};
+
+    ghost Value = { Entered };
+
+    ghost view = { λ c. record { frames = c.frames; correlated = c.correlated; entries = c.entries.items } };
+
+    ghost invariant = { λ c. NoPageTwice c.entries.items × (vec_len c.entries ≤ c.frames) × (c.frames ≤ vec_capacity c.entries) };
+}
+
+impl Candidates {
+    /// Room for as many candidates as there are frames, and none entered. It fails by want of memory alone, as
+    /// `OutOfMemory`; no other call takes any.
+    pub fn new(alloc: Global, frames: usize, settings: Settings) -> Result<Self, Refusal>
+        ensures frames { IfOk result (λ c. c.frames ≡ frames) }
+        ensures correlated { IfOk result (λ c. c.correlated ≡ settings.correlated) }
+        ensures empty { IfOk result (λ c. c.entries ≡ []) }
+        ensures err { OnErr result (result ≡ Err Refusal.OutOfMemory) }
+    {
+        match Vec::with_capacity(alloc, frames) {
+            Ok(entries) => Ok(Candidates {
+                frames,
+                correlated: settings.correlated,
+                entries,
+            }),
+            Err(_) => Err(Refusal::OutOfMemory),
+        }
+    }
+
+    /// Whether the page is entered.
+    pub fn contains(&self, page: PageNo) -> bool
+        ensures { result ≡ is_entered self.now page }
+    {
+        has_entry(&self.entries, page)
+    }
+
+    /// Whether as many pages are entered as there are frames.
+    pub fn is_full(&self) -> bool
+        ensures full { IsTrue result ↔ (length self.now.entries ≡ self.now.frames) }
+        ensures few { length self.now.entries ≤ self.now.frames }
+    {
+        self.entries.len() == self.frames
+    }
+
+    /// Enters a page with its K-th stamp and the time of its newest reference.
+    pub fn enter(&mut self, page: PageNo, hist_k: u64, last: u64)
+        requires apart { entry_of self.old page ≡ None }
+        requires room { length self.old.entries < self.old.frames }
+        ensures entered { entry_of self.new page ≡ Some (hist_k, last) }
+        ensures others { (q : ℕ) → q ≢ page → entry_of self.new q ≡ entry_of self.old q }
+        ensures count { length self.new.entries ≡ length self.old.entries + 1 }
+        ensures pages { NoPageTwice self.new.entries }
+        ensures limits { SameLimits self.old self.new }
+    {
+        self.entries.push_reserved((hist_k, last, page));
+    }
+
+    /// Takes a page out.
+    pub fn leave(&mut self, page: PageNo)
+        requires { IsSome (entry_of self.old page) }
+        ensures left { entry_of self.new page ≡ None }
+        ensures others { (q : ℕ) → q ≢ page → entry_of self.new q ≡ entry_of self.old q }
+        ensures count { length self.new.entries + 1 ≡ length self.old.entries }
+        ensures pages { NoPageTwice self.new.entries }
+        ensures limits { SameLimits self.old self.new }
+    {
+        let at = place(&self.entries, page).unwrap();
+        self.entries.remove(at);
+    }
+
+    /// The page to replace at the time `t`: of those last referenced more than the correlated period before, the first
+    /// by K-th stamp, then by last time, then by page number.
+    pub fn victim(&self, t: u64) -> Option<PageNo>
+        ensures found { IfSome result (λ page. IsVictim self.now t page) }
+        ensures none { IfNone result ((page : ℕ) → IsFalse (is_eligible self.now t page)) }
+    {
+        let first = least(&self.entries, self.correlated, t)?;
+        Some(first.2)
+    }
+}
+
+// Whether the page has an entry.
+fn has_entry(entries: &[(u64, u64, PageNo)], page: PageNo) -> bool
+    ensures { result ≡ list_any (λ e. e.2 == page) entries.now }
+{
+    entries.iter().any(|entry| entry.2 == page)
+}
+
+// The place of the page's entry.
+fn place(entries: &[(u64, u64, PageNo)], page: PageNo) -> Option<usize>
+    ensures { result ≡ position (λ e. e.2 == page) entries.now }
+{
+    entries.iter().position(|entry| entry.2 == page)
+}
+
+// The first in the order of replacement, of those with a last time more than the period before `t`.
+fn least(
+    entries: &[(u64, u64, PageNo)],
+    period: u64,
+    t: u64,
+) -> Option<(u64, u64, PageNo)>
+    ensures { result ≡ reduce earlier (filter (λ e. nat_lt period (t - e.1)) entries.now) }
+{
+    entries
+        .iter()
+        .copied()
+        .filter(|entry| t.saturating_sub(entry.1) > period)
+        .reduce(|first, entry| if precedes(&entry, &first) { entry } else { first })
+}
