@@ -1,13 +1,22 @@
 -- Counts, tests, filters and reversed lists.
 use Rattle.std.proofs.Common.{◌≡◌, ℕ, zero, suc, ◌+◌, ◌<◌, Bool, true, false, not, cond, ◌&&◌, List, [], ◌∷◌, ◌++◌, length, length-append, get_or, map, filter, reverse, refl, sym, ◌∙◌, ap, subst, arith}
 use Rattle.std.specs.Prelude.{All}
-use Rattle.std.proofs.lemmas.Bool.{true≢false, or_parts}
+use Rattle.std.specs.List.{sum_by}
+use Rattle.std.specs.List.Sorted.{IsPermutation}
+use Rattle.std.proofs.lemmas.List.Sorted.{sum_by-IsPermutation}
+use Rattle.std.proofs.lemmas.List.Sums.{sum_by-cons}
+use Rattle.std.proofs.lemmas.Bool.{true≢false, or_parts, or_left, or_right}
 use Rattle.std.proofs.lemmas.Bool.Decides.{nat_tests}
 use Rattle.std.proofs.lemmas.List.{reverse-append}
 use Rattle.std.proofs.lemmas.List.Elements.{filter-append}
 use Rattle.bp_core.specs.Lists.{some, count}
 
 module _ {X : Type 0} where
+  pub some-at : (p : X → Bool) (xs : List X) (i : ℕ) (d : X) → i < length xs → p (get_or xs i d) ≡ true → some p xs ≡ true
+  some-at p [] i d lt here = absurd (omega arith)
+  some-at p (x ∷ xs) zero d lt here = or_left (p x) (some p xs) here
+  some-at p (x ∷ xs) (suc i) d lt here = or_right (p x) (some p xs) (some-at p xs i d (omega arith) here)
+
   pub count-cons : (p : X → Bool) (x : X) (xs : List X) → count p (x ∷ xs) ≡ cond (p x) 1 0 + count p xs
   count-cons p x xs = go (p x)
     where
@@ -43,6 +52,14 @@ module _ {X : Type 0} where
       go : (b : Bool) → q x ≡ b → count p (filter q xs) ≡ count (λ x. q x && p x) xs → count p (filter q (x ∷ xs)) ≡ count (λ x. q x && p x) (x ∷ xs)
       go true e ih = omega (arith, ap (λ b. count p (cond b (x ∷ filter q xs) (filter q xs))) e, count-cons p x (filter q xs), count-cons (λ x. q x && p x) x xs, ap {B = ℕ} (λ b. cond (b && p x) 1 0) e, ih)
       go false e ih = omega (arith, ap (λ b. count p (cond b (x ∷ filter q xs) (filter q xs))) e, count-cons (λ x. q x && p x) x xs, ap {B = ℕ} (λ b. cond (b && p x) 1 0) e, ih)
+
+  pub count-sum : (p : X → Bool) (xs : List X) → count p xs ≡ sum_by (λ x. cond (p x) 1 0) xs
+  count-sum p [] = refl
+  count-sum p (x ∷ xs) = omega (arith, count-cons p x xs, sum_by-cons (λ (y : X). cond (p y) 1 0) x xs, count-sum p xs)
+
+  -- in any order
+  pub count-permutation : (p : X → Bool) (xs ys : List X) → IsPermutation xs ys → count p ys ≡ count p xs
+  count-permutation p xs ys moved = count-sum p ys ∙ sum_by-IsPermutation (λ x. cond (p x) 1 0) xs ys moved ∙ sym (count-sum p xs)
 
   pub count-append : (p : X → Bool) (xs ys : List X) → count p (xs ++ ys) ≡ count p xs + count p ys
   count-append p [] ys = omega arith
@@ -92,7 +109,7 @@ module _ {X Y : Type 0} where
       go false true i j = absurd (omega (arith, e, none-count p xs i, some-count q ys j))
 
 module _ {X : Type 0} where
-  get-left : (xs ys : List X) (k : ℕ) (d : X) → k < length xs → get_or (xs ++ ys) k d ≡ get_or xs k d
+  pub get-left : (xs ys : List X) (k : ℕ) (d : X) → k < length xs → get_or (xs ++ ys) k d ≡ get_or xs k d
   get-left [] ys k d lt = absurd (omega arith)
   get-left (x ∷ xs) ys zero d lt = refl
   get-left (x ∷ xs) ys (suc k) d lt = get-left xs ys k d (omega arith)

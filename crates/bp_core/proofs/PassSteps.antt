@@ -1,6 +1,6 @@
 -- A hit, an unfix, a write and the end of a read keep what the core holds in agreement with the trail.
 use Rattle.std.proofs.Common.{◌≡◌, ◌≢◌, ℕ, suc, ◌+◌, ◌-◌, ◌≤◌, nat_lt, max, Bool, true, false, not, if◌then◌else◌, ◌||◌, ◌==◌, List, ◌∷◌, length, filter, refl, sym, ◌∙◌, ap, subst, arith}
-use Rattle.std.proofs.lemmas.Bool.{le-leb, and_from, eqb-true, eqb-false}
+use Rattle.std.proofs.lemmas.Bool.{le-leb, and_from, eqb-true, eqb-false, false_from_ne_true, true≢false}
 use Rattle.std.proofs.lemmas.Bool.Decides.{nat_tests}
 use Rattle.bp_lruk.specs.Burst.Reference.{hit}
 use Rattle.bp_lruk.specs.Histories.{Blocks, is_held, HasStampsOf, SameAt, SameSettings}
@@ -13,21 +13,21 @@ use Rattle.bp_core.specs.Event.{Grant, grant, patched}
 use Rattle.bp_core.specs.Trail.{Trail}
 use Rattle.bp_core.specs.Clock.{clock}
 use Rattle.bp_core.specs.Passes.{passes, passes_out, is_of, pins}
-use Rattle.bp_core.specs.Places.{residents, resident, loading}
+use Rattle.bp_core.specs.Places.{residents, resident, loading, writing}
 use Rattle.bp_core.specs.Saved.{unsaved, top}
 use Rattle.bp_core.specs.Images.{held}
-use Rattle.bp_core.specs.Room.{free}
 use Rattle.bp_core.specs.References.{references}
 use Rattle.bp_core.specs.PageMap.{fix_reply}
 use Rattle.bp_core.specs.Legal.{is_out}
 use Rattle.bp_core.specs.Frames.{is_frame_of, pinned, unpinned, written_on, changed_at}
-use Rattle.bp_core.specs.Agreement.{State, Agrees, frame_of, rewritten}
+use Rattle.bp_core.specs.Agreement.{Parts, Agrees, frame_of, rewritten}
 use Rattle.bp_core.proofs.Counting.{count-agree, count-map, some-from_counts}
 use Rattle.bp_core.proofs.Serials.{numbered, count-rest, rest, OneSerial}
-use Rattle.bp_core.proofs.Frames.{reads-rest}
+use Rattle.bp_core.proofs.Residents.{reads-rest}
 use Rattle.bp_core.proofs.Changes.{passes-hit, pins-hit, pins-unfix, top-write}
 use Rattle.bp_core.proofs.Ranges.{owned, owner}
 use Rattle.bp_core.proofs.StampsKept.{stamps-kept, told-alike}
+use Rattle.bp_core.proofs.Places.{places}
 use Rattle.bp_core.proofs.Steps.{by}
 
 pub eqb-sym : (m n : ℕ) → (m == n) ≡ (n == m)
@@ -43,7 +43,7 @@ others-stay who p t q gs once out e =
     let k = count-rest (is_of q) who p t gs once out in
     some-from_counts (is_of q) (is_of q) (rest t gs) gs (sym (subst (λ b. count (is_of q) gs ≡ (if b then suc (count (is_of q) (rest t gs)) else count (is_of q) (rest t gs))) e k))
 
-module _ (c : Parameters) (past : Trail) (x : State) (a : Agrees c past x) where
+module _ (c : Parameters) (past : Trail) (x : Parts) (a : Agrees c past x) where
   -- a change of one page's frame
   pub frames-changed : (p : ℕ) (change : Frame → Frame) (later : Trail) → ((q : ℕ) → frame_of later q ≡ (if q == p then change (frame_of past q) else frame_of past q))
       → (test : Frame → Bool) → count test (changed_at p change x.frames) ≡ count (λ q. test (frame_of later q)) (residents past)
@@ -78,7 +78,6 @@ module _ (c : Parameters) (past : Trail) (x : State) (a : Agrees c past x) where
           correlated_is = a.correlated_is;
           retained_is = a.retained_is;
           in_time = a.in_time;
-          in_room = omega (arith, a.in_room, fewer);
         }
       where
         one : (q : ℕ) (b : Bool) → (q == p) ≡ b → frame_of (by who (Unfix n p) Done ∷ past) q ≡ (if b then unpinned (frame_of past q) else frame_of past q)
@@ -94,9 +93,9 @@ module _ (c : Parameters) (past : Trail) (x : State) (a : Agrees c past x) where
         at q = one q (q == p) refl
 
     -- ---- a write
-    pub agrees-write : (n offset : ℕ) (bytes : List ℕ) (lsn : ℕ) → is_out (grant who p n) (passes_out past) ≡ true → offset + length bytes ≤ c.size → 1 ≤ free c past
+    pub agrees-write : (n offset : ℕ) (bytes : List ℕ) (lsn : ℕ) → is_out (grant who p n) (passes_out past) ≡ true → offset + length bytes ≤ c.size
         → Agrees c (by who (Write n p offset bytes lsn) Done ∷ past) (record x { frames = changed_at p (written_on offset bytes lsn) x.frames })
-    agrees-write n offset bytes lsn out fits enough =
+    agrees-write n offset bytes lsn out fits =
         let clients = owner c who p n (passes_out past) (owned c past a.legal).passes out in
         record {
           legal = record { here = record { client = clients; allowed = and_from _ _ out (le-leb (offset + length bytes) c.size fits); reply = refl }; before = a.legal };
@@ -116,14 +115,13 @@ module _ (c : Parameters) (past : Trail) (x : State) (a : Agrees c past x) where
           correlated_is = a.correlated_is;
           retained_is = a.retained_is;
           in_time = a.in_time;
-          in_room = omega arith;
         }
       where
         later : Trail
         later = by who (Write n p offset bytes lsn) Done ∷ past
 
         put : (q : ℕ) (b : Bool) (t : ℕ) → t ≡ (if b then max lsn (top past q) else top past q)
-            → (let f : Frame = record { page = q; pins = pins past q; is_unsaved = b || unsaved past q; is_rewritten = b || rewritten past q; top = t; image = if b then patched offset bytes (held past q) else held past q } in f) ≡ (if b then written_on offset bytes lsn (frame_of past q) else frame_of past q)
+            → (let f : Frame = record { page = q; pins = pins past q; is_unsaved = b || unsaved past q; is_rewritten = b || rewritten past q; is_writing = writing past q; top = t; image = if b then patched offset bytes (held past q) else held past q } in f) ≡ (if b then written_on offset bytes lsn (frame_of past q) else frame_of past q)
         put q true t e = ap (λ m. record (written_on offset bytes lsn (frame_of past q)) { top = m }) e
         put q false t e = ap (λ m. record (frame_of past q) { top = m }) e
 
@@ -134,11 +132,11 @@ module _ (c : Parameters) (past : Trail) (x : State) (a : Agrees c past x) where
     pub reply-hit : loading past p ≡ false → resident past p ≡ true → fix_reply c past p ≡ Hit (passes past)
     reply-hit l r = rw (l, r) refl
 
-    pub agrees-hit : (h : Blocks) → nat_lt who c.clients ≡ true → nat_lt p c.pages ≡ true → loading past p ≡ false → resident past p ≡ true → 3 ≤ free c past
+    pub agrees-hit : (h : Blocks) → nat_lt who c.clients ≡ true → nat_lt p c.pages ≡ true → resident past p ≡ true
         → SameSettings x.blocks h → HasStampsOf h p (hit (clock past) ∷ references c past p) → ((q : ℕ) → q ≢ p → SameAt x.blocks h q) → is_held h p ≡ true
         → Agrees c (by who (Fix p) (Hit x.given) ∷ past) (record x { given = x.given + 1; out = grant who p x.given ∷ x.out; frames = changed_at p pinned x.frames; blocks = h })
-    agrees-hit h client page idle here enough settings stamps others kept = record {
-      legal = record { here = record { client = client; allowed = page; reply = ap Hit a.observed.passes_is ∙ sym (reply-hit idle here) }; before = a.legal };
+    agrees-hit h client page here settings stamps others kept = record {
+      legal = record { here = record { client = client; allowed = page; reply = ap Hit a.observed.passes_is ∙ sym (reply-hit (false_from_ne_true (loading past p) (λ l. true≢false (sym here ∙ (places c past a.legal).away p l))) here) }; before = a.legal };
       observed = record {
         clock_is = a.observed.clock_is;
         durable_is = a.observed.durable_is;
@@ -155,7 +153,6 @@ module _ (c : Parameters) (past : Trail) (x : State) (a : Agrees c past x) where
       correlated_is = settings.correlated ∙ a.correlated_is;
       retained_is = settings.retained ∙ a.retained_is;
       in_time = a.in_time;
-      in_room = omega arith;
     }
       where
         one : (q : ℕ) (b : Bool) → (q == p) ≡ b → frame_of (by who (Fix p) (Hit x.given) ∷ past) q ≡ (if b then pinned (frame_of past q) else frame_of past q)

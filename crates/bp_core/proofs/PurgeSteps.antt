@@ -11,9 +11,8 @@ use Rattle.bp_core.specs.Trail.{Trail}
 use Rattle.bp_core.specs.Clock.{clock}
 use Rattle.bp_core.specs.Places.{resident, loading}
 use Rattle.bp_core.specs.Images.{held}
-use Rattle.bp_core.specs.Room.{free}
 use Rattle.bp_core.specs.References.{references}
-use Rattle.bp_core.specs.Agreement.{State, Agrees}
+use Rattle.bp_core.specs.Agreement.{Parts, Agrees}
 use Rattle.bp_core.proofs.StampsKept.{stamps-kept, told-alike}
 use Rattle.bp_core.proofs.Steps.{by}
 use Rattle.bp_lruk.specs.Burst.{last_time}
@@ -43,7 +42,7 @@ turned true false z = refl
 turned false true z = refl
 turned false false z = refl
 
-module _ (c : Parameters) (past : Trail) (x : State) (a : Agrees c past x) where
+module _ (c : Parameters) (past : Trail) (x : Parts) (a : Agrees c past x) where
   pub forgets-same : (p : ℕ) → forgets x.blocks x.now p ≡ forgets_page c past p (references c past p)
   forgets-same p =
       let last = (a.observed.stamps_are p).last in
@@ -65,10 +64,10 @@ module _ (c : Parameters) (past : Trail) (x : State) (a : Agrees c past x) where
       none [] w = refl
       none (r ∷ older) w = let k = w refl in absurd (grind (arith, nat_tests))
 
-  pub agrees-purge : (who n : ℕ) (h : Blocks) → nat_lt who c.clients ≡ true → 1 ≤ free c past → n ≡ forgotten c past → SameSettings x.blocks h
+  pub agrees-purge : (who n : ℕ) (h : Blocks) → nat_lt who c.clients ≡ true → n ≡ forgotten c past → SameSettings x.blocks h
       → ((p : ℕ) → forgets x.blocks x.now p ≡ true → HasStampsOf h p []) → ((p : ℕ) → forgets x.blocks x.now p ≡ false → SameAt x.blocks h p) → ((p : ℕ) → is_held h p ≡ is_held x.blocks p)
       → Agrees c (by who Purge (Forgot n) ∷ past) (record x { blocks = h })
-  agrees-purge who n h client enough counted settings gone kept held = record {
+  agrees-purge who n h client counted settings gone kept held = record {
     legal = record { here = record { client = client; allowed = refl; reply = ap Forgot counted }; before = a.legal };
     observed = record {
       clock_is = a.observed.clock_is;
@@ -86,7 +85,6 @@ module _ (c : Parameters) (past : Trail) (x : State) (a : Agrees c past x) where
     correlated_is = settings.correlated ∙ a.correlated_is;
     retained_is = settings.retained ∙ a.retained_is;
     in_time = a.in_time;
-    in_room = omega arith;
   }
     where
       stamped : (p : ℕ) (b : Bool) → forgets_page c past p (references c past p) ≡ b → HasStampsOf h p (if b then [] else references c past p)

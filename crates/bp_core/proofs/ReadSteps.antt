@@ -1,5 +1,6 @@
 -- The begin and the end of a read keep what the core holds in agreement with the trail.
-use Rattle.std.proofs.Common.{◌≡◌, ◌≢◌, ℕ, suc, ◌+◌, ◌≤◌, nat_lt, Bool, true, false, not, cond, if◌then◌else◌, ◌||◌, ◌&&◌, ◌==◌, List, [], ◌∷◌, ◌++◌, length, filter, Some, None, refl, sym, ◌∙◌, ap, subst, arith}
+use Rattle.std.proofs.Common.{◌≡◌, ◌≢◌, ℕ, suc, ◌+◌, nat_lt, Bool, true, false, not, cond, if◌then◌else◌, ◌||◌, ◌&&◌, ◌==◌, List, [], ◌∷◌, length, filter, Some, None, refl, sym, ◌∙◌, ap, subst, arith}
+use Rattle.std.specs.List.Sorted.{IsPermutation}
 use Rattle.std.proofs.lemmas.Bool.{and_from, and_parts, eqb-true, eq-eqb, false_from_ne_true, true≢false}
 use Rattle.bp_lruk.specs.Burst.Reference.{fault}
 use Rattle.bp_lruk.specs.Histories.{Blocks, is_held, HasStampsOf, SameStampsAt, SameAt, SameSettings}
@@ -13,22 +14,21 @@ use Rattle.bp_core.specs.Event.{grant, begins_of, writes}
 use Rattle.bp_core.specs.Trail.{Trail}
 use Rattle.bp_core.specs.Clock.{clock, durable}
 use Rattle.bp_core.specs.Passes.{passes, tickets, passes_out, reads_out, is_of, pins}
-use Rattle.bp_core.specs.Places.{residents, resident, loading}
+use Rattle.bp_core.specs.Places.{residents, resident, loading, writing}
 use Rattle.bp_core.specs.Saved.{unsaved, top, began_saving}
 use Rattle.bp_core.specs.Images.{held}
-use Rattle.bp_core.specs.Room.{free}
 use Rattle.bp_core.specs.References.{references}
 use Rattle.bp_core.specs.PageMap.{fix_reply}
 use Rattle.bp_core.specs.Legal.{is_out}
-use Rattle.bp_core.specs.Frames.{is_frame_of, without_page}
-use Rattle.bp_core.specs.Agreement.{State, Agrees, frame_of, rewritten}
+use Rattle.bp_core.specs.Frames.{is_frame_of, loaded_with, without_page}
+use Rattle.bp_core.specs.Agreement.{Parts, Agrees, frame_of, rewritten}
 use Rattle.bp_core.proofs.Lists.{since-mono}
-use Rattle.bp_core.proofs.Counting.{count-cons, none-count, count-agree_but, count-append, count-filter}
+use Rattle.bp_core.proofs.Counting.{count-cons, none-count, count-agree_but, count-permutation, count-filter}
 use Rattle.bp_core.proofs.Serials.{numbered, rest}
-use Rattle.bp_core.proofs.Frames.{reads-rest}
+use Rattle.bp_core.proofs.Residents.{reads-rest}
 use Rattle.bp_core.proofs.Places.{places, out-of_page, one-gone}
 use Rattle.bp_core.proofs.Changes.{tickets-load, top-load}
-use Rattle.bp_core.proofs.Ranges.{owned, owner}
+use Rattle.bp_core.proofs.Ranges.{owned, owner, stays}
 use Rattle.bp_core.proofs.StampsKept.{stamps-kept, told-alike}
 use Rattle.bp_core.proofs.Steps.{by}
 use Rattle.bp_core.proofs.PassSteps.{eqb-sym, other, others-stay}
@@ -44,9 +44,9 @@ rewritten-unsaved past p m = since-mono (writes p) (λ e. began_saving past p e.
     tells (WriteFirst t q image) k = (and_parts (q == p) _ k).0
     tells _ k = cc
 
-module _ (c : Parameters) (past : Trail) (x : State) (a : Agrees c past x) (who p : ℕ) where
+module _ (c : Parameters) (past : Trail) (x : Parts) (a : Agrees c past x) (who p : ℕ) where
   -- ---- a page is asked of the device
-  module _ (client : nat_lt who c.clients ≡ true) (page : nat_lt p c.pages ≡ true) (idle : loading past p ≡ false) (away : resident past p ≡ false) (enough : 3 ≤ free c past) (h : Blocks) (settings : SameSettings x.blocks h) (stamps : (q : ℕ) → SameStampsAt x.blocks h q) where
+  module _ (client : nat_lt who c.clients ≡ true) (page : nat_lt p c.pages ≡ true) (idle : loading past p ≡ false) (away : resident past p ≡ false) (h : Blocks) (settings : SameSettings x.blocks h) (stamps : (q : ℕ) → SameStampsAt x.blocks h q) where
     reply-load : has_free_frame c past ≡ true → fix_reply c past p ≡ Load (tickets past) None
     reply-load f = rw (idle, away, f) refl
 
@@ -73,7 +73,6 @@ module _ (c : Parameters) (past : Trail) (x : State) (a : Agrees c past x) (who 
       correlated_is = settings.correlated ∙ a.correlated_is;
       retained_is = settings.retained ∙ a.retained_is;
       in_time = a.in_time;
-      in_room = omega arith;
     }
       where
         holds : (q : ℕ) (b : Bool) → (p == q) ≡ b → is_held h q ≡ (resident past q || (b || loading past q))
@@ -102,7 +101,6 @@ module _ (c : Parameters) (past : Trail) (x : State) (a : Agrees c past x) (who 
       correlated_is = settings.correlated ∙ a.correlated_is;
       retained_is = settings.retained ∙ a.retained_is;
       in_time = a.in_time;
-      in_room = omega arith;
     }
       where
         replaces : replace_reply past (victim c past) ≡ Load (tickets past) (Some v)
@@ -176,17 +174,16 @@ module _ (c : Parameters) (past : Trail) (x : State) (a : Agrees c past x) (who 
       correlated_is = settings.correlated ∙ a.correlated_is;
       retained_is = settings.retained ∙ a.retained_is;
       in_time = a.in_time;
-      in_room = omega (arith, fewer, a.in_room);
     }
       where
         holds : (q : ℕ) (b : Bool) → (p == q) ≡ b → is_held h q ≡ (resident past q || some (is_of q) (rest t (reads_out past)))
         holds q true e = subst (λ y. is_held h y ≡ (resident past y || some (is_of y) (rest t (reads_out past)))) (eqb-true p q e) (gone ∙ sym (ap (λ b. b || some (is_of p) (rest t (reads_out past))) absent ∙ idle-after))
         holds q false e = others q (λ i. other p q e (sym i)) ∙ a.observed.held_is q ∙ ap (λ b. resident past q || b) (sym (idle-other q e))
 
-    pub agrees-fixed : (image : List ℕ) → length image ≡ c.size → HasStampsOf h p (fault (clock past) ∷ references c past p) → ((q : ℕ) → q ≢ p → SameAt x.blocks h q) → is_held h p ≡ true
+    pub agrees-fixed : (image : List ℕ) → length image ≡ c.size → (fs : List Frame) → IsPermutation (loaded_with p image ∷ x.frames) fs → HasStampsOf h p (fault (clock past) ∷ references c past p) → ((q : ℕ) → q ≢ p → SameAt x.blocks h q) → is_held h p ≡ true
         → Agrees c (by who (ReadEnd t p (Some image)) (Fixed x.given) ∷ past)
-        (record x { given = x.given + 1; out = grant who p x.given ∷ x.out; reads = filter (λ g. not (g.serial == t)) x.reads; frames = x.frames ++ (record { page = p; pins = 1; is_unsaved = false; is_rewritten = false; top = 0; image = image }) ∷ []; blocks = h })
-    agrees-fixed image size stamps others kept = record {
+        (record x { given = x.given + 1; out = grant who p x.given ∷ x.out; reads = filter (λ g. not (g.serial == t)) x.reads; frames = fs; blocks = h })
+    agrees-fixed image size fs moved stamps others kept = record {
       legal = record { here = record { client = clients; allowed = and_from _ _ out (eq-eqb (length image) c.size size); reply = ap Fixed a.observed.passes_is }; before = a.legal };
       observed = record {
         clock_is = a.observed.clock_is;
@@ -204,7 +201,6 @@ module _ (c : Parameters) (past : Trail) (x : State) (a : Agrees c past x) (who 
       correlated_is = settings.correlated ∙ a.correlated_is;
       retained_is = settings.retained ∙ a.retained_is;
       in_time = a.in_time;
-      in_room = omega (arith, fewer, a.in_room);
     }
       where
         after : Trail
@@ -222,6 +218,9 @@ module _ (c : Parameters) (past : Trail) (x : State) (a : Agrees c past x) (who 
         settled-now : rewritten past p ≡ false
         settled-now = false_from_ne_true (rewritten past p) (λ m. true≢false (sym (rewritten-unsaved past p m) ∙ saved-now))
 
+        idle-now : writing past p ≡ false
+        idle-now = false_from_ne_true (writing past p) (λ m. true≢false (sym (stays c past a.legal p m) ∙ absent))
+
         own-pins : pins (by who (ReadEnd t p (Some image)) (Fixed x.given) ∷ past) p ≡ 1
         own-pins = omega (arith, count-cons (is_of p) (grant who p x.given) (passes_out past), ap {B = ℕ} (λ b. cond b 1 0) (eq-eqb p p refl), unpinned-now)
 
@@ -231,8 +230,8 @@ module _ (c : Parameters) (past : Trail) (x : State) (a : Agrees c past x) (who 
         own-image : held (by who (ReadEnd t p (Some image)) (Fixed x.given) ∷ past) p ≡ image
         own-image = ap (λ b. if b then image else held past p) (eq-eqb p p refl)
 
-        own : frame_of (by who (ReadEnd t p (Some image)) (Fixed x.given) ∷ past) p ≡ (let f : Frame = record { page = p; pins = 1; is_unsaved = false; is_rewritten = false; top = 0; image = image } in f)
-        own = λ i. record { page = p; pins = own-pins i; is_unsaved = saved-now i; is_rewritten = settled-now i; top = own-top i; image = own-image i }
+        own : frame_of (by who (ReadEnd t p (Some image)) (Fixed x.given) ∷ past) p ≡ loaded_with p image
+        own = λ i. record { page = p; pins = own-pins i; is_unsaved = saved-now i; is_rewritten = settled-now i; is_writing = idle-now i; top = own-top i; image = own-image i }
 
         others-frame : (q : ℕ) → (q == p) ≡ false → frame_of past q ≡ frame_of (by who (ReadEnd t p (Some image)) (Fixed x.given) ∷ past) q
         others-frame q e =
@@ -240,15 +239,14 @@ module _ (c : Parameters) (past : Trail) (x : State) (a : Agrees c past x) (who 
             let pins-same : pins past q ≡ pins (by who (ReadEnd t p (Some image)) (Fixed x.given) ∷ past) q = omega (arith, count-cons (is_of q) (grant who p x.given) (passes_out past), ap {B = ℕ} (λ b. cond b 1 0) n) in
             let top-same : top past q ≡ top (by who (ReadEnd t p (Some image)) (Fixed x.given) ∷ past) q = sym (top-load past who t p q x.given image ∙ ap (λ b. if b then 0 else top past q) n) in
             let image-same : held past q ≡ held (by who (ReadEnd t p (Some image)) (Fixed x.given) ∷ past) q = sym (ap (λ b. if b then image else held past q) n) in
-            λ i. record { page = q; pins = pins-same i; is_unsaved = unsaved past q; is_rewritten = rewritten past q; top = top-same i; image = image-same i }
+            λ i. record { page = q; pins = pins-same i; is_unsaved = unsaved past q; is_rewritten = rewritten past q; is_writing = writing past q; top = top-same i; image = image-same i }
 
-        counts : (test : Frame → Bool) → count test (x.frames ++ (record { page = p; pins = 1; is_unsaved = false; is_rewritten = false; top = 0; image = image }) ∷ []) ≡ count (λ q. test (frame_of (by who (ReadEnd t p (Some image)) (Fixed x.given) ∷ past) q)) (p ∷ residents past)
+        counts : (test : Frame → Bool) → count test fs ≡ count (λ q. test (frame_of (by who (ReadEnd t p (Some image)) (Fixed x.given) ∷ past) q)) (p ∷ residents past)
         counts test =
-            let f : Frame = record { page = p; pins = 1; is_unsaved = false; is_rewritten = false; top = 0; image = image } in
             omega (
               arith,
-              count-append test x.frames (f ∷ []),
-              count-cons test f [],
+              count-permutation test (loaded_with p image ∷ x.frames) fs moved,
+              count-cons test (loaded_with p image) x.frames,
               count-cons (λ q. test (frame_of (by who (ReadEnd t p (Some image)) (Fixed x.given) ∷ past) q)) p (residents past),
               ap {B = ℕ} (λ g. cond (test g) 1 0) own,
               a.observed.frames_is test,

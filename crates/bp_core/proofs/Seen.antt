@@ -1,7 +1,7 @@
 -- What the code reads off its lists and frames is what the trail says.
-use Rattle.std.proofs.Common.{◌≡◌, refl, sym, ap, subst, ◌∙◌, ℕ, suc, ◌+◌, ◌^◌, ◌<◌, ◌≤◌, nat_lt, Bool, true, false, not, ◌&&◌, ◌||◌, ◌==◌, cond, List, [], ◌∷◌, length, filter_map, get_or, Option, Some, None, inl, inr, arith}
+use Rattle.std.proofs.Common.{◌≡◌, refl, sym, ap, subst, ◌∙◌, ℕ, zero, suc, ◌+◌, ◌^◌, ◌<◌, ◌≤◌, nat_lt, Bool, true, false, not, ◌&&◌, ◌||◌, ◌==◌, cond, List, [], ◌∷◌, length, filter_map, get_or, Option, Some, None, inl, inr, arith}
 use Rattle.std.specs.Str.{bytes_eq}
-use Rattle.std.specs.Prelude.{All}
+use Rattle.std.specs.Prelude.{All, Contains}
 use Rattle.std.proofs.lemmas.Slice.Eq.{bytes_eq-Decides}
 use Rattle.std.proofs.lemmas.Bool.{eqb-true, eq-eqb, and_parts, and_from, or_left, or_right, ltb-true, lt-ltb, not_from_false, false_from_ne_true, true≢false, cases_Bool}
 use Rattle.bp_lruk.specs.Histories.{last_of, IsNow}
@@ -10,23 +10,21 @@ use Rattle.bp_lruk.specs.Stamp.{IsTimed}
 use Rattle.bp_core.specs.declared.frame.Frame.{Frame}
 use Rattle.bp_core.specs.Parameters.{Parameters}
 use Rattle.bp_core.specs.Lists.{some, count}
-use Rattle.bp_core.specs.Event.{grant, ticket_given}
+use Rattle.bp_core.specs.Event.{Grant, grant, ticket_given}
 use Rattle.bp_core.specs.declared.entries.Entry.{Entry}
 use Rattle.bp_core.specs.Trail.{Trail}
-use Rattle.bp_core.specs.Passes.{pass_of, passes_out, reads_out, is_of, pins}
+use Rattle.bp_core.specs.Passes.{passes, tickets, pass_of, passes_out, reads_out, writes_out, is_of, pins}
 use Rattle.bp_core.specs.Places.{residents, resident}
-use Rattle.bp_core.specs.Images.{held}
 use Rattle.bp_core.specs.References.{references, is_empty}
 use Rattle.bp_core.specs.Legal.{is_out}
 use Rattle.bp_core.specs.Frames.{is_frame_of}
-use Rattle.bp_core.specs.Agreement.{State, Agrees, frame_of}
+use Rattle.bp_core.specs.Agreement.{Parts, Agrees, frame_of}
 use Rattle.bp_core.proofs.Lists.{member}
-use Rattle.bp_core.proofs.Counting.{count-cons, none-count, some-count, count-all, some-from_counts, length-split}
-use Rattle.bp_core.proofs.FrameChanges.{some-at, position_at, position_some, position_none}
-use Rattle.std.specs.List.{position}
-use Rattle.bp_core.proofs.Frames.{Distinct, frames}
+use Rattle.bp_core.proofs.Counting.{some-at, count-cons, some-count, count-all, some-from_counts, length-split}
+use Rattle.bp_core.proofs.Residents.{frames}
+use Rattle.bp_core.proofs.Serials.{AllBelow, numbered}
 use Rattle.bp_core.proofs.Places.{out-of_page}
-use Rattle.bp_core.proofs.Ranges.{sized, referred}
+use Rattle.bp_core.proofs.Ranges.{referred}
 use Rattle.bp_core.proofs.Timed.{references-timed}
 
 -- ---- two frames that are told apart by nothing
@@ -36,7 +34,7 @@ same_bool true b = b
 same_bool false b = not b
 
 abbrev pub same_frame : Frame → Frame → Bool
-same_frame f g = (f.page == g.page) && ((f.pins == g.pins) && (same_bool f.is_unsaved g.is_unsaved && (same_bool f.is_rewritten g.is_rewritten && ((f.top == g.top) && bytes_eq f.image g.image))))
+same_frame f g = (f.page == g.page) && ((f.pins == g.pins) && (same_bool f.is_unsaved g.is_unsaved && (same_bool f.is_rewritten g.is_rewritten && (same_bool f.is_writing g.is_writing && ((f.top == g.top) && bytes_eq f.image g.image)))))
 
 same_bool-is : (a b : Bool) → same_bool a b ≡ true → a ≡ b
 same_bool-is true true e = refl
@@ -54,19 +52,21 @@ same-is f g e =
     let pins = and_parts (f.pins == g.pins) _ page.1 in
     let unsaved = and_parts (same_bool f.is_unsaved g.is_unsaved) _ pins.1 in
     let rewritten = and_parts (same_bool f.is_rewritten g.is_rewritten) _ unsaved.1 in
-    let top = and_parts (f.top == g.top) _ rewritten.1 in
+    let writing = and_parts (same_bool f.is_writing g.is_writing) _ rewritten.1 in
+    let top = and_parts (f.top == g.top) _ writing.1 in
     let at_page = eqb-true f.page g.page page.0 in
     let at_pins = eqb-true f.pins g.pins pins.0 in
     let at_unsaved = same_bool-is f.is_unsaved g.is_unsaved unsaved.0 in
     let at_rewritten = same_bool-is f.is_rewritten g.is_rewritten rewritten.0 in
+    let at_writing = same_bool-is f.is_writing g.is_writing writing.0 in
     let at_top = eqb-true f.top g.top top.0 in
     let at_image = (bytes_eq-Decides f.image g.image).0 top.1 in
-    λ i. record { page = at_page i; pins = at_pins i; is_unsaved = at_unsaved i; is_rewritten = at_rewritten i; top = at_top i; image = at_image i }
+    λ i. record { page = at_page i; pins = at_pins i; is_unsaved = at_unsaved i; is_rewritten = at_rewritten i; is_writing = at_writing i; top = at_top i; image = at_image i }
 
 same-itself : (f : Frame) → same_frame f f ≡ true
 same-itself f =
     and_from _ _ (eq-eqb f.page f.page refl) (and_from _ _ (eq-eqb f.pins f.pins refl) (and_from _ _ (same_bool-itself f.is_unsaved) (and_from _ _ (same_bool-itself f.is_rewritten)
-    (and_from _ _ (eq-eqb f.top f.top refl) ((bytes_eq-Decides f.image f.image).1 refl)))))
+    (and_from _ _ (same_bool-itself f.is_writing) (and_from _ _ (eq-eqb f.top f.top refl) ((bytes_eq-Decides f.image f.image).1 refl))))))
 
 -- ---- counts of none
 
@@ -78,25 +78,17 @@ none-passes p (x ∷ xs) h =
 pub count-le : {X : Type 0} (p : X → Bool) (xs : List X) → count p xs ≤ length xs
 count-le p xs = omega (arith, length-split p xs)
 
-distinct-once : (p : ℕ) (xs : List ℕ) → Distinct xs → count (λ q. q == p) xs ≤ 1
-distinct-once p [] d = omega arith
-distinct-once p (x ∷ xs) d = go (x == p) refl (distinct-once p xs d.1)
-  where
-    go : (b : Bool) → (x == p) ≡ b → count (λ q. q == p) xs ≤ 1 → count (λ q. q == p) (x ∷ xs) ≤ 1
-    go true e ih =
-        let none : some (λ q. q == p) xs ≡ false = subst (λ y. member y xs ≡ false) (eqb-true x p e) d.0 in
-        omega (arith, count-cons (λ q. q == p) x xs, ap {B = ℕ} (λ b. cond b 1 0) e, none-count (λ q. q == p) xs none)
-    go false e ih = omega (arith, count-cons (λ q. q == p) x xs, ap {B = ℕ} (λ b. cond b 1 0) e, ih)
+all-below : (n : ℕ) (gs : List Grant) → AllBelow n gs → All (λ (g : Grant). g.serial < n) gs
+all-below n [] b k d lt = absurd (omega arith)
+all-below n (g ∷ gs) b zero d lt = omega (arith, b.0)
+all-below n (g ∷ gs) b (suc k) d lt = all-below n gs b.1 k d (omega arith)
 
-module _ (c : Parameters) (past : Trail) (x : State) (a : Agrees c past x) where
+module _ (c : Parameters) (past : Trail) (x : Parts) (a : Agrees c past x) where
   pub frames_count : length x.frames ≡ length (residents past)
   frames_count = sym (count-all x.frames) ∙ a.observed.frames_is (λ f. true) ∙ count-all (residents past)
 
   pub resident_seen : (p : ℕ) → some (is_frame_of p) x.frames ≡ resident past p
   resident_seen p = some-from_counts (is_frame_of p) (λ q. q == p) x.frames (residents past) (a.observed.frames_is (is_frame_of p))
-
-  pub frame_once : (p : ℕ) → count (is_frame_of p) x.frames ≤ 1
-  frame_once p = omega (arith, a.observed.frames_is (is_frame_of p), distinct-once p (residents past) (frames c past a.legal).distinct)
 
   -- a test that each frame of a resident page passes, each frame passes
   pub none_fails : (test : Frame → Bool) → ((q : ℕ) → resident past q ≡ true → test (frame_of past q) ≡ true) → some (λ f. not (test f)) x.frames ≡ false
@@ -124,23 +116,19 @@ module _ (c : Parameters) (past : Trail) (x : State) (a : Agrees c past x) where
       go true e = subst (λ y. same_frame (frame_of past p) (frame_of past y) ≡ true) (sym (eqb-true q p e)) (same-itself (frame_of past p))
       go false e = refl
 
-  pub frame_at : (p : ℕ) (i : ℕ) (f : Frame) → position (is_frame_of p) x.frames ≡ Some i → f ≡ get_or x.frames i f → f ≡ frame_of past p
-  frame_at p i f h is =
-      let at = position_at (is_frame_of p) x.frames i f h in
+  pub frame_in : (p : ℕ) (f : Frame) → Contains x.frames f → f.page ≡ p → f ≡ frame_of past p
+  frame_in p f in_list page =
       let bad : Frame → Bool = λ g. not (not (g.page == p) || same_frame (frame_of past p) g) in
-      let good : bad (get_or x.frames i f) ≡ false = false_from_ne_true (bad (get_or x.frames i f)) (λ t. true≢false (sym (some-at bad x.frames i f at.0 t) ∙ none_fails (λ g. not (g.page == p) || same_frame (frame_of past p) g) (λ q m. shaped p q))) in
-      is ∙ sym (same-is (frame_of past p) (get_or x.frames i f) (passed ((get_or x.frames i f).page == p) (same_frame (frame_of past p) (get_or x.frames i f)) at.1 good))
+      let good : bad f ≡ false = false_from_ne_true (bad f) (λ t. true≢false (sym (some-at bad x.frames in_list.0 f in_list.1 (subst (λ g. bad g ≡ true) (sym in_list.2) t)) ∙ none_fails (λ g. not (g.page == p) || same_frame (frame_of past p) g) (λ q m. shaped p q))) in
+      sym (same-is (frame_of past p) f (passed (f.page == p) (same_frame (frame_of past p) f) (eq-eqb f.page p page) good))
     where
       passed : (b d : Bool) → b ≡ true → not (not b || d) ≡ false → d ≡ true
       passed true true h k = refl
       passed true false h k = sym k
       passed false d h k = absurd (true≢false (sym h))
 
-  pub here_seen : (p : ℕ) (i : ℕ) (f : Frame) → position (is_frame_of p) x.frames ≡ Some i → resident past p ≡ true
-  here_seen p i f h = sym (resident_seen p) ∙ position_some (is_frame_of p) x.frames i f h
-
-  pub away_seen : (p : ℕ) → position (is_frame_of p) x.frames ≡ None → resident past p ≡ false
-  away_seen p h = sym (resident_seen p) ∙ position_none (is_frame_of p) x.frames h
+  pub here_in : (p : ℕ) (f : Frame) → Contains x.frames f → f.page ≡ p → resident past p ≡ true
+  here_in p f in_list page = sym (resident_seen p) ∙ some-at (is_frame_of p) x.frames in_list.0 f in_list.1 (eq-eqb (get_or x.frames in_list.0 f).page p (ap (λ (g : Frame). g.page) in_list.2 ∙ page))
 
   pub few_pins : length (passes_out past) < 2 ^ 63 → All (λ f. f.pins < 2 ^ 63) x.frames
   few_pins few = all_frames (λ f. f.pins < 2 ^ 63) (λ f. nat_lt f.pins (2 ^ 63)) (λ f e. ltb-true f.pins (2 ^ 63) e) (λ q m. lt-ltb (pins past q) (2 ^ 63) (omega (arith, few, count-le (is_of q) (passes_out past))))
@@ -155,9 +143,6 @@ module _ (c : Parameters) (past : Trail) (x : State) (a : Agrees c past x) where
       shows : (q : ℕ) (b : Bool) → (q == p) ≡ b → (not b || nat_lt 0 (pins past q)) ≡ true
       shows q true e = lt-ltb 0 (pins past q) (some-count (is_of q) (passes_out past) (subst (λ y. some (is_of y) (passes_out past) ≡ true) (sym (eqb-true q p e)) (out-of_page who p n (passes_out past) out)))
       shows q false e = refl
-
-  pub image_fits : (p end : ℕ) → end ≤ c.size → All (λ f. is_frame_of p f ≡ true → end ≤ length f.image) x.frames
-  image_fits p end fits = all_frames (λ f. is_frame_of p f ≡ true → end ≤ length f.image) (λ f. length f.image == c.size) (λ f e t. omega (arith, fits, eqb-true (length f.image) c.size e)) (λ q m. eq-eqb (length (held past q)) c.size (sized c past a.legal q m))
 
   -- the histories
   pub now_is : IsNow x.blocks x.now
@@ -197,3 +182,13 @@ module _ (c : Parameters) (past : Trail) (x : State) (a : Agrees c past x) where
 
   pub some_frame : (p : ℕ) → resident past p ≡ true → 0 < length x.frames
   some_frame p m = omega (arith, some-count (is_frame_of p) x.frames (resident_seen p ∙ m), count-le (is_frame_of p) x.frames)
+
+  -- each serial number is below the next one to be given
+  pub newest_pass : All (λ g. g.serial < x.given) x.out
+  newest_pass = subst (All (λ g. g.serial < x.given)) (sym a.observed.out_is) (subst (λ n. All (λ g. g.serial < n) (passes_out past)) (sym a.observed.passes_is) (all-below (passes past) (passes_out past) (numbered c past a.legal).passes_below))
+
+  pub newest_read : All (λ g. g.serial < x.begun) x.reads
+  newest_read = subst (All (λ g. g.serial < x.begun)) (sym a.observed.reads_is) (subst (λ n. All (λ g. g.serial < n) (reads_out past)) (sym a.observed.tickets_is) (all-below (tickets past) (reads_out past) (numbered c past a.legal).reads_below))
+
+  pub newest_write : All (λ g. g.serial < x.begun) x.writes
+  newest_write = subst (All (λ g. g.serial < x.begun)) (sym a.observed.writes_is) (subst (λ n. All (λ g. g.serial < n) (writes_out past)) (sym a.observed.tickets_is) (all-below (tickets past) (writes_out past) (numbered c past a.legal).writes_below))

@@ -1,5 +1,5 @@
 -- Each call keeps what the core holds in agreement with the trail.
-use Rattle.std.proofs.Common.{◌≡◌, ℕ, ◌+◌, ◌-◌, ◌*◌, ◌^◌, ◌<◌, ◌≤◌, max, true, List, [], ◌∷◌, ◌++◌, length, refl, sym, ◌∙◌, ap, arith}
+use Rattle.std.proofs.Common.{◌≡◌, ℕ, ◌+◌, ◌*◌, ◌^◌, ◌<◌, ◌≤◌, max, true, List, [], ◌∷◌, ◌++◌, length, refl, sym, ◌∙◌, ap, arith}
 use Rattle.std.proofs.lemmas.Bool.{lt-ltb, le-leb}
 use Rattle.bp_core.specs.declared.entries.Entry.{Entry}
 use Rattle.bp_core.specs.declared.entries.Call.{Call}
@@ -10,10 +10,9 @@ use Rattle.bp_core.specs.Parameters.{Parameters}
 use Rattle.bp_core.specs.Trail.{Trail}
 use Rattle.bp_core.specs.Clock.{clock}
 use Rattle.bp_core.specs.Passes.{passes_out, reads_out, writes_out}
-use Rattle.bp_core.specs.Room.{free}
 use Rattle.bp_core.specs.PageMap.{reply_of}
 use Rattle.bp_core.specs.Legal.{allowed, Legal}
-use Rattle.bp_core.specs.Agreement.{State, Observed, Agrees}
+use Rattle.bp_core.specs.Agreement.{Parts, Observed, Agrees}
 use Rattle.std.specs.Prelude.{reverse}
 use Rattle.bp_core.specs.CoreView.{CoreView, with_entry}
 use Rattle.bp_core.proofs.Counting.{reverse-push}
@@ -35,15 +34,9 @@ added c items after v who call reply is pushed legal = record {
   legal = legal;
 }
 
-module _ (c : Parameters) (past : Trail) (x : State) (a : Agrees c past x) where
-  pub has_free : (n : ℕ) → 0 < n → n ≤ free c past → length past + length (passes_out past) + length (writes_out past) + 2 * length (reads_out past) + n ≤ c.room
-  has_free n some enough = omega arith
-
-  pub free_is : c.room - (length past + length x.out + length x.writes + 2 * length x.reads) ≡ free c past
-  free_is = omega (arith, ap length a.observed.out_is, ap length a.observed.reads_is, ap length a.observed.writes_is)
-
-  pub agrees-tick : (who n : ℕ) → who < c.clients → clock past + n ≤ 2 ^ 62 → 1 ≤ free c past → Agrees c (by who (Tick n) Done ∷ past) (record x { now = x.now + n })
-  agrees-tick who n client fits enough = record {
+module _ (c : Parameters) (past : Trail) (x : Parts) (a : Agrees c past x) where
+  pub agrees-tick : (who n : ℕ) → who < c.clients → clock past + n ≤ 2 ^ 62 → Agrees c (by who (Tick n) Done ∷ past) (record x { now = x.now + n })
+  agrees-tick who n client fits = record {
     legal = record { here = record { client = lt-ltb who c.clients client; allowed = le-leb (clock past + n) (2 ^ 62) fits; reply = refl }; before = a.legal };
     observed = record {
       clock_is = ap (λ t. t + n) a.observed.clock_is ∙ sym (clock-tick past who n);
@@ -61,11 +54,10 @@ module _ (c : Parameters) (past : Trail) (x : State) (a : Agrees c past x) where
     correlated_is = a.correlated_is;
     retained_is = a.retained_is;
     in_time = omega (arith, clock-tick past who n);
-    in_room = omega arith;
   }
 
-  pub agrees-mark : (who lsn : ℕ) → who < c.clients → 1 ≤ free c past → Agrees c (by who (Mark lsn) Done ∷ past) (record x { mark = max lsn x.mark })
-  agrees-mark who lsn client enough = record {
+  pub agrees-mark : (who lsn : ℕ) → who < c.clients → Agrees c (by who (Mark lsn) Done ∷ past) (record x { mark = max lsn x.mark })
+  agrees-mark who lsn client = record {
     legal = record { here = record { client = lt-ltb who c.clients client; allowed = refl; reply = refl }; before = a.legal };
     observed = record {
       clock_is = a.observed.clock_is;
@@ -83,19 +75,17 @@ module _ (c : Parameters) (past : Trail) (x : State) (a : Agrees c past x) where
     correlated_is = a.correlated_is;
     retained_is = a.retained_is;
     in_time = a.in_time;
-    in_room = omega arith;
   }
 
   -- an entry that changes nothing but the trail
-  pub agrees-quiet : (who : ℕ) (call : Call) (reply : Reply) → IsQuiet call reply → who < c.clients → allowed c past who call ≡ true → reply ≡ reply_of c past call → 1 ≤ free c past → Agrees c (by who call reply ∷ past) x
-  agrees-quiet who call reply quiet client may is enough = record {
+  pub agrees-quiet : (who : ℕ) (call : Call) (reply : Reply) → IsQuiet call reply → who < c.clients → allowed c past who call ≡ true → reply ≡ reply_of c past call → Agrees c (by who call reply ∷ past) x
+  agrees-quiet who call reply quiet client may is = record {
     legal = record { here = record { client = lt-ltb who c.clients client; allowed = may; reply = is }; before = a.legal };
     observed = go call reply quiet;
     k_is = a.k_is;
     correlated_is = a.correlated_is;
     retained_is = a.retained_is;
     in_time = time call reply quiet;
-    in_room = room call reply quiet;
   }
     where
       go : (call : Call) (reply : Reply) → IsQuiet call reply → Observed c (by who call reply ∷ past) x
@@ -117,13 +107,3 @@ module _ (c : Parameters) (past : Trail) (x : State) (a : Agrees c past x) where
       time _ _ (flush_clean p) = a.in_time
       time _ _ (flush_log p lsn) = a.in_time
       time _ _ (page_read n p image) = a.in_time
-
-      room : (call : Call) (reply : Reply) → IsQuiet call reply → length (by who call reply ∷ past) + length (passes_out (by who call reply ∷ past)) + length (writes_out (by who call reply ∷ past)) + 2 * length (reads_out (by who call reply ∷ past)) ≤ c.room
-      room _ _ (fix_busy p) = omega arith
-      room _ _ (fix_none p) = omega arith
-      room _ _ (fix_log p lsn) = omega arith
-      room _ _ (flush_busy p) = omega arith
-      room _ _ (flush_absent p) = omega arith
-      room _ _ (flush_clean p) = omega arith
-      room _ _ (flush_log p lsn) = omega arith
-      room _ _ (page_read n p image) = omega arith

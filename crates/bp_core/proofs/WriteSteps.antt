@@ -1,5 +1,5 @@
 -- The begin and the end of a write-out keep what the core holds in agreement with the trail.
-use Rattle.std.proofs.Common.{◌≡◌, ℕ, suc, ◌+◌, ◌≤◌, nat_lt, Bool, true, false, not, if◌then◌else◌, ◌||◌, ◌&&◌, ◌==◌, [], ◌∷◌, length, filter, refl, sym, ◌∙◌, ap, subst, arith}
+use Rattle.std.proofs.Common.{◌≡◌, ℕ, suc, ◌+◌, nat_lt, Bool, true, false, not, if◌then◌else◌, ◌||◌, ◌&&◌, ◌==◌, [], ◌∷◌, length, filter, refl, sym, ◌∙◌, ap, subst, arith}
 use Rattle.std.proofs.lemmas.Bool.{and_parts, eqb-true}
 use Rattle.bp_core.specs.declared.entries.Call.{Call}
 use Rattle.bp_core.specs.declared.entries.Call.TheVariants.{Fix, WriteEnd, Flush}
@@ -8,21 +8,23 @@ use Rattle.bp_core.specs.Parameters.{Parameters}
 use Rattle.bp_core.specs.Lists.{some, since}
 use Rattle.bp_core.specs.Event.{grant, begins_of, writes}
 use Rattle.bp_core.specs.Trail.{Trail}
-use Rattle.bp_core.specs.Passes.{tickets, writes_out, pins}
+use Rattle.bp_core.specs.Passes.{tickets, writes_out, pins, is_of}
+use Rattle.bp_core.specs.Places.{writing}
 use Rattle.bp_core.specs.Saved.{unsaved, top}
 use Rattle.bp_core.specs.Images.{held}
-use Rattle.bp_core.specs.Room.{free}
 use Rattle.bp_core.specs.PageMap.{reply_of}
 use Rattle.bp_core.specs.Legal.{is_out, allowed, Legal}
-use Rattle.bp_core.specs.Frames.{saving, ended, changed_at}
-use Rattle.bp_core.specs.Agreement.{State, Agrees, frame_of, rewritten}
+use Rattle.bp_core.specs.Frames.{saving, saved, not_saved, changed_at}
+use Rattle.bp_core.specs.Agreement.{Parts, Agrees, frame_of, rewritten}
 use Rattle.bp_core.proofs.Serials.{numbered, rest}
-use Rattle.bp_core.proofs.Frames.{reads-rest}
+use Rattle.bp_core.proofs.Residents.{reads-rest}
 use Rattle.bp_core.proofs.Ranges.{owned, owner}
 use Rattle.bp_core.specs.Outcomes.{IsBegin}
 use Rattle.bp_core.specs.Outcomes.IsBegin.{by_fix, by_flush}
 use Rattle.bp_core.proofs.Steps.{by}
-use Rattle.bp_core.proofs.PassSteps.{eqb-sym, frames-changed}
+use Rattle.bp_core.proofs.PassSteps.{eqb-sym, frames-changed, others-stay}
+use Rattle.bp_core.proofs.Places.{one-gone}
+use Rattle.bp_core.proofs.Known.{airborne}
 use Rattle.bp_core.proofs.Flights.{flights, in_flight, in-flight-of, unsaved-ended-well, since-other, begin-writes}
 use Rattle.bp_core.proofs.Events.{event-of}
 use Rattle.bp_core.proofs.Ranges.{no_end}
@@ -48,10 +50,10 @@ written-is c t p (e ∷ past) l f = go (begins t e.reply) refl f (written-is c t
         let j = and_parts (not (begins_of p e.reply)) _ k in
         rw (not-true (begins_of p e.reply) j.0) (ap (λ b. writes p e || b) (ih j.1))
 
-module _ (c : Parameters) (past : Trail) (x : State) (a : Agrees c past x) (who : ℕ) where
-  pub agrees-begin-fix : (p v : ℕ) → nat_lt who c.clients ≡ true → allowed c past who (Fix p) ≡ true → WriteFirst (tickets past) v (held past v) ≡ reply_of c past (Fix p) → 2 ≤ free c past
+module _ (c : Parameters) (past : Trail) (x : Parts) (a : Agrees c past x) (who : ℕ) where
+  pub agrees-begin-fix : (p v : ℕ) → nat_lt who c.clients ≡ true → allowed c past who (Fix p) ≡ true → WriteFirst (tickets past) v (held past v) ≡ reply_of c past (Fix p)
       → Agrees c (by who (Fix p) (WriteFirst x.begun v (held past v)) ∷ past) (record x { begun = x.begun + 1; writes = grant who v x.begun ∷ x.writes; frames = changed_at v saving x.frames })
-  agrees-begin-fix p v client may is enough = record {
+  agrees-begin-fix p v client may is = record {
     legal = record { here = record { client = client; allowed = may; reply = ap (λ t. WriteFirst t v (held past v)) a.observed.tickets_is ∙ is }; before = a.legal };
     observed = record {
       clock_is = a.observed.clock_is;
@@ -69,7 +71,6 @@ module _ (c : Parameters) (past : Trail) (x : State) (a : Agrees c past x) (who 
     correlated_is = a.correlated_is;
     retained_is = a.retained_is;
     in_time = a.in_time;
-    in_room = omega arith;
   }
     where
       one-more : tickets (by who (Fix p) (WriteFirst x.begun v (held past v)) ∷ past) ≡ suc (tickets past)
@@ -85,15 +86,17 @@ module _ (c : Parameters) (past : Trail) (x : State) (a : Agrees c past x) (who 
       one q true e =
           let w : rewritten (by who (Fix p) (WriteFirst x.begun v (held past v)) ∷ past) q ≡ false = ap (λ b. not b && rewritten past q) (eqb-sym v q ∙ e) in
           let u = unsaved-same q in
-          λ i. record { page = q; pins = pins past q; is_unsaved = u i; is_rewritten = w i; top = top past q; image = held past q }
+          let o : writing (by who (Fix p) (WriteFirst x.begun v (held past v)) ∷ past) q ≡ true = ap (λ b. b || writing past q) (eqb-sym v q ∙ e) in
+          λ i. record { page = q; pins = pins past q; is_unsaved = u i; is_rewritten = w i; is_writing = o i; top = top past q; image = held past q }
       one q false e =
           let w : rewritten (by who (Fix p) (WriteFirst x.begun v (held past v)) ∷ past) q ≡ rewritten past q = ap (λ b. not b && rewritten past q) (eqb-sym v q ∙ e) in
           let u = unsaved-same q in
-          λ i. record { page = q; pins = pins past q; is_unsaved = u i; is_rewritten = w i; top = top past q; image = held past q }
+          let o : writing (by who (Fix p) (WriteFirst x.begun v (held past v)) ∷ past) q ≡ writing past q = ap (λ b. b || writing past q) (eqb-sym v q ∙ e) in
+          λ i. record { page = q; pins = pins past q; is_unsaved = u i; is_rewritten = w i; is_writing = o i; top = top past q; image = held past q }
 
-  pub agrees-begin-flush : (p v : ℕ) → nat_lt who c.clients ≡ true → allowed c past who (Flush p) ≡ true → WriteFirst (tickets past) v (held past v) ≡ reply_of c past (Flush p) → 2 ≤ free c past
+  pub agrees-begin-flush : (p v : ℕ) → nat_lt who c.clients ≡ true → allowed c past who (Flush p) ≡ true → WriteFirst (tickets past) v (held past v) ≡ reply_of c past (Flush p)
       → Agrees c (by who (Flush p) (WriteFirst x.begun v (held past v)) ∷ past) (record x { begun = x.begun + 1; writes = grant who v x.begun ∷ x.writes; frames = changed_at v saving x.frames })
-  agrees-begin-flush p v client may is enough = record {
+  agrees-begin-flush p v client may is = record {
     legal = record { here = record { client = client; allowed = may; reply = ap (λ t. WriteFirst t v (held past v)) a.observed.tickets_is ∙ is }; before = a.legal };
     observed = record {
       clock_is = a.observed.clock_is;
@@ -111,7 +114,6 @@ module _ (c : Parameters) (past : Trail) (x : State) (a : Agrees c past x) (who 
     correlated_is = a.correlated_is;
     retained_is = a.retained_is;
     in_time = a.in_time;
-    in_room = omega arith;
   }
     where
       one-more : tickets (by who (Flush p) (WriteFirst x.begun v (held past v)) ∷ past) ≡ suc (tickets past)
@@ -127,11 +129,13 @@ module _ (c : Parameters) (past : Trail) (x : State) (a : Agrees c past x) (who 
       one q true e =
           let w : rewritten (by who (Flush p) (WriteFirst x.begun v (held past v)) ∷ past) q ≡ false = ap (λ b. not b && rewritten past q) (eqb-sym v q ∙ e) in
           let u = unsaved-same q in
-          λ i. record { page = q; pins = pins past q; is_unsaved = u i; is_rewritten = w i; top = top past q; image = held past q }
+          let o : writing (by who (Flush p) (WriteFirst x.begun v (held past v)) ∷ past) q ≡ true = ap (λ b. b || writing past q) (eqb-sym v q ∙ e) in
+          λ i. record { page = q; pins = pins past q; is_unsaved = u i; is_rewritten = w i; is_writing = o i; top = top past q; image = held past q }
       one q false e =
           let w : rewritten (by who (Flush p) (WriteFirst x.begun v (held past v)) ∷ past) q ≡ rewritten past q = ap (λ b. not b && rewritten past q) (eqb-sym v q ∙ e) in
           let u = unsaved-same q in
-          λ i. record { page = q; pins = pins past q; is_unsaved = u i; is_rewritten = w i; top = top past q; image = held past q }
+          let o : writing (by who (Flush p) (WriteFirst x.begun v (held past v)) ∷ past) q ≡ writing past q = ap (λ b. b || writing past q) (eqb-sym v q ∙ e) in
+          λ i. record { page = q; pins = pins past q; is_unsaved = u i; is_rewritten = w i; is_writing = o i; top = top past q; image = held past q }
 
   module _ (t p : ℕ) (out : is_out (grant who p t) (writes_out past) ≡ true) where
     flies : in_flight t p past ≡ true
@@ -146,7 +150,14 @@ module _ (c : Parameters) (past : Trail) (x : State) (a : Agrees c past x) (who 
     clients : nat_lt who c.clients ≡ true
     clients = owner c who p t (writes_out past) (owned c past a.legal).writes out
 
-    pub agrees-write_failed : Agrees c (by who (WriteEnd t p false) WriteFailed ∷ past) (record x { writes = filter (λ g. not (g.serial == t)) x.writes })
+    -- no write-out of the page is under way any longer, and those of other pages go on
+    landed : (q : ℕ) → (q == p) ≡ true → some (is_of q) (rest t (writes_out past)) ≡ false
+    landed q e = subst (λ y. some (is_of y) (rest t (writes_out past)) ≡ false) (sym (eqb-true q p e)) (one-gone who p t (writes_out past) (airborne c past a.legal).once out)
+
+    still : (q : ℕ) → (q == p) ≡ false → some (is_of q) (rest t (writes_out past)) ≡ writing past q
+    still q e = others-stay who p t q (writes_out past) (numbered c past a.legal).writes_once out (eqb-sym p q ∙ e)
+
+    pub agrees-write_failed : Agrees c (by who (WriteEnd t p false) WriteFailed ∷ past) (record x { writes = filter (λ g. not (g.serial == t)) x.writes; frames = changed_at p not_saved x.frames })
     agrees-write_failed = record {
       legal = record { here = record { client = clients; allowed = out; reply = refl }; before = a.legal };
       observed = record {
@@ -157,7 +168,7 @@ module _ (c : Parameters) (past : Trail) (x : State) (a : Agrees c past x) (who 
         out_is = a.observed.out_is;
         reads_is = a.observed.reads_is;
         writes_is = ap (filter (λ g. not (g.serial == t))) a.observed.writes_is;
-        frames_is = a.observed.frames_is;
+        frames_is = frames-changed c past x a p not_saved (by who (WriteEnd t p false) WriteFailed ∷ past) (λ q. one q (q == p) refl);
         stamps_are = a.observed.stamps_are;
         held_is = a.observed.held_is;
       };
@@ -165,10 +176,13 @@ module _ (c : Parameters) (past : Trail) (x : State) (a : Agrees c past x) (who 
       correlated_is = a.correlated_is;
       retained_is = a.retained_is;
       in_time = a.in_time;
-      in_room = omega (arith, fewer, a.in_room);
     }
+      where
+        one : (q : ℕ) (b : Bool) → (q == p) ≡ b → frame_of (by who (WriteEnd t p false) WriteFailed ∷ past) q ≡ (if b then not_saved (frame_of past q) else frame_of past q)
+        one q true e = ap (λ o. record (frame_of past q) { is_writing = o }) (landed q e)
+        one q false e = ap (λ o. record (frame_of past q) { is_writing = o }) (still q e)
 
-    pub agrees-cleaned : written_since past t p ≡ false → Agrees c (by who (WriteEnd t p true) Cleaned ∷ past) (record x { writes = filter (λ g. not (g.serial == t)) x.writes; frames = changed_at p ended x.frames })
+    pub agrees-cleaned : written_since past t p ≡ false → Agrees c (by who (WriteEnd t p true) Cleaned ∷ past) (record x { writes = filter (λ g. not (g.serial == t)) x.writes; frames = changed_at p saved x.frames })
     agrees-cleaned since = record {
       legal = record { here = record { client = clients; allowed = out; reply = sym (ap (λ b. if b then StillDirty else Cleaned) since) }; before = a.legal };
       observed = record {
@@ -179,7 +193,7 @@ module _ (c : Parameters) (past : Trail) (x : State) (a : Agrees c past x) (who 
         out_is = a.observed.out_is;
         reads_is = a.observed.reads_is;
         writes_is = ap (filter (λ g. not (g.serial == t))) a.observed.writes_is;
-        frames_is = frames-changed c past x a p ended (by who (WriteEnd t p true) Cleaned ∷ past) (λ q. one q (q == p) refl);
+        frames_is = frames-changed c past x a p saved (by who (WriteEnd t p true) Cleaned ∷ past) (λ q. one q (q == p) refl);
         stamps_are = a.observed.stamps_are;
         held_is = a.observed.held_is;
       };
@@ -187,21 +201,22 @@ module _ (c : Parameters) (past : Trail) (x : State) (a : Agrees c past x) (who 
       correlated_is = a.correlated_is;
       retained_is = a.retained_is;
       in_time = a.in_time;
-      in_room = omega (arith, fewer, a.in_room);
     }
       where
         own : unsaved (by who (WriteEnd t p true) Cleaned ∷ past) p ≡ rewritten past p
         own = unsaved-ended-well c past who t p Cleaned a.legal out ∙ sym written-seen
 
-        one : (q : ℕ) (b : Bool) → (q == p) ≡ b → frame_of (by who (WriteEnd t p true) Cleaned ∷ past) q ≡ (if b then ended (frame_of past q) else frame_of past q)
+        one : (q : ℕ) (b : Bool) → (q == p) ≡ b → frame_of (by who (WriteEnd t p true) Cleaned ∷ past) q ≡ (if b then saved (frame_of past q) else frame_of past q)
         one q true e =
             let u : unsaved (by who (WriteEnd t p true) Cleaned ∷ past) q ≡ rewritten past q = subst (λ y. unsaved (by who (WriteEnd t p true) Cleaned ∷ past) y ≡ rewritten past y) (sym (eqb-true q p e)) own in
-            λ i. record { page = q; pins = pins past q; is_unsaved = u i; is_rewritten = rewritten past q; top = top past q; image = held past q }
+            let o = landed q e in
+            λ i. record { page = q; pins = pins past q; is_unsaved = u i; is_rewritten = rewritten past q; is_writing = o i; top = top past q; image = held past q }
         one q false e =
             let u : unsaved (by who (WriteEnd t p true) Cleaned ∷ past) q ≡ unsaved past q = since-other c t p q past (eqb-sym p q ∙ e) past who Cleaned flies in
-            λ i. record { page = q; pins = pins past q; is_unsaved = u i; is_rewritten = rewritten past q; top = top past q; image = held past q }
+            let o = still q e in
+            λ i. record { page = q; pins = pins past q; is_unsaved = u i; is_rewritten = rewritten past q; is_writing = o i; top = top past q; image = held past q }
 
-    pub agrees-still_dirty : written_since past t p ≡ true → Agrees c (by who (WriteEnd t p true) StillDirty ∷ past) (record x { writes = filter (λ g. not (g.serial == t)) x.writes; frames = changed_at p ended x.frames })
+    pub agrees-still_dirty : written_since past t p ≡ true → Agrees c (by who (WriteEnd t p true) StillDirty ∷ past) (record x { writes = filter (λ g. not (g.serial == t)) x.writes; frames = changed_at p saved x.frames })
     agrees-still_dirty since = record {
       legal = record { here = record { client = clients; allowed = out; reply = sym (ap (λ b. if b then StillDirty else Cleaned) since) }; before = a.legal };
       observed = record {
@@ -212,7 +227,7 @@ module _ (c : Parameters) (past : Trail) (x : State) (a : Agrees c past x) (who 
         out_is = a.observed.out_is;
         reads_is = a.observed.reads_is;
         writes_is = ap (filter (λ g. not (g.serial == t))) a.observed.writes_is;
-        frames_is = frames-changed c past x a p ended (by who (WriteEnd t p true) StillDirty ∷ past) (λ q. one q (q == p) refl);
+        frames_is = frames-changed c past x a p saved (by who (WriteEnd t p true) StillDirty ∷ past) (λ q. one q (q == p) refl);
         stamps_are = a.observed.stamps_are;
         held_is = a.observed.held_is;
       };
@@ -220,22 +235,23 @@ module _ (c : Parameters) (past : Trail) (x : State) (a : Agrees c past x) (who 
       correlated_is = a.correlated_is;
       retained_is = a.retained_is;
       in_time = a.in_time;
-      in_room = omega (arith, fewer, a.in_room);
     }
       where
         own : unsaved (by who (WriteEnd t p true) StillDirty ∷ past) p ≡ rewritten past p
         own = unsaved-ended-well c past who t p StillDirty a.legal out ∙ sym written-seen
 
-        one : (q : ℕ) (b : Bool) → (q == p) ≡ b → frame_of (by who (WriteEnd t p true) StillDirty ∷ past) q ≡ (if b then ended (frame_of past q) else frame_of past q)
+        one : (q : ℕ) (b : Bool) → (q == p) ≡ b → frame_of (by who (WriteEnd t p true) StillDirty ∷ past) q ≡ (if b then saved (frame_of past q) else frame_of past q)
         one q true e =
             let u : unsaved (by who (WriteEnd t p true) StillDirty ∷ past) q ≡ rewritten past q = subst (λ y. unsaved (by who (WriteEnd t p true) StillDirty ∷ past) y ≡ rewritten past y) (sym (eqb-true q p e)) own in
-            λ i. record { page = q; pins = pins past q; is_unsaved = u i; is_rewritten = rewritten past q; top = top past q; image = held past q }
+            let o = landed q e in
+            λ i. record { page = q; pins = pins past q; is_unsaved = u i; is_rewritten = rewritten past q; is_writing = o i; top = top past q; image = held past q }
         one q false e =
             let u : unsaved (by who (WriteEnd t p true) StillDirty ∷ past) q ≡ unsaved past q = since-other c t p q past (eqb-sym p q ∙ e) past who StillDirty flies in
-            λ i. record { page = q; pins = pins past q; is_unsaved = u i; is_rewritten = rewritten past q; top = top past q; image = held past q }
+            let o = still q e in
+            λ i. record { page = q; pins = pins past q; is_unsaved = u i; is_rewritten = rewritten past q; is_writing = o i; top = top past q; image = held past q }
 
-module _ (c : Parameters) (past : Trail) (x : State) (a : Agrees c past x) (who v : ℕ) (client : nat_lt who c.clients ≡ true) where
-  pub agrees-begin : (call : Call) → IsBegin call → allowed c past who call ≡ true → WriteFirst (tickets past) v (held past v) ≡ reply_of c past call → 2 ≤ free c past
+module _ (c : Parameters) (past : Trail) (x : Parts) (a : Agrees c past x) (who v : ℕ) (client : nat_lt who c.clients ≡ true) where
+  pub agrees-begin : (call : Call) → IsBegin call → allowed c past who call ≡ true → WriteFirst (tickets past) v (held past v) ≡ reply_of c past call
       → Agrees c (by who call (WriteFirst x.begun v (held past v)) ∷ past) (record x { begun = x.begun + 1; writes = grant who v x.begun ∷ x.writes; frames = changed_at v saving x.frames })
-  agrees-begin _ (by_fix p) may is enough = agrees-begin-fix c past x a who p v client may is enough
-  agrees-begin _ (by_flush p) may is enough = agrees-begin-flush c past x a who p v client may is enough
+  agrees-begin _ (by_fix p) may is = agrees-begin-fix c past x a who p v client may is
+  agrees-begin _ (by_flush p) may is = agrees-begin-flush c past x a who p v client may is

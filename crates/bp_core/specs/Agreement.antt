@@ -1,19 +1,22 @@
 -- What a core keeps, and that it agrees with the trail.
-use Rattle.std.specs.Prelude.{◌≡◌, ℕ, ◌+◌, ◌*◌, ◌^◌, ◌≤◌, Bool, ◌||◌, All, List, length}
+use Rattle.std.specs.Prelude.{◌≡◌, ℕ, ◌+◌, ◌*◌, ◌^◌, ◌≤◌, Bool, false, ◌||◌, List, [], length}
 use Rattle.bp_lruk.specs.Histories.{Blocks, HasStampsOf, is_held}
 use Rattle.bp_core.specs.declared.config.Config.{Config}
 use Rattle.bp_core.specs.declared.frame.Frame.{Frame}
+use Rattle.bp_core.specs.declared.state.State.{State}
 use Rattle.bp_core.specs.Parameters.{Parameters}
 use Rattle.bp_core.specs.Lists.{count, since}
 use Rattle.bp_core.specs.Event.{Grant, writes, begins_of}
 use Rattle.bp_core.specs.Trail.{Trail}
 use Rattle.bp_core.specs.Clock.{clock, durable}
 use Rattle.bp_core.specs.Passes.{passes, tickets, passes_out, reads_out, writes_out, pins}
-use Rattle.bp_core.specs.Places.{residents, resident, loading}
+use Rattle.bp_core.specs.Places.{residents, resident, loading, writing}
 use Rattle.bp_core.specs.Saved.{unsaved, top}
 use Rattle.bp_core.specs.Images.{held}
 use Rattle.bp_core.specs.References.{references}
 use Rattle.bp_core.specs.Legal.{Legal}
+use Rattle.bp_core.specs.CoreView.{CoreView}
+use Rattle.bp_core.specs.Lodging.{Kept}
 
 abbrev pub parameters_of : Config → Parameters
 parameters_of c = record {
@@ -33,10 +36,10 @@ rewritten past p = since (writes p) (λ e. begins_of p e.reply) past
 
 -- what the frame of a page holds
 abbrev pub frame_of : Trail → ℕ → Frame
-frame_of past p = record { page = p; pins = pins past p; is_unsaved = unsaved past p; is_rewritten = rewritten past p; top = top past p; image = held past p }
+frame_of past p = record { page = p; pins = pins past p; is_unsaved = unsaved past p; is_rewritten = rewritten past p; is_writing = writing past p; top = top past p; image = held past p }
 
--- what a core keeps beside its trail; passes and tickets newest first
-pub record State : Type 0 where
+-- what a core keeps beside its trail, but for the room of its lists; passes and tickets newest first
+pub record Parts : Type 0 where
   pub now : ℕ
   pub mark : ℕ
   pub given : ℕ
@@ -47,8 +50,21 @@ pub record State : Type 0 where
   pub frames : List Frame
   pub blocks : Blocks
 
+abbrev pub parts_of : State → Parts
+parts_of x = record {
+  now = x.clock;
+  mark = x.durable;
+  given = x.passes_given;
+  begun = x.tickets_given;
+  out = x.passes.out;
+  reads = x.reads.out;
+  writes = x.writes.out;
+  frames = x.frames.frames;
+  blocks = x.histories;
+}
+
 -- each part is what the trail says
-abbrev pub Observed : Parameters → Trail → State → Type 0
+abbrev pub Observed : Parameters → Trail → Parts → Type 0
 Observed c past x = record {
   clock_is : x.now ≡ clock past;
   durable_is : x.mark ≡ durable past;
@@ -63,23 +79,60 @@ Observed c past x = record {
   held_is : (p : ℕ) → is_held x.blocks p ≡ (resident past p || loading past p);
 }
 
-pub record Agrees (c : Parameters) (past : Trail) (x : State) : Type 0 where
+pub record Agrees (c : Parameters) (past : Trail) (x : Parts) : Type 0 where
   pub legal : Legal c past
   pub observed : Observed c past x
   pub k_is : x.blocks.k ≡ c.k
   pub correlated_is : x.blocks.correlated ≡ c.correlated
   pub retained_is : x.blocks.retained ≡ c.retained
   pub in_time : clock past ≤ 2 ^ 62
-  pub in_room : length past + length (passes_out past) + length (writes_out past) + 2 * length (reads_out past) ≤ c.room
 
--- the room that later calls rely on: a blank image for each read that is out, and reserved lists
-pub record HasRoom (c : Parameters) (out reads : ℕ) (images : List (List ℕ)) (trail_capacity out_capacity reads_capacity frames_capacity blanks_capacity : ℕ) : Type 0 where
-  pub few_frames : c.frames ≤ 65536
+-- the room that later calls rely on, list by list: for the entries that are owed, of which so many are kept already,
+pub record HasTrailRoom (c : Parameters) (kept : ℕ) (past : Trail) (capacity : ℕ) : Type 0 where
   pub small : c.room ≤ 16777216
-  pub blanks : length images ≡ reads
-  pub blank_sizes : All (λ b. length b ≡ c.size) images
-  pub for_trail : c.room ≤ trail_capacity
-  pub for_out : out + reads ≤ out_capacity
-  pub for_reads : c.frames ≤ reads_capacity
-  pub for_frames : c.frames ≤ frames_capacity
-  pub for_blanks : c.frames ≤ blanks_capacity
+  pub reserved : c.room ≤ capacity
+  pub owed : kept + length (passes_out past) + length (writes_out past) + 2 * length (reads_out past) ≤ c.room
+  pub passes_fit : passes past ≤ 2 ^ 62 + kept
+  pub tickets_fit : tickets past ≤ 2 ^ 62 + kept
+
+-- for a pass at the end of each read,
+pub record HasPassRoom (out reads capacity : ℕ) : Type 0 where
+  pub reserved : out + reads ≤ capacity
+
+-- for as many reads as frames,
+pub record HasReadRoom (c : Parameters) (capacity : ℕ) : Type 0 where
+  pub few : c.frames ≤ 65536
+  pub reserved : c.frames ≤ capacity
+
+-- and a frame for each read
+pub record HasFrameRoom (c : Parameters) (reads spare size limit : ℕ) : Type 0 where
+  pub reserved : reads ≤ spare
+  pub size_is : size ≡ c.size
+  pub limit_is : limit ≡ c.frames
+
+pub record IsCore (c : Parameters) (trail : Kept) (x : State) : Type 0 where
+  pub agrees : Agrees c trail.past (parts_of x)
+  pub trail_room : HasTrailRoom c (length trail.past) trail.past trail.capacity
+  pub pass_room : HasPassRoom (length x.passes.out) (length x.reads.out) x.passes.capacity
+  pub read_room : HasReadRoom c x.reads.capacity
+  pub frame_room : HasFrameRoom c (length x.reads.out) x.frames.spare x.frames.size x.frames.limit
+
+abbrev pub view_of : Parameters → Kept → CoreView
+view_of c trail = record { parameters = c; past = trail.past }
+
+-- what no entries come to
+pub record IsFirst (c : Parameters) (x : State) : Type 0 where
+  pub clock : x.clock ≡ 1
+  pub durable : x.durable ≡ 0
+  pub passes_given : x.passes_given ≡ 0
+  pub tickets_given : x.tickets_given ≡ 0
+  pub passes : x.passes.out ≡ []
+  pub reads : x.reads.out ≡ []
+  pub reads_reserved : c.frames ≤ x.reads.capacity
+  pub writes : x.writes.out ≡ []
+  pub frames : x.frames ≡ record { frames = []; spare = 0; size = c.size; limit = c.frames }
+  pub k : x.histories.k ≡ c.k
+  pub correlated : x.histories.correlated ≡ c.correlated
+  pub retained : x.histories.retained ≡ c.retained
+  pub held : (page : ℕ) → is_held x.histories page ≡ false
+  pub stamps : (page : ℕ) → HasStampsOf x.histories page []

@@ -21,4 +21,7 @@ pub mod Script
 pub mod CoreView
 pub mod Outcomes
 pub mod Frames
+pub mod Rising
+pub mod Lodging
+pub mod Tables
 pub mod Agreement

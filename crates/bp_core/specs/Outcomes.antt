@@ -1,5 +1,5 @@
 -- What each call answers and leaves.
-use Rattle.std.specs.Prelude.{◌≡◌, ℕ, ◌+◌, ◌^◌, ◌<◌, ◌≤◌, Bool, true, false, List, [], ◌∷◌, Some, None, Result, Ok, Err}
+use Rattle.std.specs.Prelude.{◌≡◌, ℕ, ◌+◌, ◌^◌, ◌<◌, ◌≤◌, Bool, true, false, List, [], Some, None, Result, Ok, Err}
 use Rattle.bp_page.specs.declared.refusals.Refusal.{Refusal}
 use Rattle.bp_page.specs.declared.refusals.Refusal.TheVariants as refusal
 use Rattle.bp_page.specs.declared.refusals.PortFault.{PortFault}
@@ -89,6 +89,10 @@ BeginOutcome old client call page (Ok ticket) new =
     (ticket.client ≡ client) × (ticket.page ≡ page) × EachPast old (λ past. ticket.lsn ≡ top past page) × Adds old client call (WriteFirst ticket.serial ticket.page ticket.image) new
 BeginOutcome old client call page (Err refusal.OutOfMemory) new = new ≡ old
 BeginOutcome old client call page (Err _) new = ⊥
+
+abbrev pub EndedOutcome : CoreView → ℕ → ℕ → ℕ → Ended → CoreView → Type 0
+EndedOutcome old client page serial ended.Cleaned new = Adds old client (WriteEnd serial page true) Cleaned new
+EndedOutcome old client page serial ended.StillDirty new = Adds old client (WriteEnd serial page true) StillDirty new
 
 -- what a core may be made with
 pub record IsFit (c : Parameters) : Type 0 where

@@ -7,10 +7,13 @@
 pub mod config;
 pub mod entries;
 mod frame;
-mod grants;
+mod frame_table;
+mod grant_list;
 pub mod passes;
 pub mod pool;
 pub mod scripts;
+mod state;
+mod trail;
 
 pub use entries::{Call, Entry, Reply};
 pub use passes::{EndRefusal, Ended, Fix, Flush, Pass, PassNote, ReadTicket, WriteTicket};

@@ -1,21 +1,6 @@
-use Rattle.std.proofs.Common.{◌<◌, ◌≤◌, ap, sym, ◌∙◌, arith}
-use Rattle.std.specs.Prelude.{reverse}
-use Rattle.bp_core.specs.Room.{free}
-use Rattle.bp_core.specs.PageMap.{reply_of}
-use Rattle.bp_core.specs.Legal.{allowed}
-use Rattle.bp_core.specs.Outcomes.{room_left}
-use Rattle.bp_core.specs.Agreement.{parameters_of}
-use Rattle.bp_core.proofs.Counting.{reverse-push}
-use Rattle.bp_core.proofs.Steps.{agrees-quiet}
+use Rattle.bp_core.proofs.Keeps.{keeps-quiet}
 use Rattle.bp_core.proofs.pool.Core.answer.Goals as goal
 
 pub invariant_of-self : goal.invariant_of-self
 invariant_of-self c =
-    let a = c.self.invariant.0 in
-    let r = c.self.invariant.1 in
-    let i = c.self.inside in
-    let enough : 1 ≤ free (parameters_of i.config) (reverse i.trail.items) = omega (arith, c.requires.room, ap room_left c.self.view_is) in
-    let client_in : c.args.client < i.config.clients = omega (arith, c.requires.client_in, ap (λ v. v.parameters.clients) c.self.view_is) in (
-      rw (c.append.ensures.items, reverse-push) (agrees-quiet _ _ _ a c.args.client c.args.call c.args.reply c.requires.quiet client_in (ap (λ v. allowed v.parameters v.past c.args.client c.args.call) c.self.view_is ∙ c.requires.allowed) (c.requires.reply ∙ ap (λ v. reply_of v.parameters v.past c.args.call) (sym c.self.view_is)) enough),
-      record { few_frames = r.few_frames; small = r.small; blanks = r.blanks; blank_sizes = r.blank_sizes; for_trail = omega (arith, r.for_trail, c.append.ensures.capacity); for_out = r.for_out; for_reads = r.for_reads; for_frames = r.for_frames; for_blanks = r.for_blanks },
-    )
+    rw c.record.ensures (keeps-quiet _ _ _ c.self.invariant _ c.self.view_is c.args.client c.args.call c.args.reply c.requires.quiet c.requires.client_in c.requires.allowed c.requires.reply c.requires.room)

@@ -1,29 +1,5 @@
-use Rattle.bp_core.proofs.Victim.{victim-is, candidate-resident}
-use Rattle.bp_core.specs.Outcomes.IsBegin.{by_fix}
-use Rattle.std.proofs.Common.{◌≡◌, sym, ◌∙◌, Some}
-use Rattle.std.proofs.lemmas.Bool.{true≢false}
-use Rattle.bp_core.specs.Victim.{victim}
-use Rattle.bp_core.specs.Outcomes.IsQuiet.{fix_busy, fix_none, fix_log}
+use Rattle.bp_core.specs.Outcomes.IsQuiet.{fix_busy}
 use Rattle.bp_core.proofs.pool.Core.fix.Goals as goal
 
-pub unreachable-requires : goal.unreachable-requires
-unreachable-requires c =
-    let v = c.args.self.now in
-    let chosen : victim v.parameters v.past ≡ Some c.in-Some.victim = sym c.victim.ensures ∙ c.in-Some.is in
-    true≢false (sym (candidate-resident v.parameters v.past c.in-Some.victim (victim-is v.parameters v.past c.in-Some.victim chosen).eligible) ∙ c.in_default-frame.ensures.away)
-
 pub answer-requires-clause-quiet : goal.answer-requires-clause-quiet
-answer-requires-clause-quiet c =
-    fix_busy c.args.page
-
-pub answer-requires-in_default-clause-quiet : goal.answer-requires-in_default-clause-quiet
-answer-requires-in_default-clause-quiet c =
-    fix_none c.args.page
-
-pub answer-requires-then-lt-clause-quiet : goal.answer-requires-then-lt-clause-quiet
-answer-requires-then-lt-clause-quiet c =
-    fix_log c.args.page c.in-Some-frame.frame.now.top
-
-pub begin-requires-clause-begins : goal.begin-requires-clause-begins
-begin-requires-clause-begins c =
-    by_fix c.args.page
+answer-requires-clause-quiet c = fix_busy c.args.page

@@ -1,30 +1,23 @@
-use Rattle.std.proofs.Common.{◌≡◌, ap, sym, ◌∙◌, Some}
-use Rattle.std.specs.List.{position}
+use Rattle.std.proofs.Common.{Option, Some, None, ap, ◌∙◌, sym}
+use Rattle.std.specs.Prelude.{IfNone}
+use Rattle.std.proofs.lemmas.Option.{IfSome_then}
 use Rattle.bp_core.specs.Places.{resident}
-use Rattle.bp_core.specs.Frames.{is_frame_of}
 use Rattle.bp_core.specs.Agreement.{frame_of}
-use Rattle.bp_core.proofs.Seen.{frame_at, here_seen, away_seen}
+use Rattle.bp_core.proofs.Seen.{frame_in, here_in, resident_seen}
 use Rattle.bp_core.proofs.pool.Core.frame.Goals as goal
-
-pub returns-in_default-clause-away : goal.returns-in_default-clause-away
-returns-in_default-clause-away c =
-    let a = c.self.invariant.0 in
-    let r = c.self.invariant.1 in
-    let i = c.self.inside in
-    sym (ap (λ v. resident v.past c.args.page) c.self.view_is) ∙ away_seen _ _ _ a c.args.page (ap (position (is_frame_of c.args.page)) (sym c.deref.ensures.value) ∙ sym c.place_of.ensures ∙ c.in_default.is)
 
 pub returns-clause-found : goal.returns-clause-found
 returns-clause-found c =
-    let a = c.self.invariant.0 in
-    let r = c.self.invariant.1 in
-    let i = c.self.inside in
-    let at : position (is_frame_of c.args.page) i.frames.items ≡ Some c.in-Some.place = ap (position (is_frame_of c.args.page)) (sym c.deref.ensures.value) ∙ sym c.place_of.ensures ∙ c.in-Some.is in
-    frame_at _ _ _ a c.args.page c.in-Some.place c.index.result.now at c.index.ensures ∙ ap (λ v. frame_of v.past c.args.page) c.self.view_is
+    IfSome_then c.find.result c.find.ensures.found (λ f at. frame_in _ _ _ c.self.invariant.agrees c.args.page f.now at.0 at.1 ∙ ap (λ v. frame_of v.past c.args.page) c.self.view_is)
 
 pub returns-clause-here : goal.returns-clause-here
 returns-clause-here c =
-    let a = c.self.invariant.0 in
-    let r = c.self.invariant.1 in
-    let i = c.self.inside in
-    let at : position (is_frame_of c.args.page) i.frames.items ≡ Some c.in-Some.place = ap (position (is_frame_of c.args.page)) (sym c.deref.ensures.value) ∙ sym c.place_of.ensures ∙ c.in-Some.is in
-    sym (ap (λ v. resident v.past c.args.page) c.self.view_is) ∙ here_seen _ _ _ a c.args.page c.in-Some.place c.index.result.now at
+    IfSome_then c.find.result c.find.ensures.found (λ f at. ap (λ v. resident v.past c.args.page) (sym c.self.view_is) ∙ here_in _ _ _ c.self.invariant.agrees c.args.page f.now at.0 at.1)
+
+IfNone_then : {X A B : Type 0} (o : Option X) → IfNone o A → (A → B) → IfNone o B
+IfNone_then None a f = f a
+IfNone_then (Some x) a f = a
+
+pub returns-clause-away : goal.returns-clause-away
+returns-clause-away c =
+    IfNone_then c.find.result c.find.ensures.none (λ none. ap (λ v. resident v.past c.args.page) (sym c.self.view_is) ∙ sym (resident_seen _ _ _ c.self.invariant.agrees c.args.page) ∙ none)

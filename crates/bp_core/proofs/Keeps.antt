@@ -1,0 +1,96 @@
+-- A core stays one with each entry: here those that touch no page. What a caller sees of each entry.
+use Rattle.std.proofs.Common.{◌≡◌, ℕ, suc, ◌+◌, ◌*◌, ◌^◌, ◌<◌, ◌≤◌, max, true, false, [], length, sym, ◌∙◌, ap, subst, arith}
+use Rattle.std.proofs.lemmas.Bool.{lt-ltb}
+use Rattle.bp_lruk.specs.Histories.{Blocks, is_held, last_of, HasStampsOf, SameAt, SameSettings, forgets, count_below}
+use Rattle.bp_core.specs.declared.entries.Call.{Call}
+use Rattle.bp_core.specs.declared.entries.Call.TheVariants.{Tick, Mark, Purge}
+use Rattle.bp_core.specs.declared.entries.Reply.{Reply}
+use Rattle.bp_core.specs.declared.entries.Reply.TheVariants.{Done, Forgot}
+use Rattle.bp_core.specs.declared.state.State.{State}
+use Rattle.bp_core.specs.Parameters.{Parameters}
+use Rattle.bp_core.specs.Trail.{Trail}
+use Rattle.bp_core.specs.Passes.{passes, tickets, passes_out, reads_out, writes_out}
+use Rattle.bp_core.specs.Room.{free_keeping}
+use Rattle.bp_core.specs.PageMap.{reply_of}
+use Rattle.bp_core.specs.Legal.{allowed}
+use Rattle.bp_core.specs.CoreView.{CoreView, EachPast, with_entry, HasRoomFor}
+use Rattle.bp_core.specs.Lodging.{Kept, with_next}
+use Rattle.bp_core.specs.Outcomes.{IsQuiet, Adds}
+use Rattle.bp_core.specs.Outcomes.IsQuiet.{fix_busy, fix_none, fix_log, flush_busy, flush_absent, flush_clean, flush_log, page_read}
+use Rattle.bp_core.specs.Agreement.{parts_of, HasTrailRoom, IsCore, view_of}
+use Rattle.bp_core.proofs.Steps.{agrees-quiet, agrees-tick, agrees-mark}
+use Rattle.bp_core.proofs.PurgeSteps.{agrees-purge, count-same, nothing-beyond}
+
+-- one entry more, of a trail with so many passes and tickets more at most
+pub longer : (c : Parameters) (kept : ℕ) (past : Trail) (capacity : ℕ) → HasTrailRoom c kept past capacity → (later : Trail) → suc kept + length (passes_out later) + length (writes_out later) + 2 * length (reads_out later) ≤ c.room → passes later ≤ suc (passes past) → tickets later ≤ suc (tickets past) → HasTrailRoom c (suc kept) later capacity
+longer c kept past capacity r later owed passes_fit tickets_fit = record {
+  small = r.small;
+  reserved = r.reserved;
+  owed = owed;
+  passes_fit = omega (arith, r.passes_fit, passes_fit);
+  tickets_fit = omega (arith, r.tickets_fit, tickets_fit);
+}
+
+module _ (c : Parameters) (trail : Kept) (x : State) (core : IsCore c trail x) (v : CoreView) (is : view_of c trail ≡ v) where
+  -- what is said of each past that a caller's view may have holds of the entries kept, and so for the parameters and the room
+  pub at-past : (P : Parameters → Trail → Type 0) → EachPast v (P v.parameters) → P c trail.past
+  at-past P each = subst (λ u. EachPast u (P u.parameters)) (sym is) each
+
+  pub at-parameters : (P : Parameters → Type 0) → P v.parameters → P c
+  at-parameters P holds = subst (λ u. P u.parameters) (sym is) holds
+
+  pub at-room : (n : ℕ) → HasRoomFor n v → n ≤ free_keeping c (length trail.past) trail.past
+  at-room n room = subst (HasRoomFor n) (sym is) room
+
+  -- a caller sees the entry that was added
+  pub adds : (who : ℕ) (call : Call) (reply : Reply) (later : Kept) (state : State) → later ≡ with_next trail who call reply → IsCore c later state → Adds v who call reply (view_of c later)
+  adds who call reply later state added next = record { is = ap (view_of c) added ∙ ap (λ u. with_entry u who call reply) is; legal = next.agrees.legal }
+
+  pub keeps-quiet : (who : ℕ) (call : Call) (reply : Reply) → IsQuiet call reply → who < v.parameters.clients → EachPast v (λ past. allowed v.parameters past who call ≡ true) → EachPast v (λ past. reply ≡ reply_of v.parameters past call) → HasRoomFor 1 v → IsCore c (with_next trail who call reply) x
+  keeps-quiet who call reply quiet client may lawful room = record {
+    agrees = agrees-quiet c trail.past (parts_of x) core.agrees who call reply quiet (at-parameters (λ q. who < q.clients) client) (at-past (λ q past. allowed q past who call ≡ true) may) (at-past (λ q past. reply ≡ reply_of q past call) lawful);
+    trail_room = roomy call reply quiet;
+    pass_room = core.pass_room;
+    read_room = core.read_room;
+    frame_room = core.frame_room;
+  }
+    where
+      roomy : (call : Call) (reply : Reply) → IsQuiet call reply → HasTrailRoom c (suc (length trail.past)) (with_next trail who call reply).past trail.capacity
+      roomy _ _ (fix_busy p) = longer c _ _ _ core.trail_room _ (omega (arith, at-room 1 room)) (omega arith) (omega arith)
+      roomy _ _ (fix_none p) = longer c _ _ _ core.trail_room _ (omega (arith, at-room 1 room)) (omega arith) (omega arith)
+      roomy _ _ (fix_log p lsn) = longer c _ _ _ core.trail_room _ (omega (arith, at-room 1 room)) (omega arith) (omega arith)
+      roomy _ _ (flush_busy p) = longer c _ _ _ core.trail_room _ (omega (arith, at-room 1 room)) (omega arith) (omega arith)
+      roomy _ _ (flush_absent p) = longer c _ _ _ core.trail_room _ (omega (arith, at-room 1 room)) (omega arith) (omega arith)
+      roomy _ _ (flush_clean p) = longer c _ _ _ core.trail_room _ (omega (arith, at-room 1 room)) (omega arith) (omega arith)
+      roomy _ _ (flush_log p lsn) = longer c _ _ _ core.trail_room _ (omega (arith, at-room 1 room)) (omega arith) (omega arith)
+      roomy _ _ (page_read n p image) = longer c _ _ _ core.trail_room _ (omega (arith, at-room 1 room)) (omega arith) (omega arith)
+
+  -- ---- the clock, the mark and the histories
+  pub keeps-tick : (who n : ℕ) → who < v.parameters.clients → x.clock + n ≤ 2 ^ 62 → HasRoomFor 1 v → IsCore c (with_next trail who (Tick n) Done) (record x { clock = x.clock + n })
+  keeps-tick who n client fits room = record {
+    agrees = agrees-tick c trail.past (parts_of x) core.agrees who n (at-parameters (λ q. who < q.clients) client) (omega (arith, core.agrees.observed.clock_is, fits));
+    trail_room = longer c _ _ _ core.trail_room _ (omega (arith, at-room 1 room)) (omega arith) (omega arith);
+    pass_room = core.pass_room;
+    read_room = core.read_room;
+    frame_room = core.frame_room;
+  }
+
+  pub keeps-mark : (who lsn : ℕ) → who < v.parameters.clients → HasRoomFor 1 v → IsCore c (with_next trail who (Mark lsn) Done) (record x { durable = max lsn x.durable })
+  keeps-mark who lsn client room = record {
+    agrees = agrees-mark c trail.past (parts_of x) core.agrees who lsn (at-parameters (λ q. who < q.clients) client);
+    trail_room = longer c _ _ _ core.trail_room _ (omega (arith, at-room 1 room)) (omega arith) (omega arith);
+    pass_room = core.pass_room;
+    read_room = core.read_room;
+    frame_room = core.frame_room;
+  }
+
+  pub keeps-purge : (who n : ℕ) (h : Blocks) → who < v.parameters.clients → HasRoomFor 1 v → ((bound : ℕ) → ((page : ℕ) → bound ≤ page → last_of x.histories page ≡ 0) → n ≡ count_below (forgets x.histories x.clock) bound) → SameSettings x.histories h
+      → ((p : ℕ) → forgets x.histories x.clock p ≡ true → HasStampsOf h p []) → ((p : ℕ) → forgets x.histories x.clock p ≡ false → SameAt x.histories h p) → ((p : ℕ) → is_held h p ≡ is_held x.histories p)
+      → IsCore c (with_next trail who Purge (Forgot n)) (record x { histories = h })
+  keeps-purge who n h client room counted settings gone kept held = record {
+    agrees = agrees-purge c trail.past (parts_of x) core.agrees who n h (lt-ltb who c.clients (at-parameters (λ q. who < q.clients) client)) (counted c.pages (nothing-beyond c trail.past (parts_of x) core.agrees) ∙ count-same c trail.past (parts_of x) core.agrees) settings gone kept held;
+    trail_room = longer c _ _ _ core.trail_room _ (omega (arith, at-room 1 room)) (omega arith) (omega arith);
+    pass_room = core.pass_room;
+    read_room = core.read_room;
+    frame_room = core.frame_room;
+  }

@@ -1,0 +1,155 @@
+-- A core stays one as a read of a page begins and ends.
+use Rattle.std.proofs.Common.{◌≡◌, ◌≢◌, ℕ, ◌+◌, ◌<◌, ◌≤◌, true, false, List, ◌∷◌, length, filter, Some, None, sym, ◌∙◌, ap, subst, arith}
+use Rattle.std.specs.Prelude.{not, ◌==◌, ◌||◌}
+use Rattle.std.specs.List.Sorted.{IsPermutation}
+use Rattle.std.proofs.lemmas.Bool.{lt-ltb, ltb-true, or_left, or_right, true≢false}
+use Rattle.bp_lruk.specs.Burst.{Reference}
+use Rattle.bp_lruk.specs.Burst.Reference.{fault}
+use Rattle.bp_lruk.specs.Stamp.{IsTimed}
+use Rattle.bp_lruk.specs.Histories.{Blocks, is_held, HasStampsOf, SameAt, SameStampsAt, SameSettings}
+use Rattle.bp_core.specs.declared.entries.Call.TheVariants.{Fix, ReadEnd}
+use Rattle.bp_core.specs.declared.entries.Reply.TheVariants.{Load, Fixed, ReadFailed}
+use Rattle.bp_core.specs.Passes.{reads_out}
+use Rattle.bp_core.specs.Places.{loading, resident, residents}
+use Rattle.bp_core.specs.Saved.{unsaved}
+use Rattle.bp_core.specs.References.{references}
+use Rattle.bp_core.specs.Victim.{victim}
+use Rattle.bp_core.specs.PageMap.{has_free_frame}
+use Rattle.bp_core.specs.Legal.{is_out}
+use Rattle.bp_core.specs.Frames.{is_frame_of, loaded_with, without_page}
+use Rattle.bp_core.specs.Lists.{some}
+use Rattle.bp_core.specs.Tables.{Table}
+use Rattle.bp_core.proofs.Counting.{some-count}
+use Rattle.bp_core.proofs.Serials.{numbered}
+use Rattle.bp_core.proofs.Places.{places, out-of_page}
+use Rattle.bp_core.proofs.Victim.{victim-is, candidate-resident}
+use Rattle.bp_core.proofs.Seen.{count-le, resident_seen, occupied_is, within_frames}
+use Rattle.bp_core.proofs.Residents.{reads-rest}
+use Rattle.bp_core.proofs.Timed.{references-timed}
+use Rattle.bp_core.proofs.StampsKept.{unprepared, same-after, settings-after}
+use Rattle.bp_core.proofs.ReadSteps.{agrees-load, agrees-evict, agrees-failed, agrees-fixed}
+use Rattle.bp_core.specs.declared.state.State.{State}
+use Rattle.bp_core.specs.Parameters.{Parameters}
+use Rattle.bp_core.specs.Event.{grant}
+use Rattle.bp_core.specs.Trail.{Trail}
+use Rattle.bp_core.specs.CoreView.{CoreView, EachPast, HasRoomFor}
+use Rattle.bp_core.specs.Lodging.{Kept, Given, with_next, with_grant}
+use Rattle.bp_core.specs.Agreement.{parts_of, IsCore, view_of}
+use Rattle.bp_core.proofs.Keeps.{longer, at-past, at-parameters, at-room}
+
+module _ (c : Parameters) (trail : Kept) (x : State) (core : IsCore c trail x) (v : CoreView) (is : view_of c trail ≡ v) (who p : ℕ) where
+  at : (P : Parameters → Trail → Type 0) → EachPast v (P v.parameters) → P c trail.past
+  at = at-past c trail x core v is
+
+  given : (P : Parameters → Type 0) → P v.parameters → P c
+  given = at-parameters c trail x core v is
+
+  -- ---- the victim is another page, and is resident
+  module _ (gone : ℕ) (chosen : EachPast v (λ past. victim v.parameters past ≡ Some gone)) where
+    victim-resident : resident trail.past gone ≡ true
+    victim-resident = candidate-resident c trail.past gone (victim-is c trail.past gone (at (λ q past. victim q past ≡ Some gone) chosen)).eligible
+
+    pub victim-here : some (is_frame_of gone) x.frames.frames ≡ true
+    victim-here = resident_seen c trail.past (parts_of x) core.agrees gone ∙ victim-resident
+
+    pub victim-apart : EachPast v (λ past. resident past p ≡ false) → gone ≢ p
+    victim-apart away e = true≢false (sym victim-resident ∙ ap (resident trail.past) e ∙ at (λ q past. resident past p ≡ false) away)
+
+    pub victim-held : is_held x.histories gone ≡ true
+    victim-held = core.agrees.observed.held_is gone ∙ or_left (resident trail.past gone) (loading trail.past gone) victim-resident
+
+    -- so a read fewer than there are frames is out
+    pub few-reads : length x.reads.out < c.frames
+    few-reads = omega (arith, some-count (is_frame_of gone) x.frames.frames victim-here, count-le (is_frame_of gone) x.frames.frames, within_frames c trail.past (parts_of x) core.agrees)
+
+  -- ---- a page that is asked for while it is neither resident nor loading
+  pub free-frame : EachPast v (λ past. has_free_frame v.parameters past ≡ true) → length x.frames.frames + length x.reads.out < c.frames
+  free-frame frame = omega (arith, occupied_is c trail.past (parts_of x) core.agrees, ltb-true (length (residents trail.past) + length (reads_out trail.past)) c.frames (at (λ q past. has_free_frame q past ≡ true) frame))
+
+  pub not-held : EachPast v (λ past. loading past p ≡ false) → EachPast v (λ past. resident past p ≡ false) → is_held x.histories p ≡ false
+  not-held idle away =
+      core.agrees.observed.held_is p
+      ∙ ap (λ b. b || loading trail.past p) (at (λ q past. resident past p ≡ false) away)
+      ∙ at (λ q past. loading past p ≡ false) idle
+
+  -- ---- a read begins
+  module _ (client : who < v.parameters.clients) (page : p < v.parameters.pages) (idle : EachPast v (λ past. loading past p ≡ false)) (away : EachPast v (λ past. resident past p ≡ false)) (room : HasRoomFor 3 v) (ps : Given) (same : ps.out ≡ x.passes.out) (capacity : length x.passes.out + length x.reads.out + 1 ≤ ps.capacity) where
+    pub keeps-load : EachPast v (λ past. has_free_frame v.parameters past ≡ true) → (fs : Table) → fs.frames ≡ x.frames.frames → fs.size ≡ x.frames.size → fs.limit ≡ x.frames.limit → length x.reads.out < fs.spare
+        → (h : Blocks) → SameSettings x.histories h → SameStampsAt x.histories h p → ((q : ℕ) → q ≢ p → SameAt x.histories h q) → is_held h p ≡ true
+        → IsCore c (with_next trail who (Fix p) (Load x.tickets_given None)) (record x { tickets_given = x.tickets_given + 1; reads = with_grant x.reads who p x.tickets_given; passes = ps; frames = fs; histories = h })
+    keeps-load frame fs frames size limit spare h settings stamps others kept =
+        let next = agrees-load c trail.past (parts_of x) core.agrees who p (lt-ltb who c.clients (given (λ q. who < q.clients) client)) (lt-ltb p c.pages (given (λ q. p < q.pages) page))
+        (at (λ q past. loading past p ≡ false) idle) (at (λ q past. resident past p ≡ false) away) h settings (unprepared x.histories h p stamps others)
+        (at (λ q past. has_free_frame q past ≡ true) frame) kept (λ q n. (others q n).held) in
+        record {
+          agrees = rw (same, frames) next;
+          trail_room = longer c _ _ _ core.trail_room _ (omega (arith, at-room c trail x core v is 3 room)) (omega arith) (omega arith);
+          pass_room = record { reserved = omega (arith, capacity, ap length same) };
+          read_room = core.read_room;
+          frame_room = record { reserved = omega (arith, spare); size_is = omega (arith, size, core.frame_room.size_is); limit_is = omega (arith, limit, core.frame_room.limit_is) };
+        }
+
+    pub keeps-replace : (gone : ℕ) → EachPast v (λ past. has_free_frame v.parameters past ≡ false) → EachPast v (λ past. victim v.parameters past ≡ Some gone) → EachPast v (λ past. unsaved past gone ≡ false)
+        → (g h : Blocks) → SameSettings x.histories g → SameStampsAt x.histories g p → ((q : ℕ) → q ≢ p → SameAt x.histories g q) → is_held g p ≡ true
+        → SameSettings g h → SameStampsAt g h gone → ((q : ℕ) → q ≢ gone → SameAt g h q) → is_held h gone ≡ false
+        → IsCore c (with_next trail who (Fix p) (Load x.tickets_given (Some gone)))
+        (record x { tickets_given = x.tickets_given + 1; reads = with_grant x.reads who p x.tickets_given; passes = ps; frames = record x.frames { frames = without_page gone x.frames.frames; spare = x.frames.spare + 1 }; histories = h })
+    keeps-replace gone full chosen saved g h g_settings g_stamps g_others g_kept h_settings h_stamps h_others h_gone =
+        let apart = victim-apart gone chosen away in
+        let first = unprepared x.histories g p g_stamps g_others in
+        let second = unprepared g h gone h_stamps h_others in
+        let next = agrees-evict c trail.past (parts_of x) core.agrees who p (lt-ltb who c.clients (given (λ q. who < q.clients) client)) (lt-ltb p c.pages (given (λ q. p < q.pages) page))
+        (at (λ q past. loading past p ≡ false) idle) (at (λ q past. resident past p ≡ false) away) h (settings-after x.histories g h g_settings h_settings) (λ q. same-after x.histories g h q (first q) (second q))
+        gone (at (λ q past. has_free_frame q past ≡ false) full) (at (λ q past. victim q past ≡ Some gone) chosen) (at (λ q past. unsaved past gone ≡ false) saved)
+        ((h_others p (λ e. apart (sym e))).held ∙ g_kept) h_gone (λ q n m. (h_others q m).held ∙ (g_others q n).held) in
+        record {
+          agrees = rw same next;
+          trail_room = longer c _ _ _ core.trail_room _ (omega (arith, at-room c trail x core v is 3 room)) (omega arith) (omega arith);
+          pass_room = record { reserved = omega (arith, capacity, ap length same) };
+          read_room = core.read_room;
+          frame_room = record { reserved = omega (arith, core.frame_room.reserved); size_is = core.frame_room.size_is; limit_is = core.frame_room.limit_is };
+        }
+
+  -- ---- a read ends
+  module _ (t : ℕ) (known : EachPast v (λ past. is_out (grant who p t) (reads_out past) ≡ true)) where
+    out-now : is_out (grant who p t) (reads_out trail.past) ≡ true
+    out-now = at (λ q past. is_out (grant who p t) (reads_out past) ≡ true) known
+
+    -- its page is held, and has no frame
+    pub held-now : is_held x.histories p ≡ true
+    held-now = core.agrees.observed.held_is p ∙ or_right (resident trail.past p) (loading trail.past p) (out-of_page who p t (reads_out trail.past) out-now)
+
+    pub absent-now : some (is_frame_of p) x.frames.frames ≡ false
+    absent-now = resident_seen c trail.past (parts_of x) core.agrees p ∙ (places c trail.past core.agrees.legal).away p (out-of_page who p t (reads_out trail.past) out-now)
+
+    fewer : length (reads_out trail.past) ≡ length (filter (λ g. not (g.serial == t)) (reads_out trail.past)) + 1
+    fewer = omega (arith, reads-rest who p t (reads_out trail.past) (numbered c trail.past core.agrees.legal).reads_once out-now)
+
+    fewer-kept : length x.reads.out ≡ length (filter (λ g. not (g.serial == t)) x.reads.out) + 1
+    fewer-kept = subst (λ gs. length gs ≡ length (filter (λ g. not (g.serial == t)) gs) + 1) (sym core.agrees.observed.reads_is) fewer
+
+    pub keeps-fail_load : (h : Blocks) → SameSettings x.histories h → SameStampsAt x.histories h p → ((q : ℕ) → q ≢ p → SameAt x.histories h q) → is_held h p ≡ false
+        → IsCore c (with_next trail who (ReadEnd t p None) ReadFailed) (record x { reads = record x.reads { out = filter (λ g. not (g.serial == t)) x.reads.out }; histories = h })
+    keeps-fail_load h settings stamps others gone = record {
+      agrees = agrees-failed c trail.past (parts_of x) core.agrees who p t out-now h settings (unprepared x.histories h p stamps others) gone (λ q n. (others q n).held);
+      trail_room = longer c _ _ _ core.trail_room _ (omega (arith, core.trail_room.owed, fewer)) (omega arith) (omega arith);
+      pass_room = record { reserved = omega (arith, core.pass_room.reserved, fewer-kept) };
+      read_room = core.read_room;
+      frame_room = record { reserved = omega (arith, core.frame_room.reserved, fewer-kept); size_is = core.frame_room.size_is; limit_is = core.frame_room.limit_is };
+    }
+
+    pub keeps-end_load : (image : List ℕ) → length image ≡ v.parameters.size → (fs : Table) → IsPermutation (loaded_with p image ∷ x.frames.frames) fs.frames → fs.spare + 1 ≡ x.frames.spare → fs.size ≡ x.frames.size → fs.limit ≡ x.frames.limit
+        → (h : Blocks) → SameSettings x.histories h → ((refs : List Reference) → IsTimed refs → HasStampsOf x.histories p refs → HasStampsOf h p (fault x.clock ∷ refs)) → ((q : ℕ) → q ≢ p → SameAt x.histories h q) → is_held h p ≡ true
+        → IsCore c (with_next trail who (ReadEnd t p (Some image)) (Fixed x.passes_given))
+        (record x { passes_given = x.passes_given + 1; passes = with_grant x.passes who p x.passes_given; reads = record x.reads { out = filter (λ g. not (g.serial == t)) x.reads.out }; frames = fs; histories = h })
+    keeps-end_load image fits fs moved spare size limit h settings stamps others kept =
+        let a = core.agrees in
+        let refs = references c trail.past p in
+        let stamped = subst (λ u. HasStampsOf h p (fault u ∷ refs)) a.observed.clock_is (stamps refs (references-timed c trail.past p).timed (a.observed.stamps_are p)) in
+        record {
+          agrees = agrees-fixed c trail.past (parts_of x) a who p t out-now h settings image (given (λ q. length image ≡ q.size) fits) fs.frames moved stamped others kept;
+          trail_room = longer c _ _ _ core.trail_room _ (omega (arith, core.trail_room.owed, fewer)) (omega arith) (omega arith);
+          pass_room = record { reserved = omega (arith, core.pass_room.reserved, fewer-kept) };
+          read_room = core.read_room;
+          frame_room = record { reserved = omega (arith, core.frame_room.reserved, fewer-kept, spare); size_is = omega (arith, size, core.frame_room.size_is); limit_is = omega (arith, limit, core.frame_room.limit_is) };
+        }

@@ -1,0 +1,99 @@
+-- A core stays one as a write-out of a page begins and ends.
+use Rattle.std.proofs.Common.{◌≡◌, ℕ, suc, ◌+◌, ◌<◌, true, false, length, filter, sym, ◌∙◌, arith}
+use Rattle.std.specs.Prelude.{not, ◌==◌}
+use Rattle.std.proofs.lemmas.Bool.{lt-ltb, true≢false}
+use Rattle.bp_core.specs.declared.entries.Call.{Call}
+use Rattle.bp_core.specs.declared.entries.Call.TheVariants.{WriteEnd}
+use Rattle.bp_core.specs.declared.entries.Reply.TheVariants.{WriteFirst, Cleaned, StillDirty, WriteFailed}
+use Rattle.bp_core.specs.Passes.{tickets, writes_out}
+use Rattle.bp_core.specs.Places.{resident}
+use Rattle.bp_core.specs.Saved.{written_since}
+use Rattle.bp_core.specs.Images.{held}
+use Rattle.bp_core.specs.PageMap.{reply_of}
+use Rattle.bp_core.specs.Legal.{is_out, allowed}
+use Rattle.bp_core.specs.Frames.{saving, saved, not_saved}
+use Rattle.bp_core.specs.Tables.{with_changed}
+use Rattle.bp_core.specs.Outcomes.{IsBegin}
+use Rattle.bp_core.specs.Outcomes.IsBegin.{by_fix, by_flush}
+use Rattle.bp_core.specs.Agreement.{rewritten, HasTrailRoom}
+use Rattle.bp_core.proofs.Serials.{numbered}
+use Rattle.bp_core.proofs.Places.{out-of_page}
+use Rattle.bp_core.proofs.Ranges.{stays}
+use Rattle.bp_core.proofs.Residents.{reads-rest}
+use Rattle.bp_core.proofs.WriteSteps.{agrees-begin, agrees-cleaned, agrees-still_dirty, agrees-write_failed, written-seen}
+use Rattle.bp_core.specs.declared.state.State.{State}
+use Rattle.bp_core.specs.Parameters.{Parameters}
+use Rattle.bp_core.specs.Event.{grant}
+use Rattle.bp_core.specs.Trail.{Trail}
+use Rattle.bp_core.specs.CoreView.{CoreView, EachPast, HasRoomFor}
+use Rattle.bp_core.specs.Lodging.{Kept, Given, with_next, with_grant}
+use Rattle.bp_core.specs.Agreement.{parts_of, IsCore, view_of}
+use Rattle.bp_core.proofs.Keeps.{longer, at-past, at-parameters, at-room}
+
+module _ (c : Parameters) (trail : Kept) (x : State) (core : IsCore c trail x) (v : CoreView) (is : view_of c trail ≡ v) (who : ℕ) where
+  at : (P : Parameters → Trail → Type 0) → EachPast v (P v.parameters) → P c trail.past
+  at = at-past c trail x core v is
+
+  given : (P : Parameters → Type 0) → P v.parameters → P c
+  given = at-parameters c trail x core v is
+
+  pub keeps-begin : (call : Call) (p : ℕ) → IsBegin call → who < v.parameters.clients → EachPast v (λ past. allowed v.parameters past who call ≡ true) → EachPast v (λ past. WriteFirst (tickets past) p (held past p) ≡ reply_of v.parameters past call) → HasRoomFor 2 v
+      → (ws : Given) → ws.out ≡ x.writes.out
+      → IsCore c (with_next trail who call (WriteFirst x.tickets_given p (held trail.past p))) (record x { tickets_given = x.tickets_given + 1; writes = with_grant ws who p x.tickets_given; frames = with_changed x.frames p saving })
+  keeps-begin call p begins client may lawful room ws same =
+      let next = agrees-begin c trail.past (parts_of x) core.agrees who p (lt-ltb who c.clients (given (λ q. who < q.clients) client)) call begins (at (λ q past. allowed q past who call ≡ true) may)
+      (at (λ q past. WriteFirst (tickets past) p (held past p) ≡ reply_of q past call) lawful) in
+      record {
+        agrees = rw same next;
+        trail_room = roomy call begins;
+        pass_room = core.pass_room;
+        read_room = core.read_room;
+        frame_room = core.frame_room;
+      }
+    where
+      roomy : (call : Call) → IsBegin call → HasTrailRoom c (suc (length trail.past)) (with_next trail who call (WriteFirst x.tickets_given p (held trail.past p))).past trail.capacity
+      roomy _ (by_fix q) = longer c _ _ _ core.trail_room _ (omega (arith, at-room c trail x core v is 2 room)) (omega arith) (omega arith)
+      roomy _ (by_flush q) = longer c _ _ _ core.trail_room _ (omega (arith, at-room c trail x core v is 2 room)) (omega arith) (omega arith)
+
+  module _ (p t : ℕ) (known : EachPast v (λ past. is_out (grant who p t) (writes_out past) ≡ true)) where
+    out-now : is_out (grant who p t) (writes_out trail.past) ≡ true
+    out-now = at (λ q past. is_out (grant who p t) (writes_out past) ≡ true) known
+
+    fewer : length (writes_out trail.past) ≡ length (filter (λ g. not (g.serial == t)) (writes_out trail.past)) + 1
+    fewer = omega (arith, reads-rest who p t (writes_out trail.past) (numbered c trail.past core.agrees.legal).writes_once out-now)
+
+    -- its page is resident
+    pub here-now : EachPast v (λ past. resident past p ≡ false) → ⊥
+    here-now away = true≢false (sym (stays c trail.past core.agrees.legal p (out-of_page who p t (writes_out trail.past) out-now)) ∙ at (λ q past. resident past p ≡ false) away)
+
+    since : rewritten trail.past p ≡ written_since trail.past t p
+    since = written-seen c trail.past (parts_of x) core.agrees who t p out-now
+
+    pub keeps-cleaned : EachPast v (λ past. rewritten past p ≡ false)
+        → IsCore c (with_next trail who (WriteEnd t p true) Cleaned) (record x { writes = record x.writes { out = filter (λ g. not (g.serial == t)) x.writes.out }; frames = with_changed x.frames p saved })
+    keeps-cleaned none = record {
+      agrees = agrees-cleaned c trail.past (parts_of x) core.agrees who t p out-now (sym since ∙ at (λ q past. rewritten past p ≡ false) none);
+      trail_room = longer c _ _ _ core.trail_room _ (omega (arith, core.trail_room.owed, fewer)) (omega arith) (omega arith);
+      pass_room = core.pass_room;
+      read_room = core.read_room;
+      frame_room = core.frame_room;
+    }
+
+    pub keeps-still_dirty : EachPast v (λ past. rewritten past p ≡ true)
+        → IsCore c (with_next trail who (WriteEnd t p true) StillDirty) (record x { writes = record x.writes { out = filter (λ g. not (g.serial == t)) x.writes.out }; frames = with_changed x.frames p saved })
+    keeps-still_dirty some = record {
+      agrees = agrees-still_dirty c trail.past (parts_of x) core.agrees who t p out-now (sym since ∙ at (λ q past. rewritten past p ≡ true) some);
+      trail_room = longer c _ _ _ core.trail_room _ (omega (arith, core.trail_room.owed, fewer)) (omega arith) (omega arith);
+      pass_room = core.pass_room;
+      read_room = core.read_room;
+      frame_room = core.frame_room;
+    }
+
+    pub keeps-fail_write_out : IsCore c (with_next trail who (WriteEnd t p false) WriteFailed) (record x { writes = record x.writes { out = filter (λ g. not (g.serial == t)) x.writes.out }; frames = with_changed x.frames p not_saved })
+    keeps-fail_write_out = record {
+      agrees = agrees-write_failed c trail.past (parts_of x) core.agrees who t p out-now;
+      trail_room = longer c _ _ _ core.trail_room _ (omega (arith, core.trail_room.owed, fewer)) (omega arith) (omega arith);
+      pass_room = core.pass_room;
+      read_room = core.read_room;
+      frame_room = core.frame_room;
+    }

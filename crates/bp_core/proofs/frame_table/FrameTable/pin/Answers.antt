@@ -1,0 +1,21 @@
+use Rattle.std.proofs.Common.{subst, ◌<◌, ◌^◌}
+use Rattle.bp_core.specs.declared.frame.Frame.{Frame}
+use Rattle.bp_core.specs.Frames.{pinned}
+use Rattle.bp_core.specs.Rising.{StandsAt, StandsNowhere}
+use Rattle.bp_core.proofs.Tables.{page_of, at-seen, changed-seen, stays-seen}
+use Rattle.bp_core.proofs.frame_table.FrameTable.pin.Goals as goal
+
+pub pin-requires : goal.pin-requires
+pin-requires c =
+    let stands = subst (λ ps. StandsAt page_of ps c.args.page c.in-Some.place) c.deref.ensures.value c.in-Some.ensures in
+    at-seen _ _ _ _ _ c.self.invariant.0 _ c.self.view_is c.args.page c.in-Some.place stands c.index.result.now c.index.ensures c.index_mut.result.now c.index_mut.ensures.value (λ (f : Frame). f.pins < 2 ^ 63) c.requires
+
+pub returns-in-Some : goal.returns-in-Some
+returns-in-Some c =
+    let stands = subst (λ ps. StandsAt page_of ps c.args.page c.in-Some.place) c.deref.ensures.value c.in-Some.ensures in
+    changed-seen _ _ _ _ _ c.self.invariant.0 _ c.self.view_is c.args.page c.in-Some.place stands c.index.result.now c.index.ensures c.index_mut.result.now c.index_mut.ensures.value pinned c.pin.new.self c.pin.ensures
+
+pub returns-in_default : goal.returns-in_default
+returns-in_default c =
+    let nowhere = subst (λ ps. StandsNowhere page_of ps c.args.page) c.deref.ensures.value c.in_default.ensures in
+    stays-seen _ _ _ _ _ c.self.invariant.0 _ c.self.view_is c.args.page pinned nowhere

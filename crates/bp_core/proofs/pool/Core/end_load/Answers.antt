@@ -1,0 +1,30 @@
+use Rattle.std.proofs.Common.{Some}
+use Rattle.bp_core.specs.declared.entries.Call.TheVariants.{ReadEnd}
+use Rattle.bp_core.specs.declared.entries.Reply.TheVariants.{Fixed}
+use Rattle.bp_core.proofs.Seen.{now_is, newest_pass}
+use Rattle.bp_core.proofs.Keeps.{adds}
+use Rattle.bp_core.proofs.KeepsLoads.{held-now, absent-now, keeps-end_load}
+use Rattle.bp_core.proofs.pool.Core.end_load.Goals as goal
+
+pub fill-requires-clause-absent : goal.fill-requires-clause-absent
+fill-requires-clause-absent c = absent-now _ _ _ c.self.invariant _ c.self.view_is c.args.client c.args.page c.args.serial c.requires.out
+
+pub fault-requires-clause-held : goal.fault-requires-clause-held
+fault-requires-clause-held c = held-now _ _ _ c.self.invariant _ c.self.view_is c.args.client c.args.page c.args.serial c.requires.out
+
+pub fault-requires-clause-now : goal.fault-requires-clause-now
+fault-requires-clause-now c = now_is _ _ _ c.self.invariant.agrees
+
+pub give_pass-pass-requires-clause-newest : goal.give_pass-pass-requires-clause-newest
+give_pass-pass-requires-clause-newest c = newest_pass _ _ _ c.self.invariant.agrees
+
+pub invariant_of-self : goal.invariant_of-self
+invariant_of-self c =
+    let f = c.fill.ensures in
+    let h = c.fault.ensures in
+    rw (c.record.ensures, c.give_pass-pass.ensures.after, c.give_pass-pass.ensures.pass, c.take_back.ensures)
+    (keeps-end_load _ _ _ c.self.invariant _ c.self.view_is c.args.client c.args.page c.args.serial c.requires.out c.args.image c.requires.size c.fill.new.self f.frames f.spare f.size f.limit c.fault.new.self h.settings h.stamps h.others h.held)
+
+pub returns-clause-entry : goal.returns-clause-entry
+returns-clause-entry c =
+    adds _ _ _ c.self.invariant _ c.self.view_is c.args.client (ReadEnd c.args.serial c.args.page (Some c.args.image)) (Fixed c.give_pass-pass.result.serial) _ _ c.record.ensures (invariant_of-self c)

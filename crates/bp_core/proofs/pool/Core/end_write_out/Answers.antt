@@ -1,0 +1,27 @@
+use Rattle.std.proofs.Common.{sym, ◌∙◌, ap, true}
+use Rattle.bp_core.specs.declared.entries.Call.TheVariants.{WriteEnd}
+use Rattle.bp_core.specs.declared.entries.Reply.TheVariants.{Cleaned, StillDirty}
+use Rattle.bp_core.proofs.Keeps.{adds}
+use Rattle.bp_core.proofs.KeepsWriteOuts.{here-now, keeps-cleaned, keeps-still_dirty}
+use Rattle.bp_core.proofs.pool.Core.end_write_out.Goals as goal
+
+pub unreachable-requires : goal.unreachable-requires
+unreachable-requires c = here-now _ _ _ c.self.invariant _ c.self.view_is c.args.client c.args.page c.args.serial c.requires c.in_default.ensures.away
+
+pub invariant_of-self : goal.invariant_of-self
+invariant_of-self c =
+    rw (c.record.ensures, c.take_back.ensures, c.end_write_out.ensures)
+    (keeps-still_dirty _ _ _ c.self.invariant _ c.self.view_is c.args.client c.args.page c.args.serial c.requires (sym (ap (λ f. f.is_rewritten) c.in-Some.ensures.found) ∙ c.if-is_rewritten.true))
+
+pub returns-then-is_rewritten : goal.returns-then-is_rewritten
+returns-then-is_rewritten c =
+    adds _ _ _ c.self.invariant _ c.self.view_is c.args.client (WriteEnd c.args.serial c.args.page true) StillDirty _ _ c.record.ensures (invariant_of-self c)
+
+pub invariant_of-self-2 : goal.invariant_of-self-2
+invariant_of-self-2 c =
+    rw (c.record-2.ensures, c.take_back.ensures, c.end_write_out.ensures)
+    (keeps-cleaned _ _ _ c.self.invariant _ c.self.view_is c.args.client c.args.page c.args.serial c.requires (sym (ap (λ f. f.is_rewritten) c.in-Some.ensures.found) ∙ c.if-is_rewritten.false))
+
+pub returns : goal.returns
+returns c =
+    adds _ _ _ c.self.invariant _ c.self.view_is c.args.client (WriteEnd c.args.serial c.args.page true) Cleaned _ _ c.record-2.ensures (invariant_of-self-2 c)

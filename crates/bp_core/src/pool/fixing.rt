@@ -1,0 +1,101 @@
+//! Fixing a page.
+ghost use Rattle.std.specs.Prelude.{◌≡◌, ◌<◌, true, false};
+ghost use Rattle.bp_core.specs.Places.{loading, resident};
+ghost use Rattle.bp_core.specs.Victim.{victim};
+ghost use Rattle.bp_core.specs.PageMap.{has_free_frame};
+ghost use Rattle.bp_core.specs.CoreView.{EachPast, HasRoomFor};
+ghost use Rattle.bp_core.specs.Outcomes.{FixOutcome};
+
+use crate::entries::{Call, Reply};
+use crate::passes::Fix;
+use crate::pool::Core;
+use bp_page::{PageNo, Refusal};
+
+impl Core {
+    /// Asks for a page (Gray and Reuter, chapter 13): a pass where it is resident; else a ticket to read it into a free frame or
+    /// into that of the victim; else, where the victim is unsaved, a ticket to write the victim out first.
+    ///
+    /// `TrailFull` where fewer than three entries are free, else `OutOfMemory`; both change nothing. `Busy` where the page is
+    /// loading, `NoVictim` where no page may leave, `NeedLog` where the log is not durable as far as the victim's page LSN; these
+    /// three are entries and change nothing else.
+    pub fn fix(&mut self, client: u8, page: PageNo) -> Result<Fix, Refusal>
+        requires client_in { client < self.old.parameters.clients }
+        requires page_in { page < self.old.parameters.pages }
+        ensures outcome { FixOutcome self.old client page result self.new }
+    {
+        if self.free() < 3 {
+            return Err(Refusal::TrailFull);
+        }
+        if self.frame(page).is_some() {
+            return self.hit(client, page);
+        }
+        if self.is_loading(page) {
+            self.answer(client, Call::Fix(page), Reply::Busy);
+            return Err(Refusal::Busy);
+        }
+        if self.has_free_frame() {
+            return self.load(client, page);
+        }
+        self.make_way(client, page)
+    }
+
+    /// Gives a pass of a resident page.
+    fn hit(&mut self, client: u8, page: PageNo) -> Result<Fix, Refusal>
+        requires client_in { client < self.old.parameters.clients }
+        requires page_in { page < self.old.parameters.pages }
+        requires here { EachPast self.old (λ past. resident past page ≡ true) }
+        requires room { HasRoomFor 3 self.old }
+        ensures outcome { FixOutcome self.old client page result self.new }
+    {
+        let pending = self.state.reads.len() + 1;
+        let Ok(()) = self.state.passes.reserve(pending) else {
+            return Err(Refusal::OutOfMemory);
+        };
+        self.state.frames.pin(page);
+        self.state.histories.hit(page, self.state.clock);
+        let pass = self.state.give_pass(client, page);
+        self.trail
+            .record(client, Call::Fix(page), Reply::Hit(pass.serial));
+        Ok(Fix::Hit(pass))
+    }
+
+    /// Brings a page into the frame of the victim, or begins to write the victim out.
+    fn make_way(&mut self, client: u8, page: PageNo) -> Result<Fix, Refusal>
+        requires client_in { client < self.old.parameters.clients }
+        requires page_in { page < self.old.parameters.pages }
+        requires idle { EachPast self.old (λ past. loading past page ≡ false) }
+        requires away { EachPast self.old (λ past. resident past page ≡ false) }
+        requires full { EachPast self.old (λ past. has_free_frame self.old.parameters past ≡ false) }
+        requires room { HasRoomFor 3 self.old }
+        ensures outcome { FixOutcome self.old client page result self.new }
+    {
+        let Some(victim) = self.victim() else {
+            self.answer(client, Call::Fix(page), Reply::NoVictim);
+            return Err(Refusal::NoVictim);
+        };
+        let Some(frame) = self.frame(victim) else {
+            unreachable!()
+        };
+        if !frame.is_unsaved {
+            return self.replace(client, page, victim);
+        }
+        let top = frame.top;
+        if self.durable() < top {
+            self.answer(client, Call::Fix(page), Reply::NeedLog(top));
+            return Err(Refusal::NeedLog(top));
+        }
+        let ticket = self.begin(client, Call::Fix(page), victim)?;
+        Ok(Fix::WriteFirst(ticket))
+    }
+
+    /// The page that leaves its frame first.
+    fn victim(&self) -> Option<PageNo>
+        ensures { EachPast self.now (λ past. result ≡ victim self.now.parameters past) }
+    {
+        self.state.frames.first_to_leave(
+            &self.state.histories,
+            self.config.settings,
+            self.state.clock,
+        )
+    }
+}

@@ -1,0 +1,167 @@
+//! Bringing a page into a frame.
+ghost use Rattle.std.specs.Prelude.{◌≡◌, ℕ, ◌+◌, ◌^◌, ◌<◌, ◌≤◌, true, false, Some, None, length, IfOk, OnOk, OnErr, ◌≢◌};
+ghost use Rattle.bp_lruk.specs.Histories.{is_held, SameStampsAt, SameAt, SameSettings};
+ghost use Rattle.bp_core.specs.Event.{grant};
+ghost use Rattle.bp_core.specs.Legal.{is_out};
+ghost use Rattle.bp_core.specs.Passes.{reads_out};
+ghost use Rattle.bp_core.specs.Places.{loading, resident};
+ghost use Rattle.bp_core.specs.Saved.{unsaved};
+ghost use Rattle.bp_core.specs.Victim.{victim};
+ghost use Rattle.bp_core.specs.PageMap.{has_free_frame};
+ghost use Rattle.bp_core.specs.CoreView.{EachPast, HasRoomFor};
+ghost use Rattle.bp_core.specs.Outcomes.{FixOutcome, ReadEndOutcome, Adds};
+
+use crate::entries::{Call, Reply};
+use crate::passes::{EndRefusal, Fix, Pass, ReadTicket};
+use crate::pool::Core;
+use crate::state::State;
+use bp_page::{Image, PageNo, PortFault, Refusal};
+use std::alloc::AllocError;
+
+impl Core {
+    /// Gives a ticket to read a page into a free frame.
+    pub(super) fn load(&mut self, client: u8, page: PageNo) -> Result<Fix, Refusal>
+        requires client_in { client < self.old.parameters.clients }
+        requires page_in { page < self.old.parameters.pages }
+        requires idle { EachPast self.old (λ past. loading past page ≡ false) }
+        requires away { EachPast self.old (λ past. resident past page ≡ false) }
+        requires frame { EachPast self.old (λ past. has_free_frame self.old.parameters past ≡ true) }
+        requires room { HasRoomFor 3 self.old }
+        ensures outcome { FixOutcome self.old client page result self.new }
+    {
+        let Ok(()) = self
+            .state
+            .frames
+            .provide(self.alloc, self.state.reads.len())
+        else {
+            return Err(Refusal::OutOfMemory);
+        };
+        let Ok(()) = make_ready(&mut self.state, page) else {
+            return Err(Refusal::OutOfMemory);
+        };
+        let ticket = self.state.give_read(client, page);
+        let reply = Reply::Load {
+            ticket: ticket.serial,
+            evicted: None,
+        };
+        self.trail.record(client, Call::Fix(page), reply);
+        Ok(Fix::Load(ticket, None))
+    }
+
+    /// Gives a ticket to read a page into the frame of the victim.
+    pub(super) fn replace(&mut self, client: u8, page: PageNo, gone: PageNo) -> Result<Fix, Refusal>
+        requires client_in { client < self.old.parameters.clients }
+        requires page_in { page < self.old.parameters.pages }
+        requires idle { EachPast self.old (λ past. loading past page ≡ false) }
+        requires away { EachPast self.old (λ past. resident past page ≡ false) }
+        requires full { EachPast self.old (λ past. has_free_frame self.old.parameters past ≡ false) }
+        requires chosen { EachPast self.old (λ past. victim self.old.parameters past ≡ Some gone) }
+        requires saved { EachPast self.old (λ past. unsaved past gone ≡ false) }
+        requires room { HasRoomFor 3 self.old }
+        ensures outcome { FixOutcome self.old client page result self.new }
+    {
+        let Ok(()) = make_ready(&mut self.state, page) else {
+            return Err(Refusal::OutOfMemory);
+        };
+        self.state.frames.vacate(gone);
+        self.state.histories.unprepare(gone);
+        let ticket = self.state.give_read(client, page);
+        let reply = Reply::Load {
+            ticket: ticket.serial,
+            evicted: Some(gone),
+        };
+        self.trail.record(client, Call::Fix(page), reply);
+        Ok(Fix::Load(ticket, Some(gone)))
+    }
+
+    /// Ends a read. Where it went well the page is resident, with the pass that comes back; where it failed, which is `ReadFailed`,
+    /// its frame is free and nothing of the page is remembered. A ticket that is not out here comes back with the result, which is
+    /// `Unknown`, and nothing changes. It takes no memory.
+    pub fn read_end(
+        &mut self,
+        ticket: ReadTicket,
+        read: Result<Image, PortFault>,
+    ) -> Result<Pass, EndRefusal<ReadTicket, Result<Image, PortFault>>>
+        requires size { IfOk read (λ image. length image ≡ self.old.parameters.size) }
+        ensures outcome { ReadEndOutcome self.old ticket read result self.new }
+    {
+        let is_out = self
+            .state
+            .reads
+            .has(ticket.client, ticket.page, ticket.serial);
+        if !is_out {
+            return Err(EndRefusal::Unknown(ticket, read));
+        }
+        let ReadTicket {
+            client,
+            page,
+            serial,
+        } = ticket;
+        match read {
+            Ok(image) => Ok(self.end_load(client, page, serial, image)),
+            Err(_) => {
+                self.fail_load(client, page, serial);
+                Err(EndRefusal::Failed(Refusal::ReadFailed))
+            }
+        }
+    }
+
+    /// A read went well: its page is resident, with one pass out.
+    fn end_load(&mut self, client: u8, page: PageNo, serial: u64, image: Image) -> Pass
+        requires out { EachPast self.old (λ past. is_out (grant client page serial) (reads_out past) ≡ true) }
+        requires size { length image ≡ self.old.parameters.size }
+        ensures client { result.client ≡ client }
+        ensures page { result.page ≡ page }
+        ensures entry { Adds self.old client (Call.ReadEnd serial page (Some image)) (Reply.Fixed result.serial) self.new }
+    {
+        self.state.reads.take_back(serial);
+        self.state.frames.fill(page, &image);
+        self.state.histories.fault(page, self.state.clock);
+        let pass = self.state.give_pass(client, page);
+        let call = Call::ReadEnd {
+            ticket: serial,
+            page,
+            image: Some(image),
+        };
+        self.trail.record(client, call, Reply::Fixed(pass.serial));
+        pass
+    }
+
+    /// A read failed: nothing is remembered of it.
+    fn fail_load(&mut self, client: u8, page: PageNo, serial: u64)
+        requires { EachPast self.old (λ past. is_out (grant client page serial) (reads_out past) ≡ true) }
+        ensures { Adds self.old client (Call.ReadEnd serial page None) Reply.ReadFailed self.new }
+    {
+        self.state.reads.take_back(serial);
+        self.state.histories.unprepare(page);
+        let call = Call::ReadEnd {
+            ticket: serial,
+            page,
+            image: None,
+        };
+        self.trail.record(client, call, Reply::ReadFailed);
+    }
+}
+
+/// Takes the memory that the end of a page's read will need, but for its frame: room for its pass, and its history's block. Where
+/// that is refused no page is held more than before.
+fn make_ready(state: &mut State, page: PageNo) -> Result<(), AllocError>
+    requires few { length state.old.reads.out < 2 ^ 32 }
+    requires away { is_held state.old.histories page ≡ false }
+    ensures others { state.new ≡ record state.old { passes = state.new.passes; histories = state.new.histories } }
+    ensures passes { state.new.passes.out ≡ state.old.passes.out }
+    ensures capacity { state.old.passes.capacity ≤ state.new.passes.capacity }
+    ensures room { OnOk result (length state.old.passes.out + length state.old.reads.out + 1 ≤ state.new.passes.capacity) }
+    ensures held { OnOk result (is_held state.new.histories page ≡ true) }
+    ensures stamps { SameStampsAt state.old.histories state.new.histories page }
+    ensures other_pages { (q : ℕ) → q ≢ page → SameAt state.old.histories state.new.histories q }
+    ensures settings { SameSettings state.old.histories state.new.histories }
+    ensures unchanged { OnErr result (state.new.histories ≡ state.old.histories) }
+{
+    let pending = state.reads.len() + 1;
+    state.passes.reserve(pending)?;
+    match state.histories.prepare(page) {
+        Ok(()) => Ok(()),
+        Err(_) => Err(AllocError),
+    }
+}

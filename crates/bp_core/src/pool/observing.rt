@@ -1,0 +1,66 @@
+//! What a call asks of the core before it changes anything, and an entry that changes nothing else.
+ghost use Rattle.std.specs.Prelude.{◌≡◌, ◌<◌, true, false, IfSome, IfNone};
+ghost use Rattle.bp_core.specs.Places.{loading, resident};
+ghost use Rattle.bp_core.specs.PageMap.{has_free_frame, reply_of};
+ghost use Rattle.bp_core.specs.Legal.{allowed};
+ghost use Rattle.bp_core.specs.Agreement.{frame_of};
+ghost use Rattle.bp_core.specs.CoreView.{EachPast, HasRoomFor, room_after};
+ghost use Rattle.bp_core.specs.Outcomes.{Adds, IsQuiet, pass_is_out};
+
+use crate::entries::{Call, Reply};
+use crate::frame::Frame;
+use crate::passes::Pass;
+use crate::pool::Core;
+use bp_page::PageNo;
+
+impl Core {
+    /// The room that no entry has taken, nor any pass or ticket for the entries that will end it.
+    pub(super) fn free(&self) -> usize
+        ensures { EachPast self.now (λ past. result ≡ room_after self.now past) }
+    {
+        let owed = self.state.passes.len() + self.state.writes.len() + 2 * self.state.reads.len();
+        self.config.room - (self.trail.len() + owed)
+    }
+
+    /// Whether a read of the page is out.
+    pub(super) fn is_loading(&self, page: PageNo) -> bool
+        ensures { EachPast self.now (λ past. result ≡ loading past page) }
+    {
+        self.state.reads.has_page(page)
+    }
+
+    /// Whether the pass is out here.
+    pub(super) fn knows(&self, pass: &Pass) -> bool
+        ensures { EachPast self.now (λ past. result ≡ pass_is_out pass.now past) }
+    {
+        self.state.passes.has(pass.client, pass.page, pass.serial)
+    }
+
+    /// Whether a page may be loaded with none evicted.
+    pub(super) fn has_free_frame(&self) -> bool
+        ensures { EachPast self.now (λ past. result ≡ has_free_frame self.now.parameters past) }
+    {
+        self.state.frames.len() + self.state.reads.len() < self.config.frames
+    }
+
+    /// The frame of a resident page.
+    pub(super) fn frame(&self, page: PageNo) -> Option<&Frame>
+        ensures found { IfSome result (λ f. EachPast self.now (λ past. f.now ≡ frame_of past page)) }
+        ensures here { IfSome result (λ f. EachPast self.now (λ past. resident past page ≡ true)) }
+        ensures away { IfNone result (EachPast self.now (λ past. resident past page ≡ false)) }
+    {
+        self.state.frames.find(page)
+    }
+
+    /// Adds an entry that changes nothing else.
+    pub(super) fn answer(&mut self, client: u8, call: Call, reply: Reply)
+        requires quiet { IsQuiet call reply }
+        requires client_in { client < self.old.parameters.clients }
+        requires allowed { EachPast self.old (λ past. allowed self.old.parameters past client call ≡ true) }
+        requires reply { EachPast self.old (λ past. reply ≡ reply_of self.old.parameters past call) }
+        requires room { HasRoomFor 1 self.old }
+        ensures { Adds self.old client call reply self.new }
+    {
+        self.trail.record(client, call, reply);
+    }
+}

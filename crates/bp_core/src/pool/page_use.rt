@@ -1,0 +1,97 @@
+//! Reading, writing and giving back a page by its pass.
+ghost use Rattle.std.specs.Prelude.{◌+◌, ◌≤◌, length};
+ghost use Rattle.bp_core.specs.Outcomes.{ReadOutcome, WriteOutcome, UnfixOutcome};
+
+use crate::entries::{Call, Reply};
+use crate::passes::Pass;
+use crate::pool::Core;
+use bp_page::{Bytes, Image, Lsn, Refusal};
+
+impl Core {
+    /// A copy of the image of the page of a pass. `TrailFull` where no entry is free, else `UnknownPass` where the pass is not out
+    /// here, else `OutOfMemory`; all three change nothing.
+    pub fn read(&mut self, pass: &Pass) -> Result<Image, Refusal>
+        ensures outcome { ReadOutcome self.old pass.now result self.new }
+    {
+        if self.free() < 1 {
+            return Err(Refusal::TrailFull);
+        }
+        if !self.knows(pass) {
+            return Err(Refusal::UnknownPass);
+        }
+        let Some(frame) = self.frame(pass.page) else {
+            unreachable!()
+        };
+        let Ok(kept) = Image::of(self.alloc, frame.image.bytes()) else {
+            return Err(Refusal::OutOfMemory);
+        };
+        let Ok(image) = Image::of(self.alloc, kept.bytes()) else {
+            return Err(Refusal::OutOfMemory);
+        };
+        let call = Call::Read {
+            pass: pass.serial,
+            page: pass.page,
+        };
+        self.answer(pass.client, call, Reply::Content(kept));
+        Ok(image)
+    }
+
+    /// Puts bytes into the page of a pass, from the offset on, and raises the page LSN to `lsn` if that is greater. `TrailFull`,
+    /// `UnknownPass` and `OutOfMemory` as from `read`.
+    pub fn write(
+        &mut self,
+        pass: &Pass,
+        offset: u32,
+        bytes: &Bytes,
+        lsn: Lsn,
+    ) -> Result<(), Refusal>
+        requires fits { offset + length bytes.now ≤ self.old.parameters.size }
+        ensures outcome { WriteOutcome self.old pass.now offset bytes.now lsn result self.new }
+    {
+        if self.free() < 1 {
+            return Err(Refusal::TrailFull);
+        }
+        if !self.knows(pass) {
+            return Err(Refusal::UnknownPass);
+        }
+        let Pass {
+            client,
+            page,
+            serial,
+        } = *pass;
+        let Ok(kept) = Bytes::of(self.alloc, bytes.bytes()) else {
+            return Err(Refusal::OutOfMemory);
+        };
+        self.state
+            .frames
+            .write(page, offset as usize, bytes.bytes(), lsn);
+        let call = Call::Write {
+            pass: serial,
+            page,
+            offset,
+            bytes: kept,
+            lsn,
+        };
+        self.trail.record(client, call, Reply::Done);
+        Ok(())
+    }
+
+    /// Gives a pass back. Where it is not out here it comes back, which is `UnknownPass`, and nothing changes.
+    pub fn unfix(&mut self, pass: Pass) -> Result<(), Pass>
+        ensures outcome { UnfixOutcome self.old pass result self.new }
+    {
+        if !self.knows(&pass) {
+            return Err(pass);
+        }
+        let Pass {
+            client,
+            page,
+            serial,
+        } = pass;
+        self.state.frames.unpin(page);
+        self.state.passes.take_back(serial);
+        let call = Call::Unfix { pass: serial, page };
+        self.trail.record(client, call, Reply::Done);
+        Ok(())
+    }
+}

@@ -1,0 +1,94 @@
+//! What a core tells.
+ghost use Rattle.std.specs.Prelude.{◌≡◌, reverse};
+ghost use Rattle.bp_core.specs.Clock.{clock, durable};
+ghost use Rattle.bp_core.specs.References.{last, hist};
+ghost use Rattle.bp_core.specs.Legal.{Legal};
+ghost use Rattle.bp_core.specs.Safety.{Safe};
+ghost use Rattle.bp_core.specs.Claims.{HeldIsPlain, ReadsAreKnown};
+ghost use Rattle.bp_core.specs.CoreView.{EachPast};
+
+use crate::entries::Entry;
+use crate::pool::Core;
+use bp_lruk::Settings;
+use bp_page::{Geometry, Lsn, PageNo};
+
+impl Core {
+    /// All entries so far, the oldest first.
+    pub fn trail(&self) -> &[Entry]
+        ensures entries { reverse result.now ≡ self.now.past }
+        ensures legal { EachPast self.now (Legal self.now.parameters) }
+        ensures safe { EachPast self.now (Safe self.now.parameters) }
+        ensures plain { EachPast self.now HeldIsPlain }
+        ensures known { EachPast self.now ReadsAreKnown }
+    {
+        // The clauses follow from what every core keeps.
+        let _ = &self.state;
+        self.trail.entries()
+    }
+
+    /// The file's pages and their size.
+    pub fn geometry(&self) -> Geometry
+        ensures pages { result.pages ≡ self.now.parameters.pages }
+        ensures size { result.size ≡ self.now.parameters.size }
+    {
+        self.config.geometry
+    }
+
+    /// How many stamps a page has, and the two periods.
+    pub fn settings(&self) -> Settings
+        ensures k { result.k ≡ self.now.parameters.k }
+        ensures correlated { result.correlated ≡ self.now.parameters.correlated }
+        ensures retained { result.retained ≡ self.now.parameters.retained }
+    {
+        self.config.settings
+    }
+
+    /// How many frames there are.
+    pub fn frames(&self) -> usize
+        ensures { result ≡ self.now.parameters.frames }
+    {
+        self.config.frames
+    }
+
+    /// How many clients there are.
+    pub fn clients(&self) -> u8
+        ensures { result ≡ self.now.parameters.clients }
+    {
+        self.config.clients
+    }
+
+    /// How many entries the trail may have.
+    pub fn room(&self) -> usize
+        ensures { result ≡ self.now.parameters.room }
+    {
+        self.config.room
+    }
+
+    /// The time: 1 and all ticks since.
+    pub fn clock(&self) -> u64
+        ensures { EachPast self.now (λ past. result ≡ clock past) }
+    {
+        self.state.clock
+    }
+
+    /// The greatest LSN marked, else 0.
+    pub fn durable(&self) -> Lsn
+        ensures { EachPast self.now (λ past. result ≡ durable past) }
+    {
+        self.state.durable
+    }
+
+    /// The time of the page's newest reference, or 0.
+    pub fn last(&self, page: PageNo) -> u64
+        ensures { EachPast self.now (λ past. result ≡ last self.now.parameters past page) }
+    {
+        self.state.histories.last(page)
+    }
+
+    /// The page's i-th stamp, newest first and from 1, or 0.
+    pub fn stamp(&self, page: PageNo, i: usize) -> u64
+        ensures { EachPast self.now (λ past. result ≡ hist self.now.parameters past page i) }
+    {
+        self.state.histories.stamp(page, i)
+    }
+}

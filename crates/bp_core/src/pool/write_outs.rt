@@ -1,0 +1,174 @@
+//! Writing pages out.
+ghost use Rattle.std.specs.Prelude.{◌≡◌, ◌<◌, true, false};
+ghost use Rattle.bp_core.specs.declared.entries.Reply.TheVariants.{WriteFirst};
+ghost use Rattle.bp_core.specs.Event.{grant};
+ghost use Rattle.bp_core.specs.Images.{held};
+ghost use Rattle.bp_core.specs.Legal.{allowed, is_out};
+ghost use Rattle.bp_core.specs.Passes.{tickets, writes_out};
+ghost use Rattle.bp_core.specs.PageMap.{reply_of};
+ghost use Rattle.bp_core.specs.Places.{resident};
+ghost use Rattle.bp_core.specs.CoreView.{EachPast, HasRoomFor};
+ghost use Rattle.bp_core.specs.Outcomes.{IsBegin, BeginOutcome, EndedOutcome, FlushOutcome, WriteEndOutcome, Adds};
+
+use crate::entries::{Call, Reply};
+use crate::passes::{EndRefusal, Ended, Flush, WriteTicket};
+use crate::pool::Core;
+use bp_page::{Image, PageNo, PortFault, Refusal};
+
+impl Core {
+    /// Asks that a page be written out if it is unsaved: a ticket to do so; `Absent` where it is not resident, `Clean` where it is
+    /// saved. The page stays in its frame.
+    ///
+    /// `TrailFull` where fewer than two entries are free, else `OutOfMemory`; both change nothing. `Busy` where the page is loading
+    /// or being written out, `NeedLog` where the log is not durable as far as its page LSN; both are entries and change nothing else.
+    pub fn flush(&mut self, client: u8, page: PageNo) -> Result<Flush, Refusal>
+        requires client_in { client < self.old.parameters.clients }
+        requires page_in { page < self.old.parameters.pages }
+        ensures outcome { FlushOutcome self.old client page result self.new }
+    {
+        if self.free() < 2 {
+            return Err(Refusal::TrailFull);
+        }
+        if self.is_loading(page) {
+            self.answer(client, Call::Flush(page), Reply::Busy);
+            return Err(Refusal::Busy);
+        }
+        let Some(frame) = self.frame(page) else {
+            self.answer(client, Call::Flush(page), Reply::Absent);
+            return Ok(Flush::Absent);
+        };
+        let is_unsaved = frame.is_unsaved;
+        let top = frame.top;
+        if frame.is_writing {
+            self.answer(client, Call::Flush(page), Reply::Busy);
+            return Err(Refusal::Busy);
+        }
+        if !is_unsaved {
+            self.answer(client, Call::Flush(page), Reply::Clean);
+            return Ok(Flush::Clean);
+        }
+        if self.durable() < top {
+            self.answer(client, Call::Flush(page), Reply::NeedLog(top));
+            return Err(Refusal::NeedLog(top));
+        }
+        let ticket = self.begin(client, Call::Flush(page), page)?;
+        Ok(Flush::WriteFirst(ticket))
+    }
+
+    /// Begins a write-out of a page, by a fix of another page or by a flush.
+    pub(super) fn begin(
+        &mut self,
+        client: u8,
+        call: Call,
+        page: PageNo,
+    ) -> Result<WriteTicket, Refusal>
+        requires begins { IsBegin call }
+        requires client_in { client < self.old.parameters.clients }
+        requires allowed { EachPast self.old (λ past. allowed self.old.parameters past client call ≡ true) }
+        requires here { EachPast self.old (λ past. resident past page ≡ true) }
+        requires reply { EachPast self.old (λ past. WriteFirst (tickets past) page (held past page) ≡ reply_of self.old.parameters past call) }
+        requires room { HasRoomFor 2 self.old }
+        ensures outcome { BeginOutcome self.old client call page result self.new }
+    {
+        let Some(frame) = self.frame(page) else {
+            unreachable!()
+        };
+        let lsn = frame.top;
+        let Ok(kept) = Image::of(self.alloc, frame.image.bytes()) else {
+            return Err(Refusal::OutOfMemory);
+        };
+        let Ok(image) = Image::of(self.alloc, kept.bytes()) else {
+            return Err(Refusal::OutOfMemory);
+        };
+        let Ok(()) = self.state.writes.reserve(1) else {
+            return Err(Refusal::OutOfMemory);
+        };
+        self.state.frames.begin_write_out(page);
+        let serial = self.state.give_write(client, page);
+        let reply = Reply::WriteFirst {
+            ticket: serial,
+            page,
+            image: kept,
+        };
+        self.trail.record(client, call, reply);
+        Ok(WriteTicket {
+            client,
+            page,
+            serial,
+            image,
+            lsn,
+        })
+    }
+
+    /// Ends a write-out: `Cleaned`, or `StillDirty` where the page was written since it began. Where it failed, which is
+    /// `WriteFailed`, the page stays resident and unsaved. A ticket that is not out here comes back with the result, which is
+    /// `Unknown`, and nothing changes. It takes no memory.
+    pub fn write_end(
+        &mut self,
+        ticket: WriteTicket,
+        write: Result<(), PortFault>,
+    ) -> Result<Ended, EndRefusal<WriteTicket, Result<(), PortFault>>>
+        ensures outcome { WriteEndOutcome self.old ticket write result self.new }
+    {
+        let is_out = self
+            .state
+            .writes
+            .has(ticket.client, ticket.page, ticket.serial);
+        if !is_out {
+            return Err(EndRefusal::Unknown(ticket, write));
+        }
+        let WriteTicket {
+            client,
+            page,
+            serial,
+            image: _,
+            lsn: _,
+        } = ticket;
+        match write {
+            Ok(()) => Ok(self.end_write_out(client, page, serial)),
+            Err(_) => {
+                self.fail_write_out(client, page, serial);
+                Err(EndRefusal::Failed(Refusal::WriteFailed))
+            }
+        }
+    }
+
+    /// A write-out went well: what was written before it began is saved.
+    fn end_write_out(&mut self, client: u8, page: PageNo, serial: u64) -> Ended
+        requires { EachPast self.old (λ past. is_out (grant client page serial) (writes_out past) ≡ true) }
+        ensures { EndedOutcome self.old client page serial result self.new }
+    {
+        let Some(frame) = self.frame(page) else {
+            unreachable!()
+        };
+        let is_rewritten = frame.is_rewritten;
+        self.state.writes.take_back(serial);
+        self.state.frames.end_write_out(page);
+        let call = Call::WriteEnd {
+            ticket: serial,
+            page,
+            good: true,
+        };
+        if is_rewritten {
+            self.trail.record(client, call, Reply::StillDirty);
+            return Ended::StillDirty;
+        }
+        self.trail.record(client, call, Reply::Cleaned);
+        Ended::Cleaned
+    }
+
+    /// A write-out failed: the page stays as unsaved as it is.
+    fn fail_write_out(&mut self, client: u8, page: PageNo, serial: u64)
+        requires { EachPast self.old (λ past. is_out (grant client page serial) (writes_out past) ≡ true) }
+        ensures { Adds self.old client (Call.WriteEnd serial page false) Reply.WriteFailed self.new }
+    {
+        self.state.writes.take_back(serial);
+        self.state.frames.fail_write_out(page);
+        let call = Call::WriteEnd {
+            ticket: serial,
+            page,
+            good: false,
+        };
+        self.trail.record(client, call, Reply::WriteFailed);
+    }
+}

@@ -1,0 +1,98 @@
+//! What a core keeps beside its trail.
+ghost use Rattle.std.specs.Prelude.{◌≡◌, ◌+◌, ◌^◌, ◌<◌, All, IfOk, length};
+
+use crate::config::Config;
+use crate::frame_table::FrameTable;
+use crate::grant_list::GrantList;
+use crate::passes::{Pass, ReadTicket};
+use bp_lruk::Histories;
+use bp_page::{Lsn, PageNo};
+use std::alloc::{AllocError, Global};
+
+/// What the entries of a trail come to.
+#[derive(Drop)]
+pub(crate) struct State {
+    pub(crate) clock: u64,
+    /// The greatest LSN marked.
+    pub(crate) durable: Lsn,
+    pub(crate) passes_given: u64,
+    /// Tickets of both kinds.
+    pub(crate) tickets_given: u64,
+    pub(crate) passes: GrantList,
+    pub(crate) reads: GrantList,
+    pub(crate) writes: GrantList,
+    pub(crate) frames: FrameTable,
+    pub(crate) histories: Histories,
+}
+
+impl State {
+    ghost use Rattle.bp_core.specs.Lodging.{with_grant};
+    ghost use Rattle.bp_core.specs.Agreement.{parameters_of, IsFirst};
+
+    /// What no entries come to, with the room that it will ever need but for passes, histories and images.
+    pub(crate) fn new(alloc: Global, config: &Config) -> Result<State, AllocError>
+        ensures { IfOk result (IsFirst (parameters_of config.now)) }
+    {
+        Ok(State {
+            clock: 1,
+            durable: Lsn::new(0),
+            passes_given: 0,
+            tickets_given: 0,
+            passes: GrantList::new(alloc),
+            reads: GrantList::with_capacity(alloc, config.frames)?,
+            writes: GrantList::new(alloc),
+            frames: FrameTable::with_capacity(alloc, config.frames, config.geometry)?,
+            histories: Histories::new(alloc, config.settings),
+        })
+    }
+
+    /// Gives the next pass, which takes no memory.
+    pub(crate) fn give_pass(&mut self, client: u8, page: PageNo) -> Pass
+        requires few { self.old.passes_given < 2 ^ 63 }
+        requires newest { All (λ g. g.serial < self.old.passes_given) self.old.passes.out }
+        requires room { length self.old.passes.out < self.old.passes.capacity }
+        ensures pass { result ≡ record { client = client; page = page; serial = self.old.passes_given } }
+        ensures after { self.new ≡ record self.old { passes_given = self.old.passes_given + 1; passes = with_grant self.old.passes client page self.old.passes_given } }
+    {
+        let serial = self.passes_given;
+        self.passes_given += 1;
+        self.passes.give(client, page, serial);
+        Pass {
+            client,
+            page,
+            serial,
+        }
+    }
+
+    /// Gives the next ticket, to read a page, which takes no memory.
+    pub(crate) fn give_read(&mut self, client: u8, page: PageNo) -> ReadTicket
+        requires few { self.old.tickets_given < 2 ^ 63 }
+        requires newest { All (λ g. g.serial < self.old.tickets_given) self.old.reads.out }
+        requires room { length self.old.reads.out < self.old.reads.capacity }
+        ensures ticket { result ≡ record { client = client; page = page; serial = self.old.tickets_given } }
+        ensures after { self.new ≡ record self.old { tickets_given = self.old.tickets_given + 1; reads = with_grant self.old.reads client page self.old.tickets_given } }
+    {
+        let serial = self.tickets_given;
+        self.tickets_given += 1;
+        self.reads.give(client, page, serial);
+        ReadTicket {
+            client,
+            page,
+            serial,
+        }
+    }
+
+    /// Gives the next ticket, to write a page out, and returns its number. It takes no memory.
+    pub(crate) fn give_write(&mut self, client: u8, page: PageNo) -> u64
+        requires few { self.old.tickets_given < 2 ^ 63 }
+        requires newest { All (λ g. g.serial < self.old.tickets_given) self.old.writes.out }
+        requires room { length self.old.writes.out < self.old.writes.capacity }
+        ensures serial { result ≡ self.old.tickets_given }
+        ensures after { self.new ≡ record self.old { tickets_given = self.old.tickets_given + 1; writes = with_grant self.old.writes client page self.old.tickets_given } }
+    {
+        let serial = self.tickets_given;
+        self.tickets_given += 1;
+        self.writes.give(client, page, serial);
+        serial
+    }
+}
