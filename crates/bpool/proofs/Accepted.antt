@@ -1,5 +1,5 @@
 -- Words in which clap finds no fault name a run.
-use Rattle.std.proofs.Common.{◌≡◌, ◌∙◌, ℕ, ◌≤◌, ◌<◌, ◌^◌, ◌&&◌, ◌||◌, ◌⊎◌, inl, inr, not, nat_le, nat_lt, if◌then◌else◌, cond, true, false, Bool, codes, ap, refl, sym, subst, List, [], ◌∷◌, Option, Some, None, IfSome, IsSome, is_some, option_map, slice_get, arith}
+use Rattle.std.proofs.Common.{◌≡◌, ◌∙◌, ℕ, ◌≤◌, ◌^◌, ◌&&◌, ◌||◌, ◌⊎◌, inl, inr, not, nat_le, nat_lt, if◌then◌else◌, cond, true, false, Bool, codes, ap, refl, sym, subst, List, [], ◌∷◌, Option, Some, None, IsSome, is_some, option_map}
 use Rattle.std.proofs.lemmas.Slice.Eq.{bytes_eq-Decides}
 use Rattle.std.proofs.lemmas.Bool.{leb-true}
 use Rattle.std.specs.List.{filter, find, list_any}
@@ -7,19 +7,19 @@ use Rattle.std.specs.Option.{option_map_or}
 use Rattle.std.specs.Str.{bytes_eq}
 use Rattle.std.specs.Str.Parse.{digits_value, without_leading_plus}
 use Rattle.clap.specs.Facts.{explicit_source}
-use Rattle.clap.specs.Kinds.{Kinds, or_else}
+use Rattle.clap.specs.Kinds.{Kinds}
 use Rattle.clap.specs.Faults.{check_fault, defaults_fault, entered_fault, fault_of, level_fault, settle_fault, walk_fault}
 use Rattle.clap.specs.declared.parser.matches.ArgMatches.{ArgMatches}
-use Rattle.clap.specs.Simple.{App, HasMatchesOf, Shape, is_simple, subcommand_rows_of, built, built_leaf, entered, inherited, label_of, marked_built, names_of, on_top, rows_at, subcommand_of, with_index, with_leaf_noted, filled as filled_rule, help_shape}
+use Rattle.clap.specs.Simple.{App, HasMatchesOf, Shape, is_simple, subcommand_rows_of, built, built_leaf, entered, inherited, marked_built, names_of, on_top, rows_at, subcommand_of, with_index, with_leaf_noted, filled as filled_rule, help_shape}
 use Rattle.clap.specs.Takes.{is_given, value_passes}
 use Rattle.clap.specs.ValueTests.{is_numeral}
 use Rattle.clap.specs.Values.{read_as}
-use Rattle.clap.specs.Walk.{Held, Names, Row, Rule, Text, answers_to, finished, first_of, has_row, is_empty, nothing_held, one_of, reading_by, row_text, settled, stop_after, walk, walk_from}
+use Rattle.clap.specs.Walk.{Row, Rule, Text, answers_to, finished, first_of, has_row, is_empty, nothing_held, one_of, reading_by, settled, stop_after, walk, walk_from}
 use Rattle.clap.specs.declared.builder.value_parser.ValueParser.TheVariants as parser
-use Rattle.clap.specs.declared.error.kind.ErrorKind.TheVariants.{MissingRequiredArgument, MissingSubcommand}
+use Rattle.clap.specs.declared.error.kind.ErrorKind.TheVariants.{MissingRequiredArgument}
 use Rattle.clap.proofs.WalkLemmas.{both}
 use Rattle.bpool.specs.Command.{bpool_app, number_option, positional as positional_rule, run_shape}
-use Rattle.bpool.specs.Words.{IsInLimits, Told, number_at, told_by, told_by_rows, told_in, pages_of, trace_of, unsigned_of}
+use Rattle.bpool.specs.Words.{IsInLimits, Told, number_at, told_by, told_by_rows, told_in, pages_of, trace_of}
 use Rattle.bpool.proofs.Entering.{NotHelp, walk_not_help}
 use Rattle.bpool.proofs.Fits.{AllFit, Fits, IsOf, or_else-nil}
 use Rattle.bpool.proofs.Level.{IsFilled, has_default, level_filled}
@@ -81,11 +81,11 @@ record IsNumber (id : Text) (low high : ℕ) (rows : List Row) : Type 0 where
 
 number_read : (id : Text) (low high : ℕ) (a : Rule) (rows : List Row) → a.parser ≡ Some (parser.Unsigned low high) → IsRead id a rows → IsNumber id low high rows
 number_read id low high a rows parses read = record {
-    number = value;
-    is = rw read.as_value (rw parses (rw (numeral.0, fits.0) refl));
-    at_least = leb-true low value range.0;
-    at_most = leb-true value high range.1;
-  }
+  number = value;
+  is = rw read.as_value (rw parses (rw (numeral.0, fits.0) refl));
+  at_least = leb-true low value range.0;
+  at_most = leb-true value high range.1;
+}
   where
     value : ℕ
     value = digits_value 10 (without_leading_plus read.word)
@@ -135,14 +135,14 @@ both_given false h e = cc
 
 pub rows_told : (rows : List Row) → IsFilled run_built rows → (told : Told) × (told_by_rows rows ≡ Some told) × IsInLimits told
 rows_told rows filled = (
-    record { trace = trace_of trace.word; pages = pages_of pages.word; frames = frames.number; k = k.number; correlated = correlated.number; retained = retained.number },
-    rw (trace.as_text, pages.as_text, frames.is, k.is, correlated.is, retained.is) refl,
-    record {
-      some_frames = frames.at_least;
-      few_frames = frames.at_most;
-      settings = record { at_least_one = k.at_least; at_most_sixteen = k.at_most; correlated_fits = correlated.at_most; retained_fits = retained.at_most };
-    },
-  )
+  record { trace = trace_of trace.word; pages = pages_of pages.word; frames = frames.number; k = k.number; correlated = correlated.number; retained = retained.number },
+  rw (trace.as_text, pages.as_text, frames.is, k.is, correlated.is, retained.is) refl,
+  record {
+    some_frames = frames.at_least;
+    few_frames = frames.at_most;
+    settings = record { at_least_one = k.at_least; at_most_sixteen = k.at_most; correlated_fits = correlated.at_most; retained_fits = retained.at_most };
+  },
+)
   where
     given : (is_given (codes "trace") rows ≡ true) × (is_given (codes "page-file") rows ≡ true)
     given = both_given (is_given (codes "trace") rows) (is_given (codes "page-file") rows) filled.checked
@@ -204,6 +204,12 @@ run_entered (Some p) other e fault = go (answers_to p.0 (codes "run", [])) (answ
     go false true is other e fault = cc
     go false false is other e fault = cc
 
+run_tells : (stop : Option (Text × List Text)) (run : IsRun stop) (told : Told)
+    → told_by_rows (finished run_built.rules (walk run_built.rules [] nothing_held run.words).held) ≡ Some told → told_in (entered (built bpool_app) stop) ≡ Some told
+run_tells stop run told tells =
+    let met : told_in (entered (built bpool_app) stop) ≡ told_in (Some (rows_at run_built run.words)) = ap told_in run.met in
+    met ∙ tells
+
 -- words in which clap finds no fault
 pub accepted : (words : List Text) → fault_of bpool_app words ≡ [] → (told : Told) × (told_in (subcommand_of bpool_app words) ≡ Some told) × IsInLimits told
 accepted words fault =
@@ -218,7 +224,7 @@ accepted words fault =
     let filled = or_else-nil (defaults_fault (settled top.rules end).rows top.rules) (check_fault top (finished top.rules end) has) settles.1 in
     let run = run_entered stop (walk_not_help top names (walk_from nothing_held) words refl walked.0 tt) (entered_one (finished top.rules end) has filled.1) below.0 in
     let told = rows_told _ (level_filled run_built run.words refl run.fault) in
-    (told.0, ap told_in run.met ∙ told.1, told.2)
+    (told.0, run_tells stop run told.0 told.1, told.2)
 
 -- what the matches of such words tell
 pub record IsTold (words : List Text) (m : ArgMatches) : Type 0 where

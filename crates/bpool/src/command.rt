@@ -66,12 +66,40 @@ fn run_arguments<'a>(alloc: Global) -> Result<Vec<Arg<'a>>, AllocError>
     ensures local { IfOk result (λ arguments. All (λ a. a.global ≡ false) arguments.items) }
 {
     let arguments = vec![in alloc;
-        positional(alloc, "trace", "TRACE", "The trace: a path, or stdin for the standard input"),
-        positional(alloc, "page-file", "PAGEFILE", "The page file: a path, or mem:N for N pages of zero bytes in memory, N from 1 to 1048576"),
-        number_option(alloc, "frames", frame_counts(), "8", "Frames of the pool, from 1 to 65536"),
+        positional(
+            alloc,
+            "trace",
+            "TRACE",
+            "The trace: a path, or stdin for the standard input"
+        ),
+        positional(
+            alloc,
+            "page-file",
+            "PAGEFILE",
+            "The page file: a path, or mem:N for N pages of zero bytes in memory, N from 1 to 1048576"
+        ),
+        number_option(
+            alloc,
+            "frames",
+            frame_counts(),
+            "8",
+            "Frames of the pool, from 1 to 65536"
+        ),
         number_option(alloc, "k", stamp_counts(), "2", "K of LRU-K, from 1 to 16"),
-        number_option(alloc, "correlated", periods(), "0", "Correlated reference period in ticks, from 0 to 2^62"),
-        number_option(alloc, "retained", periods(), "1000", "Retained information period in ticks, from 0 to 2^62"),
+        number_option(
+            alloc,
+            "correlated",
+            periods(),
+            "0",
+            "Correlated reference period in ticks, from 0 to 2^62"
+        ),
+        number_option(
+            alloc,
+            "retained",
+            periods(),
+            "1000",
+            "Retained information period in ticks, from 0 to 2^62"
+        ),
     ]?;
     Ok(arguments)
 }
@@ -93,7 +121,8 @@ pub fn bpool_command<'a>(alloc: Global) -> Result<Command<'a>, AllocError>
     ensures { IfOk result (λ c. app_of c ≡ bpool_app) }
 {
     let run = run_command(alloc)?;
-    let command = Command::new(alloc, "bpool")
+    let named = Command::new(alloc, "bpool").bin_name("bpool")?;
+    let command = named
         .about("A buffer pool with LRU-K replacement")
         .no_binary_name(true)
         .subcommand_required(true)

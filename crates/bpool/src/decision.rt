@@ -100,3 +100,6 @@ pub fn decide<'a>(alloc: Global, words: &'a [&'a str]) -> Result<RunOrder, Endin
         decide_by(alloc, words)
     }
 }
+
+#[cfg(test)]
+mod tests;

@@ -51,7 +51,11 @@ fn trace_source<'a>(word: &'a str) -> TraceSource<'a>
 fn page_file<'a>(word: &'a str) -> PageFile<'a>
     ensures { spec.pages_told result ≡ spec.pages_of word.entry.now }
 {
-    match word.as_bytes().strip_prefix(b"mem:".as_slice()).and_then(number_of) {
+    match word
+        .as_bytes()
+        .strip_prefix(b"mem:".as_slice())
+        .and_then(number_of)
+    {
         Some(pages) => PageFile::Memory(pages),
         None => PageFile::Path(word),
     }

@@ -1,4 +1,4 @@
-use Rattle.std.proofs.Common.{◌≡◌, ◌∙◌, ℕ, ◌+◌, ◌-◌, ◌*◌, ◌<◌, ◌≤◌, arith, sym, add-one, get_or, refl, ap}
+use Rattle.std.proofs.Common.{◌∙◌, arith, sym, add-one, get_or, refl}
 use Rattle.std.proofs.lemmas.List.{drop_all}
 use Rattle.bpool.specs.Number.{number_from}
 use Rattle.bpool.proofs.Digits.{digit_bounds, grows, number_from-digit, number_from-other}
