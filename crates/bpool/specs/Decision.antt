@@ -7,7 +7,7 @@ use Rattle.clap.specs.declared.error.kind.ErrorKind.TheVariants.{DisplayHelp, Ou
 use Rattle.bp_page.specs.declared.refusals.Refusal.TheVariants.{BadGeometry, OutOfMemory}
 use Rattle.bpool.specs.Command.{bpool_app}
 use Rattle.bpool.specs.Words.{Told, TraceAt, at_path, from_stdin, PagesIn, in_file, in_memory, told_by}
-use Rattle.bpool.specs.declared.decision.RunOrder.{RunOrder}
+use Rattle.bpool.specs.declared.order.RunOrder.{RunOrder}
 use Rattle.bpool.specs.declared.ending.Ending.{Ending}
 use Rattle.bpool.specs.declared.ending.Ending.TheVariants as ending
 

@@ -6,6 +6,7 @@ mod decision;
 mod ending;
 mod line;
 mod number;
+mod order;
 mod words;
 
 use decision::decide;

@@ -1,5 +1,6 @@
-use super::{RunOrder, decide};
+use super::decide;
 use crate::ending::Ending;
+use crate::order::RunOrder;
 use bp_page::Refusal;
 use std::alloc::Global;
 use std::test::Fail;
