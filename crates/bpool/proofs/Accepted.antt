@@ -1,5 +1,5 @@
 -- Words in which clap finds no fault name a run.
-use Rattle.std.proofs.Common.{◌≡◌, ◌∙◌, ℕ, ◌≤◌, ◌<◌, ◌^◌, ◌&&◌, ◌||◌, ◌⊎◌, inl, inr, not, nat_le, nat_lt, if◌then◌else◌, cond, true, false, Bool, codes, ap, refl, sym, subst, List, [], ◌∷◌, Option, Some, None, IfSome, IsSome, is_some, option_map, slice_get, arith}
+use Rattle.std.proofs.Common.{◌≡◌, ◌∙◌, ℕ, ◌≤◌, ◌^◌, ◌&&◌, ◌||◌, ◌⊎◌, inl, inr, not, nat_le, nat_lt, if◌then◌else◌, cond, true, false, Bool, codes, ap, refl, sym, subst, List, [], ◌∷◌, Option, Some, None, IsSome, is_some, option_map}
 use Rattle.std.proofs.lemmas.Slice.Eq.{bytes_eq-Decides}
 use Rattle.std.proofs.lemmas.Bool.{leb-true}
 use Rattle.std.specs.List.{filter, find, list_any}
@@ -7,19 +7,19 @@ use Rattle.std.specs.Option.{option_map_or}
 use Rattle.std.specs.Str.{bytes_eq}
 use Rattle.std.specs.Str.Parse.{digits_value, without_leading_plus}
 use Rattle.clap.specs.Facts.{explicit_source}
-use Rattle.clap.specs.Kinds.{Kinds, or_else}
+use Rattle.clap.specs.Kinds.{Kinds}
 use Rattle.clap.specs.Faults.{check_fault, defaults_fault, entered_fault, fault_of, level_fault, settle_fault, walk_fault}
 use Rattle.clap.specs.declared.parser.matches.ArgMatches.{ArgMatches}
-use Rattle.clap.specs.Simple.{App, HasMatchesOf, Shape, is_simple, subcommand_rows_of, built, built_leaf, entered, inherited, label_of, marked_built, names_of, on_top, rows_at, subcommand_of, with_index, with_leaf_noted, filled as filled_rule, help_shape}
+use Rattle.clap.specs.Simple.{App, HasMatchesOf, Shape, is_simple, subcommand_rows_of, built, built_leaf, entered, inherited, marked_built, names_of, on_top, rows_at, subcommand_of, with_index, with_leaf_noted, filled as filled_rule, help_shape}
 use Rattle.clap.specs.Takes.{is_given, value_passes}
 use Rattle.clap.specs.ValueTests.{is_numeral}
 use Rattle.clap.specs.Values.{read_as}
-use Rattle.clap.specs.Walk.{Held, Names, Row, Rule, Text, answers_to, finished, first_of, has_row, is_empty, nothing_held, one_of, reading_by, row_text, settled, stop_after, walk, walk_from}
+use Rattle.clap.specs.Walk.{Row, Rule, Text, answers_to, finished, first_of, has_row, is_empty, nothing_held, one_of, reading_by, settled, stop_after, walk, walk_from}
 use Rattle.clap.specs.declared.builder.value_parser.ValueParser.TheVariants as parser
-use Rattle.clap.specs.declared.error.kind.ErrorKind.TheVariants.{MissingRequiredArgument, MissingSubcommand}
+use Rattle.clap.specs.declared.error.kind.ErrorKind.TheVariants.{MissingRequiredArgument}
 use Rattle.clap.proofs.WalkLemmas.{both}
 use Rattle.bpool.specs.Command.{bpool_app, number_option, positional as positional_rule, run_shape}
-use Rattle.bpool.specs.Words.{IsInLimits, Told, number_at, told_by, told_by_rows, told_in, pages_of, trace_of, unsigned_of}
+use Rattle.bpool.specs.Words.{IsInLimits, Told, number_at, told_by, told_by_rows, told_in, pages_of, trace_of}
 use Rattle.bpool.proofs.Entering.{NotHelp, walk_not_help}
 use Rattle.bpool.proofs.Fits.{AllFit, Fits, IsOf, or_else-nil}
 use Rattle.bpool.proofs.Level.{IsFilled, has_default, level_filled}
@@ -204,6 +204,12 @@ run_entered (Some p) other e fault = go (answers_to p.0 (codes "run", [])) (answ
     go false true is other e fault = cc
     go false false is other e fault = cc
 
+run_tells : (stop : Option (Text × List Text)) (run : IsRun stop) (told : Told)
+    → told_by_rows (finished run_built.rules (walk run_built.rules [] nothing_held run.words).held) ≡ Some told → told_in (entered (built bpool_app) stop) ≡ Some told
+run_tells stop run told tells =
+    let met : told_in (entered (built bpool_app) stop) ≡ told_in (Some (rows_at run_built run.words)) = ap told_in run.met in
+    met ∙ tells
+
 -- words in which clap finds no fault
 pub accepted : (words : List Text) → fault_of bpool_app words ≡ [] → (told : Told) × (told_in (subcommand_of bpool_app words) ≡ Some told) × IsInLimits told
 accepted words fault =
@@ -218,7 +224,7 @@ accepted words fault =
     let filled = or_else-nil (defaults_fault (settled top.rules end).rows top.rules) (check_fault top (finished top.rules end) has) settles.1 in
     let run = run_entered stop (walk_not_help top names (walk_from nothing_held) words refl walked.0 tt) (entered_one (finished top.rules end) has filled.1) below.0 in
     let told = rows_told _ (level_filled run_built run.words refl run.fault) in
-    (told.0, ap told_in run.met ∙ told.1, told.2)
+    (told.0, run_tells stop run told.0 told.1, told.2)
 
 -- what the matches of such words tell
 pub record IsTold (words : List Text) (m : ArgMatches) : Type 0 where

@@ -1,5 +1,5 @@
 -- A command with a list of arguments.
-use Rattle.std.proofs.Common.{◌≡◌, ◌∙◌, Bool, ◌||◌, false, ap, ap₂, refl, sym, List, [], ◌∷◌, map, fold, All}
+use Rattle.std.proofs.Common.{◌≡◌, ◌∙◌, Bool, ◌||◌, false, ap, ap₂, sym, List, [], ◌∷◌, map, fold, All}
 use Rattle.std.proofs.lemmas.List.Elements.{All-head, All-tail}
 use Rattle.clap.specs.Words.{AddsArg, AddsInTurn, App, app_of, rule_of, with_rule}
 use Rattle.clap.specs.declared.builder.arg.Arg.{Arg}

@@ -1,19 +1,18 @@
 -- The rows that a parse without a fault leaves: each is of one of the rules, and its first value passes that rule's parser.
-use Rattle.std.proofs.Common.{◌≡◌, ◌∙◌, ℕ, suc, ◌==◌, ◌&&◌, ◌⊎◌, inl, inr, nat_lt, not, if◌then◌else◌, cond, true, false, Bool, ap, refl, sym, subst, List, [], ◌∷◌, ◌++◌, length, Option, Some, None}
+use Rattle.std.proofs.Common.{◌≡◌, ℕ, ◌&&◌, ◌⊎◌, inl, inr, nat_lt, cond, true, false, Bool, ap, refl, subst, List, [], ◌∷◌, ◌++◌, Some}
 use Rattle.std.specs.List.{find, list_all}
 use Rattle.std.specs.Str.{bytes_eq}
 use Rattle.clap.specs.Facts.{unwrap_or_range}
 use Rattle.clap.specs.declared.error.kind.ErrorKind.{ErrorKind}
 use Rattle.clap.specs.declared.error.kind.ErrorKind.TheVariants.{InvalidValue}
-use Rattle.clap.specs.declared.parser.matches.ValueSource.TheVariants.{CommandLine, DefaultValue}
-use Rattle.clap.specs.Kinds.{Kinds, or_else, range_kinds, values_kinds}
+use Rattle.clap.specs.declared.parser.matches.ValueSource.TheVariants.{CommandLine}
+use Rattle.clap.specs.Kinds.{Kinds, or_else, range_kinds}
 use Rattle.clap.specs.Faults.{action_fault, repeat_fault, use_fault, values_fault}
 use Rattle.clap.specs.Takes.{value_passes}
 use Rattle.clap.specs.Walk.{Row, Rule, Text, action_of, at_row, more_values, most_values, reading_by, stronger, used, used_as, values_or_missing, with_values, without}
 use Rattle.clap.specs.declared.builder.action.ArgAction.{ArgAction}
 use Rattle.clap.specs.declared.builder.action.ArgAction.TheVariants.{Set, Help}
 use Rattle.clap.specs.declared.parser.matches.ValueSource.{ValueSource}
-use Rattle.clap.specs.declared.builder.value_parser.Reading.{Reading}
 
 pub or_else-nil : (a b : Kinds) → or_else a b ≡ [] → (a ≡ []) × (b ≡ [])
 or_else-nil [] b e = (refl, e)

@@ -1,15 +1,12 @@
 -- The rows at the end of a parse without a fault: each fits, and each default is there.
-use Rattle.std.proofs.Common.{◌≡◌, ◌∙◌, ℕ, ◌&&◌, ◌||◌, ◌⊎◌, inl, inr, not, if◌then◌else◌, cond, true, false, Bool, ap, refl, sym, subst, List, [], ◌∷◌, ◌++◌, fold, Option, Some, None, arith, ne_eqb}
+use Rattle.std.proofs.Common.{◌≡◌, ◌&&◌, ◌||◌, inl, inr, not, if◌then◌else◌, cond, true, false, Bool, refl, subst, List, [], ◌∷◌, ◌++◌, fold, arith, ne_eqb}
 use Rattle.std.proofs.lemmas.Slice.Eq.{bytes_eq-Decides}
-use Rattle.std.specs.List.{filter, find, list_any}
-use Rattle.std.specs.Option.{option_map_or}
+use Rattle.std.specs.List.{list_any}
 use Rattle.std.specs.Str.{bytes_eq}
-use Rattle.clap.specs.Facts.{explicit_source}
-use Rattle.clap.specs.Kinds.{Kinds, or_else, request_kinds}
+use Rattle.clap.specs.Kinds.{request_kinds}
 use Rattle.clap.specs.Faults.{check_fault, default_fault, defaults_fault, given_default_fault, level_fault, settle_fault, values_fault, walk_fault}
 use Rattle.clap.specs.Simple.{Shape}
-use Rattle.clap.specs.Takes.{is_given}
-use Rattle.clap.specs.Walk.{Row, Rule, Text, action_of, at_row, default_rows, finished, has_row, is_empty, more_values, nothing_held, reading_by, settled, walk, walk_from, with_default, with_values}
+use Rattle.clap.specs.Walk.{Row, Rule, Text, action_of, default_rows, finished, has_row, is_empty, more_values, nothing_held, reading_by, settled, walk, walk_from, with_default, with_values}
 use Rattle.clap.specs.declared.builder.value_parser.Reading.{Reading}
 use Rattle.clap.specs.declared.parser.matches.ValueSource.{ValueSource}
 use Rattle.clap.specs.declared.parser.matches.ValueSource.TheVariants.{DefaultValue}

@@ -1,8 +1,8 @@
 -- Texts without a line end.
-use Rattle.std.proofs.Common.{◌≡◌, ◌∙◌, ℕ, zero, suc, ◌-◌, ◌==◌, slice_index, ◌&&◌, ◌++◌, not, cond, true, false, Bool, Bor, List, [], ◌∷◌, length, drop, take, map, codes, ap, refl, sym}
+use Rattle.std.proofs.Common.{◌≡◌, ℕ, zero, suc, ◌-◌, ◌==◌, slice_index, ◌&&◌, ◌++◌, not, cond, true, false, Bool, Bor, List, [], ◌∷◌, length, drop, take, map, codes, ap, refl, sym}
 use Rattle.std.proofs.lemmas.List.Folds.{flat_map-map}
 use Rattle.std.specs.Char.{is_ascii_whitespace}
-use Rattle.std.specs.List.{flat_map, join_by, list_all, onto_first, prefix_len, slice_split, take_while}
+use Rattle.std.specs.List.{flat_map, join_by, list_all, onto_first, prefix_len, slice_split}
 use Rattle.std.specs.Str.Lines.{lines, lines_of_parts, strip_carriage_return}
 use Rattle.bpool.specs.Line.{first_lines, first_paragraph, is_filled, is_line, unindented}
 

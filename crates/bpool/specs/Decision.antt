@@ -1,13 +1,13 @@
 -- How the program goes on after its words.
 use Rattle.std.specs.Prelude.{◌≡◌, ◌≢◌, ℕ, ◌&&◌, nat_le, if◌then◌else◌, List, Result, Ok, Err, Some}
-use Rattle.clap.specs.Kinds.{IsAmong, Kinds}
+use Rattle.clap.specs.Kinds.{IsAmong}
 use Rattle.clap.specs.Words.{Text, fault_of}
 use Rattle.clap.specs.declared.error.kind.ErrorKind.{ErrorKind}
 use Rattle.clap.specs.declared.error.kind.ErrorKind.TheVariants.{DisplayHelp, OutOfMemory as no_memory}
 use Rattle.bp_page.specs.declared.refusals.Refusal.TheVariants.{BadGeometry, OutOfMemory}
 use Rattle.bpool.specs.Command.{bpool_app}
-use Rattle.bpool.specs.Words.{Told, Trace, at_path, from_stdin, Pages, in_file, in_memory, told_by}
-use Rattle.bpool.specs.declared.decision.RunOrder.{RunOrder}
+use Rattle.bpool.specs.Words.{Told, TraceAt, at_path, from_stdin, PagesIn, in_file, in_memory, told_by}
+use Rattle.bpool.specs.declared.order.RunOrder.{RunOrder}
 use Rattle.bpool.specs.declared.ending.Ending.{Ending}
 use Rattle.bpool.specs.declared.ending.Ending.TheVariants as ending
 
@@ -24,12 +24,12 @@ abbrev pub order_of : RunOrder → Order
 order_of o = record { pages = o.geometry.pages; size = o.geometry.size; frames = o.frames; k = o.settings.k; correlated = o.settings.correlated; retained = o.settings.retained }
 
 -- the trace is looked at last
-abbrev pub with_trace : Order → Trace → Result Order Ending
+abbrev pub with_trace : Order → TraceAt → Result Order Ending
 with_trace order from_stdin = Ok order
 with_trace order (at_path path) = Err ending.TraceNotOpened
 
 -- the page file is looked at first
-abbrev pub with_pages : Told → Pages → Result Order Ending
+abbrev pub with_pages : Told → PagesIn → Result Order Ending
 with_pages told (in_file path) = Err ending.PageFileNotOpened
 with_pages told (in_memory n) =
     if nat_le 1 n && nat_le n 1048576

@@ -9,7 +9,7 @@ use Rattle.bp_core.specs.Legal.{Legal}
 use Rattle.bp_core.specs.Pieces.Manner.{driver}
 use Rattle.bp_core.specs.Script.{Follows}
 use Rattle.clap.specs.Words.{Text}
-use Rattle.bpool.specs.declared.decision.RunOrder.{RunOrder}
+use Rattle.bpool.specs.declared.order.RunOrder.{RunOrder}
 use Rattle.bpool.specs.Words.{Told, told_by}
 use Rattle.bpool.specs.Decision.{begun, order_of}
 use Rattle.bpool.specs.Script.{script_of}

@@ -1,6 +1,5 @@
 -- What the words of a command line name, in clap's own words.
-use Rattle.std.specs.Prelude.{◌≡◌, ℕ, ◌^◌, ◌&&◌, ◌≤◌, nat_lt, if◌then◌else◌, List, [], ◌∷◌, drop, take, codes, Option, Some, None, option_and_then}
-use Rattle.std.specs.Option.{option_map_or}
+use Rattle.std.specs.Prelude.{ℕ, ◌^◌, ◌&&◌, ◌≤◌, nat_lt, if◌then◌else◌, List, [], ◌∷◌, drop, take, codes, Option, Some, None}
 use Rattle.std.specs.Str.{bytes_eq}
 use Rattle.std.specs.Str.Parse.{digits_value, without_leading_plus}
 use Rattle.clap.specs.Walk.{is_empty}
@@ -16,19 +15,19 @@ use Rattle.bpool.specs.declared.words.PageFile.TheVariants as page_file
 use Rattle.bpool.specs.declared.words.RunWords.{RunWords}
 
 -- where a run reads its trace
-pub data Trace : Type 0 where
-  from_stdin : Trace
-  at_path : Text → Trace
+pub data TraceAt : Type 0 where
+  from_stdin : TraceAt
+  at_path : Text → TraceAt
 
 -- where the pages of a run stand
-pub data Pages : Type 0 where
-  in_memory : ℕ → Pages
-  in_file : Text → Pages
+pub data PagesIn : Type 0 where
+  in_memory : ℕ → PagesIn
+  in_file : Text → PagesIn
 
 -- what a run is told
 pub record Told : Type 0 where
-  pub trace : Trace
-  pub pages : Pages
+  pub trace : TraceAt
+  pub pages : PagesIn
   pub frames : ℕ
   pub k : ℕ
   pub correlated : ℕ
@@ -36,15 +35,15 @@ pub record Told : Type 0 where
 
 -- ---- one word
 
-abbrev pub trace_of : Text → Trace
+abbrev pub trace_of : Text → TraceAt
 trace_of word = if bytes_eq word (codes "stdin") then from_stdin else at_path word
 
-abbrev pub pages_after : Text → Option ℕ → Pages
+abbrev pub pages_after : Text → Option ℕ → PagesIn
 pages_after word None = in_file word
 pages_after word (Some n) = in_memory n
 
 -- `mem:` with a number after it is so many pages in memory, and any other word is a path
-abbrev pub pages_of : Text → Pages
+abbrev pub pages_of : Text → PagesIn
 pages_of word = pages_after word (if bytes_eq (take 4 word) (codes "mem:") then number_in (drop 4 word) else None)
 
 -- the number that `u64` reads from a text: digits, where a plus may stand before them
@@ -100,11 +99,11 @@ words_or_default (word ∷ words) = word ∷ words
 
 -- ---- the values of the code
 
-abbrev pub trace_told : TraceSource → Trace
+abbrev pub trace_told : TraceSource → TraceAt
 trace_told trace_source.Stdin = from_stdin
 trace_told (trace_source.Path path) = at_path path.now
 
-abbrev pub pages_told : PageFile → Pages
+abbrev pub pages_told : PageFile → PagesIn
 pages_told (page_file.Memory n) = in_memory n
 pages_told (page_file.Path path) = in_file path.now
 

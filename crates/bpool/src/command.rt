@@ -121,7 +121,8 @@ pub fn bpool_command<'a>(alloc: Global) -> Result<Command<'a>, AllocError>
     ensures { IfOk result (λ c. app_of c ≡ bpool_app) }
 {
     let run = run_command(alloc)?;
-    let command = Command::new(alloc, "bpool")
+    let named = Command::new(alloc, "bpool").bin_name("bpool")?;
+    let command = named
         .about("A buffer pool with LRU-K replacement")
         .no_binary_name(true)
         .subcommand_required(true)

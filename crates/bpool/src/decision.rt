@@ -8,6 +8,7 @@ ghost use Rattle.bpool.specs.Words as spec;
 
 use crate::ending::Ending;
 use crate::line::Line;
+use crate::order::RunOrder;
 use crate::words::{PageFile, RunWords, TraceSource, read_words};
 use bp_lruk::Settings;
 use bp_page::{Geometry, Refusal};
@@ -17,14 +18,6 @@ use std::alloc::Global;
 
 /// The bytes of a page.
 const PAGE_SIZE: usize = 64;
-
-/// What a run is over.
-#[derive(Clone, Copy, Debug)]
-pub struct RunOrder {
-    pub geometry: Geometry,
-    pub frames: usize,
-    pub settings: Settings,
-}
 
 /// The words of the stored run.
 fn default_words<'a>() -> &'a [&'a str]
@@ -100,3 +93,6 @@ pub fn decide<'a>(alloc: Global, words: &'a [&'a str]) -> Result<RunOrder, Endin
         decide_by(alloc, words)
     }
 }
+
+#[cfg(test)]
+mod tests;

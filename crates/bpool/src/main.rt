@@ -10,6 +10,7 @@ mod input;
 mod line;
 mod lines;
 mod numbers;
+mod order;
 mod printing;
 mod record;
 mod run;

@@ -9,9 +9,10 @@ ghost use Rattle.bpool.specs.Ending.{is_help};
 ghost use Rattle.bpool.specs.Words.{words_or_default};
 ghost use Rattle.bpool.specs.Run.{RunsWords, parameters_for, room_for, Reports, Runs};
 
-use crate::decision::{RunOrder, decide};
+use crate::decision::decide;
 use crate::driver::drive_all;
 use crate::ending::Ending;
+use crate::order::RunOrder;
 use crate::printing::{report, report_rows};
 use crate::script::read_script;
 use bp_core::{Core, Entry, Refused, Row};

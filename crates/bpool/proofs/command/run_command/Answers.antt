@@ -1,8 +1,6 @@
 use Rattle.std.proofs.Common.{◌≡◌, ◌∙◌, ap, codes, fold, List, map}
 use Rattle.clap.specs.Words.{App, Rule, app_of, new_app, rule_of, with_rule}
 use Rattle.clap.specs.Simple.{app_of_fields}
-use Rattle.clap.specs.declared.builder.command.Command.TheViews.{out-Command}
-use Rattle.bpool.specs.Command.{run_rules}
 use Rattle.bpool.proofs.Building.{adds_local, adds_rules}
 use Rattle.bpool.proofs.command.run_command.Goals as goal
 

@@ -3,7 +3,7 @@ use Rattle.std.proofs.Common.{◌≡◌, ℕ, Bool, List, Option, Some, None, Ok
 use Rattle.std.specs.Prelude.{IfSome}
 use Rattle.clap.specs.Words.{Text}
 use Rattle.clap.specs.Walk.{texts}
-use Rattle.bpool.specs.declared.decision.RunOrder.{RunOrder}
+use Rattle.bpool.specs.declared.order.RunOrder.{RunOrder}
 use Rattle.bpool.specs.Words.{words_or_default}
 use Rattle.bpool.specs.Decision.{IsDecision}
 use Rattle.bpool.specs.Run.{Runs, RunsWords}

@@ -4,7 +4,7 @@ use Rattle.clap.specs.Simple.{app_of}
 use Rattle.clap.specs.Walk.{texts}
 use Rattle.bpool.proofs.Accepted.{is_told, matches_told, told_is}
 use Rattle.bpool.specs.Command.{bpool_app}
-use Rattle.bpool.specs.Words.{IsInLimits, Told, told_of}
+use Rattle.bpool.specs.Words.{IsInLimits, told_of}
 use Rattle.bpool.proofs.words.read_words.Goals as goal
 
 pub unwrap-run-requires : goal.unwrap-run-requires

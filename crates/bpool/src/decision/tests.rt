@@ -1,0 +1,247 @@
+use super::decide;
+use crate::ending::Ending;
+use crate::order::RunOrder;
+use bp_page::Refusal;
+use std::alloc::Global;
+use std::test::Fail;
+
+/// Decides by the words of a line.
+fn decided(alloc: Global, line: &str) -> Result<Result<RunOrder, Ending>, Fail> {
+    let words: Vec<&str> = line.split_ascii_whitespace().collect(alloc)?;
+    Ok(decide(alloc, words.as_slice()))
+}
+
+/// What the program says of a line that it does not run.
+fn ending_of(alloc: Global, line: &str) -> Result<Ending, Fail> {
+    match decided(alloc, line)? {
+        Ok(_) => Err(Fail::from("the words are run")),
+        Err(ending) => Ok(ending),
+    }
+}
+
+/// The status, the output and the error output at a line that is not run.
+fn ended(alloc: Global, line: &str) -> Result<(u8, String, String), Fail> {
+    let ending = ending_of(alloc, line)?;
+    let mut out = Vec::new(alloc);
+    let mut err = Vec::new(alloc);
+    let status = ending.finish(&mut out, &mut err);
+    Ok((status, String::from_utf8(out)?, String::from_utf8(err)?))
+}
+
+#[test]
+fn words_that_are_run(rt: HostRuntime) -> Result<(), Fail> {
+    // pages, frames, K, the correlated and the retained period
+    let rows = [
+        ("", [16, 2, 1, 0, 1000]),
+        ("run stdin mem:16 --frames 2 --k 1", [16, 2, 1, 0, 1000]),
+        ("run stdin mem:16", [16, 8, 2, 0, 1000]),
+        (
+            "run stdin mem:1 --frames=1 --k=16 --correlated=4611686018427387904 --retained=0",
+            [1, 1, 16, 4611686018427387904, 0],
+        ),
+        (
+            "run --retained 4611686018427387904 stdin --frames 65536 mem:1048576 --k +3",
+            [1048576, 65536, 3, 0, 4611686018427387904],
+        ),
+        ("run -- stdin mem:0000000000000000002", [2, 8, 2, 0, 1000]),
+    ];
+    for (line, numbers) in rows {
+        let Ok(order) = decided(rt.alloc(), line)? else {
+            return Err(Fail::from("the words are refused"));
+        };
+        let settings = order.settings;
+        let got = [
+            order.geometry.pages,
+            order.frames as u64,
+            settings.k as u64,
+            settings.correlated,
+            settings.retained,
+        ];
+        assert_eq!(rt; got, numbers, "{line}");
+        assert_eq!(rt; order.geometry.size, 64, "{line}");
+    }
+    Ok(())
+}
+
+#[test]
+fn words_that_are_not_run(rt: HostRuntime) -> Result<(), Fail> {
+    let rows = [
+        // the words
+        (
+            "run",
+            "error: the following required arguments were not provided: <TRACE> <PAGEFILE>",
+        ),
+        (
+            "run stdin",
+            "error: the following required arguments were not provided: <PAGEFILE>",
+        ),
+        (
+            "run stdin mem:16 more",
+            "error: unexpected argument 'more' found",
+        ),
+        (
+            "run stdin mem:16 --page-size 64",
+            "error: unexpected argument '--page-size' found",
+        ),
+        (
+            "run stdin mem:16 --order free",
+            "error: unexpected argument '--order' found",
+        ),
+        (
+            "run stdin mem:16 --retained -1",
+            "error: unexpected argument '-1' found",
+        ),
+        ("walk", "error: unrecognized subcommand 'walk'"),
+        ("--frames 2", "error: unexpected argument '--frames' found"),
+        (
+            "run stdin mem:16 --k",
+            "error: a value is required for '--k <N>' but none was supplied",
+        ),
+        (
+            "run stdin mem:16 --k 2 --k 2",
+            "error: the argument '--k <N>' cannot be used multiple times",
+        ),
+        (
+            "run stdin mem:16 --k two",
+            "error: invalid value 'two' for '--k <N>': invalid digit found in string",
+        ),
+        (
+            "run stdin mem:16 --k 0",
+            "error: invalid value '0' for '--k <N>': 0 is not in 1..=16",
+        ),
+        (
+            "run stdin mem:16 --k 17",
+            "error: invalid value '17' for '--k <N>': 17 is not in 1..=16",
+        ),
+        (
+            "run stdin mem:16 --frames 0",
+            "error: invalid value '0' for '--frames <N>': 0 is not in 1..=65536",
+        ),
+        (
+            "run stdin mem:16 --frames 65537",
+            "error: invalid value '65537' for '--frames <N>': 65537 is not in 1..=65536",
+        ),
+        (
+            "run stdin mem:16 --correlated 4611686018427387905",
+            "error: invalid value '4611686018427387905' for '--correlated <N>': 4611686018427387905 is not in 0..=4611686018427387904",
+        ),
+        (
+            "run stdin mem:16 --retained 4611686018427387905",
+            "error: invalid value '4611686018427387905' for '--retained <N>': 4611686018427387905 is not in 0..=4611686018427387904",
+        ),
+        (
+            "run t.csv mem:0 --k 17",
+            "error: invalid value '17' for '--k <N>': 17 is not in 1..=16",
+        ),
+        // the page file
+        ("run stdin mem:0", "page file refused 1"),
+        ("run stdin mem:1048577", "page file refused 1"),
+        ("run stdin mem:4611686018427387904", "page file refused 1"),
+        ("run stdin mem:4611686018427387905", "page file not opened"),
+        ("run stdin mem:00000000000000000016", "page file not opened"),
+        ("run stdin mem:+1", "page file not opened"),
+        ("run stdin mem:", "page file not opened"),
+        ("run stdin mem:1x", "page file not opened"),
+        ("run stdin MEM:1", "page file not opened"),
+        ("run stdin stdin", "page file not opened"),
+        ("run t.csv pages.bin", "page file not opened"),
+        ("run t.csv mem:0", "page file refused 1"),
+        // the trace
+        ("run t.csv mem:16", "trace not opened"),
+        ("run STDIN mem:16", "trace not opened"),
+        ("run mem:16 mem:16", "trace not opened"),
+    ];
+    let alloc = rt.alloc();
+    for (line, message) in rows {
+        let (status, text, said) = ended(alloc, line)?;
+        assert_eq!(rt; status, 2, "{line}");
+        assert!(rt; text.is_empty(), "{line}");
+        let expected = format!(in alloc; "{message}\n")?;
+        assert_eq!(rt; said.as_str(), expected.as_str(), "{line}");
+    }
+    Ok(())
+}
+
+#[test]
+fn help_of_the_program(rt: HostRuntime) -> Result<(), Fail> {
+    for line in ["help", "--help", "-h"] {
+        let (status, text, said) = ended(rt.alloc(), line)?;
+        assert_eq!(rt; status, 0, "{line}");
+        assert!(rt; said.is_empty(), "{line}");
+        assert!(rt;
+            text.as_str().contains("Usage: bpool <COMMAND>\n"),
+            "{line}"
+        );
+        assert!(rt;
+            text.as_str()
+                .contains("\n  run   Runs a trace over a buffer pool "),
+            "{line}"
+        );
+    }
+    Ok(())
+}
+
+#[test]
+fn help_of_a_run(rt: HostRuntime) -> Result<(), Fail> {
+    let parts = [
+        "Usage: bpool run [OPTIONS] <TRACE> <PAGEFILE>\n",
+        "  <TRACE>     The trace: a path, or stdin for the standard input\n",
+        "  <PAGEFILE>  The page file: a path, or mem:N for N pages of zero bytes in memory, N from 1 to 1048576\n",
+        "      --frames <N>      Frames of the pool, from 1 to 65536 [default: 8]\n",
+        "      --k <N>           K of LRU-K, from 1 to 16 [default: 2]\n",
+        "      --correlated <N>  Correlated reference period in ticks, from 0 to 2^62 [default: 0]\n",
+        "      --retained <N>    Retained information period in ticks, from 0 to 2^62 [default: 1000]\n",
+    ];
+    for line in ["help run", "run --help", "run stdin mem:0 --k 16 --help"] {
+        let (status, text, said) = ended(rt.alloc(), line)?;
+        assert_eq!(rt; status, 0, "{line}");
+        assert!(rt; said.is_empty(), "{line}");
+        for part in parts {
+            assert!(rt; text.as_str().contains(part), "{line}: {part}");
+        }
+    }
+    Ok(())
+}
+
+#[test]
+fn a_writer_that_fails_hides_no_status(rt: HostRuntime) -> Result<(), Fail> {
+    let alloc = rt.alloc();
+    let mut few = [0u8; 10];
+    let mut full = few.as_mut_slice();
+    let mut out = Vec::new(alloc);
+    let refused = ending_of(alloc, "run stdin mem:0")?;
+    assert_eq!(rt; refused.finish(&mut out, &mut full), 2);
+    assert!(rt; out.is_empty());
+    let mut few = [0u8; 10];
+    let mut full = few.as_mut_slice();
+    let mut err = Vec::new(alloc);
+    let help = ending_of(alloc, "run --help")?;
+    assert_eq!(rt; help.finish(&mut full, &mut err), 2);
+    assert_eq!(rt; err.as_slice(), b"output failed\n".as_slice());
+    Ok(())
+}
+
+#[test]
+fn refusals_that_come_later(rt: HostRuntime) -> Result<(), Fail> {
+    let rows = [
+        (
+            Ending::TraceRefused(3, Refusal::BadShape),
+            "trace row 3 refused 40\n",
+        ),
+        (
+            Ending::TraceRefused(0, Refusal::TooLong),
+            "trace row 0 refused 46\n",
+        ),
+        (Ending::RunRefused(Refusal::OutOfMemory), "run refused 22\n"),
+        (Ending::OutputFailed, "output failed\n"),
+    ];
+    let alloc = rt.alloc();
+    for (ending, message) in rows {
+        let mut out = Vec::new(alloc);
+        let mut err = Vec::new(alloc);
+        assert_eq!(rt; ending.finish(&mut out, &mut err), 2);
+        assert!(rt; out.is_empty());
+        assert_eq!(rt; err.as_slice(), message.as_bytes());
+    }
+    Ok(())
+}
