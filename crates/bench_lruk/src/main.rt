@@ -3,7 +3,6 @@
 
 ghost use Rattle.std.specs.Prelude.{◌≡◌, ℕ, ◌+◌, ◌^◌, ◌<◌, ◌≤◌, OnOk, [], false};
 ghost use Rattle.bp_lruk.specs.Histories.{is_held, last_of};
-
 ghost use Rattle.bench_lruk.specs.Loads.{IsLoaded, IsFull};
 
 use bp_lruk::{Candidates, Histories, Settings};
@@ -11,10 +10,12 @@ use bp_page::{PageNo, Refusal};
 use std::alloc::Global;
 use std::env;
 use std::rt::Runtime;
-use std::time::Instant;
+use std::time::{CpuClock, Duration};
 
 const PAGES: u64 = 1048576;
+
 const CALLS: u64 = 4000000;
+
 const HOT: u64 = 64;
 
 // The next number of a linear congruential generator.
@@ -77,9 +78,15 @@ fn renew_hot(candidates: &mut Candidates, frames: u64, calls: u64)
     requires full { IsFull candidates.old frames }
     requires some { HOT ≤ frames }
     requires few { frames + calls < 2 ^ 62 }
+    ensures { IsFull candidates.new frames }
 {
     for call in 0..calls {
-        renew(candidates, frames, frames - 1 - call % HOT, frames + call + 1);
+        renew(
+            candidates,
+            frames,
+            frames - 1 - call % HOT,
+            frames + call + 1,
+        );
     }
 }
 
@@ -97,38 +104,52 @@ fn renew_at_random(candidates: &mut Candidates, frames: u64, calls: u64)
     }
 }
 
-fn time_hits(rt: &impl Runtime<A = Global>) -> Result<(), anyhow::Error> {
-    let settings = Settings::new(2, 0, 0)?;
-    let mut histories = Histories::new(rt.alloc(), settings);
-    let start = Instant::now(rt)?;
+// The processor time of each call, in nanoseconds.
+fn each(start: Duration, end: Duration, calls: u64) -> u128
+    requires { 0 < calls }
+{
+    end.saturating_sub(start).as_nanos() / calls as u128
+}
+
+fn time_hits(rt: &(impl Runtime<A = Global> + CpuClock)) -> Result<(), anyhow::Error> {
+    let mut histories = Histories::new(rt.alloc(), Settings::new(2, 0, 0)?);
+    let start = rt.thread_cpu_time()?;
     load(&mut histories, PAGES)?;
-    let loaded = start.elapsed(rt)?;
-    println!(rt; "prepare and fault, {PAGES} pages: {} ns", loaded.as_nanos() / PAGES as u128)?;
-    let start = Instant::now(rt)?;
+    let loaded = rt.thread_cpu_time()?;
     hit_at_random(&mut histories, PAGES, CALLS);
-    let hit = start.elapsed(rt)?;
-    println!(rt; "hit, {PAGES} pages: {} ns", hit.as_nanos() / CALLS as u128)?;
+    let hit = rt.thread_cpu_time()?;
+    println!(rt;
+        "prepare and fault, {PAGES} pages: {} ns",
+        each(start, loaded, PAGES)
+    )?;
+    println!(rt; "hit, {PAGES} pages: {} ns", each(loaded, hit, CALLS))?;
     Ok(())
 }
 
-fn time_candidates(rt: &impl Runtime<A = Global>, frames: usize, calls: u64) -> Result<(), anyhow::Error>
+fn time_candidates(
+    rt: &(impl Runtime<A = Global> + CpuClock),
+    frames: usize,
+    calls: u64,
+) -> Result<(), anyhow::Error>
     requires some { HOT ≤ frames }
     requires few { frames + calls < 2 ^ 62 }
     requires called { 0 < calls }
 {
-    let settings = Settings::new(2, 0, 0)?;
-    let mut candidates = Candidates::new(rt.alloc(), frames, settings)?;
+    let mut candidates = Candidates::new(rt.alloc(), frames, Settings::new(2, 0, 0)?)?;
     fill(&mut candidates, frames as u64);
-    let start = Instant::now(rt)?;
+    let start = rt.thread_cpu_time()?;
     renew_hot(&mut candidates, frames as u64, calls);
-    let hot = start.elapsed(rt)?;
-    println!(rt; "leave and enter, {frames} frames, hot pages: {} ns", hot.as_nanos() / calls as u128)?;
-    let mut candidates = Candidates::new(rt.alloc(), frames, settings)?;
-    fill(&mut candidates, frames as u64);
-    let start = Instant::now(rt)?;
+    let hot = rt.thread_cpu_time()?;
     renew_at_random(&mut candidates, frames as u64, calls);
-    let random = start.elapsed(rt)?;
-    println!(rt; "leave and enter, {frames} frames, at random: {} ns", random.as_nanos() / calls as u128)?;
+    let random = rt.thread_cpu_time()?;
+    println!(rt;
+        "leave and enter, {frames} frames, hot pages: {} ns",
+        each(start, hot, calls)
+    )?;
+    println!(rt;
+        "leave and enter, {frames} frames, at random: {} ns",
+        each(hot, random, calls)
+    )?;
     Ok(())
 }
 
