@@ -1,5 +1,5 @@
 -- The list in the order of replacement, beside the one in the order of page numbers.
-use Rattle.std.proofs.Common.{◌≡◌, ◌≢◌, ℕ, ◌+◌, ◌<◌, ◌≤◌, true, false, List, length, get_or, Some, None, sym, ap, ◌∙◌, subst, inl, inr, arith}
+use Rattle.std.proofs.Common.{◌≡◌, ◌≢◌, ℕ, ◌+◌, ◌<◌, ◌≤◌, List, length, get_or, Some, None, sym, ap, ◌∙◌, subst, inl, inr, arith}
 use Rattle.std.specs.List.{insert, remove, Contains}
 use Rattle.std.proofs.lemmas.Bool.{cases_eq}
 use Rattle.std.proofs.lemmas.Option.{none-some}
@@ -7,8 +7,8 @@ use Rattle.std.proofs.lemmas.List.Edits.{length-insert, length-remove}
 use Rattle.bp_lruk.specs.Candidates.{Candidate, find_entry, is_before, NoPageTwice}
 use Rattle.bp_lruk.specs.Index.{IsInOrder, IsPlaceFor, AreAlike}
 use Rattle.bp_lruk.proofs.Lists.{IsIn, in_at, place_in}
-use Rattle.bp_lruk.proofs.EntryLaws.{found_in, in_found, find_inserted, find_beside_inserted, apart_inserted, find_removed, find_beside_removed, apart_removed}
-use Rattle.bp_lruk.proofs.OrderLaws.{pairs_inserted, pairs_removed, place_is}
+use Rattle.bp_lruk.proofs.EntryLaws.{found_in, in_found, find_inserted, find_beside_inserted, find_removed, find_beside_removed}
+use Rattle.bp_lruk.proofs.OrderLaws.{pairs_inserted, place_is}
 use Rattle.bp_lruk.proofs.VictimLaws.{not_before_itself, before_later, other_before}
 
 -- ---- what is lent

@@ -1,7 +1,7 @@
 -- The elements of a list, by look at each in turn and by places.
-use Rattle.std.proofs.Common.{◌≡◌, ◌⊎◌, ℕ, zero, suc, ◌<◌, Bool, true, false, List, [], ◌∷◌, length, filter, get_or, sym, ◌∙◌, ap, refl, inl, inr, arith}
-use Rattle.std.specs.List.{insert, remove}
-use Rattle.std.proofs.lemmas.Bool.{cases_Bool, false≢true}
+use Rattle.std.proofs.Common.{◌≡◌, ◌⊎◌, ℕ, zero, suc, ◌<◌, Bool, true, List, [], ◌∷◌, length, filter, get_or, sym, ◌∙◌, ap, subst, refl, inl, inr, arith}
+use Rattle.std.specs.List.{insert, remove, Contains}
+use Rattle.std.proofs.lemmas.Bool.{cases_Bool}
 
 module _ {X : Type 0} where
   abbrev pub IsIn : X → List X → Type 0
@@ -54,3 +54,16 @@ module _ {X : Type 0} where
     | inl stays ↦ rw stays (inr (filtered_in p ys x there passes))
     | inr goes ↦ rw goes (filtered_in p ys x there passes)
   ]
+
+  -- ---- and `Contains`
+
+  pub in_contained : (xs : List X) (x : X) → Contains xs x → IsIn x xs
+  in_contained xs x there = subst (λ y. IsIn y xs) there.2 (in_at xs there.0 x there.1)
+
+  -- what is elsewhere is left where one element is taken out
+  pub in_rest : (xs : List X) (i : ℕ) (d x : X) → i < length xs → (get_or xs i d ≡ x → ⊥) → IsIn x xs → IsIn x (remove xs i)
+  in_rest [] i d x lt other there = absurd there
+  in_rest (y ∷ ys) zero d x lt other (inl is) = absurd (other is)
+  in_rest (y ∷ ys) zero d x lt other (inr there) = there
+  in_rest (y ∷ ys) (suc i) d x lt other (inl is) = inl is
+  in_rest (y ∷ ys) (suc i) d x lt other (inr there) = inr (in_rest ys i d x (omega arith) other there)

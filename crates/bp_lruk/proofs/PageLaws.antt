@@ -1,7 +1,7 @@
 -- The list in the order of page numbers, and the candidates in it.
-use Rattle.std.proofs.Common.{◌≡◌, ◌≢◌, ◌⊎◌, ℕ, zero, suc, ◌+◌, ◌<◌, ◌≤◌, cond, true, false, List, [], ◌∷◌, length, filter, get_or, set, Option, Some, None, Result, Ok, Err, IsOk, IfOk, IfErr, IsSome, refl, sym, ap, ◌∙◌, subst, inl, inr, arith}
+use Rattle.std.proofs.Common.{◌≡◌, ◌≢◌, ◌⊎◌, ℕ, zero, suc, ◌+◌, ◌<◌, ◌≤◌, cond, List, [], ◌∷◌, length, filter, get_or, set, Option, Some, None, Result, Ok, Err, IsOk, IfOk, IfErr, IsSome, refl, sym, ap, ◌∙◌, subst, inl, inr, arith}
 use Rattle.std.specs.Option.{is_some, option_map}
-use Rattle.std.specs.List.{insert, remove, filter_map, cons_option}
+use Rattle.std.specs.List.{insert, remove, cons_option}
 use Rattle.std.specs.List.Sorted.{IsSearchInRange, IsBinarySearchResult, IsNonDecreasingBy}
 use Rattle.std.specs.Ordering.{nat_cmp, ordering_index}
 use Rattle.std.proofs.lemmas.Bool.Decides.{nat_tests}

@@ -1,6 +1,6 @@
 -- What a purge leaves, and how many pages it forgets.
-use Rattle.std.proofs.Common.{◌≡◌, ◌≢◌, ℕ, zero, suc, ◌+◌, ◌-◌, ◌<◌, ◌≤◌, Bool, true, false, not, eqb, ◌&&◌, ◌||◌, ltb, leb, List, [], ◌∷◌, ◌++◌, length, Option, Some, None, IfSome, unwrap_or, filter, get_or, if◌then◌else◌, refl, sym, ap, ◌∙◌, subst, inl, inr, arith}
-use Rattle.std.specs.Map.{lookup, keys_of}
+use Rattle.std.proofs.Common.{◌≡◌, ◌≢◌, ℕ, zero, suc, ◌+◌, ◌-◌, ◌<◌, ◌≤◌, Bool, true, false, not, eqb, List, [], ◌∷◌, length, Option, Some, None, IfSome, unwrap_or, filter, if◌then◌else◌, refl, sym, ap, ◌∙◌, subst, inl, inr, arith}
+use Rattle.std.specs.Map.{keys_of}
 use Rattle.std.specs.List.{IsDistinct}
 use Rattle.std.proofs.lemmas.Bool.{cases_Bool, cases_eq, cases_lt, false≢true}
 use Rattle.std.proofs.lemmas.Bool.Decides.{nat_tests}
@@ -11,7 +11,7 @@ use Rattle.std.proofs.lemmas.List.Filters.{length-filter_both}
 use Rattle.bp_lruk.specs.declared.histories.Block.{Block}
 use Rattle.bp_lruk.specs.Stamp.{stamp}
 use Rattle.bp_lruk.proofs.StampLaws.{no_stamps}
-use Rattle.bp_lruk.specs.Histories.{Blocks, find_block, no_block, block_of, is_held, stamp_of, is_outdated, forgets, survives, count_below, HasStampsOf, SameAt, IsSound, AllSound}
+use Rattle.bp_lruk.specs.Histories.{Blocks, find_block, no_block, block_of, stamp_of, is_outdated, survives, count_below, HasStampsOf, SameAt, IsSound, AllSound}
 
 -- ---- one page
 

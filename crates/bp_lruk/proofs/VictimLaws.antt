@@ -1,5 +1,5 @@
 -- The candidate that comes first among those of a list.
-use Rattle.std.proofs.Common.{◌≡◌, ◌≢◌, ◌⊎◌, ℕ, ◌-◌, nat_lt, Bool, true, false, List, [], ◌∷◌, fold, filter, Option, Some, None, refl, sym, ap, ◌∙◌, subst, inl, inr, unwrap_or, if◌then◌else◌, arith}
+use Rattle.std.proofs.Common.{◌≡◌, ◌≢◌, ℕ, ◌-◌, nat_lt, Bool, true, false, List, [], ◌∷◌, fold, filter, Option, Some, None, refl, sym, ap, ◌∙◌, subst, inl, inr, unwrap_or, arith}
 use Rattle.std.specs.Option.{option_map_or}
 use Rattle.std.specs.List.{reduce, find}
 use Rattle.std.proofs.lemmas.Bool.{cases_Bool, true≢false, false_from_ne_true}

@@ -133,11 +133,7 @@ fn order_place(entries: &[(u64, u64, PageNo)], entry: &(u64, u64, PageNo)) -> us
 }
 
 // The first entry with a last time more than the period before `t`.
-fn first_old(
-    entries: &[(u64, u64, PageNo)],
-    period: u64,
-    t: u64,
-) -> Option<(u64, u64, PageNo)>
+fn first_old(entries: &[(u64, u64, PageNo)], period: u64, t: u64) -> Option<(u64, u64, PageNo)>
     ensures { result ≡ find (λ e. nat_lt period (t - e.1)) entries.now }
 {
     entries

@@ -1,10 +1,10 @@
-// The reference stamps of each page.
-ghost use Rattle.std.specs.Prelude.{◌≡◌, ◌≢◌, ℕ, ◌+◌, ◌-◌, ◌^◌, ◌<◌, ◌≤◌, ◌∷◌, ◌++◌, [], List, IsTrue, true, false, OnOk, OnErr, slice_index, length};
-ghost use Rattle.bp_lruk.specs.Shift.{IsShifted, IsBounded};
+//! The reference stamps of each page.
+ghost use Rattle.std.specs.Prelude.{◌≡◌, ◌≢◌, ℕ, ◌+◌, ◌-◌, ◌^◌, ◌<◌, ◌≤◌, ◌∷◌, [], List, IsTrue, IsFalse, true, false, OnOk, OnErr, slice_index};
+ghost use Rattle.bp_lruk.specs.Shift.{IsShifted};
 ghost use Rattle.bp_lruk.specs.Burst.{Reference};
 ghost use Rattle.bp_lruk.specs.Burst.Reference.{hit, fault};
 ghost use Rattle.bp_lruk.specs.Stamp.{IsTimed};
-ghost use Rattle.bp_lruk.specs.Histories.{is_held, last_of, stamp_of, IsNow, HasStampsOf, SameAt, SameStampsAt, SameSettings, forgets, survives, count_below};
+ghost use Rattle.bp_lruk.specs.Histories.{is_held, has_block, last_of, stamp_of, IsNow, HasStampsOf, SameAt, SameStampsAt, SameSettings, forgets, survives, count_below};
 
 use crate::settings::{MAX_STAMPS, Settings};
 use bp_page::{PageNo, Refusal};
@@ -12,7 +12,8 @@ use std::alloc::Global;
 use std::collections::HashMap;
 use std::marker::Model;
 
-/// The stamps of a page, newest first, the time of its newest reference, and whether it may not be forgotten.
+/// What is kept of a page: its stamps, newest first, the time of its newest reference, and whether it may not be
+/// forgotten.
 #[derive(Clone, Copy)]
 pub struct Block {
     held: bool,
@@ -20,7 +21,14 @@ pub struct Block {
     last: u64,
 }
 
-/// The reference stamps of each page.
+/// What LRU-K knows of each page (figure 2.1 of "The LRU-K Page Replacement Algorithm", SIGMOD 1993): the stamps HIST(1)
+/// to HIST(K), newest first, with correlated references discounted, and LAST, the time of its newest reference of any
+/// kind. A stamp of 0 is absent. A page has a block while it is held or has a reference, and a purge forgets pages that
+/// are not held.
+///
+/// Times are counted from 1 and never fall. The blocks, of 144 bytes, stand in a hash map by page numbers, so that each
+/// call but `purge` looks one page up, in a time that does not grow with the number of pages; `purge` looks at each
+/// block. A `prepare` that finds the map's table full doubles it, and moves the blocks. Only `prepare` takes memory.
 #[derive(Drop)]
 pub struct Histories {
     settings: Settings,
@@ -56,10 +64,12 @@ fn shift(stamps: &mut [u64; MAX_STAMPS], k: usize, width: u64, t: u64)
 }
 
 impl Histories {
+    /// No page is held, and none has a reference.
     pub fn new(alloc: Global, settings: Settings) -> Self
         ensures k { result.k ≡ settings.k }
         ensures correlated { result.correlated ≡ settings.correlated }
         ensures retained { result.retained ≡ settings.retained }
+        ensures blocks { (page : ℕ) → IsFalse (has_block result page) }
         ensures held { (page : ℕ) → is_held result page ≡ false }
         ensures stamps { (page : ℕ) → HasStampsOf result page [] }
     {
@@ -69,7 +79,7 @@ impl Histories {
         }
     }
 
-    /// The time of the page's newest reference, or 0.
+    /// LAST: the time of the page's newest reference, or 0 where it has none.
     pub fn last(&self, page: PageNo) -> u64
         ensures { result ≡ last_of self.now page }
     {
@@ -78,7 +88,7 @@ impl Histories {
             .map_or(0, |block| block.last)
     }
 
-    /// The page's i-th stamp, newest first and from 1, or 0.
+    /// HIST(i): the page's i-th stamp, from 1 for the newest to K, or 0 where it has none.
     pub fn stamp(&self, page: PageNo, i: usize) -> u64
         ensures { result ≡ stamp_of self.now page i }
     {
@@ -90,7 +100,8 @@ impl Histories {
             .map_or(0, |block| block.stamps[i - 1])
     }
 
-    /// Holds the page, and takes the memory of its block.
+    /// Holds a page that is not held, and takes the memory of its block. Its stamps stay. It fails by want of memory
+    /// alone, as `OutOfMemory`, and leaves all as it was.
     pub fn prepare(&mut self, page: PageNo) -> Result<(), Refusal>
         requires { is_held self.old page ≡ false }
         ensures held { OnOk result (is_held self.new page ≡ true) }
@@ -115,11 +126,13 @@ impl Histories {
         }
     }
 
-    /// Lets the page go. A block without stamps vanishes.
+    /// Lets a page go that is held: its read failed, or it leaves its frame. Its stamps stay, and a block without stamps
+    /// vanishes.
     pub fn unprepare(&mut self, page: PageNo)
         requires { is_held self.old page ≡ true }
         ensures held { is_held self.new page ≡ false }
         ensures stamps { SameStampsAt self.old self.new page }
+        ensures vanishes { last_of self.old page ≡ 0 → IsFalse (has_block self.new page) }
         ensures others { (q : ℕ) → q ≢ page → SameAt self.old self.new q }
         ensures settings { SameSettings self.old self.new }
     {
@@ -130,7 +143,8 @@ impl Histories {
         }
     }
 
-    /// The page was loaded at t.
+    /// A held page was read from the device, and is referenced at the time `t`: each stamp moves by one place, with no
+    /// width, and `t` is the newest.
     pub fn fault(&mut self, page: PageNo, t: u64)
         requires held { is_held self.old page ≡ true }
         requires now { IsNow self.old t }
@@ -146,7 +160,9 @@ impl Histories {
         block.last = t;
     }
 
-    /// The page was found resident at t.
+    /// A held page that has a reference is referenced again at the time `t`. Where more than the correlated period has
+    /// gone by since the newest reference, each stamp moves by one place, later by the width of the burst of references
+    /// that ended there, absent stamps stay absent, and `t` is the newest. Else no stamp changes.
     pub fn hit(&mut self, page: PageNo, t: u64)
         requires held { is_held self.old page ≡ true }
         requires known { 0 < last_of self.old page }
@@ -167,10 +183,12 @@ impl Histories {
         block.last = t;
     }
 
-    /// Forgets each page that isn't held and was last referenced more than the retained period before t, and counts them.
+    /// Forgets each page that is not held and was last referenced more than the retained period before the time `t`, and
+    /// counts them.
     pub fn purge(&mut self, t: u64) -> u64
         requires { IsNow self.old t }
         ensures forgotten { (page : ℕ) → IsTrue (forgets self.old t page) → HasStampsOf self.new page [] }
+        ensures vanishes { (page : ℕ) → IsTrue (forgets self.old t page) → IsFalse (has_block self.new page) }
         ensures kept { (page : ℕ) → forgets self.old t page ≡ false → SameAt self.old self.new page }
         ensures held { (page : ℕ) → is_held self.new page ≡ is_held self.old page }
 

@@ -75,7 +75,10 @@ impl PageIndex {
         let entered = Some((hist_k, last));
         match place(&self.entries, page) {
             Ok(at) => self.entries[at].entered = entered,
-            Err(at) => self.entries.insert(at, PageEntry { page, entered }).unwrap(),
+            Err(at) => self
+                .entries
+                .insert(at, PageEntry { page, entered })
+                .unwrap(),
         }
     }
 

@@ -1,6 +1,6 @@
-//! Candidates for replacement as a plain list, which `victim` scans from end to end, as figure 2.1 of the LRU-K paper
-//! (SIGMOD 1993) does. It is the body that others are compared with. For use take [`crate::Candidates`], which has the
-//! same contract.
+//! Candidates for replacement as a plain list, which `victim` scans from end to end, as figure 2.1 of "The LRU-K Page
+//! Replacement Algorithm" (SIGMOD 1993) does. It is the body that others are compared with. For use take
+//! [`crate::Candidates`], which has the same contract.
 ghost use Rattle.std.specs.Prelude.{◌≡◌, ◌≢◌, ℕ, ◌+◌, ◌-◌, ◌<◌, ◌≤◌, ◌==◌, ◌↔◌, nat_lt, [], IsTrue, IsFalse, IsSome, Some, None, IfOk, OnErr, IfSome, IfNone, length, filter, position};
 ghost use Rattle.std.specs.List.{list_any, reduce};
 ghost use Rattle.bp_lruk.specs.Candidates.{earlier, entry_of, is_entered, is_eligible, IsVictim, NoPageTwice, SameLimits};
@@ -117,16 +117,16 @@ fn place(entries: &[(u64, u64, PageNo)], page: PageNo) -> Option<usize>
 }
 
 // The first in the order of replacement, of those with a last time more than the period before `t`.
-fn least(
-    entries: &[(u64, u64, PageNo)],
-    period: u64,
-    t: u64,
-) -> Option<(u64, u64, PageNo)>
+fn least(entries: &[(u64, u64, PageNo)], period: u64, t: u64) -> Option<(u64, u64, PageNo)>
     ensures { result ≡ reduce earlier (filter (λ e. nat_lt period (t - e.1)) entries.now) }
 {
     entries
         .iter()
         .copied()
         .filter(|entry| t.saturating_sub(entry.1) > period)
-        .reduce(|first, entry| if precedes(&entry, &first) { entry } else { first })
+        .reduce(|first, entry| if precedes(&entry, &first) {
+            entry
+        } else {
+            first
+        })
 }

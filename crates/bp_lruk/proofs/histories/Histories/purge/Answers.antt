@@ -1,8 +1,8 @@
-use Rattle.std.proofs.Common.{rules, ◌≡◌, Bool, true, false, length, Option, None, unwrap_or, refl, sym, ap, ◌∙◌, subst, inl, inr, filter, arith}
+use Rattle.std.proofs.Common.{rules, ◌≡◌, Bool, true, false, length, Option, None, unwrap_or, refl, sym, ap, ◌∙◌, subst, inl, inr, filter}
+use Rattle.std.specs.Option.{is_some}
 use Rattle.std.proofs.lemmas.Bool.{cases_Bool}
 use Rattle.std.proofs.lemmas.Map.Entries.{filter_from_retain_pairs}
 use Rattle.bp_lruk.specs.declared.histories.Block.{Block}
-use Rattle.bp_lruk.specs.declared.histories.Histories.TheInside.{Inside}
 use Rattle.bp_lruk.specs.contracts.histories.Histories.{the_view}
 use Rattle.bp_lruk.specs.Histories.{AllSound, SameAt, block_of, find_block, forgets, is_held, last_of, no_block, survives}
 use Rattle.bp_lruk.proofs.PurgeLaws.{count_outdated, has_none, kept_sound, other_stays, outdated_gone, outdated_not_held, same_at}
@@ -50,3 +50,6 @@ returns-clause-counted c = λ bound past.
     let counted = count_outdated c.self.inside.settings.k c.self.inside.settings.retained c.args.t c.self.inside.blocks.entries c.retain.ensures.was_unique c.self.invariant bound (λ page le. subst (λ h. last_of h page ≡ 0) (sym c.self.view_is) (past page le)) in
     let left = c.len.ensures.len ∙ ap length (kept_entries c) in
     rw (c.len-before.ensures.len, left, ← c.self.view_is) counted
+
+pub returns-clause-vanishes : goal.returns-clause-vanishes
+returns-clause-vanishes c = λ page outdated. ap (λ (o : Option Block). is_some o) (gone c page (outdated_before c page true outdated))

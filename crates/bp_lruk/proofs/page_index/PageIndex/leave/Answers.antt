@@ -1,4 +1,4 @@
-use Rattle.std.proofs.Common.{◌≡◌, ◌∙◌, ◌+◌, length, set, None, IsSome, sym, ap, subst}
+use Rattle.std.proofs.Common.{◌∙◌, length, set, None, IsSome, sym, ap, subst}
 use Rattle.std.specs.Option.{is_some}
 use Rattle.bp_lruk.specs.Candidates.{find_entry}
 use Rattle.bp_lruk.specs.Index.{Listed, entered_in}

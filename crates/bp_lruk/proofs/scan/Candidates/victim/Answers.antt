@@ -1,8 +1,7 @@
 use Rattle.std.proofs.Common.{◌≡◌, ◌∙◌, ℕ, false, sym, ap, subst, filter, Some, None}
-use Rattle.std.specs.Option.{IfNone}
 use Rattle.std.specs.List.{reduce}
 use Rattle.bp_lruk.specs.contracts.scan.Candidates.{the_view}
-use Rattle.bp_lruk.specs.Candidates.{Candidate, Entered, earlier, is_eligible, IsVictim}
+use Rattle.bp_lruk.specs.Candidates.{earlier, is_eligible, IsVictim}
 use Rattle.bp_lruk.proofs.VictimLaws.{is_old, reduce_earliest, reduce_nothing, earliest_victim, none_eligible}
 use Rattle.bp_lruk.proofs.scan.Candidates.victim.Goals as goal
 
