@@ -1,5 +1,5 @@
 -- A core stays one with each entry: here those that touch no page. What a caller sees of each entry.
-use Rattle.std.proofs.Common.{◌≡◌, ℕ, suc, ◌+◌, ◌*◌, ◌^◌, ◌<◌, ◌≤◌, max, true, false, [], length, sym, ◌∙◌, ap, subst, arith}
+use Rattle.std.proofs.Common.{◌≡◌, ℕ, suc, ◌+◌, ◌*◌, ◌^◌, ◌<◌, ◌≤◌, max, true, false, [], length, sym, ◌∙◌, ap, subst, arith, refl}
 use Rattle.std.proofs.lemmas.Bool.{lt-ltb}
 use Rattle.bp_lruk.specs.Histories.{Blocks, is_held, last_of, HasStampsOf, SameAt, SameSettings, forgets, count_below}
 use Rattle.bp_core.specs.declared.entries.Call.{Call}
@@ -17,8 +17,9 @@ use Rattle.bp_core.specs.CoreView.{CoreView, EachPast, with_entry, HasRoomFor}
 use Rattle.bp_core.specs.Lodging.{Kept, with_next}
 use Rattle.bp_core.specs.Outcomes.{IsQuiet, Adds}
 use Rattle.bp_core.specs.Outcomes.IsQuiet.{fix_busy, fix_none, fix_log, flush_busy, flush_absent, flush_clean, flush_log, page_read}
-use Rattle.bp_core.specs.Agreement.{parts_of, HasTrailRoom, IsCore, view_of}
+use Rattle.bp_core.specs.Agreement.{parts_of, HasCandidates, HasTrailRoom, IsCore, view_of}
 use Rattle.bp_core.proofs.Steps.{agrees-quiet, agrees-tick, agrees-mark}
+use Rattle.bp_core.proofs.CandidateSteps.{stay, stay-purge}
 use Rattle.bp_core.proofs.PurgeSteps.{agrees-purge, count-same, nothing-beyond}
 
 -- one entry more, of a trail with so many passes and tickets more at most
@@ -49,12 +50,23 @@ module _ (c : Parameters) (trail : Kept) (x : State) (core : IsCore c trail x) (
   pub keeps-quiet : (who : ℕ) (call : Call) (reply : Reply) → IsQuiet call reply → who < v.parameters.clients → EachPast v (λ past. allowed v.parameters past who call ≡ true) → EachPast v (λ past. reply ≡ reply_of v.parameters past call) → HasRoomFor 1 v → IsCore c (with_next trail who call reply) x
   keeps-quiet who call reply quiet client may lawful room = record {
     agrees = agrees-quiet c trail.past (parts_of x) core.agrees who call reply quiet (at-parameters (λ q. who < q.clients) client) (at-past (λ q past. allowed q past who call ≡ true) may) (at-past (λ q past. reply ≡ reply_of q past call) lawful);
+    candidates = same call reply quiet;
     trail_room = roomy call reply quiet;
     pass_room = core.pass_room;
     read_room = core.read_room;
     frame_room = core.frame_room;
   }
     where
+      same : (call : Call) (reply : Reply) → IsQuiet call reply → HasCandidates c (with_next trail who call reply).past x.candidates
+      same _ _ (fix_busy p) = stay c trail.past x.candidates core.candidates _ (λ q. refl)
+      same _ _ (fix_none p) = stay c trail.past x.candidates core.candidates _ (λ q. refl)
+      same _ _ (fix_log p lsn) = stay c trail.past x.candidates core.candidates _ (λ q. refl)
+      same _ _ (flush_busy p) = stay c trail.past x.candidates core.candidates _ (λ q. refl)
+      same _ _ (flush_absent p) = stay c trail.past x.candidates core.candidates _ (λ q. refl)
+      same _ _ (flush_clean p) = stay c trail.past x.candidates core.candidates _ (λ q. refl)
+      same _ _ (flush_log p lsn) = stay c trail.past x.candidates core.candidates _ (λ q. refl)
+      same _ _ (page_read n p image) = stay c trail.past x.candidates core.candidates _ (λ q. refl)
+
       roomy : (call : Call) (reply : Reply) → IsQuiet call reply → HasTrailRoom c (suc (length trail.past)) (with_next trail who call reply).past trail.capacity
       roomy _ _ (fix_busy p) = longer c _ _ _ core.trail_room _ (omega (arith, at-room 1 room)) (omega arith) (omega arith)
       roomy _ _ (fix_none p) = longer c _ _ _ core.trail_room _ (omega (arith, at-room 1 room)) (omega arith) (omega arith)
@@ -69,6 +81,7 @@ module _ (c : Parameters) (trail : Kept) (x : State) (core : IsCore c trail x) (
   pub keeps-tick : (who n : ℕ) → who < v.parameters.clients → x.clock + n ≤ 2 ^ 62 → HasRoomFor 1 v → IsCore c (with_next trail who (Tick n) Done) (record x { clock = x.clock + n })
   keeps-tick who n client fits room = record {
     agrees = agrees-tick c trail.past (parts_of x) core.agrees who n (at-parameters (λ q. who < q.clients) client) (omega (arith, core.agrees.observed.clock_is, fits));
+    candidates = stay c trail.past x.candidates core.candidates _ (λ q. refl);
     trail_room = longer c _ _ _ core.trail_room _ (omega (arith, at-room 1 room)) (omega arith) (omega arith);
     pass_room = core.pass_room;
     read_room = core.read_room;
@@ -78,6 +91,7 @@ module _ (c : Parameters) (trail : Kept) (x : State) (core : IsCore c trail x) (
   pub keeps-mark : (who lsn : ℕ) → who < v.parameters.clients → HasRoomFor 1 v → IsCore c (with_next trail who (Mark lsn) Done) (record x { durable = max lsn x.durable })
   keeps-mark who lsn client room = record {
     agrees = agrees-mark c trail.past (parts_of x) core.agrees who lsn (at-parameters (λ q. who < q.clients) client);
+    candidates = stay c trail.past x.candidates core.candidates _ (λ q. refl);
     trail_room = longer c _ _ _ core.trail_room _ (omega (arith, at-room 1 room)) (omega arith) (omega arith);
     pass_room = core.pass_room;
     read_room = core.read_room;
@@ -89,6 +103,7 @@ module _ (c : Parameters) (trail : Kept) (x : State) (core : IsCore c trail x) (
       → IsCore c (with_next trail who Purge (Forgot n)) (record x { histories = h })
   keeps-purge who n h client room counted settings gone kept held = record {
     agrees = agrees-purge c trail.past (parts_of x) core.agrees who n h (lt-ltb who c.clients (at-parameters (λ q. who < q.clients) client)) (counted c.pages (nothing-beyond c trail.past (parts_of x) core.agrees) ∙ count-same c trail.past (parts_of x) core.agrees) settings gone kept held;
+    candidates = stay-purge c trail.past x.candidates core.candidates who n;
     trail_room = longer c _ _ _ core.trail_room _ (omega (arith, at-room 1 room)) (omega arith) (omega arith);
     pass_room = core.pass_room;
     read_room = core.read_room;

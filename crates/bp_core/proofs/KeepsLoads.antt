@@ -1,11 +1,12 @@
 -- A core stays one as a read of a page begins and ends.
-use Rattle.std.proofs.Common.{◌≡◌, ◌≢◌, ℕ, ◌+◌, ◌<◌, ◌≤◌, true, false, List, ◌∷◌, length, filter, Some, None, sym, ◌∙◌, ap, subst, arith}
+use Rattle.std.proofs.Common.{◌≡◌, ◌≢◌, ℕ, ◌+◌, ◌<◌, ◌≤◌, true, false, List, ◌∷◌, length, filter, Some, None, refl, sym, ◌∙◌, ap, subst, arith}
 use Rattle.std.specs.Prelude.{not, ◌==◌, ◌||◌}
 use Rattle.std.specs.List.Sorted.{IsPermutation}
 use Rattle.std.proofs.lemmas.Bool.{lt-ltb, ltb-true, or_left, or_right, true≢false}
 use Rattle.bp_lruk.specs.Burst.{Reference}
 use Rattle.bp_lruk.specs.Burst.Reference.{fault}
 use Rattle.bp_lruk.specs.Stamp.{IsTimed}
+use Rattle.bp_lruk.specs.Candidates.{Entered, entry_of, NoPageTwice, SameLimits}
 use Rattle.bp_lruk.specs.Histories.{Blocks, is_held, HasStampsOf, SameAt, SameStampsAt, SameSettings}
 use Rattle.bp_core.specs.declared.entries.Call.TheVariants.{Fix, ReadEnd}
 use Rattle.bp_core.specs.declared.entries.Reply.TheVariants.{Load, Fixed, ReadFailed}
@@ -26,6 +27,7 @@ use Rattle.bp_core.proofs.Victim.{victim-is, candidate-resident}
 use Rattle.bp_core.proofs.Seen.{count-le, resident_seen, occupied_is, within_frames}
 use Rattle.bp_core.proofs.Residents.{reads-rest}
 use Rattle.bp_core.proofs.Timed.{references-timed}
+use Rattle.bp_core.proofs.CandidateSteps.{stay, stay-end_load, move-evict}
 use Rattle.bp_core.proofs.StampsKept.{unprepared, same-after, settings-after}
 use Rattle.bp_core.proofs.ReadSteps.{agrees-load, agrees-evict, agrees-failed, agrees-fixed}
 use Rattle.bp_core.specs.declared.state.State.{State}
@@ -83,6 +85,7 @@ module _ (c : Parameters) (trail : Kept) (x : State) (core : IsCore c trail x) (
         (at (λ q past. has_free_frame q past ≡ true) frame) kept (λ q n. (others q n).held) in
         record {
           agrees = rw (same, frames) next;
+          candidates = stay c trail.past x.candidates core.candidates _ (λ q. refl);
           trail_room = longer c _ _ _ core.trail_room _ (omega (arith, at-room c trail x core v is 3 room)) (omega arith) (omega arith);
           pass_room = record { reserved = omega (arith, capacity, ap length same) };
           read_room = core.read_room;
@@ -90,11 +93,12 @@ module _ (c : Parameters) (trail : Kept) (x : State) (core : IsCore c trail x) (
         }
 
     pub keeps-replace : (gone : ℕ) → EachPast v (λ past. has_free_frame v.parameters past ≡ false) → EachPast v (λ past. victim v.parameters past ≡ Some gone) → EachPast v (λ past. unsaved past gone ≡ false)
+        → (e : Entered) → SameLimits x.candidates e → (NoPageTwice x.candidates.entries → NoPageTwice e.entries) → ((q : ℕ) → q ≢ gone → entry_of e q ≡ entry_of x.candidates q) → entry_of e gone ≡ None
         → (g h : Blocks) → SameSettings x.histories g → SameStampsAt x.histories g p → ((q : ℕ) → q ≢ p → SameAt x.histories g q) → is_held g p ≡ true
         → SameSettings g h → SameStampsAt g h gone → ((q : ℕ) → q ≢ gone → SameAt g h q) → is_held h gone ≡ false
         → IsCore c (with_next trail who (Fix p) (Load x.tickets_given (Some gone)))
-        (record x { tickets_given = x.tickets_given + 1; reads = with_grant x.reads who p x.tickets_given; passes = ps; frames = record x.frames { frames = without_page gone x.frames.frames; spare = x.frames.spare + 1 }; histories = h })
-    keeps-replace gone full chosen saved g h g_settings g_stamps g_others g_kept h_settings h_stamps h_others h_gone =
+        (record x { tickets_given = x.tickets_given + 1; reads = with_grant x.reads who p x.tickets_given; passes = ps; frames = record x.frames { frames = without_page gone x.frames.frames; spare = x.frames.spare + 1 }; histories = h; candidates = e })
+    keeps-replace gone full chosen saved e limits pages leaves out g h g_settings g_stamps g_others g_kept h_settings h_stamps h_others h_gone =
         let apart = victim-apart gone chosen away in
         let first = unprepared x.histories g p g_stamps g_others in
         let second = unprepared g h gone h_stamps h_others in
@@ -104,6 +108,7 @@ module _ (c : Parameters) (trail : Kept) (x : State) (core : IsCore c trail x) (
         ((h_others p (λ e. apart (sym e))).held ∙ g_kept) h_gone (λ q n m. (h_others q m).held ∙ (g_others q n).held) in
         record {
           agrees = rw same next;
+          candidates = move-evict c trail.past x.candidates core.candidates e limits pages gone leaves who p x.tickets_given out;
           trail_room = longer c _ _ _ core.trail_room _ (omega (arith, at-room c trail x core v is 3 room)) (omega arith) (omega arith);
           pass_room = record { reserved = omega (arith, capacity, ap length same) };
           read_room = core.read_room;
@@ -119,8 +124,11 @@ module _ (c : Parameters) (trail : Kept) (x : State) (core : IsCore c trail x) (
     pub held-now : is_held x.histories p ≡ true
     held-now = core.agrees.observed.held_is p ∙ or_right (resident trail.past p) (loading trail.past p) (out-of_page who p t (reads_out trail.past) out-now)
 
+    absent : resident trail.past p ≡ false
+    absent = (places c trail.past core.agrees.legal).away p (out-of_page who p t (reads_out trail.past) out-now)
+
     pub absent-now : some (is_frame_of p) x.frames.frames ≡ false
-    absent-now = resident_seen c trail.past (parts_of x) core.agrees p ∙ (places c trail.past core.agrees.legal).away p (out-of_page who p t (reads_out trail.past) out-now)
+    absent-now = resident_seen c trail.past (parts_of x) core.agrees p ∙ absent
 
     fewer : length (reads_out trail.past) ≡ length (filter (λ g. not (g.serial == t)) (reads_out trail.past)) + 1
     fewer = omega (arith, reads-rest who p t (reads_out trail.past) (numbered c trail.past core.agrees.legal).reads_once out-now)
@@ -132,6 +140,7 @@ module _ (c : Parameters) (trail : Kept) (x : State) (core : IsCore c trail x) (
         → IsCore c (with_next trail who (ReadEnd t p None) ReadFailed) (record x { reads = record x.reads { out = filter (λ g. not (g.serial == t)) x.reads.out }; histories = h })
     keeps-fail_load h settings stamps others gone = record {
       agrees = agrees-failed c trail.past (parts_of x) core.agrees who p t out-now h settings (unprepared x.histories h p stamps others) gone (λ q n. (others q n).held);
+      candidates = stay c trail.past x.candidates core.candidates _ (λ q. refl);
       trail_room = longer c _ _ _ core.trail_room _ (omega (arith, core.trail_room.owed, fewer)) (omega arith) (omega arith);
       pass_room = record { reserved = omega (arith, core.pass_room.reserved, fewer-kept) };
       read_room = core.read_room;
@@ -148,6 +157,7 @@ module _ (c : Parameters) (trail : Kept) (x : State) (core : IsCore c trail x) (
         let stamped = subst (λ u. HasStampsOf h p (fault u ∷ refs)) a.observed.clock_is (stamps refs (references-timed c trail.past p).timed (a.observed.stamps_are p)) in
         record {
           agrees = agrees-fixed c trail.past (parts_of x) a who p t out-now h settings image (given (λ q. length image ≡ q.size) fits) fs.frames moved stamped others kept;
+          candidates = stay-end_load c trail.past x.candidates core.candidates who t p x.passes_given image absent;
           trail_room = longer c _ _ _ core.trail_room _ (omega (arith, core.trail_room.owed, fewer)) (omega arith) (omega arith);
           pass_room = record { reserved = omega (arith, core.pass_room.reserved, fewer-kept) };
           read_room = core.read_room;

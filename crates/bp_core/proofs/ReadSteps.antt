@@ -1,5 +1,5 @@
 -- The begin and the end of a read keep what the core holds in agreement with the trail.
-use Rattle.std.proofs.Common.{◌≡◌, ◌≢◌, ℕ, suc, ◌+◌, nat_lt, Bool, true, false, not, cond, if◌then◌else◌, ◌||◌, ◌&&◌, ◌==◌, List, [], ◌∷◌, length, filter, Some, None, refl, sym, ◌∙◌, ap, subst, arith}
+use Rattle.std.proofs.Common.{◌≡◌, ◌≢◌, ℕ, suc, ◌+◌, nat_lt, Bool, true, false, not, cond, if◌then◌else◌, ◌||◌, ◌&&◌, ◌==◌, List, ◌∷◌, length, filter, Some, None, refl, sym, ◌∙◌, ap, subst, arith}
 use Rattle.std.specs.List.Sorted.{IsPermutation}
 use Rattle.std.proofs.lemmas.Bool.{and_from, and_parts, eqb-true, eq-eqb, false_from_ne_true, true≢false}
 use Rattle.bp_lruk.specs.Burst.Reference.{fault}
@@ -25,7 +25,7 @@ use Rattle.bp_core.specs.Agreement.{Parts, Agrees, frame_of, rewritten}
 use Rattle.bp_core.proofs.Lists.{since-mono}
 use Rattle.bp_core.proofs.Counting.{count-cons, none-count, count-agree_but, count-permutation, count-filter}
 use Rattle.bp_core.proofs.Serials.{numbered, rest}
-use Rattle.bp_core.proofs.Residents.{reads-rest}
+use Rattle.bp_core.proofs.Residents.{reads-rest, left-none, left-other}
 use Rattle.bp_core.proofs.Places.{places, out-of_page, one-gone}
 use Rattle.bp_core.proofs.Changes.{tickets-load, top-load}
 use Rattle.bp_core.proofs.Ranges.{owned, owner, stays}
@@ -109,23 +109,6 @@ module _ (c : Parameters) (past : Trail) (x : Parts) (a : Agrees c past x) (who 
         here : resident past v ≡ true
         here = candidate-resident c past v (victim-is c past v chosen).eligible
 
-        -- of the pages that are left, the victim is none, and the others are as they were
-        left-none : (xs : List ℕ) → some (λ q. q == v) (filter (λ q. not (q == v)) xs) ≡ false
-        left-none [] = refl
-        left-none (y ∷ ys) = go (y == v) refl (left-none ys)
-          where
-            go : (b : Bool) → (y == v) ≡ b → some (λ q. q == v) (filter (λ q. not (q == v)) ys) ≡ false → some (λ q. q == v) (cond (not b) (y ∷ filter (λ q. not (q == v)) ys) (filter (λ q. not (q == v)) ys)) ≡ false
-            go true e ih = ih
-            go false e ih = rw e ih
-
-        left-other : (q : ℕ) → (q == v) ≡ false → (xs : List ℕ) → some (λ r. r == q) (filter (λ r. not (r == v)) xs) ≡ some (λ r. r == q) xs
-        left-other q n [] = refl
-        left-other q n (y ∷ ys) = go (y == v) refl (left-other q n ys)
-          where
-            go : (b : Bool) → (y == v) ≡ b → some (λ r. r == q) (filter (λ r. not (r == v)) ys) ≡ some (λ r. r == q) ys → some (λ r. r == q) (cond (not b) (y ∷ filter (λ r. not (r == v)) ys) (filter (λ r. not (r == v)) ys)) ≡ some (λ r. r == q) (y ∷ ys)
-            go true e ih = let k : (y == q) ≡ false = eqb-sym y q ∙ subst (λ z. (q == z) ≡ false) (sym (eqb-true y v e)) n in ih ∙ sym (ap (λ b. b || some (λ r. r == q) ys) k)
-            go false e ih = ap (λ b. (y == q) || b) ih
-
         holds : (q : ℕ) (b : Bool) → (p == q) ≡ b → (d : Bool) → (q == v) ≡ d → is_held h q ≡ (some (λ r. r == q) (filter (λ r. not (r == v)) (residents past)) || (b || loading past q))
         holds q true e d k = subst (λ y. is_held h y ≡ true) (eqb-true p q e) kept ∙ sym (or-true (some (λ r. r == q) (filter (λ r. not (r == v)) (residents past))))
           where
@@ -134,8 +117,8 @@ module _ (c : Parameters) (past : Trail) (x : Parts) (a : Agrees c past x) (who 
             or-true false = refl
         holds q false e true k =
             let busy : loading past v ≡ false = false_from_ne_true (loading past v) (λ t. true≢false (sym here ∙ (places c past a.legal).away v t)) in
-            subst (λ y. is_held h y ≡ (some (λ r. r == y) (filter (λ r. not (r == v)) (residents past)) || loading past y)) (sym (eqb-true q v k)) (gone ∙ sym (ap (λ b. b || loading past v) (left-none (residents past)) ∙ busy))
-        holds q false e false k = others q (λ i. other p q e (sym i)) (other q v k) ∙ a.observed.held_is q ∙ ap (λ b. b || loading past q) (sym (left-other q k (residents past)))
+            subst (λ y. is_held h y ≡ (some (λ r. r == y) (filter (λ r. not (r == v)) (residents past)) || loading past y)) (sym (eqb-true q v k)) (gone ∙ sym (ap (λ b. b || loading past v) (left-none v (residents past)) ∙ busy))
+        holds q false e false k = others q (λ i. other p q e (sym i)) (other q v k) ∙ a.observed.held_is q ∙ ap (λ b. b || loading past q) (sym (left-other v q k (residents past)))
 
   -- ---- a read ends
   module _ (t : ℕ) (out : is_out (grant who p t) (reads_out past) ≡ true) (h : Blocks) (settings : SameSettings x.blocks h) where

@@ -1,6 +1,6 @@
 -- No page is resident twice, and the pages that are resident or loading are never more than the frames.
-use Rattle.std.proofs.Common.{◌≡◌, refl, ℕ, suc, ◌+◌, ◌≤◌, Bool, true, false, not, ◌||◌, ◌==◌, cond, List, [], ◌∷◌, filter, length, arith}
-use Rattle.std.proofs.lemmas.Bool.{false_from_ne_true, ltb-true}
+use Rattle.std.proofs.Common.{◌≡◌, refl, sym, ◌∙◌, ap, ℕ, suc, ◌+◌, ◌≤◌, Bool, true, false, not, ◌||◌, ◌==◌, cond, List, [], ◌∷◌, filter, length, arith}
+use Rattle.std.proofs.lemmas.Bool.{false_from_ne_true, ltb-true, eqb-true, eqb-false, ne_eqb}
 use Rattle.bp_core.specs.declared.entries.Call.{Call}
 use Rattle.bp_core.specs.declared.entries.Reply.{Reply}
 use Rattle.bp_core.specs.Parameters.{Parameters}
@@ -59,6 +59,23 @@ residents-rest v (x ∷ xs) m = go (x == v) m (residents-rest v xs) (fewer xs)
         → suc (length (cond (not b) (x ∷ filter (λ y. not (y == v)) xs) (filter (λ y. not (y == v)) xs))) ≤ suc (length xs)
     go true m ih f = omega arith
     go false m ih f = let k = ih m in omega arith
+
+-- of the pages that are left, the one that went is none, and the others are as they were
+pub left-none : (v : ℕ) (xs : List ℕ) → member v (filter (λ q. not (q == v)) xs) ≡ false
+left-none v [] = refl
+left-none v (y ∷ ys) = go (y == v) refl (left-none v ys)
+  where
+    go : (b : Bool) → (y == v) ≡ b → member v (filter (λ q. not (q == v)) ys) ≡ false → member v (cond (not b) (y ∷ filter (λ q. not (q == v)) ys) (filter (λ q. not (q == v)) ys)) ≡ false
+    go true e ih = ih
+    go false e ih = rw e ih
+
+pub left-other : (v q : ℕ) → (q == v) ≡ false → (xs : List ℕ) → member q (filter (λ r. not (r == v)) xs) ≡ member q xs
+left-other v q n [] = refl
+left-other v q n (y ∷ ys) = go (y == v) refl (left-other v q n ys)
+  where
+    go : (b : Bool) → (y == v) ≡ b → member q (filter (λ r. not (r == v)) ys) ≡ member q ys → member q (cond (not b) (y ∷ filter (λ r. not (r == v)) ys) (filter (λ r. not (r == v)) ys)) ≡ member q (y ∷ ys)
+    go true e ih = ih ∙ sym (ap (λ b. b || member q ys) (ne_eqb y q (λ i. eqb-false q v n (sym i ∙ eqb-true y v e))))
+    go false e ih = ap (λ b. (y == q) || b) ih
 
 abbrev pub Frames : Parameters → Trail → Type 0
 Frames c past = record {

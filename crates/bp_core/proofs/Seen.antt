@@ -4,9 +4,9 @@ use Rattle.std.specs.Str.{bytes_eq}
 use Rattle.std.specs.Prelude.{All, Contains}
 use Rattle.std.proofs.lemmas.Slice.Eq.{bytes_eq-Decides}
 use Rattle.std.proofs.lemmas.Bool.{eqb-true, eq-eqb, and_parts, and_from, or_left, or_right, ltb-true, lt-ltb, not_from_false, false_from_ne_true, true≢false, cases_Bool}
-use Rattle.bp_lruk.specs.Histories.{last_of, IsNow}
+use Rattle.bp_lruk.specs.Histories.{stamp_of, last_of, IsNow}
 use Rattle.bp_lruk.specs.Burst.{Reference, last_time}
-use Rattle.bp_lruk.specs.Stamp.{IsTimed}
+use Rattle.bp_lruk.specs.Stamp.{stamp, IsTimed}
 use Rattle.bp_core.specs.declared.frame.Frame.{Frame}
 use Rattle.bp_core.specs.Parameters.{Parameters}
 use Rattle.bp_core.specs.Lists.{some, count}
@@ -15,7 +15,7 @@ use Rattle.bp_core.specs.declared.entries.Entry.{Entry}
 use Rattle.bp_core.specs.Trail.{Trail}
 use Rattle.bp_core.specs.Passes.{passes, tickets, pass_of, passes_out, reads_out, writes_out, is_of, pins}
 use Rattle.bp_core.specs.Places.{residents, resident}
-use Rattle.bp_core.specs.References.{references, is_empty}
+use Rattle.bp_core.specs.References.{references, hist, last, is_empty}
 use Rattle.bp_core.specs.Legal.{is_out}
 use Rattle.bp_core.specs.Frames.{is_frame_of}
 use Rattle.bp_core.specs.Agreement.{Parts, Agrees, frame_of}
@@ -157,6 +157,12 @@ module _ (c : Parameters) (past : Trail) (x : Parts) (a : Agrees c past x) where
       positive : (refs : List Reference) → is_empty refs ≡ false → IsTimed refs → last_of x.blocks p ≡ last_time refs → 0 < last_of x.blocks p
       positive [] e t l = absurd (true≢false e)
       positive (r ∷ older) e t l = omega (arith, t.from_one, l)
+
+  -- what a page is entered with among the candidates
+  pub ranked : (p : ℕ) → ◌≡◌ {A = ℕ × ℕ} (stamp_of x.blocks p c.k, last_of x.blocks p) (hist c past p c.k, last c past p)
+  ranked p =
+      let stamps = (a.observed.stamps_are p).stamps c.k ∙ ap (λ k. stamp k x.blocks.correlated c.k (references c past p)) a.k_is ∙ ap (λ d. stamp c.k d c.k (references c past p)) a.correlated_is in
+      λ i. (stamps i, (a.observed.stamps_are p).last i)
 
   -- how much there is
   pub occupied_is : length x.frames + length x.reads ≡ length (residents past) + length (reads_out past)

@@ -151,10 +151,10 @@ module _ (c : Parameters) (past : Trail) (x : Parts) (a : Agrees c past x) (who 
     clients = owner c who p t (writes_out past) (owned c past a.legal).writes out
 
     -- no write-out of the page is under way any longer, and those of other pages go on
-    landed : (q : ℕ) → (q == p) ≡ true → some (is_of q) (rest t (writes_out past)) ≡ false
+    pub landed : (q : ℕ) → (q == p) ≡ true → some (is_of q) (rest t (writes_out past)) ≡ false
     landed q e = subst (λ y. some (is_of y) (rest t (writes_out past)) ≡ false) (sym (eqb-true q p e)) (one-gone who p t (writes_out past) (airborne c past a.legal).once out)
 
-    still : (q : ℕ) → (q == p) ≡ false → some (is_of q) (rest t (writes_out past)) ≡ writing past q
+    pub still : (q : ℕ) → (q == p) ≡ false → some (is_of q) (rest t (writes_out past)) ≡ writing past q
     still q e = others-stay who p t q (writes_out past) (numbered c past a.legal).writes_once out (eqb-sym p q ∙ e)
 
     pub agrees-write_failed : Agrees c (by who (WriteEnd t p false) WriteFailed ∷ past) (record x { writes = filter (λ g. not (g.serial == t)) x.writes; frames = changed_at p not_saved x.frames })

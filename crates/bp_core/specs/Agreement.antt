@@ -1,6 +1,7 @@
 -- What a core keeps, and that it agrees with the trail.
-use Rattle.std.specs.Prelude.{◌≡◌, ℕ, ◌+◌, ◌*◌, ◌^◌, ◌≤◌, Bool, false, ◌||◌, List, [], length}
+use Rattle.std.specs.Prelude.{◌≡◌, ℕ, ◌+◌, ◌*◌, ◌^◌, ◌≤◌, ◌==◌, Bool, not, ◌&&◌, ◌||◌, false, List, [], length, Option, Some, None, if◌then◌else◌}
 use Rattle.bp_lruk.specs.Histories.{Blocks, HasStampsOf, is_held}
+use Rattle.bp_lruk.specs.Candidates.{Entered, entry_of, NoPageTwice}
 use Rattle.bp_core.specs.declared.config.Config.{Config}
 use Rattle.bp_core.specs.declared.frame.Frame.{Frame}
 use Rattle.bp_core.specs.declared.state.State.{State}
@@ -13,7 +14,7 @@ use Rattle.bp_core.specs.Passes.{passes, tickets, passes_out, reads_out, writes_
 use Rattle.bp_core.specs.Places.{residents, resident, loading, writing}
 use Rattle.bp_core.specs.Saved.{unsaved, top}
 use Rattle.bp_core.specs.Images.{held}
-use Rattle.bp_core.specs.References.{references}
+use Rattle.bp_core.specs.References.{references, hist, last}
 use Rattle.bp_core.specs.Legal.{Legal}
 use Rattle.bp_core.specs.CoreView.{CoreView}
 use Rattle.bp_core.specs.Lodging.{Kept}
@@ -110,8 +111,22 @@ pub record HasFrameRoom (c : Parameters) (reads spare size limit : ℕ) : Type 0
   pub size_is : size ≡ c.size
   pub limit_is : limit ≡ c.frames
 
+-- the candidates for replacement: the pages that nobody uses, each with its K-th stamp and its last time
+abbrev pub unused : Trail → ℕ → Bool
+unused past p = resident past p && ((pins past p == 0) && not (writing past p))
+
+abbrev pub entry_for : Parameters → Trail → ℕ → Option (ℕ × ℕ)
+entry_for c past p = if unused past p then Some (hist c past p c.k, last c past p) else None
+
+pub record HasCandidates (c : Parameters) (past : Trail) (candidates : Entered) : Type 0 where
+  pub entries_are : (p : ℕ) → entry_of candidates p ≡ entry_for c past p
+  pub once : NoPageTwice candidates.entries
+  pub frames_is : candidates.frames ≡ c.frames
+  pub correlated_is : candidates.correlated ≡ c.correlated
+
 pub record IsCore (c : Parameters) (trail : Kept) (x : State) : Type 0 where
   pub agrees : Agrees c trail.past (parts_of x)
+  pub candidates : HasCandidates c trail.past x.candidates
   pub trail_room : HasTrailRoom c (length trail.past) trail.past trail.capacity
   pub pass_room : HasPassRoom (length x.passes.out) (length x.reads.out) x.passes.capacity
   pub read_room : HasReadRoom c x.reads.capacity
@@ -136,3 +151,4 @@ pub record IsFirst (c : Parameters) (x : State) : Type 0 where
   pub retained : x.histories.retained ≡ c.retained
   pub held : (page : ℕ) → is_held x.histories page ≡ false
   pub stamps : (page : ℕ) → HasStampsOf x.histories page []
+  pub candidates : x.candidates ≡ record { frames = c.frames; correlated = c.correlated; entries = [] }

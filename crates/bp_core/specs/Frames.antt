@@ -1,8 +1,6 @@
 -- Lists of frames.
-use Rattle.std.specs.Prelude.{ℕ, ◌+◌, ◌-◌, max, Bool, true, false, ◌&&◌, not, ◌==◌, nat_lt, List, filter, map, Option, Some, None, if◌then◌else◌}
+use Rattle.std.specs.Prelude.{ℕ, ◌+◌, ◌-◌, max, Bool, true, false, not, ◌==◌, List, filter, map, if◌then◌else◌}
 use Rattle.bp_core.specs.Event.{patched}
-use Rattle.bp_core.specs.Victim.{Rank, before}
-use Rattle.bp_lruk.specs.Histories.{Blocks, last_of, stamp_of}
 use Rattle.bp_core.specs.declared.frame.Frame.{Frame}
 
 abbrev pub is_frame_of : ℕ → Frame → Bool
@@ -38,18 +36,3 @@ changed_at page change frames = map (λ f. if is_frame_of page f then change f e
 
 unfoldable pub without_page : ℕ → List Frame → List Frame
 without_page page frames = filter (λ f. not (is_frame_of page f)) frames
-
--- what decides whether a frame is emptied, and before which others
-abbrev pub may_leave : Blocks → ℕ → Frame → Bool
-may_leave h now f = (f.pins == 0) && (not f.is_writing && nat_lt h.correlated (now - last_of h f.page))
-
-abbrev pub rank_of : Blocks → ℕ → Rank
-rank_of h p = record { stamp = stamp_of h p h.k; last = last_of h p; page = p }
-
--- before the best so far, if there is one
-abbrev pub goes_first : Rank → Option Rank → Bool
-goes_first r None = true
-goes_first r (Some best) = before r best
-
-abbrev pub better : Blocks → ℕ → Option Rank → Frame → Option Rank
-better h now best f = if may_leave h now f && goes_first (rank_of h f.page) best then Some (rank_of h f.page) else best

@@ -1,6 +1,5 @@
 -- The page that LRU-K replaces.
 use Rattle.std.specs.Prelude.{IsTrue, IsFalse, ℕ, ◌-◌, nat_lt, Bool, not, ◌&&◌, ◌||◌, ◌==◌, if◌then◌else◌, List, filter, find, Option, Some, None}
-use Rattle.bp_core.specs.declared.config.Rank.{Rank as PageRank}
 use Rattle.bp_core.specs.Parameters.{Parameters}
 use Rattle.bp_core.specs.Trail.{Trail}
 use Rattle.bp_core.specs.Lists.{every}
@@ -14,8 +13,10 @@ abbrev pub backward_distance : Parameters → Trail → ℕ → Option ℕ
 backward_distance c past p = let h = hist c past p c.k in if h == 0 then None else Some (clock past - h)
 
 -- what decides between candidates, part by part
-abbrev pub Rank : Type 0
-Rank = PageRank
+pub record Rank : Type 0 where
+  pub stamp : ℕ
+  pub last : ℕ
+  pub page : ℕ
 
 abbrev pub rank : Parameters → Trail → ℕ → Rank
 rank c past p = record { stamp = hist c past p c.k; last = last c past p; page = p }

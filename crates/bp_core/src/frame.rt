@@ -1,5 +1,5 @@
 //! One frame.
-ghost use Rattle.std.specs.Prelude.{max, ◌≡◌, ◌+◌, ◌^◌, ◌<◌, ◌≤◌, length};
+ghost use Rattle.std.specs.Prelude.{max, not, ◌≡◌, ◌==◌, ◌&&◌, ◌+◌, ◌^◌, ◌<◌, ◌≤◌, length};
 
 use bp_page::{Image, Lsn, PageNo};
 
@@ -73,6 +73,13 @@ impl Frame {
         ensures { self.new ≡ unpinned self.old }
     {
         self.pins -= 1;
+    }
+
+    /// Whether nobody uses the page any longer once a pass is given back.
+    pub(crate) fn is_last_use(&self) -> bool
+        ensures { result ≡ ((self.now.pins == 1) && not self.now.is_writing) }
+    {
+        self.pins == 1 && !self.is_writing
     }
 
     /// Puts bytes into the image.

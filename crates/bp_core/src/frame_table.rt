@@ -1,16 +1,11 @@
 //! The frames, and where the frame of each page is.
-ghost use Rattle.std.specs.Prelude.{◌≡◌, ℕ, ◌+◌, ◌^◌, ◌<◌, ◌≤◌, ◌∷◌, [], All, Contains, fold, None, true, false, length, IfOk, OnOk, OnErr, IfSome, IfNone};
+ghost use Rattle.std.specs.Prelude.{◌≡◌, ℕ, ◌+◌, ◌^◌, ◌<◌, ◌≤◌, ◌∷◌, [], All, Contains, true, false, length, IfOk, OnOk, OnErr, IfSome, IfNone};
 ghost use Rattle.std.specs.List.Sorted.{IsPermutation};
 ghost use Rattle.bp_core.specs.Lists.{some};
-ghost use Rattle.std.specs.Option.{option_map};
-ghost use Rattle.bp_core.specs.Victim.{before};
-ghost use Rattle.bp_core.specs.Tables.{frames_of};
 ghost use Rattle.bp_core.specs.Rising.{IsRisingBy, IsPlaceFor, IsPlaceOf};
-ghost use Rattle.bp_core.specs.Frames.{is_frame_of, loaded_with, pinned, unpinned, written_on, saving, saved, not_saved, without_page, better};
+ghost use Rattle.bp_core.specs.Frames.{is_frame_of, loaded_with, pinned, unpinned, written_on, saving, saved, not_saved, without_page};
 
-use crate::config::Rank;
 use crate::frame::Frame;
-use bp_lruk::{Histories, Settings};
 use bp_page::{Geometry, Image, Lsn, PageNo};
 use std::alloc::{AllocError, Global};
 use std::marker::Model;
@@ -180,20 +175,6 @@ impl FrameTable {
         Ok(())
     }
 
-    /// The page that leaves its frame first.
-    pub(crate) fn first_to_leave(
-        &self,
-        histories: &Histories,
-        settings: Settings,
-        now: u64,
-    ) -> Option<PageNo>
-        requires k { settings.k ≡ histories.now.k }
-        requires correlated { settings.correlated ≡ histories.now.correlated }
-        ensures { result ≡ option_map (λ r. r.page) (fold (better histories.now now) None self.now.frames) }
-    {
-        first_to_leave(&self.slots, &self.places, histories, settings, now)
-    }
-
     /// Puts a page that was read into a frame that waits, with one pass out. It takes no memory.
     pub(crate) fn fill(&mut self, page: PageNo, image: &Image)
         requires absent { some (is_frame_of page) self.old.frames ≡ false }
@@ -219,67 +200,4 @@ impl FrameTable {
         let gone = self.places.remove(place);
         self.spare.push_reserved(gone.slot);
     }
-}
-
-/// Whether the page of one rank leaves before that of the other.
-fn leaves_before(a: &Rank, b: &Rank) -> bool
-    ensures { result ≡ before a.now b.now }
-{
-    a.stamp < b.stamp
-        || (a.stamp == b.stamp
-            && (a.last < b.last || (a.last == b.last && a.page.number() < b.page.number())))
-}
-
-/// The first to leave of a frame and the best so far.
-fn better_of(
-    best: Option<Rank>,
-    frame: &Frame,
-    histories: &Histories,
-    settings: Settings,
-    now: u64,
-) -> Option<Rank>
-    requires k { settings.k ≡ histories.now.k }
-    requires correlated { settings.correlated ≡ histories.now.correlated }
-    ensures { result ≡ better histories.now now best frame.now }
-{
-    let page = frame.page;
-    let last = histories.last(page);
-    if frame.pins != 0 || frame.is_writing || now.saturating_sub(last) <= settings.correlated {
-        return best;
-    }
-    let rank = Rank {
-        stamp: histories.stamp(page, settings.k),
-        last,
-        page,
-    };
-    match best {
-        None => Some(rank),
-        Some(other) => {
-            if leaves_before(&rank, &other) {
-                Some(rank)
-            } else {
-                Some(other)
-            }
-        }
-    }
-}
-
-/// The page that leaves its frame first.
-fn first_to_leave(
-    slots: &[Frame],
-    places: &[Place],
-    histories: &Histories,
-    settings: Settings,
-    now: u64,
-) -> Option<PageNo>
-    requires k { settings.k ≡ histories.now.k }
-    requires correlated { settings.correlated ≡ histories.now.correlated }
-    requires within { All (λ p. p.slot < length slots.now) places.now }
-    ensures { result ≡ option_map (λ r. r.page) (fold (better histories.now now) None (frames_of slots.now places.now)) }
-{
-    let mut best: Option<Rank> = None;
-    for place in places {
-        best = better_of(best, &slots[place.slot], histories, settings, now);
-    }
-    Some(best?.page)
 }

@@ -1,11 +1,13 @@
 //! What a core keeps beside its trail.
-ghost use Rattle.std.specs.Prelude.{◌≡◌, ◌+◌, ◌^◌, ◌<◌, All, IfOk, length};
+ghost use Rattle.std.specs.Prelude.{◌≡◌, ◌≢◌, ℕ, ◌+◌, ◌^◌, ◌<◌, true, All, Some, None, if◌then◌else◌, IfOk, length};
+ghost use Rattle.bp_lruk.specs.Histories.{stamp_of, last_of};
+ghost use Rattle.bp_lruk.specs.Candidates.{entry_of, NoPageTwice, SameLimits};
 
 use crate::config::Config;
 use crate::frame_table::FrameTable;
 use crate::grant_list::GrantList;
 use crate::passes::{Pass, ReadTicket};
-use bp_lruk::Histories;
+use bp_lruk::{Candidates, Histories};
 use bp_page::{Lsn, PageNo};
 use std::alloc::{AllocError, Global};
 
@@ -23,6 +25,8 @@ pub(crate) struct State {
     pub(crate) writes: GrantList,
     pub(crate) frames: FrameTable,
     pub(crate) histories: Histories,
+    /// The resident pages that nobody uses: with no pass out and no write-out under way.
+    pub(crate) candidates: Candidates,
 }
 
 impl State {
@@ -33,6 +37,9 @@ impl State {
     pub(crate) fn new(alloc: Global, config: &Config) -> Result<State, AllocError>
         ensures { IfOk result (IsFirst (parameters_of config.now)) }
     {
+        let Ok(candidates) = Candidates::new(alloc, config.frames, config.settings) else {
+            return Err(AllocError);
+        };
         Ok(State {
             clock: 1,
             durable: Lsn::new(0),
@@ -43,6 +50,7 @@ impl State {
             writes: GrantList::new(alloc),
             frames: FrameTable::with_capacity(alloc, config.frames, config.geometry)?,
             histories: Histories::new(alloc, config.settings),
+            candidates,
         })
     }
 
@@ -94,5 +102,39 @@ impl State {
         self.tickets_given += 1;
         self.writes.give(client, page, serial);
         serial
+    }
+}
+
+/// Enters a page among the candidates for replacement, if nobody uses it.
+pub(crate) fn offer(
+    candidates: &mut Candidates,
+    histories: &Histories,
+    page: PageNo,
+    k: usize,
+    is_unused: bool,
+)
+    requires apart { is_unused ≡ true → entry_of candidates.old page ≡ None }
+    requires room { is_unused ≡ true → length candidates.old.entries < candidates.old.frames }
+    ensures entered { entry_of candidates.new page ≡ (if is_unused then Some (stamp_of histories.now page k, last_of histories.now page) else entry_of candidates.old page) }
+    ensures others { (q : ℕ) → q ≢ page → entry_of candidates.new q ≡ entry_of candidates.old q }
+    ensures pages { NoPageTwice candidates.old.entries → NoPageTwice candidates.new.entries }
+    ensures limits { SameLimits candidates.old candidates.new }
+{
+    if is_unused {
+        let stamp = histories.stamp(page, k);
+        let last = histories.last(page);
+        candidates.enter(page, stamp, last);
+    }
+}
+
+/// Takes a page out of the candidates, if it is one.
+pub(crate) fn withdraw(candidates: &mut Candidates, page: PageNo)
+    ensures left { entry_of candidates.new page ≡ None }
+    ensures others { (q : ℕ) → q ≢ page → entry_of candidates.new q ≡ entry_of candidates.old q }
+    ensures pages { NoPageTwice candidates.old.entries → NoPageTwice candidates.new.entries }
+    ensures limits { SameLimits candidates.old candidates.new }
+{
+    if candidates.contains(page) {
+        candidates.leave(page);
     }
 }

@@ -9,6 +9,7 @@ ghost use Rattle.bp_core.specs.Outcomes.{FixOutcome};
 use crate::entries::{Call, Reply};
 use crate::passes::Fix;
 use crate::pool::Core;
+use crate::state::withdraw;
 use bp_page::{PageNo, Refusal};
 
 impl Core {
@@ -51,6 +52,7 @@ impl Core {
         let Ok(()) = self.state.passes.reserve(pending) else {
             return Err(Refusal::OutOfMemory);
         };
+        withdraw(&mut self.state.candidates, page);
         self.state.frames.pin(page);
         self.state.histories.hit(page, self.state.clock);
         let pass = self.state.give_pass(client, page);
@@ -92,10 +94,6 @@ impl Core {
     fn victim(&self) -> Option<PageNo>
         ensures { EachPast self.now (λ past. result ≡ victim self.now.parameters past) }
     {
-        self.state.frames.first_to_leave(
-            &self.state.histories,
-            self.config.settings,
-            self.state.clock,
-        )
+        self.state.candidates.victim(self.state.clock)
     }
 }

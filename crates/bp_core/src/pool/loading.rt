@@ -12,9 +12,11 @@ ghost use Rattle.bp_core.specs.CoreView.{EachPast, HasRoomFor};
 ghost use Rattle.bp_core.specs.Outcomes.{FixOutcome, ReadEndOutcome, Adds};
 
 use crate::entries::{Call, Reply};
+use crate::grant_list::GrantList;
 use crate::passes::{EndRefusal, Fix, Pass, ReadTicket};
 use crate::pool::Core;
-use crate::state::State;
+use crate::state::withdraw;
+use bp_lruk::Histories;
 use bp_page::{Image, PageNo, PortFault, Refusal};
 use std::alloc::AllocError;
 
@@ -29,14 +31,16 @@ impl Core {
         requires room { HasRoomFor 3 self.old }
         ensures outcome { FixOutcome self.old client page result self.new }
     {
-        let Ok(()) = self
-            .state
-            .frames
-            .provide(self.alloc, self.state.reads.len())
-        else {
+        let reads = self.state.reads.len();
+        let Ok(()) = self.state.frames.provide(self.alloc, reads) else {
             return Err(Refusal::OutOfMemory);
         };
-        let Ok(()) = make_ready(&mut self.state, page) else {
+        let Ok(()) = make_ready(
+            &mut self.state.passes,
+            reads,
+            &mut self.state.histories,
+            page,
+        ) else {
             return Err(Refusal::OutOfMemory);
         };
         let ticket = self.state.give_read(client, page);
@@ -60,9 +64,16 @@ impl Core {
         requires room { HasRoomFor 3 self.old }
         ensures outcome { FixOutcome self.old client page result self.new }
     {
-        let Ok(()) = make_ready(&mut self.state, page) else {
+        let reads = self.state.reads.len();
+        let Ok(()) = make_ready(
+            &mut self.state.passes,
+            reads,
+            &mut self.state.histories,
+            page,
+        ) else {
             return Err(Refusal::OutOfMemory);
         };
+        withdraw(&mut self.state.candidates, gone);
         self.state.frames.vacate(gone);
         self.state.histories.unprepare(gone);
         let ticket = self.state.give_read(client, page);
@@ -143,24 +154,27 @@ impl Core {
     }
 }
 
-/// Takes the memory that the end of a page's read will need, but for its frame: room for its pass, and its history's block. Where
-/// that is refused no page is held more than before.
-fn make_ready(state: &mut State, page: PageNo) -> Result<(), AllocError>
-    requires few { length state.old.reads.out < 2 ^ 32 }
-    requires away { is_held state.old.histories page ≡ false }
-    ensures others { state.new ≡ record state.old { passes = state.new.passes; histories = state.new.histories } }
-    ensures passes { state.new.passes.out ≡ state.old.passes.out }
-    ensures capacity { state.old.passes.capacity ≤ state.new.passes.capacity }
-    ensures room { OnOk result (length state.old.passes.out + length state.old.reads.out + 1 ≤ state.new.passes.capacity) }
-    ensures held { OnOk result (is_held state.new.histories page ≡ true) }
-    ensures stamps { SameStampsAt state.old.histories state.new.histories page }
-    ensures other_pages { (q : ℕ) → q ≢ page → SameAt state.old.histories state.new.histories q }
-    ensures settings { SameSettings state.old.histories state.new.histories }
-    ensures unchanged { OnErr result (state.new.histories ≡ state.old.histories) }
+/// Takes the memory that the end of a page's read will need, but for its frame: room for its pass beside those of the reads that are
+/// out, and its history's block. Where that is refused no page is held more than before.
+fn make_ready(
+    passes: &mut GrantList,
+    reads: usize,
+    histories: &mut Histories,
+    page: PageNo,
+) -> Result<(), AllocError>
+    requires few { reads < 2 ^ 32 }
+    requires away { is_held histories.old page ≡ false }
+    ensures passes { passes.new.out ≡ passes.old.out }
+    ensures capacity { passes.old.capacity ≤ passes.new.capacity }
+    ensures room { OnOk result (length passes.old.out + reads + 1 ≤ passes.new.capacity) }
+    ensures held { OnOk result (is_held histories.new page ≡ true) }
+    ensures stamps { SameStampsAt histories.old histories.new page }
+    ensures others { (q : ℕ) → q ≢ page → SameAt histories.old histories.new q }
+    ensures settings { SameSettings histories.old histories.new }
+    ensures unchanged { OnErr result (histories.new ≡ histories.old) }
 {
-    let pending = state.reads.len() + 1;
-    state.passes.reserve(pending)?;
-    match state.histories.prepare(page) {
+    passes.reserve(reads + 1)?;
+    match histories.prepare(page) {
         Ok(()) => Ok(()),
         Err(_) => Err(AllocError),
     }

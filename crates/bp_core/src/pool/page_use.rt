@@ -5,6 +5,7 @@ ghost use Rattle.bp_core.specs.Outcomes.{ReadOutcome, WriteOutcome, UnfixOutcome
 use crate::entries::{Call, Reply};
 use crate::passes::Pass;
 use crate::pool::Core;
+use crate::state::offer;
 use bp_page::{Bytes, Image, Lsn, Refusal};
 
 impl Core {
@@ -88,8 +89,20 @@ impl Core {
             page,
             serial,
         } = pass;
+        let Some(frame) = self.frame(page) else {
+            unreachable!()
+        };
+        let is_unused = frame.is_last_use();
         self.state.frames.unpin(page);
         self.state.passes.take_back(serial);
+        let k = self.config.settings.k;
+        offer(
+            &mut self.state.candidates,
+            &self.state.histories,
+            page,
+            k,
+            is_unused,
+        );
         let call = Call::Unfix { pass: serial, page };
         self.trail.record(client, call, Reply::Done);
         Ok(())

@@ -13,6 +13,7 @@ ghost use Rattle.bp_core.specs.Outcomes.{IsBegin, BeginOutcome, EndedOutcome, Fl
 use crate::entries::{Call, Reply};
 use crate::passes::{EndRefusal, Ended, Flush, WriteTicket};
 use crate::pool::Core;
+use crate::state::{offer, withdraw};
 use bp_page::{Image, PageNo, PortFault, Refusal};
 
 impl Core {
@@ -83,6 +84,7 @@ impl Core {
         let Ok(()) = self.state.writes.reserve(1) else {
             return Err(Refusal::OutOfMemory);
         };
+        withdraw(&mut self.state.candidates, page);
         self.state.frames.begin_write_out(page);
         let serial = self.state.give_write(client, page);
         let reply = Reply::WriteFirst {
@@ -142,8 +144,17 @@ impl Core {
             unreachable!()
         };
         let is_rewritten = frame.is_rewritten;
+        let is_unused = frame.pins == 0;
         self.state.writes.take_back(serial);
         self.state.frames.end_write_out(page);
+        let k = self.config.settings.k;
+        offer(
+            &mut self.state.candidates,
+            &self.state.histories,
+            page,
+            k,
+            is_unused,
+        );
         let call = Call::WriteEnd {
             ticket: serial,
             page,
@@ -162,8 +173,20 @@ impl Core {
         requires { EachPast self.old (λ past. is_out (grant client page serial) (writes_out past) ≡ true) }
         ensures { Adds self.old client (Call.WriteEnd serial page false) Reply.WriteFailed self.new }
     {
+        let Some(frame) = self.frame(page) else {
+            unreachable!()
+        };
+        let is_unused = frame.pins == 0;
         self.state.writes.take_back(serial);
         self.state.frames.fail_write_out(page);
+        let k = self.config.settings.k;
+        offer(
+            &mut self.state.candidates,
+            &self.state.histories,
+            page,
+            k,
+            is_unused,
+        );
         let call = Call::WriteEnd {
             ticket: serial,
             page,

@@ -1,13 +1,23 @@
-use Rattle.std.proofs.Common.{false}
+use Rattle.std.proofs.Common.{false, ap, ◌==◌}
 use Rattle.bp_core.specs.declared.entries.Call.TheVariants.{WriteEnd}
 use Rattle.bp_core.specs.declared.entries.Reply.TheVariants.{WriteFailed}
 use Rattle.bp_core.proofs.Keeps.{adds}
-use Rattle.bp_core.proofs.KeepsWriteOuts.{keeps-fail_write_out}
+use Rattle.bp_core.proofs.KeepsWriteOuts.{here-now, no-candidate, candidate-room, keeps-fail_write_out}
 use Rattle.bp_core.proofs.pool.Core.fail_write_out.Goals as goal
+
+pub unreachable-requires : goal.unreachable-requires
+unreachable-requires c = here-now _ _ _ c.self.invariant _ c.self.view_is c.args.client c.args.page c.args.serial c.requires c.in_default.ensures.away
+
+pub offer-requires-clause-apart : goal.offer-requires-clause-apart
+offer-requires-clause-apart c = λ unused. no-candidate _ _ _ c.self.invariant _ c.self.view_is c.args.client c.args.page c.args.serial c.requires
+
+pub offer-requires-clause-room : goal.offer-requires-clause-room
+offer-requires-clause-room c = λ unused. candidate-room _ _ _ c.self.invariant _ c.self.view_is c.args.client c.args.page c.args.serial c.requires
 
 pub invariant_of-self : goal.invariant_of-self
 invariant_of-self c =
-    rw (c.record.ensures, c.take_back.ensures, c.fail_write_out.ensures) (keeps-fail_write_out _ _ _ c.self.invariant _ c.self.view_is c.args.client c.args.page c.args.serial c.requires)
+    let o = c.offer.ensures in
+    rw (c.record.ensures, c.take_back.ensures, c.fail_write_out.ensures) (keeps-fail_write_out _ _ _ c.self.invariant _ c.self.view_is c.args.client c.args.page c.args.serial c.requires (c.in-Some.frame.now.pins == 0) (ap (λ f. f.pins == 0) c.in-Some.ensures.found) c.offer.new.candidates o.limits o.pages o.others o.entered)
 
 pub returns : goal.returns
 returns c =

@@ -26,7 +26,8 @@ give_pass-pass-requires-clause-newest c =
 pub invariant_of-self-2 : goal.invariant_of-self-2
 invariant_of-self-2 c =
     let h = c.hit.ensures in
-    rw (c.record.ensures, c.give_pass-pass.ensures.after, c.give_pass-pass.ensures.pass, c.pin.ensures) (keeps-hit _ _ _ c.self.invariant _ c.self.view_is c.args.client c.args.page c.requires.client_in c.requires.page_in c.requires.here c.requires.room c.reserve.new.self c.reserve.ensures.out (omega (arith, c.in-Ok.ensures.room, c.len-pending.ensures)) c.hit.new.self h.settings h.stamps h.others h.held)
+    let w = c.withdraw.ensures in
+    rw (c.record.ensures, c.give_pass-pass.ensures.after, c.give_pass-pass.ensures.pass, c.pin.ensures) (keeps-hit _ _ _ c.self.invariant _ c.self.view_is c.args.client c.args.page c.requires.client_in c.requires.page_in c.requires.here c.requires.room c.reserve.new.self c.reserve.ensures.out (omega (arith, c.in-Ok.ensures.room, c.len-pending.ensures)) c.hit.new.self h.settings h.stamps h.others h.held c.withdraw.new.candidates w.limits w.pages w.others w.left)
 
 pub returns : goal.returns
 returns c =

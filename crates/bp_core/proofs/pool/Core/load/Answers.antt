@@ -5,15 +5,15 @@ use Rattle.bp_core.proofs.pool.Core.load.Goals as goal
 
 pub provide-requires-clause-room : goal.provide-requires-clause-room
 provide-requires-clause-room c =
-    omega (arith, free-frame _ _ _ c.self.invariant _ c.self.view_is c.args.client c.args.page c.requires.frame, c.len.ensures, c.self.invariant.frame_room.limit_is)
+    omega (arith, free-frame _ _ _ c.self.invariant _ c.self.view_is c.args.client c.args.page c.requires.frame, c.len-reads.ensures, c.self.invariant.frame_room.limit_is)
 
 pub give_read-ticket-requires-clause-newest : goal.give_read-ticket-requires-clause-newest
 give_read-ticket-requires-clause-newest c =
-    rw c.make_ready.ensures.others (newest_read _ _ _ c.self.invariant.agrees)
+    newest_read _ _ _ c.self.invariant.agrees
 
 pub invariant_of-self-2 : goal.invariant_of-self-2
 invariant_of-self-2 c =
     let m = c.make_ready.ensures in
     let p = c.provide.ensures in
-    rw (c.record.ensures, c.give_read-ticket.ensures.after, c.give_read-ticket.ensures.ticket, m.others)
-    (keeps-load _ _ _ c.self.invariant _ c.self.view_is c.args.client c.args.page c.requires.client_in c.requires.page_in c.requires.idle c.requires.away c.requires.room c.make_ready.new.state.passes m.passes c.in-Ok-make_ready.ensures.room c.requires.frame c.provide.new.self p.frames p.size p.limit (omega (arith, c.in-Ok.ensures.enough, c.len.ensures)) c.make_ready.new.state.histories m.settings m.stamps m.other_pages c.in-Ok-make_ready.ensures.held)
+    rw (c.record.ensures, c.give_read-ticket.ensures.after, c.give_read-ticket.ensures.ticket)
+    (keeps-load _ _ _ c.self.invariant _ c.self.view_is c.args.client c.args.page c.requires.client_in c.requires.page_in c.requires.idle c.requires.away c.requires.room c.make_ready.new.passes m.passes (omega (arith, c.in-Ok-make_ready.ensures.room, c.len-reads.ensures)) c.requires.frame c.provide.new.self p.frames p.size p.limit (omega (arith, c.in-Ok.ensures.enough, c.len-reads.ensures)) c.make_ready.new.histories m.settings m.stamps m.others c.in-Ok-make_ready.ensures.held)

@@ -5,24 +5,25 @@ use Rattle.bp_core.proofs.pool.Core.replace.Goals as goal
 
 pub vacate-requires : goal.vacate-requires
 vacate-requires c =
-    rw c.make_ready.ensures.others (victim-here _ _ _ c.self.invariant _ c.self.view_is c.args.client c.args.page c.args.gone c.requires.chosen)
+    victim-here _ _ _ c.self.invariant _ c.self.view_is c.args.client c.args.page c.args.gone c.requires.chosen
 
 pub unprepare-requires : goal.unprepare-requires
 unprepare-requires c =
-    (c.make_ready.ensures.other_pages c.args.gone (victim-apart _ _ _ c.self.invariant _ c.self.view_is c.args.client c.args.page c.args.gone c.requires.chosen c.requires.away)).held
+    (c.make_ready.ensures.others c.args.gone (victim-apart _ _ _ c.self.invariant _ c.self.view_is c.args.client c.args.page c.args.gone c.requires.chosen c.requires.away)).held
     ∙ victim-held _ _ _ c.self.invariant _ c.self.view_is c.args.client c.args.page c.args.gone c.requires.chosen
 
 pub give_read-ticket-requires-clause-newest : goal.give_read-ticket-requires-clause-newest
 give_read-ticket-requires-clause-newest c =
-    rw c.make_ready.ensures.others (newest_read _ _ _ c.self.invariant.agrees)
+    newest_read _ _ _ c.self.invariant.agrees
 
 pub give_read-ticket-requires-clause-room : goal.give_read-ticket-requires-clause-room
 give_read-ticket-requires-clause-room c =
-    rw c.make_ready.ensures.others (omega (arith, few-reads _ _ _ c.self.invariant _ c.self.view_is c.args.client c.args.page c.args.gone c.requires.chosen, c.self.invariant.read_room.reserved))
+    omega (arith, few-reads _ _ _ c.self.invariant _ c.self.view_is c.args.client c.args.page c.args.gone c.requires.chosen, c.self.invariant.read_room.reserved)
 
 pub invariant_of-self-2 : goal.invariant_of-self-2
 invariant_of-self-2 c =
     let m = c.make_ready.ensures in
     let u = c.unprepare.ensures in
-    rw (c.record.ensures, c.give_read-ticket.ensures.after, c.give_read-ticket.ensures.ticket, c.vacate.ensures, m.others)
-    (keeps-replace _ _ _ c.self.invariant _ c.self.view_is c.args.client c.args.page c.requires.client_in c.requires.page_in c.requires.idle c.requires.away c.requires.room c.make_ready.new.state.passes m.passes c.in-Ok.ensures.room c.args.gone c.requires.full c.requires.chosen c.requires.saved c.make_ready.new.state.histories c.unprepare.new.self m.settings m.stamps m.other_pages c.in-Ok.ensures.held u.settings u.stamps u.others u.held)
+    let w = c.withdraw.ensures in
+    rw (c.record.ensures, c.give_read-ticket.ensures.after, c.give_read-ticket.ensures.ticket, c.vacate.ensures)
+    (keeps-replace _ _ _ c.self.invariant _ c.self.view_is c.args.client c.args.page c.requires.client_in c.requires.page_in c.requires.idle c.requires.away c.requires.room c.make_ready.new.passes m.passes (omega (arith, c.in-Ok.ensures.room, c.len-reads.ensures)) c.args.gone c.requires.full c.requires.chosen c.requires.saved c.withdraw.new.candidates w.limits w.pages w.others w.left c.make_ready.new.histories c.unprepare.new.self m.settings m.stamps m.others c.in-Ok.ensures.held u.settings u.stamps u.others u.held)

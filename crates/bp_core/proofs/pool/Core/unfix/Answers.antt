@@ -1,12 +1,15 @@
-use Rattle.std.proofs.Common.{◌≡◌, sym, ◌∙◌, true}
+use Rattle.std.proofs.Common.{◌≡◌, sym, ◌∙◌, true, false, ap, ◌==◌, ◌&&◌}
+use Rattle.std.specs.Prelude.{not}
+use Rattle.std.proofs.lemmas.Bool.{true≢false}
 use Rattle.bp_core.specs.declared.entries.Call.TheVariants.{Unfix}
 use Rattle.bp_core.specs.declared.entries.Reply.TheVariants.{Done}
 use Rattle.bp_core.specs.Event.{grant}
 use Rattle.bp_core.specs.Passes.{passes_out}
+use Rattle.bp_core.specs.Places.{resident}
 use Rattle.bp_core.specs.Legal.{is_out}
 use Rattle.bp_core.proofs.Seen.{some_pins}
 use Rattle.bp_core.proofs.Keeps.{at-past, adds}
-use Rattle.bp_core.proofs.KeepsPasses.{keeps-unfix}
+use Rattle.bp_core.proofs.KeepsPasses.{pinned-page, no-candidate, candidate-room, keeps-unfix}
 use Rattle.bp_core.proofs.pool.Core.unfix.Goals as goal
 
 pub unpin-requires : goal.unpin-requires
@@ -14,10 +17,26 @@ unpin-requires c =
     let p = c.args.pass in
     some_pins _ _ _ c.self.invariant.agrees p.client p.page p.serial (at-past _ _ _ c.self.invariant _ c.self.view_is (λ q past. is_out (grant p.client p.page p.serial) (passes_out past) ≡ true) (sym c.knows.ensures ∙ c.if-not-knows.false))
 
+pub unreachable-requires : goal.unreachable-requires
+unreachable-requires c =
+    let p = c.args.pass in
+    true≢false (sym (pinned-page _ _ _ c.self.invariant _ c.self.view_is p.client p.page p.serial (sym c.knows.ensures ∙ c.if-not-knows.false)) ∙ at-past _ _ _ c.self.invariant _ c.self.view_is (λ q past. resident past p.page ≡ false) c.in_default.ensures.away)
+
+pub offer-requires-clause-apart : goal.offer-requires-clause-apart
+offer-requires-clause-apart c =
+    let p = c.args.pass in
+    λ unused. no-candidate _ _ _ c.self.invariant _ c.self.view_is p.client p.page p.serial (sym c.knows.ensures ∙ c.if-not-knows.false)
+
+pub offer-requires-clause-room : goal.offer-requires-clause-room
+offer-requires-clause-room c =
+    let p = c.args.pass in
+    λ unused. candidate-room _ _ _ c.self.invariant _ c.self.view_is p.client p.page p.serial (sym c.knows.ensures ∙ c.if-not-knows.false)
+
 pub invariant_of-self : goal.invariant_of-self
 invariant_of-self c =
     let p = c.args.pass in
-    rw (c.record.ensures, c.take_back.ensures, c.unpin.ensures) (keeps-unfix _ _ _ c.self.invariant _ c.self.view_is p.client p.page p.serial (sym c.knows.ensures ∙ c.if-not-knows.false))
+    let o = c.offer.ensures in
+    rw (c.record.ensures, c.take_back.ensures, c.unpin.ensures) (keeps-unfix _ _ _ c.self.invariant _ c.self.view_is p.client p.page p.serial (sym c.knows.ensures ∙ c.if-not-knows.false) c.is_last_use-is_unused.result (c.is_last_use-is_unused.ensures ∙ ap (λ f. (f.pins == 1) && not f.is_writing) c.in-Some.ensures.found) c.offer.new.candidates o.limits o.pages o.others o.entered)
 
 pub returns : goal.returns
 returns c =

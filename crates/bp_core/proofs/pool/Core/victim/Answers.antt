@@ -1,8 +1,8 @@
 use Rattle.std.proofs.Common.{ap, ◌∙◌}
 use Rattle.bp_core.specs.Victim.{victim}
-use Rattle.bp_core.proofs.Scan.{victim_seen}
+use Rattle.bp_core.proofs.Chosen.{told}
 use Rattle.bp_core.proofs.pool.Core.victim.Goals as goal
 
 pub returns : goal.returns
 returns c =
-    c.first_to_leave.ensures ∙ victim_seen _ _ _ c.self.invariant.agrees ∙ ap (λ v. victim v.parameters v.past) c.self.view_is
+    told _ _ _ c.self.invariant.candidates _ c.self.invariant.agrees.observed.clock_is c.victim.result c.victim.ensures.found c.victim.ensures.none ∙ ap (λ v. victim v.parameters v.past) c.self.view_is
