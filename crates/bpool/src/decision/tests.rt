@@ -1,5 +1,6 @@
 use super::decide;
 use crate::ending::Ending;
+use crate::faults::TraceFault;
 use crate::order::RunOrder;
 use bp_page::Refusal;
 use std::alloc::Global;
@@ -225,11 +226,11 @@ fn a_writer_that_fails_hides_no_status(rt: HostRuntime) -> Result<(), Fail> {
 fn refusals_that_come_later(rt: HostRuntime) -> Result<(), Fail> {
     let rows = [
         (
-            Ending::TraceRefused(3, Refusal::BadShape),
+            Ending::TraceRefused(TraceFault::new(3, Refusal::BadShape)),
             "trace row 3 refused 40\n",
         ),
         (
-            Ending::TraceRefused(0, Refusal::TooLong),
+            Ending::TraceRefused(TraceFault::new(0, Refusal::TooLong)),
             "trace row 0 refused 46\n",
         ),
         (Ending::RunRefused(Refusal::OutOfMemory), "run refused 22\n"),
