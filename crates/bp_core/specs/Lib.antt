@@ -16,6 +16,7 @@ pub mod Legal
 pub mod Device
 pub mod Safety
 pub mod Claims
+pub mod Sentences
 pub mod Pieces
 pub mod Script
 pub mod CoreView
