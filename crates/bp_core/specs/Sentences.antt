@@ -48,7 +48,7 @@ evicts p e = option_map_or (λ v. v == p) (evicted e.reply) false
 
 -- an entry gives back this pass or ticket
 abbrev pub gives_back : (Entry → Option ℕ) → Grant → Entry → Bool
-gives_back ends g e = option_map_or (λ n. n == g.serial) (ends e) false
+gives_back ends g e = option_map_or (λ n. g.serial == n) (ends e) false
 
 -- what was given and no entry gives back
 abbrev pub unended : (Entry → Option Grant) → (Entry → Option ℕ) → Trail → List Grant
@@ -59,6 +59,12 @@ pub record IsUnended (gives : Entry → Option Grant) (ends : Entry → Option �
   pub stands : Contains past entry
   pub given : gives entry ≡ Some g
   pub not_ended : IsFalse (some (gives_back ends g) past)
+
+-- one of page p is
+pub record HasUnended (gives : Entry → Option Grant) (ends : Entry → Option ℕ) (past : Trail) (p : ℕ) : Type 0 where
+  pub thing : Grant
+  pub of_page : thing.page ≡ p
+  pub unended : IsUnended gives ends past thing
 
 -- the serial number of the pass that a reply gives
 abbrev pub pass_number : Reply → Option ℕ
