@@ -80,6 +80,13 @@ begins_operation (Load t victim) = true
 begins_operation (WriteFirst t p image) = true
 begins_operation _ = false
 
+-- a number that an entry gives is the next one, and one that no entry before it gave
+abbrev pub IsNext : (Entry → Option ℕ) → (Trail → ℕ) → Trail → Entry → Type 0
+IsNext number next past e = (n : ℕ) → number e ≡ Some n → n ≡ next past
+
+abbrev pub IsNew : (Entry → Option ℕ) → Trail → Entry → Type 0
+IsNew number past e = (n : ℕ) (d : Entry) → number e ≡ Some n → Contains past d → number d ≡ Some n → ⊥
+
 -- ---- references
 
 -- each entry with those before it

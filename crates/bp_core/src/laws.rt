@@ -1,14 +1,25 @@
 //! Laws of the definitions in `specs/`. Each function does nothing: its contract is the law.
-ghost use Rattle.std.specs.Prelude.{◌≡◌, ℕ, Bool, List, Decides};
+ghost use Rattle.std.specs.Prelude.{◌≡◌, ℕ, suc, ◌≤◌, nat_lt, Bool, IsFalse, Decides, List, ◌∷◌, ◌++◌, filter_map, Option, Some, None, if◌then◌else◌};
+ghost use Rattle.bp_lruk.specs.Burst.{Burst, last_time};
+ghost use Rattle.bp_lruk.specs.Cut.{IsCut};
+ghost use Rattle.bp_lruk.specs.Stamp.{burst_at, burst_stamp, IsTimed};
 ghost use Rattle.bp_core.specs.declared.entries.Entry.{Entry};
-ghost use Rattle.bp_core.specs.Lists.{greatest, after_last, since};
+ghost use Rattle.bp_core.specs.declared.entries.Call.TheVariants.{ReadEnd};
+ghost use Rattle.bp_core.specs.declared.entries.Reply.TheVariants.{WriteFirst, Fixed};
 ghost use Rattle.bp_core.specs.Parameters.{Parameters};
-ghost use Rattle.bp_core.specs.Event.{Grant, pass_back, read_ticket_back, write_ticket_back};
+ghost use Rattle.bp_core.specs.Lists.{greatest, some, count, after_last, since, EachEntry};
+ghost use Rattle.bp_core.specs.Event.{Grant, ticket_given, pass_back, read_ticket_back, write_ticket_back, ends_well, begins_of, loads, lsn_written, marked};
 ghost use Rattle.bp_core.specs.Trail.{Trail};
-ghost use Rattle.bp_core.specs.Passes.{pass_of, read_ticket_of, write_ticket_of, passes_out, reads_out, writes_out};
-ghost use Rattle.bp_core.specs.Places.{loading, writing};
+ghost use Rattle.bp_core.specs.Clock.{clock, durable};
+ghost use Rattle.bp_core.specs.Passes.{pass_of, read_ticket_of, write_ticket_of, passes, tickets, passes_out, reads_out, writes_out};
+ghost use Rattle.bp_core.specs.Places.{resident, loading, writing};
+ghost use Rattle.bp_core.specs.Saved.{unsaved, top};
+ghost use Rattle.bp_core.specs.Images.{held, plain_map};
+ghost use Rattle.bp_core.specs.References.{references, forgets, last, hist};
+ghost use Rattle.bp_core.specs.Victim.{candidate, victim};
 ghost use Rattle.bp_core.specs.Legal.{is_out, Legal};
-ghost use Rattle.bp_core.specs.Sentences.{Lasts, AreAfterLast, IsGreatest, unended, IsUnended, HasUnended};
+ghost use Rattle.bp_core.specs.Device.{due};
+ghost use Rattle.bp_core.specs.Sentences.{Lasts, AreAfterLast, IsGreatest, evicts, unended, IsUnended, HasUnended, pass_number, gives_pass, begins_operation, IsNext, IsNew, references_since, IsForgotten, IsCandidate, IsFirst, IsUnsaved};
 
 /// The words by which definitions look back over a trail: `since` is that some entry passes one test and no later entry
 /// another; `after_last` is all that came after the last entry that passes; `greatest` is the greatest of some numbers,
@@ -29,4 +40,68 @@ pub fn out_is_given_and_not_ended()
     ensures list { (c : Parameters) (past : Trail) → Legal c past → passes_out past ≡ unended pass_of (λ e. pass_back e.call) past }
     ensures loading { (c : Parameters) (past : Trail) (p : ℕ) → Legal c past → Decides (loading past p) (HasUnended read_ticket_of (λ e. read_ticket_back e.call) past p) }
     ensures writing { (c : Parameters) (past : Trail) (p : ℕ) → Legal c past → Decides (writing past p) (HasUnended write_ticket_of (λ e. write_ticket_back e.call) past p) }
+{}
+
+/// A page is resident exactly where a read of it ended well and no later entry evicts it.
+pub fn resident_was_read_and_not_evicted()
+    ensures { (past : Trail) (p : ℕ) → Decides (resident past p) (Lasts (loads p) (evicts p) past) }
+{}
+
+/// `passes` and `tickets` count the replies that give one, over any entries. In a legal trail they are the next serial
+/// numbers, so that none is given twice.
+pub fn serials_count_the_replies()
+    ensures passes { (past : Trail) → passes past ≡ count gives_pass past }
+    ensures tickets { (past : Trail) → tickets past ≡ count (λ e. begins_operation e.reply) past }
+    ensures next_pass { (c : Parameters) (past : Trail) → Legal c past → EachEntry (IsNext (λ e. pass_number e.reply) passes) past }
+    ensures next_ticket { (c : Parameters) (past : Trail) → Legal c past → EachEntry (IsNext (λ e. ticket_given e.reply) tickets) past }
+    ensures new_pass { (c : Parameters) (past : Trail) → Legal c past → EachEntry (IsNew (λ e. pass_number e.reply)) past }
+    ensures new_ticket { (c : Parameters) (past : Trail) → Legal c past → EachEntry (IsNew (λ e. ticket_given e.reply)) past }
+{}
+
+/// The references of a page are its hits and good read ends, each with the clock at it, after the last purge that forgot
+/// the page. A purge forgets a page exactly where it has references, is neither resident nor loading, and its LAST lies
+/// more than the retained period back.
+pub fn references_since_the_last_forgetting()
+    ensures references { (c : Parameters) (past : Trail) (p : ℕ) → Legal c past → references c past p ≡ references_since c past p }
+    ensures forgets { (c : Parameters) (past : Trail) (p : ℕ) → Decides (forgets c past p (references c past p)) (IsForgotten c past p) }
+    ensures timed { (c : Parameters) (past : Trail) (p : ℕ) → IsTimed (references c past p) }
+    ensures by_now { (c : Parameters) (past : Trail) (p : ℕ) → last c past p ≤ clock past }
+{}
+
+/// The stamps and LAST of a page are those of its references, however these are cut into bursts (by the law of
+/// `bp_lruk`, there is one such cut).
+pub fn stamps_are_of_the_bursts()
+    ensures stamps { (c : Parameters) (past : Trail) (p place : ℕ) (pieces : List Burst) → IsCut c.correlated (references c past p) pieces → hist c past p (suc place) ≡ (if nat_lt place c.k then burst_stamp pieces place else 0) }
+    ensures last { (c : Parameters) (past : Trail) (p : ℕ) (pieces : List Burst) → IsCut c.correlated (references c past p) pieces → last c past p ≡ last_time (burst_at pieces 0) }
+{}
+
+/// The victim is the candidate that comes before every other one by (HIST(K), LAST, page), and there is none only where
+/// there is no candidate. A candidate is resident, has no pins, is not being written out, and its LAST lies more than the
+/// correlated period back.
+pub fn victim_is_the_first_candidate()
+    ensures candidate { (c : Parameters) (past : Trail) (p : ℕ) → Decides (candidate c past p) (IsCandidate c past p) }
+    ensures found { (c : Parameters) (past : Trail) (v : ℕ) → victim c past ≡ Some v → IsFirst c past v }
+    ensures only { (c : Parameters) (past : Trail) (v : ℕ) → IsFirst c past v → victim c past ≡ Some v }
+    ensures none { (c : Parameters) (past : Trail) (q : ℕ) → victim c past ≡ None → IsCandidate c past q → ⊥ }
+    ensures no_candidate { (c : Parameters) (past : Trail) → ((q : ℕ) → IsCandidate c past q → ⊥) → victim c past ≡ None }
+{}
+
+/// A page is unsaved exactly where some write of it has no good write-out of it that began after it. Its page LSN is the
+/// greatest LSN of its writes after its last good read end, or 0; the durable mark the greatest LSN marked, or 0.
+pub fn unsaved_since_the_last_good_write_out()
+    ensures unsaved { (past : Trail) (p : ℕ) → Decides (unsaved past p) (IsUnsaved past p) }
+    ensures top { (past newest : Trail) (p : ℕ) → AreAfterLast (loads p) past newest → IsGreatest (filter_map (lsn_written p) newest) (top past p) }
+    ensures durable { (past : Trail) → IsGreatest (filter_map (λ e. marked e.call) past) (durable past) }
+{}
+
+/// A page's held image is that of its last good read end, with the page's later writes applied in order.
+pub fn held_is_the_last_read_with_later_writes()
+    ensures { (later earlier : Trail) (e : Entry) (t p n : ℕ) (image : List ℕ) → e.call ≡ ReadEnd t p (Some image) → e.reply ≡ Fixed n → IsFalse (some (loads p) later) → held (later ++ e ∷ earlier) p ≡ plain_map (λ q. image) later p }
+{}
+
+/// What a read is due to give: the opening image where no write-out of the page has begun; else the image of the last
+/// one begun, which is known once that one has ended well.
+pub fn due_is_the_last_write_out()
+    ensures opening { (m : ℕ → List ℕ) (past : Trail) (p : ℕ) → IsFalse (some (λ e. begins_of p e.reply) past) → due m past p ≡ Some (m p) }
+    ensures begun { (m : ℕ → List ℕ) (past later earlier : Trail) (e : Entry) (t p : ℕ) (image : List ℕ) → past ≡ later ++ e ∷ earlier → e.reply ≡ WriteFirst t p image → IsFalse (some (λ d. begins_of p d.reply) later) → due m past p ≡ (if some (λ d. ends_well t d.call) past then Some image else None) }
 {}
