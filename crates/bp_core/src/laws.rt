@@ -1,5 +1,5 @@
 //! Laws of the definitions in `specs/`. Each function does nothing: its contract is the law.
-ghost use Rattle.std.specs.Prelude.{◌≡◌, ℕ, suc, ◌≤◌, nat_lt, Bool, IsFalse, Decides, List, ◌∷◌, ◌++◌, filter_map, Option, Some, None, if◌then◌else◌};
+ghost use Rattle.std.specs.Prelude.{◌≡◌, ℕ, suc, ◌+◌, ◌<◌, ◌≤◌, ◌==◌, nat_lt, Bool, true, false, IsFalse, Decides, List, ◌∷◌, ◌++◌, length, filter_map, Contains, Option, Some, None, if◌then◌else◌};
 ghost use Rattle.bp_lruk.specs.Burst.{Burst, last_time};
 ghost use Rattle.bp_lruk.specs.Cut.{IsCut};
 ghost use Rattle.bp_lruk.specs.Stamp.{burst_at, burst_stamp, IsTimed};
@@ -11,15 +11,17 @@ ghost use Rattle.bp_core.specs.Lists.{greatest, some, count, after_last, since, 
 ghost use Rattle.bp_core.specs.Event.{Grant, ticket_given, pass_back, read_ticket_back, write_ticket_back, ends_well, begins_of, loads, lsn_written, marked};
 ghost use Rattle.bp_core.specs.Trail.{Trail};
 ghost use Rattle.bp_core.specs.Clock.{clock, durable};
-ghost use Rattle.bp_core.specs.Passes.{pass_of, read_ticket_of, write_ticket_of, passes, tickets, passes_out, reads_out, writes_out};
-ghost use Rattle.bp_core.specs.Places.{resident, loading, writing};
+ghost use Rattle.bp_core.specs.Passes.{pass_of, read_ticket_of, write_ticket_of, passes, tickets, passes_out, reads_out, writes_out, is_of, pins};
+ghost use Rattle.bp_core.specs.Places.{residents, resident, loading, writing};
 ghost use Rattle.bp_core.specs.Saved.{unsaved, top};
 ghost use Rattle.bp_core.specs.Images.{held, plain_map};
 ghost use Rattle.bp_core.specs.References.{references, forgets, last, hist};
 ghost use Rattle.bp_core.specs.Victim.{candidate, victim};
 ghost use Rattle.bp_core.specs.Legal.{is_out, Legal};
 ghost use Rattle.bp_core.specs.Device.{due};
-ghost use Rattle.bp_core.specs.Sentences.{Lasts, AreAfterLast, IsGreatest, evicts, unended, IsUnended, HasUnended, pass_number, gives_pass, begins_operation, IsNext, IsNew, references_since, IsForgotten, IsCandidate, IsFirst, IsUnsaved};
+ghost use Rattle.bp_core.specs.Safety.{EvictsSafely, WritesAreDurable, Safe};
+ghost use Rattle.bp_core.specs.Claims.{HeldIsPlain, ReadsAreKnown, FindsDue, AnswersPlain};
+ghost use Rattle.bp_core.specs.Sentences.{Lasts, AreAfterLast, IsGreatest, evicts, unended, IsUnended, HasUnended, pass_number, gives_pass, begins_operation, IsNext, IsNew, FitsItsCall, references_since, IsForgotten, IsCandidate, IsFirst, IsUnsaved};
 
 /// The words by which definitions look back over a trail: `since` is that some entry passes one test and no later entry
 /// another; `after_last` is all that came after the last entry that passes; `greatest` is the greatest of some numbers,
@@ -104,4 +106,64 @@ pub fn held_is_the_last_read_with_later_writes()
 pub fn due_is_the_last_write_out()
     ensures opening { (m : ℕ → List ℕ) (past : Trail) (p : ℕ) → IsFalse (some (λ e. begins_of p e.reply) past) → due m past p ≡ Some (m p) }
     ensures begun { (m : ℕ → List ℕ) (past later earlier : Trail) (e : Entry) (t p : ℕ) (image : List ℕ) → past ≡ later ++ e ∷ earlier → e.reply ≡ WriteFirst t p image → IsFalse (some (λ d. begins_of p d.reply) later) → due m past p ≡ (if some (λ d. ends_well t d.call) past then Some image else None) }
+{}
+
+/// In a legal trail each reply stands with its call: a hit and a load with a fix, a write-out's begin with a fix or with a
+/// flush of that page; a read end is answered with a pass exactly where it brought an image, and a write end is good
+/// exactly where the write was.
+pub fn replies_fit_their_calls()
+    ensures { (c : Parameters) (past : Trail) → Legal c past → EachEntry (λ before e. FitsItsCall e) past }
+{}
+
+/// After every legal trail a page stands at most once among the residents, and one that is loading is not among them; a
+/// pinned page and an unsaved page are resident; pages resident and loading are at most the frames.
+pub fn pages_have_one_place()
+    ensures once { (c : Parameters) (past : Trail) (p : ℕ) → Legal c past → count (λ q. q == p) (residents past) ≤ 1 }
+    ensures loading_is_away { (c : Parameters) (past : Trail) (p : ℕ) → Legal c past → loading past p ≡ true → resident past p ≡ false }
+    ensures pinned_is_here { (c : Parameters) (past : Trail) (p : ℕ) → Legal c past → 0 < pins past p → resident past p ≡ true }
+    ensures unsaved_is_here { (c : Parameters) (past : Trail) (p : ℕ) → Legal c past → unsaved past p ≡ true → resident past p ≡ true }
+    ensures within_frames { (c : Parameters) (past : Trail) → Legal c past → length (residents past) + length (reads_out past) ≤ c.frames }
+{}
+
+/// After every legal trail a page has at most one operation on the device out, a read or a write; what is being written
+/// out is unsaved.
+pub fn one_device_operation_a_page()
+    ensures one { (c : Parameters) (past : Trail) (p : ℕ) → Legal c past → count (is_of p) (reads_out past) + count (is_of p) (writes_out past) ≤ 1 }
+    ensures writing_is_unsaved { (c : Parameters) (past : Trail) (p : ℕ) → Legal c past → writing past p ≡ true → unsaved past p ≡ true }
+{}
+
+/// After every legal trail the passes and tickets that are out have serial numbers below the next ones.
+pub fn serials_out_were_given()
+    ensures passes { (c : Parameters) (past : Trail) (g : Grant) → Legal c past → Contains (passes_out past) g → g.serial < passes past }
+    ensures reads { (c : Parameters) (past : Trail) (g : Grant) → Legal c past → Contains (reads_out past) g → g.serial < tickets past }
+    ensures writes { (c : Parameters) (past : Trail) (g : Grant) → Legal c past → Contains (writes_out past) g → g.serial < tickets past }
+{}
+
+/// In every legal trail each read end finds known what the device is due to give; and so would each that may come.
+pub fn read_ends_find_what_is_due()
+    ensures each { (c : Parameters) (past : Trail) → Legal c past → EachEntry FindsDue past }
+    ensures out { (c : Parameters) (past : Trail) → Legal c past → ReadsAreKnown past }
+{}
+
+/// Over a device that gives back what was written, whatever was in it at the opening: after every legal trail a resident
+/// page holds the image of the plain map, and each content that was answered is the plain map's at that place.
+pub fn pages_hold_the_plain_map()
+    ensures held { (c : Parameters) (past : Trail) → Legal c past → HeldIsPlain past }
+    ensures content { (c : Parameters) (past : Trail) → Legal c past → EachEntry AnswersPlain past }
+{}
+
+/// At each eviction of a legal trail the page is the victim, a candidate that no other comes before; it has no pins and
+/// is not unsaved.
+pub fn evictions_are_safe()
+    ensures { (c : Parameters) (past : Trail) → Legal c past → EachEntry (EvictsSafely c) past }
+{}
+
+/// At each begin of a write-out in a legal trail every earlier write of that page has an LSN of at most the durable mark.
+pub fn write_outs_stay_behind_the_log()
+    ensures { (c : Parameters) (past : Trail) → Legal c past → EachEntry WritesAreDurable past }
+{}
+
+/// Every legal trail is safe: both at each entry.
+pub fn legal_trails_are_safe()
+    ensures { (c : Parameters) (past : Trail) → Legal c past → Safe c past }
 {}

@@ -1,0 +1,199 @@
+-- What every legal trail keeps, entry by entry and at its end.
+use Rattle.std.proofs.Common.{◌≡◌, refl, sym, ap, subst, ◌∙◌, ℕ, suc, ◌+◌, ◌<◌, ◌≤◌, Bool, true, false, ◌||◌, ◌==◌, cond, List, [], ◌∷◌, length, filter, filter_map, All, Contains, Option, Some, None, IsSome, get_or, ◌⊎◌, inl, inr, arith}
+use Rattle.std.specs.List.{cons_option}
+use Rattle.std.proofs.lemmas.Bool.{true≢false, or_parts, eqb-true, eq-eqb, false_from_ne_true}
+use Rattle.bp_core.specs.declared.entries.Entry.{Entry}
+use Rattle.bp_core.specs.declared.entries.Call.{Call}
+use Rattle.bp_core.specs.declared.entries.Call.TheVariants.{Fix, ReadEnd, WriteEnd, Read, Flush}
+use Rattle.bp_core.specs.declared.entries.Reply.{Reply}
+use Rattle.bp_core.specs.declared.entries.Reply.TheVariants.{Hit, Load, WriteFirst, Fixed, Cleaned, StillDirty, Content}
+use Rattle.bp_core.specs.Parameters.{Parameters}
+use Rattle.bp_core.specs.Lists.{some, count, greatest, EachEntry}
+use Rattle.bp_core.specs.Event.{Grant, grant, writes, lsn_of, lsn_written}
+use Rattle.bp_core.specs.Trail.{Trail}
+use Rattle.bp_core.specs.Clock.{durable}
+use Rattle.bp_core.specs.Passes.{passes, tickets, passes_out, reads_out, writes_out, is_of, pins}
+use Rattle.bp_core.specs.Places.{residents, resident, loading, writing}
+use Rattle.bp_core.specs.Saved.{unsaved}
+use Rattle.bp_core.specs.Images.{held, plain_map}
+use Rattle.bp_core.specs.Legal.{IsLawful, Legal, is_out}
+use Rattle.bp_core.specs.Device.{due, Honest}
+use Rattle.bp_core.specs.Safety.{EvictsSafely, WritesAreDurable}
+use Rattle.bp_core.specs.Claims.{ReadsAreKnown, FindsDue, AnswersPlain}
+use Rattle.bp_core.specs.Sentences.{FitsItsCall}
+use Rattle.bp_core.proofs.Elements.{contains-here, contains-later, contains-cases, contains-none}
+use Rattle.bp_core.proofs.Lists.{member, count-none}
+use Rattle.bp_core.proofs.Counting.{none-count, some-count}
+use Rattle.bp_core.proofs.Events.{Event, event-of}
+use Rattle.bp_core.proofs.Events.Event.{fix_hit, fix_load, fix_replace, fix_write, flush_write, read_good, read_bad, write_clean, write_dirty, page_read}
+use Rattle.bp_core.proofs.Serials.{AllBelow, numbered}
+use Rattle.bp_core.proofs.Places.{OnePage, places, out-of_page}
+use Rattle.bp_core.proofs.Residents.{Distinct, frames}
+use Rattle.bp_core.proofs.Known.{airborne}
+use Rattle.bp_core.proofs.Content.{read_end_known, held-plain}
+use Rattle.bp_core.proofs.Eviction.{eviction}
+use Rattle.bp_core.proofs.WriteAhead.{write_ahead}
+
+abbrev entry : ℕ → Call → Reply → Entry
+entry who call reply = record { client = who; call = call; reply = reply }
+
+-- a fact of each lawful entry, and so of all
+module _ (c : Parameters) (P : Trail → Entry → Type 0) (each : (past : Trail) (e : Entry) → Legal c (e ∷ past) → P past e) where
+  pub of-all : (past : Trail) → Legal c past → EachEntry P past
+  of-all [] l = tt
+  of-all (e ∷ past) l = record { here = each past e l; before = of-all past l.before }
+
+-- ---- replies and their calls
+
+module _ (c : Parameters) (past : Trail) (who : ℕ) where
+  hit-call : (call : Call) (reply : Reply) → Event c past who call reply → (n : ℕ) → reply ≡ Hit n → (p : ℕ) × (call ≡ Fix p)
+  hit-call _ _ (fix_hit p l r) n i = (p, refl)
+  hit-call _ _ _ n i = cc
+
+  load-call : (call : Call) (reply : Reply) → Event c past who call reply → (t : ℕ) (victim : Option ℕ) → reply ≡ Load t victim → (p : ℕ) × (call ≡ Fix p)
+  load-call _ _ (fix_load p m f) t victim i = (p, refl)
+  load-call _ _ (fix_replace p v m w u) t victim i = (p, refl)
+  load-call _ _ _ t victim i = cc
+
+  write-call : (call : Call) (reply : Reply) → Event c past who call reply → (t p : ℕ) (image : List ℕ) → reply ≡ WriteFirst t p image → ((q : ℕ) × (call ≡ Fix q)) ⊎ (call ≡ Flush p)
+  write-call _ _ (fix_write q v m w g) t p image i = inl (q, refl)
+  write-call _ _ (flush_write q r w g) t p image i = let j : q ≡ p = cc in inr (ap Flush j)
+  write-call _ _ _ t p image i = cc
+
+  fixed-call : (call : Call) (reply : Reply) → Event c past who call reply → (n : ℕ) → reply ≡ Fixed n → (t : ℕ) × (p : ℕ) × (image : List ℕ) × (call ≡ ReadEnd t p (Some image))
+  fixed-call _ _ (read_good t p image o) n i = (t, p, image, refl)
+  fixed-call _ _ _ n i = cc
+
+  read-reply : (call : Call) (reply : Reply) → Event c past who call reply → (t p : ℕ) (image : List ℕ) → call ≡ ReadEnd t p (Some image) → (n : ℕ) × (reply ≡ Fixed n)
+  read-reply _ _ (read_good u q given o) t p image i = (passes past, refl)
+  read-reply _ _ _ t p image i = cc
+
+  saved-call : (call : Call) (reply : Reply) → Event c past who call reply → (reply ≡ Cleaned) ⊎ (reply ≡ StillDirty) → (t : ℕ) × (p : ℕ) × (call ≡ WriteEnd t p true)
+  saved-call _ _ (write_clean t p o w) i = (t, p, refl)
+  saved-call _ _ (write_dirty t p o w) i = (t, p, refl)
+  saved-call _ _ _ (inl i) = cc
+  saved-call _ _ _ (inr i) = cc
+
+  end-reply : (call : Call) (reply : Reply) → Event c past who call reply → (t p : ℕ) → call ≡ WriteEnd t p true → (reply ≡ Cleaned) ⊎ (reply ≡ StillDirty)
+  end-reply _ _ (write_clean u q o w) t p i = inl refl
+  end-reply _ _ (write_dirty u q o w) t p i = inr refl
+  end-reply _ _ _ t p i = cc
+
+pub fits : (c : Parameters) (past : Trail) → Legal c past → EachEntry (λ past e. FitsItsCall e) past
+fits c = of-all c (λ past e. FitsItsCall e) (λ past e l. let v = event-of c past e l.here in record {
+  hit = hit-call c past e.client e.call e.reply v;
+  load = load-call c past e.client e.call e.reply v;
+  write_first = write-call c past e.client e.call e.reply v;
+  fixed = fixed-call c past e.client e.call e.reply v;
+  read_well = read-reply c past e.client e.call e.reply v;
+  saved = saved-call c past e.client e.call e.reply v;
+  written_well = end-reply c past e.client e.call e.reply v;
+})
+
+-- ---- places
+
+member-count : (p : ℕ) (xs : List ℕ) → Distinct xs → count (λ q. q == p) xs ≤ 1
+member-count p [] h = omega arith
+member-count p (x ∷ xs) h = go (x == p) refl (member-count p xs h.1)
+  where
+    go : (b : Bool) → (x == p) ≡ b → count (λ q. q == p) xs ≤ 1 → length (cond b (x ∷ filter (λ q. q == p) xs) (filter (λ q. q == p) xs)) ≤ 1
+    go true e ih = let k : count (λ q. q == p) xs ≡ 0 = none-count (λ q. q == p) xs (subst (λ y. member y xs ≡ false) (eqb-true x p e) h.0) in omega arith
+    go false e ih = ih
+
+pub once : (c : Parameters) (past : Trail) (p : ℕ) → Legal c past → count (λ q. q == p) (residents past) ≤ 1
+once c past p l = member-count p (residents past) (frames c past l).distinct
+
+page-count : (p : ℕ) (gs : List Grant) → OnePage gs → count (is_of p) gs ≤ 1
+page-count p [] h = omega arith
+page-count p (g ∷ gs) h = go (g.page == p) refl (page-count p gs h.1)
+  where
+    go : (b : Bool) → (g.page == p) ≡ b → count (is_of p) gs ≤ 1 → length (cond b (g ∷ filter (is_of p) gs) (filter (is_of p) gs)) ≤ 1
+    go true e ih = let k : count (is_of p) gs ≡ 0 = none-count (is_of p) gs (subst (λ y. some (is_of y) gs ≡ false) (eqb-true g.page p e) h.0) in omega arith
+    go false e ih = ih
+
+pub pinned-resident : (c : Parameters) (past : Trail) (p : ℕ) → Legal c past → 0 < pins past p → resident past p ≡ true
+pinned-resident c past p l h = go (some (is_of p) (passes_out past)) refl
+  where
+    go : (b : Bool) → some (is_of p) (passes_out past) ≡ b → resident past p ≡ true
+    go true e = (places c past l).pinned p e
+    go false e = let k : pins past p ≡ 0 = none-count (is_of p) (passes_out past) e in absurd (omega arith)
+
+pub writing-unsaved : (c : Parameters) (past : Trail) (p : ℕ) → Legal c past → writing past p ≡ true → unsaved past p ≡ true
+writing-unsaved c past p l h = (airborne c past l).flying p h
+
+pub one-operation : (c : Parameters) (past : Trail) (p : ℕ) → Legal c past → count (is_of p) (reads_out past) + count (is_of p) (writes_out past) ≤ 1
+one-operation c past p l = go (loading past p) refl (writing past p) refl
+  where
+    reads : count (is_of p) (reads_out past) ≤ 1
+    reads = page-count p (reads_out past) (places c past l).once
+
+    writes : count (is_of p) (writes_out past) ≤ 1
+    writes = page-count p (writes_out past) (airborne c past l).once
+
+    go : (a : Bool) → loading past p ≡ a → (b : Bool) → writing past p ≡ b → count (is_of p) (reads_out past) + count (is_of p) (writes_out past) ≤ 1
+    go false i b j = let k = none-count (is_of p) (reads_out past) i in let w = writes in omega arith
+    go true i false j = let k = none-count (is_of p) (writes_out past) j in let r = reads in omega arith
+    go true i true j =
+        let away = (places c past l).away p i in
+        let here = (places c past l).dirty p (writing-unsaved c past p l j) in
+        absurd (true≢false (sym here ∙ away))
+
+below : (n : ℕ) (gs : List Grant) → AllBelow n gs → (g : Grant) → Contains gs g → g.serial < n
+below n [] h g k = absurd (contains-none g k)
+below n (d ∷ gs) h g k = elim (contains-cases d gs g k) as (λ _. g.serial < n)
+    [ inl same ↦ subst (λ x. x.serial < n) same (let a = h.0 in omega arith) | inr later ↦ below n gs h.1 g later ]
+
+pub passes-below : (c : Parameters) (past : Trail) (g : Grant) → Legal c past → Contains (passes_out past) g → g.serial < passes past
+passes-below c past g l k = below (passes past) (passes_out past) (numbered c past l).passes_below g k
+
+pub reads-below : (c : Parameters) (past : Trail) (g : Grant) → Legal c past → Contains (reads_out past) g → g.serial < tickets past
+reads-below c past g l k = below (tickets past) (reads_out past) (numbered c past l).reads_below g k
+
+pub writes-below : (c : Parameters) (past : Trail) (g : Grant) → Legal c past → Contains (writes_out past) g → g.serial < tickets past
+writes-below c past g l k = below (tickets past) (writes_out past) (numbered c past l).writes_below g k
+
+-- ---- images
+
+due-known : (c : Parameters) (m : ℕ → List ℕ) (past : Trail) (who p t : ℕ) → Legal c past → is_out (grant who p t) (reads_out past) ≡ true → IsSome (due m past p)
+due-known c m past who p t l o = subst IsSome (sym (read_end_known c m past who p t l o)) refl
+
+pub reads-known : (c : Parameters) (past : Trail) → Legal c past → ReadsAreKnown past
+reads-known c past l m who p t o = due-known c m past who p t l o
+
+finds : (c : Parameters) (past : Trail) → Legal c past → (who : ℕ) (call : Call) (reply : Reply) → Event c past who call reply → FindsDue past (entry who call reply)
+finds c past l who _ _ (read_good u q given o) m t p image i = let j : q ≡ p = cc in subst (λ x. IsSome (due m past x)) j (due-known c m past who q u l o)
+finds c past l who _ _ (read_bad u q o) m t p image i = let j : q ≡ p = cc in subst (λ x. IsSome (due m past x)) j (due-known c m past who q u l o)
+finds c past l who _ _ _ m t p image i = cc
+
+pub each-finds : (c : Parameters) (past : Trail) → Legal c past → EachEntry FindsDue past
+each-finds c = of-all c FindsDue (λ past e l. finds c past l.before e.client e.call e.reply (event-of c past e l.here))
+
+answers : (c : Parameters) (past : Trail) → Legal c past → (who : ℕ) (call : Call) (reply : Reply) → Event c past who call reply → AnswersPlain past (entry who call reply)
+answers c past l who _ _ (page_read u q o) m n p image honest i j =
+    let k : q ≡ p = cc in
+    let content : held past q ≡ image = cc in
+    sym content ∙ held-plain c m past q l honest ((places c past l).pinned q (out-of_page who q u (passes_out past) o)) ∙ ap (plain_map m past) k
+answers c past l who _ _ _ m n p image honest i j = cc
+
+pub each-answers : (c : Parameters) (past : Trail) → Legal c past → EachEntry AnswersPlain past
+each-answers c = of-all c AnswersPlain (λ past e l. answers c past l.before e.client e.call e.reply (event-of c past e l.here))
+
+-- ---- evictions and write-outs
+
+pub each-evicts : (c : Parameters) (past : Trail) → Legal c past → EachEntry (EvictsSafely c) past
+each-evicts c = of-all c (EvictsSafely c) (λ past e l. eviction c past e l.here)
+
+lsn-bounded : (p : ℕ) (past : Trail) (w : Entry) → Contains past w → writes p w ≡ true → lsn_of w.call ≤ greatest (filter_map (lsn_written p) past)
+lsn-bounded p [] w k i = absurd (contains-none w k)
+lsn-bounded p (e ∷ past) w k i = elim (contains-cases e past w k) as (λ _. lsn_of w.call ≤ greatest (filter_map (lsn_written p) (e ∷ past)))
+    [ inl same ↦ subst (λ x. lsn_of x.call ≤ greatest (filter_map (lsn_written p) (e ∷ past))) same (here (ap (writes p) same ∙ i)) | inr later ↦ there (lsn_written p e) (lsn-bounded p past w later i) ]
+  where
+    here : writes p e ≡ true → lsn_of e.call ≤ greatest (filter_map (lsn_written p) (e ∷ past))
+    here j = rw j (omega arith)
+
+    there : (o : Option ℕ) → lsn_of w.call ≤ greatest (filter_map (lsn_written p) past) → lsn_of w.call ≤ greatest (cons_option o (filter_map (lsn_written p) past))
+    there None b = b
+    there (Some n) b = omega arith
+
+pub each-durable : (c : Parameters) (past : Trail) → Legal c past → EachEntry WritesAreDurable past
+each-durable c = of-all c WritesAreDurable (λ past e l t p image w r k i. let a = write_ahead c past e t p image l r in let b = lsn-bounded p past w k i in omega arith)
