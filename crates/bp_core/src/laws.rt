@@ -2,6 +2,7 @@
 ghost use Rattle.std.specs.Prelude.{◌≡◌, ℕ, suc, ◌+◌, ◌<◌, ◌≤◌, ◌==◌, nat_lt, Bool, true, false, IsFalse, Decides, List, ◌∷◌, ◌++◌, length, filter_map, Contains, Option, Some, None, if◌then◌else◌};
 ghost use Rattle.bp_lruk.specs.Burst.{Burst, last_time};
 ghost use Rattle.bp_lruk.specs.Cut.{IsCut};
+ghost use Rattle.bp_lruk.specs.Distance.{is_farther};
 ghost use Rattle.bp_lruk.specs.Stamp.{burst_at, burst_stamp, IsTimed};
 ghost use Rattle.bp_core.specs.declared.entries.Entry.{Entry};
 ghost use Rattle.bp_core.specs.declared.entries.Call.TheVariants.{ReadEnd};
@@ -16,7 +17,7 @@ ghost use Rattle.bp_core.specs.Places.{residents, resident, loading, writing};
 ghost use Rattle.bp_core.specs.Saved.{unsaved, top};
 ghost use Rattle.bp_core.specs.Images.{held, plain_map};
 ghost use Rattle.bp_core.specs.References.{references, forgets, last, hist};
-ghost use Rattle.bp_core.specs.Victim.{candidate, victim};
+ghost use Rattle.bp_core.specs.Victim.{backward_distance, candidate, victim};
 ghost use Rattle.bp_core.specs.Legal.{is_out, Legal};
 ghost use Rattle.bp_core.specs.Device.{due};
 ghost use Rattle.bp_core.specs.Safety.{EvictsSafely, WritesAreDurable, Safe};
@@ -77,13 +78,14 @@ pub fn stamps_are_of_the_bursts()
     ensures last { (c : Parameters) (past : Trail) (p : ℕ) (pieces : List Burst) → IsCut c.correlated (references c past p) pieces → last c past p ≡ last_time (burst_at pieces 0) }
 {}
 
-/// The victim is the candidate that comes before every other one by (HIST(K), LAST, page), and there is none only where
-/// there is no candidate. A candidate is resident, has no pins, is not being written out, and its LAST lies more than the
-/// correlated period back.
+/// The victim is the candidate that comes before every other one by (HIST(K), LAST, page), so that no candidate is farther
+/// by its backward K-distance; there is none only where there is no candidate. A candidate is resident, has no pins, is not
+/// being written out, and its LAST lies more than the correlated period back.
 pub fn victim_is_the_first_candidate()
     ensures candidate { (c : Parameters) (past : Trail) (p : ℕ) → Decides (candidate c past p) (IsCandidate c past p) }
     ensures found { (c : Parameters) (past : Trail) (v : ℕ) → victim c past ≡ Some v → IsFirst c past v }
     ensures only { (c : Parameters) (past : Trail) (v : ℕ) → IsFirst c past v → victim c past ≡ Some v }
+    ensures none_farther { (c : Parameters) (past : Trail) (v q : ℕ) → victim c past ≡ Some v → IsCandidate c past q → is_farther (backward_distance c past q) (backward_distance c past v) ≡ false }
     ensures none { (c : Parameters) (past : Trail) (q : ℕ) → victim c past ≡ None → IsCandidate c past q → ⊥ }
     ensures no_candidate { (c : Parameters) (past : Trail) → ((q : ℕ) → IsCandidate c past q → ⊥) → victim c past ≡ None }
 {}
