@@ -20,10 +20,10 @@ use Rattle.bp_core.specs.Legal.{IsLawful, Legal, is_out}
 use Rattle.bp_core.specs.Device.{due, Honest}
 use Rattle.bp_core.specs.Safety.{EvictsSafely, WritesAreDurable}
 use Rattle.bp_core.specs.Claims.{ReadsAreKnown, FindsDue, AnswersPlain}
-use Rattle.bp_core.specs.Sentences.{FitsItsCall}
 use Rattle.bp_core.proofs.Elements.{contains-here, contains-later, contains-cases, contains-none}
 use Rattle.bp_core.proofs.Lists.{member, count-none}
 use Rattle.bp_core.proofs.Counting.{none-count, some-count}
+use Rattle.bp_core.proofs.Words.{of-all}
 use Rattle.bp_core.proofs.Events.{Event, event-of}
 use Rattle.bp_core.proofs.Events.Event.{fix_hit, fix_load, fix_replace, fix_write, flush_write, read_good, read_bad, write_clean, write_dirty, page_read}
 use Rattle.bp_core.proofs.Serials.{AllBelow, numbered}
@@ -36,59 +36,6 @@ use Rattle.bp_core.proofs.WriteAhead.{write_ahead}
 
 abbrev entry : ℕ → Call → Reply → Entry
 entry who call reply = record { client = who; call = call; reply = reply }
-
--- a fact of each lawful entry, and so of all
-module _ (c : Parameters) (P : Trail → Entry → Type 0) (each : (past : Trail) (e : Entry) → Legal c (e ∷ past) → P past e) where
-  pub of-all : (past : Trail) → Legal c past → EachEntry P past
-  of-all [] l = tt
-  of-all (e ∷ past) l = record { here = each past e l; before = of-all past l.before }
-
--- ---- replies and their calls
-
-module _ (c : Parameters) (past : Trail) (who : ℕ) where
-  hit-call : (call : Call) (reply : Reply) → Event c past who call reply → (n : ℕ) → reply ≡ Hit n → (p : ℕ) × (call ≡ Fix p)
-  hit-call _ _ (fix_hit p l r) n i = (p, refl)
-  hit-call _ _ _ n i = cc
-
-  load-call : (call : Call) (reply : Reply) → Event c past who call reply → (t : ℕ) (victim : Option ℕ) → reply ≡ Load t victim → (p : ℕ) × (call ≡ Fix p)
-  load-call _ _ (fix_load p m f) t victim i = (p, refl)
-  load-call _ _ (fix_replace p v m w u) t victim i = (p, refl)
-  load-call _ _ _ t victim i = cc
-
-  write-call : (call : Call) (reply : Reply) → Event c past who call reply → (t p : ℕ) (image : List ℕ) → reply ≡ WriteFirst t p image → ((q : ℕ) × (call ≡ Fix q)) ⊎ (call ≡ Flush p)
-  write-call _ _ (fix_write q v m w g) t p image i = inl (q, refl)
-  write-call _ _ (flush_write q r w g) t p image i = let j : q ≡ p = cc in inr (ap Flush j)
-  write-call _ _ _ t p image i = cc
-
-  fixed-call : (call : Call) (reply : Reply) → Event c past who call reply → (n : ℕ) → reply ≡ Fixed n → (t : ℕ) × (p : ℕ) × (image : List ℕ) × (call ≡ ReadEnd t p (Some image))
-  fixed-call _ _ (read_good t p image o) n i = (t, p, image, refl)
-  fixed-call _ _ _ n i = cc
-
-  read-reply : (call : Call) (reply : Reply) → Event c past who call reply → (t p : ℕ) (image : List ℕ) → call ≡ ReadEnd t p (Some image) → (n : ℕ) × (reply ≡ Fixed n)
-  read-reply _ _ (read_good u q given o) t p image i = (passes past, refl)
-  read-reply _ _ _ t p image i = cc
-
-  saved-call : (call : Call) (reply : Reply) → Event c past who call reply → (reply ≡ Cleaned) ⊎ (reply ≡ StillDirty) → (t : ℕ) × (p : ℕ) × (call ≡ WriteEnd t p true)
-  saved-call _ _ (write_clean t p o w) i = (t, p, refl)
-  saved-call _ _ (write_dirty t p o w) i = (t, p, refl)
-  saved-call _ _ _ (inl i) = cc
-  saved-call _ _ _ (inr i) = cc
-
-  end-reply : (call : Call) (reply : Reply) → Event c past who call reply → (t p : ℕ) → call ≡ WriteEnd t p true → (reply ≡ Cleaned) ⊎ (reply ≡ StillDirty)
-  end-reply _ _ (write_clean u q o w) t p i = inl refl
-  end-reply _ _ (write_dirty u q o w) t p i = inr refl
-  end-reply _ _ _ t p i = cc
-
-pub fits : (c : Parameters) (past : Trail) → Legal c past → EachEntry (λ past e. FitsItsCall e) past
-fits c = of-all c (λ past e. FitsItsCall e) (λ past e l. let v = event-of c past e l.here in record {
-  hit = hit-call c past e.client e.call e.reply v;
-  load = load-call c past e.client e.call e.reply v;
-  write_first = write-call c past e.client e.call e.reply v;
-  fixed = fixed-call c past e.client e.call e.reply v;
-  read_well = read-reply c past e.client e.call e.reply v;
-  saved = saved-call c past e.client e.call e.reply v;
-  written_well = end-reply c past e.client e.call e.reply v;
-})
 
 -- ---- places
 

@@ -17,6 +17,7 @@ pub mod Device
 pub mod Safety
 pub mod Claims
 pub mod Sentences
+pub mod Wording
 pub mod Pieces
 pub mod Script
 pub mod CoreView

@@ -1,12 +1,11 @@
 -- The definitions once more, each as one sentence over the whole list of entries. The laws of src/laws.rt tie to it what is computed entry by entry.
-use Rattle.std.specs.Prelude.{◌≡◌, ℕ, ◌-◌, ◌<◌, ◌≤◌, ◌==◌, Bool, true, false, not, ◌&&◌, ◌||◌, if◌then◌else◌, IsTrue, IsFalse, ⊤, List, [], ◌∷◌, ◌++◌, filter, filter_map, Contains, Option, Some, None, ◌⊎◌}
+use Rattle.std.specs.Prelude.{◌≡◌, ℕ, ◌-◌, ◌<◌, ◌≤◌, ◌==◌, Bool, true, false, not, ◌&&◌, ◌||◌, if◌then◌else◌, IsTrue, IsFalse, ⊤, List, [], ◌∷◌, ◌++◌, filter, filter_map, Contains, Option, Some, None}
 use Rattle.std.specs.Option.{option_map_or}
 use Rattle.bp_lruk.specs.Burst.{Reference}
 use Rattle.bp_lruk.specs.Burst.Reference.{hit, fault}
 use Rattle.bp_core.specs.declared.entries.Entry.{Entry}
-use Rattle.bp_core.specs.declared.entries.Call.TheVariants.{Fix, ReadEnd, WriteEnd, Flush}
 use Rattle.bp_core.specs.declared.entries.Reply.{Reply}
-use Rattle.bp_core.specs.declared.entries.Reply.TheVariants.{Hit, Load, WriteFirst, Fixed, Cleaned, StillDirty}
+use Rattle.bp_core.specs.declared.entries.Reply.TheVariants.{Hit, Load, WriteFirst, Fixed}
 use Rattle.bp_core.specs.Parameters.{Parameters}
 use Rattle.bp_core.specs.Lists.{some, after_last}
 use Rattle.bp_core.specs.Event.{Grant, evicted, hits, loads, writes, is_purge, ends_well}
@@ -87,16 +86,6 @@ IsNext number next past e = (n : ℕ) → number e ≡ Some n → n ≡ next pas
 
 abbrev pub IsNew : (Entry → Option ℕ) → Trail → Entry → Type 0
 IsNew number past e = (n : ℕ) (d : Entry) → number e ≡ Some n → Contains past d → number d ≡ Some n → ⊥
-
--- which calls each reply is of, and the good ends
-pub record FitsItsCall (e : Entry) : Type 0 where
-  pub hit : (n : ℕ) → e.reply ≡ Hit n → (p : ℕ) × (e.call ≡ Fix p)
-  pub load : (t : ℕ) (victim : Option ℕ) → e.reply ≡ Load t victim → (p : ℕ) × (e.call ≡ Fix p)
-  pub write_first : (t p : ℕ) (image : List ℕ) → e.reply ≡ WriteFirst t p image → ((q : ℕ) × (e.call ≡ Fix q)) ⊎ (e.call ≡ Flush p)
-  pub fixed : (n : ℕ) → e.reply ≡ Fixed n → (t : ℕ) × (p : ℕ) × (image : List ℕ) × (e.call ≡ ReadEnd t p (Some image))
-  pub read_well : (t p : ℕ) (image : List ℕ) → e.call ≡ ReadEnd t p (Some image) → (n : ℕ) × (e.reply ≡ Fixed n)
-  pub saved : (e.reply ≡ Cleaned) ⊎ (e.reply ≡ StillDirty) → (t : ℕ) × (p : ℕ) × (e.call ≡ WriteEnd t p true)
-  pub written_well : (t p : ℕ) → e.call ≡ WriteEnd t p true → (e.reply ≡ Cleaned) ⊎ (e.reply ≡ StillDirty)
 
 -- ---- references
 

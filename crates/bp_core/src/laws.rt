@@ -22,7 +22,16 @@ ghost use Rattle.bp_core.specs.Legal.{is_out, Legal};
 ghost use Rattle.bp_core.specs.Device.{due};
 ghost use Rattle.bp_core.specs.Safety.{EvictsSafely, WritesAreDurable, Safe};
 ghost use Rattle.bp_core.specs.Claims.{HeldIsPlain, ReadsAreKnown, FindsDue, AnswersPlain};
-ghost use Rattle.bp_core.specs.Sentences.{Lasts, AreAfterLast, IsGreatest, evicts, unended, IsUnended, HasUnended, pass_number, gives_pass, begins_operation, IsNext, IsNew, FitsItsCall, references_since, IsForgotten, IsCandidate, IsFirst, IsUnsaved};
+ghost use Rattle.bp_core.specs.Wording.{FitsItsCall, SaysSo};
+ghost use Rattle.bp_core.specs.Sentences.{Lasts, AreAfterLast, IsGreatest, evicts, unended, IsUnended, HasUnended, pass_number, gives_pass, begins_operation, IsNext, IsNew, references_since, IsForgotten, IsCandidate, IsFirst, IsUnsaved};
+
+/// In a legal trail each reply stands with its call: a hit and a load with a fix, a write-out's begin with a fix or with a
+/// flush of that page; a read end is answered with a pass exactly where it brought an image, and a write end is good
+/// exactly where the write was. So each word on one entry says of its call and its reply what it seems to.
+pub fn words_on_entries()
+    ensures replies { (c : Parameters) (past : Trail) → Legal c past → EachEntry (λ before e. FitsItsCall e) past }
+    ensures words { (c : Parameters) (past : Trail) → Legal c past → EachEntry (λ before e. SaysSo e) past }
+{}
 
 /// The words by which definitions look back over a trail: `since` is that some entry passes one test and no later entry
 /// another; `after_last` is all that came after the last entry that passes; `greatest` is the greatest of some numbers,
@@ -108,13 +117,6 @@ pub fn held_is_the_last_read_with_later_writes()
 pub fn due_is_the_last_write_out()
     ensures opening { (m : ℕ → List ℕ) (past : Trail) (p : ℕ) → IsFalse (some (λ e. begins_of p e.reply) past) → due m past p ≡ Some (m p) }
     ensures begun { (m : ℕ → List ℕ) (past later earlier : Trail) (e : Entry) (t p : ℕ) (image : List ℕ) → past ≡ later ++ e ∷ earlier → e.reply ≡ WriteFirst t p image → IsFalse (some (λ d. begins_of p d.reply) later) → due m past p ≡ (if some (λ d. ends_well t d.call) past then Some image else None) }
-{}
-
-/// In a legal trail each reply stands with its call: a hit and a load with a fix, a write-out's begin with a fix or with a
-/// flush of that page; a read end is answered with a pass exactly where it brought an image, and a write end is good
-/// exactly where the write was.
-pub fn replies_fit_their_calls()
-    ensures { (c : Parameters) (past : Trail) → Legal c past → EachEntry (λ before e. FitsItsCall e) past }
 {}
 
 /// After every legal trail a page stands at most once among the residents, and one that is loading is not among them; a
