@@ -35,7 +35,7 @@ use Rattle.bp_core.proofs.Events.{Event, event-of}
 use Rattle.bp_core.proofs.Events.Event.{fix_hit, fix_load, fix_replace, fix_write, flush_write, read_good, purged}
 use Rattle.bp_core.proofs.Victim.{victim-is, no-victim}
 use Rattle.bp_core.proofs.Residents.{left-none, left-other}
-use Rattle.bp_core.proofs.Lists.{member}
+use Rattle.bp_core.proofs.Lists.{member, some-append}
 
 -- ---- places
 
@@ -58,6 +58,21 @@ pub resident-lasts : (past : Trail) (p : ℕ) → Decides (resident past p) (Las
 resident-lasts past p =
     let d = since-lasts (loads p) (evicts p) past in
     (λ h. d.0 (sym (resident-since p past) ∙ h), λ w. resident-since p past ∙ d.1 w)
+
+since-itself : (test : Entry → Bool) (past : Trail) → some test past ≡ true → since test test past ≡ true
+since-itself test [] h = h
+since-itself test (e ∷ past) h = go (test e) h (since-itself test past)
+  where
+    go : (b : Bool) → (b || some test past) ≡ true → (some test past ≡ true → since test test past ≡ true) → (b || (not b && since test test past)) ≡ true
+    go true h ih = refl
+    go false h ih = ih h
+
+-- a resident page was read
+pub resident-read : (past : Trail) (p : ℕ) → resident past p ≡ true → Lasts (loads p) (loads p) past
+resident-read past p h =
+    let w = (resident-lasts past p).0 h in
+    let there : some (loads p) past ≡ true = ap (some (loads p)) w.stands ∙ some-append (loads p) w.later (w.entry ∷ w.earlier) ∙ or_right (some (loads p) w.later) (some (loads p) (w.entry ∷ w.earlier)) (or_left (loads p w.entry) (some (loads p) w.earlier) w.starts) in
+    (since-lasts (loads p) (loads p) past).0 (since-itself (loads p) past there)
 
 -- ---- serial numbers
 

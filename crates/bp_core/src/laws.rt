@@ -9,12 +9,12 @@ ghost use Rattle.bp_core.specs.declared.entries.Call.TheVariants.{ReadEnd};
 ghost use Rattle.bp_core.specs.declared.entries.Reply.TheVariants.{WriteFirst, Fixed};
 ghost use Rattle.bp_core.specs.Parameters.{Parameters};
 ghost use Rattle.bp_core.specs.Lists.{greatest, some, count, after_last, since, EachEntry};
-ghost use Rattle.bp_core.specs.Event.{Grant, ticket_given, pass_back, read_ticket_back, write_ticket_back, ends_well, begins_of, loads, lsn_written, marked};
+ghost use Rattle.bp_core.specs.Event.{Grant, ticket_given, pass_back, read_ticket_back, write_ticket_back, ends_well, begins, begins_of, loads, writes, lsn_written, marked};
 ghost use Rattle.bp_core.specs.Trail.{Trail};
 ghost use Rattle.bp_core.specs.Clock.{clock, durable};
 ghost use Rattle.bp_core.specs.Passes.{pass_of, read_ticket_of, write_ticket_of, passes, tickets, passes_out, reads_out, writes_out, is_of, pins};
 ghost use Rattle.bp_core.specs.Places.{residents, resident, loading, writing};
-ghost use Rattle.bp_core.specs.Saved.{unsaved, top};
+ghost use Rattle.bp_core.specs.Saved.{unsaved, written_since, top};
 ghost use Rattle.bp_core.specs.Images.{held, plain_map};
 ghost use Rattle.bp_core.specs.References.{references, forgets, last, hist};
 ghost use Rattle.bp_core.specs.Victim.{backward_distance, candidate, victim};
@@ -44,12 +44,14 @@ pub fn words_on_trails()
 {}
 
 /// A pass or ticket is out in a legal trail exactly where it was given so, to this client and for this page, and no
-/// entry of the trail gives it back: a pass by an unfix, a read ticket by a read end, a write ticket by a write end.
+/// entry of the trail gives it back: a pass by an unfix, a read ticket by a read end, a write ticket by a write end. The
+/// pins of a page are the passes of it that are out; it is loading, or being written out, where such a ticket of it is out.
 pub fn out_is_given_and_not_ended()
     ensures passes { (c : Parameters) (past : Trail) (g : Grant) → Legal c past → Decides (is_out g (passes_out past)) (IsUnended pass_of (λ e. pass_back e.call) past g) }
     ensures reads { (c : Parameters) (past : Trail) (g : Grant) → Legal c past → Decides (is_out g (reads_out past)) (IsUnended read_ticket_of (λ e. read_ticket_back e.call) past g) }
     ensures writes { (c : Parameters) (past : Trail) (g : Grant) → Legal c past → Decides (is_out g (writes_out past)) (IsUnended write_ticket_of (λ e. write_ticket_back e.call) past g) }
     ensures list { (c : Parameters) (past : Trail) → Legal c past → passes_out past ≡ unended pass_of (λ e. pass_back e.call) past }
+    ensures pins { (c : Parameters) (past : Trail) (p : ℕ) → Legal c past → pins past p ≡ count (is_of p) (unended pass_of (λ e. pass_back e.call) past) }
     ensures loading { (c : Parameters) (past : Trail) (p : ℕ) → Legal c past → Decides (loading past p) (HasUnended read_ticket_of (λ e. read_ticket_back e.call) past p) }
     ensures writing { (c : Parameters) (past : Trail) (p : ℕ) → Legal c past → Decides (writing past p) (HasUnended write_ticket_of (λ e. write_ticket_back e.call) past p) }
 {}
@@ -100,16 +102,20 @@ pub fn victim_is_the_first_candidate()
 {}
 
 /// A page is unsaved exactly where some write of it has no good write-out of it that began after it. Its page LSN is the
-/// greatest LSN of its writes after its last good read end, or 0; the durable mark the greatest LSN marked, or 0.
+/// greatest LSN of its writes after its last good read end, or 0; the durable mark the greatest LSN marked, or 0. It was
+/// written since a write-out began where some write of it came after that.
 pub fn unsaved_since_the_last_good_write_out()
     ensures unsaved { (past : Trail) (p : ℕ) → Decides (unsaved past p) (IsUnsaved past p) }
     ensures top { (past newest : Trail) (p : ℕ) → AreAfterLast (loads p) past newest → IsGreatest (filter_map (lsn_written p) newest) (top past p) }
+    ensures written_since { (past newest : Trail) (t p : ℕ) → AreAfterLast (λ e. begins t e.reply) past newest → written_since past t p ≡ some (writes p) newest }
     ensures durable { (past : Trail) → IsGreatest (filter_map (λ e. marked e.call) past) (durable past) }
 {}
 
-/// A page's held image is that of its last good read end, with the page's later writes applied in order.
+/// A page's held image is that of its last good read end, with the page's later writes applied in order. A resident page
+/// has such a read end.
 pub fn held_is_the_last_read_with_later_writes()
-    ensures { (later earlier : Trail) (e : Entry) (t p n : ℕ) (image : List ℕ) → e.call ≡ ReadEnd t p (Some image) → e.reply ≡ Fixed n → IsFalse (some (loads p) later) → held (later ++ e ∷ earlier) p ≡ plain_map (λ q. image) later p }
+    ensures there { (past : Trail) (p : ℕ) → resident past p ≡ true → Lasts (loads p) (loads p) past }
+    ensures image { (later earlier : Trail) (e : Entry) (t p n : ℕ) (image : List ℕ) → e.call ≡ ReadEnd t p (Some image) → e.reply ≡ Fixed n → IsFalse (some (loads p) later) → held (later ++ e ∷ earlier) p ≡ plain_map (λ q. image) later p }
 {}
 
 /// What a read is due to give: the opening image where no write-out of the page has begun; else the image of the last

@@ -1,5 +1,8 @@
-use Rattle.bp_core.proofs.Sentences.{held-is}
+use Rattle.bp_core.proofs.Sentences.{resident-read, held-is}
 use Rattle.bp_core.proofs.laws.held_is_the_last_read_with_later_writes.Goals as goal
 
-pub returns : goal.returns
-returns c = held-is
+pub returns-clause-there : goal.returns-clause-there
+returns-clause-there c = resident-read
+
+pub returns-clause-image : goal.returns-clause-image
+returns-clause-image c = held-is

@@ -1,6 +1,9 @@
 use Rattle.bp_core.specs.Passes.{pass_of, read_ticket_of, write_ticket_of}
 use Rattle.bp_core.specs.Event.{pass_back, read_ticket_back, write_ticket_back}
 use Rattle.bp_core.proofs.Given.{unended-is, out-decides, page-decides, fresh-passes, fresh-reads, fresh-writes}
+use Rattle.std.proofs.Common.{ap}
+use Rattle.bp_core.specs.Lists.{count}
+use Rattle.bp_core.specs.Passes.{is_of}
 use Rattle.bp_core.proofs.laws.out_is_given_and_not_ended.Goals as goal
 
 pub returns-clause-passes : goal.returns-clause-passes
@@ -20,3 +23,6 @@ returns-clause-loading c = λ p past q l. page-decides read_ticket_of (λ e. rea
 
 pub returns-clause-writing : goal.returns-clause-writing
 returns-clause-writing c = λ p past q l. page-decides write_ticket_of (λ e. write_ticket_back e.call) past (fresh-writes p past l) q
+
+pub returns-clause-pins : goal.returns-clause-pins
+returns-clause-pins c = λ p past q l. ap (count (is_of q)) (unended-is pass_of (λ e. pass_back e.call) past (fresh-passes p past l))
