@@ -2,6 +2,7 @@
 use Rattle.std.proofs.Common.{◌≡◌, refl, sym, ap, subst, ◌∙◌, ℕ, suc, ◌+◌, ◌<◌, ◌≤◌, Bool, true, false, ◌||◌, ◌==◌, cond, List, [], ◌∷◌, length, filter, filter_map, All, Contains, Option, Some, None, IsSome, get_or, ◌⊎◌, inl, inr, arith}
 use Rattle.std.specs.List.{cons_option}
 use Rattle.std.proofs.lemmas.Bool.{true≢false, or_parts, eqb-true, eq-eqb, false_from_ne_true}
+use Rattle.bp_lruk.specs.Distance.{is_farther}
 use Rattle.bp_core.specs.declared.entries.Entry.{Entry}
 use Rattle.bp_core.specs.declared.entries.Call.{Call}
 use Rattle.bp_core.specs.declared.entries.Call.TheVariants.{Fix, ReadEnd, WriteEnd, Read, Flush}
@@ -18,6 +19,8 @@ use Rattle.bp_core.specs.Saved.{unsaved}
 use Rattle.bp_core.specs.Images.{held, plain_map}
 use Rattle.bp_core.specs.Legal.{IsLawful, Legal, is_out}
 use Rattle.bp_core.specs.Device.{due, Honest}
+use Rattle.bp_core.specs.Victim.{backward_distance, victim}
+use Rattle.bp_core.specs.Sentences.{IsCandidate, IsFirst}
 use Rattle.bp_core.specs.Safety.{EvictsSafely, WritesAreDurable}
 use Rattle.bp_core.specs.Claims.{ReadsAreKnown, FindsDue, AnswersPlain}
 use Rattle.bp_core.proofs.Elements.{contains-here, contains-later, contains-cases, contains-none}
@@ -31,7 +34,9 @@ use Rattle.bp_core.proofs.Places.{OnePage, places, out-of_page}
 use Rattle.bp_core.proofs.Residents.{Distinct, frames}
 use Rattle.bp_core.proofs.Known.{airborne}
 use Rattle.bp_core.proofs.Content.{read_end_known, held-plain}
-use Rattle.bp_core.proofs.Eviction.{eviction}
+use Rattle.bp_core.proofs.Eviction.{evicted-at, eviction}
+use Rattle.bp_core.proofs.Sentences.{victim-first}
+use Rattle.bp_core.proofs.Distance.{none-farther}
 use Rattle.bp_core.proofs.WriteAhead.{write_ahead}
 
 abbrev entry : ℕ → Call → Reply → Entry
@@ -129,6 +134,29 @@ each-answers c = of-all c AnswersPlain (λ past e l. answers c past l.before e.c
 
 pub each-evicts : (c : Parameters) (past : Trail) → Legal c past → EachEntry (EvictsSafely c) past
 each-evicts c = of-all c (EvictsSafely c) (λ past e l. eviction c past e l.here)
+
+-- the page that leaves, or that is written out first for a fix
+abbrev pub EvictsFirst : Parameters → Trail → Entry → Type 0
+EvictsFirst c past e = (t v : ℕ) → e.reply ≡ Load t (Some v) → IsFirst c past v
+
+abbrev pub EvictsFarthest : Parameters → Trail → Entry → Type 0
+EvictsFarthest c past e = (t v q : ℕ) → e.reply ≡ Load t (Some v) → IsCandidate c past q → is_farther (backward_distance c past q) (backward_distance c past v) ≡ false
+
+abbrev pub WritesFirst : Parameters → Trail → Entry → Type 0
+WritesFirst c past e = (t v p : ℕ) (image : List ℕ) → e.call ≡ Fix p → e.reply ≡ WriteFirst t v image → IsFirst c past v
+
+written-at : (c : Parameters) (past : Trail) (who : ℕ) (call : Call) (reply : Reply) → Event c past who call reply → (t v p : ℕ) (image : List ℕ) → call ≡ Fix p → reply ≡ WriteFirst t v image → victim c past ≡ Some v
+written-at c past who _ _ (fix_write q u m w g) t v p image i j = let k : u ≡ v = cc in subst (λ x. victim c past ≡ Some x) k w
+written-at c past who _ _ _ t v p image i j = cc
+
+pub each-first : (c : Parameters) (past : Trail) → Legal c past → EachEntry (EvictsFirst c) past
+each-first c = of-all c (EvictsFirst c) (λ past e l t v i. victim-first c past v (evicted-at c past e.client e.call e.reply (event-of c past e l.here) t v i).0)
+
+pub each-farthest : (c : Parameters) (past : Trail) → Legal c past → EachEntry (EvictsFarthest c) past
+each-farthest c = of-all c (EvictsFarthest c) (λ past e l t v q i k. none-farther c past v q (evicted-at c past e.client e.call e.reply (event-of c past e l.here) t v i).0 k)
+
+pub each-written : (c : Parameters) (past : Trail) → Legal c past → EachEntry (WritesFirst c) past
+each-written c = of-all c (WritesFirst c) (λ past e l t v p image i j. victim-first c past v (written-at c past e.client e.call e.reply (event-of c past e l.here) t v p image i j))
 
 lsn-bounded : (p : ℕ) (past : Trail) (w : Entry) → Contains past w → writes p w ≡ true → lsn_of w.call ≤ greatest (filter_map (lsn_written p) past)
 lsn-bounded p [] w k i = absurd (contains-none w k)

@@ -183,7 +183,7 @@ references-are c (e ∷ past) p l = go (hits p e) refl (loads p e) refl (forgot_
     go false i true j false k ih = ap (λ r. fault (clock past) ∷ r) ih ∙ ap (λ b. cons_option (if b then Some (fault (clock past)) else None) (references_since c past p)) (sym j) ∙ ap (λ b. cons_option (if b then Some (hit (clock past)) else if loads p e then Some (fault (clock past)) else None) (references_since c past p)) (sym i)
     go false i false j false k ih = ih ∙ ap (λ b. cons_option (if b then Some (fault (clock past)) else None) (references_since c past p)) (sym j) ∙ ap (λ b. cons_option (if b then Some (hit (clock past)) else if loads p e then Some (fault (clock past)) else None) (references_since c past p)) (sym i)
 
-known-none : (rs : List Reference) → is_empty rs ≡ true → rs ≡ []
+pub known-none : (rs : List Reference) → is_empty rs ≡ true → rs ≡ []
 known-none [] h = refl
 known-none (r ∷ rs) h = absurd (true≢false (sym h))
 

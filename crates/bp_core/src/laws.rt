@@ -1,12 +1,12 @@
 //! Laws of the definitions in `specs/`. Each function does nothing: its contract is the law.
-ghost use Rattle.std.specs.Prelude.{◌≡◌, ℕ, suc, ◌+◌, ◌<◌, ◌≤◌, ◌==◌, nat_lt, Bool, true, false, IsFalse, Decides, List, ◌∷◌, ◌++◌, length, filter_map, Contains, Option, Some, None, if◌then◌else◌};
+ghost use Rattle.std.specs.Prelude.{◌≡◌, ◌≢◌, ℕ, suc, ◌+◌, ◌<◌, ◌≤◌, ◌==◌, nat_lt, Bool, true, false, IsFalse, Decides, List, [], ◌∷◌, ◌++◌, length, filter_map, Contains, Option, Some, None, if◌then◌else◌};
 ghost use Rattle.bp_lruk.specs.Burst.{Burst, last_time};
 ghost use Rattle.bp_lruk.specs.Cut.{IsCut};
 ghost use Rattle.bp_lruk.specs.Distance.{is_farther};
 ghost use Rattle.bp_lruk.specs.Stamp.{burst_at, burst_stamp, IsTimed};
 ghost use Rattle.bp_core.specs.declared.entries.Entry.{Entry};
-ghost use Rattle.bp_core.specs.declared.entries.Call.TheVariants.{ReadEnd};
-ghost use Rattle.bp_core.specs.declared.entries.Reply.TheVariants.{WriteFirst, Fixed};
+ghost use Rattle.bp_core.specs.declared.entries.Call.TheVariants.{Fix, ReadEnd};
+ghost use Rattle.bp_core.specs.declared.entries.Reply.TheVariants.{Load, WriteFirst, Fixed};
 ghost use Rattle.bp_core.specs.Parameters.{Parameters};
 ghost use Rattle.bp_core.specs.Lists.{greatest, some, count, after_last, since, EachEntry};
 ghost use Rattle.bp_core.specs.Event.{Grant, ticket_given, pass_back, read_ticket_back, write_ticket_back, ends_well, begins, begins_of, loads, writes, lsn_written, marked};
@@ -73,10 +73,13 @@ pub fn serials_count_the_replies()
 {}
 
 /// The references of a page are its hits and good read ends, each with the clock at it, after the last purge that forgot
-/// the page. A purge forgets a page exactly where it has references, is neither resident nor loading, and its LAST lies
-/// more than the retained period back.
+/// the page; a resident page has some, and only pages in range have any. A purge forgets a page exactly where it has
+/// references, is neither resident nor loading, and its LAST lies more than the retained period back. Their times never
+/// fall and never pass the clock.
 pub fn references_since_the_last_forgetting()
     ensures references { (c : Parameters) (past : Trail) (p : ℕ) → Legal c past → references c past p ≡ references_since c past p }
+    ensures known { (c : Parameters) (past : Trail) (p : ℕ) → Legal c past → resident past p ≡ true → references c past p ≢ [] }
+    ensures in_range { (c : Parameters) (past : Trail) (p : ℕ) → Legal c past → references c past p ≢ [] → p < c.pages }
     ensures forgets { (c : Parameters) (past : Trail) (p : ℕ) → Decides (forgets c past p (references c past p)) (IsForgotten c past p) }
     ensures timed { (c : Parameters) (past : Trail) (p : ℕ) → IsTimed (references c past p) }
     ensures by_now { (c : Parameters) (past : Trail) (p : ℕ) → last c past p ≤ clock past }
@@ -112,9 +115,10 @@ pub fn unsaved_since_the_last_good_write_out()
 {}
 
 /// A page's held image is that of its last good read end, with the page's later writes applied in order. A resident page
-/// has such a read end.
+/// has such a read end, and an image of the page size.
 pub fn held_is_the_last_read_with_later_writes()
     ensures there { (past : Trail) (p : ℕ) → resident past p ≡ true → Lasts (loads p) (loads p) past }
+    ensures size { (c : Parameters) (past : Trail) (p : ℕ) → Legal c past → resident past p ≡ true → length (held past p) ≡ c.size }
     ensures image { (later earlier : Trail) (e : Entry) (t p n : ℕ) (image : List ℕ) → e.call ≡ ReadEnd t p (Some image) → e.reply ≡ Fixed n → IsFalse (some (loads p) later) → held (later ++ e ∷ earlier) p ≡ plain_map (λ q. image) later p }
 {}
 
@@ -126,12 +130,14 @@ pub fn due_is_the_last_write_out()
 {}
 
 /// After every legal trail a page stands at most once among the residents, and one that is loading is not among them; a
-/// pinned page and an unsaved page are resident; pages resident and loading are at most the frames.
+/// pinned page and an unsaved page are resident; pages resident and loading are in range, and at most as many as frames.
 pub fn pages_have_one_place()
     ensures once { (c : Parameters) (past : Trail) (p : ℕ) → Legal c past → count (λ q. q == p) (residents past) ≤ 1 }
     ensures loading_is_away { (c : Parameters) (past : Trail) (p : ℕ) → Legal c past → loading past p ≡ true → resident past p ≡ false }
     ensures pinned_is_here { (c : Parameters) (past : Trail) (p : ℕ) → Legal c past → 0 < pins past p → resident past p ≡ true }
     ensures unsaved_is_here { (c : Parameters) (past : Trail) (p : ℕ) → Legal c past → unsaved past p ≡ true → resident past p ≡ true }
+    ensures resident_in_range { (c : Parameters) (past : Trail) (p : ℕ) → Legal c past → resident past p ≡ true → p < c.pages }
+    ensures loading_in_range { (c : Parameters) (past : Trail) (p : ℕ) → Legal c past → loading past p ≡ true → p < c.pages }
     ensures within_frames { (c : Parameters) (past : Trail) → Legal c past → length (residents past) + length (reads_out past) ≤ c.frames }
 {}
 
@@ -162,10 +168,14 @@ pub fn pages_hold_the_plain_map()
     ensures content { (c : Parameters) (past : Trail) → Legal c past → EachEntry AnswersPlain past }
 {}
 
-/// At each eviction of a legal trail the page is the victim, a candidate that no other comes before; it has no pins and
-/// is not unsaved.
+/// At each eviction of a legal trail the page is the victim, a candidate that comes before every other and that none is
+/// farther than by its backward K-distance; it has no pins and is not unsaved. A page that is written out first for a fix
+/// is the victim too.
 pub fn evictions_are_safe()
-    ensures { (c : Parameters) (past : Trail) → Legal c past → EachEntry (EvictsSafely c) past }
+    ensures safe { (c : Parameters) (past : Trail) → Legal c past → EachEntry (EvictsSafely c) past }
+    ensures first { (c : Parameters) (past : Trail) → Legal c past → EachEntry (λ before e. (t v : ℕ) → e.reply ≡ Load t (Some v) → IsFirst c before v) past }
+    ensures farthest { (c : Parameters) (past : Trail) → Legal c past → EachEntry (λ before e. (t v q : ℕ) → e.reply ≡ Load t (Some v) → IsCandidate c before q → is_farther (backward_distance c before q) (backward_distance c before v) ≡ false) past }
+    ensures written_first { (c : Parameters) (past : Trail) → Legal c past → EachEntry (λ before e. (t v p : ℕ) (image : List ℕ) → e.call ≡ Fix p → e.reply ≡ WriteFirst t v image → IsFirst c before v) past }
 {}
 
 /// At each begin of a write-out in a legal trail every earlier write of that page has an LSN of at most the durable mark.
@@ -173,7 +183,7 @@ pub fn write_outs_stay_behind_the_log()
     ensures { (c : Parameters) (past : Trail) → Legal c past → EachEntry WritesAreDurable past }
 {}
 
-/// Every legal trail is safe: both at each entry.
+/// Every legal trail is safe: at each eviction and at each begin of a write-out, as the two laws above say.
 pub fn legal_trails_are_safe()
     ensures { (c : Parameters) (past : Trail) → Legal c past → Safe c past }
 {}
