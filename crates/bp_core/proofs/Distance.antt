@@ -1,8 +1,8 @@
 -- No stamp of a page is after its last reference, so the victim's backward K-distance is the greatest.
-use Rattle.std.proofs.Common.{◌≡◌, refl, sym, ap, subst, ◌∙◌, ℕ, zero, suc, ◌+◌, ◌-◌, ◌<◌, ◌≤◌, nat_lt, Bool, true, false, ◌==◌, if◌then◌else◌, List, [], ◌∷◌, Some, ◌⊎◌, inl, inr, arith}
-use Rattle.std.proofs.lemmas.Bool.{cases_lt, le-ltb, lt-ltb, ltb-true}
+use Rattle.std.proofs.Common.{◌≡◌, refl, ◌∙◌, ℕ, zero, suc, ◌+◌, ◌-◌, ◌<◌, ◌≤◌, nat_lt, Bool, true, false, List, [], ◌∷◌, Some, inl, inr, arith}
+use Rattle.std.proofs.lemmas.Bool.{cases_lt, le-ltb, lt-ltb}
 use Rattle.std.proofs.lemmas.Bool.Decides.{nat_tests}
-use Rattle.bp_lruk.specs.Burst.{Reference, last_time, time, bursts}
+use Rattle.bp_lruk.specs.Burst.{Reference, last_time, time}
 use Rattle.bp_lruk.specs.Burst.Reference.{hit, fault}
 use Rattle.bp_lruk.specs.Stamp.{stamp, IsTimed}
 use Rattle.bp_lruk.specs.Distance.{backward_distance, is_farther}
@@ -13,7 +13,7 @@ use Rattle.bp_core.specs.Parameters.{Parameters}
 use Rattle.bp_core.specs.Trail.{Trail}
 use Rattle.bp_core.specs.Clock.{clock}
 use Rattle.bp_core.specs.References.{references, hist}
-use Rattle.bp_core.specs.Victim.{Rank, rank, before, candidate, victim}
+use Rattle.bp_core.specs.Victim.{Rank, rank, before, victim}
 use Rattle.bp_core.specs.Sentences.{IsCandidate}
 use Rattle.bp_core.proofs.Sentences.{candidate-decides}
 use Rattle.bp_core.proofs.Timed.{references-timed}

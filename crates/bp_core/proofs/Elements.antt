@@ -1,11 +1,10 @@
 -- What some, after_last, since and greatest say of the elements of a list.
-use Rattle.std.proofs.Common.{◌≡◌, refl, sym, ap, subst, ◌∙◌, ℕ, zero, suc, ◌<◌, ◌≤◌, max, Bool, true, false, not, ◌&&◌, ◌||◌, if◌then◌else◌, cond, List, [], ◌∷◌, ◌++◌, length, slice_index_or, filter, filter_map, Contains, Decides, Option, Some, None, ◌⊎◌, inl, inr, arith}
-use Rattle.std.proofs.lemmas.Bool.{true≢false, and_parts, or_parts, or_cases, or_left, or_right}
+use Rattle.std.proofs.Common.{◌≡◌, refl, sym, ap, subst, ◌∙◌, ℕ, zero, suc, ◌<◌, ◌≤◌, max, Bool, true, false, not, ◌&&◌, ◌||◌, if◌then◌else◌, List, [], ◌∷◌, ◌++◌, length, slice_index_or, Contains, Decides, ◌⊎◌, inl, inr, arith}
+use Rattle.std.proofs.lemmas.Bool.{true≢false, or_parts, or_left, or_right}
 use Rattle.bp_core.specs.declared.entries.Entry.{Entry}
 use Rattle.bp_core.specs.Lists.{greatest, some, after_last, since}
 use Rattle.bp_core.specs.Trail.{Trail}
 use Rattle.bp_core.specs.Sentences.{Lasts, FirstPasses, AreAfterLast, IsGreatest}
-use Rattle.bp_core.proofs.Lists.{some-append}
 
 module _ {X : Type 0} where
   pub contains-here : (x : X) (xs : List X) → Contains (x ∷ xs) x

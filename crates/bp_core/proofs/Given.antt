@@ -1,19 +1,18 @@
 -- Passes and tickets that are out are those that were given and that no entry gives back; and each serial number is given once.
-use Rattle.std.proofs.Common.{◌≡◌, refl, sym, ap, subst, ◌∙◌, ℕ, suc, ◌≤◌, Bool, true, false, not, ◌&&◌, ◌||◌, ◌==◌, cond, List, [], ◌∷◌, length, filter, filter_map, Contains, Decides, Option, Some, None, inl, inr, arith}
+use Rattle.std.proofs.Common.{◌≡◌, refl, sym, ap, subst, ◌∙◌, ℕ, suc, ◌≤◌, Bool, true, false, not, ◌||◌, ◌==◌, cond, List, [], ◌∷◌, length, filter, filter_map, Contains, Decides, Option, Some, None, inl, inr, arith}
 use Rattle.std.specs.List.{cons_option}
 use Rattle.std.specs.Option.{option_map_or}
-use Rattle.std.proofs.lemmas.Bool.{true≢false, and_parts, and_from, or_cases, or_left, or_right, eqb-true, eq-eqb, not-true, not_from_false, false_from_ne_true}
+use Rattle.std.proofs.lemmas.Bool.{true≢false, and_from, or_cases, or_left, or_right, eqb-true, eq-eqb, not-true, false_from_ne_true}
 use Rattle.bp_core.specs.declared.entries.Entry.{Entry}
 use Rattle.bp_core.specs.declared.entries.Call.{Call}
 use Rattle.bp_core.specs.declared.entries.Reply.{Reply}
-use Rattle.bp_core.specs.declared.entries.Reply.TheVariants.{Hit, Load, WriteFirst, Fixed}
 use Rattle.bp_core.specs.Parameters.{Parameters}
 use Rattle.bp_core.specs.Lists.{some, without, and_given, outstanding, EachEntry}
 use Rattle.bp_core.specs.Event.{Grant, grant, same_grant, page_of, pass_given, read_ticket_given, write_ticket_given, ticket_given, pass_back, read_ticket_back, write_ticket_back}
 use Rattle.bp_core.specs.Trail.{Trail}
 use Rattle.bp_core.specs.Passes.{pass_of, read_ticket_of, write_ticket_of, passes, tickets, passes_out, reads_out, writes_out, is_of}
 use Rattle.bp_core.specs.Legal.{is_out, Legal}
-use Rattle.bp_core.specs.Sentences.{gives_back, unended, IsUnended, HasUnended, pass_number}
+use Rattle.bp_core.specs.Sentences.{gives_back, unended, IsUnended, HasUnended}
 use Rattle.bp_core.proofs.Elements.{contains-here, contains-later, contains-cases, contains-none}
 use Rattle.bp_core.proofs.Events.{Event, event-of}
 use Rattle.bp_core.proofs.Events.Event.{fix_hit, fix_load, fix_replace, fix_write, flush_write, read_good, read_bad, write_bad, write_clean, write_dirty, unfixed}
@@ -110,24 +109,22 @@ module _ (gives : Entry → Option Grant) (ends : Entry → Option ℕ) where
 
   -- what is out, one by one and page by page
   pub out-decides : (past : Trail) → EachEntry IsFresh past → (g : Grant) → Decides (is_out g (outstanding number gives ends past)) (IsUnended gives ends past g)
-  out-decides past fresh g =
-      (
-        λ h. let w = given-sound (λ g. not (some (gives_back ends g) past)) (same_grant g) past (sym (ap (is_out g) (unended-is past fresh)) ∙ h) in
+  out-decides past fresh g = (
+    λ h. let w = given-sound (λ g. not (some (gives_back ends g) past)) (same_grant g) past (sym (ap (is_out g) (unended-is past fresh)) ∙ h) in
         let i : w.thing ≡ g = same-grant-is g.client g.page g.serial w.thing w.passes in
         record { entry = w.entry; stands = w.inside; given = w.given ∙ ap Some i; not_ended = sym (ap (λ g. some (gives_back ends g) past) i) ∙ not-true _ w.left },
-        λ w. ap (is_out g) (unended-is past fresh) ∙ given-complete (λ g. not (some (gives_back ends g) past)) (same_grant g) past w.entry g w.stands w.given (ap not w.not_ended) (itself g),
-      )
+    λ w. ap (is_out g) (unended-is past fresh) ∙ given-complete (λ g. not (some (gives_back ends g) past)) (same_grant g) past w.entry g w.stands w.given (ap not w.not_ended) (itself g),
+  )
     where
       itself : (g : Grant) → same_grant g g ≡ true
       itself g = and_from (g.client == g.client) _ (eq-eqb g.client g.client refl) (and_from (g.page == g.page) _ (eq-eqb g.page g.page refl) (eq-eqb g.serial g.serial refl))
 
   pub page-decides : (past : Trail) → EachEntry IsFresh past → (p : ℕ) → Decides (some (is_of p) (outstanding number gives ends past)) (HasUnended gives ends past p)
-  page-decides past fresh p =
-      (
-        λ h. let w = given-sound (λ g. not (some (gives_back ends g) past)) (is_of p) past (sym (ap (some (is_of p)) (unended-is past fresh)) ∙ h) in
+  page-decides past fresh p = (
+    λ h. let w = given-sound (λ g. not (some (gives_back ends g) past)) (is_of p) past (sym (ap (some (is_of p)) (unended-is past fresh)) ∙ h) in
         record { thing = w.thing; of_page = eqb-true w.thing.page p w.passes; unended = record { entry = w.entry; stands = w.inside; given = w.given; not_ended = not-true _ w.left } },
-        λ w. ap (some (is_of p)) (unended-is past fresh) ∙ given-complete (λ g. not (some (gives_back ends g) past)) (is_of p) past w.unended.entry w.thing w.unended.stands w.unended.given (ap not w.unended.not_ended) (eq-eqb w.thing.page p w.of_page),
-      )
+    λ w. ap (some (is_of p)) (unended-is past fresh) ∙ given-complete (λ g. not (some (gives_back ends g) past)) (is_of p) past w.unended.entry w.thing w.unended.stands w.unended.given (ap not w.unended.not_ended) (eq-eqb w.thing.page p w.of_page),
+  )
 
   -- where a serial number is the next one when it is given, and below the next one when it is given back, what is given is fresh
   module _ (c : Parameters) (next : Trail → ℕ) (grows : (e : Entry) (past : Trail) → next past ≤ next (e ∷ past))

@@ -1,34 +1,33 @@
 -- What every legal trail keeps, entry by entry and at its end.
-use Rattle.std.proofs.Common.{◌≡◌, refl, sym, ap, subst, ◌∙◌, ℕ, suc, ◌+◌, ◌<◌, ◌≤◌, Bool, true, false, ◌||◌, ◌==◌, cond, List, [], ◌∷◌, length, filter, filter_map, All, Contains, Option, Some, None, IsSome, get_or, ◌⊎◌, inl, inr, arith}
+use Rattle.std.proofs.Common.{◌≡◌, refl, sym, ap, subst, ◌∙◌, ℕ, ◌+◌, ◌<◌, ◌≤◌, Bool, true, false, ◌==◌, cond, List, [], ◌∷◌, length, filter, filter_map, Contains, Option, Some, None, IsSome, inl, inr, arith}
 use Rattle.std.specs.List.{cons_option}
-use Rattle.std.proofs.lemmas.Bool.{true≢false, or_parts, eqb-true, eq-eqb, false_from_ne_true}
+use Rattle.std.proofs.lemmas.Bool.{true≢false, eqb-true}
 use Rattle.bp_lruk.specs.Distance.{is_farther}
 use Rattle.bp_core.specs.declared.entries.Entry.{Entry}
 use Rattle.bp_core.specs.declared.entries.Call.{Call}
-use Rattle.bp_core.specs.declared.entries.Call.TheVariants.{Fix, ReadEnd, WriteEnd, Read, Flush}
+use Rattle.bp_core.specs.declared.entries.Call.TheVariants.{Fix}
 use Rattle.bp_core.specs.declared.entries.Reply.{Reply}
-use Rattle.bp_core.specs.declared.entries.Reply.TheVariants.{Hit, Load, WriteFirst, Fixed, Cleaned, StillDirty, Content}
+use Rattle.bp_core.specs.declared.entries.Reply.TheVariants.{Load, WriteFirst}
 use Rattle.bp_core.specs.Parameters.{Parameters}
 use Rattle.bp_core.specs.Lists.{some, count, greatest, EachEntry}
 use Rattle.bp_core.specs.Event.{Grant, grant, writes, lsn_of, lsn_written}
 use Rattle.bp_core.specs.Trail.{Trail}
-use Rattle.bp_core.specs.Clock.{durable}
 use Rattle.bp_core.specs.Passes.{passes, tickets, passes_out, reads_out, writes_out, is_of, pins}
 use Rattle.bp_core.specs.Places.{residents, resident, loading, writing}
 use Rattle.bp_core.specs.Saved.{unsaved}
 use Rattle.bp_core.specs.Images.{held, plain_map}
-use Rattle.bp_core.specs.Legal.{IsLawful, Legal, is_out}
-use Rattle.bp_core.specs.Device.{due, Honest}
+use Rattle.bp_core.specs.Legal.{Legal, is_out}
+use Rattle.bp_core.specs.Device.{due}
 use Rattle.bp_core.specs.Victim.{backward_distance, victim}
 use Rattle.bp_core.specs.Sentences.{IsCandidate, IsFirst}
 use Rattle.bp_core.specs.Safety.{EvictsSafely, WritesAreDurable}
 use Rattle.bp_core.specs.Claims.{ReadsAreKnown, FindsDue, AnswersPlain}
-use Rattle.bp_core.proofs.Elements.{contains-here, contains-later, contains-cases, contains-none}
-use Rattle.bp_core.proofs.Lists.{member, count-none}
-use Rattle.bp_core.proofs.Counting.{none-count, some-count}
+use Rattle.bp_core.proofs.Elements.{contains-cases, contains-none}
+use Rattle.bp_core.proofs.Lists.{member}
+use Rattle.bp_core.proofs.Counting.{none-count}
 use Rattle.bp_core.proofs.Words.{of-all}
 use Rattle.bp_core.proofs.Events.{Event, event-of}
-use Rattle.bp_core.proofs.Events.Event.{fix_hit, fix_load, fix_replace, fix_write, flush_write, read_good, read_bad, write_clean, write_dirty, page_read}
+use Rattle.bp_core.proofs.Events.Event.{fix_write, read_good, read_bad, page_read}
 use Rattle.bp_core.proofs.Serials.{AllBelow, numbered}
 use Rattle.bp_core.proofs.Places.{OnePage, places, out-of_page}
 use Rattle.bp_core.proofs.Residents.{Distinct, frames}

@@ -1,10 +1,10 @@
 -- What is computed entry by entry is what the sentence says of the whole list.
-use Rattle.std.proofs.Common.{◌≡◌, refl, sym, ap, subst, ◌∙◌, ℕ, suc, ◌-◌, ◌<◌, ◌≤◌, nat_lt, Bool, true, false, not, ◌&&◌, ◌||◌, ◌==◌, if◌then◌else◌, cond, List, [], ◌∷◌, ◌++◌, length, filter, filter_map, Contains, Decides, Option, Some, None, inl, inr, arith}
+use Rattle.std.proofs.Common.{◌≡◌, refl, sym, ap, subst, ◌∙◌, ℕ, suc, ◌≤◌, nat_lt, Bool, true, false, not, ◌&&◌, ◌||◌, ◌==◌, if◌then◌else◌, cond, List, [], ◌∷◌, ◌++◌, length, filter, filter_map, Contains, Decides, Option, Some, None, inl, inr, arith}
 use Rattle.std.specs.List.{cons_option}
 use Rattle.std.specs.Option.{option_map_or}
-use Rattle.std.proofs.lemmas.Bool.{true≢false, and_parts, and_from, or_parts, or_cases, or_left, or_right, or_from, eqb-true, eq-eqb, ne_eqb, ltb-true, lt-ltb, not-true, not_from_false, false_from_ne_true}
+use Rattle.std.proofs.lemmas.Bool.{true≢false, and_parts, and_from, or_parts, or_left, or_right, or_from, eqb-true, eq-eqb, ne_eqb, ltb-true, lt-ltb, not-true, not_from_false, false_from_ne_true}
 use Rattle.std.proofs.lemmas.Bool.Decides.{nat_tests}
-use Rattle.bp_lruk.specs.Burst.{Reference, last_time, time, bursts}
+use Rattle.bp_lruk.specs.Burst.{Reference, last_time, bursts}
 use Rattle.bp_lruk.specs.Burst.Reference.{hit, fault}
 use Rattle.bp_lruk.specs.Burst.{Burst}
 use Rattle.bp_lruk.specs.Cut.{IsCut}
@@ -17,7 +17,7 @@ use Rattle.bp_core.specs.declared.entries.Call.TheVariants.{ReadEnd}
 use Rattle.bp_core.specs.declared.entries.Reply.{Reply}
 use Rattle.bp_core.specs.declared.entries.Reply.TheVariants.{Hit, Load, WriteFirst, Fixed}
 use Rattle.bp_core.specs.Parameters.{Parameters}
-use Rattle.bp_core.specs.Lists.{some, count, greatest, without, and_given, after_last, since, EachEntry}
+use Rattle.bp_core.specs.Lists.{some, count, without, and_given, after_last, since, EachEntry}
 use Rattle.bp_core.specs.Event.{page_of, pass_given, ticket_given, loaded, evicted, is_fixed_reply, hits, loads, writes, is_purge, written, image_read, begins_of, ends_well, lsn_written}
 use Rattle.bp_core.specs.Trail.{Trail}
 use Rattle.bp_core.specs.Clock.{clock}
@@ -26,11 +26,11 @@ use Rattle.bp_core.specs.Places.{residents, resident, loading, writing}
 use Rattle.bp_core.specs.Saved.{began_saving, unsaved, top}
 use Rattle.bp_core.specs.Images.{held, plain_map}
 use Rattle.bp_core.specs.References.{is_empty, references, forgets, last, hist}
-use Rattle.bp_core.specs.Victim.{rank, before, candidate, victim, IsVictim, Rank}
-use Rattle.bp_core.specs.Legal.{IsLawful, Legal}
-use Rattle.bp_core.specs.Device.{due, due_among, due_with}
+use Rattle.bp_core.specs.Victim.{rank, before, candidate, victim, Rank}
+use Rattle.bp_core.specs.Legal.{Legal}
+use Rattle.bp_core.specs.Device.{due_among, due_with}
 use Rattle.bp_core.specs.Sentences.{Lasts, AreAfterLast, IsGreatest, evicts, pass_number, gives_pass, begins_operation, IsNext, IsNew, with_before, reference_at, forgot_at, references_since, IsForgotten, IsCandidate, IsFirst, IsUnsaved}
-use Rattle.bp_core.proofs.Elements.{contains-here, contains-cases, contains-none, Passing, passing, some-contained, after-last-only, since-lasts, greatest-is}
+use Rattle.bp_core.proofs.Elements.{contains-cases, contains-none, passing, some-contained, after-last-only, since-lasts, greatest-is}
 use Rattle.bp_core.proofs.Events.{Event, event-of}
 use Rattle.bp_core.proofs.Events.Event.{fix_hit, fix_load, fix_replace, fix_write, flush_write, read_good, purged}
 use Rattle.bp_core.proofs.Victim.{victim-is, no-victim}
@@ -121,11 +121,10 @@ module _ (c : Parameters) where
 module _ (number : Entry → Option ℕ) (next : Trail → ℕ) (grows : (e : Entry) (past : Trail) → next past ≤ next (e ∷ past)) (steps : (e : Entry) (past : Trail) (n : ℕ) → number e ≡ Some n → suc (next past) ≤ next (e ∷ past)) where
   below-next : (past : Trail) → EachEntry (IsNext number next) past → (d : Entry) (n : ℕ) → Contains past d → number d ≡ Some n → suc n ≤ next past
   below-next [] h d n k i = absurd (contains-none d k)
-  below-next (e ∷ past) h d n k i = elim (contains-cases e past d k) as (λ _. suc n ≤ next (e ∷ past))
-      [
-        | inl same ↦ (let j : number e ≡ Some n = ap number same ∙ i in let m = h.here n j in let s = steps e past n j in omega arith)
-        | inr older ↦ (let b = below-next past h.before d n older i in let g = grows e past in omega arith)
-      ]
+  below-next (e ∷ past) h d n k i = elim (contains-cases e past d k) as (λ _. suc n ≤ next (e ∷ past)) [
+    | inl same ↦ (let j : number e ≡ Some n = ap number same ∙ i in let m = h.here n j in let s = steps e past n j in omega arith)
+    | inr older ↦ (let b = below-next past h.before d n older i in let g = grows e past in omega arith)
+  ]
 
   pub numbers-new : (past : Trail) → EachEntry (IsNext number next) past → EachEntry (IsNew number) past
   numbers-new [] h = tt
@@ -188,16 +187,15 @@ known-none [] h = refl
 known-none (r ∷ rs) h = absurd (true≢false (sym h))
 
 pub forgets-decides : (c : Parameters) (past : Trail) (p : ℕ) → Decides (forgets c past p (references c past p)) (IsForgotten c past p)
-forgets-decides c past p =
-    (
-      λ h. let a = and_parts (not (is_empty (references c past p))) _ h in
+forgets-decides c past p = (
+  λ h. let a = and_parts (not (is_empty (references c past p))) _ h in
       let b = and_parts (not (resident past p || loading past p)) _ a.1 in
       let d = or_parts (resident past p) (loading past p) (not-true _ b.0) in
       record { known = λ none. true≢false (sym (ap is_empty none) ∙ not-true _ a.0); not_resident = d.0; not_loading = d.1; old = ltb-true _ _ b.1 },
-      λ w. and_from (not (is_empty (references c past p))) _
+  λ w. and_from (not (is_empty (references c past p))) _
       (not_from_false _ (false_from_ne_true (is_empty (references c past p)) (λ h. w.known (known-none (references c past p) h))))
       (and_from (not (resident past p || loading past p)) _ (not_from_false _ (or_from (resident past p) (loading past p) w.not_resident w.not_loading)) (lt-ltb _ _ w.old)),
-    )
+)
 
 -- ---- stamps
 
@@ -214,14 +212,13 @@ last-is c past p pieces cut = last-of c.correlated (references c past p) ∙ ap 
 -- ---- the victim
 
 pub candidate-decides : (c : Parameters) (past : Trail) (p : ℕ) → Decides (candidate c past p) (IsCandidate c past p)
-candidate-decides c past p =
-    (
-      λ h. let a = and_parts (resident past p) _ h in
+candidate-decides c past p = (
+  λ h. let a = and_parts (resident past p) _ h in
       let b = and_parts (pins past p == 0) _ a.1 in
       let d = and_parts (not (writing past p)) _ b.1 in
       record { here = a.0; unpinned = eqb-true (pins past p) 0 b.0; not_writing = not-true _ d.0; old = ltb-true _ _ d.1 },
-      λ w. and_from (resident past p) _ w.here (and_from (pins past p == 0) _ (eq-eqb (pins past p) 0 w.unpinned) (and_from (not (writing past p)) _ (not_from_false _ w.not_writing) (lt-ltb _ _ w.old))),
-    )
+  λ w. and_from (resident past p) _ w.here (and_from (pins past p == 0) _ (eq-eqb (pins past p) 0 w.unpinned) (and_from (not (writing past p)) _ (not_from_false _ w.not_writing) (lt-ltb _ _ w.old))),
+)
 
 apart : (a b : Rank) → before b a ≡ false → (b.page ≡ a.page → ⊥) → before a b ≡ true
 apart a b h n = grind (arith, nat_tests)
@@ -277,17 +274,16 @@ begin-of past p _ h = cc
 
 pub unsaved-decides : (past : Trail) (p : ℕ) → Decides (unsaved past p) (IsUnsaved past p)
 unsaved-decides past p =
-    let d = since-lasts (writes p) (λ e. began_saving past p e.reply) past in
-    (
+    let d = since-lasts (writes p) (λ e. began_saving past p e.reply) past in (
       λ h. let w = d.0 h in
-      record {
-        later = w.later;
-        entry = w.entry;
-        earlier = w.earlier;
-        stands = w.stands;
-        writes = w.starts;
-        not_saved = λ b t image k i. saved-at past p b.reply t image i (false_from_ne_true (began_saving past p b.reply) (λ m. true≢false (sym (some-contained (λ e. began_saving past p e.reply) w.later b k m) ∙ w.lasts)));
-      },
+          record {
+            later = w.later;
+            entry = w.entry;
+            earlier = w.earlier;
+            stands = w.stands;
+            writes = w.starts;
+            not_saved = λ b t image k i. saved-at past p b.reply t image i (false_from_ne_true (began_saving past p b.reply) (λ m. true≢false (sym (some-contained (λ e. began_saving past p e.reply) w.later b k m) ∙ w.lasts)));
+          },
       λ w. d.1 (record {
         later = w.later;
         entry = w.entry;

@@ -1,12 +1,12 @@
 -- The words on one entry of a legal trail say what they seem to.
-use Rattle.std.proofs.Common.{◌≡◌, refl, sym, ap, subst, ◌∙◌, ℕ, Bool, true, false, ◌==◌, List, [], ◌∷◌, Decides, Option, Some, None, ◌⊎◌, ◌↔◌, inl, inr}
+use Rattle.std.proofs.Common.{◌≡◌, refl, sym, ap, subst, ◌∙◌, ℕ, Bool, true, false, ◌==◌, List, [], ◌∷◌, Option, Some, None, ◌⊎◌, inl, inr}
 use Rattle.std.specs.Option.{option_map_or}
-use Rattle.std.proofs.lemmas.Bool.{true≢false, and_parts, eqb-true, eq-eqb}
+use Rattle.std.proofs.lemmas.Bool.{eqb-true, eq-eqb}
 use Rattle.bp_core.specs.declared.entries.Entry.{Entry}
 use Rattle.bp_core.specs.declared.entries.Call.{Call}
 use Rattle.bp_core.specs.declared.entries.Call.TheVariants.{Fix, ReadEnd, WriteEnd, Write, Unfix, Flush}
 use Rattle.bp_core.specs.declared.entries.Reply.{Reply}
-use Rattle.bp_core.specs.declared.entries.Reply.TheVariants.{Done, Hit, Load, WriteFirst, Fixed, Cleaned, StillDirty}
+use Rattle.bp_core.specs.declared.entries.Reply.TheVariants.{Hit, Load, WriteFirst, Fixed, Cleaned, StillDirty}
 use Rattle.bp_core.specs.Parameters.{Parameters}
 use Rattle.bp_core.specs.Lists.{EachEntry}
 use Rattle.bp_core.specs.Event.{Grant, grant, hits, loads, writes, begins_of, ends_well, page_of, pass_given, read_ticket_given, write_ticket_given, pass_back, read_ticket_back, write_ticket_back}
@@ -14,7 +14,7 @@ use Rattle.bp_core.specs.Trail.{Trail}
 use Rattle.bp_core.specs.Passes.{passes, tickets}
 use Rattle.bp_core.specs.Images.{held}
 use Rattle.bp_core.specs.Legal.{Legal}
-use Rattle.bp_core.specs.Sentences.{evicts, gives_back}
+use Rattle.bp_core.specs.Sentences.{evicts}
 use Rattle.bp_core.specs.Wording.{FitsItsCall, IsHit, IsGoodReadEnd, IsEviction, IsWrite, IsBegin, IsGoodWriteEnd, GivesPass, GivesReadTicket, GivesWriteTicket, SaysSo}
 use Rattle.bp_core.proofs.Events.{Event, event-of}
 use Rattle.bp_core.proofs.Events.Event.{fix_hit, fix_load, fix_replace, fix_write, flush_write, read_good, write_clean, write_dirty, page_written}
@@ -123,7 +123,6 @@ fits c = of-all c (λ past e. FitsItsCall e) (λ past e l. let v = event-of c pa
   saved = saved-call c past e.client e.call e.reply v;
   written_well = end-reply c past e.client e.call e.reply v;
 })
-
 
 -- the other way, of any entry
 module _ (e : Entry) where

@@ -1,5 +1,5 @@
 -- The definitions once more, each as one sentence over the whole list of entries. The laws of src/laws.rt tie to it what is computed entry by entry.
-use Rattle.std.specs.Prelude.{◌≡◌, ℕ, ◌-◌, ◌<◌, ◌≤◌, ◌==◌, Bool, true, false, not, ◌&&◌, ◌||◌, if◌then◌else◌, IsTrue, IsFalse, ⊤, List, [], ◌∷◌, ◌++◌, filter, filter_map, Contains, Option, Some, None}
+use Rattle.std.specs.Prelude.{◌≡◌, ℕ, ◌-◌, ◌<◌, ◌≤◌, ◌==◌, Bool, true, false, not, ◌&&◌, if◌then◌else◌, IsTrue, IsFalse, ⊤, List, [], ◌∷◌, ◌++◌, filter, filter_map, Contains, Option, Some, None}
 use Rattle.std.specs.Option.{option_map_or}
 use Rattle.bp_lruk.specs.Burst.{Reference}
 use Rattle.bp_lruk.specs.Burst.Reference.{hit, fault}
@@ -14,7 +14,7 @@ use Rattle.bp_core.specs.Clock.{clock}
 use Rattle.bp_core.specs.Passes.{pins}
 use Rattle.bp_core.specs.Places.{resident, loading, writing}
 use Rattle.bp_core.specs.References.{references, forgets, last}
-use Rattle.bp_core.specs.Victim.{Rank, rank, before, candidate}
+use Rattle.bp_core.specs.Victim.{rank, before}
 
 -- an entry that passes start, and no later one passes stop
 pub record Lasts (start stop : Entry → Bool) (past : Trail) : Type 0 where

@@ -1,4 +1,4 @@
-use Rattle.std.proofs.Common.{ap, sym, ◌∙◌, subst}
+use Rattle.std.proofs.Common.{ap, ◌∙◌}
 use Rattle.bp_core.specs.Device.{due_among}
 use Rattle.bp_core.proofs.Sentences.{due-opening, due-begun}
 use Rattle.bp_core.proofs.laws.due_is_the_last_write_out.Goals as goal
