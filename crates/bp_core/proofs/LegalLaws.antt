@@ -28,7 +28,7 @@ use Rattle.bp_core.proofs.Counting.{none-count}
 use Rattle.bp_core.proofs.Words.{of-all}
 use Rattle.bp_core.proofs.Events.{Event, event-of}
 use Rattle.bp_core.proofs.Events.Event.{fix_write, read_good, read_bad, page_read}
-use Rattle.bp_core.proofs.Serials.{AllBelow, numbered}
+use Rattle.bp_core.proofs.Serials.{AllBelow, OneSerial, has_serial, numbered}
 use Rattle.bp_core.proofs.Places.{OnePage, places, out-of_page}
 use Rattle.bp_core.proofs.Residents.{Distinct, frames}
 use Rattle.bp_core.proofs.Known.{airborne}
@@ -102,6 +102,23 @@ reads-below c past g l k = below (tickets past) (reads_out past) (numbered c pas
 
 pub writes-below : (c : Parameters) (past : Trail) (g : Grant) → Legal c past → Contains (writes_out past) g → g.serial < tickets past
 writes-below c past g l k = below (tickets past) (writes_out past) (numbered c past l).writes_below g k
+
+serial-count : (n : ℕ) (gs : List Grant) → OneSerial gs → count (has_serial n) gs ≤ 1
+serial-count n [] h = omega arith
+serial-count n (g ∷ gs) h = go (g.serial == n) refl (serial-count n gs h.1)
+  where
+    go : (b : Bool) → (g.serial == n) ≡ b → count (has_serial n) gs ≤ 1 → length (cond b (g ∷ filter (has_serial n) gs) (filter (has_serial n) gs)) ≤ 1
+    go true e ih = let k : count (has_serial n) gs ≡ 0 = none-count (has_serial n) gs (subst (λ y. some (has_serial y) gs ≡ false) (eqb-true g.serial n e) h.0) in omega arith
+    go false e ih = ih
+
+pub passes-once : (c : Parameters) (past : Trail) (n : ℕ) → Legal c past → count (has_serial n) (passes_out past) ≤ 1
+passes-once c past n l = serial-count n (passes_out past) (numbered c past l).passes_once
+
+pub reads-once : (c : Parameters) (past : Trail) (n : ℕ) → Legal c past → count (has_serial n) (reads_out past) ≤ 1
+reads-once c past n l = serial-count n (reads_out past) (numbered c past l).reads_once
+
+pub writes-once : (c : Parameters) (past : Trail) (n : ℕ) → Legal c past → count (has_serial n) (writes_out past) ≤ 1
+writes-once c past n l = serial-count n (writes_out past) (numbered c past l).writes_once
 
 -- ---- images
 

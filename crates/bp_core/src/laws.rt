@@ -148,11 +148,15 @@ pub fn one_device_operation_a_page()
     ensures writing_is_unsaved { (c : Parameters) (past : Trail) (p : ℕ) → Legal c past → writing past p ≡ true → unsaved past p ≡ true }
 {}
 
-/// After every legal trail the passes and tickets that are out have serial numbers below the next ones.
+/// After every legal trail the passes and tickets that are out have serial numbers below the next ones, and each number
+/// is out at most once.
 pub fn serials_out_were_given()
     ensures passes { (c : Parameters) (past : Trail) (g : Grant) → Legal c past → Contains (passes_out past) g → g.serial < passes past }
     ensures reads { (c : Parameters) (past : Trail) (g : Grant) → Legal c past → Contains (reads_out past) g → g.serial < tickets past }
     ensures writes { (c : Parameters) (past : Trail) (g : Grant) → Legal c past → Contains (writes_out past) g → g.serial < tickets past }
+    ensures passes_once { (c : Parameters) (past : Trail) (n : ℕ) → Legal c past → count (λ g. g.serial == n) (passes_out past) ≤ 1 }
+    ensures reads_once { (c : Parameters) (past : Trail) (n : ℕ) → Legal c past → count (λ g. g.serial == n) (reads_out past) ≤ 1 }
+    ensures writes_once { (c : Parameters) (past : Trail) (n : ℕ) → Legal c past → count (λ g. g.serial == n) (writes_out past) ≤ 1 }
 {}
 
 /// In every legal trail each read end finds known what the device is due to give; and so would each that may come.
