@@ -20,6 +20,7 @@ pub mod Sentences
 pub mod Wording
 pub mod Pieces
 pub mod Script
+pub mod Fits
 pub mod CoreView
 pub mod Outcomes
 pub mod Frames

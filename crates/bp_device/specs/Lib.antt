@@ -1,0 +1,2 @@
+-- What a port says of itself.
+pub mod Ports

@@ -1,0 +1,14 @@
+-- What a port says of itself.
+use Rattle.std.specs.Prelude.{◌≡◌, ◌⊎◌, ℕ, ◌<◌, ◌^◌, ◌+◌, Result, Ok, Err}
+use Rattle.bp_page.specs.declared.refusals.PortFault.{PortFault}
+use Rattle.bp_page.specs.declared.refusals.PortFault.TheVariants.{Device, Memory}
+
+-- one failure more, where the count still has room for it
+abbrev pub IsCounted : ℕ → ℕ → Type 0
+IsCounted old new = (old < new) ⊎ ((old + 1 ≡ 2 ^ 64) × (new ≡ old))
+
+-- a fault of the device is counted, and nothing else is
+abbrev pub Counts : {A : Type 0} → Result A PortFault → ℕ → ℕ → Type 0
+Counts (Ok done) old new = new ≡ old
+Counts (Err Memory) old new = new ≡ old
+Counts (Err Device) old new = IsCounted old new

@@ -1,0 +1,39 @@
+//! A client's way to the pages of a device.
+
+use bp_page::{Geometry, Image, PageNo, PortFault};
+use std::sync::Wait;
+
+/// A client's way to the pages of a device. What a read finds there, no port promises.
+///
+/// A fault is `Device` only where the port counts a failure in that call (the count stays at 2^64 − 1 once it is there),
+/// and `Memory` only where the image's memory was refused. A page that the device does not have, or an image of another
+/// size than its pages, is a failure of the device.
+pub trait Port: Drop {
+    ghost use Rattle.std.specs.Prelude.{◌≡◌, ℕ, length, IfOk};
+    ghost use Rattle.bp_page.specs.declared.limits.Geometry.{Geometry};
+    ghost use Rattle.bp_device.specs.Ports.{Counts};
+
+    // How many pages the device has, and of what size.
+    ghost geometry_of: { Self → Geometry };
+    // How many failures it has counted.
+    ghost failures_of: { Self → ℕ };
+
+    /// How many pages the device has, and of what size.
+    fn geometry(&self) -> Geometry
+        ensures { result ≡ geometry_of self.now };
+
+    /// How many failures of the device this port has counted.
+    fn failures(&self) -> u64
+        ensures { result ≡ failures_of self.now };
+
+    /// Reads a page. The image has the size of the device's pages.
+    fn read<R: Wait>(&mut self, rt: &R, page: PageNo) -> Result<Image, PortFault>
+        ensures size { IfOk result (λ image. length image ≡ (geometry_of self.old).size) }
+        ensures same { geometry_of self.new ≡ geometry_of self.old }
+        ensures counts { Counts result (failures_of self.old) (failures_of self.new) };
+
+    /// Writes an image of a page.
+    fn write<R: Wait>(&mut self, rt: &R, page: PageNo, image: &Image) -> Result<(), PortFault>
+        ensures same { geometry_of self.new ≡ geometry_of self.old }
+        ensures counts { Counts result (failures_of self.old) (failures_of self.new) };
+}
