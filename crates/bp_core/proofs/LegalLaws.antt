@@ -21,14 +21,15 @@ use Rattle.bp_core.specs.Device.{due}
 use Rattle.bp_core.specs.Victim.{backward_distance, victim}
 use Rattle.bp_core.specs.Sentences.{IsCandidate, IsFirst}
 use Rattle.bp_core.specs.Safety.{EvictsSafely, WritesAreDurable}
-use Rattle.bp_core.specs.Claims.{ReadsAreKnown, FindsDue, AnswersPlain}
+use Rattle.bp_core.specs.Claims.{ReadsAreKnown, FindsDue, AnswersPlain, SendsPlain}
 use Rattle.bp_core.proofs.Elements.{contains-cases, contains-none}
 use Rattle.bp_core.proofs.Lists.{member}
 use Rattle.bp_core.proofs.Counting.{none-count}
 use Rattle.bp_core.proofs.Words.{of-all}
 use Rattle.bp_core.proofs.Events.{Event, event-of}
-use Rattle.bp_core.proofs.Events.Event.{fix_write, read_good, read_bad, page_read}
+use Rattle.bp_core.proofs.Events.Event.{fix_write, flush_write, read_good, read_bad, page_read}
 use Rattle.bp_core.proofs.Serials.{AllBelow, OneSerial, has_serial, numbered}
+use Rattle.bp_core.proofs.Victim.{victim-is, candidate-resident}
 use Rattle.bp_core.proofs.Places.{OnePage, places, out-of_page}
 use Rattle.bp_core.proofs.Residents.{Distinct, frames}
 use Rattle.bp_core.proofs.Known.{airborne}
@@ -145,6 +146,20 @@ answers c past l who _ _ _ m n p image honest i j = cc
 
 pub each-answers : (c : Parameters) (past : Trail) → Legal c past → EachEntry AnswersPlain past
 each-answers c = of-all c AnswersPlain (λ past e l. answers c past l.before e.client e.call e.reply (event-of c past e l.here))
+
+sends : (c : Parameters) (past : Trail) → Legal c past → (who : ℕ) (call : Call) (reply : Reply) → Event c past who call reply → SendsPlain past (entry who call reply)
+sends c past l who _ _ (fix_write q v n w g) m t p image honest i =
+    let k : v ≡ p = cc in
+    let sent : held past v ≡ image = cc in
+    sym sent ∙ held-plain c m past v l honest (candidate-resident c past v (victim-is c past v w).eligible) ∙ ap (plain_map m past) k
+sends c past l who _ _ (flush_write v r w g) m t p image honest i =
+    let k : v ≡ p = cc in
+    let sent : held past v ≡ image = cc in
+    sym sent ∙ held-plain c m past v l honest r ∙ ap (plain_map m past) k
+sends c past l who _ _ _ m t p image honest i = cc
+
+pub each-sends : (c : Parameters) (past : Trail) → Legal c past → EachEntry SendsPlain past
+each-sends c = of-all c SendsPlain (λ past e l. sends c past l.before e.client e.call e.reply (event-of c past e l.here))
 
 -- ---- evictions and write-outs
 

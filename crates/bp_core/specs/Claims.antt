@@ -2,7 +2,7 @@
 use Rattle.std.specs.Prelude.{◌≡◌, ℕ, List, Option, true, IsSome}
 use Rattle.bp_core.specs.declared.entries.Entry.{Entry}
 use Rattle.bp_core.specs.declared.entries.Call.TheVariants.{ReadEnd, Read}
-use Rattle.bp_core.specs.declared.entries.Reply.TheVariants.{Content}
+use Rattle.bp_core.specs.declared.entries.Reply.TheVariants.{WriteFirst, Content}
 use Rattle.bp_core.specs.Event.{grant}
 use Rattle.bp_core.specs.Trail.{Trail}
 use Rattle.bp_core.specs.Passes.{reads_out}
@@ -28,3 +28,7 @@ FindsDue past e = (m : ℕ → List ℕ) (t p : ℕ) (image : Option (List ℕ))
 -- where the device was honest so far, the content that is answered is the plain map's
 abbrev pub AnswersPlain : Trail → Entry → Type 0
 AnswersPlain past e = (m : ℕ → List ℕ) (n p : ℕ) (image : List ℕ) → Honest m past → e.call ≡ Read n p → e.reply ≡ Content image → image ≡ plain_map m past p
+
+-- and so is each image that goes out
+abbrev pub SendsPlain : Trail → Entry → Type 0
+SendsPlain past e = (m : ℕ → List ℕ) (t p : ℕ) (image : List ℕ) → Honest m past → e.reply ≡ WriteFirst t p image → image ≡ plain_map m past p

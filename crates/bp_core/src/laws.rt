@@ -21,7 +21,7 @@ ghost use Rattle.bp_core.specs.Victim.{backward_distance, candidate, victim};
 ghost use Rattle.bp_core.specs.Legal.{is_out, Legal};
 ghost use Rattle.bp_core.specs.Device.{due};
 ghost use Rattle.bp_core.specs.Safety.{EvictsSafely, WritesAreDurable, Safe};
-ghost use Rattle.bp_core.specs.Claims.{HeldIsPlain, ReadsAreKnown, FindsDue, AnswersPlain};
+ghost use Rattle.bp_core.specs.Claims.{HeldIsPlain, ReadsAreKnown, FindsDue, AnswersPlain, SendsPlain};
 ghost use Rattle.bp_core.specs.Wording.{FitsItsCall, SaysSo};
 ghost use Rattle.bp_core.specs.Sentences.{Lasts, AreAfterLast, IsGreatest, evicts, unended, IsUnended, HasUnended, pass_number, gives_pass, begins_operation, IsNext, IsNew, references_since, IsForgotten, IsCandidate, IsFirst, IsUnsaved};
 
@@ -166,10 +166,12 @@ pub fn read_ends_find_what_is_due()
 {}
 
 /// Over a device that gives back what was written, whatever was in it at the opening: after every legal trail a resident
-/// page holds the image of the plain map, and each content that was answered is the plain map's at that place.
+/// page holds the image of the plain map, and each content that was answered and each image that went out is the plain
+/// map's at that place.
 pub fn pages_hold_the_plain_map()
     ensures held { (c : Parameters) (past : Trail) → Legal c past → HeldIsPlain past }
     ensures content { (c : Parameters) (past : Trail) → Legal c past → EachEntry AnswersPlain past }
+    ensures sent { (c : Parameters) (past : Trail) → Legal c past → EachEntry SendsPlain past }
 {}
 
 /// At each eviction of a legal trail the page is the victim, a candidate that comes before every other and that none is
