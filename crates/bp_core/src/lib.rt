@@ -9,6 +9,7 @@ pub mod entries;
 mod frame;
 mod frame_table;
 mod grant_list;
+pub mod laws;
 pub mod passes;
 pub mod pool;
 pub mod scripts;
