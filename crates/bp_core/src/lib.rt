@@ -20,3 +20,6 @@ pub use entries::{Call, Entry, Reply};
 pub use passes::{EndRefusal, Ended, Fix, Flush, Pass, PassNote, ReadTicket, WriteTicket};
 pub use pool::Core;
 pub use scripts::{Refused, Row, Step};
+
+#[cfg(test)]
+mod tests;
