@@ -32,6 +32,7 @@ pub record Told : Type 0 where
   pub k : ℕ
   pub correlated : ℕ
   pub retained : ℕ
+  pub size : ℕ
 
 -- ---- one word
 
@@ -72,7 +73,8 @@ told_by_rows rows = do
   k ← number_at (codes "k") rows
   correlated ← number_at (codes "correlated") rows
   retained ← number_at (codes "retained") rows
-  Some (record { trace = trace_of trace; pages = pages_of pages; frames = frames; k = k; correlated = correlated; retained = retained })
+  size ← number_at (codes "page-size") rows
+  Some (record { trace = trace_of trace; pages = pages_of pages; frames = frames; k = k; correlated = correlated; retained = retained; size = size })
 
 -- what the subcommand that was met is told, where it is `run`
 abbrev pub told_in : Option (Text × List Row) → Option Told
@@ -88,6 +90,8 @@ pub record IsInLimits (told : Told) : Type 0 where
   pub some_frames : 1 ≤ told.frames
   pub few_frames : told.frames ≤ 65536
   pub settings : IsWithinLimits told.k told.correlated told.retained
+  pub some_bytes : 16 ≤ told.size
+  pub few_bytes : told.size ≤ 65536
 
 -- no words at all act as these
 abbrev pub default_words : List Text
@@ -108,4 +112,4 @@ pages_told (page_file.Memory n) = in_memory n
 pages_told (page_file.Path path) = in_file path.now
 
 abbrev pub told_of : RunWords → Told
-told_of w = record { trace = trace_told w.trace; pages = pages_told w.page_file; frames = w.frames; k = w.k; correlated = w.correlated; retained = w.retained }
+told_of w = record { trace = trace_told w.trace; pages = pages_told w.page_file; frames = w.frames; k = w.k; correlated = w.correlated; retained = w.retained; size = w.page_size }

@@ -36,6 +36,7 @@ pub struct RunWords<'a> {
     pub k: usize,
     pub correlated: u64,
     pub retained: u64,
+    pub page_size: usize,
 }
 
 fn trace_source<'a>(word: &'a str) -> TraceSource<'a>
@@ -92,6 +93,7 @@ fn run_words<'a>(matches: &ArgMatches<'a>) -> Option<RunWords<'a>>
     let k = count_at(matches, "k")?;
     let correlated = period_at(matches, "correlated")?;
     let retained = period_at(matches, "retained")?;
+    let page_size = count_at(matches, "page-size")?;
     Some(RunWords {
         trace: trace_source(trace),
         page_file: page_file(page_file_word),
@@ -99,6 +101,7 @@ fn run_words<'a>(matches: &ArgMatches<'a>) -> Option<RunWords<'a>>
         k,
         correlated,
         retained,
+        page_size,
     })
 }
 
@@ -126,12 +129,12 @@ pub fn read_words<'a>(alloc: Global, words: &'a [&'a str]) -> Result<RunWords<'a
 
 /// What some words name, as the definition computes.
 pub fn words_by_example()
-    ensures none { told_by (words_or_default []) ≡ Some (record { trace = from_stdin; pages = in_memory 16; frames = 2; k = 1; correlated = 0; retained = 1000 }) }
+    ensures none { told_by (words_or_default []) ≡ Some (record { trace = from_stdin; pages = in_memory 16; frames = 2; k = 1; correlated = 0; retained = 1000; size = 64 }) }
     ensures defaults { told_by (codes "run" ∷ codes "stdin" ∷ codes "mem:16" ∷ [])
-        ≡ Some (record { trace = from_stdin; pages = in_memory 16; frames = 8; k = 2; correlated = 0; retained = 1000 }) }
-    ensures all { told_by (codes "run" ∷ codes "--k" ∷ codes "16" ∷ codes "--correlated=4611686018427387904" ∷ codes "t.csv" ∷ codes "--retained" ∷ codes "0" ∷ codes "--frames" ∷ codes "65536" ∷ codes "mem:" ∷ [])
-        ≡ Some (record { trace = at_path (codes "t.csv"); pages = in_file (codes "mem:"); frames = 65536; k = 16; correlated = 4611686018427387904; retained = 0 }) }
+        ≡ Some (record { trace = from_stdin; pages = in_memory 16; frames = 8; k = 2; correlated = 0; retained = 1000; size = 64 }) }
+    ensures all { told_by (codes "run" ∷ codes "--k" ∷ codes "16" ∷ codes "--correlated=4611686018427387904" ∷ codes "t.csv" ∷ codes "--retained" ∷ codes "0" ∷ codes "--frames" ∷ codes "65536" ∷ codes "mem:" ∷ codes "--page-size=16" ∷ [])
+        ≡ Some (record { trace = at_path (codes "t.csv"); pages = in_file (codes "mem:"); frames = 65536; k = 16; correlated = 4611686018427387904; retained = 0; size = 16 }) }
     ensures out_of_range { fault_of bpool_app (codes "run" ∷ codes "stdin" ∷ codes "mem:16" ∷ codes "--k" ∷ codes "17" ∷ []) ≡ ErrorKind.ValueValidation ∷ [] }
-    ensures unknown { fault_of bpool_app (codes "run" ∷ codes "stdin" ∷ codes "mem:16" ∷ codes "--page-size" ∷ codes "64" ∷ []) ≡ ErrorKind.UnknownArgument ∷ [] }
+    ensures unknown { fault_of bpool_app (codes "run" ∷ codes "stdin" ∷ codes "mem:16" ∷ codes "--order" ∷ codes "free" ∷ []) ≡ ErrorKind.UnknownArgument ∷ [] }
     ensures help { fault_of bpool_app (codes "run" ∷ codes "--help" ∷ []) ≡ ErrorKind.DisplayHelp ∷ [] }
 {}
