@@ -18,6 +18,7 @@ pub mod Safety
 pub mod Claims
 pub mod Pieces
 pub mod Script
+pub mod Fits
 pub mod CoreView
 pub mod Outcomes
 pub mod Frames
