@@ -15,7 +15,8 @@ use Rattle.bp_trace.specs.declared.record.Op.{Op}
 use Rattle.bp_trace.specs.declared.record.Op.TheVariants as op
 use Rattle.bp_trace.specs.declared.faults.TraceFault.{TraceFault}
 use Rattle.bp_trace.specs.Numbers.{number_in}
-use Rattle.bp_trace.specs.Record.{Texts, six_of, client_of, client_in, op_in, is_log, has_extra, number_wanted, bytes_wanted, or_refuse, refused_if, most_client, page_below, page_in, place_in, write_in, step_in, texts_row, row_in, ◌>>=◌}
+use Rattle.bp_trace.specs.Fields.{Texts, six_of, client_of, client_in, number_wanted, bytes_wanted, or_refuse, refused_if, most_client, page_below, page_in, ◌>>=◌}
+use Rattle.bp_trace.specs.Record.{op_in, is_log, has_extra, place_in, write_in, step_in, texts_row, row_in}
 use Rattle.bp_trace.specs.Script.{fault, most_rows, IsScriptOfSome, at_row, script_from}
 use Rattle.bp_trace.specs.InRange.{SpeaksForLog, IsInRange, AreNumberedFrom}
 

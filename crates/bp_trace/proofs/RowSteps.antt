@@ -8,7 +8,8 @@ use Rattle.bp_page.specs.declared.refusals.Refusal.{Refusal}
 use Rattle.bp_page.specs.declared.refusals.Refusal.TheVariants as refusal
 use Rattle.bp_core.specs.declared.scripts.Row.{Row}
 use Rattle.bp_trace.specs.declared.faults.TraceFault.{TraceFault}
-use Rattle.bp_trace.specs.Record.{◌>>=◌, Refuses, row_in}
+use Rattle.bp_trace.specs.Fields.{◌>>=◌, Refuses}
+use Rattle.bp_trace.specs.Record.{row_in}
 use Rattle.bp_trace.specs.Script.{IsOutside, fault, fault_at, most_rows, script_from}
 
 -- rows, and then the rows after them

@@ -2,7 +2,7 @@
 use Rattle.std.proofs.Common.{◌≡◌, ℕ, ◌<◌, List, [], ◌∷◌, Option, Some, None, true, false, refl, arith, zero, suc}
 use Rattle.std.specs.Prelude.{is_some, option_map}
 use Rattle.csv.specs.Records.{field_at}
-use Rattle.bp_trace.specs.Record.{six_of}
+use Rattle.bp_trace.specs.Fields.{six_of}
 
 pub six_of-whole : (fields : List (List ℕ)) (a b c d e f : List ℕ) → Some a ≡ field_at fields 0 → Some b ≡ field_at fields 1 → Some c ≡ field_at fields 2
     → Some d ≡ field_at fields 3 → Some e ≡ field_at fields 4 → Some f ≡ field_at fields 5 → None ≡ field_at fields 6

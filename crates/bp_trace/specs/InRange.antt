@@ -6,7 +6,7 @@ use Rattle.bp_core.specs.declared.scripts.Step.{Step}
 use Rattle.bp_core.specs.declared.scripts.Step.TheVariants as step
 use Rattle.bp_core.specs.Parameters.{Parameters}
 use Rattle.bp_core.specs.Fits.{RowFits}
-use Rattle.bp_trace.specs.Record.{most_client}
+use Rattle.bp_trace.specs.Fields.{most_client}
 
 -- the log is client 0's alone
 abbrev pub SpeaksForLog : ℕ → Step → Type 0

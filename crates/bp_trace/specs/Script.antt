@@ -10,7 +10,8 @@ use Rattle.bp_page.specs.declared.refusals.Refusal.{Refusal}
 use Rattle.bp_page.specs.declared.refusals.Refusal.TheVariants as refusal
 use Rattle.bp_core.specs.declared.scripts.Row.{Row}
 use Rattle.bp_trace.specs.declared.faults.TraceFault.{TraceFault}
-use Rattle.bp_trace.specs.Record.{◌>>=◌, refused_if, row_in}
+use Rattle.bp_trace.specs.Fields.{◌>>=◌, refused_if}
+use Rattle.bp_trace.specs.Record.{row_in}
 
 -- the most records and the most bytes of a trace
 abbrev pub most_rows : ℕ

@@ -2,6 +2,7 @@
 #![tactic(auto)]
 
 mod faults;
+mod fields;
 mod input;
 mod lines;
 pub mod numbers;

@@ -1,17 +1,14 @@
 //! One record of a trace.
-ghost use Rattle.std.specs.Prelude.{◌≡◌, option_map};
+ghost use Rattle.std.specs.Prelude.{◌≡◌};
 ghost use Rattle.csv.specs.Records.{fields_of};
-ghost use Rattle.bp_trace.specs.Record.{Gives, bytes_wanted, client_in, has_extra, is_log, number_wanted, op_in, page_in, place_in, row_in, six_of, step_in, texts_of, texts_row, write_in};
+ghost use Rattle.bp_trace.specs.Fields.{Gives, texts_of};
+ghost use Rattle.bp_trace.specs.Record.{has_extra, is_log, op_in, place_in, row_in, step_in, texts_row, write_in};
 
-use crate::numbers::parse_number;
+use crate::fields::{Fields, parse_client, six_fields, wanted_bytes, wanted_number, wanted_page};
 use bp_core::{Row, Step};
-use bp_page::{Bytes, Geometry, Lsn, PageNo, Refusal};
+use bp_page::{Bytes, Geometry, Lsn, Refusal};
 use csv::ByteRecord;
-use hex::FromHexError;
 use std::alloc::Global;
-
-/// The greatest number of a client.
-const MAX_CLIENT: u64 = 63;
 
 /// What a record asks for, by its word.
 #[derive(Clone, Copy)]
@@ -24,44 +21,6 @@ enum Op {
     Tick,
     Log,
     Purge,
-}
-
-/// The six fields of a record.
-#[derive(Clone, Copy)]
-struct Fields<'a> {
-    client: &'a [u8],
-    op: &'a [u8],
-    number: &'a [u8],
-    offset: &'a [u8],
-    bytes: &'a [u8],
-    lsn: &'a [u8],
-}
-
-/// The six fields of a record, if it has six.
-fn six_fields(raw: &ByteRecord) -> Option<Fields<'_>>
-    ensures { option_map texts_of result ≡ six_of (fields_of raw.now) }
-{
-    if raw.get(6).is_some() {
-        return None;
-    }
-    Some(Fields {
-        client: raw.get(0)?,
-        op: raw.get(1)?,
-        number: raw.get(2)?,
-        offset: raw.get(3)?,
-        bytes: raw.get(4)?,
-        lsn: raw.get(5)?,
-    })
-}
-
-/// The number of a client. Anything else is `BadClient`.
-fn parse_client(text: &[u8]) -> Result<u8, Refusal>
-    ensures { result ≡ client_in text.now }
-{
-    match parse_number(text) {
-        Some(client) if client <= MAX_CLIENT => Ok(client as u8),
-        _ => Err(Refusal::BadClient),
-    }
 }
 
 /// The op of a word in lower case. Any other word is `BadOp`.
@@ -110,37 +69,6 @@ fn has_extra(op: Op, fields: &Fields<'_>) -> bool
                 && fields.lsn.is_empty())
         }
         _ => !(fields.offset.is_empty() && fields.bytes.is_empty() && fields.lsn.is_empty()),
-    }
-}
-
-/// A number that the op needs. Anything else is `BadNumber`.
-fn wanted_number(text: &[u8]) -> Result<u64, Refusal>
-    ensures { result ≡ number_wanted text.now }
-{
-    parse_number(text).ok_or(Refusal::BadNumber)
-}
-
-/// A page that the op needs. One that the file does not have is `OutOfPage`.
-#[tactic(auto, unfolding(crate::specs::Record::page_in))]
-fn wanted_page(geometry: &Geometry, text: &[u8]) -> Result<PageNo, Refusal>
-    ensures { result ≡ page_in geometry.now text.now }
-{
-    let number = wanted_number(text)?;
-    geometry.page(number).ok_or(Refusal::OutOfPage)
-}
-
-/// Bytes as pairs of hex digits of either case. Anything else is `BadHex`, and a refused growth `OutOfMemory`.
-fn wanted_bytes(alloc: Global, text: &[u8]) -> Result<Bytes, Refusal>
-    ensures { Gives result (bytes_wanted text.now) }
-{
-    let decoded = match hex::decode(alloc, text) {
-        Ok(decoded) => decoded,
-        Err(FromHexError::OutOfMemory) => return Err(Refusal::OutOfMemory),
-        Err(_) => return Err(Refusal::BadHex),
-    };
-    match Bytes::of(alloc, decoded.as_slice()) {
-        Ok(bytes) => Ok(bytes),
-        Err(_) => Err(Refusal::OutOfMemory),
     }
 }
 

@@ -1,7 +1,7 @@
 use Rattle.std.proofs.Common.{arith, sym, ◌∙◌, List, ℕ, Bor}
 use Rattle.csv.specs.Records.{fields_of}
 use Rattle.bp_trace.proofs.SixFields.{no_seventh, seventh, six_of-short, six_of-whole}
-use Rattle.bp_trace.proofs.record.six_fields.Goals as goal
+use Rattle.bp_trace.proofs.fields.six_fields.Goals as goal
 
 pub returns-then-is_some : goal.returns-then-is_some
 returns-then-is_some c = seventh (λ (s : Bor (List ℕ)). s.now) c.get.result (fields_of c.args.raw.now) (sym c.is_some.ensures ∙ c.if-is_some.true) c.get.ensures.value
