@@ -1,0 +1,7 @@
+pub mod CsvRecords
+pub mod Digits
+pub mod Entries
+pub mod Fitting
+pub mod RowSteps
+pub mod SixFields
+pub mod Written
