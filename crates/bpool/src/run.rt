@@ -1,13 +1,14 @@
 //! A run: the rows of a trace over a new core and a page file, and the report of what it did.
-ghost use Rattle.std.specs.Prelude.{◌≡◌, ◌++◌, ◌<◌, ◌≤◌, All, IfErr, IfOk, OnOk, false, if◌then◌else◌, length};
+ghost use Rattle.std.specs.Prelude.{◌≡◌, ◌++◌, ◌<◌, ◌≤◌, All, IfErr, IfOk, OnOk, [], false, if◌then◌else◌, length};
 ghost use Rattle.std.specs.Io.KnownBytes.{Appends};
 ghost use Rattle.clap.specs.Walk.{texts};
 ghost use Rattle.bp_core.specs.Fits.{RowFits};
 ghost use Rattle.bp_trace.specs.InRange.{IsInRange};
 ghost use Rattle.bp_trace.specs.Report.{report_text, rows_text};
 ghost use Rattle.bpool.specs.Decision.{AsksForHelp, IsRunnable};
-ghost use Rattle.bpool.specs.Ending.{is_help};
-ghost use Rattle.bpool.specs.Words.{told_of, trace_told, words_or_default};
+ghost use Rattle.bpool.specs.Ending.{ending_of, is_help};
+ghost use Rattle.bpool.specs.PageFile.{HasPages, memory_named};
+ghost use Rattle.bpool.specs.Words.{from_stdin, told_of, trace_told, words_or_default};
 ghost use Rattle.bpool.specs.Run.{AreRead, Reports, Runs, RunsWords, parameters_for, room_for};
 
 use crate::decision::decide;
@@ -29,7 +30,7 @@ use std::sync::Wait;
 const MAX_ROOM: usize = 16_777_216;
 
 /// The clients that a trace may name.
-const CLIENTS: usize = 64;
+const CLIENTS: u8 = 64;
 
 /// The room of a trail for so many rows.
 fn room_for(rows: usize) -> usize
