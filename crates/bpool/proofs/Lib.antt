@@ -7,3 +7,4 @@ pub mod Messages
 pub mod OneLine
 pub mod Reading
 pub mod Refusals
+pub mod Walking

@@ -5,4 +5,5 @@ pub mod Line
 pub mod Ending
 pub mod Decision
 pub mod PageFile
+pub mod AnyPort
 pub mod Run

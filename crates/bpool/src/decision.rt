@@ -24,8 +24,8 @@ fn default_words<'a>() -> &'a [&'a str]
 /// The words again, if a page may have as many bytes as they say. It is looked at before any page file is opened.
 fn check_size(run: RunWords<'_>) -> Result<RunWords<'_>, Ending>
     requires { IsInLimits (told_of run) }
-    ensures accepted { IfOk result (λ same. (told_of same ≡ told_of run) × IsRunnable (told_of same)) }
-    ensures refused { IfErr result (λ e. (e ≡ Ending.PageFileRefused Refusal.BadGeometry) × ((told_of run).size % 16 ≢ 0)) }
+    ensures accepted { IfOk result (λ same. (told_of same ≡ told_of run.entry) × IsRunnable (told_of same)) }
+    ensures refused { IfErr result (λ e. (e ≡ Ending.PageFileRefused Refusal.BadGeometry) × ((told_of run.entry).size % 16 ≢ 0)) }
 {
     match Geometry::new(1, run.page_size) {
         Ok(_) => Ok(run),

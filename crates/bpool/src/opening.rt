@@ -1,13 +1,11 @@
 //! The page files of runs.
-ghost use Rattle.std.specs.Prelude.{◌≡◌};
-
 use bp_device::{OpenFault, Port};
 
 /// Opens the page files that words name: `mem:N` is N pages of zero bytes in memory, any other word is a path.
 pub trait Ports<R> {
     type P: Port;
 
-    ghost use Rattle.std.specs.Prelude.{◌≡◌, IfOk, vec_len};
+    ghost use Rattle.std.specs.Prelude.{◌≡◌, IfOk, map, vec_len};
     ghost use Rattle.bp_page.specs.Limits.{IsGeometry};
     ghost use Rattle.bpool.specs.PageFile.{AreOpened};
 

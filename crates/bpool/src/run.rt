@@ -107,7 +107,7 @@ fn rows_of<I: Read, R: Files>(
     reader: &mut I,
     geometry: &Geometry,
 ) -> Result<Vec<Row>, Ending>
-    ensures read { IfOk result (λ rows. AreRead (trace_told trace) geometry.now (I.remaining reader.old) rows.items) }
+    ensures read { IfOk result (λ rows. AreRead (trace_told trace.entry) geometry.now (I.remaining reader.old) rows.items) }
     ensures fits { IfOk result (λ rows. All (IsInRange geometry.now) rows.items) }
     ensures fault { IfErr result (λ ending. is_help ending ≡ false) }
 {
