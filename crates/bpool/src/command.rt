@@ -10,7 +10,8 @@ use clap::{Arg, Command, value_parser};
 use std::alloc::{AllocError, Global};
 
 /// What the statuses of a run mean.
-const STATUSES: &str = "Status 0: all rows were accepted. Status 1: some row was refused; the report says which, and why. \
+const STATUSES: &str =
+    "Status 0: all rows were accepted. Status 1: some row was refused; the report says which, and why. \
 Status 2: there is no report; one line on standard error says why.";
 
 /// How many frames a pool may have.

@@ -51,13 +51,25 @@ fn print_run<W: Write>(entries: &[Entry], refused: &[Refused], out: &mut W) -> R
 }
 
 /// A core over such pages, for so many rows.
-fn new_core(alloc: Global, run: &RunWords<'_>, geometry: Geometry, rows: usize) -> Result<Core, Ending>
+fn new_core(
+    alloc: Global,
+    run: &RunWords<'_>,
+    geometry: Geometry,
+    rows: usize,
+) -> Result<Core, Ending>
     requires runnable { IsRunnable (told_of run.now) }
     ensures made { IfOk result (λ core. (core.parameters ≡ parameters_for (told_of run.now) geometry rows) × (core.past ≡ [])) }
     ensures fault { IfErr result (λ ending. is_help ending ≡ false) }
 {
     let settings = Settings::new(run.k, run.correlated, run.retained).unwrap();
-    let core = Core::new(alloc, geometry, settings, run.frames, CLIENTS, room_for(rows));
+    let core = Core::new(
+        alloc,
+        geometry,
+        settings,
+        run.frames,
+        CLIENTS,
+        room_for(rows),
+    );
     core.map_err(Ending::RunRefused)
 }
 
@@ -91,7 +103,11 @@ fn run_rows<P: Port, R: Wait, W: Write>(
 }
 
 /// The rows of a trace over pages of this geometry.
-fn rows_from<I: Read>(alloc: Global, reader: &mut I, geometry: &Geometry) -> Result<Vec<Row>, Ending>
+fn rows_from<I: Read>(
+    alloc: Global,
+    reader: &mut I,
+    geometry: &Geometry,
+) -> Result<Vec<Row>, Ending>
     ensures read { IfOk result (λ rows. AreRead from_stdin geometry.now (I.remaining reader.old) rows.items) }
     ensures fits { IfOk result (λ rows. All (IsInRange geometry.now) rows.items) }
     ensures fault { IfErr result (λ ending. is_help ending ≡ false) }

@@ -29,7 +29,11 @@ fn words_that_are_run(rt: HostRuntime) -> Result<(), Fail> {
     // the page file; frames, K, the correlated and the retained period, and the page size
     let rows = [
         ("", "mem:16", [2, 1, 0, 1000, 64]),
-        ("run stdin mem:16 --frames 2 --k 1", "mem:16", [2, 1, 0, 1000, 64]),
+        (
+            "run stdin mem:16 --frames 2 --k 1",
+            "mem:16",
+            [2, 1, 0, 1000, 64],
+        ),
         ("run stdin mem:16", "mem:16", [8, 2, 0, 1000, 64]),
         (
             "run stdin mem:0 --frames=1 --k=16 --correlated=4611686018427387904 --retained=0 --page-size=16",

@@ -1,12 +1,12 @@
 use super::run_with;
 use crate::page_files::PageFiles;
 use std::alloc::Global;
-use std::fs;
-use std::io;
 use std::io::{Read, Write};
 use std::process::Abort;
-use std::rt::HostRuntime;
+use std::rt::{Files, Runtime};
+use std::sync::Wait;
 use std::test::*;
+use std::{fs, io};
 
 /// What a run of the program leaves.
 struct Ran {
@@ -15,7 +15,11 @@ struct Ran {
     err: Vec<u8>,
 }
 
-fn run(rt: &HostRuntime, line: &str, trace: &[u8]) -> Result<Ran, Fail> {
+fn run(
+    rt: &(impl Runtime<A = Global> + Files<File = File> + Wait),
+    line: &str,
+    trace: &[u8],
+) -> Result<Ran, Fail> {
     let alloc = rt.alloc();
     let words: Vec<&str> = line.split_ascii_whitespace().collect(alloc)?;
     let mut reader = trace;
@@ -36,7 +40,7 @@ fn run(rt: &HostRuntime, line: &str, trace: &[u8]) -> Result<Ran, Fail> {
 
 /// Asserts the status, the report and what is said of faults.
 fn expect_run(
-    rt: &HostRuntime,
+    rt: &(impl Runtime<A = Global> + Files<File = File> + Wait + Abort),
     line: &str,
     trace: &[u8],
     status: u8,
@@ -191,7 +195,14 @@ fn empty_and_malformed_traces(rt: HostRuntime) -> Result<(), Fail> {
 #[test]
 fn log_row_of_another_client(rt: HostRuntime) -> Result<(), Fail> {
     let said = "trace row 1 refused 41\n";
-    expect_run(&rt, "run stdin mem:16", b"1,log,5,,,\n".as_slice(), 2, "", said)
+    expect_run(
+        &rt,
+        "run stdin mem:16",
+        b"1,log,5,,,\n".as_slice(),
+        2,
+        "",
+        said,
+    )
 }
 
 #[test]
@@ -199,7 +210,8 @@ fn trace_refusals(rt: HostRuntime) -> Result<(), Fail> {
     let one_fault = "hits 0\nfaults 1\nevictions 0\nwrites 0\nfailed 0\nrefused 0\n";
     let clock_full =
         "hits 0\nfaults 0\nevictions 0\nwrites 0\nfailed 0\nrefused 0\nrow 1 refused 21\n";
-    let no_pass = "hits 0\nfaults 0\nevictions 0\nwrites 0\nfailed 0\nrefused 0\nrow 1 refused 14\n";
+    let no_pass =
+        "hits 0\nfaults 0\nevictions 0\nwrites 0\nfailed 0\nrefused 0\nrow 1 refused 14\n";
     let rows: [(&[u8], u8, &str, &str); 11] = [
         (b"0,fix,+1,,,\n", 2, "", "trace row 1 refused 43\n"),
         (b"0,write,1,15,ffff,0\n", 2, "", "trace row 1 refused 45\n"),
@@ -219,7 +231,14 @@ fn trace_refusals(rt: HostRuntime) -> Result<(), Fail> {
         (b"0,write,1,16,,9\n", 1, no_pass, ""),
     ];
     for (trace, status, out, err) in rows {
-        expect_run(&rt, "run stdin mem:16 --page-size 16", trace, status, out, err)?;
+        expect_run(
+            &rt,
+            "run stdin mem:16 --page-size 16",
+            trace,
+            status,
+            out,
+            err,
+        )?;
     }
     Ok(())
 }
@@ -238,17 +257,29 @@ fn words_that_open_nothing(rt: HostRuntime) -> Result<(), Fail> {
         ("run no/such/trace.csv mem:16", "trace not opened\n"),
         ("run STDIN mem:16", "trace not opened\n"),
         ("run stdin no/such/pages", "page file not opened\n"),
-        ("run no/such/trace.csv no/such/pages", "page file not opened\n"),
+        (
+            "run no/such/trace.csv no/such/pages",
+            "page file not opened\n",
+        ),
         ("run stdin mem:0", "page file refused 1\n"),
         ("run stdin mem:1048577", "page file refused 1\n"),
         ("run stdin mem:4611686018427387904", "page file refused 1\n"),
-        ("run stdin mem:4611686018427387905", "page file not opened\n"),
-        ("run stdin mem:00000000000000000016", "page file not opened\n"),
+        (
+            "run stdin mem:4611686018427387905",
+            "page file not opened\n",
+        ),
+        (
+            "run stdin mem:00000000000000000016",
+            "page file not opened\n",
+        ),
         ("run stdin mem:+1", "page file not opened\n"),
         ("run stdin mem:", "page file not opened\n"),
         ("run stdin MEM:1", "page file not opened\n"),
         ("run stdin mem:16 --page-size 17", "page file refused 1\n"),
-        ("run stdin no/such/pages --page-size 72", "page file refused 1\n"),
+        (
+            "run stdin no/such/pages --page-size 72",
+            "page file refused 1\n",
+        ),
     ];
     for (line, said) in rows {
         expect_run(&rt, line, b"0,fix,1,,,\n".as_slice(), 2, "", said)?;
@@ -263,7 +294,14 @@ fn page_file_of_wrong_length(rt: HostRuntime) -> Result<(), Fail> {
     fs::write(&rt, "bpool_length_0.pages", b"".as_slice())?;
     for path in ["bpool_length_40.pages", "bpool_length_0.pages"] {
         let line = format!(in rt.alloc(); "run stdin {path} --page-size 16")?;
-        expect_run(&rt, line.as_str(), b"".as_slice(), 2, "", "page file refused 3\n")?;
+        expect_run(
+            &rt,
+            line.as_str(),
+            b"".as_slice(),
+            2,
+            "",
+            "page file refused 3\n",
+        )?;
         fs::remove_file(&rt, path)?;
     }
     Ok(())
@@ -299,7 +337,14 @@ fn trace_from_a_file(rt: HostRuntime) -> Result<(), Fail> {
     let report = "evict 4 2\nhits 1\nfaults 3\nevictions 1\nwrites 0\nfailed 0\nrefused 0\n";
     // Standard input is not read then.
     let other = b"0,fi".as_slice();
-    expect_run(&rt, "run bpool_trace.csv mem:16 --frames 2", other, 0, report, "")?;
+    expect_run(
+        &rt,
+        "run bpool_trace.csv mem:16 --frames 2",
+        other,
+        0,
+        report,
+        "",
+    )?;
     fs::remove_file(&rt, path)?;
     Ok(())
 }
