@@ -18,8 +18,8 @@ use Rattle.bp_trace.specs.Numbers.{digits_in, number_in}
 use Rattle.bp_trace.specs.Fields.{most_client, number_wanted, bytes_wanted, page_in, six_of}
 use Rattle.bp_trace.specs.Record.{op_in, row_in, step_in, texts_row, write_in}
 use Rattle.bp_trace.specs.Script.{most_rows, script_from}
-use Rattle.bp_trace.specs.InRange.{AreNumberedFrom, IsInRange, SpeaksForLog}
-use Rattle.bp_trace.specs.Written.{CanBeSaid, written_row, written_step}
+use Rattle.bp_trace.specs.InRange.{AreNumberedFrom, CanBeSaid, IsInRange, SpeaksForLog}
+use Rattle.bp_trace.specs.Written.{written_row, written_step}
 use Rattle.bp_trace.proofs.Digits.{numerals}
 
 pub number_in-decimal : (n : ℕ) → n ≤ 2 ^ 62 → number_in (decimal n) ≡ Some n
@@ -44,7 +44,7 @@ page_in-decimal g page h = rw (number_in-decimal page (page-said g page h), lt-l
 
 write_in-written : (g : Geometry) (client page offset : ℕ) (bytes : List ℕ) (lsn : ℕ) → page < g.pages → offset + length bytes ≤ g.size → IsBytes bytes → lsn ≤ 2 ^ 62
     → write_in g (record { client = decimal client; op = codes "write"; number = decimal page; offset = decimal offset; bytes = encode_lower bytes; lsn = decimal lsn })
-      ≡ Ok (step.Write page offset bytes lsn)
+    ≡ Ok (step.Write page offset bytes lsn)
 unfolding write_in
 write_in-written g client page offset bytes lsn in_file in_page are_bytes said =
     rw (
@@ -77,18 +77,18 @@ module _ (g : Geometry) (c : Parameters) (pages : c.pages ≡ g.pages) (size : c
   step-reads_back step.Purge own fits number = rw (said, small) refl
 
 -- a row that is in range reads back from the fields that it is written in
-pub row-reads_back : (g : Geometry) (row : Row) → IsInRange g row → CanBeSaid row.step → row_in g row.row (written_row row) ≡ Ok row
-row-reads_back g row h number =
+pub row-reads_back : (g : Geometry) (row : Row) → IsInRange g row → row_in g row.row (written_row row) ≡ Ok row
+row-reads_back g row h =
     let c : Parameters = record { frames = 0; k = 0; correlated = 0; retained = 0; pages = g.pages; size = g.size; clients = row.client + 1; room = 0 } in
     let fits = h.fits c refl refl (omega arith) in
-    step-reads_back g c refl refl row.row row.client h.client row.step h.log fits.step_fits number
+    step-reads_back g c refl refl row.row row.client h.client row.step h.log fits.step_fits h.said
 
-pub rows-read_back : (g : Geometry) (n : ℕ) (rows : List Row) → n + length rows ≤ most_rows + 1 → AreNumberedFrom n rows → All (IsInRange g) rows → All (λ row. CanBeSaid row.step) rows
+pub rows-read_back : (g : Geometry) (n : ℕ) (rows : List Row) → n + length rows ≤ most_rows + 1 → AreNumberedFrom n rows → All (IsInRange g) rows
     → script_from g n (map written_row rows) ≡ Ok rows
 unfolding script_from
-rows-read_back g n [] few numbered in_range numbers = refl
-rows-read_back g n (row ∷ rest) few numbered in_range numbers =
+rows-read_back g n [] few numbered in_range = refl
+rows-read_back g n (row ∷ rest) few numbered in_range =
     let within : nat_lt most_rows n ≡ false = le-ltb most_rows n (omega arith) in
-    let first = subst (λ k. row_in g k (written_row row) ≡ Ok row) numbered.0 (row-reads_back g row (All-head (IsInRange g) row rest in_range) (All-head (λ row. CanBeSaid row.step) row rest numbers)) in
-    let later = rows-read_back g (n + 1) rest (omega arith) numbered.1 (All-tail (IsInRange g) row rest in_range) (All-tail (λ row. CanBeSaid row.step) row rest numbers) in
+    let first = subst (λ k. row_in g k (written_row row) ≡ Ok row) numbered.0 (row-reads_back g row (All-head (IsInRange g) row rest in_range)) in
+    let later = rows-read_back g (n + 1) rest (omega arith) numbered.1 (All-tail (IsInRange g) row rest in_range) in
     rw (within, first, later) refl

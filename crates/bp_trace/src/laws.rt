@@ -1,9 +1,10 @@
 //! Laws of the format, which hold of every row and every number.
 ghost use Rattle.std.specs.Prelude.{◌≡◌, ◌≤◌, ◌^◌, Some, Ok, map};
 ghost use Rattle.std.specs.Fmt.{decimal};
+ghost use Rattle.bp_trace.specs.InRange.{IsScript};
 ghost use Rattle.bp_trace.specs.Numbers.{number_in};
 ghost use Rattle.bp_trace.specs.Script.{script_from};
-ghost use Rattle.bp_trace.specs.Written.{CanBeWritten, written_row};
+ghost use Rattle.bp_trace.specs.Written.{written_row};
 
 use bp_core::Row;
 use bp_page::Geometry;
@@ -16,6 +17,6 @@ pub fn printed_number_reads_back(number: u64)
 
 /// Rows that a trace can say read back as themselves from the records that they are written as.
 pub fn written_rows_read_back(geometry: &Geometry, rows: &[Row])
-    requires { CanBeWritten geometry.now rows.now }
+    requires { IsScript geometry.now rows.now }
     ensures { script_from geometry.now 1 (map written_row rows.now) ≡ Ok rows.now }
 {}

@@ -345,7 +345,11 @@ fn writes(rt: HostRuntime) -> Result<(), Fail> {
     let alloc = rt.alloc();
     let sixteen = [0xab; 16];
     let hex = [row(1, 0, write(alloc, 1, 0, b"\x01\x23\xab\xcd\xef", 0)?)];
-    let last = [row(1, 0, write(alloc, 15, 15, b"\xff", 4_611_686_018_427_387_904)?)];
+    let last = [row(
+        1,
+        0,
+        write(alloc, 15, 15, b"\xff", 4_611_686_018_427_387_904)?,
+    )];
     let none = [row(1, 0, write(alloc, 1, 16, b"", 9)?)];
     let whole = [row(1, 0, write(alloc, 0, 0, &sixteen, 7)?)];
     let table: [(&[u8], &[Row]); 6] = [

@@ -6,4 +6,4 @@ pub returns : goal.returns
 returns c =
     let can = c.requires in
     let few = can.few in
-    rows-read_back c.args.geometry.now 1 c.args.rows.now (omega arith) can.numbered can.in_range can.said
+    rows-read_back c.args.geometry.now 1 c.args.rows.now (omega arith) can.numbered can.in_range
