@@ -14,12 +14,20 @@ some-records : (g : Geometry) (found : List (List (List _))) (r : Result (Vec Ro
 some-records g found (Ok rows) said = record { found = found; read = said }
 some-records g found (Err e) said = tt
 
-some-are : (g : Geometry) (r : Result (Vec Row Global) TraceFault) → IfOk r (λ rows. IsScriptOfSome g rows.items) → IfOk r (λ rows. IsScript g rows.items)
-some-are g (Ok rows) some = some-script g rows.items some
-some-are g (Err e) some = tt
+-- what holds of such rows
+some-are : (g : Geometry) (P : List Row → Type 0) → ((rows : List Row) → IsScript g rows → P rows) → (r : Result (Vec Row Global) TraceFault)
+    → IfOk r (λ rows. IsScriptOfSome g rows.items) → IfOk r (λ rows. P rows.items)
+some-are g P holds (Ok rows) some = holds rows.items (some-script g rows.items some)
+some-are g P holds (Err e) some = tt
 
 pub returns-clause-some : goal.returns-clause-some
 returns-clause-some g c = some-records c.args.geometry.now (records default_config (strip_bom c.as_slice.result.now)) c.rows_of.result c.rows_of.ensures
 
-pub returns-clause-rows : goal.returns-clause-rows
-returns-clause-rows g c = some-are c.args.geometry.now c.rows_of.result (returns-clause-some g c)
+pub returns-clause-few : goal.returns-clause-few
+returns-clause-few g c = some-are c.args.geometry.now _ (λ rows are. are.few) c.rows_of.result (returns-clause-some g c)
+
+pub returns-clause-numbered : goal.returns-clause-numbered
+returns-clause-numbered g c = some-are c.args.geometry.now _ (λ rows are. are.numbered) c.rows_of.result (returns-clause-some g c)
+
+pub returns-clause-in_range : goal.returns-clause-in_range
+returns-clause-in_range g c = some-are c.args.geometry.now _ (λ rows are. are.in_range) c.rows_of.result (returns-clause-some g c)
