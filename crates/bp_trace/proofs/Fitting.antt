@@ -1,5 +1,5 @@
 -- The rows of records are those that a trace can say.
-use Rattle.std.proofs.Common.{◌≡◌, refl, sym, ◌∙◌, ap, subst, ℕ, ◌+◌, ◌<◌, ◌≤◌, ◌==◌, ◌&&◌, not, nat_lt, nat_le, arith, cond, List, [], ◌∷◌, true, false, Bool, Option, Some, None, Result, Ok, Err, length}
+use Rattle.std.proofs.Common.{◌≡◌, refl, sym, ap, subst, ℕ, ◌+◌, ◌<◌, ◌≤◌, ◌==◌, ◌&&◌, not, nat_lt, nat_le, arith, cond, List, [], ◌∷◌, true, false, Bool, Option, Some, None, Result, Ok, Err, length}
 use Rattle.std.specs.Prelude.{All, ◌^◌}
 use Rattle.std.proofs.lemmas.Bool.{ltb-true, ltb-false, leb-true, eqb-true}
 use Rattle.std.proofs.lemmas.List.Elements.{All-cons}
@@ -10,7 +10,7 @@ use Rattle.bp_core.specs.declared.scripts.Row.{Row}
 use Rattle.bp_core.specs.declared.scripts.Step.{Step}
 use Rattle.bp_core.specs.declared.scripts.Step.TheVariants as step
 use Rattle.bp_core.specs.Parameters.{Parameters}
-use Rattle.bp_core.specs.Fits.{StepFits, RowFits}
+use Rattle.bp_core.specs.Fits.{StepFits}
 use Rattle.bp_trace.specs.declared.record.Op.{Op}
 use Rattle.bp_trace.specs.declared.record.Op.TheVariants as op
 use Rattle.bp_trace.specs.declared.faults.TraceFault.{TraceFault}
@@ -20,7 +20,7 @@ use Rattle.hex.proofs.HexLemmas.{decode_of-ok}
 use Rattle.bp_trace.specs.Numbers.{at_most, digits_in, number_in}
 use Rattle.bp_trace.specs.Fields.{Texts, six_of, client_of, client_in, number_wanted, bytes_of, bytes_of, bytes_wanted, or_refuse, refused_if, most_client, page_below, page_in, ◌>>=◌}
 use Rattle.bp_trace.specs.Record.{op_in, is_log, has_extra, place_in, write_in, step_in, texts_row, row_in}
-use Rattle.bp_trace.specs.Script.{fault, most_rows, IsScriptOfSome, at_row, script_from}
+use Rattle.bp_trace.specs.Script.{most_rows, IsScriptOfSome, at_row, script_from}
 use Rattle.bp_trace.specs.InRange.{SpeaksForLog, CanBeSaid, IsInRange, AreNumberedFrom, IsScript}
 
 -- where a step and what follows it answer Ok, so did the step

@@ -1,5 +1,5 @@
 -- A row that is written reads back.
-use Rattle.std.proofs.Common.{◌≡◌, ◌∙◌, refl, subst, ℕ, ◌+◌, ◌<◌, ◌≤◌, ◌^◌, ◌==◌, ◌&&◌, nat_lt, nat_le, arith, List, [], ◌∷◌, true, false, Bool, Some, Ok, length, map}
+use Rattle.std.proofs.Common.{◌≡◌, refl, subst, ℕ, ◌+◌, ◌<◌, ◌≤◌, ◌^◌, nat_lt, nat_le, arith, List, [], ◌∷◌, true, false, Some, Ok, length, map}
 use Rattle.std.specs.Prelude.{All, codes}
 use Rattle.std.specs.Fmt.{decimal}
 use Rattle.std.proofs.lemmas.Bool.{eq-eqb, le-leb, le-ltb, lt-ltb}
@@ -13,9 +13,8 @@ use Rattle.bp_core.specs.declared.scripts.Step.{Step}
 use Rattle.bp_core.specs.declared.scripts.Step.TheVariants as step
 use Rattle.bp_core.specs.Parameters.{Parameters}
 use Rattle.bp_core.specs.Fits.{StepFits}
-use Rattle.bp_trace.specs.declared.record.Op.TheVariants as op
 use Rattle.bp_trace.specs.Numbers.{digits_in, number_in}
-use Rattle.bp_trace.specs.Fields.{most_client, number_wanted, bytes_wanted, page_in, six_of}
+use Rattle.bp_trace.specs.Fields.{most_client, page_in, six_of}
 use Rattle.bp_trace.specs.Record.{op_in, row_in, step_in, texts_row, write_in}
 use Rattle.bp_trace.specs.Script.{most_rows, script_from}
 use Rattle.bp_trace.specs.InRange.{AreNumberedFrom, CanBeSaid, IsInRange, SpeaksForLog}

@@ -1,5 +1,5 @@
 -- The rows are those of the records that csv reads.
-use Rattle.std.proofs.Common.{◌≡◌, List, Result, Ok, Err, IfOk, Vec}
+use Rattle.std.proofs.Common.{List, Result, Ok, Err, IfOk, Vec}
 use Rattle.std.specs.declared.alloc.Global.{Global}
 use Rattle.csv.specs.Reading.{default_config, records, strip_bom}
 use Rattle.bp_page.specs.declared.limits.Geometry.{Geometry}
