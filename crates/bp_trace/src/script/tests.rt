@@ -430,6 +430,22 @@ fn interrupted_readers(rt: HostRuntime) {
     assert_eq!(rt; got, Err(TraceFault { row: 0, number: 47 }));
 }
 
+// Whichever allocation is refused, if one is: the rows are all there, or memory was wanted.
+#[test]
+fn refused_growths(rt: HostRuntime) {
+    let trace = b"1,write,3,4,00ff,9\n0,log,9,,,\n1,read,3,,,\n";
+    match read_script(rt.alloc(), &mut trace.as_slice(), &sixteen_pages(&rt)) {
+        Ok(rows) => {
+            assert_eq!(rt; rows.len(), 3);
+            assert!(rt;
+                matches!(&rows[0].step, Step::Write { bytes, .. } if bytes.bytes() == [0x00, 0xff].as_slice())
+            );
+            assert_eq!(rt; rows[2], row(3, 1, Step::Read(page(3))));
+        }
+        Err(fault) => assert_eq!(rt; fault, TraceFault { row: 0, number: 22 }),
+    }
+}
+
 #[test]
 fn too_many_rows(rt: HostRuntime) -> Result<(), Fail> {
     let geometry = sixteen_pages(&rt);
