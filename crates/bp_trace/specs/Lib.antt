@@ -5,6 +5,7 @@ pub mod Record
 pub mod Script
 pub mod Input
 pub mod InRange
+pub mod Written
 pub mod Lines
 pub mod Totals
 pub mod Report

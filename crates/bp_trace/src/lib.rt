@@ -4,6 +4,7 @@
 mod faults;
 mod fields;
 mod input;
+pub mod laws;
 mod lines;
 pub mod numbers;
 mod printing;

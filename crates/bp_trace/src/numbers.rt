@@ -1,6 +1,5 @@
 //! The numbers of a trace.
-ghost use Rattle.std.specs.Prelude.{◌≡◌, ◌≤◌, ◌^◌, Some, length};
-ghost use Rattle.std.specs.Fmt.{decimal};
+ghost use Rattle.std.specs.Prelude.{◌≡◌, ◌≤◌, length};
 ghost use Rattle.bp_trace.specs.Numbers.{digits_in, number_in};
 
 /// The most digits of a number.
@@ -35,9 +34,3 @@ pub fn parse_number(text: &[u8]) -> Option<u64>
     }
     parse_digits(text).filter(|value| *value <= MAX_NUMBER)
 }
-
-/// A law: each number up to 2^62 reads back as itself from the text that it is printed as.
-pub fn printed_number_reads_back(number: u64)
-    requires { number ≤ 2 ^ 62 }
-    ensures { number_in (decimal number) ≡ Some number }
-{}

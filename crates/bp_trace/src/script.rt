@@ -1,9 +1,9 @@
 //! The rows of a trace.
-ghost use Rattle.std.specs.Prelude.{◌≡◌, ◌⊎◌, All, IfOk, IfSome, OnOk};
+ghost use Rattle.std.specs.Prelude.{◌≡◌, ◌≤◌, ◌⊎◌, All, IfOk, IfSome, OnOk, length};
 ghost use Rattle.std.specs.Io.KnownBytes.{IsAtEnd};
 ghost use Rattle.csv.specs.Reading.{default_config, error_kind, records, strip_bom};
 ghost use Rattle.bp_trace.specs.InRange.{AreNumberedFrom, IsInRange};
-ghost use Rattle.bp_trace.specs.Script.{Answers, IsScriptOfSome, fault, fault_at, refusal_of, script_from, script_of};
+ghost use Rattle.bp_trace.specs.Script.{Answers, IsScriptOfSome, fault, fault_at, most_rows, refusal_of, script_from, script_of};
 
 use crate::faults::TraceFault;
 use crate::input::read_all;
@@ -88,8 +88,11 @@ pub fn read_script<R: Read>(
 
     // Also of a reader that does not tell its bytes, the rows are those of some records.
     ensures some { IfOk result (λ rows. IsScriptOfSome geometry.now rows.items) }
-    ensures in_range { IfOk result (λ rows. All (IsInRange geometry.now) rows.items) }
+
+    // No more holds of every script: rows that are so read back as themselves, by `laws::written_rows_read_back`.
+    ensures few { IfOk result (λ rows. length rows.items ≤ most_rows) }
     ensures numbered { IfOk result (λ rows. AreNumberedFrom 1 rows.items) }
+    ensures in_range { IfOk result (λ rows. All (IsInRange geometry.now) rows.items) }
 {
     let bytes = read_all(alloc, reader)?;
     rows_of(alloc, bytes.as_slice(), geometry)

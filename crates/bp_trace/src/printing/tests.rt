@@ -243,3 +243,82 @@ fn failing_writers(rt: HostRuntime) -> Result<(), Fail> {
     }
     Ok(())
 }
+
+/// A page of sixteen bytes, of which the first is ff where it was written.
+fn image_of(alloc: Global, first: u8) -> Result<Image, AllocError> {
+    let mut bytes = [0; 16];
+    bytes[0] = first;
+    Image::of(alloc, &bytes)
+}
+
+/// A read from the device that ended well, with the pass that it gave.
+fn loaded(alloc: Global, ticket: u64, page: u64, first: u8) -> Result<Entry, AllocError> {
+    let image = image_of(alloc, first)?;
+    Ok(read_end(ticket, page, Some(image), Reply::Fixed(ticket)))
+}
+
+fn unfix(pass: u64, page: u64) -> Entry {
+    let page = PageNo::new(page);
+    entry(0, Call::Unfix { pass, page }, Reply::Done)
+}
+
+fn mark(lsn: u64) -> Entry {
+    entry(0, Call::Mark(Lsn::new(lsn)), Reply::Done)
+}
+
+// One frame: a page that was written with LSN 7 may leave it only once the log is durable up to 7.
+#[test]
+fn write_ahead_rule(rt: HostRuntime) -> Result<(), Fail> {
+    let alloc = rt.alloc();
+    let one = PageNo::new(1);
+    let write = Call::Write {
+        pass: 0,
+        page: one,
+        offset: 0,
+        bytes: Bytes::of(alloc, &[0xff])?,
+        lsn: Lsn::new(7),
+    };
+    let out = Reply::WriteFirst {
+        ticket: 1,
+        page: one,
+        image: image_of(alloc, 0xff)?,
+    };
+    let entries = [
+        fix(1, load(0, None)),
+        loaded(alloc, 0, 1, 0)?,
+        entry(0, write, Reply::Done),
+        unfix(0, 1),
+        mark(5),
+        tick(1),
+        fix(2, Reply::NeedLog(Lsn::new(7))),
+        mark(7),
+        fix(2, out),
+        write_end(1, 1, true, Reply::Cleaned),
+        fix(2, load(2, Some(one))),
+        loaded(alloc, 2, 2, 0)?,
+        unfix(2, 2),
+        tick(1),
+        fix(1, load(3, Some(PageNo::new(2)))),
+        loaded(alloc, 3, 1, 0xff)?,
+        read(0, 1, image_of(alloc, 0xff)?),
+        unfix(3, 1),
+    ];
+    let mut printed = Vec::new(alloc);
+    report(&entries, &mut printed)?;
+    report_rows(&[Refused { row: 6, number: 12 }], &mut printed)?;
+    let text = "\
+out 2 1
+evict 2 1
+evict 3 2
+read 0 1 ff000000000000000000000000000000
+hits 0
+faults 3
+evictions 2
+writes 1
+failed 0
+refused 1
+row 6 refused 12
+";
+    assert_eq!(rt; printed.as_slice(), text.as_bytes());
+    Ok(())
+}

@@ -115,7 +115,7 @@ fn write(
 }
 
 /// Whether each trace is refused so, in whatever pieces the reader gives it.
-fn assert_refused(rt: &HostRuntime, table: &[(&[u8], u64, u16)]) {
+fn assert_refused(rt: &impl Abort, alloc: Global, table: &[(&[u8], u64, u16)]) {
     let geometry = sixteen_pages(rt);
     for (trace, row, number) in table {
         let fault = TraceFault {
@@ -123,18 +123,18 @@ fn assert_refused(rt: &HostRuntime, table: &[(&[u8], u64, u16)]) {
             number: *number,
         };
         for most in [1, 7, 8192] {
-            let got = read_script(rt.alloc(), &mut in_pieces(trace, most), &geometry);
+            let got = read_script(alloc, &mut in_pieces(trace, most), &geometry);
             assert_eq!(rt; got, Err(fault), "of {trace:?} in pieces of {most}");
         }
     }
 }
 
 /// Whether each trace has these rows, in whatever pieces the reader gives it.
-fn assert_rows(rt: &HostRuntime, table: &[(&[u8], &[Row])]) {
+fn assert_rows(rt: &impl Abort, alloc: Global, table: &[(&[u8], &[Row])]) {
     let geometry = sixteen_pages(rt);
     for (trace, rows) in table {
         for most in [1, 7, 8192] {
-            let got = read_script(rt.alloc(), &mut in_pieces(trace, most), &geometry);
+            let got = read_script(alloc, &mut in_pieces(trace, most), &geometry);
             let got = got.expect(rt, "a script");
             assert_eq!(rt; got.as_slice(), *rows, "of {trace:?} in pieces of {most}");
         }
@@ -153,7 +153,7 @@ fn trace_refusals(rt: HostRuntime) {
         (b"0,fix,1,0,,", 1, 40),
         (b"0,tick,4611686018427387905,,,", 1, 43),
     ];
-    assert_refused(&rt, &table);
+    assert_refused(&rt, rt.alloc(), &table);
 }
 
 #[test]
@@ -188,7 +188,7 @@ fn shapes_and_clients_refused(rt: HostRuntime) {
         (b"0,purge,,0,,", 1, 40),
         (b"0,purge,,,,0", 1, 40),
     ];
-    assert_refused(&rt, &table);
+    assert_refused(&rt, rt.alloc(), &table);
 }
 
 #[test]
@@ -230,7 +230,7 @@ fn fields_refused(rt: HostRuntime) {
         // 17 bytes
         (b"0,write,0,0,0000000000000000000000000000000000,0", 1, 45),
     ];
-    assert_refused(&rt, &table);
+    assert_refused(&rt, rt.alloc(), &table);
 }
 
 // Each record has two faults of neighbouring places in the order; the earlier one is told.
@@ -254,7 +254,7 @@ fn order_of_refusals(rt: HostRuntime) {
         (b"0,write,1,16,0g,0", 1, 44),
         (b"0,write,16,x,0,", 1, 43),
     ];
-    assert_refused(&rt, &table);
+    assert_refused(&rt, rt.alloc(), &table);
 }
 
 #[test]
@@ -269,16 +269,16 @@ fn first_refused_record(rt: HostRuntime) {
         // a mark in the middle is a part of its field
         (b"0,tick,0,,,\n\xef\xbb\xbf0,tick,0,,,\n", 2, 41),
     ];
-    assert_refused(&rt, &table);
+    assert_refused(&rt, rt.alloc(), &table);
 }
 
 #[test]
 fn log_row_of_another_client(rt: HostRuntime) {
     let table: [(&[u8], u64, u16); 2] = [(b"1,log,5,,,", 1, 41), (b"63,log,5,,,", 1, 41)];
-    assert_refused(&rt, &table);
+    assert_refused(&rt, rt.alloc(), &table);
     let log = [row(1, 0, Step::Log(Lsn::new(5)))];
     let table: [(&[u8], &[Row]); 1] = [(b"0,log,5,,,", &log)];
-    assert_rows(&rt, &table);
+    assert_rows(&rt, rt.alloc(), &table);
 }
 
 #[test]
@@ -289,9 +289,9 @@ fn empty_and_malformed_traces(rt: HostRuntime) {
         (b"\xef\xbb\xbf", &[]),
         (b"\xef\xbb\xbf\n", &[]),
     ];
-    assert_rows(&rt, &table);
+    assert_rows(&rt, rt.alloc(), &table);
     let table: [(&[u8], u64, u16); 1] = [(b"0,fix,1,,,\n0,unfix,1,,,\n0,fi", 3, 40)];
-    assert_refused(&rt, &table);
+    assert_refused(&rt, rt.alloc(), &table);
 }
 
 // What is cut inside its last field reads as what stands there.
@@ -303,7 +303,7 @@ fn cut_traces(rt: HostRuntime) -> Result<(), Fail> {
         (b"0,write,1,0,ff,12", &write),
         (b"0,write,1,0,ff,\"12", &write),
     ];
-    assert_rows(&rt, &table);
+    assert_rows(&rt, rt.alloc(), &table);
     let whole = b"0,write,1,0,ff,123\n";
     for (kept, number) in [(16, 1), (17, 12), (18, 123)] {
         let got = read_script(rt.alloc(), &mut &whole[..kept], &sixteen_pages(&rt));
@@ -336,7 +336,7 @@ fn every_op(rt: HostRuntime) -> Result<(), Fail> {
         row(8, 9, Step::Purge),
     ];
     let table: [(&[u8], &[Row]); 1] = [(trace, &rows)];
-    assert_rows(&rt, &table);
+    assert_rows(&rt, rt.alloc(), &table);
     Ok(())
 }
 
@@ -345,7 +345,11 @@ fn writes(rt: HostRuntime) -> Result<(), Fail> {
     let alloc = rt.alloc();
     let sixteen = [0xab; 16];
     let hex = [row(1, 0, write(alloc, 1, 0, b"\x01\x23\xab\xcd\xef", 0)?)];
-    let last = [row(1, 0, write(alloc, 15, 15, b"\xff", 4_611_686_018_427_387_904)?)];
+    let last = [row(
+        1,
+        0,
+        write(alloc, 15, 15, b"\xff", 4_611_686_018_427_387_904)?,
+    )];
     let none = [row(1, 0, write(alloc, 1, 16, b"", 9)?)];
     let whole = [row(1, 0, write(alloc, 0, 0, &sixteen, 7)?)];
     let table: [(&[u8], &[Row]); 6] = [
@@ -357,7 +361,7 @@ fn writes(rt: HostRuntime) -> Result<(), Fail> {
         (b"0,write,1,16,,9", &none),
         (b"0,write,0,0,abababababababababababababababab,7", &whole),
     ];
-    assert_rows(&rt, &table);
+    assert_rows(&rt, rt.alloc(), &table);
     Ok(())
 }
 
@@ -384,7 +388,7 @@ fn trace_rows(rt: HostRuntime) {
         (b"\xef\xbb\xbf\"0\",tick,1,,,", &[tick(1, 1)]),
         (b"0,tick,1,,,\r0,tick,2,,,", &[tick(1, 1), tick(2, 2)]),
     ];
-    assert_rows(&rt, &table);
+    assert_rows(&rt, rt.alloc(), &table);
 }
 
 const THREE_ROWS: &[u8] = b"0,fix,1,,,\n0,unfix,1,,,\n0,tick,1,,,\n";
@@ -424,6 +428,22 @@ fn interrupted_readers(rt: HostRuntime) {
     let mut reader = failing(THREE_ROWS, 36, 2, bound - 1, io::ErrorKind::Interrupted);
     let got = read_script(rt.alloc(), &mut reader, &geometry);
     assert_eq!(rt; got, Err(TraceFault { row: 0, number: 47 }));
+}
+
+// Whichever allocation is refused, if one is: the rows are all there, or memory was wanted.
+#[test]
+fn refused_growths(rt: HostRuntime) {
+    let trace = b"1,write,3,4,00ff,9\n0,log,9,,,\n1,read,3,,,\n";
+    match read_script(rt.alloc(), &mut trace.as_slice(), &sixteen_pages(&rt)) {
+        Ok(rows) => {
+            assert_eq!(rt; rows.len(), 3);
+            assert!(rt;
+                matches!(&rows[0].step, Step::Write { bytes, .. } if bytes.bytes() == [0x00, 0xff].as_slice())
+            );
+            assert_eq!(rt; rows[2], row(3, 1, Step::Read(page(3))));
+        }
+        Err(fault) => assert_eq!(rt; fault, TraceFault { row: 0, number: 22 }),
+    }
 }
 
 #[test]

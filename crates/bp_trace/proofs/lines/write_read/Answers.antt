@@ -4,7 +4,7 @@ use Rattle.std.specs.Io.KnownBytes.{Appends}
 use Rattle.std.proofs.KnownBytes.{Appends-trans}
 use Rattle.hex.specs.Hex.{encode_lower}
 use Rattle.bp_trace.specs.Lines.{read_line}
-use Rattle.bp_trace.proofs.Written.{appends_then, take_to_min}
+use Rattle.bp_trace.proofs.Writes.{appends_then, take_to_min}
 use Rattle.bp_trace.proofs.lines.write_read.Goals as goal
 
 pub returns : goal.returns

@@ -1,6 +1,6 @@
 use Rattle.std.proofs.Common.{codes, ◌++◌}
 use Rattle.bp_trace.specs.Totals.{total_line, totals_text}
-use Rattle.bp_trace.proofs.Written.{appends_next}
+use Rattle.bp_trace.proofs.Writes.{appends_next}
 use Rattle.bp_trace.proofs.totals.Totals.write.Goals as goal
 
 pub returns : goal.returns
