@@ -1,6 +1,7 @@
 use super::run_with;
 use crate::page_files::PageFiles;
 use std::alloc::Global;
+use std::fs::File;
 use std::io::{Read, Write};
 use std::process::Abort;
 use std::rt::{Files, Runtime};
