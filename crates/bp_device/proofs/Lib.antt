@@ -1,0 +1,4 @@
+pub mod Driving
+pub mod GivingBack
+pub mod PieceSteps
+pub mod ScriptSteps
