@@ -187,7 +187,7 @@ out-serial who p t gs m = some-mono (same_grant (grant who p t)) (has_serial t) 
     (λ g h. eq-eqb g.serial t (sym (eqb-true t g.serial (and_parts (p == g.page) _ (and_parts (who == g.client) _ h).1).1))) m
 
 -- none has the serial number, so none goes
-none-goes : (t : ℕ) (gs : List Grant) → some (has_serial t) gs ≡ false → rest t gs ≡ gs
+pub none-goes : (t : ℕ) (gs : List Grant) → some (has_serial t) gs ≡ false → rest t gs ≡ gs
 none-goes t [] h = refl
 none-goes t (g ∷ gs) h = let a = or_parts (g.serial == t) _ h in rw a.0 (ap (λ r. g ∷ r) (none-goes t gs a.1))
 

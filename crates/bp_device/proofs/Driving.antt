@@ -97,13 +97,10 @@ save-waits old mid written new client page ticket end waits h s = go end s
     begun = began old mid written client page (WriteFirst ticket.serial ticket.page ticket.image) waits h.3.is refl
 
     go : (end : Ended) → SaveOutcome written ticket (Ok end) new → Waits old client page new
-    go ended.Cleaned s = adds-entry old written new _ _ client (WriteEnd ticket.serial ticket.page true) Cleaned begun refl (ticketed Cleaned s)
+    go ended.Cleaned s = adds-entry old written new _ _ client (WriteEnd ticket.serial ticket.page true) Cleaned begun refl (ticketed Cleaned s.is)
         (λ piece on. subst (λ whole. FixGoesOn driver client page (by client (WriteEnd ticket.serial ticket.page true) Cleaned ∷ whole)) (sym on.1) (on_cleaned ticket.serial ticket.page ticket.image on.2))
-    go ended.StillDirty s = adds-entry old written new _ _ client (WriteEnd ticket.serial ticket.page true) StillDirty begun refl (ticketed StillDirty s)
+    go ended.StillDirty s = adds-entry old written new _ _ client (WriteEnd ticket.serial ticket.page true) StillDirty begun refl (ticketed StillDirty s.is)
         (λ piece on. subst (λ whole. FixGoesOn driver client page (by client (WriteEnd ticket.serial ticket.page true) StillDirty ∷ whole)) (sym on.1) (on_still_dirty ticket.serial ticket.page ticket.image on.2))
-
-pub save-keeps : (written : CoreView) (ticket : WriteTicket) (end : Ended) (new : CoreView) → SaveOutcome written ticket (Ok end) new → written.parameters.size ≡ new.parameters.size
-save-keeps written ticket end new s = sym (ap (λ v. v.parameters.size) s)
 
 pub save-drives : (old mid written new : CoreView) (client page : ℕ) (ticket : WriteTicket) (r : Refusal) → Waits old client page mid
     → FixOutcome mid client page (Ok (fixing.WriteFirst ticket)) written → SaveOutcome written ticket (Err r) new → DrivesFix old client page (Err r) new
@@ -113,7 +110,7 @@ save-drives old mid written new client page ticket r waits h s =
     (λ piece on. subst (λ whole. FixPiece driver client page (by client (WriteEnd ticket.serial ticket.page false) WriteFailed ∷ whole) (refused 18)) (sym on.1) (fix_write_failed ticket.serial ticket.page ticket.image on.2)))
   where
     is : new ≡ with_entry written client (WriteEnd ticket.serial ticket.page false) WriteFailed
-    is = s.1 ∙ ap (λ who. with_entry written who (WriteEnd ticket.serial ticket.page false) WriteFailed) h.1
+    is = s.1.is ∙ ap (λ who. with_entry written who (WriteEnd ticket.serial ticket.page false) WriteFailed) h.1
 
 pub refusal-drives : (old mid new : CoreView) (client page : ℕ) (r : Refusal) → Waits old client page mid → FixOutcome mid client page (Err r) new → DrivesFix old client page (Err r) new
 refusal-drives old mid new client page refusal.NoVictim waits h = adds-entry old mid new _ _ client (Fix page) NoVictim waits refl h.1.is (λ piece on. fix_no_victim on)
@@ -149,9 +146,9 @@ saved-drives old written new client page ticket end f same h s = go end same s
     begun = flush-entry old written client page (WriteFirst ticket.serial page ticket.image) _ (h.4.is ∙ ap (λ p. with_entry old client (Flush page) (WriteFirst ticket.serial p ticket.image)) h.2) refl (λ piece on. (piece, refl, on))
 
     go : (end : Ended) → ended_reply end ≡ flushed_reply f → SaveOutcome written ticket (Ok end) new → DrivesFlush old client page (Ok f) new
-    go ended.Cleaned same s = adds-entry old written new _ _ client (WriteEnd ticket.serial page true) Cleaned begun refl (ticketed Cleaned s)
+    go ended.Cleaned same s = adds-entry old written new _ _ client (WriteEnd ticket.serial page true) Cleaned begun refl (ticketed Cleaned s.is)
         (λ piece on. (subst (λ whole. FlushPiece driver client page (by client (WriteEnd ticket.serial page true) Cleaned ∷ whole) accepted) (sym on.1) (flush_cleaned ticket.serial ticket.image on.2), same))
-    go ended.StillDirty same s = adds-entry old written new _ _ client (WriteEnd ticket.serial page true) StillDirty begun refl (ticketed StillDirty s)
+    go ended.StillDirty same s = adds-entry old written new _ _ client (WriteEnd ticket.serial page true) StillDirty begun refl (ticketed StillDirty s.is)
         (λ piece on. (subst (λ whole. FlushPiece driver client page (by client (WriteEnd ticket.serial page true) StillDirty ∷ whole) accepted) (sym on.1) (flush_still_dirty ticket.serial ticket.image on.2), same))
 
 pub save-flush-drives : (old written new : CoreView) (client page : ℕ) (ticket : WriteTicket) (r : Refusal) → FlushOutcome old client page (Ok (flushing.WriteFirst ticket)) written
@@ -165,7 +162,7 @@ save-flush-drives old written new client page ticket r h s =
     begun = flush-entry old written client page (WriteFirst ticket.serial page ticket.image) _ (h.4.is ∙ ap (λ p. with_entry old client (Flush page) (WriteFirst ticket.serial p ticket.image)) h.2) refl (λ piece on. (piece, refl, on))
 
     is : new ≡ with_entry written client (WriteEnd ticket.serial page false) WriteFailed
-    is = s.1 ∙ ap (λ who. with_entry written who (WriteEnd ticket.serial ticket.page false) WriteFailed) h.1 ∙ ap (λ p. with_entry written client (WriteEnd ticket.serial p false) WriteFailed) h.2
+    is = s.1.is ∙ ap (λ who. with_entry written who (WriteEnd ticket.serial ticket.page false) WriteFailed) h.1 ∙ ap (λ p. with_entry written client (WriteEnd ticket.serial p false) WriteFailed) h.2
 
 pub flush-refusal-drives : (old new : CoreView) (client page : ℕ) (r : Refusal) → FlushOutcome old client page (Err r) new → DrivesFlush old client page (Err r) new
 flush-refusal-drives old new client page (refusal.NeedLog lsn) h = flush-entry old new client page (NeedLog lsn) _ h.1.is refl (λ piece on. flush_need_log lsn on)

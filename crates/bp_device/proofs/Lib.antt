@@ -2,3 +2,4 @@ pub mod Driving
 pub mod GivingBack
 pub mod PieceSteps
 pub mod ScriptSteps
+pub mod SecondTry

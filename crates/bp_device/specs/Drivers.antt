@@ -16,6 +16,7 @@ use Rattle.bp_core.specs.Event.{Grant, grant}
 use Rattle.bp_core.specs.Trail.{Trail}
 use Rattle.bp_core.specs.Passes.{passes_out}
 use Rattle.bp_core.specs.CoreView.{CoreView, with_entry}
+use Rattle.bp_core.specs.Outcomes.{Adds}
 use Rattle.bp_core.specs.Pieces.{FixPiece, FlushPiece}
 use Rattle.bp_core.specs.Pieces.Manner.{driver}
 use Rattle.bp_core.specs.Pieces.Outcome.{accepted, refused}
@@ -69,5 +70,5 @@ LoadOutcome old ticket (Ok pass) new =
 LoadOutcome old ticket (Err refusal) new = (refusal ≡ ReadRefused) × (new ≡ with_entry old ticket.client (ReadEnd ticket.serial ticket.page None) ReadFailed)
 
 abbrev pub SaveOutcome : CoreView → WriteTicket → Result Ended Refusal → CoreView → Type 0
-SaveOutcome old ticket (Ok ended) new = new ≡ with_entry old ticket.client (WriteEnd ticket.serial ticket.page true) (ended_reply ended)
-SaveOutcome old ticket (Err refusal) new = (refusal ≡ WriteRefused) × (new ≡ with_entry old ticket.client (WriteEnd ticket.serial ticket.page false) WriteFailed)
+SaveOutcome old ticket (Ok ended) new = Adds old ticket.client (WriteEnd ticket.serial ticket.page true) (ended_reply ended) new
+SaveOutcome old ticket (Err refusal) new = (refusal ≡ WriteRefused) × Adds old ticket.client (WriteEnd ticket.serial ticket.page false) WriteFailed new

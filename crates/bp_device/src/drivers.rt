@@ -71,22 +71,29 @@ pub fn drive_fix<P: Port, R: Wait>(
     ensures outcome { DrivesFix core.old client page result core.new }
     ensures geometry { P.geometry_of port.new ≡ P.geometry_of port.old }
 {
-    'turns: loop {
-        match core.fix(client, page) {
-            Ok(Fix::Hit(pass)) => return Ok(pass),
-            Ok(Fix::Load(ticket, _)) => {
-                let read = port.read(rt, page);
-                return load(core, ticket, read);
-            }
-            Ok(Fix::WriteFirst(ticket)) => {
-                let written = port.write(rt, ticket.page(), ticket.image());
-                match save(core, ticket, written) {
-                    Ok(_) => {}
-                    Err(refusal) => return Err(refusal),
-                }
-            }
-            Err(refusal) => return Err(refusal),
+    match core.fix(client, page) {
+        Ok(Fix::Hit(pass)) => Ok(pass),
+        Ok(Fix::Load(ticket, _)) => {
+            let read = port.read(rt, page);
+            load(core, ticket, read)
         }
+        Ok(Fix::WriteFirst(ticket)) => {
+            let written = port.write(rt, ticket.page(), ticket.image());
+            match save(core, ticket, written) {
+                // Nobody else acts meanwhile: the victim is saved and still the victim, so the same fix finds its frame.
+                Ok(_) => match core.fix(client, page) {
+                    Ok(Fix::Hit(_pass)) => unreachable!(),
+                    Ok(Fix::Load(ticket, _)) => {
+                        let read = port.read(rt, page);
+                        load(core, ticket, read)
+                    }
+                    Ok(Fix::WriteFirst(_ticket)) => unreachable!(),
+                    Err(refusal) => Err(refusal),
+                },
+                Err(refusal) => Err(refusal),
+            }
+        }
+        Err(refusal) => Err(refusal),
     }
 }
 

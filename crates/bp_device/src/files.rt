@@ -12,6 +12,7 @@ use std::alloc::Global;
 use std::fs::{File, OpenOptions};
 use std::marker::Model;
 use std::os::unix::fs::FileExt;
+use std::path::AsPath;
 use std::rt::Files;
 use std::sync::Wait;
 use thiserror::Error;
@@ -65,10 +66,10 @@ impl FilePort {
     ///
     /// `Refused(BadLength)` where it is no positive number of whole pages of this size, or more than 1,048,576;
     /// `Port(Device)` where it can't be opened, and `Port(Memory)` where a page's bytes can't be had.
-    pub fn open<R: Files<File = File>>(
+    pub fn open<R: Files<File = File>, P: AsPath>(
         rt: &R,
         alloc: Global,
-        path: &str,
+        path: P,
         size: usize,
     ) -> Result<FilePort, OpenFault>
         requires size { IsGeometry 1 size }

@@ -1,5 +1,5 @@
 //! A port that fails once, for tests of what a failing device leaves.
-ghost use Rattle.std.specs.Prelude.{◌≡◌, IfOk, OnErr};
+ghost use Rattle.std.specs.Prelude.{◌≡◌, ◌-◌, ◌↔◌, IsTrue, IfOk, OnErr, length};
 ghost use Rattle.bp_device.specs.Ports.{Counts};
 
 use crate::failures::Failures;
@@ -43,6 +43,8 @@ impl<P: Port> FusePort<P> {
 
     /// Whether this call fails. Counts the call down.
     fn blows(&mut self) -> bool
+        ensures now { IsTrue result ↔ (self.old.left ≡ 1) }
+        ensures left { self.new.left ≡ self.old.left - 1 }
         ensures inner { self.new.inner ≡ self.old.inner }
         ensures count { self.new.count ≡ self.old.count }
     {
@@ -54,6 +56,7 @@ impl<P: Port> FusePort<P> {
     /// Counts a failure of the other port as one of this one.
     fn counted<T>(&mut self, outcome: Result<T, PortFault>) -> Result<T, PortFault>
         ensures same { result ≡ outcome }
+        ensures left { self.new.left ≡ self.old.left }
         ensures inner { self.new.inner ≡ self.old.inner }
         ensures counts { Counts result self.old.count self.new.count }
     {
@@ -91,7 +94,13 @@ impl<P: Port> Port for FusePort<P> {
         self.count.count()
     }
 
-    fn read<R: Wait>(&mut self, rt: &R, page: PageNo) -> Result<Image, PortFault> {
+    fn read<R: Wait>(&mut self, rt: &R, page: PageNo) -> Result<Image, PortFault>
+        ensures size { IfOk result (λ image. length image ≡ (P.geometry_of self.old.inner).size) }
+        ensures same { P.geometry_of self.new.inner ≡ P.geometry_of self.old.inner }
+        ensures counts { Counts result self.old.count self.new.count }
+        ensures left { self.new.left ≡ self.old.left - 1 }
+        ensures fails { self.old.left ≡ 1 → (result ≡ Err PortFault.Device) × (self.new.inner ≡ self.old.inner) }
+    {
         if self.blows() {
             return Err(self.count.add());
         }
@@ -99,7 +108,12 @@ impl<P: Port> Port for FusePort<P> {
         self.counted(read)
     }
 
-    fn write<R: Wait>(&mut self, rt: &R, page: PageNo, image: &Image) -> Result<(), PortFault> {
+    fn write<R: Wait>(&mut self, rt: &R, page: PageNo, image: &Image) -> Result<(), PortFault>
+        ensures same { P.geometry_of self.new.inner ≡ P.geometry_of self.old.inner }
+        ensures counts { Counts result self.old.count self.new.count }
+        ensures left { self.new.left ≡ self.old.left - 1 }
+        ensures fails { self.old.left ≡ 1 → result ≡ Err PortFault.Device }
+    {
         if self.blows() {
             if let Some(spoiled) = &self.spoiled {
                 let _ = self.inner.write(rt, page, spoiled);
