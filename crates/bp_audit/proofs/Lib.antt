@@ -1,0 +1,3 @@
+-- Lemmas.
+pub mod Comparing
+pub mod Logged

@@ -1,0 +1,2 @@
+-- In the piece of which row an entry stands.
+use Rattle.std.specs.Prelude.{◌≡◌, ℕ}
