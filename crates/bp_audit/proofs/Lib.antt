@@ -1,3 +1,4 @@
 -- Lemmas.
 pub mod Comparing
 pub mod Logged
+pub mod Standing

@@ -4,6 +4,7 @@
 #![tactic(auto)]
 
 pub mod agreement;
+pub mod laws;
 pub mod log_bound;
 pub mod sameness;
 
