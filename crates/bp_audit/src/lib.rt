@@ -11,3 +11,6 @@ pub mod sameness;
 pub use agreement::{agrees, posts_agree};
 pub use log_bound::is_within_log;
 pub use sameness::same_entry;
+
+#[cfg(test)]
+mod tests;

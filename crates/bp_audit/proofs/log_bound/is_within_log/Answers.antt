@@ -13,14 +13,13 @@ returns-then-not-is_bounded c =
     let i = c.loop-e.invariant in
     let e = c.e-item.result in
     let past = reverse (take c.loop-e.e-index c.args.trail.now) in
-    let marks = c.at_least-mark.ensures ∙ ap (λ o. at_least o c.loop-e.mark) c.mark_of.ensures ∙ ap (at_least (marked e.call)) i.mark ∙ sym (durable_next e past) in
-    (
+    let marks = c.at_least-mark.ensures ∙ ap (λ o. at_least o c.loop-e.mark) c.mark_of.ensures ∙ ap (at_least (marked e.call)) i.mark ∙ sym (durable_next e past) in (
       (λ no. absurd (search rules)),
       λ all. c.if-not-is_bounded.ensures.1
-        (λ mine kept.
+          (λ mine kept.
           let h : durable (e ∷ past) ≤ logged (take (row_at c.args.ends.now (length (of_client 0 past))) c.args.script.now)
-              = subst (λ ends. durable (e ∷ past) ≤ logged (take (row_at ends (length (of_client 0 past))) c.args.script.now)) (reverse-reverse c.args.ends.now)
-            (not_within _ _ _ _ _ _ c.loop-e-test.true c.e-item.is all mine kept) in
+          = subst (λ ends. durable (e ∷ past) ≤ logged (take (row_at ends (length (of_client 0 past))) c.args.script.now)) (reverse-reverse c.args.ends.now)
+          (not_within _ _ _ _ _ _ c.loop-e-test.true c.e-item.is all mine kept) in
           rw (marks, c.row_for-next.ensures.reached, c.row_for-next.ensures.row, i.place) h),
     )
 
