@@ -1,7 +1,7 @@
 -- A list that is compared, element by element, with what a longer one gives. Here `give` is what a list gives, part by part.
-use Rattle.std.proofs.Common.{◌≡◌, ◌≢◌, ℕ, zero, suc, ◌+◌, ◌<◌, ◌≤◌, List, [], ◌∷◌, ◌++◌, length, take, drop, get_or, refl, sym, ap, ◌∙◌, arith, rules, eqb, eq-eqb, ne_eqb}
-use Rattle.std.specs.Prelude.{◌==◌, if◌then◌else◌, true, false, filter, filter_map, Option, Some, None}
-use Rattle.std.proofs.lemmas.List.{take_more, append-nil, take-append-drop}
+use Rattle.std.proofs.Common.{◌≡◌, ◌≢◌, ℕ, zero, suc, ◌+◌, ◌<◌, ◌≤◌, List, [], ◌∷◌, ◌++◌, length, take, drop, get_or, reverse, Bool, refl, sym, ap, ◌∙◌, arith, rules, eqb, eq-eqb, ne_eqb}
+use Rattle.std.specs.Prelude.{◌==◌, if◌then◌else◌, true, false, filter_map, Some, None}
+use Rattle.std.proofs.lemmas.List.{take_more, append-nil, take-append-drop, reverse-append}
 use Rattle.std.proofs.lemmas.List.Elements.{filter-append, filter_map-append}
 use Rattle.std.proofs.Math.Seq.{drop-cons}
 use Rattle.bp_core.specs.declared.entries.Entry.{Entry}
@@ -13,6 +13,16 @@ GivesByParts {X} give = (xs ys : List X) → give (xs ++ ys) ≡ give xs ++ give
 
 pub of_client-append : (c : ℕ) → GivesByParts (of_client c)
 of_client-append c xs ys = filter-append (λ e. e.client == c) xs ys
+
+pub of_client-reverse : (c : ℕ) (xs : List Entry) → of_client c (reverse xs) ≡ reverse (of_client c xs)
+of_client-reverse c [] = refl
+of_client-reverse c (x ∷ xs) =
+    ap (of_client c) (reverse-append (x ∷ []) xs) ∙ of_client-append c (reverse xs) (x ∷ []) ∙ ap (λ zs. zs ++ of_client c (x ∷ [])) (of_client-reverse c xs)
+    ∙ one_more (eqb x.client c)
+  where
+    one_more : (b : Bool) → reverse (of_client c xs) ++ if◌then◌else◌ b (x ∷ []) [] ≡ reverse (if◌then◌else◌ b (x ∷ of_client c xs) (of_client c xs))
+    one_more true = sym (reverse-append (x ∷ []) (of_client c xs))
+    one_more false = append-nil (reverse (of_client c xs))
 
 pub posted_by-append : (c : ℕ) → GivesByParts (posted_by c)
 posted_by-append c xs ys = ap (filter_map (λ e. unfixed e.client e.call)) (of_client-append c xs ys) ∙ filter_map-append (λ e. unfixed e.client e.call) (of_client c xs) (of_client c ys)

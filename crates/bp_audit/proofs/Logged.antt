@@ -1,5 +1,5 @@
 -- The log bound, one row or one entry later.
-use Rattle.std.proofs.Common.{◌≡◌, ℕ, zero, suc, ◌+◌, ◌<◌, ◌≤◌, max, Bool, true, false, List, [], ◌∷◌, ◌++◌, length, take, drop, get_or, reverse, refl, sym, ap, ◌∙◌, subst, append_assoc, eqb, arith, rules}
+use Rattle.std.proofs.Common.{◌≡◌, ℕ, zero, suc, ◌+◌, ◌<◌, ◌≤◌, Bool, true, false, List, [], ◌∷◌, ◌++◌, length, take, drop, get_or, reverse, refl, sym, ap, ◌∙◌, subst, append_assoc, eqb, arith, rules}
 use Rattle.std.specs.Prelude.{if◌then◌else◌, Option, Some, None, filter_map}
 use Rattle.std.proofs.lemmas.List.{take_more, take_all, take-append-drop, reverse-append}
 use Rattle.std.proofs.Math.Seq.{drop-cons}

@@ -71,7 +71,8 @@ fn logged_with(script: &[Row], row: usize, reached: Lsn) -> Lsn
     }
 }
 
-/// The row whose piece has the entry at this place, and what the rows before it logged. It goes on from a row at or before that one.
+/// The row whose piece has the entry at this place, and what the rows before it logged. It goes on from a row at or
+/// before that one.
 fn row_for(script: &[Row], ends: &[usize], from: usize, reached: Lsn, place: usize) -> (usize, Lsn)
     requires from { from ≤ bound.row_at ends.now place }
     requires reached { reached ≡ bound.logged (take from script.now) }

@@ -1,4 +1,4 @@
-use Rattle.std.proofs.Common.{◌≡◌, [], rules, arith, refl}
+use Rattle.std.proofs.Common.{[], rules, arith, refl}
 use Rattle.bp_audit.specs.Clients.{of_client}
 use Rattle.bp_audit.proofs.Comparing.{of_client-append, of_client-hit, of_client-miss, agree_more, agree_skip, agree_fail}
 use Rattle.bp_audit.proofs.agreement.agrees.Goals as goal

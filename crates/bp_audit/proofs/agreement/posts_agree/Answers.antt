@@ -1,4 +1,4 @@
-use Rattle.std.proofs.Common.{◌≡◌, [], rules, arith, refl, sym, ◌∙◌}
+use Rattle.std.proofs.Common.{rules, arith, refl, sym, ◌∙◌}
 use Rattle.bp_audit.specs.Clients.{posted_by}
 use Rattle.bp_audit.proofs.Comparing.{posted_by-append, posted_by-hit, posted_by-miss, agree_more, agree_skip, agree_fail}
 use Rattle.bp_audit.proofs.agreement.posts_agree.Goals as goal

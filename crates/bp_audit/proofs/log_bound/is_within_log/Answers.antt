@@ -1,5 +1,4 @@
-use Rattle.std.proofs.Common.{rules, ◌≡◌, ◌≤◌, ◌∷◌, ◌∙◌, ◌+◌, ap, sym, subst, refl, arith, length, take, reverse, eqb}
-use Rattle.std.specs.Bool.{IsTrue}
+use Rattle.std.proofs.Common.{rules, ◌≤◌, ◌∷◌, ◌∙◌, ◌+◌, ap, sym, subst, refl, arith, length, take, reverse, eqb}
 use Rattle.std.proofs.lemmas.List.{reverse-reverse}
 use Rattle.bp_core.specs.Clock.{durable}
 use Rattle.bp_core.specs.Event.{marked}
