@@ -10,6 +10,7 @@ use std::test::*;
 use std::{fs, io};
 
 /// What a run of the program leaves.
+#[derive(Drop)]
 struct Ran {
     status: u8,
     out: Vec<u8>,
