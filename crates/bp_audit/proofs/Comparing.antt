@@ -4,8 +4,8 @@ use Rattle.std.specs.Prelude.{◌==◌, if◌then◌else◌, true, false, filter
 use Rattle.std.proofs.lemmas.List.{take_more, append-nil, take-append-drop, reverse-append}
 use Rattle.std.proofs.lemmas.List.Elements.{filter-append, filter_map-append}
 use Rattle.std.proofs.Math.Seq.{drop-cons}
-use Rattle.bp_core.specs.declared.entries.Entry.{Entry}
-use Rattle.bp_core.specs.Event.{Grant}
+use Rattle.bp_trail.specs.declared.entries.Entry.{Entry}
+use Rattle.bp_trail.specs.Event.{Grant}
 use Rattle.bp_audit.specs.Clients.{of_client, unfixed, posted_by}
 
 abbrev pub GivesByParts : {X Y : Type 0} → (List X → List Y) → Type 0

@@ -3,12 +3,12 @@ use Rattle.std.proofs.Common.{◌≡◌, ℕ, zero, suc, ◌+◌, ◌<◌, ◌�
 use Rattle.std.specs.Prelude.{if◌then◌else◌, Option, Some, None, filter_map}
 use Rattle.std.proofs.lemmas.List.{take_more, take_all, take-append-drop, reverse-append}
 use Rattle.std.proofs.Math.Seq.{drop-cons}
-use Rattle.bp_core.specs.declared.entries.Entry.{Entry}
-use Rattle.bp_core.specs.declared.scripts.Row.{Row}
-use Rattle.bp_core.specs.Lists.{greatest, EachEntry}
-use Rattle.bp_core.specs.Trail.{Trail}
-use Rattle.bp_core.specs.Clock.{durable}
-use Rattle.bp_core.specs.Event.{marked}
+use Rattle.bp_trail.specs.declared.entries.Entry.{Entry}
+use Rattle.bp_trail.specs.declared.scripts.Row.{Row}
+use Rattle.bp_trail.specs.Lists.{greatest, EachEntry}
+use Rattle.bp_trail.specs.Trail.{Trail}
+use Rattle.bp_trail.specs.Clock.{durable}
+use Rattle.bp_trail.specs.Event.{marked}
 use Rattle.bp_audit.specs.Clients.{of_client}
 use Rattle.bp_audit.specs.Log.{log_of, logged, at_least, row_at, EntryWithinLog, IsWithinLog}
 

@@ -1,15 +1,15 @@
 -- In the piece of which row an entry stands.
 use Rattle.std.proofs.Common.{◌≡◌, ◌⊎◌, inl, inr, ℕ, suc, ◌+◌, ◌<◌, ◌≤◌, false, List, [], ◌∷◌, ◌++◌, length, reverse, refl, sym, ap, ◌∙◌, subst, length-append, arith, true≢false}
 use Rattle.std.proofs.lemmas.List.{reverse-append, length-reverse}
-use Rattle.bp_core.specs.declared.entries.Entry.{Entry}
-use Rattle.bp_core.specs.declared.scripts.Row.{Row}
-use Rattle.bp_core.specs.declared.scripts.Refused.{Refused}
-use Rattle.bp_core.specs.Lists.{EachEntry}
-use Rattle.bp_core.specs.Event.{Grant}
-use Rattle.bp_core.specs.Trail.{Trail}
-use Rattle.bp_core.specs.Pieces.{Manner}
-use Rattle.bp_core.specs.Script.{FollowsBy, Follows, GivesBack, give_back}
-use Rattle.bp_core.specs.Script.GivesBack.{none_held, next}
+use Rattle.bp_trail.specs.declared.entries.Entry.{Entry}
+use Rattle.bp_trail.specs.declared.scripts.Row.{Row}
+use Rattle.bp_trail.specs.declared.scripts.Refused.{Refused}
+use Rattle.bp_trail.specs.Lists.{EachEntry}
+use Rattle.bp_trail.specs.Event.{Grant}
+use Rattle.bp_trail.specs.Trail.{Trail}
+use Rattle.bp_trail.specs.Pieces.{Manner}
+use Rattle.bp_trail.specs.Script.{FollowsBy, Follows, GivesBack, give_back}
+use Rattle.bp_trail.specs.Script.GivesBack.{none_held, next}
 use Rattle.bp_audit.specs.Clients.{of_client}
 use Rattle.bp_audit.specs.Log.{row_at, is_unfix, EntryWithinLog, IsWithinLog}
 use Rattle.bp_audit.specs.Cut.{StandsIn, InPieceOf, BoundedByItsRow}

@@ -1,9 +1,9 @@
 -- Of a list of entries, those of one client, and the passes that it gave back. Each keeps the order of the list.
 use Rattle.std.specs.Prelude.{ℕ, ◌==◌, List, filter, filter_map, Option, Some, None}
-use Rattle.bp_core.specs.declared.entries.Entry.{Entry}
-use Rattle.bp_core.specs.declared.entries.Call.{Call}
-use Rattle.bp_core.specs.declared.entries.Call.TheVariants.{Unfix}
-use Rattle.bp_core.specs.Event.{Grant, grant}
+use Rattle.bp_trail.specs.declared.entries.Entry.{Entry}
+use Rattle.bp_trail.specs.declared.entries.Call.{Call}
+use Rattle.bp_trail.specs.declared.entries.Call.TheVariants.{Unfix}
+use Rattle.bp_trail.specs.Event.{Grant, grant}
 
 abbrev pub of_client : ℕ → List Entry → List Entry
 of_client client entries = filter (λ e. e.client == client) entries

@@ -1,12 +1,12 @@
 -- In the piece of which row an entry stands, by the cut that says that the entries follow the rows. All but a script is newest first.
 use Rattle.std.specs.Prelude.{◌≡◌, ◌⊎◌, ℕ, ◌≤◌, List, [], ◌∷◌, ◌++◌, length, take, reverse}
-use Rattle.bp_core.specs.declared.entries.Entry.{Entry}
-use Rattle.bp_core.specs.declared.scripts.Row.{Row}
-use Rattle.bp_core.specs.declared.scripts.Refused.{Refused}
-use Rattle.bp_core.specs.Trail.{Trail}
-use Rattle.bp_core.specs.Clock.{durable}
-use Rattle.bp_core.specs.Pieces.{Manner}
-use Rattle.bp_core.specs.Script.{FollowsBy, Follows}
+use Rattle.bp_trail.specs.declared.entries.Entry.{Entry}
+use Rattle.bp_trail.specs.declared.scripts.Row.{Row}
+use Rattle.bp_trail.specs.declared.scripts.Refused.{Refused}
+use Rattle.bp_trail.specs.Trail.{Trail}
+use Rattle.bp_trail.specs.Clock.{durable}
+use Rattle.bp_trail.specs.Pieces.{Manner}
+use Rattle.bp_trail.specs.Script.{FollowsBy, Follows}
 use Rattle.bp_audit.specs.Clients.{of_client}
 use Rattle.bp_audit.specs.Log.{logged}
 

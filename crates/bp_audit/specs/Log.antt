@@ -1,14 +1,14 @@
 -- No mark is made before the log rows of client 0 allow it. A trail and the ends of its pieces are newest first, as in `Follows`; a script is in order.
 use Rattle.std.specs.Prelude.{◌≡◌, ℕ, suc, ◌≤◌, max, Bool, true, false, nat_le, if◌then◌else◌, List, [], ◌∷◌, length, take, reverse, filter_map, Option, Some, None}
-use Rattle.bp_core.specs.declared.entries.Entry.{Entry}
-use Rattle.bp_core.specs.declared.entries.Call.{Call}
-use Rattle.bp_core.specs.declared.entries.Call.TheVariants.{Unfix}
-use Rattle.bp_core.specs.declared.scripts.Row.{Row}
-use Rattle.bp_core.specs.declared.scripts.Step.{Step}
-use Rattle.bp_core.specs.declared.scripts.Step.TheVariants.{Log}
-use Rattle.bp_core.specs.Lists.{greatest, EachEntry}
-use Rattle.bp_core.specs.Trail.{Trail}
-use Rattle.bp_core.specs.Clock.{durable}
+use Rattle.bp_trail.specs.declared.entries.Entry.{Entry}
+use Rattle.bp_trail.specs.declared.entries.Call.{Call}
+use Rattle.bp_trail.specs.declared.entries.Call.TheVariants.{Unfix}
+use Rattle.bp_trail.specs.declared.scripts.Row.{Row}
+use Rattle.bp_trail.specs.declared.scripts.Step.{Step}
+use Rattle.bp_trail.specs.declared.scripts.Step.TheVariants.{Log}
+use Rattle.bp_trail.specs.Lists.{greatest, EachEntry}
+use Rattle.bp_trail.specs.Trail.{Trail}
+use Rattle.bp_trail.specs.Clock.{durable}
 use Rattle.bp_audit.specs.Clients.{of_client}
 
 abbrev pub is_unfix : Call → Bool

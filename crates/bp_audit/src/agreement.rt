@@ -3,8 +3,9 @@ ghost use Rattle.std.specs.Prelude.{◌≡◌, ◌<◌, ◌==◌, ◌↔◌, IsT
 ghost use Rattle.bp_audit.specs.Clients.{of_client, posted_by, unfixed};
 
 use crate::sameness::same_entry;
-use bp_core::config::Grant;
-use bp_core::{Call, Entry, PassNote};
+use bp_trail::Grant;
+use bp_core::PassNote;
+use bp_trail::{Call, Entry};
 
 /// Whether this entry stands at the place.
 fn is_next(said: &[Entry], at: usize, e: &Entry) -> bool

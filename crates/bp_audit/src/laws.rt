@@ -1,11 +1,11 @@
 //! Laws of the definitions in `specs/`. Each function does nothing: its contract is the law.
 ghost use Rattle.std.specs.Prelude.{◌≡◌, ℕ, List, ◌∷◌, ◌++◌, length, reverse, false};
-ghost use Rattle.bp_core.specs.declared.entries.Entry.{Entry as AnEntry};
-ghost use Rattle.bp_core.specs.declared.scripts.Row.{Row as ARow};
-ghost use Rattle.bp_core.specs.declared.scripts.Refused.{Refused as ARefused};
-ghost use Rattle.bp_core.specs.Trail.{Trail};
-ghost use Rattle.bp_core.specs.Pieces.{Manner};
-ghost use Rattle.bp_core.specs.Script.{FollowsBy, Follows};
+ghost use Rattle.bp_trail.specs.declared.entries.Entry.{Entry as AnEntry};
+ghost use Rattle.bp_trail.specs.declared.scripts.Row.{Row as ARow};
+ghost use Rattle.bp_trail.specs.declared.scripts.Refused.{Refused as ARefused};
+ghost use Rattle.bp_trail.specs.Trail.{Trail};
+ghost use Rattle.bp_trail.specs.Pieces.{Manner};
+ghost use Rattle.bp_trail.specs.Script.{FollowsBy, Follows};
 ghost use Rattle.bp_audit.specs.Clients.{of_client};
 ghost use Rattle.bp_audit.specs.Log.{row_at, is_unfix, IsWithinLog};
 ghost use Rattle.bp_audit.specs.Cut.{InPieceOf, BoundedByItsRow};

@@ -1,6 +1,6 @@
 //! Whether the marks keep to the log rows of client 0.
 ghost use Rattle.std.specs.Prelude.{◌≡◌, ◌≤◌, ◌+◌, ◌==◌, ◌↔◌, false, IsTrue, length, reverse, take, if◌then◌else◌};
-ghost use Rattle.bp_core.specs.Event.{marked};
+ghost use Rattle.bp_trail.specs.Event.{marked};
 ghost use Rattle.bp_audit.specs.Log as bound;
 
 use bp_core::{Call, Entry, Row, Step};

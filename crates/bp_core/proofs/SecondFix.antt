@@ -2,23 +2,23 @@
 use Rattle.std.proofs.Common.{◌≡◌, refl, sym, ◌∙◌, ap, subst, ℕ, ◌-◌, nat_lt, Bool, true, false, not, ◌&&◌, ◌==◌, cond, if◌then◌else◌, List, [], ◌∷◌, filter, Option, Some, None}
 use Rattle.std.specs.Prelude.{find}
 use Rattle.std.proofs.lemmas.Bool.{eq-eqb, or_parts}
-use Rattle.bp_core.specs.declared.entries.Call.TheVariants.{Fix, WriteEnd}
-use Rattle.bp_core.specs.declared.entries.Reply.{Reply}
-use Rattle.bp_core.specs.declared.entries.Reply.TheVariants.{Busy, Hit, Load, WriteFirst, NoVictim, NeedLog, Cleaned, StillDirty}
-use Rattle.bp_core.specs.Parameters.{Parameters}
-use Rattle.bp_core.specs.Lists.{some, every}
-use Rattle.bp_core.specs.Event.{Grant}
-use Rattle.bp_core.specs.Trail.{Trail}
-use Rattle.bp_core.specs.Clock.{clock, durable}
-use Rattle.bp_core.specs.Passes.{is_of, passes, tickets, writes_out, pins}
-use Rattle.bp_core.specs.Places.{residents, resident, loading}
-use Rattle.bp_core.specs.Saved.{unsaved, top}
-use Rattle.bp_core.specs.Images.{held}
-use Rattle.bp_core.specs.References.{last}
-use Rattle.bp_core.specs.Victim.{rank, before, victim}
-use Rattle.bp_core.specs.PageMap.{has_free_frame, replace_reply, write_end_reply, reply_of}
-use Rattle.bp_core.specs.Legal.{Legal}
-use Rattle.bp_core.proofs.Serials.{has_serial, fresh, none-goes, numbered}
+use Rattle.bp_trail.specs.declared.entries.Call.TheVariants.{Fix, WriteEnd}
+use Rattle.bp_trail.specs.declared.entries.Reply.{Reply}
+use Rattle.bp_trail.specs.declared.entries.Reply.TheVariants.{Busy, Hit, Load, WriteFirst, NoVictim, NeedLog, Cleaned, StillDirty}
+use Rattle.bp_trail.specs.Parameters.{Parameters}
+use Rattle.bp_trail.specs.Lists.{some, every}
+use Rattle.bp_trail.specs.Event.{Grant}
+use Rattle.bp_trail.specs.Trail.{Trail}
+use Rattle.bp_trail.specs.Clock.{clock, durable}
+use Rattle.bp_trail.specs.Passes.{is_of, passes, tickets, writes_out, pins}
+use Rattle.bp_trail.specs.Places.{residents, resident, loading}
+use Rattle.bp_trail.specs.Saved.{unsaved, top}
+use Rattle.bp_trail.specs.Images.{held}
+use Rattle.bp_trail.specs.References.{last}
+use Rattle.bp_trail.specs.Victim.{rank, before, victim}
+use Rattle.bp_trail.specs.PageMap.{has_free_frame, replace_reply, write_end_reply, reply_of}
+use Rattle.bp_trail.specs.Legal.{Legal}
+use Rattle.bp_trail.proofs.Serials.{has_serial, fresh, none-goes, numbered}
 use Rattle.bp_core.proofs.Steps.{by}
 
 module _ (c : Parameters) (past : Trail) (who p t v : ℕ) (image : List ℕ) where

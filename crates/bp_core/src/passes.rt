@@ -1,6 +1,6 @@
 //! Passes and tickets. Each has to be spent, so it can be neither copied nor dropped.
 ghost use Rattle.std.specs.Prelude.{◌≡◌};
-ghost use Rattle.bp_core.specs.Event.{grant};
+ghost use Rattle.bp_trail.specs.Event.{grant};
 
 use bp_page::{Image, Lsn, PageNo, Refusal};
 use std::marker::Model;
@@ -40,7 +40,7 @@ pub struct PassNote {
 }
 
 impl Model for PassNote {
-    ghost use Rattle.bp_core.specs.Event.{Grant, grant};
+    ghost use Rattle.bp_trail.specs.Event.{Grant, grant};
 
     ghost Value = { Grant };
 

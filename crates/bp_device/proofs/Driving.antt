@@ -11,23 +11,23 @@ use Rattle.bp_core.specs.declared.passes.Fix.TheVariants as fixing
 use Rattle.bp_core.specs.declared.passes.Flush.TheVariants as flushing
 use Rattle.bp_core.specs.declared.passes.Ended.{Ended}
 use Rattle.bp_core.specs.declared.passes.Ended.TheVariants as ended
-use Rattle.bp_core.specs.declared.entries.Call.{Call}
-use Rattle.bp_core.specs.declared.entries.Call.TheVariants.{Fix, ReadEnd, WriteEnd, Flush}
-use Rattle.bp_core.specs.declared.entries.Reply.{Reply}
-use Rattle.bp_core.specs.declared.entries.Reply.TheVariants.{Hit, Load, WriteFirst, NoVictim, NeedLog, Busy, Fixed, ReadFailed, WriteFailed, Cleaned, StillDirty, Clean, Absent}
-use Rattle.bp_core.specs.Lists.{and_given, without}
-use Rattle.bp_core.specs.Event.{Grant, grant, page_of, pass_given, pass_back}
-use Rattle.bp_core.specs.Trail.{Trail}
-use Rattle.bp_core.specs.Passes.{passes_out}
+use Rattle.bp_trail.specs.declared.entries.Call.{Call}
+use Rattle.bp_trail.specs.declared.entries.Call.TheVariants.{Fix, ReadEnd, WriteEnd, Flush}
+use Rattle.bp_trail.specs.declared.entries.Reply.{Reply}
+use Rattle.bp_trail.specs.declared.entries.Reply.TheVariants.{Hit, Load, WriteFirst, NoVictim, NeedLog, Busy, Fixed, ReadFailed, WriteFailed, Cleaned, StillDirty, Clean, Absent}
+use Rattle.bp_trail.specs.Lists.{and_given, without}
+use Rattle.bp_trail.specs.Event.{Grant, grant, page_of, pass_given, pass_back}
+use Rattle.bp_trail.specs.Trail.{Trail}
+use Rattle.bp_trail.specs.Passes.{passes_out}
 use Rattle.bp_core.specs.CoreView.{CoreView, with_entry}
 use Rattle.bp_core.specs.Outcomes.{FixOutcome, FlushOutcome}
-use Rattle.bp_core.specs.Pieces.{Manner, Outcome, by, FixGoesOn, FixPiece, FlushGoesOn, FlushPiece}
-use Rattle.bp_core.specs.Pieces.Manner.{driver}
-use Rattle.bp_core.specs.Pieces.Outcome.{accepted, refused}
-use Rattle.bp_core.specs.Pieces.FixGoesOn.{cleaned as on_cleaned, still_dirty as on_still_dirty}
-use Rattle.bp_core.specs.Pieces.FixPiece.{hit as fix_hit, fixed as fix_fixed, no_victim as fix_no_victim, need_log as fix_need_log, busy as fix_busy, read_failed as fix_read_failed, write_failed as fix_write_failed, no_room as fix_no_room, no_memory as fix_no_memory}
-use Rattle.bp_core.specs.Pieces.FlushGoesOn.{begins as flush_begins}
-use Rattle.bp_core.specs.Pieces.FlushPiece.{clean as flush_clean, absent as flush_absent, cleaned as flush_cleaned, still_dirty as flush_still_dirty, need_log as flush_need_log, busy as flush_busy, write_failed as flush_write_failed, no_room as flush_no_room, no_memory as flush_no_memory}
+use Rattle.bp_trail.specs.Pieces.{Manner, Outcome, by, FixGoesOn, FixPiece, FlushGoesOn, FlushPiece}
+use Rattle.bp_trail.specs.Pieces.Manner.{driver}
+use Rattle.bp_trail.specs.Pieces.Outcome.{accepted, refused}
+use Rattle.bp_trail.specs.Pieces.FixGoesOn.{cleaned as on_cleaned, still_dirty as on_still_dirty}
+use Rattle.bp_trail.specs.Pieces.FixPiece.{hit as fix_hit, fixed as fix_fixed, no_victim as fix_no_victim, need_log as fix_need_log, busy as fix_busy, read_failed as fix_read_failed, write_failed as fix_write_failed, no_room as fix_no_room, no_memory as fix_no_memory}
+use Rattle.bp_trail.specs.Pieces.FlushGoesOn.{begins as flush_begins}
+use Rattle.bp_trail.specs.Pieces.FlushPiece.{clean as flush_clean, absent as flush_absent, cleaned as flush_cleaned, still_dirty as flush_still_dirty, need_log as flush_need_log, busy as flush_busy, write_failed as flush_write_failed, no_room as flush_no_room, no_memory as flush_no_memory}
 use Rattle.bp_device.specs.declared.drivers.Flushed.{Flushed}
 use Rattle.bp_device.specs.declared.drivers.Flushed.TheVariants as flushed
 use Rattle.bp_device.specs.Drivers.{with_piece, AddsPiece, DrivesFix, DrivesFlush, LoadOutcome, SaveOutcome, ended_reply, flushed_reply}

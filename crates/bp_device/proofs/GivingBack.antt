@@ -5,9 +5,9 @@ use Rattle.std.specs.List.{list_any, list_all}
 use Rattle.std.proofs.lemmas.Bool.{eqb-true, eq-eqb, ne_eqb, eqb-false, and_parts, and_from, or_cases, le-leb, leb-true}
 use Rattle.std.proofs.lemmas.List.Elements.{All-tail}
 use Rattle.std.proofs.lemmas.List.Folds.{list_any-from_Any}
-use Rattle.bp_core.specs.Lists.{every}
-use Rattle.bp_core.specs.Event.{Grant}
-use Rattle.bp_core.specs.Script.{first_to_go_back}
+use Rattle.bp_trail.specs.Lists.{every}
+use Rattle.bp_trail.specs.Event.{Grant}
+use Rattle.bp_trail.specs.Script.{first_to_go_back}
 
 list_all-from_All : (n : ℕ) (gs : List Grant) → All (λ g. n ≤ g.client) gs → list_all (λ g. nat_le n g.client) gs ≡ true
 list_all-from_All n [] all = refl

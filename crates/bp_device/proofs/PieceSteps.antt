@@ -6,25 +6,25 @@ use Rattle.std.proofs.lemmas.List.{reverse-reverse, reverse-append}
 use Rattle.bp_page.specs.declared.refusals.Refusal.{Refusal}
 use Rattle.bp_page.specs.declared.refusals.Refusal.TheVariants as refusal
 use Rattle.bp_core.specs.declared.passes.Pass.{Pass}
-use Rattle.bp_core.specs.declared.scripts.Step.{Step}
-use Rattle.bp_core.specs.declared.scripts.Step.TheVariants as step
-use Rattle.bp_core.specs.declared.entries.Call.{Call}
-use Rattle.bp_core.specs.declared.entries.Call.TheVariants.{Tick, Mark, Fix, Read, Write, Unfix, Flush, Purge}
-use Rattle.bp_core.specs.declared.entries.Reply.{Reply}
-use Rattle.bp_core.specs.declared.entries.Reply.TheVariants.{Done, Content, Forgot}
-use Rattle.bp_core.specs.Lists.{some, without, and_given}
-use Rattle.bp_core.specs.Event.{Grant, grant, same_grant, pass_back}
-use Rattle.bp_core.specs.Trail.{Trail}
-use Rattle.bp_core.specs.Passes.{passes_out, pass_of}
-use Rattle.bp_core.specs.Legal.{is_out}
+use Rattle.bp_trail.specs.declared.scripts.Step.{Step}
+use Rattle.bp_trail.specs.declared.scripts.Step.TheVariants as step
+use Rattle.bp_trail.specs.declared.entries.Call.{Call}
+use Rattle.bp_trail.specs.declared.entries.Call.TheVariants.{Tick, Mark, Fix, Read, Write, Unfix, Flush, Purge}
+use Rattle.bp_trail.specs.declared.entries.Reply.{Reply}
+use Rattle.bp_trail.specs.declared.entries.Reply.TheVariants.{Done, Content, Forgot}
+use Rattle.bp_trail.specs.Lists.{some, without, and_given}
+use Rattle.bp_trail.specs.Event.{Grant, grant, same_grant, pass_back}
+use Rattle.bp_trail.specs.Trail.{Trail}
+use Rattle.bp_trail.specs.Passes.{passes_out, pass_of}
+use Rattle.bp_trail.specs.Legal.{is_out}
 use Rattle.bp_core.specs.CoreView.{CoreView, with_entry}
 use Rattle.bp_core.specs.Outcomes.{ReadOutcome, WriteOutcome, TickOutcome, StepOutcome, PurgeOutcome, KnowsPass}
-use Rattle.bp_core.specs.Pieces.{Outcome, by, outcome_of, FixPiece, FlushPiece}
-use Rattle.bp_core.specs.Pieces.Manner.{driver}
-use Rattle.bp_core.specs.Pieces.Outcome.{accepted, refused}
-use Rattle.bp_core.specs.Script.{is_pass_of, latest_pass, held_passes, WithPass, RowPiece}
-use Rattle.bp_core.proofs.Lists.{some-mono}
-use Rattle.bp_core.proofs.Counting.{reverse-push, filter-reverse}
+use Rattle.bp_trail.specs.Pieces.{Outcome, by, outcome_of, FixPiece, FlushPiece}
+use Rattle.bp_trail.specs.Pieces.Manner.{driver}
+use Rattle.bp_trail.specs.Pieces.Outcome.{accepted, refused}
+use Rattle.bp_trail.specs.Script.{is_pass_of, latest_pass, held_passes, WithPass, RowPiece}
+use Rattle.bp_trail.proofs.Lists.{some-mono}
+use Rattle.bp_trail.proofs.Counting.{reverse-push, filter-reverse}
 use Rattle.bp_device.specs.declared.drivers.Flushed.{Flushed}
 use Rattle.bp_device.specs.Drivers.{with_piece, AddsPiece, DrivesFix, DrivesFlush}
 use Rattle.bp_device.specs.Rows.{AreHeld, EndsIn, DrivesRow}

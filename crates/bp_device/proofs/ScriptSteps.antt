@@ -3,22 +3,22 @@ use Rattle.std.proofs.Common.{◌≡◌, refl, sym, ◌∙◌, ap, subst, ℕ, �
 use Rattle.std.specs.Prelude.{find, filter, reverse}
 use Rattle.std.proofs.lemmas.Bool.{eqb-true, eq-eqb, and_parts}
 use Rattle.std.proofs.lemmas.List.{append_assoc, reverse-append, reverse-reverse}
-use Rattle.bp_core.specs.declared.scripts.Row.{Row}
-use Rattle.bp_core.specs.declared.scripts.Refused.{Refused}
-use Rattle.bp_core.specs.declared.entries.Call.TheVariants.{Unfix}
-use Rattle.bp_core.specs.declared.entries.Reply.TheVariants.{Done}
-use Rattle.bp_core.specs.Lists.{some, every}
-use Rattle.bp_core.specs.Event.{Grant, same_grant}
-use Rattle.bp_core.specs.Trail.{Trail}
-use Rattle.bp_core.specs.Passes.{passes_out}
-use Rattle.bp_core.specs.Legal.{is_out}
+use Rattle.bp_trail.specs.declared.scripts.Row.{Row}
+use Rattle.bp_trail.specs.declared.scripts.Refused.{Refused}
+use Rattle.bp_trail.specs.declared.entries.Call.TheVariants.{Unfix}
+use Rattle.bp_trail.specs.declared.entries.Reply.TheVariants.{Done}
+use Rattle.bp_trail.specs.Lists.{some, every}
+use Rattle.bp_trail.specs.Event.{Grant, same_grant}
+use Rattle.bp_trail.specs.Trail.{Trail}
+use Rattle.bp_trail.specs.Passes.{passes_out}
+use Rattle.bp_trail.specs.Legal.{is_out}
 use Rattle.bp_core.specs.CoreView.{CoreView, with_entry}
-use Rattle.bp_core.specs.Pieces.{Outcome}
-use Rattle.bp_core.specs.Pieces.Manner.{driver}
-use Rattle.bp_core.specs.Script.{refused_row, FollowsBy, Follows, GivesBack, first_to_go_back, give_back}
-use Rattle.bp_core.specs.Script.GivesBack.{none_held, next as gives_next}
-use Rattle.bp_core.proofs.Lists.{some-append, some-mono}
-use Rattle.bp_core.proofs.Counting.{reverse-push, filter-reverse}
+use Rattle.bp_trail.specs.Pieces.{Outcome}
+use Rattle.bp_trail.specs.Pieces.Manner.{driver}
+use Rattle.bp_trail.specs.Script.{refused_row, FollowsBy, Follows, GivesBack, first_to_go_back, give_back}
+use Rattle.bp_trail.specs.Script.GivesBack.{none_held, next as gives_next}
+use Rattle.bp_trail.proofs.Lists.{some-append, some-mono}
+use Rattle.bp_trail.proofs.Counting.{reverse-push, filter-reverse}
 use Rattle.bp_device.specs.Drivers.{with_piece}
 use Rattle.bp_device.specs.Rows.{AreHeld, EndsIn, DrivesRow, DrivesRows, GaveBack, AddsScript}
 use Rattle.bp_device.proofs.GivingBack.{fewer-without}

@@ -5,15 +5,15 @@ use Rattle.bp_core.specs.declared.passes.WriteTicket.{WriteTicket}
 use Rattle.bp_core.specs.declared.passes.Fix.TheVariants as fixing
 use Rattle.bp_core.specs.declared.passes.Ended.{Ended}
 use Rattle.bp_core.specs.declared.passes.Ended.TheVariants as ended
-use Rattle.bp_core.specs.declared.entries.Call.TheVariants.{Fix, WriteEnd}
-use Rattle.bp_core.specs.declared.entries.Reply.{Reply}
-use Rattle.bp_core.specs.declared.entries.Reply.TheVariants.{Load, WriteFirst, Cleaned, StillDirty}
-use Rattle.bp_core.specs.Passes.{tickets}
-use Rattle.bp_core.specs.PageMap.{reply_of, write_end_reply}
-use Rattle.bp_core.specs.Legal.{Legal}
+use Rattle.bp_trail.specs.declared.entries.Call.TheVariants.{Fix, WriteEnd}
+use Rattle.bp_trail.specs.declared.entries.Reply.{Reply}
+use Rattle.bp_trail.specs.declared.entries.Reply.TheVariants.{Load, WriteFirst, Cleaned, StillDirty}
+use Rattle.bp_trail.specs.Passes.{tickets}
+use Rattle.bp_trail.specs.PageMap.{reply_of, write_end_reply}
+use Rattle.bp_trail.specs.Legal.{Legal}
 use Rattle.bp_core.specs.CoreView.{CoreView, with_entry}
 use Rattle.bp_core.specs.Outcomes.{Adds, FixOutcome}
-use Rattle.bp_core.specs.Pieces.{by}
+use Rattle.bp_trail.specs.Pieces.{by}
 use Rattle.bp_core.proofs.SecondFix.{begun, cleaned, not-dirty, cleaned-loads}
 use Rattle.bp_device.specs.Drivers.{SaveOutcome, ended_reply}
 

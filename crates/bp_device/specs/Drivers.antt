@@ -8,18 +8,18 @@ use Rattle.bp_core.specs.declared.passes.ReadTicket.{ReadTicket}
 use Rattle.bp_core.specs.declared.passes.WriteTicket.{WriteTicket}
 use Rattle.bp_core.specs.declared.passes.Ended.{Ended}
 use Rattle.bp_core.specs.declared.passes.Ended.TheVariants as ended
-use Rattle.bp_core.specs.declared.entries.Call.TheVariants.{ReadEnd, WriteEnd}
-use Rattle.bp_core.specs.declared.entries.Reply.{Reply}
-use Rattle.bp_core.specs.declared.entries.Reply.TheVariants.{Fixed, ReadFailed, Cleaned, StillDirty, WriteFailed, Clean, Absent}
-use Rattle.bp_core.specs.Lists.{and_given}
-use Rattle.bp_core.specs.Event.{Grant, grant}
-use Rattle.bp_core.specs.Trail.{Trail}
-use Rattle.bp_core.specs.Passes.{passes_out}
+use Rattle.bp_trail.specs.declared.entries.Call.TheVariants.{ReadEnd, WriteEnd}
+use Rattle.bp_trail.specs.declared.entries.Reply.{Reply}
+use Rattle.bp_trail.specs.declared.entries.Reply.TheVariants.{Fixed, ReadFailed, Cleaned, StillDirty, WriteFailed, Clean, Absent}
+use Rattle.bp_trail.specs.Lists.{and_given}
+use Rattle.bp_trail.specs.Event.{Grant, grant}
+use Rattle.bp_trail.specs.Trail.{Trail}
+use Rattle.bp_trail.specs.Passes.{passes_out}
 use Rattle.bp_core.specs.CoreView.{CoreView, with_entry}
 use Rattle.bp_core.specs.Outcomes.{Adds}
-use Rattle.bp_core.specs.Pieces.{FixPiece, FlushPiece}
-use Rattle.bp_core.specs.Pieces.Manner.{driver}
-use Rattle.bp_core.specs.Pieces.Outcome.{accepted, refused}
+use Rattle.bp_trail.specs.Pieces.{FixPiece, FlushPiece}
+use Rattle.bp_trail.specs.Pieces.Manner.{driver}
+use Rattle.bp_trail.specs.Pieces.Outcome.{accepted, refused}
 use Rattle.bp_device.specs.declared.drivers.Flushed.{Flushed}
 use Rattle.bp_device.specs.declared.drivers.Flushed.TheVariants as flushed
 

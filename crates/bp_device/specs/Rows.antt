@@ -1,14 +1,14 @@
 -- What the rows of a script add to a driver's core, and which passes are then held.
 use Rattle.std.specs.Prelude.{◌≡◌, ℕ, List, ◌++◌, reverse}
-use Rattle.bp_core.specs.declared.scripts.Row.{Row}
-use Rattle.bp_core.specs.declared.scripts.Refused.{Refused}
-use Rattle.bp_core.specs.declared.scripts.Step.{Step}
-use Rattle.bp_core.specs.Event.{Grant}
-use Rattle.bp_core.specs.Trail.{Trail}
+use Rattle.bp_trail.specs.declared.scripts.Row.{Row}
+use Rattle.bp_trail.specs.declared.scripts.Refused.{Refused}
+use Rattle.bp_trail.specs.declared.scripts.Step.{Step}
+use Rattle.bp_trail.specs.Event.{Grant}
+use Rattle.bp_trail.specs.Trail.{Trail}
 use Rattle.bp_core.specs.CoreView.{CoreView}
-use Rattle.bp_core.specs.Pieces.{Outcome}
-use Rattle.bp_core.specs.Pieces.Manner.{driver}
-use Rattle.bp_core.specs.Script.{held_passes, RowPiece, FollowsBy, GivesBack, Follows}
+use Rattle.bp_trail.specs.Pieces.{Outcome}
+use Rattle.bp_trail.specs.Pieces.Manner.{driver}
+use Rattle.bp_trail.specs.Script.{held_passes, RowPiece, FollowsBy, GivesBack, Follows}
 use Rattle.bp_device.specs.Drivers.{with_piece}
 
 -- the notes of the passes that these entries leave out, in the order taken

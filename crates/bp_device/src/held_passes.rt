@@ -1,11 +1,11 @@
 //! The passes that a script's clients hold, as notes in the order taken.
 ghost use Rattle.std.specs.Prelude.{IfNone, IfSome, All, Any, true, not, ◌==◌, find, filter, reverse, ◌≡◌, ◌≤◌, [], vec_len, vec_capacity};
-ghost use Rattle.bp_core.specs.declared.entries.Call.TheVariants as Call;
-ghost use Rattle.bp_core.specs.declared.entries.Reply.TheVariants as Reply;
-ghost use Rattle.bp_core.specs.Passes.{passes_out};
-ghost use Rattle.bp_core.specs.Legal.{is_out};
+ghost use Rattle.bp_trail.specs.declared.entries.Call.TheVariants as Call;
+ghost use Rattle.bp_trail.specs.declared.entries.Reply.TheVariants as Reply;
+ghost use Rattle.bp_trail.specs.Passes.{passes_out};
+ghost use Rattle.bp_trail.specs.Legal.{is_out};
 ghost use Rattle.bp_core.specs.CoreView.{EachPast, with_entry};
-ghost use Rattle.bp_core.specs.Script.{is_pass_of, first_to_go_back};
+ghost use Rattle.bp_trail.specs.Script.{is_pass_of, first_to_go_back};
 ghost use Rattle.bp_device.specs.Rows.{EndsIn, GaveBack};
 
 use bp_core::{Core, PassNote};

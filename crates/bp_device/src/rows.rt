@@ -1,8 +1,8 @@
 //! What each row of a script does.
 ghost use Rattle.std.specs.Prelude.{◌+◌, ◌≡◌, ◌<◌, ◌≤◌, length, vec_len, vec_capacity};
-ghost use Rattle.bp_core.specs.declared.scripts.Step.TheVariants as Step;
-ghost use Rattle.bp_core.specs.Fits.{RowFits};
-ghost use Rattle.bp_core.specs.Pieces.{outcome_of};
+ghost use Rattle.bp_trail.specs.declared.scripts.Step.TheVariants as Step;
+ghost use Rattle.bp_trail.specs.Fits.{RowFits};
+ghost use Rattle.bp_trail.specs.Pieces.{outcome_of};
 ghost use Rattle.bp_device.specs.Rows.{EndsIn, DrivesRow};
 
 use crate::drivers::{drive_fix, drive_flush};

@@ -1,8 +1,8 @@
 //! A whole script over a core that has one owner.
 ghost use Rattle.std.specs.Prelude.{OnErr, All, reverse, ◌+◌, ◌≡◌, ◌<◌, ◌≤◌, ◌++◌, [], IfOk, length, vec_len, vec_capacity};
-ghost use Rattle.bp_core.specs.Fits.{RowFits};
-ghost use Rattle.bp_core.specs.Pieces.{outcome_of};
-ghost use Rattle.bp_core.specs.Script.{refused_row};
+ghost use Rattle.bp_trail.specs.Fits.{RowFits};
+ghost use Rattle.bp_trail.specs.Pieces.{outcome_of};
+ghost use Rattle.bp_trail.specs.Script.{refused_row};
 ghost use Rattle.bp_device.specs.Rows.{AddsScript, DrivesRows};
 
 use crate::held_passes::give_back_all;

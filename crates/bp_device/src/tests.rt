@@ -1,5 +1,5 @@
 ghost use Rattle.std.specs.Prelude.{◌≡◌, ◌≤◌, All, IsTrue};
-ghost use Rattle.bp_core.specs.Fits.{RowFits};
+ghost use Rattle.bp_trail.specs.Fits.{RowFits};
 
 use super::*;
 use bp_core::{Core, PassNote, Refused, Reply, Row, Step};

@@ -6,11 +6,11 @@ use Rattle.std.proofs.lemmas.List.Elements.{All-cons}
 use Rattle.bp_page.specs.declared.limits.Geometry.{Geometry}
 use Rattle.bp_page.specs.declared.refusals.Refusal.{Refusal}
 use Rattle.bp_page.specs.declared.refusals.Refusal.TheVariants as refusal
-use Rattle.bp_core.specs.declared.scripts.Row.{Row}
-use Rattle.bp_core.specs.declared.scripts.Step.{Step}
-use Rattle.bp_core.specs.declared.scripts.Step.TheVariants as step
-use Rattle.bp_core.specs.Parameters.{Parameters}
-use Rattle.bp_core.specs.Fits.{StepFits}
+use Rattle.bp_trail.specs.declared.scripts.Row.{Row}
+use Rattle.bp_trail.specs.declared.scripts.Step.{Step}
+use Rattle.bp_trail.specs.declared.scripts.Step.TheVariants as step
+use Rattle.bp_trail.specs.Parameters.{Parameters}
+use Rattle.bp_trail.specs.Fits.{StepFits}
 use Rattle.bp_trace.specs.declared.record.Op.{Op}
 use Rattle.bp_trace.specs.declared.record.Op.TheVariants as op
 use Rattle.bp_trace.specs.declared.faults.TraceFault.{TraceFault}

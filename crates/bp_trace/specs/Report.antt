@@ -1,11 +1,11 @@
 -- What is printed of a run.
 use Rattle.std.specs.Prelude.{ℕ, List, [], ◌∷◌, ◌++◌, unwrap_or}
-use Rattle.bp_core.specs.declared.entries.Entry.{Entry}
-use Rattle.bp_core.specs.declared.entries.Call.{Call}
-use Rattle.bp_core.specs.declared.scripts.Refused.{Refused}
-use Rattle.bp_core.specs.Event.{ticks}
-use Rattle.bp_core.specs.Trail.{Trail}
-use Rattle.bp_core.specs.Clock.{clock}
+use Rattle.bp_trail.specs.declared.entries.Entry.{Entry}
+use Rattle.bp_trail.specs.declared.entries.Call.{Call}
+use Rattle.bp_trail.specs.declared.scripts.Refused.{Refused}
+use Rattle.bp_trail.specs.Event.{ticks}
+use Rattle.bp_trail.specs.Trail.{Trail}
+use Rattle.bp_trail.specs.Clock.{clock}
 use Rattle.bp_trace.specs.Lines.{event_line, refused_line}
 use Rattle.bp_trace.specs.Totals.{totals_of, totals_text}
 

@@ -8,7 +8,7 @@ use Rattle.bp_page.specs.Refusals.{number_of}
 use Rattle.bp_page.specs.declared.limits.Geometry.{Geometry}
 use Rattle.bp_page.specs.declared.refusals.Refusal.{Refusal}
 use Rattle.bp_page.specs.declared.refusals.Refusal.TheVariants as refusal
-use Rattle.bp_core.specs.declared.scripts.Row.{Row}
+use Rattle.bp_trail.specs.declared.scripts.Row.{Row}
 use Rattle.bp_trace.specs.declared.faults.TraceFault.{TraceFault}
 use Rattle.bp_trace.specs.Fields.{◌>>=◌, refused_if}
 use Rattle.bp_trace.specs.Record.{row_in}

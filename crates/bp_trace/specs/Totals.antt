@@ -1,9 +1,9 @@
 -- How many replies of each kind a list of entries has, and the lines that say so.
 use Rattle.std.specs.Prelude.{ℕ, ◌+◌, ◌^◌, ◌<◌, Bool, true, false, if◌then◌else◌, List, ◌++◌, codes, Some, count_by}
 use Rattle.std.specs.Fmt.{decimal}
-use Rattle.bp_core.specs.declared.entries.Entry.{Entry}
-use Rattle.bp_core.specs.declared.entries.Reply.{Reply}
-use Rattle.bp_core.specs.declared.entries.Reply.TheVariants.{Hit, Load, NoVictim, NeedLog, Busy, Fixed, ReadFailed, Cleaned, StillDirty, WriteFailed}
+use Rattle.bp_trail.specs.declared.entries.Entry.{Entry}
+use Rattle.bp_trail.specs.declared.entries.Reply.{Reply}
+use Rattle.bp_trail.specs.declared.entries.Reply.TheVariants.{Hit, Load, NoVictim, NeedLog, Busy, Fixed, ReadFailed, Cleaned, StillDirty, WriteFailed}
 use Rattle.bp_trace.specs.declared.totals.Totals.{Totals}
 
 abbrev pub is_hit : Reply → Bool

@@ -2,7 +2,7 @@
 ghost use Rattle.std.specs.Prelude.{◌≡◌, ◌≤◌, length, OnOk};
 ghost use Rattle.std.specs.Io.KnownBytes.{Appends};
 ghost use Rattle.hex.specs.Hex.{encode_lower};
-ghost use Rattle.bp_core.specs.Event.{page_of};
+ghost use Rattle.bp_trail.specs.Event.{page_of};
 ghost use Rattle.bp_trace.specs.Lines.{event_line, read_line, refused_line};
 
 use bp_core::{Call, Entry, Refused, Reply};

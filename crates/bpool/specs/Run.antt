@@ -2,13 +2,13 @@
 use Rattle.std.specs.Prelude.{◌≡◌, ℕ, ◌+◌, ◌*◌, ◌==◌, min, Bool, List, [], ◌++◌, length, reverse, Option, Some, IfSome, Ok, if◌then◌else◌}
 use Rattle.std.specs.Io.KnownBytes.{Appends}
 use Rattle.bp_page.specs.declared.limits.Geometry.{Geometry}
-use Rattle.bp_core.specs.declared.entries.Entry.{Entry}
-use Rattle.bp_core.specs.declared.scripts.Row.{Row}
-use Rattle.bp_core.specs.declared.scripts.Refused.{Refused}
-use Rattle.bp_core.specs.Parameters.{Parameters}
-use Rattle.bp_core.specs.Legal.{Legal}
-use Rattle.bp_core.specs.Pieces.Manner.{driver}
-use Rattle.bp_core.specs.Script.{Follows}
+use Rattle.bp_trail.specs.declared.entries.Entry.{Entry}
+use Rattle.bp_trail.specs.declared.scripts.Row.{Row}
+use Rattle.bp_trail.specs.declared.scripts.Refused.{Refused}
+use Rattle.bp_trail.specs.Parameters.{Parameters}
+use Rattle.bp_trail.specs.Legal.{Legal}
+use Rattle.bp_trail.specs.Pieces.Manner.{driver}
+use Rattle.bp_trail.specs.Script.{Follows}
 use Rattle.bp_trace.specs.Script.{script_of}
 use Rattle.bp_trace.specs.Report.{report_text, rows_text}
 use Rattle.clap.specs.Words.{Text}

@@ -2,7 +2,7 @@
 ghost use Rattle.std.specs.Prelude.{◌≡◌, ◌++◌, ◌<◌, ◌≤◌, All, IfErr, IfOk, OnOk, [], false, if◌then◌else◌, length};
 ghost use Rattle.std.specs.Io.KnownBytes.{Appends};
 ghost use Rattle.clap.specs.Walk.{texts};
-ghost use Rattle.bp_core.specs.Fits.{RowFits};
+ghost use Rattle.bp_trail.specs.Fits.{RowFits};
 ghost use Rattle.bp_trace.specs.InRange.{IsInRange};
 ghost use Rattle.bp_trace.specs.Report.{report_text, rows_text};
 ghost use Rattle.bpool.specs.Decision.{AsksForHelp, IsRunnable};

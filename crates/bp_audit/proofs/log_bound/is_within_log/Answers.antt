@@ -1,7 +1,7 @@
 use Rattle.std.proofs.Common.{rules, ◌≤◌, ◌∷◌, ◌∙◌, ◌+◌, ap, sym, subst, refl, arith, length, take, reverse, eqb}
 use Rattle.std.proofs.lemmas.List.{reverse-reverse}
-use Rattle.bp_core.specs.Clock.{durable}
-use Rattle.bp_core.specs.Event.{marked}
+use Rattle.bp_trail.specs.Clock.{durable}
+use Rattle.bp_trail.specs.Event.{marked}
 use Rattle.bp_audit.specs.Clients.{of_client}
 use Rattle.bp_audit.specs.Log.{EntryWithinLog, at_least, logged, row_at}
 use Rattle.bp_audit.proofs.Logged.{newest, not_within, row_grows, count_more, one_at_most, durable_next}

@@ -1,6 +1,6 @@
 use Rattle.std.proofs.Common.{◌≡◌, ◌≤◌, length, take, reverse}
-use Rattle.bp_core.specs.Lists.{EachEntry}
-use Rattle.bp_core.specs.Clock.{durable}
+use Rattle.bp_trail.specs.Lists.{EachEntry}
+use Rattle.bp_trail.specs.Clock.{durable}
 use Rattle.bp_audit.specs.Clients.{of_client}
 use Rattle.bp_audit.specs.Log.{logged, row_at, EntryWithinLog}
 use Rattle.bp_audit.proofs.log_bound.is_within_log.Given as goal

@@ -1,7 +1,7 @@
 -- A fix adds its entry, or its write-out and what the same fix then answers.
 use Rattle.std.proofs.Common.{subst, Ok}
 use Rattle.bp_core.specs.Outcomes.{FixOutcome}
-use Rattle.bp_core.specs.Pieces.FixGoesOn.{begins}
+use Rattle.bp_trail.specs.Pieces.FixGoesOn.{begins}
 use Rattle.bp_device.proofs.Driving.{adds-none, hit-drives, load-drives, save-waits, save-drives, refusal-drives}
 use Rattle.bp_device.proofs.SecondTry.{no-second-write}
 use Rattle.bp_device.proofs.drivers.drive_fix.Goals as goal

@@ -2,7 +2,7 @@
 use Rattle.std.proofs.Common.{rules, tests, ◌∙◌}
 use Rattle.std.proofs.lemmas.Iterator.Search.{find_from_yields_List}
 use Rattle.std.proofs.lemmas.Iterator.Adapters.{YieldsList-from_rev_slice}
-use Rattle.bp_core.specs.Script.{is_pass_of}
+use Rattle.bp_trail.specs.Script.{is_pass_of}
 use Rattle.bp_device.proofs.held_passes.latest.Goals as goal
 
 pub returns : goal.returns

@@ -1,7 +1,7 @@
 use Rattle.std.proofs.Common.{◌∙◌, ◌++◌, ◌+◌, ◌<◌, ◌^◌, [], ◌∷◌, ℕ, List, length, drop, sym, ap, append_assoc, arith, refl}
 use Rattle.std.proofs.KnownBytes.{Appends-nil, Appends-trans}
 use Rattle.std.proofs.lemmas.List.{append-nil, drop_all}
-use Rattle.bp_core.specs.Clock.{clock}
+use Rattle.bp_trail.specs.Clock.{clock}
 use Rattle.bp_trace.specs.Lines.{event_line}
 use Rattle.bp_trace.specs.Totals.{totals_of}
 use Rattle.bp_trace.specs.Report.{lines_after}

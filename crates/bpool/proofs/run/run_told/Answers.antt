@@ -2,7 +2,7 @@
 use Rattle.std.proofs.Common.{◌≡◌, sym, subst, Bool, List, length, ℕ, Option, Result, Ok, Err}
 use Rattle.std.specs.Prelude.{IfOk}
 use Rattle.bp_page.specs.declared.limits.Geometry.{Geometry}
-use Rattle.bp_core.specs.declared.scripts.Row.{Row}
+use Rattle.bp_trail.specs.declared.scripts.Row.{Row}
 use Rattle.bpool.specs.declared.ending.Ending.{Ending}
 use Rattle.bpool.specs.PageFile.{HasPages, memory_named}
 use Rattle.bpool.specs.Words.{Told, told_of}
