@@ -18,7 +18,7 @@ use Rattle.bp_core.proofs.WriteAhead.{write_ahead}
 use Rattle.bp_core.proofs.Events.{Event, event-of}
 use Rattle.bp_core.proofs.Events.Event.{fix_load, fix_replace}
 
-evicted-at : (c : Parameters) (past : Trail) (who : ℕ) (call : Call) (reply : Reply) → Event c past who call reply → (t v : ℕ) → reply ≡ Load t (Some v) → (victim c past ≡ Some v) × (unsaved past v ≡ false)
+pub evicted-at : (c : Parameters) (past : Trail) (who : ℕ) (call : Call) (reply : Reply) → Event c past who call reply → (t v : ℕ) → reply ≡ Load t (Some v) → (victim c past ≡ Some v) × (unsaved past v ≡ false)
 evicted-at c past who _ _ (fix_load p m f) t v h = cc
 evicted-at c past who _ _ (fix_replace p u m w d) t v h = let i : u ≡ v = cc in (subst (λ x. victim c past ≡ Some x) i w, subst (λ x. unsaved past x ≡ false) i d)
 evicted-at c past who _ _ _ t v h = cc

@@ -34,7 +34,7 @@ Airborne past = record {
   flying : (p : ℕ) → writing past p ≡ true → unsaved past p ≡ true;
 }
 
-serial-below : (t n : ℕ) (gs : List Grant) → AllBelow n gs → some (has_serial t) gs ≡ true → suc t ≤ n
+pub serial-below : (t n : ℕ) (gs : List Grant) → AllBelow n gs → some (has_serial t) gs ≡ true → suc t ≤ n
 serial-below t n [] b m = cc
 serial-below t n (g ∷ gs) b m = elim (or_cases (g.serial == t) _ m) as (λ _. suc t ≤ n)
     [ inl e ↦ subst (λ x. suc x ≤ n) (eqb-true g.serial t e) b.0 | inr k ↦ serial-below t n gs b.1 k ]

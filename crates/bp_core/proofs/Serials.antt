@@ -173,7 +173,7 @@ numbered c [] l = record { passes_below = tt; passes_once = tt; reads_below = tt
 numbered c (e ∷ past) l = numbered-with c past e.client (numbered c past l.before) e.call e.reply (event-of c past e l.here)
 
 -- a grant is the one that is named
-same-grant-is : (who p t : ℕ) (g : Grant) → same_grant (grant who p t) g ≡ true → g ≡ grant who p t
+pub same-grant-is : (who p t : ℕ) (g : Grant) → same_grant (grant who p t) g ≡ true → g ≡ grant who p t
 same-grant-is who p t g m =
     let a = and_parts (who == g.client) _ m in
     let b = and_parts (p == g.page) (t == g.serial) a.1 in

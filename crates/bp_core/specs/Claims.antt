@@ -1,5 +1,8 @@
 -- What holds of images in every legal trail.
-use Rattle.std.specs.Prelude.{◌≡◌, ℕ, List, true, IsSome}
+use Rattle.std.specs.Prelude.{◌≡◌, ℕ, List, Option, true, IsSome}
+use Rattle.bp_core.specs.declared.entries.Entry.{Entry}
+use Rattle.bp_core.specs.declared.entries.Call.TheVariants.{ReadEnd, Read}
+use Rattle.bp_core.specs.declared.entries.Reply.TheVariants.{WriteFirst, Content}
 use Rattle.bp_core.specs.Event.{grant}
 use Rattle.bp_core.specs.Trail.{Trail}
 use Rattle.bp_core.specs.Passes.{reads_out}
@@ -15,3 +18,17 @@ HeldIsPlain past = (m : ℕ → List ℕ) (p : ℕ) → Honest m past → reside
 -- what each read that is out is due to give is known
 abbrev pub ReadsAreKnown : Trail → Type 0
 ReadsAreKnown past = (m : ℕ → List ℕ) (who p t : ℕ) → is_out (grant who p t) (reads_out past) ≡ true → IsSome (due m past p)
+
+-- ---- of one entry, and what stands before it
+
+-- a read end finds known what is due
+abbrev pub FindsDue : Trail → Entry → Type 0
+FindsDue past e = (m : ℕ → List ℕ) (t p : ℕ) (image : Option (List ℕ)) → e.call ≡ ReadEnd t p image → IsSome (due m past p)
+
+-- where the device was honest so far, the content that is answered is the plain map's
+abbrev pub AnswersPlain : Trail → Entry → Type 0
+AnswersPlain past e = (m : ℕ → List ℕ) (n p : ℕ) (image : List ℕ) → Honest m past → e.call ≡ Read n p → e.reply ≡ Content image → image ≡ plain_map m past p
+
+-- and so is each image that goes out
+abbrev pub SendsPlain : Trail → Entry → Type 0
+SendsPlain past e = (m : ℕ → List ℕ) (t p : ℕ) (image : List ℕ) → Honest m past → e.reply ≡ WriteFirst t p image → image ≡ plain_map m past p

@@ -16,6 +16,8 @@ pub mod Legal
 pub mod Device
 pub mod Safety
 pub mod Claims
+pub mod Sentences
+pub mod Wording
 pub mod Pieces
 pub mod Script
 pub mod Fits

@@ -1,10 +1,10 @@
 -- What each entry of a legal trail keeps: no pinned and no unsaved page leaves, the victim is the one that LRU-K names, and no image goes out beyond the durable log.
-use Rattle.std.specs.Prelude.{◌≡◌, ℕ, ◌≤◌, List, Some, filter_map, IsFalse}
+use Rattle.std.specs.Prelude.{◌≡◌, ℕ, ◌≤◌, List, Some, filter_map, Contains, IsTrue, IsFalse}
 use Rattle.bp_core.specs.declared.entries.Entry.{Entry}
 use Rattle.bp_core.specs.declared.entries.Reply.TheVariants.{Load, WriteFirst}
 use Rattle.bp_core.specs.Parameters.{Parameters}
 use Rattle.bp_core.specs.Lists.{greatest, EachEntry}
-use Rattle.bp_core.specs.Event.{lsn_written}
+use Rattle.bp_core.specs.Event.{writes, lsn_of, lsn_written}
 use Rattle.bp_core.specs.Trail.{Trail}
 use Rattle.bp_core.specs.Clock.{durable}
 use Rattle.bp_core.specs.Passes.{pins}
@@ -29,3 +29,7 @@ pub record IsSafe (c : Parameters) (past : Trail) (e : Entry) : Type 0 where
 
 abbrev pub Safe : Parameters → Trail → Type 0
 Safe c past = EachEntry (IsSafe c) past
+
+-- the same of each earlier write
+abbrev pub WritesAreDurable : Trail → Entry → Type 0
+WritesAreDurable past e = (t p : ℕ) (image : List ℕ) (w : Entry) → e.reply ≡ WriteFirst t p image → Contains past w → IsTrue (writes p w) → lsn_of w.call ≤ durable past

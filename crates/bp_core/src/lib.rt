@@ -9,6 +9,7 @@ pub mod entries;
 mod frame;
 mod frame_table;
 mod grant_list;
+pub mod laws;
 pub mod passes;
 pub mod pool;
 pub mod scripts;
@@ -19,3 +20,6 @@ pub use entries::{Call, Entry, Reply};
 pub use passes::{EndRefusal, Ended, Fix, Flush, Pass, PassNote, ReadTicket, WriteTicket};
 pub use pool::Core;
 pub use scripts::{Refused, Row, Step};
+
+#[cfg(test)]
+mod tests;
