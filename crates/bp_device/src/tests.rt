@@ -251,15 +251,19 @@ fn drive_flush_answers(rt: HostRuntime) -> Result<(), Fail> {
     Ok(())
 }
 
+/// Asserts that page 1 alone has the bytes that were written, and that no failure was counted.
+fn expect_pages<P: Port, R: Wait + Abort>(rt: &R, port: &mut P) {
+    expect_page(rt, port, PageNo::new(0), &ZEROS);
+    expect_page(rt, port, PageNo::new(1), &NINE);
+    expect_page(rt, port, PageNo::new(2), &ZEROS);
+    assert_eq!(rt; port.failures(), 0);
+}
+
 /// Asserts that both ports read what one of them writes.
 fn expect_same_pages<P: Port, R: Wait + Abort>(rt: &R, port: &mut P, other: &mut P, nine: &Image) {
     assert_eq!(rt; port.write(rt, PageNo::new(1), nine), Ok(()));
-    for port in [port, other] {
-        expect_page(rt, port, PageNo::new(0), &ZEROS);
-        expect_page(rt, port, PageNo::new(1), &NINE);
-        expect_page(rt, port, PageNo::new(2), &ZEROS);
-        assert_eq!(rt; port.failures(), 0);
-    }
+    expect_pages(rt, port);
+    expect_pages(rt, other);
 }
 
 /// Asserts that a port fails to read and to write page 4 of four, and to write a longer image to page 0, and counts each failure.
