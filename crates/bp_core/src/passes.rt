@@ -81,6 +81,20 @@ pub enum EndRefusal<T, R> {
     Failed(Refusal),
 }
 
+impl<T, R> EndRefusal<T, R> {
+    ghost use Rattle.bp_core.specs.EndRefusals.{number_of_end};
+
+    /// Its number, which reports and messages print.
+    pub fn number(&self) -> u16
+        ensures { result ≡ number_of_end self.now }
+    {
+        match self {
+            EndRefusal::Unknown(_, _) => Refusal::UnknownTicket.number(),
+            EndRefusal::Failed(refusal) => refusal.number(),
+        }
+    }
+}
+
 impl Pass {
     /// Whose it is.
     pub fn client(&self) -> u8
