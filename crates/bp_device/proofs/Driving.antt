@@ -1,9 +1,7 @@
 -- How pieces grow, entry by entry.
-use Rattle.std.proofs.Common.{◌≡◌, refl, sym, ◌∙◌, ap, subst, ℕ, List, [], ◌∷◌, ◌++◌, true, false, Option, Some, None, Result, Ok, Err}
-use Rattle.std.specs.Prelude.{IsTrue}
+use Rattle.std.proofs.Common.{◌≡◌, refl, sym, ◌∙◌, ap, subst, ℕ, [], ◌∷◌, ◌++◌, true, false, Option, Some, None, Result, Ok, Err}
 use Rattle.bp_page.specs.declared.refusals.Refusal.{Refusal}
 use Rattle.bp_page.specs.declared.refusals.Refusal.TheVariants as refusal
-use Rattle.bp_page.specs.Refusals.{number_of}
 use Rattle.bp_core.specs.declared.passes.Pass.{Pass}
 use Rattle.bp_core.specs.declared.passes.ReadTicket.{ReadTicket}
 use Rattle.bp_core.specs.declared.passes.WriteTicket.{WriteTicket}
@@ -16,12 +14,12 @@ use Rattle.bp_trail.specs.declared.entries.Call.TheVariants.{Fix, ReadEnd, Write
 use Rattle.bp_trail.specs.declared.entries.Reply.{Reply}
 use Rattle.bp_trail.specs.declared.entries.Reply.TheVariants.{Hit, Load, WriteFirst, NoVictim, NeedLog, Busy, Fixed, ReadFailed, WriteFailed, Cleaned, StillDirty, Clean, Absent}
 use Rattle.bp_trail.specs.Lists.{and_given, without}
-use Rattle.bp_trail.specs.Event.{Grant, grant, page_of, pass_given, pass_back}
+use Rattle.bp_trail.specs.Event.{page_of, pass_given, pass_back}
 use Rattle.bp_trail.specs.Trail.{Trail}
 use Rattle.bp_trail.specs.Passes.{passes_out}
 use Rattle.bp_core.specs.CoreView.{CoreView, with_entry}
 use Rattle.bp_core.specs.Outcomes.{FixOutcome, FlushOutcome}
-use Rattle.bp_trail.specs.Pieces.{Manner, Outcome, by, FixGoesOn, FixPiece, FlushGoesOn, FlushPiece}
+use Rattle.bp_trail.specs.Pieces.{by, FixGoesOn, FixPiece, FlushGoesOn, FlushPiece}
 use Rattle.bp_trail.specs.Pieces.Manner.{driver}
 use Rattle.bp_trail.specs.Pieces.Outcome.{accepted, refused}
 use Rattle.bp_trail.specs.Pieces.FixGoesOn.{cleaned as on_cleaned, still_dirty as on_still_dirty}
@@ -30,7 +28,7 @@ use Rattle.bp_trail.specs.Pieces.FlushGoesOn.{begins as flush_begins}
 use Rattle.bp_trail.specs.Pieces.FlushPiece.{clean as flush_clean, absent as flush_absent, cleaned as flush_cleaned, still_dirty as flush_still_dirty, need_log as flush_need_log, busy as flush_busy, write_failed as flush_write_failed, no_room as flush_no_room, no_memory as flush_no_memory}
 use Rattle.bp_device.specs.declared.drivers.Flushed.{Flushed}
 use Rattle.bp_device.specs.declared.drivers.Flushed.TheVariants as flushed
-use Rattle.bp_device.specs.Drivers.{with_piece, AddsPiece, DrivesFix, DrivesFlush, LoadOutcome, SaveOutcome, ended_reply, flushed_reply}
+use Rattle.bp_device.specs.Drivers.{AddsPiece, DrivesFix, DrivesFlush, LoadOutcome, SaveOutcome, ended_reply, flushed_reply}
 
 -- no entry yet
 pub adds-none : (core : CoreView) (P : Trail → Type 0) → P [] → AddsPiece core P None core

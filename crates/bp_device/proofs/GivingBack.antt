@@ -1,8 +1,8 @@
 -- Which pass goes back next, and that each goes back once.
-use Rattle.std.proofs.Common.{◌≡◌, refl, sym, ◌∙◌, ap, subst, ℕ, suc, ◌<◌, ◌≤◌, nat_lt, nat_le, arith, cond, List, [], ◌∷◌, ◌++◌, true, false, not, Bool, ◌==◌, ◌&&◌, ◌||◌, Option, Some, None, length}
-use Rattle.std.specs.Prelude.{IfNone, All, Any, find, filter, reverse}
+use Rattle.std.proofs.Common.{◌≡◌, refl, sym, ◌∙◌, ap, ℕ, suc, ◌<◌, ◌≤◌, nat_le, arith, cond, List, [], ◌∷◌, true, false, not, Bool, ◌==◌, ◌&&◌, ◌||◌, Option, Some, None, length}
+use Rattle.std.specs.Prelude.{IfNone, All, Any, find, filter}
 use Rattle.std.specs.List.{list_any, list_all}
-use Rattle.std.proofs.lemmas.Bool.{eqb-true, eq-eqb, ne_eqb, eqb-false, and_parts, and_from, or_cases, le-leb, leb-true}
+use Rattle.std.proofs.lemmas.Bool.{eqb-true, eq-eqb, eqb-false, and_parts, and_from, le-leb, leb-true}
 use Rattle.std.proofs.lemmas.List.Elements.{All-tail}
 use Rattle.std.proofs.lemmas.List.Folds.{list_any-from_Any}
 use Rattle.bp_trail.specs.Lists.{every}

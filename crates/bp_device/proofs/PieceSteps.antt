@@ -1,5 +1,5 @@
 -- What each row adds, and that the notes are then of the passes that are out.
-use Rattle.std.proofs.Common.{◌≡◌, refl, sym, ◌∙◌, ap, subst, ℕ, ◌<◌, arith, cond, List, [], ◌∷◌, ◌++◌, true, false, not, Bool, ◌==◌, ◌&&◌, ◌||◌, Option, Some, None, Result, Ok, Err}
+use Rattle.std.proofs.Common.{◌≡◌, refl, sym, ◌∙◌, ap, subst, ℕ, arith, cond, List, [], ◌∷◌, ◌++◌, true, false, not, Bool, ◌==◌, ◌&&◌, ◌||◌, Option, Some, None, Result, Ok, Err}
 use Rattle.std.specs.Prelude.{Contains, find, filter, reverse}
 use Rattle.std.proofs.lemmas.Bool.{eqb-true, eq-eqb, and_parts, and_from}
 use Rattle.std.proofs.lemmas.List.{reverse-reverse, reverse-append}
@@ -9,7 +9,7 @@ use Rattle.bp_core.specs.declared.passes.Pass.{Pass}
 use Rattle.bp_trail.specs.declared.scripts.Step.{Step}
 use Rattle.bp_trail.specs.declared.scripts.Step.TheVariants as step
 use Rattle.bp_trail.specs.declared.entries.Call.{Call}
-use Rattle.bp_trail.specs.declared.entries.Call.TheVariants.{Tick, Mark, Fix, Read, Write, Unfix, Flush, Purge}
+use Rattle.bp_trail.specs.declared.entries.Call.TheVariants.{Tick, Mark, Read, Write, Unfix, Purge}
 use Rattle.bp_trail.specs.declared.entries.Reply.{Reply}
 use Rattle.bp_trail.specs.declared.entries.Reply.TheVariants.{Done, Content, Forgot}
 use Rattle.bp_trail.specs.Lists.{some, without, and_given}
@@ -19,14 +19,13 @@ use Rattle.bp_trail.specs.Passes.{passes_out, pass_of}
 use Rattle.bp_trail.specs.Legal.{is_out}
 use Rattle.bp_core.specs.CoreView.{CoreView, with_entry}
 use Rattle.bp_core.specs.Outcomes.{ReadOutcome, WriteOutcome, TickOutcome, StepOutcome, PurgeOutcome, KnowsPass}
-use Rattle.bp_trail.specs.Pieces.{Outcome, by, outcome_of, FixPiece, FlushPiece}
+use Rattle.bp_trail.specs.Pieces.{Outcome, by, outcome_of}
 use Rattle.bp_trail.specs.Pieces.Manner.{driver}
 use Rattle.bp_trail.specs.Pieces.Outcome.{accepted, refused}
-use Rattle.bp_trail.specs.Script.{is_pass_of, latest_pass, held_passes, WithPass, RowPiece}
-use Rattle.bp_trail.proofs.Lists.{some-mono}
-use Rattle.bp_trail.proofs.Counting.{reverse-push, filter-reverse}
+use Rattle.bp_trail.specs.Script.{is_pass_of, latest_pass, WithPass, RowPiece}
+use Rattle.bp_trail.proofs.Counting.{filter-reverse}
 use Rattle.bp_device.specs.declared.drivers.Flushed.{Flushed}
-use Rattle.bp_device.specs.Drivers.{with_piece, AddsPiece, DrivesFix, DrivesFlush}
+use Rattle.bp_device.specs.Drivers.{DrivesFix, DrivesFlush}
 use Rattle.bp_device.specs.Rows.{AreHeld, EndsIn, DrivesRow}
 
 -- a pass that a search finds passes the test, and is among those searched

@@ -1,6 +1,6 @@
 -- How the entries of a script grow row by row, and how the passes go back.
-use Rattle.std.proofs.Common.{◌≡◌, refl, sym, ◌∙◌, ap, subst, ℕ, ◌<◌, List, [], ◌∷◌, ◌++◌, true, false, not, Bool, ◌==◌, ◌||◌, nat_le, Option, Some, None, length}
-use Rattle.std.specs.Prelude.{find, filter, reverse}
+use Rattle.std.proofs.Common.{◌≡◌, refl, sym, ◌∙◌, ap, subst, ◌<◌, List, [], ◌∷◌, ◌++◌, true, false, not, Bool, ◌==◌, ◌||◌, nat_le, Some, length}
+use Rattle.std.specs.Prelude.{filter, reverse}
 use Rattle.std.proofs.lemmas.Bool.{eqb-true, eq-eqb, and_parts}
 use Rattle.std.proofs.lemmas.List.{append_assoc, reverse-append, reverse-reverse}
 use Rattle.bp_trail.specs.declared.scripts.Row.{Row}
@@ -15,7 +15,7 @@ use Rattle.bp_trail.specs.Legal.{is_out}
 use Rattle.bp_core.specs.CoreView.{CoreView, with_entry}
 use Rattle.bp_trail.specs.Pieces.{Outcome}
 use Rattle.bp_trail.specs.Pieces.Manner.{driver}
-use Rattle.bp_trail.specs.Script.{refused_row, FollowsBy, Follows, GivesBack, first_to_go_back, give_back}
+use Rattle.bp_trail.specs.Script.{refused_row, FollowsBy, GivesBack, first_to_go_back, give_back}
 use Rattle.bp_trail.specs.Script.GivesBack.{none_held, next as gives_next}
 use Rattle.bp_trail.proofs.Lists.{some-append, some-mono}
 use Rattle.bp_trail.proofs.Counting.{reverse-push, filter-reverse}

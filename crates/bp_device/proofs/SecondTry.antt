@@ -1,6 +1,5 @@
 -- After a write-out of the victim that ended well, the same fix made again answers a load.
-use Rattle.std.proofs.Common.{◌≡◌, refl, sym, ◌∙◌, ap, subst, ℕ, true, ◌∷◌, Some, Ok}
-use Rattle.bp_core.specs.declared.passes.Pass.{Pass}
+use Rattle.std.proofs.Common.{◌≡◌, ◌∙◌, ap, subst, ℕ, true, ◌∷◌, Some, Ok}
 use Rattle.bp_core.specs.declared.passes.WriteTicket.{WriteTicket}
 use Rattle.bp_core.specs.declared.passes.Fix.TheVariants as fixing
 use Rattle.bp_core.specs.declared.passes.Ended.{Ended}
@@ -15,7 +14,7 @@ use Rattle.bp_core.specs.CoreView.{CoreView, with_entry}
 use Rattle.bp_core.specs.Outcomes.{Adds, FixOutcome}
 use Rattle.bp_trail.specs.Pieces.{by}
 use Rattle.bp_core.proofs.SecondFix.{begun, cleaned, not-dirty, cleaned-loads}
-use Rattle.bp_device.specs.Drivers.{SaveOutcome, ended_reply}
+use Rattle.bp_device.specs.Drivers.{SaveOutcome}
 
 -- the trail with an added entry, which is lawful
 lawful : (old new : CoreView) (client : ℕ) (call : _) (reply : Reply) → Adds old client call reply new → Legal old.parameters (by client call reply ∷ old.past)

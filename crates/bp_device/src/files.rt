@@ -1,5 +1,5 @@
 //! A page file, and the port on it.
-ghost use Rattle.std.specs.Prelude.{◌≡◌, ◌⊎◌, ◌*◌, ◌↔◌, IsOk, IfOk, OnErr, vec_len};
+ghost use Rattle.std.specs.Prelude.{◌≡◌, ◌⊎◌, ◌*◌, ◌↔◌, IsOk, IfOk, IfErr, OnErr, vec_len};
 ghost use Rattle.bp_page.specs.Limits.{IsGeometry};
 ghost use Rattle.bp_device.specs.Ports.{PortView};
 ghost use Rattle.bp_device.specs.Files.{IsFileLength};
@@ -74,7 +74,7 @@ impl FilePort {
     ) -> Result<FilePort, OpenFault>
         requires size { IsGeometry 1 size }
         ensures opened { IfOk result (λ port. (port.device.size ≡ size) × (port.failures ≡ 0)) }
-        ensures refused { OnErr result ((result ≡ Err (OpenFault.Refused Refusal.BadLength)) ⊎ ((result ≡ Err (OpenFault.Port PortFault.Device)) ⊎ (result ≡ Err (OpenFault.Port PortFault.Memory)))) }
+        ensures refused { IfErr result (λ fault. (fault ≡ OpenFault.Refused Refusal.BadLength) ⊎ ((fault ≡ OpenFault.Port PortFault.Device) ⊎ (fault ≡ OpenFault.Port PortFault.Memory))) }
     {
         let Ok(file) = OpenOptions::new().read(true).write(true).open(rt, path) else {
             return Err(OpenFault::Port(PortFault::Device));

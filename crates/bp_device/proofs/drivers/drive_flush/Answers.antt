@@ -1,5 +1,5 @@
 -- A flush adds its entry, and the end of its write-out where one began.
-use Rattle.std.proofs.Common.{◌≡◌, refl, subst, Ok}
+use Rattle.std.proofs.Common.{refl, subst, Ok}
 use Rattle.bp_core.specs.declared.passes.Ended.TheVariants as ended
 use Rattle.bp_core.specs.Outcomes.{FlushOutcome}
 use Rattle.bp_device.specs.declared.drivers.Flushed.TheVariants as flushed

@@ -1,5 +1,5 @@
 -- Each turn gives back the pass that goes back next.
-use Rattle.std.proofs.Common.{◌≡◌, sym, ◌∙◌, ap, ◌<◌, length, arith, Some}
+use Rattle.std.proofs.Common.{sym, ◌∙◌, ap, arith}
 use Rattle.bp_trail.specs.Script.{first_to_go_back}
 use Rattle.bp_device.proofs.ScriptSteps.{going-none, going-known, going-next, going-done, going-fewer}
 use Rattle.bp_device.proofs.held_passes.give_back_all.Goals as goal

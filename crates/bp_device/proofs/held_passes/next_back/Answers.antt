@@ -1,5 +1,5 @@
 -- The first pass of the lowest client goes back next.
-use Rattle.std.proofs.Common.{rules, tests, ◌≡◌, sym, ◌∙◌, ap, ◌==◌, None}
+use Rattle.std.proofs.Common.{rules, tests, ◌∙◌, ◌==◌}
 use Rattle.std.proofs.lemmas.Iterator.{YieldsList-from_slice}
 use Rattle.std.proofs.lemmas.Iterator.Search.{find_from_yields_List}
 use Rattle.bp_device.proofs.GivingBack.{first-of_lowest, none-of_lowest}

@@ -1,5 +1,5 @@
 -- The latest pass goes back.
-use Rattle.std.proofs.Common.{◌≡◌, sym, ap, ◌∙◌, Some}
+use Rattle.std.proofs.Common.{sym, ap, ◌∙◌}
 use Rattle.std.specs.Prelude.{find, reverse}
 use Rattle.bp_trail.specs.Script.{is_pass_of}
 use Rattle.bp_device.proofs.PieceSteps.{latest-known, unfix-drives}
