@@ -6,23 +6,23 @@ use Rattle.bp_lruk.specs.Burst.{Reference, last_time}
 use Rattle.bp_lruk.specs.Burst.Reference.{hit, fault}
 use Rattle.bp_lruk.specs.Stamp.{stamp}
 use Rattle.bp_lruk.specs.Candidates.{Entered, entry_of, NoPageTwice, SameLimits}
-use Rattle.bp_core.specs.declared.entries.Call.{Call}
-use Rattle.bp_core.specs.declared.entries.Call.TheVariants.{Fix, ReadEnd, Unfix, Flush, Purge}
-use Rattle.bp_core.specs.declared.entries.Reply.TheVariants.{Done, Hit, Load, WriteFirst, Fixed, Forgot}
-use Rattle.bp_core.specs.Parameters.{Parameters}
-use Rattle.bp_core.specs.Event.{grant}
-use Rattle.bp_core.specs.Trail.{Trail}
-use Rattle.bp_core.specs.Clock.{clock}
-use Rattle.bp_core.specs.Passes.{passes_out, is_of, pins}
-use Rattle.bp_core.specs.Places.{residents, resident, loading, writing}
-use Rattle.bp_core.specs.References.{references, forgets, hist, last, is_empty}
-use Rattle.bp_core.specs.Legal.{is_out, Legal}
+use Rattle.bp_trail.specs.declared.entries.Call.{Call}
+use Rattle.bp_trail.specs.declared.entries.Call.TheVariants.{Fix, ReadEnd, Unfix, Flush, Purge}
+use Rattle.bp_trail.specs.declared.entries.Reply.TheVariants.{Done, Hit, Load, WriteFirst, Fixed, Forgot}
+use Rattle.bp_trail.specs.Parameters.{Parameters}
+use Rattle.bp_trail.specs.Event.{grant}
+use Rattle.bp_trail.specs.Trail.{Trail}
+use Rattle.bp_trail.specs.Clock.{clock}
+use Rattle.bp_trail.specs.Passes.{passes_out, is_of, pins}
+use Rattle.bp_trail.specs.Places.{residents, resident, loading, writing}
+use Rattle.bp_trail.specs.References.{references, forgets, hist, last, is_empty}
+use Rattle.bp_trail.specs.Legal.{is_out, Legal}
 use Rattle.bp_core.specs.Outcomes.{IsBegin}
 use Rattle.bp_core.specs.Outcomes.IsBegin.{by_fix, by_flush}
 use Rattle.bp_core.specs.Agreement.{unused, entry_for, HasCandidates}
-use Rattle.bp_core.proofs.Counting.{count-cons}
+use Rattle.bp_trail.proofs.Counting.{count-cons}
 use Rattle.bp_core.proofs.Changes.{by, pins-hit, pins-unfix}
-use Rattle.bp_core.proofs.Residents.{left-none, left-other}
+use Rattle.bp_trail.proofs.Residents.{left-none, left-other}
 
 module _ (c : Parameters) (past later : Trail) (q : ℕ) where
   -- a page of which nothing that counts is told otherwise

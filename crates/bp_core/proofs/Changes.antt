@@ -1,23 +1,23 @@
 -- How each observation changes with one entry. Those with `refl` need no citation: they hold by computation where the entry is written out.
 use Rattle.std.proofs.Common.{◌≡◌, refl, ap, ℕ, suc, ◌+◌, max, Bool, true, false, not, ◌||◌, ◌==◌, if◌then◌else◌, List, [], ◌∷◌, filter, length, Option, Some, None, arith}
 use Rattle.bp_lruk.specs.Burst.Reference.{hit, fault}
-use Rattle.bp_core.specs.declared.entries.Entry.{Entry}
-use Rattle.bp_core.specs.declared.entries.Call.{Call}
-use Rattle.bp_core.specs.declared.entries.Call.TheVariants.{Tick, Mark, Fix, ReadEnd, WriteEnd, Write, Unfix, Purge}
-use Rattle.bp_core.specs.declared.entries.Reply.{Reply}
-use Rattle.bp_core.specs.declared.entries.Reply.TheVariants.{Done, Hit, Load, WriteFirst, Fixed, WriteFailed, Forgot}
-use Rattle.bp_core.specs.Parameters.{Parameters}
-use Rattle.bp_core.specs.Event.{Grant, grant, patched}
-use Rattle.bp_core.specs.Trail.{Trail}
-use Rattle.bp_core.specs.Clock.{clock, durable}
-use Rattle.bp_core.specs.Passes.{passes, tickets, passes_out, reads_out, is_of, pins}
-use Rattle.bp_core.specs.Places.{residents, resident, loading, writing}
-use Rattle.bp_core.specs.Saved.{unsaved, top}
-use Rattle.bp_core.specs.Images.{held}
-use Rattle.bp_core.specs.Room.{free}
-use Rattle.bp_core.specs.References.{references, forgets}
-use Rattle.bp_core.specs.Legal.{is_out, Legal}
-use Rattle.bp_core.proofs.Serials.{numbered, count-rest, rest}
+use Rattle.bp_trail.specs.declared.entries.Entry.{Entry}
+use Rattle.bp_trail.specs.declared.entries.Call.{Call}
+use Rattle.bp_trail.specs.declared.entries.Call.TheVariants.{Tick, Mark, Fix, ReadEnd, WriteEnd, Write, Unfix, Purge}
+use Rattle.bp_trail.specs.declared.entries.Reply.{Reply}
+use Rattle.bp_trail.specs.declared.entries.Reply.TheVariants.{Done, Hit, Load, WriteFirst, Fixed, WriteFailed, Forgot}
+use Rattle.bp_trail.specs.Parameters.{Parameters}
+use Rattle.bp_trail.specs.Event.{Grant, grant, patched}
+use Rattle.bp_trail.specs.Trail.{Trail}
+use Rattle.bp_trail.specs.Clock.{clock, durable}
+use Rattle.bp_trail.specs.Passes.{passes, tickets, passes_out, reads_out, is_of, pins}
+use Rattle.bp_trail.specs.Places.{residents, resident, loading, writing}
+use Rattle.bp_trail.specs.Saved.{unsaved, top}
+use Rattle.bp_trail.specs.Images.{held}
+use Rattle.bp_trail.specs.Room.{free}
+use Rattle.bp_trail.specs.References.{references, forgets}
+use Rattle.bp_trail.specs.Legal.{is_out, Legal}
+use Rattle.bp_trail.proofs.Serials.{numbered, count-rest, rest}
 
 abbrev pub by : ℕ → Call → Reply → Entry
 by client call reply = record { client = client; call = call; reply = reply }

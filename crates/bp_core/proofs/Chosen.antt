@@ -6,18 +6,18 @@ use Rattle.std.proofs.lemmas.Bool.{cases_eq, and_parts, eqb-false, eq-eqb, ne_eq
 use Rattle.std.proofs.lemmas.Bool.Decides.{nat_tests}
 use Rattle.bp_lruk.specs.Candidates.{Candidate, Entered, find_entry, entry_of, candidate_of, is_eligible, is_before, NoPageTwice}
 use Rattle.bp_lruk.specs.Candidates.{IsVictim as IsEnteredVictim}
-use Rattle.bp_core.specs.Parameters.{Parameters}
-use Rattle.bp_core.specs.Trail.{Trail}
-use Rattle.bp_core.specs.Clock.{clock}
-use Rattle.bp_core.specs.Passes.{pins}
-use Rattle.bp_core.specs.Places.{residents, resident, writing}
-use Rattle.bp_core.specs.References.{hist, last}
-use Rattle.bp_core.specs.Legal.{Legal}
-use Rattle.bp_core.specs.Victim.{Rank, rank, before, candidate, victim, IsVictim}
+use Rattle.bp_trail.specs.Parameters.{Parameters}
+use Rattle.bp_trail.specs.Trail.{Trail}
+use Rattle.bp_trail.specs.Clock.{clock}
+use Rattle.bp_trail.specs.Passes.{pins}
+use Rattle.bp_trail.specs.Places.{residents, resident, writing}
+use Rattle.bp_trail.specs.References.{hist, last}
+use Rattle.bp_trail.specs.Legal.{Legal}
+use Rattle.bp_trail.specs.Victim.{Rank, rank, before, candidate, victim, IsVictim}
 use Rattle.bp_core.specs.Agreement.{unused, HasCandidates}
-use Rattle.bp_core.proofs.Lists.{member}
-use Rattle.bp_core.proofs.Residents.{frames, residents-rest, left-other}
-use Rattle.bp_core.proofs.Victim.{victim-is, no-victim}
+use Rattle.bp_trail.proofs.Lists.{member}
+use Rattle.bp_trail.proofs.Residents.{frames, residents-rest, left-other}
+use Rattle.bp_trail.proofs.Victim.{victim-is, no-victim}
 
 before-asym : (a b : Rank) → before a b ≡ true → before b a ≡ false
 before-asym a b h = grind (arith, nat_tests)

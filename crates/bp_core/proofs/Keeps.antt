@@ -2,17 +2,17 @@
 use Rattle.std.proofs.Common.{◌≡◌, ℕ, suc, ◌+◌, ◌*◌, ◌^◌, ◌<◌, ◌≤◌, max, true, false, [], length, sym, ◌∙◌, ap, subst, arith, refl}
 use Rattle.std.proofs.lemmas.Bool.{lt-ltb}
 use Rattle.bp_lruk.specs.Histories.{Blocks, is_held, last_of, HasStampsOf, SameAt, SameSettings, forgets, count_below}
-use Rattle.bp_core.specs.declared.entries.Call.{Call}
-use Rattle.bp_core.specs.declared.entries.Call.TheVariants.{Tick, Mark, Purge}
-use Rattle.bp_core.specs.declared.entries.Reply.{Reply}
-use Rattle.bp_core.specs.declared.entries.Reply.TheVariants.{Done, Forgot}
+use Rattle.bp_trail.specs.declared.entries.Call.{Call}
+use Rattle.bp_trail.specs.declared.entries.Call.TheVariants.{Tick, Mark, Purge}
+use Rattle.bp_trail.specs.declared.entries.Reply.{Reply}
+use Rattle.bp_trail.specs.declared.entries.Reply.TheVariants.{Done, Forgot}
 use Rattle.bp_core.specs.declared.state.State.{State}
-use Rattle.bp_core.specs.Parameters.{Parameters}
-use Rattle.bp_core.specs.Trail.{Trail}
-use Rattle.bp_core.specs.Passes.{passes, tickets, passes_out, reads_out, writes_out}
-use Rattle.bp_core.specs.Room.{free_keeping}
-use Rattle.bp_core.specs.PageMap.{reply_of}
-use Rattle.bp_core.specs.Legal.{allowed}
+use Rattle.bp_trail.specs.Parameters.{Parameters}
+use Rattle.bp_trail.specs.Trail.{Trail}
+use Rattle.bp_trail.specs.Passes.{passes, tickets, passes_out, reads_out, writes_out}
+use Rattle.bp_trail.specs.Room.{free_keeping}
+use Rattle.bp_trail.specs.PageMap.{reply_of}
+use Rattle.bp_trail.specs.Legal.{allowed}
 use Rattle.bp_core.specs.CoreView.{CoreView, EachPast, with_entry, HasRoomFor}
 use Rattle.bp_core.specs.Lodging.{Kept, with_next}
 use Rattle.bp_core.specs.Outcomes.{IsQuiet, Adds}

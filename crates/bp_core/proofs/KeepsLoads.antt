@@ -8,32 +8,32 @@ use Rattle.bp_lruk.specs.Burst.Reference.{fault}
 use Rattle.bp_lruk.specs.Stamp.{IsTimed}
 use Rattle.bp_lruk.specs.Candidates.{Entered, entry_of, NoPageTwice, SameLimits}
 use Rattle.bp_lruk.specs.Histories.{Blocks, is_held, HasStampsOf, SameAt, SameStampsAt, SameSettings}
-use Rattle.bp_core.specs.declared.entries.Call.TheVariants.{Fix, ReadEnd}
-use Rattle.bp_core.specs.declared.entries.Reply.TheVariants.{Load, Fixed, ReadFailed}
-use Rattle.bp_core.specs.Passes.{reads_out}
-use Rattle.bp_core.specs.Places.{loading, resident, residents}
-use Rattle.bp_core.specs.Saved.{unsaved}
-use Rattle.bp_core.specs.References.{references}
-use Rattle.bp_core.specs.Victim.{victim}
-use Rattle.bp_core.specs.PageMap.{has_free_frame}
-use Rattle.bp_core.specs.Legal.{is_out}
+use Rattle.bp_trail.specs.declared.entries.Call.TheVariants.{Fix, ReadEnd}
+use Rattle.bp_trail.specs.declared.entries.Reply.TheVariants.{Load, Fixed, ReadFailed}
+use Rattle.bp_trail.specs.Passes.{reads_out}
+use Rattle.bp_trail.specs.Places.{loading, resident, residents}
+use Rattle.bp_trail.specs.Saved.{unsaved}
+use Rattle.bp_trail.specs.References.{references}
+use Rattle.bp_trail.specs.Victim.{victim}
+use Rattle.bp_trail.specs.PageMap.{has_free_frame}
+use Rattle.bp_trail.specs.Legal.{is_out}
 use Rattle.bp_core.specs.Frames.{is_frame_of, loaded_with, without_page}
-use Rattle.bp_core.specs.Lists.{some}
+use Rattle.bp_trail.specs.Lists.{some}
 use Rattle.bp_core.specs.Tables.{Table}
-use Rattle.bp_core.proofs.Counting.{some-count}
-use Rattle.bp_core.proofs.Serials.{numbered}
-use Rattle.bp_core.proofs.Places.{places, out-of_page}
-use Rattle.bp_core.proofs.Victim.{victim-is, candidate-resident}
+use Rattle.bp_trail.proofs.Counting.{some-count}
+use Rattle.bp_trail.proofs.Serials.{numbered}
+use Rattle.bp_trail.proofs.Places.{places, out-of_page}
+use Rattle.bp_trail.proofs.Victim.{victim-is, candidate-resident}
 use Rattle.bp_core.proofs.Seen.{count-le, resident_seen, occupied_is, within_frames}
-use Rattle.bp_core.proofs.Residents.{reads-rest}
-use Rattle.bp_core.proofs.Timed.{references-timed}
+use Rattle.bp_trail.proofs.Residents.{reads-rest}
+use Rattle.bp_trail.proofs.Timed.{references-timed}
 use Rattle.bp_core.proofs.CandidateSteps.{stay, stay-end_load, move-evict}
 use Rattle.bp_core.proofs.StampsKept.{unprepared, same-after, settings-after}
 use Rattle.bp_core.proofs.ReadSteps.{agrees-load, agrees-evict, agrees-failed, agrees-fixed}
 use Rattle.bp_core.specs.declared.state.State.{State}
-use Rattle.bp_core.specs.Parameters.{Parameters}
-use Rattle.bp_core.specs.Event.{grant}
-use Rattle.bp_core.specs.Trail.{Trail}
+use Rattle.bp_trail.specs.Parameters.{Parameters}
+use Rattle.bp_trail.specs.Event.{grant}
+use Rattle.bp_trail.specs.Trail.{Trail}
 use Rattle.bp_core.specs.CoreView.{CoreView, EachPast, HasRoomFor}
 use Rattle.bp_core.specs.Lodging.{Kept, Given, with_next, with_grant}
 use Rattle.bp_core.specs.Agreement.{parts_of, IsCore, view_of}

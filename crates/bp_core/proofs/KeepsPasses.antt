@@ -7,27 +7,27 @@ use Rattle.bp_lruk.specs.Burst.Reference.{hit}
 use Rattle.bp_lruk.specs.Stamp.{IsTimed}
 use Rattle.bp_lruk.specs.Candidates.{Entered, entry_of, NoPageTwice, SameLimits}
 use Rattle.bp_lruk.specs.Histories.{Blocks, is_held, stamp_of, last_of, HasStampsOf, SameAt, SameSettings}
-use Rattle.bp_core.specs.declared.entries.Call.TheVariants.{Fix, Write, Unfix}
-use Rattle.bp_core.specs.declared.entries.Reply.TheVariants.{Done, Hit}
-use Rattle.bp_core.specs.Passes.{passes_out, is_of, pins}
-use Rattle.bp_core.specs.Places.{resident, writing}
-use Rattle.bp_core.specs.References.{references}
-use Rattle.bp_core.specs.Legal.{is_out}
+use Rattle.bp_trail.specs.declared.entries.Call.TheVariants.{Fix, Write, Unfix}
+use Rattle.bp_trail.specs.declared.entries.Reply.TheVariants.{Done, Hit}
+use Rattle.bp_trail.specs.Passes.{passes_out, is_of, pins}
+use Rattle.bp_trail.specs.Places.{resident, writing}
+use Rattle.bp_trail.specs.References.{references}
+use Rattle.bp_trail.specs.Legal.{is_out}
 use Rattle.bp_core.specs.Frames.{pinned, unpinned, written_on}
 use Rattle.bp_core.specs.Tables.{with_changed}
-use Rattle.bp_core.proofs.Counting.{some-count, length-split}
-use Rattle.bp_core.proofs.Serials.{numbered}
-use Rattle.bp_core.proofs.Places.{places, out-of_page}
+use Rattle.bp_trail.proofs.Counting.{some-count, length-split}
+use Rattle.bp_trail.proofs.Serials.{numbered}
+use Rattle.bp_trail.proofs.Places.{places, out-of_page}
 use Rattle.bp_core.proofs.Seen.{ranked}
 use Rattle.bp_core.proofs.CandidateSteps.{no-entry, stay, move-hit, move-unfix}
 use Rattle.bp_core.proofs.Chosen.{has-room}
-use Rattle.bp_core.proofs.Residents.{reads-rest}
-use Rattle.bp_core.proofs.Timed.{references-timed}
+use Rattle.bp_trail.proofs.Residents.{reads-rest}
+use Rattle.bp_trail.proofs.Timed.{references-timed}
 use Rattle.bp_core.proofs.PassSteps.{agrees-unfix, agrees-write, agrees-hit}
 use Rattle.bp_core.specs.declared.state.State.{State}
-use Rattle.bp_core.specs.Parameters.{Parameters}
-use Rattle.bp_core.specs.Event.{grant}
-use Rattle.bp_core.specs.Trail.{Trail}
+use Rattle.bp_trail.specs.Parameters.{Parameters}
+use Rattle.bp_trail.specs.Event.{grant}
+use Rattle.bp_trail.specs.Trail.{Trail}
 use Rattle.bp_core.specs.CoreView.{CoreView, EachPast, HasRoomFor}
 use Rattle.bp_core.specs.Lodging.{Kept, Given, with_next, with_grant}
 use Rattle.bp_core.specs.Agreement.{parts_of, IsCore, view_of}

@@ -4,34 +4,34 @@ use Rattle.std.specs.Prelude.{not, ◌==◌, ◌&&◌}
 use Rattle.std.proofs.lemmas.Bool.{lt-ltb, eq-eqb, true≢false}
 use Rattle.bp_lruk.specs.Candidates.{Entered, entry_of, NoPageTwice, SameLimits}
 use Rattle.bp_lruk.specs.Histories.{stamp_of, last_of}
-use Rattle.bp_core.specs.declared.entries.Call.{Call}
-use Rattle.bp_core.specs.declared.entries.Call.TheVariants.{WriteEnd}
-use Rattle.bp_core.specs.declared.entries.Reply.TheVariants.{WriteFirst, Cleaned, StillDirty, WriteFailed}
-use Rattle.bp_core.specs.Passes.{tickets, writes_out, pins, is_of}
-use Rattle.bp_core.specs.Lists.{some}
-use Rattle.bp_core.specs.References.{references}
-use Rattle.bp_core.specs.Places.{resident, writing}
-use Rattle.bp_core.specs.Saved.{written_since}
-use Rattle.bp_core.specs.Images.{held}
-use Rattle.bp_core.specs.PageMap.{reply_of}
-use Rattle.bp_core.specs.Legal.{is_out, allowed}
+use Rattle.bp_trail.specs.declared.entries.Call.{Call}
+use Rattle.bp_trail.specs.declared.entries.Call.TheVariants.{WriteEnd}
+use Rattle.bp_trail.specs.declared.entries.Reply.TheVariants.{WriteFirst, Cleaned, StillDirty, WriteFailed}
+use Rattle.bp_trail.specs.Passes.{tickets, writes_out, pins, is_of}
+use Rattle.bp_trail.specs.Lists.{some}
+use Rattle.bp_trail.specs.References.{references}
+use Rattle.bp_trail.specs.Places.{resident, writing}
+use Rattle.bp_trail.specs.Saved.{written_since}
+use Rattle.bp_trail.specs.Images.{held}
+use Rattle.bp_trail.specs.PageMap.{reply_of}
+use Rattle.bp_trail.specs.Legal.{is_out, allowed}
 use Rattle.bp_core.specs.Frames.{saving, saved, not_saved}
 use Rattle.bp_core.specs.Tables.{with_changed}
 use Rattle.bp_core.specs.Outcomes.{IsBegin}
 use Rattle.bp_core.specs.Outcomes.IsBegin.{by_fix, by_flush}
 use Rattle.bp_core.specs.Agreement.{rewritten, HasCandidates, HasTrailRoom}
-use Rattle.bp_core.proofs.Serials.{numbered, rest}
-use Rattle.bp_core.proofs.Places.{out-of_page}
-use Rattle.bp_core.proofs.Ranges.{stays}
-use Rattle.bp_core.proofs.Residents.{reads-rest}
+use Rattle.bp_trail.proofs.Serials.{numbered, rest}
+use Rattle.bp_trail.proofs.Places.{out-of_page}
+use Rattle.bp_trail.proofs.Ranges.{stays}
+use Rattle.bp_trail.proofs.Residents.{reads-rest}
 use Rattle.bp_core.proofs.WriteSteps.{agrees-begin, agrees-cleaned, agrees-still_dirty, agrees-write_failed, written-seen, landed, still}
 use Rattle.bp_core.proofs.Seen.{ranked}
 use Rattle.bp_core.proofs.CandidateSteps.{no-entry, move-begin, move-write_end}
 use Rattle.bp_core.proofs.Chosen.{has-room}
 use Rattle.bp_core.specs.declared.state.State.{State}
-use Rattle.bp_core.specs.Parameters.{Parameters}
-use Rattle.bp_core.specs.Event.{grant}
-use Rattle.bp_core.specs.Trail.{Trail}
+use Rattle.bp_trail.specs.Parameters.{Parameters}
+use Rattle.bp_trail.specs.Event.{grant}
+use Rattle.bp_trail.specs.Trail.{Trail}
 use Rattle.bp_core.specs.CoreView.{CoreView, EachPast, HasRoomFor}
 use Rattle.bp_core.specs.Lodging.{Kept, Given, with_next, with_grant}
 use Rattle.bp_core.specs.Agreement.{parts_of, IsCore, view_of}

@@ -3,11 +3,11 @@ use Rattle.std.proofs.Common.{◌≡◌, ℕ, Bool, true, false, not, ◌&&◌, 
 use Rattle.std.specs.List.{remove}
 use Rattle.std.proofs.lemmas.Bool.{ne_eqb, eq-eqb}
 use Rattle.std.proofs.lemmas.List.Sorted.{IsPermutation-reverse, list_any-IsPermutation}
-use Rattle.bp_core.specs.Event.{Grant, grant, same_grant}
-use Rattle.bp_core.specs.Lists.{some}
-use Rattle.bp_core.specs.Legal.{is_out}
+use Rattle.bp_trail.specs.Event.{Grant, grant, same_grant}
+use Rattle.bp_trail.specs.Lists.{some}
+use Rattle.bp_trail.specs.Legal.{is_out}
 use Rattle.bp_core.specs.Rising.{StandsAt, StandsNowhere}
-use Rattle.bp_core.proofs.Counting.{filter-reverse}
+use Rattle.bp_trail.proofs.Counting.{filter-reverse}
 use Rattle.bp_core.proofs.Rising.{some-none, some-alone, filter-all, filter-but_one}
 
 abbrev number : Grant → ℕ

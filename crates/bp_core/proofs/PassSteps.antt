@@ -4,30 +4,30 @@ use Rattle.std.proofs.lemmas.Bool.{le-leb, and_from, eqb-true, eqb-false, false_
 use Rattle.std.proofs.lemmas.Bool.Decides.{nat_tests}
 use Rattle.bp_lruk.specs.Burst.Reference.{hit}
 use Rattle.bp_lruk.specs.Histories.{Blocks, is_held, HasStampsOf, SameAt, SameSettings}
-use Rattle.bp_core.specs.declared.entries.Call.TheVariants.{Fix, Write, Unfix}
-use Rattle.bp_core.specs.declared.entries.Reply.TheVariants.{Done, Hit}
+use Rattle.bp_trail.specs.declared.entries.Call.TheVariants.{Fix, Write, Unfix}
+use Rattle.bp_trail.specs.declared.entries.Reply.TheVariants.{Done, Hit}
 use Rattle.bp_core.specs.declared.frame.Frame.{Frame}
-use Rattle.bp_core.specs.Parameters.{Parameters}
-use Rattle.bp_core.specs.Lists.{some, count}
-use Rattle.bp_core.specs.Event.{Grant, grant, patched}
-use Rattle.bp_core.specs.Trail.{Trail}
-use Rattle.bp_core.specs.Clock.{clock}
-use Rattle.bp_core.specs.Passes.{passes, passes_out, is_of, pins}
-use Rattle.bp_core.specs.Places.{residents, resident, loading, writing}
-use Rattle.bp_core.specs.Saved.{unsaved, top}
-use Rattle.bp_core.specs.Images.{held}
-use Rattle.bp_core.specs.References.{references}
-use Rattle.bp_core.specs.PageMap.{fix_reply}
-use Rattle.bp_core.specs.Legal.{is_out}
+use Rattle.bp_trail.specs.Parameters.{Parameters}
+use Rattle.bp_trail.specs.Lists.{some, count}
+use Rattle.bp_trail.specs.Event.{Grant, grant, patched}
+use Rattle.bp_trail.specs.Trail.{Trail}
+use Rattle.bp_trail.specs.Clock.{clock}
+use Rattle.bp_trail.specs.Passes.{passes, passes_out, is_of, pins}
+use Rattle.bp_trail.specs.Places.{residents, resident, loading, writing}
+use Rattle.bp_trail.specs.Saved.{unsaved, top}
+use Rattle.bp_trail.specs.Images.{held}
+use Rattle.bp_trail.specs.References.{references}
+use Rattle.bp_trail.specs.PageMap.{fix_reply}
+use Rattle.bp_trail.specs.Legal.{is_out}
 use Rattle.bp_core.specs.Frames.{is_frame_of, pinned, unpinned, written_on, changed_at}
 use Rattle.bp_core.specs.Agreement.{Parts, Agrees, frame_of, rewritten}
-use Rattle.bp_core.proofs.Counting.{count-agree, count-map, some-from_counts}
-use Rattle.bp_core.proofs.Serials.{numbered, count-rest, rest, OneSerial}
-use Rattle.bp_core.proofs.Residents.{reads-rest}
+use Rattle.bp_trail.proofs.Counting.{count-agree, count-map, some-from_counts}
+use Rattle.bp_trail.proofs.Serials.{numbered, count-rest, rest, OneSerial}
+use Rattle.bp_trail.proofs.Residents.{reads-rest}
 use Rattle.bp_core.proofs.Changes.{passes-hit, pins-hit, pins-unfix, top-write}
-use Rattle.bp_core.proofs.Ranges.{owned, owner}
+use Rattle.bp_trail.proofs.Ranges.{owned, owner}
 use Rattle.bp_core.proofs.StampsKept.{stamps-kept, told-alike}
-use Rattle.bp_core.proofs.Places.{places}
+use Rattle.bp_trail.proofs.Places.{places}
 use Rattle.bp_core.proofs.Steps.{by}
 
 pub eqb-sym : (m n : ℕ) → (m == n) ≡ (n == m)

@@ -4,24 +4,24 @@ use Rattle.std.proofs.lemmas.Bool.{lt-ltb}
 use Rattle.std.proofs.lemmas.Bool.Decides.{nat_tests}
 use Rattle.bp_lruk.specs.Burst.{Reference}
 use Rattle.bp_lruk.specs.Histories.{Blocks, is_held, HasStampsOf, SameAt, SameSettings}
-use Rattle.bp_core.specs.declared.entries.Call.TheVariants.{Purge}
-use Rattle.bp_core.specs.declared.entries.Reply.TheVariants.{Forgot}
-use Rattle.bp_core.specs.Parameters.{Parameters}
-use Rattle.bp_core.specs.Trail.{Trail}
-use Rattle.bp_core.specs.Clock.{clock}
-use Rattle.bp_core.specs.Places.{resident, loading}
-use Rattle.bp_core.specs.Images.{held}
-use Rattle.bp_core.specs.References.{references}
+use Rattle.bp_trail.specs.declared.entries.Call.TheVariants.{Purge}
+use Rattle.bp_trail.specs.declared.entries.Reply.TheVariants.{Forgot}
+use Rattle.bp_trail.specs.Parameters.{Parameters}
+use Rattle.bp_trail.specs.Trail.{Trail}
+use Rattle.bp_trail.specs.Clock.{clock}
+use Rattle.bp_trail.specs.Places.{resident, loading}
+use Rattle.bp_trail.specs.Images.{held}
+use Rattle.bp_trail.specs.References.{references}
 use Rattle.bp_core.specs.Agreement.{Parts, Agrees}
 use Rattle.bp_core.proofs.StampsKept.{stamps-kept, told-alike}
 use Rattle.bp_core.proofs.Steps.{by}
 use Rattle.bp_lruk.specs.Burst.{last_time}
 use Rattle.bp_lruk.specs.Stamp.{IsTimed}
 use Rattle.bp_lruk.specs.Histories.{last_of, forgets, count_below}
-use Rattle.bp_core.specs.References.{is_empty, forgotten, forgets as forgets_page}
-use Rattle.bp_core.specs.Lists.{count_below as numbers_below}
-use Rattle.bp_core.proofs.Timed.{references-timed}
-use Rattle.bp_core.proofs.Ranges.{referred}
+use Rattle.bp_trail.specs.References.{is_empty, forgotten, forgets as forgets_page}
+use Rattle.bp_trail.specs.Lists.{count_below as numbers_below}
+use Rattle.bp_trail.proofs.Timed.{references-timed}
+use Rattle.bp_trail.proofs.Ranges.{referred}
 use Rattle.std.proofs.Common.{zero}
 
 same-count : (f g : ℕ → Bool) → ((n : ℕ) → f n ≡ g n) → (n : ℕ) → count_below f n ≡ numbers_below g n

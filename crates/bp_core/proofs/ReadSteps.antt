@@ -4,37 +4,37 @@ use Rattle.std.specs.List.Sorted.{IsPermutation}
 use Rattle.std.proofs.lemmas.Bool.{and_from, and_parts, eqb-true, eq-eqb, false_from_ne_true, true≢false}
 use Rattle.bp_lruk.specs.Burst.Reference.{fault}
 use Rattle.bp_lruk.specs.Histories.{Blocks, is_held, HasStampsOf, SameStampsAt, SameAt, SameSettings}
-use Rattle.bp_core.specs.declared.entries.Call.TheVariants.{Fix, ReadEnd}
-use Rattle.bp_core.specs.declared.entries.Reply.{Reply}
-use Rattle.bp_core.specs.declared.entries.Reply.TheVariants.{Load, WriteFirst, NeedLog, Fixed, ReadFailed}
+use Rattle.bp_trail.specs.declared.entries.Call.TheVariants.{Fix, ReadEnd}
+use Rattle.bp_trail.specs.declared.entries.Reply.{Reply}
+use Rattle.bp_trail.specs.declared.entries.Reply.TheVariants.{Load, WriteFirst, NeedLog, Fixed, ReadFailed}
 use Rattle.bp_core.specs.declared.frame.Frame.{Frame}
-use Rattle.bp_core.specs.Parameters.{Parameters}
-use Rattle.bp_core.specs.Lists.{some, count}
-use Rattle.bp_core.specs.Event.{grant, begins_of, writes}
-use Rattle.bp_core.specs.Trail.{Trail}
-use Rattle.bp_core.specs.Clock.{clock, durable}
-use Rattle.bp_core.specs.Passes.{passes, tickets, passes_out, reads_out, is_of, pins}
-use Rattle.bp_core.specs.Places.{residents, resident, loading, writing}
-use Rattle.bp_core.specs.Saved.{unsaved, top, began_saving}
-use Rattle.bp_core.specs.Images.{held}
-use Rattle.bp_core.specs.References.{references}
-use Rattle.bp_core.specs.PageMap.{fix_reply}
-use Rattle.bp_core.specs.Legal.{is_out}
+use Rattle.bp_trail.specs.Parameters.{Parameters}
+use Rattle.bp_trail.specs.Lists.{some, count}
+use Rattle.bp_trail.specs.Event.{grant, begins_of, writes}
+use Rattle.bp_trail.specs.Trail.{Trail}
+use Rattle.bp_trail.specs.Clock.{clock, durable}
+use Rattle.bp_trail.specs.Passes.{passes, tickets, passes_out, reads_out, is_of, pins}
+use Rattle.bp_trail.specs.Places.{residents, resident, loading, writing}
+use Rattle.bp_trail.specs.Saved.{unsaved, top, began_saving}
+use Rattle.bp_trail.specs.Images.{held}
+use Rattle.bp_trail.specs.References.{references}
+use Rattle.bp_trail.specs.PageMap.{fix_reply}
+use Rattle.bp_trail.specs.Legal.{is_out}
 use Rattle.bp_core.specs.Frames.{is_frame_of, loaded_with, without_page}
 use Rattle.bp_core.specs.Agreement.{Parts, Agrees, frame_of, rewritten}
-use Rattle.bp_core.proofs.Lists.{since-mono}
-use Rattle.bp_core.proofs.Counting.{count-cons, none-count, count-agree_but, count-permutation, count-filter}
-use Rattle.bp_core.proofs.Serials.{numbered, rest}
-use Rattle.bp_core.proofs.Residents.{reads-rest, left-none, left-other}
-use Rattle.bp_core.proofs.Places.{places, out-of_page, one-gone}
+use Rattle.bp_trail.proofs.Lists.{since-mono}
+use Rattle.bp_trail.proofs.Counting.{count-cons, none-count, count-agree_but, count-permutation, count-filter}
+use Rattle.bp_trail.proofs.Serials.{numbered, rest}
+use Rattle.bp_trail.proofs.Residents.{reads-rest, left-none, left-other}
+use Rattle.bp_trail.proofs.Places.{places, out-of_page, one-gone}
 use Rattle.bp_core.proofs.Changes.{tickets-load, top-load}
-use Rattle.bp_core.proofs.Ranges.{owned, owner, stays}
+use Rattle.bp_trail.proofs.Ranges.{owned, owner, stays}
 use Rattle.bp_core.proofs.StampsKept.{stamps-kept, told-alike}
 use Rattle.bp_core.proofs.Steps.{by}
 use Rattle.bp_core.proofs.PassSteps.{eqb-sym, other, others-stay}
-use Rattle.bp_core.proofs.Victim.{victim-is, candidate-resident}
-use Rattle.bp_core.specs.Victim.{victim}
-use Rattle.bp_core.specs.PageMap.{has_free_frame, replace_reply}
+use Rattle.bp_trail.proofs.Victim.{victim-is, candidate-resident}
+use Rattle.bp_trail.specs.Victim.{victim}
+use Rattle.bp_trail.specs.PageMap.{has_free_frame, replace_reply}
 
 -- a page that is rewritten is unsaved
 rewritten-unsaved : (past : Trail) (p : ℕ) → rewritten past p ≡ true → unsaved past p ≡ true

@@ -7,8 +7,8 @@ use Rattle.std.proofs.lemmas.Bool.{cases_lt, cases_order, lt-ltb, ltb-true, ltb-
 use Rattle.std.proofs.lemmas.List.Edits.{length-insert, get_or-insert_below, get_or-insert_at, get_or-insert_above, length-remove, get_or-remove_below, get_or-remove_above}
 use Rattle.std.proofs.lemmas.List.{get_or_push, get_or_default}
 use Rattle.bp_core.specs.Rising.{IsRisingBy, IsPlaceFor, StandsAt, StandsNowhere}
-use Rattle.bp_core.specs.Lists.{some}
-use Rattle.bp_core.proofs.Counting.{get-left}
+use Rattle.bp_trail.specs.Lists.{some}
+use Rattle.bp_trail.proofs.Counting.{get-left}
 
 module _ {X : Type 0} where
   pub some-none : (p : X → Bool) (xs : List X) → ((k : ℕ) (e : X) → k < length xs → p (get_or xs k e) ≡ false) → some p xs ≡ false

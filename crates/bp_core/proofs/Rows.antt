@@ -1,14 +1,14 @@
 -- Worked trails, oldest first: legal ones, and wrong ones.
 use Rattle.std.proofs.Common.{◌≡◌, refl, ℕ, List, [], ◌∷◌, replicate, reverse, Some, None, true, false}
-use Rattle.bp_core.specs.declared.entries.Entry.{Entry}
-use Rattle.bp_core.specs.declared.entries.Call.{Call}
-use Rattle.bp_core.specs.declared.entries.Call.TheVariants.{Tick, Mark, Fix, ReadEnd, WriteEnd, Read, Write, Unfix, Flush, Purge}
-use Rattle.bp_core.specs.declared.entries.Reply.{Reply}
-use Rattle.bp_core.specs.declared.entries.Reply.TheVariants.{Done, Hit, Load, WriteFirst, NoVictim, Busy, Fixed, ReadFailed, Cleaned, StillDirty, WriteFailed, Content, Forgot}
-use Rattle.bp_core.specs.Parameters.{Parameters}
-use Rattle.bp_core.specs.Trail.{Trail}
-use Rattle.bp_core.specs.References.{hist, last}
-use Rattle.bp_core.specs.Legal.{Legal}
+use Rattle.bp_trail.specs.declared.entries.Entry.{Entry}
+use Rattle.bp_trail.specs.declared.entries.Call.{Call}
+use Rattle.bp_trail.specs.declared.entries.Call.TheVariants.{Tick, Mark, Fix, ReadEnd, WriteEnd, Read, Write, Unfix, Flush, Purge}
+use Rattle.bp_trail.specs.declared.entries.Reply.{Reply}
+use Rattle.bp_trail.specs.declared.entries.Reply.TheVariants.{Done, Hit, Load, WriteFirst, NoVictim, Busy, Fixed, ReadFailed, Cleaned, StillDirty, WriteFailed, Content, Forgot}
+use Rattle.bp_trail.specs.Parameters.{Parameters}
+use Rattle.bp_trail.specs.Trail.{Trail}
+use Rattle.bp_trail.specs.References.{hist, last}
+use Rattle.bp_trail.specs.Legal.{Legal}
 
 abbrev with_k : ℕ → ℕ → ℕ → ℕ → Parameters
 with_k frames k correlated retained = record { frames = frames; k = k; correlated = correlated; retained = retained; pages = 16; size = 16; clients = 2; room = 100 }

@@ -8,24 +8,24 @@ use Rattle.bp_lruk.specs.Histories.{stamp_of, last_of, IsNow}
 use Rattle.bp_lruk.specs.Burst.{Reference, last_time}
 use Rattle.bp_lruk.specs.Stamp.{stamp, IsTimed}
 use Rattle.bp_core.specs.declared.frame.Frame.{Frame}
-use Rattle.bp_core.specs.Parameters.{Parameters}
-use Rattle.bp_core.specs.Lists.{some, count}
-use Rattle.bp_core.specs.Event.{Grant, grant, ticket_given}
-use Rattle.bp_core.specs.declared.entries.Entry.{Entry}
-use Rattle.bp_core.specs.Trail.{Trail}
-use Rattle.bp_core.specs.Passes.{passes, tickets, pass_of, passes_out, reads_out, writes_out, is_of, pins}
-use Rattle.bp_core.specs.Places.{residents, resident}
-use Rattle.bp_core.specs.References.{references, hist, last, is_empty}
-use Rattle.bp_core.specs.Legal.{is_out}
+use Rattle.bp_trail.specs.Parameters.{Parameters}
+use Rattle.bp_trail.specs.Lists.{some, count}
+use Rattle.bp_trail.specs.Event.{Grant, grant, ticket_given}
+use Rattle.bp_trail.specs.declared.entries.Entry.{Entry}
+use Rattle.bp_trail.specs.Trail.{Trail}
+use Rattle.bp_trail.specs.Passes.{passes, tickets, pass_of, passes_out, reads_out, writes_out, is_of, pins}
+use Rattle.bp_trail.specs.Places.{residents, resident}
+use Rattle.bp_trail.specs.References.{references, hist, last, is_empty}
+use Rattle.bp_trail.specs.Legal.{is_out}
 use Rattle.bp_core.specs.Frames.{is_frame_of}
 use Rattle.bp_core.specs.Agreement.{Parts, Agrees, frame_of}
-use Rattle.bp_core.proofs.Lists.{member}
-use Rattle.bp_core.proofs.Counting.{some-at, count-cons, some-count, count-all, some-from_counts, length-split}
-use Rattle.bp_core.proofs.Residents.{frames}
-use Rattle.bp_core.proofs.Serials.{AllBelow, numbered}
-use Rattle.bp_core.proofs.Places.{out-of_page}
-use Rattle.bp_core.proofs.Ranges.{referred}
-use Rattle.bp_core.proofs.Timed.{references-timed}
+use Rattle.bp_trail.proofs.Lists.{member}
+use Rattle.bp_trail.proofs.Counting.{some-at, count-cons, some-count, count-all, some-from_counts, length-split}
+use Rattle.bp_trail.proofs.Residents.{frames}
+use Rattle.bp_trail.proofs.Serials.{AllBelow, numbered}
+use Rattle.bp_trail.proofs.Places.{out-of_page}
+use Rattle.bp_trail.proofs.Ranges.{referred}
+use Rattle.bp_trail.proofs.Timed.{references-timed}
 
 -- ---- two frames that are told apart by nothing
 

@@ -1,21 +1,21 @@
 -- Each call keeps what the core holds in agreement with the trail.
 use Rattle.std.proofs.Common.{◌≡◌, ℕ, ◌+◌, ◌*◌, ◌^◌, ◌<◌, ◌≤◌, max, true, List, [], ◌∷◌, ◌++◌, length, refl, sym, ◌∙◌, ap, arith}
 use Rattle.std.proofs.lemmas.Bool.{lt-ltb, le-leb}
-use Rattle.bp_core.specs.declared.entries.Entry.{Entry}
-use Rattle.bp_core.specs.declared.entries.Call.{Call}
-use Rattle.bp_core.specs.declared.entries.Call.TheVariants.{Tick, Mark}
-use Rattle.bp_core.specs.declared.entries.Reply.{Reply}
-use Rattle.bp_core.specs.declared.entries.Reply.TheVariants.{Done}
-use Rattle.bp_core.specs.Parameters.{Parameters}
-use Rattle.bp_core.specs.Trail.{Trail}
-use Rattle.bp_core.specs.Clock.{clock}
-use Rattle.bp_core.specs.Passes.{passes_out, reads_out, writes_out}
-use Rattle.bp_core.specs.PageMap.{reply_of}
-use Rattle.bp_core.specs.Legal.{allowed, Legal}
+use Rattle.bp_trail.specs.declared.entries.Entry.{Entry}
+use Rattle.bp_trail.specs.declared.entries.Call.{Call}
+use Rattle.bp_trail.specs.declared.entries.Call.TheVariants.{Tick, Mark}
+use Rattle.bp_trail.specs.declared.entries.Reply.{Reply}
+use Rattle.bp_trail.specs.declared.entries.Reply.TheVariants.{Done}
+use Rattle.bp_trail.specs.Parameters.{Parameters}
+use Rattle.bp_trail.specs.Trail.{Trail}
+use Rattle.bp_trail.specs.Clock.{clock}
+use Rattle.bp_trail.specs.Passes.{passes_out, reads_out, writes_out}
+use Rattle.bp_trail.specs.PageMap.{reply_of}
+use Rattle.bp_trail.specs.Legal.{allowed, Legal}
 use Rattle.bp_core.specs.Agreement.{Parts, Observed, Agrees}
 use Rattle.std.specs.Prelude.{reverse}
 use Rattle.bp_core.specs.CoreView.{CoreView, with_entry}
-use Rattle.bp_core.proofs.Counting.{reverse-push}
+use Rattle.bp_trail.proofs.Counting.{reverse-push}
 use Rattle.bp_core.specs.Outcomes.{IsQuiet, Adds}
 use Rattle.bp_core.specs.Outcomes.IsQuiet.{fix_busy, fix_none, fix_log, flush_busy, flush_absent, flush_clean, flush_log, page_read}
 use Rattle.bp_core.proofs.Changes.{clock-tick}

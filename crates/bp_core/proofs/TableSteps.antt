@@ -11,7 +11,7 @@ use Rattle.bp_core.specs.declared.frame.Frame.{Frame}
 use Rattle.bp_core.specs.declared.frame_table.Place.{Place}
 use Rattle.bp_core.specs.Rising.{IsPlaceFor, StandsAt, StandsNowhere}
 use Rattle.bp_core.specs.Tables.{no_frame, frame_at, IsTable}
-use Rattle.bp_core.proofs.Counting.{get-left}
+use Rattle.bp_trail.proofs.Counting.{get-left}
 use Rattle.bp_core.proofs.Rising.{rising-inserted, rising-removed}
 use Rattle.bp_core.proofs.Tables.{page_of, own-slot}
 

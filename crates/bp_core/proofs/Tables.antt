@@ -6,11 +6,11 @@ use Rattle.std.proofs.lemmas.Bool.{cases_eq, eq-eqb, ne_eqb, true≢false}
 use Rattle.std.proofs.lemmas.List.{get_or-map, get_or-set_same, get_or-set_other, get_or_default}
 use Rattle.bp_core.specs.declared.frame.Frame.{Frame}
 use Rattle.bp_core.specs.declared.frame_table.Place.{Place}
-use Rattle.bp_core.specs.Lists.{some}
+use Rattle.bp_trail.specs.Lists.{some}
 use Rattle.bp_core.specs.Frames.{is_frame_of, changed_at, without_page}
 use Rattle.bp_core.specs.Rising.{IsPlaceFor, IsPlaceOf, StandsAt, StandsNowhere}
 use Rattle.bp_core.specs.Tables.{Table, with_changed, no_frame, frame_at, frames_of, table_of, IsTable}
-use Rattle.bp_core.proofs.Counting.{some-at, get-left}
+use Rattle.bp_trail.proofs.Counting.{some-at, get-left}
 use Rattle.bp_core.proofs.Rising.{some-none, filter-but_one}
 
 abbrev pub page_of : Place → ℕ

@@ -1,36 +1,36 @@
 -- The begin and the end of a write-out keep what the core holds in agreement with the trail.
 use Rattle.std.proofs.Common.{◌≡◌, ℕ, suc, ◌+◌, nat_lt, Bool, true, false, not, if◌then◌else◌, ◌||◌, ◌&&◌, ◌==◌, [], ◌∷◌, length, filter, refl, sym, ◌∙◌, ap, subst, arith}
 use Rattle.std.proofs.lemmas.Bool.{and_parts, eqb-true}
-use Rattle.bp_core.specs.declared.entries.Call.{Call}
-use Rattle.bp_core.specs.declared.entries.Call.TheVariants.{Fix, WriteEnd, Flush}
-use Rattle.bp_core.specs.declared.entries.Reply.TheVariants.{WriteFirst, Cleaned, StillDirty, WriteFailed}
-use Rattle.bp_core.specs.Parameters.{Parameters}
-use Rattle.bp_core.specs.Lists.{some, since}
-use Rattle.bp_core.specs.Event.{grant, begins_of, writes}
-use Rattle.bp_core.specs.Trail.{Trail}
-use Rattle.bp_core.specs.Passes.{tickets, writes_out, pins, is_of}
-use Rattle.bp_core.specs.Places.{writing}
-use Rattle.bp_core.specs.Saved.{unsaved, top}
-use Rattle.bp_core.specs.Images.{held}
-use Rattle.bp_core.specs.PageMap.{reply_of}
-use Rattle.bp_core.specs.Legal.{is_out, allowed, Legal}
+use Rattle.bp_trail.specs.declared.entries.Call.{Call}
+use Rattle.bp_trail.specs.declared.entries.Call.TheVariants.{Fix, WriteEnd, Flush}
+use Rattle.bp_trail.specs.declared.entries.Reply.TheVariants.{WriteFirst, Cleaned, StillDirty, WriteFailed}
+use Rattle.bp_trail.specs.Parameters.{Parameters}
+use Rattle.bp_trail.specs.Lists.{some, since}
+use Rattle.bp_trail.specs.Event.{grant, begins_of, writes}
+use Rattle.bp_trail.specs.Trail.{Trail}
+use Rattle.bp_trail.specs.Passes.{tickets, writes_out, pins, is_of}
+use Rattle.bp_trail.specs.Places.{writing}
+use Rattle.bp_trail.specs.Saved.{unsaved, top}
+use Rattle.bp_trail.specs.Images.{held}
+use Rattle.bp_trail.specs.PageMap.{reply_of}
+use Rattle.bp_trail.specs.Legal.{is_out, allowed, Legal}
 use Rattle.bp_core.specs.Frames.{saving, saved, not_saved, changed_at}
 use Rattle.bp_core.specs.Agreement.{Parts, Agrees, frame_of, rewritten}
-use Rattle.bp_core.proofs.Serials.{numbered, rest}
-use Rattle.bp_core.proofs.Residents.{reads-rest}
-use Rattle.bp_core.proofs.Ranges.{owned, owner}
+use Rattle.bp_trail.proofs.Serials.{numbered, rest}
+use Rattle.bp_trail.proofs.Residents.{reads-rest}
+use Rattle.bp_trail.proofs.Ranges.{owned, owner}
 use Rattle.bp_core.specs.Outcomes.{IsBegin}
 use Rattle.bp_core.specs.Outcomes.IsBegin.{by_fix, by_flush}
 use Rattle.bp_core.proofs.Steps.{by}
 use Rattle.bp_core.proofs.PassSteps.{eqb-sym, frames-changed, others-stay}
-use Rattle.bp_core.proofs.Places.{one-gone}
-use Rattle.bp_core.proofs.Known.{airborne}
-use Rattle.bp_core.proofs.Flights.{flights, in_flight, in-flight-of, unsaved-ended-well, since-other, begin-writes}
-use Rattle.bp_core.proofs.Events.{event-of}
-use Rattle.bp_core.proofs.Ranges.{no_end}
-use Rattle.bp_core.specs.Saved.{written_since}
-use Rattle.bp_core.specs.Lists.{after_last}
-use Rattle.bp_core.specs.Event.{begins, ends_well}
+use Rattle.bp_trail.proofs.Places.{one-gone}
+use Rattle.bp_trail.proofs.Known.{airborne}
+use Rattle.bp_trail.proofs.Flights.{flights, in_flight, in-flight-of, unsaved-ended-well, since-other, begin-writes}
+use Rattle.bp_trail.proofs.Events.{event-of}
+use Rattle.bp_trail.proofs.Ranges.{no_end}
+use Rattle.bp_trail.specs.Saved.{written_since}
+use Rattle.bp_trail.specs.Lists.{after_last}
+use Rattle.bp_trail.specs.Event.{begins, ends_well}
 use Rattle.std.proofs.lemmas.Bool.{not-true}
 
 and-false : (b : Bool) → (b && false) ≡ false

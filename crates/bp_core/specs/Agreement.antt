@@ -5,17 +5,17 @@ use Rattle.bp_lruk.specs.Candidates.{Entered, entry_of, NoPageTwice}
 use Rattle.bp_core.specs.declared.config.Config.{Config}
 use Rattle.bp_core.specs.declared.frame.Frame.{Frame}
 use Rattle.bp_core.specs.declared.state.State.{State}
-use Rattle.bp_core.specs.Parameters.{Parameters}
-use Rattle.bp_core.specs.Lists.{count, since}
-use Rattle.bp_core.specs.Event.{Grant, writes, begins_of}
-use Rattle.bp_core.specs.Trail.{Trail}
-use Rattle.bp_core.specs.Clock.{clock, durable}
-use Rattle.bp_core.specs.Passes.{passes, tickets, passes_out, reads_out, writes_out, pins}
-use Rattle.bp_core.specs.Places.{residents, resident, loading, writing}
-use Rattle.bp_core.specs.Saved.{unsaved, top}
-use Rattle.bp_core.specs.Images.{held}
-use Rattle.bp_core.specs.References.{references, hist, last}
-use Rattle.bp_core.specs.Legal.{Legal}
+use Rattle.bp_trail.specs.Parameters.{Parameters}
+use Rattle.bp_trail.specs.Lists.{count, since}
+use Rattle.bp_trail.specs.Event.{Grant, writes, begins_of}
+use Rattle.bp_trail.specs.Trail.{Trail}
+use Rattle.bp_trail.specs.Clock.{clock, durable}
+use Rattle.bp_trail.specs.Passes.{passes, tickets, passes_out, reads_out, writes_out, pins}
+use Rattle.bp_trail.specs.Places.{residents, resident, loading, writing}
+use Rattle.bp_trail.specs.Saved.{unsaved, top}
+use Rattle.bp_trail.specs.Images.{held}
+use Rattle.bp_trail.specs.References.{references, hist, last}
+use Rattle.bp_trail.specs.Legal.{Legal}
 use Rattle.bp_core.specs.CoreView.{CoreView}
 use Rattle.bp_core.specs.Lodging.{Kept}
 

@@ -1,6 +1,6 @@
 -- Lists of frames.
 use Rattle.std.specs.Prelude.{ℕ, ◌+◌, ◌-◌, max, Bool, true, false, not, ◌==◌, List, filter, map, if◌then◌else◌}
-use Rattle.bp_core.specs.Event.{patched}
+use Rattle.bp_trail.specs.Event.{patched}
 use Rattle.bp_core.specs.declared.frame.Frame.{Frame}
 
 abbrev pub is_frame_of : ℕ → Frame → Bool

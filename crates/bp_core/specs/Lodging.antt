@@ -1,9 +1,9 @@
 -- What the lists of a core are seen as: what stands in them, newest first, and how much may stand there with no memory taken.
 use Rattle.std.specs.Prelude.{ℕ, List, ◌∷◌}
-use Rattle.bp_core.specs.declared.entries.Call.{Call}
-use Rattle.bp_core.specs.declared.entries.Reply.{Reply}
-use Rattle.bp_core.specs.Trail.{Trail}
-use Rattle.bp_core.specs.Event.{Grant, grant}
+use Rattle.bp_trail.specs.declared.entries.Call.{Call}
+use Rattle.bp_trail.specs.declared.entries.Reply.{Reply}
+use Rattle.bp_trail.specs.Trail.{Trail}
+use Rattle.bp_trail.specs.Event.{Grant, grant}
 
 -- the entries that are kept
 pub record Kept : Type 0 where

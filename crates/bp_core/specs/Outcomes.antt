@@ -3,19 +3,19 @@ use Rattle.std.specs.Prelude.{◌≡◌, ℕ, ◌+◌, ◌^◌, ◌<◌, ◌≤�
 use Rattle.bp_page.specs.declared.refusals.Refusal.{Refusal}
 use Rattle.bp_page.specs.declared.refusals.Refusal.TheVariants as refusal
 use Rattle.bp_page.specs.declared.refusals.PortFault.{PortFault}
-use Rattle.bp_core.specs.Parameters.{Parameters}
-use Rattle.bp_core.specs.Event.{grant}
-use Rattle.bp_core.specs.Clock.{clock}
-use Rattle.bp_core.specs.Passes.{passes_out, reads_out, writes_out}
-use Rattle.bp_core.specs.Saved.{top}
-use Rattle.bp_core.specs.Room.{free}
-use Rattle.bp_core.specs.Legal.{is_out, Legal}
-use Rattle.bp_core.specs.Trail.{Trail}
+use Rattle.bp_trail.specs.Parameters.{Parameters}
+use Rattle.bp_trail.specs.Event.{grant}
+use Rattle.bp_trail.specs.Clock.{clock}
+use Rattle.bp_trail.specs.Passes.{passes_out, reads_out, writes_out}
+use Rattle.bp_trail.specs.Saved.{top}
+use Rattle.bp_trail.specs.Room.{free}
+use Rattle.bp_trail.specs.Legal.{is_out, Legal}
+use Rattle.bp_trail.specs.Trail.{Trail}
 use Rattle.bp_core.specs.CoreView.{CoreView, EachPast, with_entry, HasRoomFor, LacksRoomFor}
-use Rattle.bp_core.specs.declared.entries.Call.{Call}
-use Rattle.bp_core.specs.declared.entries.Call.TheVariants.{Tick, Fix, ReadEnd, WriteEnd, Read, Write, Unfix, Flush, Purge}
-use Rattle.bp_core.specs.declared.entries.Reply.{Reply}
-use Rattle.bp_core.specs.declared.entries.Reply.TheVariants.{Done, Hit, Load, WriteFirst, NoVictim, NeedLog, Busy, Fixed, ReadFailed, Cleaned, StillDirty, WriteFailed, Content, Clean, Absent, Forgot}
+use Rattle.bp_trail.specs.declared.entries.Call.{Call}
+use Rattle.bp_trail.specs.declared.entries.Call.TheVariants.{Tick, Fix, ReadEnd, WriteEnd, Read, Write, Unfix, Flush, Purge}
+use Rattle.bp_trail.specs.declared.entries.Reply.{Reply}
+use Rattle.bp_trail.specs.declared.entries.Reply.TheVariants.{Done, Hit, Load, WriteFirst, NoVictim, NeedLog, Busy, Fixed, ReadFailed, Cleaned, StillDirty, WriteFailed, Content, Clean, Absent, Forgot}
 use Rattle.bp_core.specs.declared.passes.Pass.{Pass}
 use Rattle.bp_core.specs.declared.passes.ReadTicket.{ReadTicket}
 use Rattle.bp_core.specs.declared.passes.WriteTicket.{WriteTicket}

@@ -1,7 +1,7 @@
 //! The frames, and where the frame of each page is.
 ghost use Rattle.std.specs.Prelude.{◌≡◌, ℕ, ◌+◌, ◌^◌, ◌<◌, ◌≤◌, ◌∷◌, [], All, Contains, true, false, length, IfOk, OnOk, OnErr, IfSome, IfNone};
 ghost use Rattle.std.specs.List.Sorted.{IsPermutation};
-ghost use Rattle.bp_core.specs.Lists.{some};
+ghost use Rattle.bp_trail.specs.Lists.{some};
 ghost use Rattle.bp_core.specs.Rising.{IsRisingBy, IsPlaceFor, IsPlaceOf};
 ghost use Rattle.bp_core.specs.Frames.{is_frame_of, loaded_with, pinned, unpinned, written_on, saving, saved, not_saved, without_page};
 

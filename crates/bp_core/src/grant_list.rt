@@ -1,12 +1,12 @@
 //! Passes or tickets that are out.
 ghost use Rattle.std.specs.Prelude.{◌≡◌, ◌+◌, ◌<◌, ◌≤◌, ◌==◌, [], not, All, filter, length, reverse, IfOk, OnOk, OnErr};
-ghost use Rattle.bp_core.specs.Event.{Grant, grant};
-ghost use Rattle.bp_core.specs.Legal.{is_out};
-ghost use Rattle.bp_core.specs.Lists.{some};
-ghost use Rattle.bp_core.specs.Passes.{is_of};
+ghost use Rattle.bp_trail.specs.Event.{Grant, grant};
+ghost use Rattle.bp_trail.specs.Legal.{is_out};
+ghost use Rattle.bp_trail.specs.Lists.{some};
+ghost use Rattle.bp_trail.specs.Passes.{is_of};
 ghost use Rattle.bp_core.specs.Rising.{IsRisingBy, IsPlaceFor, IsPlaceOf};
 
-use crate::config::Grant;
+use bp_trail::Grant;
 use bp_page::PageNo;
 use std::alloc::{AllocError, Global};
 use std::marker::Model;
@@ -19,7 +19,7 @@ pub(crate) struct GrantList {
 
 impl Model for GrantList {
     ghost use Rattle.std.specs.Prelude.{reverse, vec_capacity};
-    ghost use Rattle.bp_core.specs.Event.{Grant};
+    ghost use Rattle.bp_trail.specs.Event.{Grant};
     ghost use Rattle.bp_core.specs.Lodging.{Given};
     ghost use Rattle.bp_core.specs.Rising.{IsRisingBy};
 

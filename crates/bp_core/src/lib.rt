@@ -5,21 +5,17 @@
 #![tactic(auto)]
 
 pub mod config;
-pub mod entries;
 mod frame;
 mod frame_table;
 mod grant_list;
-pub mod laws;
 pub mod passes;
 pub mod pool;
-pub mod scripts;
 mod state;
 mod trail;
 
-pub use entries::{Call, Entry, Reply};
+pub use bp_trail::{Call, Entry, Refused, Reply, Row, Step};
 pub use passes::{EndRefusal, Ended, Fix, Flush, Pass, PassNote, ReadTicket, WriteTicket};
 pub use pool::Core;
-pub use scripts::{Refused, Row, Step};
 
 #[cfg(test)]
 mod tests;

@@ -1,6 +1,6 @@
 //! Passes and tickets. Each has to be spent, so it can be neither copied nor dropped.
 ghost use Rattle.std.specs.Prelude.{◌≡◌};
-ghost use Rattle.bp_core.specs.Event.{grant};
+ghost use Rattle.bp_trail.specs.Event.{grant};
 
 use bp_page::{Image, Lsn, PageNo, Refusal};
 use std::marker::Model;
@@ -40,7 +40,7 @@ pub struct PassNote {
 }
 
 impl Model for PassNote {
-    ghost use Rattle.bp_core.specs.Event.{Grant, grant};
+    ghost use Rattle.bp_trail.specs.Event.{Grant, grant};
 
     ghost Value = { Grant };
 
@@ -79,6 +79,20 @@ pub enum EndRefusal<T, R> {
     Unknown(T, R),
     /// The operation failed, which is `ReadFailed` or `WriteFailed`. The ticket is spent.
     Failed(Refusal),
+}
+
+impl<T, R> EndRefusal<T, R> {
+    ghost use Rattle.bp_core.specs.EndRefusals.{number_of_end};
+
+    /// Its number, which reports and messages print.
+    pub fn number(&self) -> u16
+        ensures { result ≡ number_of_end self.now }
+    {
+        match self {
+            EndRefusal::Unknown(_, _) => Refusal::UnknownTicket.number(),
+            EndRefusal::Failed(refusal) => refusal.number(),
+        }
+    }
 }
 
 impl Pass {

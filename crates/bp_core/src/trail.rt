@@ -1,7 +1,7 @@
 //! The entries so far, in room that was reserved once.
 ghost use Rattle.std.specs.Prelude.{◌≡◌, ◌<◌, ◌≤◌, ◌∷◌, [], IfOk, length, reverse};
 
-use crate::entries::{Call, Entry, Reply};
+use bp_trail::{Call, Entry, Reply};
 use std::alloc::{AllocError, Global};
 use std::marker::Model;
 

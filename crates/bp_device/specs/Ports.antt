@@ -1,5 +1,6 @@
 -- What a port says of itself.
 use Rattle.std.specs.Prelude.{◌≡◌, ◌⊎◌, ℕ, ◌<◌, ◌^◌, ◌+◌, Result, Ok, Err}
+use Rattle.bp_page.specs.declared.limits.Geometry.{Geometry}
 use Rattle.bp_page.specs.declared.refusals.PortFault.{PortFault}
 use Rattle.bp_page.specs.declared.refusals.PortFault.TheVariants.{Device, Memory}
 
@@ -12,3 +13,11 @@ abbrev pub Counts : {A : Type 0} → Result A PortFault → ℕ → ℕ → Type
 Counts (Ok done) old new = new ≡ old
 Counts (Err Memory) old new = new ≡ old
 Counts (Err Device) old new = IsCounted old new
+
+-- what a caller sees of a port: its device's pages and their size, and the failures that it has counted
+pub record PortView : Type 0 where
+  pub device : Geometry
+  pub failures : ℕ
+
+abbrev pub new_port : Geometry → PortView
+new_port geometry = record { device = geometry; failures = 0 }

@@ -1,6 +1,22 @@
 //! The ways to a device, and drivers of a core that has one owner.
 #![tactic(auto)]
 
+pub mod drivers;
+mod failures;
+pub mod files;
+pub mod fuse;
+mod held_passes;
+pub mod memory;
+mod places;
 pub mod port;
+mod rows;
+pub mod scripts;
+#[cfg(test)]
+mod tests;
 
+pub use drivers::{Flushed, drive_fix, drive_flush};
+pub use files::{FilePort, OpenFault};
+pub use fuse::FusePort;
+pub use memory::{MemDevice, MemPort};
 pub use port::Port;
+pub use scripts::drive_all;

@@ -5,8 +5,10 @@ pub mod images;
 pub mod limits;
 pub mod numbers;
 pub mod refusals;
+pub mod slots;
 
 pub use images::{Bytes, Image};
 pub use limits::Geometry;
 pub use numbers::{Lsn, PageNo};
 pub use refusals::{PortFault, Refusal};
+pub use slots::{slot, unslot};

@@ -19,7 +19,7 @@ use Rattle.clap.specs.declared.builder.value_parser.ValueParser.TheVariants as p
 use Rattle.clap.specs.declared.error.kind.ErrorKind.TheVariants.{MissingRequiredArgument}
 use Rattle.clap.proofs.WalkLemmas.{both}
 use Rattle.bpool.specs.Command.{bpool_app, number_option, positional as positional_rule, run_shape}
-use Rattle.bpool.specs.Words.{IsInLimits, Told, number_at, told_by, told_by_rows, told_in, pages_of, trace_of}
+use Rattle.bpool.specs.Words.{IsInLimits, Told, number_at, told_by, told_by_rows, told_in, trace_of}
 use Rattle.bpool.proofs.Entering.{NotHelp, walk_not_help}
 use Rattle.bpool.proofs.Fits.{AllFit, Fits, IsOf, or_else-nil}
 use Rattle.bpool.proofs.Level.{IsFilled, has_default, level_filled}
@@ -135,12 +135,14 @@ both_given false h e = cc
 
 pub rows_told : (rows : List Row) → IsFilled run_built rows → (told : Told) × (told_by_rows rows ≡ Some told) × IsInLimits told
 rows_told rows filled = (
-  record { trace = trace_of trace.word; pages = pages_of pages.word; frames = frames.number; k = k.number; correlated = correlated.number; retained = retained.number },
-  rw (trace.as_text, pages.as_text, frames.is, k.is, correlated.is, retained.is) refl,
+  record { trace = trace_of trace.word; page_file = pages.word; frames = frames.number; k = k.number; correlated = correlated.number; retained = retained.number; size = size.number },
+  rw (trace.as_text, pages.as_text, frames.is, k.is, correlated.is, retained.is, size.is) refl,
   record {
     some_frames = frames.at_least;
     few_frames = frames.at_most;
     settings = record { at_least_one = k.at_least; at_most_sixteen = k.at_most; correlated_fits = correlated.at_most; retained_fits = retained.at_most };
+    some_bytes = size.at_least;
+    few_bytes = size.at_most;
   },
 )
   where
@@ -169,6 +171,9 @@ rows_told rows filled = (
 
     retained : IsNumber (codes "retained") 0 4611686018427387904 rows
     retained = option_read (codes "retained") 0 4611686018427387904 (codes "1000") refl refl
+
+    size : IsNumber (codes "page-size") 16 65536 rows
+    size = option_read (codes "page-size") 16 65536 (codes "64") refl refl
 
 -- ---- the words
 

@@ -21,6 +21,7 @@ run_rules =
     ∷ number_option (codes "k") 1 16 (codes "2")
     ∷ number_option (codes "correlated") 0 4611686018427387904 (codes "0")
     ∷ number_option (codes "retained") 0 4611686018427387904 (codes "1000")
+    ∷ number_option (codes "page-size") 16 65536 (codes "64")
     ∷ []
 
 abbrev pub run_shape : Shape

@@ -2,6 +2,10 @@
 use Rattle.std.specs.Prelude.{ℕ, ◌++◌, ◌∷◌, [], true, false, Bool, List, codes, string_bytes, if◌then◌else◌}
 use Rattle.std.specs.Fmt.{decimal}
 use Rattle.bp_page.specs.Refusals.{number_of}
+use Rattle.bp_page.specs.declared.refusals.Refusal.TheVariants.{OutOfMemory}
+use Rattle.bp_page.specs.declared.refusals.PortFault.TheVariants.{Device, Memory}
+use Rattle.bp_device.specs.declared.OpenFault.{OpenFault}
+use Rattle.bp_device.specs.declared.OpenFault.TheVariants.{Refused, Port}
 use Rattle.bpool.specs.declared.ending.Ending.{Ending}
 use Rattle.bpool.specs.declared.ending.Ending.TheVariants as ending
 
@@ -29,3 +33,9 @@ on_out ending = if is_help ending then message_of ending else []
 
 abbrev pub on_err : Ending → List ℕ
 on_err ending = if is_help ending then [] else message_of ending ++ 10 ∷ []
+
+-- how the program ends where a page file is not opened
+abbrev pub ending_of : OpenFault → Ending
+ending_of (Refused refusal) = ending.PageFileRefused refusal
+ending_of (Port Device) = ending.PageFileNotOpened
+ending_of (Port Memory) = ending.PageFileRefused OutOfMemory

@@ -7,11 +7,8 @@ use Rattle.clap.specs.ValueTests.{is_numeral}
 use Rattle.clap.specs.Words.{Row, Text, fault_of, first_of, one_of, subcommand_of}
 use Rattle.bp_lruk.specs.Limits.{IsWithinLimits}
 use Rattle.bpool.specs.Command.{bpool_app}
-use Rattle.bpool.specs.Numbers.{number_in}
 use Rattle.bpool.specs.declared.words.TraceSource.{TraceSource}
 use Rattle.bpool.specs.declared.words.TraceSource.TheVariants as trace_source
-use Rattle.bpool.specs.declared.words.PageFile.{PageFile}
-use Rattle.bpool.specs.declared.words.PageFile.TheVariants as page_file
 use Rattle.bpool.specs.declared.words.RunWords.{RunWords}
 
 -- where a run reads its trace
@@ -19,32 +16,20 @@ pub data TraceAt : Type 0 where
   from_stdin : TraceAt
   at_path : Text → TraceAt
 
--- where the pages of a run stand
-pub data PagesIn : Type 0 where
-  in_memory : ℕ → PagesIn
-  in_file : Text → PagesIn
-
 -- what a run is told
 pub record Told : Type 0 where
   pub trace : TraceAt
-  pub pages : PagesIn
+  pub page_file : Text
   pub frames : ℕ
   pub k : ℕ
   pub correlated : ℕ
   pub retained : ℕ
+  pub size : ℕ
 
 -- ---- one word
 
 abbrev pub trace_of : Text → TraceAt
 trace_of word = if bytes_eq word (codes "stdin") then from_stdin else at_path word
-
-abbrev pub pages_after : Text → Option ℕ → PagesIn
-pages_after word None = in_file word
-pages_after word (Some n) = in_memory n
-
--- `mem:` with a number after it is so many pages in memory, and any other word is a path
-abbrev pub pages_of : Text → PagesIn
-pages_of word = pages_after word (if bytes_eq (take 4 word) (codes "mem:") then number_in (drop 4 word) else None)
 
 -- the number that `u64` reads from a text: digits, where a plus may stand before them
 abbrev pub unsigned_of : Text → Option ℕ
@@ -67,12 +52,13 @@ number_at id rows = one_of id rows >>= unsigned_of
 abbrev pub told_by_rows : List Row → Option Told
 told_by_rows rows = do
   trace ← first_of (codes "trace") rows
-  pages ← first_of (codes "page-file") rows
+  page_file ← first_of (codes "page-file") rows
   frames ← number_at (codes "frames") rows
   k ← number_at (codes "k") rows
   correlated ← number_at (codes "correlated") rows
   retained ← number_at (codes "retained") rows
-  Some (record { trace = trace_of trace; pages = pages_of pages; frames = frames; k = k; correlated = correlated; retained = retained })
+  size ← number_at (codes "page-size") rows
+  Some (record { trace = trace_of trace; page_file = page_file; frames = frames; k = k; correlated = correlated; retained = retained; size = size })
 
 -- what the subcommand that was met is told, where it is `run`
 abbrev pub told_in : Option (Text × List Row) → Option Told
@@ -88,6 +74,8 @@ pub record IsInLimits (told : Told) : Type 0 where
   pub some_frames : 1 ≤ told.frames
   pub few_frames : told.frames ≤ 65536
   pub settings : IsWithinLimits told.k told.correlated told.retained
+  pub some_bytes : 16 ≤ told.size
+  pub few_bytes : told.size ≤ 65536
 
 -- no words at all act as these
 abbrev pub default_words : List Text
@@ -103,9 +91,5 @@ abbrev pub trace_told : TraceSource → TraceAt
 trace_told trace_source.Stdin = from_stdin
 trace_told (trace_source.Path path) = at_path path.now
 
-abbrev pub pages_told : PageFile → PagesIn
-pages_told (page_file.Memory n) = in_memory n
-pages_told (page_file.Path path) = in_file path.now
-
 abbrev pub told_of : RunWords → Told
-told_of w = record { trace = trace_told w.trace; pages = pages_told w.page_file; frames = w.frames; k = w.k; correlated = w.correlated; retained = w.retained }
+told_of w = record { trace = trace_told w.trace; page_file = w.page_file.now; frames = w.frames; k = w.k; correlated = w.correlated; retained = w.retained; size = w.page_size }

@@ -9,6 +9,11 @@ use clap::builder::ValueParser;
 use clap::{Arg, Command, value_parser};
 use std::alloc::{AllocError, Global};
 
+/// What the statuses of a run mean.
+const STATUSES: &str =
+    "Status 0: all rows were accepted. Status 1: some row was refused; the report says which, and why. \
+Status 2: there is no report; one line on standard error says why.";
+
 /// How many frames a pool may have.
 fn frame_counts<'a>() -> ValueParser<'a>
     ensures { result ≡ ValueParser.Unsigned 1 65536 }
@@ -21,6 +26,13 @@ fn stamp_counts<'a>() -> ValueParser<'a>
     ensures { result ≡ ValueParser.Unsigned 1 16 }
 {
     value_parser!(usize).range(1..=16)
+}
+
+/// How many bytes a page may have. That they are a multiple of 16 is looked at later.
+fn page_sizes<'a>() -> ValueParser<'a>
+    ensures { result ≡ ValueParser.Unsigned 16 65536 }
+{
+    value_parser!(usize).range(16..=65_536)
 }
 
 /// How long a period may be.
@@ -100,6 +112,13 @@ fn run_arguments<'a>(alloc: Global) -> Result<Vec<Arg<'a>>, AllocError>
             "1000",
             "Retained information period in ticks, from 0 to 2^62"
         ),
+        number_option(
+            alloc,
+            "page-size",
+            page_sizes(),
+            "64",
+            "Bytes of a page, a multiple of 16 from 16 to 65536"
+        ),
     ]?;
     Ok(arguments)
 }
@@ -112,6 +131,7 @@ fn run_command<'a>(alloc: Global) -> Result<Command<'a>, AllocError>
     let arguments = run_arguments(alloc)?;
     let command = Command::new(alloc, "run")
         .about("Runs a trace over a buffer pool and reports what the pool did")
+        .after_help(STATUSES)
         .args(arguments)?;
     Ok(command)
 }

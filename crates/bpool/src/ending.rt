@@ -4,9 +4,9 @@ ghost use Rattle.std.specs.Io.KnownBytes.{Appends};
 ghost use Rattle.bpool.specs.Ending.{is_help, message_of, on_err, on_out, status_of};
 ghost use Rattle.bpool.specs.Line.{is_line};
 
-use crate::faults::TraceFault;
 use crate::line::Line;
 use bp_page::Refusal;
+use bp_trace::TraceFault;
 use std::io::Write;
 use std::{fmt, io};
 

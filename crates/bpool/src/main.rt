@@ -3,21 +3,14 @@
 
 mod command;
 mod decision;
-mod driver;
 mod ending;
-mod faults;
-mod input;
 mod line;
-mod lines;
-mod numbers;
-mod order;
-mod printing;
-mod record;
+mod opening;
+mod page_files;
 mod run;
-mod script;
-mod totals;
 mod words;
 
+use crate::page_files::PageFiles;
 use crate::run::run_with;
 use std::process::ExitCode;
 use std::{env, io};
@@ -30,9 +23,11 @@ fn main(rt: HostRuntime) -> anyhow::Result<ExitCode> {
         words.push(word.as_str())?;
     }
     let status = run_with(
+        &rt,
         alloc,
         words.as_slice(),
         &mut rt.reader(),
+        &mut PageFiles::new(alloc),
         &mut io::writer(&rt),
         &mut rt.stderr(),
     );

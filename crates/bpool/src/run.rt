@@ -1,26 +1,36 @@
-//! A run: the rows of a trace over a new core, and the report of what it did.
-ghost use Rattle.std.specs.Prelude.{◌≡◌, false, IfErr, if◌then◌else◌, ◌≤◌, ◌++◌, OnOk, ◌<◌, IfOk, IfSome, All, length};
-ghost use Rattle.bpool.specs.Driver.{RowFits};
+//! A run: the rows of a trace over a new core and a page file, and the report of what it did.
+ghost use Rattle.std.specs.Prelude.{◌≡◌, ◌++◌, ◌<◌, ◌≤◌, All, IfErr, IfOk, OnOk, [], false, if◌then◌else◌, length};
 ghost use Rattle.std.specs.Io.KnownBytes.{Appends};
-ghost use Rattle.bpool.specs.Report.{report_text, rows_text};
 ghost use Rattle.clap.specs.Walk.{texts};
-ghost use Rattle.bpool.specs.Decision.{AsksForHelp};
-ghost use Rattle.bpool.specs.Ending.{is_help};
-ghost use Rattle.bpool.specs.Words.{words_or_default};
-ghost use Rattle.bpool.specs.Run.{RunsWords, parameters_for, room_for, Reports, Runs};
+ghost use Rattle.bp_trail.specs.Fits.{RowFits};
+ghost use Rattle.bp_trace.specs.InRange.{IsInRange};
+ghost use Rattle.bp_trace.specs.Report.{report_text, rows_text};
+ghost use Rattle.bpool.specs.Decision.{AsksForHelp, IsRunnable};
+ghost use Rattle.bpool.specs.Ending.{ending_of, is_help};
+ghost use Rattle.bpool.specs.PageFile.{HasPages, memory_named};
+ghost use Rattle.bpool.specs.Words.{from_stdin, told_of, trace_told, words_or_default};
+ghost use Rattle.bpool.specs.Run.{AreRead, Reports, Runs, RunsWords, parameters_for, room_for};
 
 use crate::decision::decide;
-use crate::driver::drive_all;
 use crate::ending::Ending;
-use crate::order::RunOrder;
-use crate::printing::{report, report_rows};
-use crate::script::read_script;
+use crate::opening::Ports;
+use crate::words::{RunWords, TraceSource};
 use bp_core::{Core, Entry, Refused, Row};
+use bp_device::{OpenFault, Port, drive_all};
+use bp_lruk::Settings;
+use bp_page::{Geometry, PortFault, Refusal};
+use bp_trace::{read_script, report, report_rows};
 use std::alloc::Global;
+use std::fs;
 use std::io::{Read, Write};
+use std::rt::Files;
+use std::sync::Wait;
 
 /// The most entries that a trail may have.
 const MAX_ROOM: usize = 16_777_216;
+
+/// The clients that a trace may name.
+const CLIENTS: u8 = 64;
 
 /// The room of a trail for so many rows.
 fn room_for(rows: usize) -> usize
@@ -40,29 +50,49 @@ fn print_run<W: Write>(entries: &[Entry], refused: &[Refused], out: &mut W) -> R
     Ok(())
 }
 
-/// Runs the rows over a new core, and writes the report and the refused rows. Answers whether all rows were accepted.
-fn run_rows<W: Write>(
+/// A core over such pages, for so many rows.
+fn new_core(
     alloc: Global,
-    order: &RunOrder,
+    run: &RunWords<'_>,
+    geometry: Geometry,
+    rows: usize,
+) -> Result<Core, Ending>
+    requires runnable { IsRunnable (told_of run.now) }
+    ensures made { IfOk result (λ core. (core.parameters ≡ parameters_for (told_of run.now) geometry rows) × (core.past ≡ [])) }
+    ensures fault { IfErr result (λ ending. is_help ending ≡ false) }
+{
+    let settings = Settings::new(run.k, run.correlated, run.retained).unwrap();
+    let core = Core::new(
+        alloc,
+        geometry,
+        settings,
+        run.frames,
+        CLIENTS,
+        room_for(rows),
+    );
+    core.map_err(Ending::RunRefused)
+}
+
+/// Runs the rows over a new core and the port, and writes the report and the refused rows. Answers whether all rows were
+/// accepted.
+fn run_rows<P: Port, R: Wait, W: Write>(
+    rt: &R,
+    alloc: Global,
+    run: &RunWords<'_>,
+    port: &mut P,
     rows: &[Row],
     out: &mut W,
 ) -> Result<bool, Ending>
-    requires fits { All (RowFits (parameters_for order.now (length rows.now))) rows.now }
-    ensures reported { IfOk result (λ all_accepted. Reports order.now rows.now all_accepted (W.contents out.old) (W.contents out.new)) }
+    requires runnable { IsRunnable (told_of run.now) }
+    requires fits { All (IsInRange (P.geometry_of port.old)) rows.now }
+    ensures reported { IfOk result (λ all_accepted. Reports (parameters_for (told_of run.now) (P.geometry_of port.old) (length rows.now)) rows.now all_accepted (W.contents out.old) (W.contents out.new)) }
     ensures fault { IfErr result (λ ending. is_help ending ≡ false) }
 {
-    let mut core = match Core::new(
-        alloc,
-        order.geometry,
-        order.settings,
-        order.frames,
-        1,
-        room_for(rows.len()),
-    ) {
+    let mut core = match new_core(alloc, run, port.geometry(), rows.len()) {
         Ok(core) => core,
-        Err(refusal) => return Err(Ending::RunRefused(refusal)),
+        Err(ending) => return Err(ending),
     };
-    let refused = match drive_all(alloc, &mut core, &order.geometry, rows) {
+    let refused = match drive_all(rt, alloc, &mut core, port, rows) {
         Ok(refused) => refused,
         Err(refusal) => return Err(Ending::RunRefused(refusal)),
     };
@@ -72,23 +102,95 @@ fn run_rows<W: Write>(
     }
 }
 
-/// Runs a trace over a new core, and writes the report and the refused rows. Answers whether all rows were accepted.
-///
-/// The trace is read whole first: where it has no script, nothing is written.
-pub fn run_trace<R: Read, W: Write>(
+/// The rows of a trace over pages of this geometry.
+fn rows_from<I: Read>(
     alloc: Global,
-    order: &RunOrder,
-    reader: &mut R,
-    out: &mut W,
-) -> Result<bool, Ending>
-    ensures ran { IfOk result (λ all_accepted. IfSome (R.remaining reader.old) (λ bytes. Runs order.now bytes all_accepted (W.contents out.old) (W.contents out.new))) }
+    reader: &mut I,
+    geometry: &Geometry,
+) -> Result<Vec<Row>, Ending>
+    ensures read { IfOk result (λ rows. AreRead from_stdin geometry.now (I.remaining reader.old) rows.items) }
+    ensures fits { IfOk result (λ rows. All (IsInRange geometry.now) rows.items) }
     ensures fault { IfErr result (λ ending. is_help ending ≡ false) }
 {
-    let rows = match read_script(alloc, reader, &order.geometry) {
-        Ok(rows) => rows,
-        Err(fault) => return Err(Ending::TraceRefused(fault)),
+    read_script(alloc, reader, geometry).map_err(Ending::TraceRefused)
+}
+
+/// The rows of the trace: of standard input, or of the file at its path.
+fn rows_of<I: Read, R: Files>(
+    rt: &R,
+    alloc: Global,
+    trace: TraceSource<'_>,
+    reader: &mut I,
+    geometry: &Geometry,
+) -> Result<Vec<Row>, Ending>
+    ensures read { IfOk result (λ rows. AreRead (trace_told trace.entry) geometry.now (I.remaining reader.old) rows.items) }
+    ensures fits { IfOk result (λ rows. All (IsInRange geometry.now) rows.items) }
+    ensures fault { IfErr result (λ ending. is_help ending ≡ false) }
+{
+    match trace {
+        TraceSource::Stdin => rows_from(alloc, reader, geometry),
+        TraceSource::Path(path) => {
+            let Ok(mut file) = fs::open(rt, path) else {
+                return Err(Ending::TraceNotOpened);
+            };
+            rows_from(alloc, &mut file, geometry)
+        }
+    }
+}
+
+/// How the program ends where a page file is not opened.
+fn ending_of(fault: OpenFault) -> Ending
+    ensures { result ≡ ending_of fault }
+{
+    match fault {
+        OpenFault::Refused(refusal) => Ending::PageFileRefused(refusal),
+        OpenFault::Port(PortFault::Device) => Ending::PageFileNotOpened,
+        OpenFault::Port(PortFault::Memory) => Ending::PageFileRefused(Refusal::OutOfMemory),
+    }
+}
+
+/// A port to the page file that the words name.
+fn open_port<R, O: Ports<R>>(rt: &R, ports: &mut O, run: &RunWords<'_>) -> Result<O::P, Ending>
+    requires runnable { IsRunnable (told_of run.now) }
+    ensures pages { IfOk result (λ port. HasPages (memory_named run.now.page_file.now) (O.P.geometry_of port).pages) }
+    ensures size { IfOk result (λ port. (O.P.geometry_of port).size ≡ run.now.page_size) }
+    ensures fault { IfErr result (λ ending. is_help ending ≡ false) }
+{
+    let mut opened = match ports.open(rt, run.page_file, run.page_size, 1) {
+        Ok(opened) => opened,
+        Err(fault) => return Err(ending_of(fault)),
     };
-    run_rows(alloc, order, &rows, out)
+    let Some(port) = opened.pop() else {
+        unreachable!();
+    };
+    Ok(port)
+}
+
+/// Opens the page file, then reads the trace, and runs its rows. Answers whether all were accepted.
+///
+/// The trace is read whole first: where it has no script, nothing is written.
+fn run_told<R: Files + Wait, I: Read, O: Ports<R>, W: Write>(
+    rt: &R,
+    alloc: Global,
+    run: &RunWords<'_>,
+    reader: &mut I,
+    ports: &mut O,
+    out: &mut W,
+) -> Result<bool, Ending>
+    requires runnable { IsRunnable (told_of run.now) }
+    ensures ran { IfOk result (λ all_accepted. Runs (told_of run.now) (I.remaining reader.old) all_accepted (W.contents out.old) (W.contents out.new)) }
+    ensures fault { IfErr result (λ ending. is_help ending ≡ false) }
+{
+    let mut port = match open_port(rt, ports, run) {
+        Ok(port) => port,
+        Err(ending) => return Err(ending),
+    };
+    let geometry = port.geometry();
+    let rows = match rows_of(rt, alloc, run.trace, reader, &geometry) {
+        Ok(rows) => rows,
+        Err(ending) => return Err(ending),
+    };
+    run_rows(rt, alloc, run, &mut port, &rows, out)
 }
 
 /// The status of a run: 0 where all rows were accepted, else 1.
@@ -99,27 +201,30 @@ fn status_of_run(all_accepted: bool) -> u8
 }
 
 /// Does what the words of the command line say, which leave out the program's name, and gives the status to end with.
-/// No words at all are those of the stored run.
+/// No words at all are those of the stored run. It looks at the words first, then opens the page file by `ports`, and
+/// then reads the trace: from `reader` where its word is `stdin`, else from the file at that path.
 ///
 /// Status 0: help, or a run whose rows were all accepted. Status 1: a run with refused rows. Their report, and then the
 /// refused rows, are on `out`. Status 2: one line on `err` says why there is no report; nothing is on `out`, but where
 /// the line is `output failed`, which comes after whatever was written.
-pub fn run_with<R: Read, W: Write, E: Write>(
+pub fn run_with<R: Files + Wait, I: Read, O: Ports<R>, W: Write, E: Write>(
+    rt: &R,
     alloc: Global,
     words: &[&str],
-    reader: &mut R,
+    reader: &mut I,
+    ports: &mut O,
     out: &mut W,
     err: &mut E,
 ) -> u8
     ensures reported { ¬ AsksForHelp (words_or_default (texts words.entry.now)) → result < 2
-        → IfSome (R.remaining reader.old) (λ bytes. RunsWords (words_or_default (texts words.entry.now)) bytes result (W.contents out.old) (W.contents out.new)) }
+        → RunsWords (words_or_default (texts words.entry.now)) (I.remaining reader.old) result (W.contents out.old) (W.contents out.new) }
     ensures status { result ≤ 2 }
 {
-    let order = match decide(alloc, words) {
-        Ok(order) => order,
+    let run = match decide(alloc, words) {
+        Ok(run) => run,
         Err(ending) => return ending.finish(out, err),
     };
-    match run_trace(alloc, &order, reader, out) {
+    match run_told(rt, alloc, &run, reader, ports, out) {
         Ok(all_accepted) => status_of_run(all_accepted),
         Err(ending) => ending.finish(out, err),
     }

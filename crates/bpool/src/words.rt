@@ -3,11 +3,10 @@ ghost use Rattle.std.specs.Prelude.{◌≡◌, [], ◌∷◌, option_map, codes,
 ghost use Rattle.clap.specs.Walk.{texts};
 ghost use Rattle.clap.specs.Words.{fault_of, first_of, found_of, rows_of, subcommand_rows_of, FailsBy};
 ghost use Rattle.bpool.specs.Command.{bpool_app};
-ghost use Rattle.bpool.specs.Words.{IsInLimits, number_at, told_by, told_by_rows, told_in, told_of, words_or_default, from_stdin, at_path, in_memory, in_file};
+ghost use Rattle.bpool.specs.Words.{IsInLimits, number_at, told_by, told_by_rows, told_in, told_of, words_or_default, from_stdin, at_path};
 ghost use Rattle.bpool.specs.Words as spec;
 
 use crate::command::bpool_command;
-use crate::numbers::parse_number;
 use clap::error::ErrorKind;
 use clap::{ArgMatches, Error};
 use std::alloc::Global;
@@ -19,23 +18,16 @@ pub enum TraceSource<'a> {
     Path(&'a str),
 }
 
-/// Where the pages of a run stand.
-#[derive(Clone, Copy, Debug, PartialEq, Eq)]
-pub enum PageFile<'a> {
-    /// So many pages of zero bytes in memory.
-    Memory(u64),
-    Path(&'a str),
-}
-
 /// What the words of a run name.
 #[derive(Clone, Copy, Debug, PartialEq, Eq)]
 pub struct RunWords<'a> {
     pub trace: TraceSource<'a>,
-    pub page_file: PageFile<'a>,
+    pub page_file: &'a str,
     pub frames: usize,
     pub k: usize,
     pub correlated: u64,
     pub retained: u64,
+    pub page_size: usize,
 }
 
 fn trace_source<'a>(word: &'a str) -> TraceSource<'a>
@@ -45,19 +37,6 @@ fn trace_source<'a>(word: &'a str) -> TraceSource<'a>
         TraceSource::Stdin
     } else {
         TraceSource::Path(word)
-    }
-}
-
-fn page_file<'a>(word: &'a str) -> PageFile<'a>
-    ensures { spec.pages_told result ≡ spec.pages_of word.entry.now }
-{
-    match word
-        .as_bytes()
-        .strip_prefix(b"mem:".as_slice())
-        .and_then(parse_number)
-    {
-        Some(pages) => PageFile::Memory(pages),
-        None => PageFile::Path(word),
     }
 }
 
@@ -87,18 +66,20 @@ fn run_words<'a>(matches: &ArgMatches<'a>) -> Option<RunWords<'a>>
     ensures { option_map told_of result ≡ told_by_rows (rows_of (found_of matches.now)) }
 {
     let trace = word_at(matches, "trace")?;
-    let page_file_word = word_at(matches, "page-file")?;
+    let page_file = word_at(matches, "page-file")?;
     let frames = count_at(matches, "frames")?;
     let k = count_at(matches, "k")?;
     let correlated = period_at(matches, "correlated")?;
     let retained = period_at(matches, "retained")?;
+    let page_size = count_at(matches, "page-size")?;
     Some(RunWords {
         trace: trace_source(trace),
-        page_file: page_file(page_file_word),
+        page_file,
         frames,
         k,
         correlated,
         retained,
+        page_size,
     })
 }
 
@@ -126,12 +107,12 @@ pub fn read_words<'a>(alloc: Global, words: &'a [&'a str]) -> Result<RunWords<'a
 
 /// What some words name, as the definition computes.
 pub fn words_by_example()
-    ensures none { told_by (words_or_default []) ≡ Some (record { trace = from_stdin; pages = in_memory 16; frames = 2; k = 1; correlated = 0; retained = 1000 }) }
+    ensures none { told_by (words_or_default []) ≡ Some (record { trace = from_stdin; page_file = codes "mem:16"; frames = 2; k = 1; correlated = 0; retained = 1000; size = 64 }) }
     ensures defaults { told_by (codes "run" ∷ codes "stdin" ∷ codes "mem:16" ∷ [])
-        ≡ Some (record { trace = from_stdin; pages = in_memory 16; frames = 8; k = 2; correlated = 0; retained = 1000 }) }
-    ensures all { told_by (codes "run" ∷ codes "--k" ∷ codes "16" ∷ codes "--correlated=4611686018427387904" ∷ codes "t.csv" ∷ codes "--retained" ∷ codes "0" ∷ codes "--frames" ∷ codes "65536" ∷ codes "mem:" ∷ [])
-        ≡ Some (record { trace = at_path (codes "t.csv"); pages = in_file (codes "mem:"); frames = 65536; k = 16; correlated = 4611686018427387904; retained = 0 }) }
+        ≡ Some (record { trace = from_stdin; page_file = codes "mem:16"; frames = 8; k = 2; correlated = 0; retained = 1000; size = 64 }) }
+    ensures all { told_by (codes "run" ∷ codes "--k" ∷ codes "16" ∷ codes "--correlated=4611686018427387904" ∷ codes "t.csv" ∷ codes "--retained" ∷ codes "0" ∷ codes "--frames" ∷ codes "65536" ∷ codes "mem:" ∷ codes "--page-size=16" ∷ [])
+        ≡ Some (record { trace = at_path (codes "t.csv"); page_file = codes "mem:"; frames = 65536; k = 16; correlated = 4611686018427387904; retained = 0; size = 16 }) }
     ensures out_of_range { fault_of bpool_app (codes "run" ∷ codes "stdin" ∷ codes "mem:16" ∷ codes "--k" ∷ codes "17" ∷ []) ≡ ErrorKind.ValueValidation ∷ [] }
-    ensures unknown { fault_of bpool_app (codes "run" ∷ codes "stdin" ∷ codes "mem:16" ∷ codes "--page-size" ∷ codes "64" ∷ []) ≡ ErrorKind.UnknownArgument ∷ [] }
+    ensures unknown { fault_of bpool_app (codes "run" ∷ codes "stdin" ∷ codes "mem:16" ∷ codes "--order" ∷ codes "free" ∷ []) ≡ ErrorKind.UnknownArgument ∷ [] }
     ensures help { fault_of bpool_app (codes "run" ∷ codes "--help" ∷ []) ≡ ErrorKind.DisplayHelp ∷ [] }
 {}

@@ -1,12 +1,12 @@
 //! Fixing a page.
 ghost use Rattle.std.specs.Prelude.{◌≡◌, ◌<◌, true, false};
-ghost use Rattle.bp_core.specs.Places.{loading, resident};
-ghost use Rattle.bp_core.specs.Victim.{victim};
-ghost use Rattle.bp_core.specs.PageMap.{has_free_frame};
+ghost use Rattle.bp_trail.specs.Places.{loading, resident};
+ghost use Rattle.bp_trail.specs.Victim.{victim};
+ghost use Rattle.bp_trail.specs.PageMap.{has_free_frame};
 ghost use Rattle.bp_core.specs.CoreView.{EachPast, HasRoomFor};
 ghost use Rattle.bp_core.specs.Outcomes.{FixOutcome};
 
-use crate::entries::{Call, Reply};
+use bp_trail::{Call, Reply};
 use crate::passes::Fix;
 use crate::pool::Core;
 use crate::state::withdraw;

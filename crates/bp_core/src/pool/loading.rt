@@ -1,17 +1,17 @@
 //! Bringing a page into a frame.
 ghost use Rattle.std.specs.Prelude.{◌≡◌, ℕ, ◌+◌, ◌^◌, ◌<◌, ◌≤◌, true, false, Some, None, length, IfOk, OnOk, OnErr, ◌≢◌};
 ghost use Rattle.bp_lruk.specs.Histories.{is_held, SameStampsAt, SameAt, SameSettings};
-ghost use Rattle.bp_core.specs.Event.{grant};
-ghost use Rattle.bp_core.specs.Legal.{is_out};
-ghost use Rattle.bp_core.specs.Passes.{reads_out};
-ghost use Rattle.bp_core.specs.Places.{loading, resident};
-ghost use Rattle.bp_core.specs.Saved.{unsaved};
-ghost use Rattle.bp_core.specs.Victim.{victim};
-ghost use Rattle.bp_core.specs.PageMap.{has_free_frame};
+ghost use Rattle.bp_trail.specs.Event.{grant};
+ghost use Rattle.bp_trail.specs.Legal.{is_out};
+ghost use Rattle.bp_trail.specs.Passes.{reads_out};
+ghost use Rattle.bp_trail.specs.Places.{loading, resident};
+ghost use Rattle.bp_trail.specs.Saved.{unsaved};
+ghost use Rattle.bp_trail.specs.Victim.{victim};
+ghost use Rattle.bp_trail.specs.PageMap.{has_free_frame};
 ghost use Rattle.bp_core.specs.CoreView.{EachPast, HasRoomFor};
 ghost use Rattle.bp_core.specs.Outcomes.{FixOutcome, ReadEndOutcome, Adds};
 
-use crate::entries::{Call, Reply};
+use bp_trail::{Call, Reply};
 use crate::grant_list::GrantList;
 use crate::passes::{EndRefusal, Fix, Pass, ReadTicket};
 use crate::pool::Core;

@@ -1,13 +1,13 @@
 //! What a call asks of the core before it changes anything, and an entry that changes nothing else.
 ghost use Rattle.std.specs.Prelude.{◌≡◌, ◌<◌, true, false, IfSome, IfNone};
-ghost use Rattle.bp_core.specs.Places.{loading, resident};
-ghost use Rattle.bp_core.specs.PageMap.{has_free_frame, reply_of};
-ghost use Rattle.bp_core.specs.Legal.{allowed};
+ghost use Rattle.bp_trail.specs.Places.{loading, resident};
+ghost use Rattle.bp_trail.specs.PageMap.{has_free_frame, reply_of};
+ghost use Rattle.bp_trail.specs.Legal.{allowed};
 ghost use Rattle.bp_core.specs.Agreement.{frame_of};
 ghost use Rattle.bp_core.specs.CoreView.{EachPast, HasRoomFor, room_after};
 ghost use Rattle.bp_core.specs.Outcomes.{Adds, IsQuiet, pass_is_out};
 
-use crate::entries::{Call, Reply};
+use bp_trail::{Call, Reply};
 use crate::frame::Frame;
 use crate::passes::Pass;
 use crate::pool::Core;

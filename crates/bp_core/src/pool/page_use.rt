@@ -2,7 +2,7 @@
 ghost use Rattle.std.specs.Prelude.{◌+◌, ◌≤◌, length};
 ghost use Rattle.bp_core.specs.Outcomes.{ReadOutcome, WriteOutcome, UnfixOutcome};
 
-use crate::entries::{Call, Reply};
+use bp_trail::{Call, Reply};
 use crate::passes::Pass;
 use crate::pool::Core;
 use crate::state::offer;

@@ -1,13 +1,13 @@
 //! What a core tells.
 ghost use Rattle.std.specs.Prelude.{◌≡◌, reverse};
-ghost use Rattle.bp_core.specs.Clock.{clock, durable};
-ghost use Rattle.bp_core.specs.References.{last, hist};
-ghost use Rattle.bp_core.specs.Legal.{Legal};
-ghost use Rattle.bp_core.specs.Safety.{Safe};
-ghost use Rattle.bp_core.specs.Claims.{HeldIsPlain, ReadsAreKnown};
+ghost use Rattle.bp_trail.specs.Clock.{clock, durable};
+ghost use Rattle.bp_trail.specs.References.{last, hist};
+ghost use Rattle.bp_trail.specs.Legal.{Legal};
+ghost use Rattle.bp_trail.specs.Safety.{Safe};
+ghost use Rattle.bp_trail.specs.Claims.{HeldIsPlain, ReadsAreKnown};
 ghost use Rattle.bp_core.specs.CoreView.{EachPast};
 
-use crate::entries::Entry;
+use bp_trail::Entry;
 use crate::pool::Core;
 use bp_lruk::Settings;
 use bp_page::{Geometry, Lsn, PageNo};

@@ -2,7 +2,7 @@
 ghost use Rattle.std.specs.Prelude.{◌<◌};
 ghost use Rattle.bp_core.specs.Outcomes.{StepOutcome, TickOutcome, PurgeOutcome};
 
-use crate::entries::{Call, Reply};
+use bp_trail::{Call, Reply};
 use crate::frame::later;
 use crate::pool::Core;
 use bp_page::{Lsn, Refusal};

@@ -1,16 +1,16 @@
 //! Writing pages out.
 ghost use Rattle.std.specs.Prelude.{◌≡◌, ◌<◌, true, false};
-ghost use Rattle.bp_core.specs.declared.entries.Reply.TheVariants.{WriteFirst};
-ghost use Rattle.bp_core.specs.Event.{grant};
-ghost use Rattle.bp_core.specs.Images.{held};
-ghost use Rattle.bp_core.specs.Legal.{allowed, is_out};
-ghost use Rattle.bp_core.specs.Passes.{tickets, writes_out};
-ghost use Rattle.bp_core.specs.PageMap.{reply_of};
-ghost use Rattle.bp_core.specs.Places.{resident};
+ghost use Rattle.bp_trail.specs.declared.entries.Reply.TheVariants.{WriteFirst};
+ghost use Rattle.bp_trail.specs.Event.{grant};
+ghost use Rattle.bp_trail.specs.Images.{held};
+ghost use Rattle.bp_trail.specs.Legal.{allowed, is_out};
+ghost use Rattle.bp_trail.specs.Passes.{tickets, writes_out};
+ghost use Rattle.bp_trail.specs.PageMap.{reply_of};
+ghost use Rattle.bp_trail.specs.Places.{resident};
 ghost use Rattle.bp_core.specs.CoreView.{EachPast, HasRoomFor};
 ghost use Rattle.bp_core.specs.Outcomes.{IsBegin, BeginOutcome, EndedOutcome, FlushOutcome, WriteEndOutcome, Adds};
 
-use crate::entries::{Call, Reply};
+use bp_trail::{Call, Reply};
 use crate::passes::{EndRefusal, Ended, Flush, WriteTicket};
 use crate::pool::Core;
 use crate::state::{offer, withdraw};

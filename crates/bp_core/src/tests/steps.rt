@@ -29,12 +29,12 @@ fn starting_with(first: u8) -> [u8; 16] {
     bytes
 }
 
-/// The image of that page.
+/// The image of such a page.
 pub(super) fn image(rt: &(impl Abort + AllocGlobal), first: u8) -> Image {
     Image::of(rt.alloc(), &starting_with(first)).expect(rt, "the image")
 }
 
-/// That image is that of the page.
+/// This is the image of a page that starts with this byte and has zeros else.
 pub(super) fn starts(rt: &impl Abort, image: &Image, first: u8) {
     assert_eq!(rt; image.bytes(), starting_with(first).as_slice());
 }
@@ -45,7 +45,7 @@ fn fix(rt: &impl Abort, core: &mut Core, client: u8, page: u64) -> Result<Fix, R
     core.fix(client, PageNo::new(page))
 }
 
-/// A pass of this number, of the page and for the client.
+/// This is the pass of this number, of the page and for the client.
 pub(super) fn is_pass(rt: &impl Abort, pass: &Pass, client: u8, page: u64, serial: u64) {
     assert_eq!(rt; pass.client(), client);
     assert_eq!(rt; pass.page(), PageNo::new(page));
@@ -87,7 +87,7 @@ pub(super) fn load(
     }
 }
 
-/// A ticket of this number, to write out page 1 with this first byte and page LSN.
+/// This is the ticket of this number, to write out page 1 with this first byte and page LSN.
 fn is_ticket(rt: &impl Abort, ticket: &WriteTicket, client: u8, serial: u64, first: u8, lsn: u64) {
     assert_eq!(rt; ticket.client(), client);
     assert_eq!(rt; ticket.page(), PageNo::new(1));

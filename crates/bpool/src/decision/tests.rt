@@ -1,20 +1,15 @@
 use super::decide;
 use crate::ending::Ending;
-use crate::faults::TraceFault;
-use crate::order::RunOrder;
+use crate::words::TraceSource;
 use bp_page::Refusal;
+use bp_trace::TraceFault;
 use std::alloc::Global;
 use std::test::Fail;
 
-/// Decides by the words of a line.
-fn decided(alloc: Global, line: &str) -> Result<Result<RunOrder, Ending>, Fail> {
-    let words: Vec<&str> = line.split_ascii_whitespace().collect(alloc)?;
-    Ok(decide(alloc, words.as_slice()))
-}
-
 /// What the program says of a line that it does not run.
 fn ending_of(alloc: Global, line: &str) -> Result<Ending, Fail> {
-    match decided(alloc, line)? {
+    let words: Vec<&str> = line.split_ascii_whitespace().collect(alloc)?;
+    match decide(alloc, words.as_slice()) {
         Ok(_) => Err(Fail::from("the words are run")),
         Err(ending) => Ok(ending),
     }
@@ -31,36 +26,49 @@ fn ended(alloc: Global, line: &str) -> Result<(u8, String, String), Fail> {
 
 #[test]
 fn words_that_are_run(rt: HostRuntime) -> Result<(), Fail> {
-    // pages, frames, K, the correlated and the retained period
+    // the page file; frames, K, the correlated and the retained period, and the page size
     let rows = [
-        ("", [16, 2, 1, 0, 1000]),
-        ("run stdin mem:16 --frames 2 --k 1", [16, 2, 1, 0, 1000]),
-        ("run stdin mem:16", [16, 8, 2, 0, 1000]),
+        ("", "mem:16", [2, 1, 0, 1000, 64]),
         (
-            "run stdin mem:1 --frames=1 --k=16 --correlated=4611686018427387904 --retained=0",
-            [1, 1, 16, 4611686018427387904, 0],
+            "run stdin mem:16 --frames 2 --k 1",
+            "mem:16",
+            [2, 1, 0, 1000, 64],
+        ),
+        ("run stdin mem:16", "mem:16", [8, 2, 0, 1000, 64]),
+        (
+            "run stdin mem:0 --frames=1 --k=16 --correlated=4611686018427387904 --retained=0 --page-size=16",
+            "mem:0",
+            [1, 16, 4611686018427387904, 0, 16],
         ),
         (
-            "run --retained 4611686018427387904 stdin --frames 65536 mem:1048576 --k +3",
-            [1048576, 65536, 3, 0, 4611686018427387904],
+            "run --retained 4611686018427387904 stdin --frames 65536 pages --k +3 --page-size 65536",
+            "pages",
+            [65536, 3, 0, 4611686018427387904, 65536],
         ),
-        ("run -- stdin mem:0000000000000000002", [2, 8, 2, 0, 1000]),
+        ("run -- stdin mem:2", "mem:2", [8, 2, 0, 1000, 64]),
     ];
-    for (line, numbers) in rows {
-        let Ok(order) = decided(rt.alloc(), line)? else {
+    let alloc = rt.alloc();
+    for (line, page_file, numbers) in rows {
+        let words: Vec<&str> = line.split_ascii_whitespace().collect(alloc)?;
+        let Ok(run) = decide(alloc, words.as_slice()) else {
             return Err(Fail::from("the words are refused"));
         };
-        let settings = order.settings;
         let got = [
-            order.geometry.pages,
-            order.frames as u64,
-            settings.k as u64,
-            settings.correlated,
-            settings.retained,
+            run.frames as u64,
+            run.k as u64,
+            run.correlated,
+            run.retained,
+            run.page_size as u64,
         ];
         assert_eq!(rt; got, numbers, "{line}");
-        assert_eq!(rt; order.geometry.size, 64, "{line}");
+        assert_eq!(rt; run.page_file, page_file, "{line}");
+        assert!(rt; run.trace == TraceSource::Stdin, "{line}");
     }
+    let words = ["run", "trace.csv", "pages"];
+    let Ok(run) = decide(alloc, words.as_slice()) else {
+        return Err(Fail::from("the words are refused"));
+    };
+    assert!(rt; run.trace == TraceSource::Path("trace.csv"));
     Ok(())
 }
 
@@ -79,10 +87,6 @@ fn words_that_are_not_run(rt: HostRuntime) -> Result<(), Fail> {
         (
             "run stdin mem:16 more",
             "error: unexpected argument 'more' found",
-        ),
-        (
-            "run stdin mem:16 --page-size 64",
-            "error: unexpected argument '--page-size' found",
         ),
         (
             "run stdin mem:16 --order free",
@@ -134,23 +138,17 @@ fn words_that_are_not_run(rt: HostRuntime) -> Result<(), Fail> {
             "run t.csv mem:0 --k 17",
             "error: invalid value '17' for '--k <N>': 17 is not in 1..=16",
         ),
-        // the page file
-        ("run stdin mem:0", "page file refused 1"),
-        ("run stdin mem:1048577", "page file refused 1"),
-        ("run stdin mem:4611686018427387904", "page file refused 1"),
-        ("run stdin mem:4611686018427387905", "page file not opened"),
-        ("run stdin mem:00000000000000000016", "page file not opened"),
-        ("run stdin mem:+1", "page file not opened"),
-        ("run stdin mem:", "page file not opened"),
-        ("run stdin mem:1x", "page file not opened"),
-        ("run stdin MEM:1", "page file not opened"),
-        ("run stdin stdin", "page file not opened"),
-        ("run t.csv pages.bin", "page file not opened"),
-        ("run t.csv mem:0", "page file refused 1"),
-        // the trace
-        ("run t.csv mem:16", "trace not opened"),
-        ("run STDIN mem:16", "trace not opened"),
-        ("run mem:16 mem:16", "trace not opened"),
+        (
+            "run stdin mem:16 --page-size 15",
+            "error: invalid value '15' for '--page-size <N>': 15 is not in 16..=65536",
+        ),
+        (
+            "run stdin mem:16 --page-size 65537",
+            "error: invalid value '65537' for '--page-size <N>': 65537 is not in 16..=65536",
+        ),
+        // a page size that no page file has
+        ("run stdin mem:16 --page-size 17", "page file refused 1"),
+        ("run t.csv pages --page-size 65535", "page file refused 1"),
     ];
     let alloc = rt.alloc();
     for (line, message) in rows {
@@ -192,6 +190,8 @@ fn help_of_a_run(rt: HostRuntime) -> Result<(), Fail> {
         "      --k <N>           K of LRU-K, from 1 to 16 [default: 2]\n",
         "      --correlated <N>  Correlated reference period in ticks, from 0 to 2^62 [default: 0]\n",
         "      --retained <N>    Retained information period in ticks, from 0 to 2^62 [default: 1000]\n",
+        "      --page-size <N>   Bytes of a page, a multiple of 16 from 16 to 65536 [default: 64]\n",
+        "Status 0: all rows were accepted. Status 1: some row was refused; ",
     ];
     for line in ["help run", "run --help", "run stdin mem:0 --k 16 --help"] {
         let (status, text, said) = ended(rt.alloc(), line)?;
@@ -210,7 +210,7 @@ fn a_writer_that_fails_hides_no_status(rt: HostRuntime) -> Result<(), Fail> {
     let mut few = [0u8; 10];
     let mut full = few.as_mut_slice();
     let mut out = Vec::new(alloc);
-    let refused = ending_of(alloc, "run stdin mem:0")?;
+    let refused = ending_of(alloc, "run stdin mem:16 --page-size 24")?;
     assert_eq!(rt; refused.finish(&mut out, &mut full), 2);
     assert!(rt; out.is_empty());
     let mut few = [0u8; 10];

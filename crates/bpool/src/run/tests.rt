@@ -1,35 +1,59 @@
 use super::run_with;
+use crate::page_files::PageFiles;
 use std::alloc::Global;
-use std::io;
+use std::fs::File;
 use std::io::{Read, Write};
 use std::process::Abort;
+use std::rt::{Files, Runtime};
+use std::sync::Wait;
 use std::test::*;
+use std::{fs, io};
 
 /// What a run of the program leaves.
+#[derive(Drop)]
 struct Ran {
     status: u8,
     out: Vec<u8>,
     err: Vec<u8>,
 }
 
-fn run(alloc: Global, words: &[&str], trace: &[u8]) -> Ran {
+fn run(
+    rt: &(impl Runtime<A = Global> + Files<File = File> + Wait),
+    line: &str,
+    trace: &[u8],
+) -> Result<Ran, Fail> {
+    let alloc = rt.alloc();
+    let words: Vec<&str> = line.split_ascii_whitespace().collect(alloc)?;
     let mut reader = trace;
     let mut out = Vec::new(alloc);
     let mut err = Vec::new(alloc);
-    let status = run_with(alloc, words, &mut reader, &mut out, &mut err);
-    Ran { status, out, err }
+    let mut files = PageFiles::new(alloc);
+    let status = run_with(
+        rt,
+        alloc,
+        words.as_slice(),
+        &mut reader,
+        &mut files,
+        &mut out,
+        &mut err,
+    );
+    Ok(Ran { status, out, err })
 }
 
 /// Asserts the status, the report and what is said of faults.
-fn expect_run(rt: &impl Abort, ran: Ran, status: u8, out: &str, err: &str) {
-    assert_eq!(rt; ran.status, status);
-    assert_eq!(rt; ran.out.as_slice(), out.as_bytes());
-    assert_eq!(rt; ran.err.as_slice(), err.as_bytes());
-    let Ran {
-        status: _,
-        out: _,
-        err: _,
-    } = ran;
+fn expect_run(
+    rt: &(impl Runtime<A = Global> + Files<File = File> + Wait + Abort),
+    line: &str,
+    trace: &[u8],
+    status: u8,
+    out: &str,
+    err: &str,
+) -> Result<(), Fail> {
+    let ran = run(rt, line, trace)?;
+    assert_eq!(rt; ran.status, status, "{line}");
+    assert_eq!(rt; String::from_utf8(ran.out)?.as_str(), out, "{line}");
+    assert_eq!(rt; String::from_utf8(ran.err)?.as_str(), err, "{line}");
+    Ok(())
 }
 
 /// Holds at most so many bytes, and then fails.
@@ -68,247 +92,343 @@ impl Read for Broken {
 const CLASSICAL: &[u8] =
     b"0,fix,1,,,\n0,unfix,1,,,\n0,tick,1,,,\n0,fix,1,,,\n0,unfix,1,,,\n0,tick,1,,,\n0,fix,2,,,\n0,unfix,2,,,\n0,tick,1,,,\n0,fix,3,,,\n0,unfix,3,,,\n";
 
+const NO_EVENTS: &str = "hits 0\nfaults 0\nevictions 0\nwrites 0\nfailed 0\nrefused 0\n";
+
 #[test]
-fn lru_one_is_classical_lru(rt: HostRuntime) {
+fn lru_one_is_classical_lru(rt: HostRuntime) -> Result<(), Fail> {
     let report = "evict 4 1\nhits 1\nfaults 3\nevictions 1\nwrites 0\nfailed 0\nrefused 0\n";
-    let words = ["run", "stdin", "mem:16", "--frames", "2", "--k", "1"];
-    expect_run(
-        &rt,
-        run(rt.alloc(), words.as_slice(), CLASSICAL),
-        0,
-        report,
-        "",
-    );
-    expect_run(
-        &rt,
-        run(rt.alloc(), [].as_slice(), CLASSICAL),
-        0,
-        report,
-        "",
-    );
+    for line in ["", "run stdin mem:16 --frames 2 --k 1"] {
+        expect_run(&rt, line, CLASSICAL, 0, report, "")?;
+    }
+    Ok(())
 }
 
 #[test]
-fn two_references_outlive_one(rt: HostRuntime) {
-    let words = ["run", "stdin", "mem:16", "--frames", "2"];
+fn two_references_outlive_one(rt: HostRuntime) -> Result<(), Fail> {
     let report = "evict 4 2\nhits 1\nfaults 3\nevictions 1\nwrites 0\nfailed 0\nrefused 0\n";
-    expect_run(
-        &rt,
-        run(rt.alloc(), words.as_slice(), CLASSICAL),
-        0,
-        report,
-        "",
-    );
+    expect_run(&rt, "run stdin mem:16 --frames 2", CLASSICAL, 0, report, "")
 }
 
 #[test]
-fn too_young_to_leave(rt: HostRuntime) {
-    let words = [
-        "run",
-        "stdin",
-        "mem:16",
-        "--frames",
-        "1",
-        "--correlated",
-        "5",
-    ];
+fn too_young_to_leave(rt: HostRuntime) -> Result<(), Fail> {
     let trace =
         b"0,fix,1,,,\n0,unfix,1,,,\n0,tick,5,,,\n0,fix,2,,,\n0,tick,1,,,\n0,fix,2,,,\n0,unfix,2,,,\n";
     let report =
         "evict 7 1\nhits 0\nfaults 2\nevictions 1\nwrites 0\nfailed 0\nrefused 1\nrow 4 refused 11\n";
     expect_run(
         &rt,
-        run(rt.alloc(), words.as_slice(), trace.as_slice()),
+        "run stdin mem:16 --frames 1 --correlated 5",
+        trace.as_slice(),
         1,
         report,
         "",
-    );
+    )
 }
 
 #[test]
-fn pinned_page_stays(rt: HostRuntime) {
-    let words = ["run", "stdin", "mem:16", "--frames", "1"];
+fn pinned_page_stays(rt: HostRuntime) -> Result<(), Fail> {
     let trace = b"0,fix,1,,,\n0,tick,10,,,\n0,fix,2,,,\n";
     let report = "hits 0\nfaults 1\nevictions 0\nwrites 0\nfailed 0\nrefused 1\nrow 3 refused 11\n";
-    expect_run(
-        &rt,
-        run(rt.alloc(), words.as_slice(), trace.as_slice()),
-        1,
-        report,
-        "",
-    );
+    for line in [
+        "run stdin mem:16 --frames 1",
+        "run stdin mem:16 --frames 1 --k 1",
+    ] {
+        expect_run(&rt, line, trace.as_slice(), 1, report, "")?;
+    }
+    Ok(())
 }
 
 #[test]
-fn pinned_page_stays_at_k_one(rt: HostRuntime) {
-    let words = ["run", "stdin", "mem:16", "--frames", "1", "--k", "1"];
-    let trace = b"0,fix,1,,,\n0,tick,10,,,\n0,fix,2,,,\n";
-    let report = "hits 0\nfaults 1\nevictions 0\nwrites 0\nfailed 0\nrefused 1\nrow 3 refused 11\n";
-    expect_run(
-        &rt,
-        run(rt.alloc(), words.as_slice(), trace.as_slice()),
-        1,
-        report,
-        "",
-    );
-}
-
-#[test]
-fn ties_go_to_the_lower_page(rt: HostRuntime) {
-    let words = ["run", "stdin", "mem:16", "--frames", "2"];
+fn ties_go_to_the_lower_page(rt: HostRuntime) -> Result<(), Fail> {
     let trace =
         b"0,fix,5,,,\n0,unfix,5,,,\n0,fix,3,,,\n0,unfix,3,,,\n0,tick,1,,,\n0,fix,9,,,\n0,unfix,9,,,\n";
     let report = "evict 2 3\nhits 0\nfaults 3\nevictions 1\nwrites 0\nfailed 0\nrefused 0\n";
     expect_run(
         &rt,
-        run(rt.alloc(), words.as_slice(), trace.as_slice()),
+        "run stdin mem:16 --frames 2",
+        trace.as_slice(),
         0,
         report,
         "",
-    );
+    )
+}
+
+/// Page 1 is written with LSN 7, and has to leave before the log is durable that far.
+const AHEAD: &[u8] =
+    b"0,fix,1,,,\n0,write,1,0,ff,7\n0,unfix,1,,,\n0,log,5,,,\n0,tick,1,,,\n0,fix,2,,,\n0,log,7,,,\n0,fix,2,,,\n0,unfix,2,,,\n0,tick,1,,,\n0,fix,1,,,\n0,read,1,,,\n0,unfix,1,,,\n";
+
+#[test]
+fn write_ahead_rule(rt: HostRuntime) -> Result<(), Fail> {
+    let report =
+        "out 2 1\nevict 2 1\nevict 3 2\nread 0 1 ff000000000000000000000000000000\nhits 0\nfaults 3\nevictions 2\nwrites 1\nfailed 0\nrefused 1\nrow 6 refused 12\n";
+    expect_run(
+        &rt,
+        "run stdin mem:16 --page-size 16 --frames 1 --k 1",
+        AHEAD,
+        1,
+        report,
+        "",
+    )
 }
 
 #[test]
-fn empty_and_malformed_traces(rt: HostRuntime) {
-    let words = ["run", "stdin", "mem:16"];
-    let none = "hits 0\nfaults 0\nevictions 0\nwrites 0\nfailed 0\nrefused 0\n";
+fn flush_from_a_trace(rt: HostRuntime) -> Result<(), Fail> {
+    let trace =
+        b"0,fix,1,,,\n0,write,1,0,07,0\n0,flush,1,,,\n0,flush,1,,,\n0,unfix,1,,,\n0,purge,,,,\n";
+    let report = "out 1 1\nhits 0\nfaults 1\nevictions 0\nwrites 1\nfailed 0\nrefused 0\n";
     expect_run(
         &rt,
-        run(rt.alloc(), words.as_slice(), b"".as_slice()),
+        "run stdin mem:16 --page-size 16",
+        trace.as_slice(),
         0,
-        none,
+        report,
         "",
-    );
+    )
+}
+
+#[test]
+fn empty_and_malformed_traces(rt: HostRuntime) -> Result<(), Fail> {
+    let line = "run stdin mem:16 --page-size 16";
+    expect_run(&rt, line, b"".as_slice(), 0, NO_EVENTS, "")?;
     let cut = b"0,fix,1,,,\n0,unfix,1,,,\n0,fi";
-    let said = "trace row 3 refused 40\n";
+    expect_run(&rt, line, cut.as_slice(), 2, "", "trace row 3 refused 40\n")
+}
+
+#[test]
+fn log_row_of_another_client(rt: HostRuntime) -> Result<(), Fail> {
+    let said = "trace row 1 refused 41\n";
     expect_run(
         &rt,
-        run(rt.alloc(), words.as_slice(), cut.as_slice()),
+        "run stdin mem:16",
+        b"1,log,5,,,\n".as_slice(),
         2,
         "",
         said,
-    );
+    )
 }
 
 #[test]
-fn refusals_of_rows(rt: HostRuntime) {
-    let words = ["run", "stdin", "mem:16"];
+fn trace_refusals(rt: HostRuntime) -> Result<(), Fail> {
+    let one_fault = "hits 0\nfaults 1\nevictions 0\nwrites 0\nfailed 0\nrefused 0\n";
+    let clock_full =
+        "hits 0\nfaults 0\nevictions 0\nwrites 0\nfailed 0\nrefused 0\nrow 1 refused 21\n";
+    let no_pass =
+        "hits 0\nfaults 0\nevictions 0\nwrites 0\nfailed 0\nrefused 0\nrow 1 refused 14\n";
+    let rows: [(&[u8], u8, &str, &str); 11] = [
+        (b"0,fix,+1,,,\n", 2, "", "trace row 1 refused 43\n"),
+        (b"0,write,1,15,ffff,0\n", 2, "", "trace row 1 refused 45\n"),
+        (b"0,fix,16,,,\n", 2, "", "trace row 1 refused 45\n"),
+        (b"0,write,1,0,f,0\n", 2, "", "trace row 1 refused 44\n"),
+        (b"0,FIX,1,,,\n", 2, "", "trace row 1 refused 42\n"),
+        (b"64,fix,1,,,\n", 2, "", "trace row 1 refused 41\n"),
+        (b"0,fix,1,0,,\n", 2, "", "trace row 1 refused 40\n"),
+        (
+            b"0,tick,4611686018427387905,,,\n",
+            2,
+            "",
+            "trace row 1 refused 43\n",
+        ),
+        (b"0,tick,4611686018427387904,,,\n", 1, clock_full, ""),
+        (b"\"0\",fix,1,,,\n", 0, one_fault, ""),
+        (b"0,write,1,16,,9\n", 1, no_pass, ""),
+    ];
+    for (trace, status, out, err) in rows {
+        expect_run(
+            &rt,
+            "run stdin mem:16 --page-size 16",
+            trace,
+            status,
+            out,
+            err,
+        )?;
+    }
+    Ok(())
+}
+
+#[test]
+fn passes_go_back_by_client(rt: HostRuntime) -> Result<(), Fail> {
+    // Client 63 holds page 1 twice, client 2 page 2; a client unfixes the pass that it took latest.
+    let trace = b"63,fix,1,,,\n2,fix,2,,,\n63,fix,1,,,\n63,unfix,1,,,\n1,unfix,1,,,\n";
+    let report = "hits 1\nfaults 2\nevictions 0\nwrites 0\nfailed 0\nrefused 0\nrow 5 refused 14\n";
+    expect_run(&rt, "run stdin mem:16", trace.as_slice(), 1, report, "")
+}
+
+#[test]
+fn words_that_open_nothing(rt: HostRuntime) -> Result<(), Fail> {
+    let rows = [
+        ("run no/such/trace.csv mem:16", "trace not opened\n"),
+        ("run STDIN mem:16", "trace not opened\n"),
+        ("run stdin no/such/pages", "page file not opened\n"),
+        (
+            "run no/such/trace.csv no/such/pages",
+            "page file not opened\n",
+        ),
+        ("run stdin mem:0", "page file refused 1\n"),
+        ("run stdin mem:1048577", "page file refused 1\n"),
+        ("run stdin mem:4611686018427387904", "page file refused 1\n"),
+        (
+            "run stdin mem:4611686018427387905",
+            "page file not opened\n",
+        ),
+        (
+            "run stdin mem:00000000000000000016",
+            "page file not opened\n",
+        ),
+        ("run stdin mem:+1", "page file not opened\n"),
+        ("run stdin mem:", "page file not opened\n"),
+        ("run stdin MEM:1", "page file not opened\n"),
+        ("run stdin mem:16 --page-size 17", "page file refused 1\n"),
+        (
+            "run stdin no/such/pages --page-size 72",
+            "page file refused 1\n",
+        ),
+    ];
+    for (line, said) in rows {
+        expect_run(&rt, line, b"0,fix,1,,,\n".as_slice(), 2, "", said)?;
+    }
+    Ok(())
+}
+
+#[test]
+fn page_file_of_wrong_length(rt: HostRuntime) -> Result<(), Fail> {
+    let zeros = [0u8; 40];
+    fs::write(&rt, "bpool_length_40.pages", zeros.as_slice())?;
+    fs::write(&rt, "bpool_length_0.pages", b"".as_slice())?;
+    for path in ["bpool_length_40.pages", "bpool_length_0.pages"] {
+        let line = format!(in rt.alloc(); "run stdin {path} --page-size 16")?;
+        expect_run(
+            &rt,
+            line.as_str(),
+            b"".as_slice(),
+            2,
+            "",
+            "page file refused 3\n",
+        )?;
+        fs::remove_file(&rt, path)?;
+    }
+    Ok(())
+}
+
+#[test]
+fn page_file_keeps_what_was_flushed(rt: HostRuntime) -> Result<(), Fail> {
+    let path = "bpool_flushed.pages";
+    let zeros = [0u8; 48];
+    fs::write(&rt, path, zeros.as_slice())?;
+    let writes =
+        b"0,fix,1,,,\n0,write,1,3,aB07,4\n0,log,4,,,\n0,flush,1,,,\n0,write,1,0,ee,4\n0,unfix,1,,,\n";
+    let report = "out 1 1\nhits 0\nfaults 1\nevictions 0\nwrites 1\nfailed 0\nrefused 0\n";
+    let line = "run stdin bpool_flushed.pages --page-size 16";
+    expect_run(&rt, line, writes.as_slice(), 0, report, "")?;
+    // The write after the flush never went out.
+    let mut expected = [0u8; 48];
+    expected[19] = 0xab;
+    expected[20] = 0x07;
+    assert_eq!(rt; fs::read(&rt, path)?.as_slice(), expected.as_slice());
+    let reads = b"5,fix,1,,,\n5,read,1,,,\n";
+    let found =
+        "read 5 1 000000ab070000000000000000000000\nhits 0\nfaults 1\nevictions 0\nwrites 0\nfailed 0\nrefused 0\n";
+    expect_run(&rt, line, reads.as_slice(), 0, found, "")?;
+    fs::remove_file(&rt, path)?;
+    Ok(())
+}
+
+#[test]
+fn trace_from_a_file(rt: HostRuntime) -> Result<(), Fail> {
+    let path = "bpool_trace.csv";
+    fs::write(&rt, path, CLASSICAL)?;
+    let report = "evict 4 2\nhits 1\nfaults 3\nevictions 1\nwrites 0\nfailed 0\nrefused 0\n";
+    // Standard input is not read then.
+    let other = b"0,fi".as_slice();
+    expect_run(
+        &rt,
+        "run bpool_trace.csv mem:16 --frames 2",
+        other,
+        0,
+        report,
+        "",
+    )?;
+    fs::remove_file(&rt, path)?;
+    Ok(())
+}
+
+#[test]
+fn refusals_of_rows(rt: HostRuntime) -> Result<(), Fail> {
     let trace =
         b"0,unfix,1,,,\n0,fix,1,,,\n0,unfix,1,,,\n0,unfix,1,,,\n0,tick,4611686018427387904,,,\n0,tick,4611686018427387903,,,\n0,tick,0,,,\n";
     let report =
         "hits 0\nfaults 1\nevictions 0\nwrites 0\nfailed 0\nrefused 0\nrow 1 refused 14\nrow 4 refused 14\nrow 5 refused 21\n";
-    expect_run(
-        &rt,
-        run(rt.alloc(), words.as_slice(), trace.as_slice()),
-        1,
-        report,
-        "",
-    );
+    expect_run(&rt, "run stdin mem:16", trace.as_slice(), 1, report, "")
 }
 
 #[test]
-fn words_that_open_nothing(rt: HostRuntime) {
-    let trace = b"0,fix,1,,,\n";
-    let cases: [(&[&str], &str); 6] = [
-        (&["run", "t.csv", "mem:16"], "trace not opened\n"),
-        (&["run", "stdin", "pages"], "page file not opened\n"),
-        (&["run", "t.csv", "pages"], "page file not opened\n"),
-        (&["run", "stdin", "mem:0"], "page file refused 1\n"),
-        (&["run", "stdin", "mem:1048577"], "page file refused 1\n"),
-        (&["run", "stdin", "mem:+1"], "page file not opened\n"),
-    ];
-    for (words, said) in cases {
-        expect_run(&rt, run(rt.alloc(), words, trace.as_slice()), 2, "", said);
-    }
-}
-
-#[test]
-fn faults_of_the_command_line(rt: HostRuntime) {
-    let cases: [&[&str]; 6] = [
-        &["run", "stdin"],
-        &["run", "stdin", "mem:16", "--k", "17"],
-        &["run", "stdin", "mem:16", "--frames", "0"],
-        &["run", "stdin", "mem:16", "--page-size", "64"],
-        &["run", "stdin", "mem:16", "--order", "trace"],
-        &["walk"],
-    ];
-    for words in cases {
-        let ran = run(rt.alloc(), words, b"0,fix,1,,,\n".as_slice());
-        assert_eq!(rt; ran.status, 2);
-        assert_eq!(rt; ran.out.len(), 0);
+fn faults_of_the_command_line(rt: HostRuntime) -> Result<(), Fail> {
+    for line in [
+        "run stdin",
+        "run stdin mem:16 --k 17",
+        "run stdin mem:16 --frames 0",
+        "run stdin mem:16 --page-size 15",
+        "run stdin mem:16 --page-size 65552",
+        "run stdin mem:16 --order trace",
+        "walk",
+    ] {
+        let ran = run(&rt, line, b"0,fix,1,,,\n".as_slice())?;
+        assert_eq!(rt; ran.status, 2, "{line}");
+        assert!(rt; ran.out.is_empty(), "{line}");
         let line_ends = ran.err.iter().filter(|byte| **byte == b'\n').count();
-        assert_eq!(rt; line_ends, 1);
-        assert!(rt; ran.err.len() > 1);
-        let Ran {
-            status: _,
-            out: _,
-            err: _,
-        } = ran;
+        assert_eq!(rt; line_ends, 1, "{line}");
+        assert!(rt; ran.err.starts_with(b"error: ".as_slice()), "{line}");
     }
+    Ok(())
 }
 
 #[test]
-fn help_is_no_run(rt: HostRuntime) {
-    let cases: [&[&str]; 3] = [&["--help"], &["help"], &["run", "--help"]];
-    for words in cases {
-        let ran = run(rt.alloc(), words, b"0,fi".as_slice());
-        assert_eq!(rt; ran.status, 0);
-        assert_eq!(rt; ran.err.len(), 0);
-        assert!(rt; ran.out.len() > 100);
-        assert!(rt; !ran.out.starts_with(b"hits".as_slice()));
-        let Ran {
-            status: _,
-            out: _,
-            err: _,
-        } = ran;
+fn help_is_no_run(rt: HostRuntime) -> Result<(), Fail> {
+    for line in ["--help", "help", "run --help"] {
+        let ran = run(&rt, line, b"0,fi".as_slice())?;
+        assert_eq!(rt; ran.status, 0, "{line}");
+        assert!(rt; ran.err.is_empty(), "{line}");
+        let text = String::from_utf8(ran.out)?;
+        assert!(rt; text.as_str().contains("Usage: bpool"), "{line}");
+        assert!(rt; !text.as_str().contains("hits"), "{line}");
     }
+    Ok(())
 }
 
 #[test]
-fn streams_that_fail(rt: HostRuntime) {
+fn streams_that_fail(rt: HostRuntime) -> Result<(), Fail> {
+    let alloc = rt.alloc();
     let words = ["run", "stdin", "mem:16"];
+    let mut files = PageFiles::new(alloc);
     let mut out = Full {
-        held: Vec::new(rt.alloc()),
+        held: Vec::new(alloc),
         limit: 10,
     };
-    let mut err = Vec::new(rt.alloc());
+    let mut err = Vec::new(alloc);
     let mut reader = CLASSICAL;
     let status = run_with(
-        rt.alloc(),
+        &rt,
+        alloc,
         words.as_slice(),
         &mut reader,
+        &mut files,
         &mut out,
         &mut err,
     );
     assert_eq!(rt; status, 2);
     assert_eq!(rt; err.as_slice(), b"output failed\n".as_slice());
-
-    let mut text = Vec::new(rt.alloc());
-    let mut said = Vec::new(rt.alloc());
+    let mut text = Vec::new(alloc);
+    let mut said = Vec::new(alloc);
     let status = run_with(
-        rt.alloc(),
+        &rt,
+        alloc,
         words.as_slice(),
         &mut Broken,
+        &mut files,
         &mut text,
         &mut said,
     );
     assert_eq!(rt; status, 2);
-    assert_eq!(rt; text.len(), 0);
+    assert!(rt; text.is_empty());
     assert_eq!(rt; said.as_slice(), b"trace row 0 refused 47\n".as_slice());
-
-    let mut silent = Full {
-        held: Vec::new(rt.alloc()),
-        limit: 0,
-    };
-    let mut nothing = Vec::new(rt.alloc());
-    let mut malformed = b"0,fi".as_slice();
-    let status = run_with(
-        rt.alloc(),
-        words.as_slice(),
-        &mut malformed,
-        &mut nothing,
-        &mut silent,
-    );
-    assert_eq!(rt; status, 2);
-    assert_eq!(rt; nothing.len(), 0);
+    Ok(())
 }

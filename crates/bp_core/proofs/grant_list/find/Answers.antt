@@ -1,6 +1,6 @@
 use Rattle.std.proofs.Common.{ap, ◌∙◌, arith}
 use Rattle.std.proofs.lemmas.List.{get_or_default}
-use Rattle.bp_core.specs.Event.{Grant}
+use Rattle.bp_trail.specs.Event.{Grant}
 use Rattle.bp_core.proofs.Rising.{stands-at, stands-nowhere}
 use Rattle.bp_core.proofs.grant_list.find.Goals as goal
 use Rattle.bp_core.proofs.grant_list.find.Goals.{else-place-grants-via-then-place-grants+else-grants-place, else-place-grants-via-else-place-grants}

@@ -1,6 +1,6 @@
 use Rattle.std.proofs.Common.{rules, nat_lt}
 use Rattle.std.proofs.lemmas.List.Sorted.{IsPartitionPoint-from_clause}
-use Rattle.bp_core.specs.Event.{Grant}
+use Rattle.bp_trail.specs.Event.{Grant}
 use Rattle.bp_core.proofs.Rising.{rising-partitions, place-from_partition}
 use Rattle.bp_core.proofs.grant_list.place_for.Goals as goal
 

@@ -1,18 +1,17 @@
 use Rattle.std.proofs.Common.{refl}
 use Rattle.clap.proofs.OnLiterals.{clap_on_literals}
-use Rattle.bpool.specs.Numbers.{number_in, digits_in}
 use Rattle.bpool.proofs.words.words_by_example.Goals as goal
 
 pub returns-clause-none : goal.returns-clause-none
-unfolding clap_on_literals number_in digits_in
+unfolding clap_on_literals
 returns-clause-none c = refl
 
 pub returns-clause-defaults : goal.returns-clause-defaults
-unfolding clap_on_literals number_in digits_in
+unfolding clap_on_literals
 returns-clause-defaults c = refl
 
 pub returns-clause-all : goal.returns-clause-all
-unfolding clap_on_literals number_in digits_in
+unfolding clap_on_literals
 returns-clause-all c = refl
 
 pub returns-clause-out_of_range : goal.returns-clause-out_of_range

@@ -1,7 +1,7 @@
 use Rattle.std.proofs.Common.{ap, sym, ◌∙◌, subst, ◌==◌, ◌&&◌, eqb}
 use Rattle.std.proofs.lemmas.Bool.{eq-eqb, ne_eqb}
-use Rattle.bp_core.specs.Event.{Grant, grant}
-use Rattle.bp_core.specs.Legal.{is_out}
+use Rattle.bp_trail.specs.Event.{Grant, grant}
+use Rattle.bp_trail.specs.Legal.{is_out}
 use Rattle.bp_core.specs.Rising.{StandsAt, StandsNowhere}
 use Rattle.bp_core.proofs.Outstanding.{out-at, out-nowhere}
 use Rattle.bp_core.proofs.grant_list.GrantList.has.Goals as goal

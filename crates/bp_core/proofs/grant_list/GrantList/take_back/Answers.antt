@@ -1,6 +1,6 @@
 use Rattle.std.proofs.Common.{ap, ◌∙◌, subst, reverse, filter, ◌≡◌}
 use Rattle.std.specs.Prelude.{not, ◌==◌, vec_capacity}
-use Rattle.bp_core.specs.Event.{Grant}
+use Rattle.bp_trail.specs.Event.{Grant}
 use Rattle.bp_core.specs.Lodging.{Given}
 use Rattle.bp_core.specs.Rising.{StandsAt, StandsNowhere}
 use Rattle.bp_core.proofs.Outstanding.{rest-at, rest-nowhere}

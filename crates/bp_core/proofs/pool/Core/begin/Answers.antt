@@ -1,5 +1,5 @@
 use Rattle.std.proofs.Common.{◌≡◌, sym, ◌∙◌, ap}
-use Rattle.bp_core.specs.Images.{held}
+use Rattle.bp_trail.specs.Images.{held}
 use Rattle.bp_core.proofs.Seen.{newest_write}
 use Rattle.bp_core.proofs.KeepsWriteOuts.{keeps-begin}
 use Rattle.bp_core.proofs.pool.Core.begin.Goals as goal

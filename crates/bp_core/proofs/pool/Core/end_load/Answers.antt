@@ -1,6 +1,6 @@
 use Rattle.std.proofs.Common.{Some}
-use Rattle.bp_core.specs.declared.entries.Call.TheVariants.{ReadEnd}
-use Rattle.bp_core.specs.declared.entries.Reply.TheVariants.{Fixed}
+use Rattle.bp_trail.specs.declared.entries.Call.TheVariants.{ReadEnd}
+use Rattle.bp_trail.specs.declared.entries.Reply.TheVariants.{Fixed}
 use Rattle.bp_core.proofs.Seen.{now_is, newest_pass}
 use Rattle.bp_core.proofs.Keeps.{adds}
 use Rattle.bp_core.proofs.KeepsLoads.{held-now, absent-now, keeps-end_load}

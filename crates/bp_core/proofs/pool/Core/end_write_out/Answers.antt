@@ -1,6 +1,6 @@
 use Rattle.std.proofs.Common.{sym, ◌∙◌, ap, true, ◌==◌}
-use Rattle.bp_core.specs.declared.entries.Call.TheVariants.{WriteEnd}
-use Rattle.bp_core.specs.declared.entries.Reply.TheVariants.{Cleaned, StillDirty}
+use Rattle.bp_trail.specs.declared.entries.Call.TheVariants.{WriteEnd}
+use Rattle.bp_trail.specs.declared.entries.Reply.TheVariants.{Cleaned, StillDirty}
 use Rattle.bp_core.proofs.Keeps.{adds}
 use Rattle.bp_core.proofs.KeepsWriteOuts.{here-now, no-candidate, candidate-room, keeps-cleaned, keeps-still_dirty}
 use Rattle.bp_core.proofs.pool.Core.end_write_out.Goals as goal

@@ -1,6 +1,6 @@
 use Rattle.std.proofs.Common.{None}
-use Rattle.bp_core.specs.declared.entries.Call.TheVariants.{ReadEnd}
-use Rattle.bp_core.specs.declared.entries.Reply.TheVariants.{ReadFailed}
+use Rattle.bp_trail.specs.declared.entries.Call.TheVariants.{ReadEnd}
+use Rattle.bp_trail.specs.declared.entries.Reply.TheVariants.{ReadFailed}
 use Rattle.bp_core.proofs.Keeps.{adds}
 use Rattle.bp_core.proofs.KeepsLoads.{held-now, keeps-fail_load}
 use Rattle.bp_core.proofs.pool.Core.fail_load.Goals as goal

@@ -1,6 +1,6 @@
 use Rattle.std.proofs.Common.{false, ap, ◌==◌}
-use Rattle.bp_core.specs.declared.entries.Call.TheVariants.{WriteEnd}
-use Rattle.bp_core.specs.declared.entries.Reply.TheVariants.{WriteFailed}
+use Rattle.bp_trail.specs.declared.entries.Call.TheVariants.{WriteEnd}
+use Rattle.bp_trail.specs.declared.entries.Reply.TheVariants.{WriteFailed}
 use Rattle.bp_core.proofs.Keeps.{adds}
 use Rattle.bp_core.proofs.KeepsWriteOuts.{here-now, no-candidate, candidate-room, keeps-fail_write_out}
 use Rattle.bp_core.proofs.pool.Core.fail_write_out.Goals as goal

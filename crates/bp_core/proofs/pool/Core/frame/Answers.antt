@@ -1,7 +1,7 @@
 use Rattle.std.proofs.Common.{Option, Some, None, ap, ◌∙◌, sym}
 use Rattle.std.specs.Prelude.{IfNone}
 use Rattle.std.proofs.lemmas.Option.{IfSome_then}
-use Rattle.bp_core.specs.Places.{resident}
+use Rattle.bp_trail.specs.Places.{resident}
 use Rattle.bp_core.specs.Agreement.{frame_of}
 use Rattle.bp_core.proofs.Seen.{frame_in, here_in, resident_seen}
 use Rattle.bp_core.proofs.pool.Core.frame.Goals as goal

@@ -1,5 +1,5 @@
 use Rattle.std.proofs.Common.{nat_lt, ap, ◌∙◌, arith}
-use Rattle.bp_core.specs.PageMap.{has_free_frame}
+use Rattle.bp_trail.specs.PageMap.{has_free_frame}
 use Rattle.bp_core.proofs.Seen.{occupied_is, within_frames}
 use Rattle.bp_core.proofs.pool.Core.has_free_frame.Goals as goal
 

@@ -1,7 +1,7 @@
 use Rattle.std.proofs.Common.{◌≡◌, ap, true, arith}
-use Rattle.bp_core.specs.declared.entries.Call.TheVariants.{Fix}
-use Rattle.bp_core.specs.declared.entries.Reply.TheVariants.{Hit}
-use Rattle.bp_core.specs.Places.{resident}
+use Rattle.bp_trail.specs.declared.entries.Call.TheVariants.{Fix}
+use Rattle.bp_trail.specs.declared.entries.Reply.TheVariants.{Hit}
+use Rattle.bp_trail.specs.Places.{resident}
 use Rattle.bp_core.proofs.Seen.{few_pins, now_is, known_is, newest_pass}
 use Rattle.bp_core.proofs.Keeps.{at-past, adds}
 use Rattle.bp_core.proofs.KeepsPasses.{keeps-hit}

@@ -1,9 +1,9 @@
 use Rattle.std.proofs.Common.{◌≡◌, sym, ◌∙◌, Some}
 use Rattle.std.proofs.lemmas.Bool.{true≢false}
-use Rattle.bp_core.specs.Victim.{victim}
+use Rattle.bp_trail.specs.Victim.{victim}
 use Rattle.bp_core.specs.Outcomes.IsQuiet.{fix_none, fix_log}
 use Rattle.bp_core.specs.Outcomes.IsBegin.{by_fix}
-use Rattle.bp_core.proofs.Victim.{victim-is, candidate-resident}
+use Rattle.bp_trail.proofs.Victim.{victim-is, candidate-resident}
 use Rattle.bp_core.proofs.pool.Core.make_way.Goals as goal
 
 pub answer-requires-clause-quiet : goal.answer-requires-clause-quiet

@@ -1,6 +1,6 @@
 use Rattle.std.proofs.Common.{arith}
-use Rattle.bp_core.specs.declared.entries.Call.TheVariants.{Purge}
-use Rattle.bp_core.specs.declared.entries.Reply.TheVariants.{Forgot}
+use Rattle.bp_trail.specs.declared.entries.Call.TheVariants.{Purge}
+use Rattle.bp_trail.specs.declared.entries.Reply.TheVariants.{Forgot}
 use Rattle.bp_core.specs.CoreView.{HasRoomFor}
 use Rattle.bp_core.proofs.Seen.{now_is}
 use Rattle.bp_core.proofs.Keeps.{keeps-purge, adds}

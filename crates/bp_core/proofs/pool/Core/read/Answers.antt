@@ -1,13 +1,13 @@
 use Rattle.std.proofs.Common.{◌≡◌, ◌<◌, sym, ◌∙◌, subst, true, false}
 use Rattle.std.proofs.lemmas.Bool.{ltb-true, true≢false}
-use Rattle.bp_core.specs.Event.{grant}
-use Rattle.bp_core.specs.Passes.{passes_out}
-use Rattle.bp_core.specs.Places.{resident}
-use Rattle.bp_core.specs.Legal.{is_out}
+use Rattle.bp_trail.specs.Event.{grant}
+use Rattle.bp_trail.specs.Passes.{passes_out}
+use Rattle.bp_trail.specs.Places.{resident}
+use Rattle.bp_trail.specs.Legal.{is_out}
 use Rattle.bp_core.specs.Outcomes.IsQuiet.{page_read}
 use Rattle.bp_core.specs.Agreement.{parameters_of}
-use Rattle.bp_core.proofs.Places.{places, out-of_page}
-use Rattle.bp_core.proofs.Ranges.{owned, owner}
+use Rattle.bp_trail.proofs.Places.{places, out-of_page}
+use Rattle.bp_trail.proofs.Ranges.{owned, owner}
 use Rattle.bp_core.proofs.Keeps.{at-past}
 use Rattle.bp_core.proofs.pool.Core.read.Goals as goal
 

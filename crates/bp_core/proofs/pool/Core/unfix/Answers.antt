@@ -1,12 +1,12 @@
 use Rattle.std.proofs.Common.{◌≡◌, sym, ◌∙◌, true, false, ap, ◌==◌, ◌&&◌}
 use Rattle.std.specs.Prelude.{not}
 use Rattle.std.proofs.lemmas.Bool.{true≢false}
-use Rattle.bp_core.specs.declared.entries.Call.TheVariants.{Unfix}
-use Rattle.bp_core.specs.declared.entries.Reply.TheVariants.{Done}
-use Rattle.bp_core.specs.Event.{grant}
-use Rattle.bp_core.specs.Passes.{passes_out}
-use Rattle.bp_core.specs.Places.{resident}
-use Rattle.bp_core.specs.Legal.{is_out}
+use Rattle.bp_trail.specs.declared.entries.Call.TheVariants.{Unfix}
+use Rattle.bp_trail.specs.declared.entries.Reply.TheVariants.{Done}
+use Rattle.bp_trail.specs.Event.{grant}
+use Rattle.bp_trail.specs.Passes.{passes_out}
+use Rattle.bp_trail.specs.Places.{resident}
+use Rattle.bp_trail.specs.Legal.{is_out}
 use Rattle.bp_core.proofs.Seen.{some_pins}
 use Rattle.bp_core.proofs.Keeps.{at-past, adds}
 use Rattle.bp_core.proofs.KeepsPasses.{pinned-page, no-candidate, candidate-room, keeps-unfix}

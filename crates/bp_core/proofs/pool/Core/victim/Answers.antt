@@ -1,5 +1,5 @@
 use Rattle.std.proofs.Common.{ap, ◌∙◌}
-use Rattle.bp_core.specs.Victim.{victim}
+use Rattle.bp_trail.specs.Victim.{victim}
 use Rattle.bp_core.proofs.Chosen.{told}
 use Rattle.bp_core.proofs.pool.Core.victim.Goals as goal
 

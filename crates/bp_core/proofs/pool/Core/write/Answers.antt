@@ -1,6 +1,6 @@
 use Rattle.std.proofs.Common.{sym, ◌∙◌, arith}
-use Rattle.bp_core.specs.declared.entries.Call.TheVariants.{Write}
-use Rattle.bp_core.specs.declared.entries.Reply.TheVariants.{Done}
+use Rattle.bp_trail.specs.declared.entries.Call.TheVariants.{Write}
+use Rattle.bp_trail.specs.declared.entries.Reply.TheVariants.{Done}
 use Rattle.bp_core.specs.CoreView.{HasRoomFor}
 use Rattle.bp_core.proofs.Keeps.{adds}
 use Rattle.bp_core.proofs.KeepsPasses.{keeps-write}

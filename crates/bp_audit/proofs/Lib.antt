@@ -1,0 +1,4 @@
+-- Lemmas.
+pub mod Comparing
+pub mod Logged
+pub mod Standing

@@ -1,0 +1,4 @@
+-- What is compared after client threads have ended.
+pub mod Clients
+pub mod Log
+pub mod Cut

@@ -1,0 +1,16 @@
+//! What is compared after client threads have ended: their own lists with the trail, and the marks with the log.
+//!
+//! No call here takes memory, and each goes over the trail once.
+#![tactic(auto)]
+
+pub mod agreement;
+pub mod laws;
+pub mod log_bound;
+pub mod sameness;
+
+pub use agreement::{agrees, posts_agree};
+pub use log_bound::is_within_log;
+pub use sameness::same_entry;
+
+#[cfg(test)]
+mod tests;

@@ -1,8 +1,0 @@
-use Rattle.bp_core.proofs.LegalLaws.{one-operation, writing-unsaved}
-use Rattle.bp_core.proofs.laws.one_device_operation_a_page.Goals as goal
-
-pub returns-clause-one : goal.returns-clause-one
-returns-clause-one c = one-operation
-
-pub returns-clause-writing_is_unsaved : goal.returns-clause-writing_is_unsaved
-returns-clause-writing_is_unsaved c = writing-unsaved

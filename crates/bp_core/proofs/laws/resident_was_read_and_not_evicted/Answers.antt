@@ -1,5 +1,0 @@
-use Rattle.bp_core.proofs.Sentences.{resident-lasts}
-use Rattle.bp_core.proofs.laws.resident_was_read_and_not_evicted.Goals as goal
-
-pub returns : goal.returns
-returns c = resident-lasts

@@ -1,8 +1,0 @@
-use Rattle.bp_core.proofs.Words.{fits, says}
-use Rattle.bp_core.proofs.laws.words_on_entries.Goals as goal
-
-pub returns-clause-replies : goal.returns-clause-replies
-returns-clause-replies c = fits
-
-pub returns-clause-words : goal.returns-clause-words
-returns-clause-words c = says

@@ -1,5 +1,0 @@
-use Rattle.bp_core.proofs.LegalLaws.{each-durable}
-use Rattle.bp_core.proofs.laws.write_outs_stay_behind_the_log.Goals as goal
-
-pub returns : goal.returns
-returns c = each-durable

@@ -1,0 +1,5 @@
+pub mod Driving
+pub mod GivingBack
+pub mod PieceSteps
+pub mod ScriptSteps
+pub mod SecondTry

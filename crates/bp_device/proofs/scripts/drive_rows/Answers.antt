@@ -1,0 +1,38 @@
+-- Each row adds its piece to those of the rows before it.
+use Rattle.std.proofs.Common.{◌≡◌, refl, sym, ◌∙◌, ap, subst, ◌+◌, ◌++◌, ◌∷◌, [], take, add-one, length, arith}
+use Rattle.std.proofs.Math.Seq.{take-suc}
+use Rattle.bp_device.specs.Rows.{DrivesRows}
+use Rattle.bp_device.proofs.ScriptSteps.{rows-none, rows-parameters, rows-step}
+use Rattle.bp_device.proofs.scripts.drive_rows.Goals as goal
+
+pub loop-row-init : goal.loop-row-init
+loop-row-init g c = record {
+  driven = subst (λ refused. DrivesRows c.args.core.now [] refused c.args.held.now.items c.args.core.now) (sym c.requires.none_refused) (subst (λ held. DrivesRows c.args.core.now [] [] held c.args.core.now) (sym c.requires.none_held) (rows-none c.args.core.now));
+  few_held = omega (arith, ap length c.requires.none_held, c.args.held.now.ok);
+  few_refused = omega (arith, ap length c.requires.none_refused, c.args.refused.now.ok);
+  held_room = refl;
+  refused_room = refl;
+  geometry = refl;
+}
+
+pub loop-row-preserved : goal.loop-row-preserved
+loop-row-preserved g c =
+    let row = c.row-item.result in
+    let more : take (c.loop-row.row-index + 1) c.args.rows.now ≡ take c.loop-row.row-index c.args.rows.now ++ row ∷ [] =
+    rw add-one (take-suc c.args.rows.now c.loop-row.row-index row (omega (arith, c.loop-row-test.true)) ∙ ap (λ r. take c.loop-row.row-index c.args.rows.now ++ r ∷ []) (sym c.row-item.is)) in
+    record {
+      driven = subst (λ rows. DrivesRows c.args.core.now rows c.note_refused.new.refused.items c.drive_row-outcome.new.held.items c.drive_row-outcome.new.core) (sym more)
+          (rows-step _ c.loop-row.core _ _ row _ _ _ _ _ c.loop-row.invariant.driven c.drive_row-outcome.ensures.outcome c.note_refused.ensures.refused);
+      few_held = omega (arith, c.drive_row-outcome.ensures.more, c.loop-row.invariant.few_held);
+      few_refused = omega (arith, c.note_refused.ensures.more, c.loop-row.invariant.few_refused);
+      held_room = c.drive_row-outcome.ensures.capacity ∙ c.loop-row.invariant.held_room;
+      geometry = c.drive_row-outcome.ensures.geometry ∙ c.loop-row.invariant.geometry;
+      refused_room = c.note_refused.ensures.capacity ∙ c.loop-row.invariant.refused_room;
+    }
+
+pub drive_row-outcome-requires-clause-size : goal.drive_row-outcome-requires-clause-size
+drive_row-outcome-requires-clause-size g c =
+    ap (λ g. g.size) c.loop-row.invariant.geometry ∙ c.requires.size ∙ ap (λ p. p.size) (sym (rows-parameters _ _ _ _ _ c.loop-row.invariant.driven))
+
+pub returns-clause-geometry : goal.returns-clause-geometry
+returns-clause-geometry g c = c.loop-row.invariant.geometry

@@ -1,0 +1,129 @@
+//! A fix and a flush over a core that has one owner, with the reads and writes of its device.
+ghost use Rattle.std.specs.Prelude.{◌≡◌, ◌<◌, IfOk, length};
+ghost use Rattle.bp_core.specs.Outcomes.{KnowsRead, KnowsWrite};
+ghost use Rattle.bp_device.specs.Drivers.{DrivesFix, DrivesFlush, LoadOutcome, SaveOutcome};
+
+use crate::port::Port;
+use bp_core::{Core, EndRefusal, Ended, Fix, Flush, Pass, ReadTicket, WriteTicket};
+use bp_page::{Image, PageNo, PortFault, Refusal};
+use std::sync::Wait;
+
+/// How a page came to be saved, or that it is not here.
+#[derive(Clone, Copy, PartialEq, Eq, Debug, Drop)]
+pub enum Flushed {
+    /// No write of the page was left to save.
+    Clean,
+    /// The page is not resident.
+    Absent,
+    /// The page was written out, and is saved.
+    Cleaned,
+    /// The page was written out, and was written to meanwhile.
+    StillDirty,
+}
+
+/// Ends a read whose ticket the core knows.
+fn load(
+    core: &mut Core,
+    ticket: ReadTicket,
+    read: Result<Image, PortFault>,
+) -> Result<Pass, Refusal>
+    requires size { IfOk read (λ image. length image ≡ core.old.parameters.size) }
+    requires known { KnowsRead core.old ticket }
+    ensures outcome { LoadOutcome core.old ticket result core.new }
+{
+    match core.read_end(ticket, read) {
+        Ok(pass) => Ok(pass),
+        Err(EndRefusal::Failed(refusal)) => Err(refusal),
+        Err(EndRefusal::Unknown(_ticket, _)) => unreachable!(),
+    }
+}
+
+/// Ends a write-out whose ticket the core knows.
+fn save(
+    core: &mut Core,
+    ticket: WriteTicket,
+    written: Result<(), PortFault>,
+) -> Result<Ended, Refusal>
+    requires known { KnowsWrite core.old ticket }
+    ensures outcome { SaveOutcome core.old ticket result core.new }
+{
+    match core.write_end(ticket, written) {
+        Ok(ended) => Ok(ended),
+        Err(EndRefusal::Failed(refusal)) => Err(refusal),
+        Err(EndRefusal::Unknown(_ticket, _)) => unreachable!(),
+    }
+}
+
+/// Fixes a page over a core that nobody else uses: reads it where it is away, and first writes out the victim where that is unsaved.
+///
+/// Refused as `Core::fix` is, then with nothing changed but the entries of its steps so far; with `ReadFailed` where the page could not
+/// be read, which is then not resident; with `WriteFailed` where the victim could not be written, which then stays, unsaved.
+pub fn drive_fix<P: Port, R: Wait>(
+    rt: &R,
+    core: &mut Core,
+    port: &mut P,
+    client: u8,
+    page: PageNo,
+) -> Result<Pass, Refusal>
+    requires size { (P.geometry_of port.old).size ≡ core.old.parameters.size }
+    requires client_in { client < core.old.parameters.clients }
+    requires page_in { page < core.old.parameters.pages }
+    ensures outcome { DrivesFix core.old client page result core.new }
+    ensures geometry { P.geometry_of port.new ≡ P.geometry_of port.old }
+{
+    match core.fix(client, page) {
+        Ok(Fix::Hit(pass)) => Ok(pass),
+        Ok(Fix::Load(ticket, _)) => {
+            let read = port.read(rt, page);
+            load(core, ticket, read)
+        }
+        Ok(Fix::WriteFirst(ticket)) => {
+            let written = port.write(rt, ticket.page(), ticket.image());
+            match save(core, ticket, written) {
+                // Nobody else acts meanwhile: the victim is saved and still the victim, so the same fix finds its frame.
+                Ok(_) => match core.fix(client, page) {
+                    Ok(Fix::Hit(_pass)) => unreachable!(),
+                    Ok(Fix::Load(ticket, _)) => {
+                        let read = port.read(rt, page);
+                        load(core, ticket, read)
+                    }
+                    Ok(Fix::WriteFirst(_ticket)) => unreachable!(),
+                    Err(refusal) => Err(refusal),
+                },
+                Err(refusal) => Err(refusal),
+            }
+        }
+        Err(refusal) => Err(refusal),
+    }
+}
+
+/// Writes a page out where it is unsaved, over a core that nobody else uses, and tells how it came to be saved.
+///
+/// Refused as `Core::flush` is, then with nothing changed but that entry; with `WriteFailed` where the page could not be written, which
+/// then stays, unsaved.
+pub fn drive_flush<P: Port, R: Wait>(
+    rt: &R,
+    core: &mut Core,
+    port: &mut P,
+    client: u8,
+    page: PageNo,
+) -> Result<Flushed, Refusal>
+    requires client_in { client < core.old.parameters.clients }
+    requires page_in { page < core.old.parameters.pages }
+    ensures outcome { DrivesFlush core.old client page result core.new }
+    ensures geometry { P.geometry_of port.new ≡ P.geometry_of port.old }
+{
+    match core.flush(client, page) {
+        Ok(Flush::Clean) => Ok(Flushed::Clean),
+        Ok(Flush::Absent) => Ok(Flushed::Absent),
+        Ok(Flush::WriteFirst(ticket)) => {
+            let written = port.write(rt, ticket.page(), ticket.image());
+            match save(core, ticket, written) {
+                Ok(Ended::Cleaned) => Ok(Flushed::Cleaned),
+                Ok(Ended::StillDirty) => Ok(Flushed::StillDirty),
+                Err(refusal) => Err(refusal),
+            }
+        }
+        Err(refusal) => Err(refusal),
+    }
+}

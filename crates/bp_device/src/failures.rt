@@ -1,0 +1,45 @@
+//! Counting the failures of a device.
+ghost use Rattle.std.specs.Prelude.{◌≡◌, ℕ};
+ghost use Rattle.bp_device.specs.Ports.{IsCounted};
+
+use bp_page::PortFault;
+use std::marker::Model;
+
+/// How many failures were counted, up to 2^64 − 1, where it stays.
+#[derive(Debug, Drop)]
+pub(crate) struct Failures {
+    count: u64,
+}
+
+impl Model for Failures {
+    ghost Value = { ℕ };
+
+    ghost view = { λ failures. failures.count };
+}
+
+impl Failures {
+    /// None yet.
+    pub(crate) fn none() -> Failures
+        ensures { result ≡ 0 }
+    {
+        Failures { count: 0 }
+    }
+
+    /// How many there are.
+    pub(crate) fn count(&self) -> u64
+        ensures { result ≡ self.now }
+    {
+        self.count
+    }
+
+    /// Counts one more, and tells the fault.
+    pub(crate) fn add(&mut self) -> PortFault
+        ensures fault { result ≡ PortFault.Device }
+        ensures counted { IsCounted self.old self.new }
+    {
+        if self.count < u64::MAX {
+            self.count += 1;
+        }
+        PortFault::Device
+    }
+}

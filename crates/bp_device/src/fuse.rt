@@ -1,0 +1,126 @@
+//! A port that fails once, for tests of what a failing device leaves.
+ghost use Rattle.std.specs.Prelude.{◌≡◌, ◌-◌, ◌↔◌, IsTrue, IfOk, OnErr, length};
+ghost use Rattle.bp_device.specs.Ports.{Counts};
+
+use crate::failures::Failures;
+use crate::port::Port;
+use bp_page::{Geometry, Image, PageNo, PortFault, Refusal};
+use std::alloc::Global;
+use std::sync::Wait;
+
+/// A port over another one, to which it passes each call but one: that call fails, and is counted.
+#[derive(Drop)]
+pub struct FusePort<P: Port> {
+    inner: P,
+    /// The calls up to the one that fails, or 0 where it has failed.
+    left: u64,
+    /// What a failing write leaves on the device, if anything.
+    spoiled: Option<Image>,
+    count: Failures,
+}
+
+impl<P: Port> FusePort<P> {
+    /// A port whose n-th call of `read` or `write`, from 1, fails. With `spoil`, a write that fails first puts a page of bytes 255 on
+    /// the device. `OutOfMemory` where that page can't be had.
+    pub fn new(alloc: Global, inner: P, n: u64, spoil: bool) -> Result<FusePort<P>, Refusal>
+        ensures inner { IfOk result (λ port. port.inner ≡ inner) }
+        ensures left { IfOk result (λ port. port.left ≡ n) }
+        ensures count { IfOk result (λ port. port.count ≡ 0) }
+        ensures memory { OnErr result (result ≡ Err Refusal.OutOfMemory) }
+    {
+        let spoiled = if spoil {
+            Some(page_of_ones(alloc, inner.geometry().size)?)
+        } else {
+            None
+        };
+        Ok(FusePort {
+            inner,
+            left: n,
+            spoiled,
+            count: Failures::none(),
+        })
+    }
+
+    /// Whether this call fails. Counts the call down.
+    fn blows(&mut self) -> bool
+        ensures now { IsTrue result ↔ (self.old.left ≡ 1) }
+        ensures left { self.new.left ≡ self.old.left - 1 }
+        ensures inner { self.new.inner ≡ self.old.inner }
+        ensures count { self.new.count ≡ self.old.count }
+    {
+        let blows = self.left == 1;
+        self.left = self.left.saturating_sub(1);
+        blows
+    }
+
+    /// Counts a failure of the other port as one of this one.
+    fn counted<T>(&mut self, outcome: Result<T, PortFault>) -> Result<T, PortFault>
+        ensures same { result ≡ outcome }
+        ensures left { self.new.left ≡ self.old.left }
+        ensures inner { self.new.inner ≡ self.old.inner }
+        ensures counts { Counts result self.old.count self.new.count }
+    {
+        match outcome {
+            Ok(done) => Ok(done),
+            Err(PortFault::Memory) => Err(PortFault::Memory),
+            Err(PortFault::Device) => Err(self.count.add()),
+        }
+    }
+}
+
+/// A page of bytes 255.
+fn page_of_ones(alloc: Global, size: usize) -> Result<Image, Refusal>
+    ensures { OnErr result (result ≡ Err Refusal.OutOfMemory) }
+{
+    let Ok(ones) = vec![in alloc; 255u8; size] else {
+        return Err(Refusal::OutOfMemory);
+    };
+    match Image::of(alloc, &ones) {
+        Ok(page) => Ok(page),
+        Err(_) => Err(Refusal::OutOfMemory),
+    }
+}
+
+impl<P: Port> Port for FusePort<P> {
+    ghost geometry_of = { λ p. P.geometry_of p.inner };
+
+    ghost failures_of = { λ p. p.count };
+
+    fn geometry(&self) -> Geometry {
+        self.inner.geometry()
+    }
+
+    fn failures(&self) -> u64 {
+        self.count.count()
+    }
+
+    fn read<R: Wait>(&mut self, rt: &R, page: PageNo) -> Result<Image, PortFault>
+        ensures size { IfOk result (λ image. length image ≡ (P.geometry_of self.old.inner).size) }
+        ensures same { P.geometry_of self.new.inner ≡ P.geometry_of self.old.inner }
+        ensures counts { Counts result self.old.count self.new.count }
+        ensures left { self.new.left ≡ self.old.left - 1 }
+        ensures fails { self.old.left ≡ 1 → (result ≡ Err PortFault.Device) × (self.new.inner ≡ self.old.inner) }
+    {
+        if self.blows() {
+            return Err(self.count.add());
+        }
+        let read = self.inner.read(rt, page);
+        self.counted(read)
+    }
+
+    fn write<R: Wait>(&mut self, rt: &R, page: PageNo, image: &Image) -> Result<(), PortFault>
+        ensures same { P.geometry_of self.new.inner ≡ P.geometry_of self.old.inner }
+        ensures counts { Counts result self.old.count self.new.count }
+        ensures left { self.new.left ≡ self.old.left - 1 }
+        ensures fails { self.old.left ≡ 1 → result ≡ Err PortFault.Device }
+    {
+        if self.blows() {
+            if let Some(spoiled) = &self.spoiled {
+                let _ = self.inner.write(rt, page, spoiled);
+            }
+            return Err(self.count.add());
+        }
+        let written = self.inner.write(rt, page, image);
+        self.counted(written)
+    }
+}

@@ -1,0 +1,131 @@
+//! A device in memory, and the ports on it.
+ghost use Rattle.std.specs.Prelude.{◌≡◌, ◌*◌, IfOk, OnErr};
+ghost use Rattle.bp_page.specs.declared.limits.Geometry.{Geometry};
+ghost use Rattle.bp_device.specs.Ports.{PortView, new_port};
+
+use crate::failures::Failures;
+use crate::places::start_of;
+use crate::port::Port;
+use bp_page::{Geometry, Image, PageNo, PortFault, Refusal};
+use std::alloc::Global;
+use std::marker::Model;
+use std::sync::{Arc, Mutex, Wait};
+
+/// A device whose pages stand in memory. Contracts see its geometry.
+#[derive(Drop)]
+pub struct MemDevice {
+    alloc: Global,
+    device: Geometry,
+    bytes: Arc<Mutex<Vec<u8>>, Global>,
+}
+
+impl Model for MemDevice {
+    ghost Value = { Geometry };
+
+    ghost view = { λ d. d.device };
+}
+
+impl MemDevice {
+    /// A device of so many pages, all bytes 0. `OutOfMemory` where they can't be had.
+    pub fn new(alloc: Global, geometry: Geometry) -> Result<MemDevice, Refusal>
+        ensures geometry { IfOk result (λ made. made ≡ geometry) }
+        ensures memory { OnErr result (result ≡ Err Refusal.OutOfMemory) }
+    {
+        let length = geometry.pages as usize * geometry.size;
+        let Ok(zeros) = vec![in alloc; 0u8; length] else {
+            return Err(Refusal::OutOfMemory);
+        };
+        let Ok(bytes) = Arc::new(alloc, Mutex::new(zeros)) else {
+            return Err(Refusal::OutOfMemory);
+        };
+        Ok(MemDevice {
+            alloc,
+            device: geometry,
+            bytes,
+        })
+    }
+
+    /// A port of its own for a client. `OutOfMemory` where the device can't be shared once more.
+    pub fn port(&self) -> Result<MemPort, Refusal>
+        ensures port { IfOk result (λ port. port ≡ new_port self.now) }
+        ensures memory { OnErr result (result ≡ Err Refusal.OutOfMemory) }
+    {
+        let Ok(bytes) = Arc::try_clone(&self.bytes) else {
+            return Err(Refusal::OutOfMemory);
+        };
+        Ok(MemPort {
+            alloc: self.alloc,
+            device: self.device,
+            bytes,
+            count: Failures::none(),
+        })
+    }
+}
+
+/// A client's way to a device in memory. It waits while another port reads or writes there.
+#[derive(Drop)]
+pub struct MemPort {
+    alloc: Global,
+    device: Geometry,
+    bytes: Arc<Mutex<Vec<u8>>, Global>,
+    count: Failures,
+}
+
+impl Model for MemPort {
+    ghost Value = { PortView };
+
+    ghost view = { λ p. record { device = p.device; failures = p.count } };
+}
+
+impl Port for MemPort {
+    ghost geometry_of = { λ p. p.device };
+
+    ghost failures_of = { λ p. p.failures };
+
+    fn geometry(&self) -> Geometry {
+        self.device
+    }
+
+    fn failures(&self) -> u64 {
+        self.count.count()
+    }
+
+    fn read<R: Wait>(&mut self, rt: &R, page: PageNo) -> Result<Image, PortFault> {
+        let Some(start) = start_of(&self.device, page) else {
+            return Err(self.count.add());
+        };
+        let start = start as usize;
+        let Ok(mut image) = Image::blank(self.alloc, &self.device) else {
+            return Err(PortFault::Memory);
+        };
+        let bytes = self.bytes.lock(rt);
+        match bytes.get(start..start + self.device.size) {
+            Some(found) => {
+                image.patch(0, found);
+                Ok(image)
+            }
+            None => Err(self.count.add()),
+        }
+    }
+
+    fn write<R: Wait>(&mut self, rt: &R, page: PageNo, image: &Image) -> Result<(), PortFault> {
+        let Some(start) = start_of(&self.device, page) else {
+            return Err(self.count.add());
+        };
+        let start = start as usize;
+        if image.bytes().len() != self.device.size {
+            return Err(self.count.add());
+        }
+        let mut bytes = self.bytes.lock(rt);
+        match bytes
+            .as_mut_slice()
+            .get_mut(start..start + self.device.size)
+        {
+            Some(found) => {
+                found.copy_from_slice(image.bytes());
+                Ok(())
+            }
+            None => Err(self.count.add()),
+        }
+    }
+}

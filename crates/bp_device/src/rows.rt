@@ -1,0 +1,185 @@
+//! What each row of a script does.
+ghost use Rattle.std.specs.Prelude.{◌+◌, ◌≡◌, ◌<◌, ◌≤◌, length, vec_len, vec_capacity};
+ghost use Rattle.bp_trail.specs.declared.scripts.Step.TheVariants as Step;
+ghost use Rattle.bp_trail.specs.Fits.{RowFits};
+ghost use Rattle.bp_trail.specs.Pieces.{outcome_of};
+ghost use Rattle.bp_device.specs.Rows.{EndsIn, DrivesRow};
+
+use crate::drivers::{drive_fix, drive_flush};
+use crate::held_passes::{give, latest};
+use crate::port::Port;
+use bp_core::{Core, PassNote, Row, Step};
+use bp_page::{Bytes, Lsn, PageNo, Refusal};
+use std::sync::Wait;
+
+/// Reads the page by the pass that the client took latest.
+fn read_row(core: &mut Core, held: &[PassNote], client: u8, page: PageNo) -> Result<(), Refusal>
+    requires ends_in { EndsIn core.old held.now }
+    ensures outcome { DrivesRow core.old client (Step.Read page) (outcome_of result) held.now held.now core.new }
+{
+    let Some(note) = latest(held, client, page) else {
+        return Err(Refusal::UnknownPass);
+    };
+    let pass = note.pass();
+    let read = core.read(&pass);
+    pass.note();
+    let _image = match read {
+        Ok(image) => image,
+        Err(refusal) => return Err(refusal),
+    };
+    Ok(())
+}
+
+/// Writes to the page by the pass that the client took latest.
+fn write_row(
+    core: &mut Core,
+    held: &[PassNote],
+    client: u8,
+    page: PageNo,
+    offset: u32,
+    bytes: &Bytes,
+    lsn: Lsn,
+) -> Result<(), Refusal>
+    requires ends_in { EndsIn core.old held.now }
+    requires fits { offset + length bytes.now ≤ core.old.parameters.size }
+    ensures outcome { DrivesRow core.old client (Step.Write page offset bytes.now lsn) (outcome_of result) held.now held.now core.new }
+{
+    let Some(note) = latest(held, client, page) else {
+        return Err(Refusal::UnknownPass);
+    };
+    let pass = note.pass();
+    let written = core.write(&pass, offset, bytes, lsn);
+    pass.note();
+    match written {
+        Ok(()) => Ok(()),
+        Err(refusal) => Err(refusal),
+    }
+}
+
+/// Gives back the pass of the page that the client took latest.
+fn unfix_row(
+    core: &mut Core,
+    held: &mut Vec<PassNote>,
+    client: u8,
+    page: PageNo,
+) -> Result<(), Refusal>
+    requires ends_in { EndsIn core.old held.old.items }
+    ensures outcome { DrivesRow core.old client (Step.Unfix page) (outcome_of result) held.old.items held.new.items core.new }
+    ensures fewer { vec_len held.new ≤ vec_len held.old }
+    ensures capacity { vec_capacity held.new ≡ vec_capacity held.old }
+{
+    let Some(note) = latest(held, client, page) else {
+        return Err(Refusal::UnknownPass);
+    };
+    give(core, held, note);
+    Ok(())
+}
+
+/// Fixes the page, and holds the pass.
+fn fix_row<P: Port, R: Wait>(
+    rt: &R,
+    core: &mut Core,
+    port: &mut P,
+    held: &mut Vec<PassNote>,
+    client: u8,
+    page: PageNo,
+) -> Result<(), Refusal>
+    requires size { (P.geometry_of port.old).size ≡ core.old.parameters.size }
+    requires client_in { client < core.old.parameters.clients }
+    requires page_in { page < core.old.parameters.pages }
+    requires room { vec_len held.old < vec_capacity held.old }
+    ensures outcome { DrivesRow core.old client (Step.Fix page) (outcome_of result) held.old.items held.new.items core.new }
+    ensures more { vec_len held.new ≤ vec_len held.old + 1 }
+    ensures capacity { vec_capacity held.new ≡ vec_capacity held.old }
+    ensures geometry { P.geometry_of port.new ≡ P.geometry_of port.old }
+{
+    match drive_fix(rt, core, port, client, page) {
+        Ok(pass) => {
+            held.push_reserved(pass.note());
+            Ok(())
+        }
+        Err(refusal) => Err(refusal),
+    }
+}
+
+/// Writes the page out.
+fn flush_row<P: Port, R: Wait>(
+    rt: &R,
+    core: &mut Core,
+    port: &mut P,
+    held: &[PassNote],
+    client: u8,
+    page: PageNo,
+) -> Result<(), Refusal>
+    requires client_in { client < core.old.parameters.clients }
+    requires page_in { page < core.old.parameters.pages }
+    ensures outcome { DrivesRow core.old client (Step.Flush page) (outcome_of result) held.now held.now core.new }
+    ensures geometry { P.geometry_of port.new ≡ P.geometry_of port.old }
+{
+    match drive_flush(rt, core, port, client, page) {
+        Ok(_) => Ok(()),
+        Err(refusal) => Err(refusal),
+    }
+}
+
+/// Moves the clock.
+fn tick_row(core: &mut Core, held: &[PassNote], client: u8, n: u64) -> Result<(), Refusal>
+    requires client_in { client < core.old.parameters.clients }
+    ensures outcome { DrivesRow core.old client (Step.Tick n) (outcome_of result) held.now held.now core.new }
+{
+    core.tick(client, n)
+}
+
+/// Forgets old references.
+fn purge_row(core: &mut Core, held: &[PassNote], client: u8) -> Result<(), Refusal>
+    requires client_in { client < core.old.parameters.clients }
+    ensures outcome { DrivesRow core.old client Step.Purge (outcome_of result) held.now held.now core.new }
+{
+    match core.purge(client) {
+        Ok(_) => Ok(()),
+        Err(refusal) => Err(refusal),
+    }
+}
+
+/// Marks the log durable as far as the row says.
+fn log_row(core: &mut Core, held: &[PassNote], client: u8, lsn: Lsn) -> Result<(), Refusal>
+    requires client_in { client < core.old.parameters.clients }
+    ensures outcome { DrivesRow core.old client (Step.Log lsn) (outcome_of result) held.now held.now core.new }
+{
+    core.mark(client, lsn)
+}
+
+/// Does what a row asks for, by its client.
+pub(crate) fn drive_row<P: Port, R: Wait>(
+    rt: &R,
+    core: &mut Core,
+    port: &mut P,
+    held: &mut Vec<PassNote>,
+    row: &Row,
+) -> Result<(), Refusal>
+    requires size { (P.geometry_of port.old).size ≡ core.old.parameters.size }
+    requires fits { RowFits core.old.parameters row.now }
+    requires room { vec_len held.old < vec_capacity held.old }
+    requires ends_in { EndsIn core.old held.old.items }
+    ensures outcome { DrivesRow core.old row.now.client row.now.step (outcome_of result) held.old.items held.new.items core.new }
+    ensures more { vec_len held.new ≤ vec_len held.old + 1 }
+    ensures capacity { vec_capacity held.new ≡ vec_capacity held.old }
+    ensures geometry { P.geometry_of port.new ≡ P.geometry_of port.old }
+{
+    let client = row.client;
+    match &row.step {
+        Step::Fix(page) => fix_row(rt, core, port, held, client, *page),
+        Step::Unfix(page) => unfix_row(core, held, client, *page),
+        Step::Read(page) => read_row(core, held, client, *page),
+        Step::Write {
+            page,
+            offset,
+            bytes,
+            lsn,
+        } => write_row(core, held, client, *page, *offset, bytes, *lsn),
+        Step::Flush(page) => flush_row(rt, core, port, held, client, *page),
+        Step::Tick(n) => tick_row(core, held, client, *n),
+        Step::Purge => purge_row(core, held, client),
+        Step::Log(lsn) => log_row(core, held, client, *lsn),
+    }
+}

@@ -1,0 +1,82 @@
+//! A whole script over a core that has one owner.
+ghost use Rattle.std.specs.Prelude.{OnErr, All, reverse, ◌+◌, ◌≡◌, ◌<◌, ◌≤◌, ◌++◌, [], IfOk, length, vec_len, vec_capacity};
+ghost use Rattle.bp_trail.specs.Fits.{RowFits};
+ghost use Rattle.bp_trail.specs.Pieces.{outcome_of};
+ghost use Rattle.bp_trail.specs.Script.{refused_row};
+ghost use Rattle.bp_device.specs.Rows.{AddsScript, DrivesRows};
+
+use crate::held_passes::give_back_all;
+use crate::port::Port;
+use crate::rows::drive_row;
+use bp_core::{Core, PassNote, Refused, Row};
+use bp_page::Refusal;
+use std::alloc::Global;
+use std::sync::Wait;
+
+/// Notes the refusal of a row, if it has one.
+fn note_refused(refused: &mut Vec<Refused>, row: u64, outcome: Result<(), Refusal>)
+    requires room { vec_len refused.old < vec_capacity refused.old }
+    ensures refused { reverse refused.new.items ≡ refused_row row (outcome_of outcome) ++ reverse refused.old.items }
+    ensures more { vec_len refused.new ≤ vec_len refused.old + 1 }
+    ensures capacity { vec_capacity refused.new ≡ vec_capacity refused.old }
+{
+    if let Err(refusal) = outcome {
+        refused.push_reserved(Refused {
+            row,
+            number: refusal.number(),
+        });
+    }
+}
+
+/// Drives the rows in order.
+fn drive_rows<P: Port, R: Wait>(
+    rt: &R,
+    core: &mut Core,
+    port: &mut P,
+    held: &mut Vec<PassNote>,
+    refused: &mut Vec<Refused>,
+    rows: &[Row],
+)
+    requires size { (P.geometry_of port.old).size ≡ core.old.parameters.size }
+    requires fits { All (RowFits core.old.parameters) rows.now }
+    requires none_held { held.old.items ≡ [] }
+    requires none_refused { refused.old.items ≡ [] }
+    requires held_room { length rows.now ≤ vec_capacity held.old }
+    requires refused_room { length rows.now ≤ vec_capacity refused.old }
+    ensures outcome { DrivesRows core.old rows.now refused.new.items held.new.items core.new }
+    ensures geometry { P.geometry_of port.new ≡ P.geometry_of port.old }
+{
+    for row in rows {
+        let outcome = drive_row(rt, core, port, held, row);
+        note_refused(refused, row.row, outcome);
+    }
+}
+
+/// Runs the rows in order over a core that nobody else uses, and gives back the passes that are then held: client by client, from the
+/// lowest, in the order taken. The refused rows come back, in order, each with the number of its refusal.
+///
+/// `OutOfMemory` comes only where a list of its own could not be made, before any row was run; it changes nothing.
+pub fn drive_all<P: Port, R: Wait>(
+    rt: &R,
+    alloc: Global,
+    core: &mut Core,
+    port: &mut P,
+    rows: &[Row],
+) -> Result<Vec<Refused>, Refusal>
+    requires size { (P.geometry_of port.old).size ≡ core.old.parameters.size }
+    requires fits { All (RowFits core.old.parameters) rows.now }
+    ensures follows { IfOk result (λ refused. AddsScript core.old rows.now refused.items core.new) }
+    ensures refused { OnErr result (result ≡ Err Refusal.OutOfMemory) }
+    ensures unchanged { OnErr result (core.new ≡ core.old) }
+    ensures geometry { P.geometry_of port.new ≡ P.geometry_of port.old }
+{
+    let Ok(mut held) = Vec::with_capacity(alloc, rows.len()) else {
+        return Err(Refusal::OutOfMemory);
+    };
+    let Ok(mut refused) = Vec::with_capacity(alloc, rows.len()) else {
+        return Err(Refusal::OutOfMemory);
+    };
+    drive_rows(rt, core, port, &mut held, &mut refused, rows);
+    give_back_all(core, &mut held);
+    Ok(refused)
+}

@@ -1,0 +1,11 @@
+-- What the bytes of a trace say, what holds of every script, and what is printed of a trail.
+pub mod Numbers
+pub mod Fields
+pub mod Record
+pub mod Script
+pub mod Input
+pub mod InRange
+pub mod Written
+pub mod Lines
+pub mod Totals
+pub mod Report

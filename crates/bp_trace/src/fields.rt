@@ -1,0 +1,82 @@
+//! The fields of a record, and what one field says.
+ghost use Rattle.std.specs.Prelude.{◌≡◌, option_map};
+ghost use Rattle.csv.specs.Records.{fields_of};
+ghost use Rattle.bp_trace.specs.Fields.{Gives, bytes_wanted, client_in, number_wanted, page_in, six_of, texts_of};
+
+use crate::numbers::parse_number;
+use bp_page::{Bytes, Geometry, PageNo, Refusal};
+use csv::ByteRecord;
+use hex::FromHexError;
+use std::alloc::Global;
+
+/// The greatest number of a client.
+const MAX_CLIENT: u64 = 63;
+
+/// The six fields of a record.
+#[derive(Clone, Copy)]
+pub struct Fields<'a> {
+    pub client: &'a [u8],
+    pub op: &'a [u8],
+    pub number: &'a [u8],
+    pub offset: &'a [u8],
+    pub bytes: &'a [u8],
+    pub lsn: &'a [u8],
+}
+
+/// The six fields of a record, if it has six.
+pub fn six_fields(raw: &ByteRecord) -> Option<Fields<'_>>
+    ensures { option_map texts_of result ≡ six_of (fields_of raw.now) }
+{
+    if raw.get(6).is_some() {
+        return None;
+    }
+    Some(Fields {
+        client: raw.get(0)?,
+        op: raw.get(1)?,
+        number: raw.get(2)?,
+        offset: raw.get(3)?,
+        bytes: raw.get(4)?,
+        lsn: raw.get(5)?,
+    })
+}
+
+/// The number of a client. Anything else is `BadClient`.
+pub fn parse_client(text: &[u8]) -> Result<u8, Refusal>
+    ensures { result ≡ client_in text.now }
+{
+    match parse_number(text) {
+        Some(client) if client <= MAX_CLIENT => Ok(client as u8),
+        _ => Err(Refusal::BadClient),
+    }
+}
+
+/// A number that the op needs. Anything else is `BadNumber`.
+pub fn wanted_number(text: &[u8]) -> Result<u64, Refusal>
+    ensures { result ≡ number_wanted text.now }
+{
+    parse_number(text).ok_or(Refusal::BadNumber)
+}
+
+/// A page that the op needs. One that the file does not have is `OutOfPage`.
+#[tactic(auto, unfolding(crate::specs::Fields::page_in))]
+pub fn wanted_page(geometry: &Geometry, text: &[u8]) -> Result<PageNo, Refusal>
+    ensures { result ≡ page_in geometry.now text.now }
+{
+    let number = wanted_number(text)?;
+    geometry.page(number).ok_or(Refusal::OutOfPage)
+}
+
+/// Bytes as pairs of hex digits of either case. Anything else is `BadHex`, and a refused growth `OutOfMemory`.
+pub fn wanted_bytes(alloc: Global, text: &[u8]) -> Result<Bytes, Refusal>
+    ensures { Gives result (bytes_wanted text.now) }
+{
+    let decoded = match hex::decode(alloc, text) {
+        Ok(decoded) => decoded,
+        Err(FromHexError::OutOfMemory) => return Err(Refusal::OutOfMemory),
+        Err(_) => return Err(Refusal::BadHex),
+    };
+    match Bytes::of(alloc, decoded.as_slice()) {
+        Ok(bytes) => Ok(bytes),
+        Err(_) => Err(Refusal::OutOfMemory),
+    }
+}

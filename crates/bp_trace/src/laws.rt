@@ -1,0 +1,22 @@
+//! Laws of the format, which hold of every row and every number.
+ghost use Rattle.std.specs.Prelude.{◌≡◌, ◌≤◌, ◌^◌, Some, Ok, map};
+ghost use Rattle.std.specs.Fmt.{decimal};
+ghost use Rattle.bp_trace.specs.InRange.{IsScript};
+ghost use Rattle.bp_trace.specs.Numbers.{number_in};
+ghost use Rattle.bp_trace.specs.Script.{script_from};
+ghost use Rattle.bp_trace.specs.Written.{written_row};
+
+use bp_core::Row;
+use bp_page::Geometry;
+
+/// Each number up to 2^62 reads back as itself from the text that it is printed as.
+pub fn printed_number_reads_back(number: u64)
+    requires { number ≤ 2 ^ 62 }
+    ensures { number_in (decimal number) ≡ Some number }
+{}
+
+/// Rows that a trace can say read back as themselves from the records that they are written as.
+pub fn written_rows_read_back(geometry: &Geometry, rows: &[Row])
+    requires { IsScript geometry.now rows.now }
+    ensures { script_from geometry.now 1 (map written_row rows.now) ≡ Ok rows.now }
+{}

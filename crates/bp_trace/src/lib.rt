@@ -1,0 +1,17 @@
+//! Traces and reports: the bytes of a trace to the rows of a script, and the entries of a trail to the lines of a report.
+#![tactic(auto)]
+
+mod faults;
+mod fields;
+mod input;
+pub mod laws;
+mod lines;
+pub mod numbers;
+mod printing;
+mod record;
+mod script;
+mod totals;
+
+pub use faults::TraceFault;
+pub use printing::{report, report_rows};
+pub use script::read_script;

@@ -1,0 +1,62 @@
+//! The report of a run.
+ghost use Rattle.std.specs.Prelude.{◌≡◌, [], IfOk, OnOk};
+ghost use Rattle.std.specs.Io.KnownBytes.{Appends};
+ghost use Rattle.bp_trace.specs.Totals.{totals_of};
+ghost use Rattle.bp_trace.specs.Report.{lines_after, report_text, rows_text, steps_of};
+
+use crate::lines::{write_event, write_refused};
+use crate::totals::Totals;
+use bp_core::{Call, Entry, Refused};
+use std::io;
+use std::io::Write;
+
+/// By how many steps a call moves the clock.
+fn steps_of(call: &Call) -> u64
+    ensures { result ≡ steps_of call.now }
+{
+    match call {
+        Call::Tick(steps) => *steps,
+        _ => 0,
+    }
+}
+
+/// Writes the lines of the events, and counts their replies.
+fn write_events<W: Write>(entries: &[Entry], writer: &mut W) -> io::Result<Totals>
+    ensures lines { OnOk result (Appends (W.contents writer.old) (W.contents writer.new) (lines_after [] entries.now)) }
+    ensures totals { IfOk result (λ totals. totals ≡ totals_of entries.now) }
+{
+    // The time is wide enough for any list of entries, legal or not.
+    let mut time: u128 = 1;
+    let mut totals = Totals::new();
+    for entry in entries {
+        write_event(time, entry, writer)?;
+        totals.count(&entry.reply);
+        time += u128::from(steps_of(&entry.call));
+    }
+    Ok(totals)
+}
+
+/// Writes the report of the entries, oldest first: a line for each eviction, write-out and read, and then the six totals.
+///
+/// A fault of the writer is passed on; how much of the report the writer then holds is not told.
+pub fn report<W: Write>(entries: &[Entry], writer: &mut W) -> io::Result<()>
+    ensures { OnOk result (Appends (W.contents writer.old) (W.contents writer.new) (report_text entries.now)) }
+{
+    let totals = write_events(entries, writer)?;
+    totals.write(writer)
+}
+
+/// Writes a line for each refused row, in the order of the list.
+///
+/// A fault of the writer is passed on; how many of the lines the writer then holds is not told.
+pub fn report_rows<W: Write>(rows: &[Refused], writer: &mut W) -> io::Result<()>
+    ensures { OnOk result (Appends (W.contents writer.old) (W.contents writer.new) (rows_text rows.now)) }
+{
+    for refused in rows {
+        write_refused(refused, writer)?;
+    }
+    Ok(())
+}
+
+#[cfg(test)]
+mod tests;

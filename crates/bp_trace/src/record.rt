@@ -1,0 +1,166 @@
+//! One record of a trace.
+ghost use Rattle.std.specs.Prelude.{◌≡◌};
+ghost use Rattle.csv.specs.Records.{fields_of};
+ghost use Rattle.bp_trace.specs.Fields.{Gives, texts_of};
+ghost use Rattle.bp_trace.specs.Record.{has_extra, is_log, op_in, place_in, row_in, step_in, texts_row, write_in};
+
+use crate::fields::{Fields, parse_client, six_fields, wanted_bytes, wanted_number, wanted_page};
+use bp_core::{Row, Step};
+use bp_page::{Bytes, Geometry, Lsn, Refusal};
+use csv::ByteRecord;
+use std::alloc::Global;
+
+/// What a record asks for, by its word.
+#[derive(Clone, Copy)]
+enum Op {
+    Fix,
+    Unfix,
+    Read,
+    Flush,
+    Write,
+    Tick,
+    Log,
+    Purge,
+}
+
+/// The op of a word in lower case. Any other word is `BadOp`.
+#[tactic(auto, unfolding(crate::specs::Record::op_in))]
+fn parse_op(text: &[u8]) -> Result<Op, Refusal>
+    ensures { result ≡ op_in text.now }
+{
+    if text == b"fix".as_slice() {
+        Ok(Op::Fix)
+    } else if text == b"unfix".as_slice() {
+        Ok(Op::Unfix)
+    } else if text == b"read".as_slice() {
+        Ok(Op::Read)
+    } else if text == b"flush".as_slice() {
+        Ok(Op::Flush)
+    } else if text == b"write".as_slice() {
+        Ok(Op::Write)
+    } else if text == b"tick".as_slice() {
+        Ok(Op::Tick)
+    } else if text == b"log".as_slice() {
+        Ok(Op::Log)
+    } else if text == b"purge".as_slice() {
+        Ok(Op::Purge)
+    } else {
+        Err(Refusal::BadOp)
+    }
+}
+
+/// Whether the op belongs to the one client that speaks for the log.
+fn is_log(op: Op) -> bool
+    ensures { result ≡ is_log op }
+{
+    matches!(op, Op::Log)
+}
+
+/// Whether a field that the op leaves empty is not empty.
+fn has_extra(op: Op, fields: &Fields<'_>) -> bool
+    ensures { result ≡ has_extra op (texts_of fields.now) }
+{
+    match op {
+        Op::Write => false,
+        Op::Purge => {
+            !(fields.number.is_empty()
+                && fields.offset.is_empty()
+                && fields.bytes.is_empty()
+                && fields.lsn.is_empty())
+        }
+        _ => !(fields.offset.is_empty() && fields.bytes.is_empty() && fields.lsn.is_empty()),
+    }
+}
+
+/// A write of these bytes, if it lies within a page of the file. Else it is `OutOfPage`.
+fn write_at(
+    geometry: &Geometry,
+    page: u64,
+    offset: u64,
+    bytes: Bytes,
+    lsn: u64,
+) -> Result<Step, Refusal>
+    ensures { result ≡ place_in geometry.now page offset bytes lsn }
+{
+    match geometry.page(page) {
+        Some(page) if geometry.fits(offset as usize, bytes.bytes().len()) => Ok(Step::Write {
+            page,
+            offset: offset as u32,
+            bytes,
+            lsn: Lsn::new(lsn),
+        }),
+        _ => Err(Refusal::OutOfPage),
+    }
+}
+
+/// The write that the fields say, or the first refusal.
+#[tactic(auto, unfolding(crate::specs::Record::write_in))]
+fn parse_write(alloc: Global, geometry: &Geometry, fields: &Fields<'_>) -> Result<Step, Refusal>
+    ensures { Gives result (write_in geometry.now (texts_of fields.now)) }
+{
+    let page = wanted_number(fields.number)?;
+    let offset = wanted_number(fields.offset)?;
+    let lsn = wanted_number(fields.lsn)?;
+    let bytes = wanted_bytes(alloc, fields.bytes)?;
+    write_at(geometry, page, offset, bytes, lsn)
+}
+
+/// What the op asks for, by its own fields.
+#[tactic(auto, unfolding(crate::specs::Record::step_in))]
+fn parse_step(
+    alloc: Global,
+    geometry: &Geometry,
+    op: Op,
+    fields: &Fields<'_>,
+) -> Result<Step, Refusal>
+    ensures { Gives result (step_in geometry.now op (texts_of fields.now)) }
+{
+    match op {
+        Op::Fix => Ok(Step::Fix(wanted_page(geometry, fields.number)?)),
+        Op::Unfix => Ok(Step::Unfix(wanted_page(geometry, fields.number)?)),
+        Op::Read => Ok(Step::Read(wanted_page(geometry, fields.number)?)),
+        Op::Flush => Ok(Step::Flush(wanted_page(geometry, fields.number)?)),
+        Op::Write => parse_write(alloc, geometry, fields),
+        Op::Tick => Ok(Step::Tick(wanted_number(fields.number)?)),
+        Op::Log => Ok(Step::Log(Lsn::new(wanted_number(fields.number)?))),
+        Op::Purge => Ok(Step::Purge),
+    }
+}
+
+/// The row that the six fields of the record say, or the first refusal.
+#[tactic(auto, unfolding(crate::specs::Record::texts_row))]
+fn parse_fields(
+    alloc: Global,
+    geometry: &Geometry,
+    row: u64,
+    fields: &Fields<'_>,
+) -> Result<Row, Refusal>
+    ensures { Gives result (texts_row geometry.now row (texts_of fields.now)) }
+{
+    let client = parse_client(fields.client)?;
+    let op = parse_op(fields.op)?;
+    if is_log(op) && client != 0 {
+        return Err(Refusal::BadClient);
+    }
+    if has_extra(op, fields) {
+        return Err(Refusal::BadShape);
+    }
+    let step = parse_step(alloc, geometry, op, fields)?;
+    Ok(Row { row, client, step })
+}
+
+/// The row that the record of this number says, or the first refusal. A refused growth is `OutOfMemory`.
+#[tactic(auto, unfolding(crate::specs::Record::row_in))]
+pub fn parse_row(
+    alloc: Global,
+    geometry: &Geometry,
+    row: u64,
+    raw: &ByteRecord,
+) -> Result<Row, Refusal>
+    ensures { Gives result (row_in geometry.now row (fields_of raw.now)) }
+{
+    let Some(fields) = six_fields(raw) else {
+        return Err(Refusal::BadShape);
+    };
+    parse_fields(alloc, geometry, row, &fields)
+}

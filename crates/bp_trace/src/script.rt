@@ -1,0 +1,102 @@
+//! The rows of a trace.
+ghost use Rattle.std.specs.Prelude.{◌≡◌, ◌≤◌, ◌⊎◌, All, IfOk, IfSome, OnOk, length};
+ghost use Rattle.std.specs.Io.KnownBytes.{IsAtEnd};
+ghost use Rattle.csv.specs.Reading.{default_config, error_kind, records, strip_bom};
+ghost use Rattle.bp_trace.specs.InRange.{AreNumberedFrom, IsInRange};
+ghost use Rattle.bp_trace.specs.Script.{Answers, IsScriptOfSome, fault, fault_at, most_rows, refusal_of, script_from, script_of};
+
+use crate::faults::TraceFault;
+use crate::input::read_all;
+use crate::record::parse_row;
+use bp_core::Row;
+use bp_page::{Geometry, Refusal};
+use csv::{ByteRecord, Error, ErrorKind, ReaderBuilder};
+use std::alloc::Global;
+use std::io::Read;
+
+/// The most records of a trace.
+const MAX_ROWS: u64 = 262_144;
+
+/// What a failed read of a record is: memory ran out, or the reader failed.
+fn fault_of(error: Error) -> TraceFault
+    ensures { result ≡ fault 0 (refusal_of (error_kind error)) }
+{
+    match error.into_kind() {
+        ErrorKind::OutOfMemory => TraceFault::new(0, Refusal::OutOfMemory),
+        _ => TraceFault::new(0, Refusal::ReadFault),
+    }
+}
+
+/// The fault of a record that says no row. A refused growth is of no record.
+fn fault_at(row: u64, refusal: Refusal) -> TraceFault
+    ensures { result ≡ fault_at row refusal }
+{
+    match refusal {
+        Refusal::OutOfMemory => TraceFault::new(0, refusal),
+        _ => TraceFault::new(row, refusal),
+    }
+}
+
+/// The rows that the bytes of a trace say, or the first fault.
+fn rows_of(alloc: Global, bytes: &[u8], geometry: &Geometry) -> Result<Vec<Row>, TraceFault>
+    ensures { Answers result (script_from geometry.now 1 (records default_config (strip_bom bytes.now))) }
+{
+    let mut reader = ReaderBuilder::new()
+        .has_headers(false)
+        .flexible(true)
+        .from_reader(alloc, bytes);
+    let mut rows = Vec::new(alloc);
+    let mut record = ByteRecord::new(alloc);
+    for number in 1..MAX_ROWS + 1 {
+        let found = match reader.read_byte_record(&mut record) {
+            Ok(found) => found,
+            Err(e) => return Err(fault_of(e)),
+        };
+        if !found {
+            return Ok(rows);
+        }
+        let row = match parse_row(alloc, geometry, number, &record) {
+            Ok(row) => row,
+            Err(refusal) => return Err(fault_at(number, refusal)),
+        };
+        if rows.push(row).is_err() {
+            return Err(TraceFault::new(0, Refusal::OutOfMemory));
+        }
+    }
+    let more = match reader.read_byte_record(&mut record) {
+        Ok(more) => more,
+        Err(e) => return Err(fault_of(e)),
+    };
+    if more {
+        return Err(TraceFault::new(MAX_ROWS + 1, Refusal::TooLong));
+    }
+    Ok(rows)
+}
+
+/// The rows of a trace, or the first fault. The trace is read whole before any record is looked at.
+///
+/// A record is refused by its number from 1, with `BadShape`, `BadClient`, `BadOp`, `BadNumber`, `BadHex` or `OutOfPage`,
+/// or with `TooLong` where it is one past 262,144 records. Of the trace as a whole, by row 0, are `TooLong` for more than
+/// 67,108,864 bytes, `ReadFault` for a reader that fails or takes more than 134,217,728 calls, and `OutOfMemory`.
+pub fn read_script<R: Read>(
+    alloc: Global,
+    reader: &mut R,
+    geometry: &Geometry,
+) -> Result<Vec<Row>, TraceFault>
+    ensures script { IfSome (R.remaining reader.old) (λ bytes. Answers result (script_of geometry.now bytes)) }
+    ensures end { OnOk result (IsAtEnd (R.remaining reader.new)) }
+
+    // Also of a reader that does not tell its bytes, the rows are those of some records.
+    ensures some { IfOk result (λ rows. IsScriptOfSome geometry.now rows.items) }
+
+    // No more holds of every script: rows that are so read back as themselves, by `laws::written_rows_read_back`.
+    ensures few { IfOk result (λ rows. length rows.items ≤ most_rows) }
+    ensures numbered { IfOk result (λ rows. AreNumberedFrom 1 rows.items) }
+    ensures in_range { IfOk result (λ rows. All (IsInRange geometry.now) rows.items) }
+{
+    let bytes = read_all(alloc, reader)?;
+    rows_of(alloc, bytes.as_slice(), geometry)
+}
+
+#[cfg(test)]
+mod tests;

@@ -1,0 +1,23 @@
+-- What a trail of entries says. Each trail here is newest first: the entries before one are those that follow it in the list.
+pub mod Parameters
+pub mod Lists
+pub mod Event
+pub mod Trail
+pub mod Clock
+pub mod Passes
+pub mod Places
+pub mod Saved
+pub mod Images
+pub mod References
+pub mod Victim
+pub mod Room
+pub mod PageMap
+pub mod Legal
+pub mod Device
+pub mod Safety
+pub mod Claims
+pub mod Sentences
+pub mod Wording
+pub mod Pieces
+pub mod Script
+pub mod Fits

@@ -1,0 +1,24 @@
+-- Which writes of a page have not reached the device, and how far the log must be durable for them: the page LSN.
+use Rattle.std.specs.Prelude.{false, ℕ, Bool, ◌&&◌, ◌==◌, filter_map}
+use Rattle.bp_trail.specs.declared.entries.Reply.{Reply}
+use Rattle.bp_trail.specs.declared.entries.Reply.TheVariants.{WriteFirst}
+use Rattle.bp_trail.specs.Trail.{Trail}
+use Rattle.bp_trail.specs.Lists.{greatest, some, after_last, since}
+use Rattle.bp_trail.specs.Event.{ends_well, begins, loads, writes, lsn_written}
+
+-- a write-out of p begins, and has ended well in past
+abbrev pub began_saving : Trail → ℕ → Reply → Bool
+began_saving past p (WriteFirst t q image) = (q == p) && some (λ e. ends_well t e.call) past
+began_saving past p _ = false
+
+-- some write of p has no good write-out of p that began after it
+abbrev pub unsaved : Trail → ℕ → Bool
+unsaved past p = since (writes p) (λ e. began_saving past p e.reply) past
+
+-- a write of p stands after the begin of the write-out with this ticket
+abbrev pub written_since : Trail → ℕ → ℕ → Bool
+written_since past ticket p = some (writes p) (after_last (λ e. begins ticket e.reply) past)
+
+-- the greatest LSN of the writes of p since it was loaded
+abbrev pub top : Trail → ℕ → ℕ
+top past p = greatest (filter_map (lsn_written p) (after_last (loads p) past))

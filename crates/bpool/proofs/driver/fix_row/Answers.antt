@@ -1,7 +1,0 @@
--- The pass is held.
-use Rattle.std.proofs.Common.{◌∙◌, ap, ◌++◌, ◌∷◌, []}
-use Rattle.bpool.proofs.PieceSteps.{fix-drives}
-use Rattle.bpool.proofs.driver.fix_row.Goals as goal
-
-pub returns-in-Ok-clause-outcome : goal.returns-in-Ok-clause-outcome
-returns-in-Ok-clause-outcome c = fix-drives _ _ _ _ _ _ c.in-Ok.pass c.in-Ok.ensures.outcome (c.push_reserved.ensures.items ∙ ap (λ g. c.args.held.now.items ++ g ∷ []) c.note.ensures)
