@@ -1,0 +1,40 @@
+-- Passes that went back: those that a list of entries posted, and those that a locked core took from a ring.
+use Rattle.std.specs.Prelude.{◌≡◌, ℕ, suc, ◌==◌, if◌then◌else◌, ◌≤◌, ◌^◌, ◌-◌, Bool, true, false, List, [], ◌∷◌, ◌++◌, length, reverse, filter_map, Option, Some, None}
+use Rattle.bp_core.specs.declared.entries.Entry.{Entry}
+use Rattle.bp_core.specs.declared.entries.Call.{Call}
+use Rattle.bp_core.specs.declared.entries.Call.TheVariants.{Unfix}
+use Rattle.bp_core.specs.Event.{Grant, grant}
+use Rattle.bp_core.specs.Trail.{Trail}
+use Rattle.bp_core.specs.Passes.{passes_out}
+use Rattle.bp_core.specs.Legal.{is_out}
+use Rattle.bp_core.specs.Script.{give_back}
+
+abbrev pub pass_unfixed : ℕ → Call → Option Grant
+pass_unfixed client (Unfix n p) = Some (grant client p n)
+pass_unfixed client _ = None
+
+-- the passes that these entries gave back, newest first
+abbrev pub unfixes : Trail → List Grant
+unfixes past = filter_map (λ e. pass_unfixed e.client e.call) past
+
+-- one stray more, where the count still has room for it
+abbrev pub one_more : ℕ → ℕ
+one_more strays = if strays == 2 ^ 64 - 1 then strays else suc strays
+
+-- passes are taken from a ring, newest first: one that is out goes back, any other is a stray
+pub data GoBack (start : Trail) (strays : ℕ) : List Grant → Trail → ℕ → Type 0 where
+  none_taken : GoBack start strays [] start strays
+  back : {taken : List Grant} {past : Trail} {strayed : ℕ} (g : Grant) → is_out g (passes_out past) ≡ true → GoBack start strays taken past strayed → GoBack start strays (g ∷ taken) (give_back g ∷ past) strayed
+  stray : {taken : List Grant} {past : Trail} {strayed : ℕ} (g : Grant) → is_out g (passes_out past) ≡ false → GoBack start strays taken past strayed → GoBack start strays (g ∷ taken) past (one_more strayed)
+
+-- a ring was drained: what it gave, 32 passes at most, went back in order
+pub record DrainsRing (received received_after : List Grant) (start : Trail) (strays : ℕ) (past : Trail) (strayed : ℕ) : Type 0 where
+  pub taken : List Grant
+  pub few : length taken ≤ 32
+  pub gave : received_after ≡ received ++ reverse taken
+  pub go_back : GoBack start strays taken past strayed
+
+-- the same as entries alone: the unfix of each of some passes that were out
+pub data Unfixed (start : Trail) : Trail → Type 0 where
+  no_more : Unfixed start start
+  unfixed : {past : Trail} (g : Grant) → is_out g (passes_out past) ≡ true → Unfixed start past → Unfixed start (give_back g ∷ past)

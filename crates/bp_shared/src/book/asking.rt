@@ -1,0 +1,1 @@
+//! One event of the core that a list gets too.

@@ -1,0 +1,1 @@
+//! The ends of device work, and the passes that go back.

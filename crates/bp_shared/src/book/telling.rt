@@ -1,0 +1,89 @@
+//! The entries that a list gets, each kept with what is owed after it. None of these takes memory.
+ghost use Rattle.std.specs.Prelude.{◌≡◌, ◌≤◌, ◌<◌, ◌+◌, ◌-◌, ◌*◌, ◌∷◌, true, length, reverse, vec_len, vec_capacity};
+ghost use Rattle.bp_core.specs.declared.entries.Call.TheVariants as Call;
+ghost use Rattle.bp_core.specs.declared.entries.Reply.TheVariants as Reply;
+ghost use Rattle.bp_shared.specs.Books.{SameOwner, Tells, plain_call, plain_reply};
+
+use super::Book;
+use bp_core::{Call, Entry, Pass, ReadTicket, Reply, WriteTicket};
+use bp_page::PageNo;
+
+impl Book {
+    /// Adds an entry by which no pass or ticket is given or given back.
+    pub(crate) fn tell(&mut self, call: Call, reply: Reply)
+        requires plain { plain_call call ≡ true }
+        requires gives_none { plain_reply reply ≡ true }
+        requires room { 0 < self.old.entries }
+        ensures told { Tells self.old call reply self.new }
+        ensures entries { self.new.entries + 1 ≡ self.old.entries }
+        ensures passes { self.new.passes ≡ self.old.passes }
+        ensures copies { self.new.copies ≡ self.old.copies }
+    {
+        self.said.push_reserved(Entry {
+            client: self.client,
+            call,
+            reply,
+        });
+    }
+
+    /// Adds the entry of a pass that a fix gave at once, and holds the pass.
+    pub(crate) fn tell_hit(&mut self, page: PageNo, pass: Pass) -> Pass
+        requires whose { pass.client ≡ self.old.client }
+        requires of_page { pass.page ≡ page }
+        requires entries { 2 ≤ self.old.entries }
+        requires passes { 1 ≤ self.old.passes }
+        ensures pass { result ≡ pass }
+        ensures told { Tells self.old (Call.Fix page) (Reply.Hit pass.serial) self.new }
+    {
+        let note = pass.note();
+        self.said.push_reserved(Entry {
+            client: self.client,
+            call: Call::Fix(page),
+            reply: Reply::Hit(note.serial()),
+        });
+        self.held.push_reserved(note);
+        note.pass()
+    }
+
+    /// Adds the entry of a ticket to read, with room for its end, the pass and the unfix.
+    pub(crate) fn tell_load(&mut self, ticket: &ReadTicket, evicted: Option<PageNo>)
+        requires whose { ticket.now.client ≡ self.old.client }
+        requires entries { 3 ≤ self.old.entries }
+        requires passes { 1 ≤ self.old.passes }
+        requires copies { 1 ≤ self.old.copies }
+        ensures told { Tells self.old (Call.Fix ticket.now.page) (Reply.Load ticket.now.serial evicted) self.new }
+    {
+        self.said.push_reserved(Entry {
+            client: self.client,
+            call: Call::Fix(ticket.page()),
+            reply: Reply::Load {
+                ticket: ticket.serial(),
+                evicted,
+            },
+        });
+        self.tickets += 1;
+    }
+
+    /// Adds the entry of a ticket to write, with room for its end.
+    pub(crate) fn tell_write_first(&mut self, call: Call, ticket: &WriteTicket)
+        requires plain { plain_call call ≡ true }
+        requires whose { ticket.now.client ≡ self.old.client }
+        requires size { length ticket.now.image ≡ self.old.size }
+        requires entries { 3 ≤ self.old.entries }
+        requires passes { 1 ≤ self.old.passes }
+        requires copies { 2 ≤ self.old.copies }
+        ensures told { Tells self.old call (Reply.WriteFirst ticket.now.serial ticket.now.page ticket.now.image) self.new }
+    {
+        let image = self.copy_of(ticket.image());
+        self.said.push_reserved(Entry {
+            client: self.client,
+            call,
+            reply: Reply::WriteFirst {
+                ticket: ticket.serial(),
+                page: ticket.page(),
+                image,
+            },
+        });
+        self.tickets += 1;
+    }
+}
