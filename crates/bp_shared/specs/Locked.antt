@@ -1,13 +1,11 @@
 -- What the locked state and a session's list have in common.
 use Rattle.std.specs.Prelude.{◌≡◌, ◌⊎◌, ℕ, ◌≤◌, List, ◌∷◌, ◌++◌}
 use Rattle.bp_mark.specs.Marks.{MarkName, ReaderValue}
-use Rattle.bp_core.specs.declared.entries.Call.{Call}
-use Rattle.bp_core.specs.declared.entries.Reply.{Reply}
+use Rattle.bp_core.specs.declared.entries.Entry.{Entry}
 use Rattle.bp_core.specs.Parameters.{Parameters}
 use Rattle.bp_core.specs.Trail.{Trail}
 use Rattle.bp_core.specs.Clock.{durable}
 use Rattle.bp_core.specs.CoreView.{CoreView, with_entry}
-use Rattle.bp_core.specs.Pieces.{by}
 use Rattle.bp_shared.specs.Rings.{Unfixed}
 
 -- no pool's parameters
@@ -21,9 +19,8 @@ pub record IsLocked (mark : MarkName) (parameters : Parameters) (core : CoreView
   pub seen : durable core.past ≤ reader.seen
 
 -- the trail and the list get the same entry, or neither gets one
-pub data Alike (old : CoreView) (said : Trail) (new : CoreView) (after : Trail) : Type 0 where
-  neither : new ≡ old → after ≡ said → Alike old said new after
-  both : (client : ℕ) (call : Call) (reply : Reply) → new ≡ with_entry old client call reply → after ≡ by client call reply ∷ said → Alike old said new after
+abbrev pub Alike : CoreView → Trail → CoreView → Trail → Type 0
+Alike old said new after = ((new ≡ old) × (after ≡ said)) ⊎ ((e : Entry) × (new ≡ with_entry old e.client e.call e.reply) × (after ≡ e ∷ said))
 
 -- posted passes went back
 pub record Settled (old new : CoreView) : Type 0 where

@@ -12,6 +12,7 @@ use Rattle.bp_core.specs.declared.passes.Flush.{Flush as Flushing}
 use Rattle.bp_core.specs.declared.passes.Flush.TheVariants as flushing
 use Rattle.bp_core.specs.declared.passes.Ended.{Ended}
 use Rattle.bp_core.specs.declared.passes.Ended.TheVariants as ended
+use Rattle.bp_core.specs.declared.entries.Call.{Call}
 use Rattle.bp_core.specs.declared.entries.Call.TheVariants.{Mark, Fix, ReadEnd, WriteEnd, Flush}
 use Rattle.bp_core.specs.declared.entries.Reply.{Reply}
 use Rattle.bp_core.specs.declared.entries.Reply.TheVariants.{Done, Hit, Load, WriteFirst, NoVictim, NeedLog, Busy, Fixed, ReadFailed, Cleaned, StillDirty, WriteFailed, Clean, Absent}
@@ -25,17 +26,35 @@ LookOutcome client (Ok done) said after = (after ≡ said) ⊎ ((lsn : ℕ) × (
 LookOutcome client (Err refusal.TrailFull) said after = after ≡ said
 LookOutcome client (Err _) said after = ⊥
 
+-- a refusal that is an entry's reply
+abbrev pub refusal_reply : Refusal → Option Reply
+refusal_reply refusal.NoVictim = Some NoVictim
+refusal_reply (refusal.NeedLog lsn) = Some (NeedLog lsn)
+refusal_reply refusal.Busy = Some Busy
+refusal_reply _ = None
+
+abbrev pub and_told : ℕ → Call → Option Reply → Trail → Trail
+and_told client call None said = said
+and_told client call (Some reply) said = by client call reply ∷ said
+
+-- the refusals of one event
+abbrev pub flush_refuses : Refusal → Bool
+flush_refuses (refusal.NeedLog lsn) = true
+flush_refuses refusal.Busy = true
+flush_refuses refusal.TrailFull = true
+flush_refuses refusal.OutOfMemory = true
+flush_refuses _ = false
+
+abbrev pub fix_refuses : Refusal → Bool
+fix_refuses refusal.NoVictim = true
+fix_refuses why = flush_refuses why
+
 -- one fix event
 abbrev pub AskFixOutcome : ℕ → ℕ → Result Fixing Refusal → Trail → Trail → Type 0
 AskFixOutcome client page (Ok (fixing.Hit pass)) said after = (pass.client ≡ client) × (pass.page ≡ page) × (after ≡ by client (Fix page) (Hit pass.serial) ∷ said)
 AskFixOutcome client page (Ok (fixing.Load ticket evicted)) said after = (ticket.client ≡ client) × (ticket.page ≡ page) × (after ≡ by client (Fix page) (Load ticket.serial evicted) ∷ said)
 AskFixOutcome client page (Ok (fixing.WriteFirst ticket)) said after = (ticket.client ≡ client) × (after ≡ by client (Fix page) (WriteFirst ticket.serial ticket.page ticket.image) ∷ said)
-AskFixOutcome client page (Err refusal.NoVictim) said after = after ≡ by client (Fix page) NoVictim ∷ said
-AskFixOutcome client page (Err (refusal.NeedLog lsn)) said after = after ≡ by client (Fix page) (NeedLog lsn) ∷ said
-AskFixOutcome client page (Err refusal.Busy) said after = after ≡ by client (Fix page) Busy ∷ said
-AskFixOutcome client page (Err refusal.TrailFull) said after = after ≡ said
-AskFixOutcome client page (Err refusal.OutOfMemory) said after = after ≡ said
-AskFixOutcome client page (Err _) said after = ⊥
+AskFixOutcome client page (Err why) said after = (fix_refuses why ≡ true) × (after ≡ and_told client (Fix page) (refusal_reply why) said)
 
 -- one flush event
 abbrev pub AskFlushOutcome : ℕ → ℕ → Result Flushing Refusal → Trail → Trail → Type 0
@@ -43,11 +62,7 @@ AskFlushOutcome client page (Ok flushing.Clean) said after = after ≡ by client
 AskFlushOutcome client page (Ok flushing.Absent) said after = after ≡ by client (Flush page) Absent ∷ said
 AskFlushOutcome client page (Ok (flushing.WriteFirst ticket)) said after =
     (ticket.client ≡ client) × (ticket.page ≡ page) × (after ≡ by client (Flush page) (WriteFirst ticket.serial ticket.page ticket.image) ∷ said)
-AskFlushOutcome client page (Err (refusal.NeedLog lsn)) said after = after ≡ by client (Flush page) (NeedLog lsn) ∷ said
-AskFlushOutcome client page (Err refusal.Busy) said after = after ≡ by client (Flush page) Busy ∷ said
-AskFlushOutcome client page (Err refusal.TrailFull) said after = after ≡ said
-AskFlushOutcome client page (Err refusal.OutOfMemory) said after = after ≡ said
-AskFlushOutcome client page (Err _) said after = ⊥
+AskFlushOutcome client page (Err why) said after = (flush_refuses why ≡ true) × (after ≡ and_told client (Flush page) (refusal_reply why) said)
 
 -- marks and waits so far, after which the fix or the flush goes on
 pub record FixWaits (client page : ℕ) (said after : Trail) : Type 0 where

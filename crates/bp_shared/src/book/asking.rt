@@ -1,1 +1,121 @@
-//! One event of the core that a list gets too.
+//! One event of the core, which the list gets too.
+ghost use Rattle.std.specs.Prelude.{◌≡◌, ◌≤◌, ◌<◌, ◌+◌, ◌∷◌, true, length, OnOk, IfOk};
+ghost use Rattle.bp_mark.specs.Marks.{ReaderValue};
+ghost use Rattle.bp_core.specs.declared.entries.Call.TheVariants as Call;
+ghost use Rattle.bp_core.specs.declared.entries.Reply.TheVariants as Reply;
+ghost use Rattle.bp_core.specs.Clock.{durable};
+ghost use Rattle.bp_shared.specs.Books.{SameOwner};
+ghost use Rattle.bp_shared.specs.Turns.{LookOutcome, AskFixOutcome, AskFlushOutcome};
+ghost use Rattle.bp_shared.specs.Locked.{Alike};
+
+use super::Book;
+use bp_core::{Call, Core, Fix, Flush, Reply};
+use bp_mark::{Mark, Reader};
+use bp_page::{Lsn, PageNo, Refusal};
+
+impl Book {
+    /// Looks at the mark once, and marks what it sees where that is above what the core was told. `TrailFull` where the trail has no
+    /// room for the mark.
+    pub(crate) fn look(
+        &mut self,
+        core: &mut Core,
+        reader: &mut Reader,
+        mark: &Mark,
+    ) -> Result<(), Refusal>
+        requires mark { reader.old.mark ≡ mark.now }
+        requires client_in { self.old.client < core.old.parameters.clients }
+        requires seen { durable core.old.past ≤ reader.old.seen }
+        requires room { 0 < self.old.entries }
+        ensures mark { reader.new.mark ≡ reader.old.mark }
+        ensures seen { durable core.new.past ≤ reader.new.seen }
+        ensures parameters { core.new.parameters ≡ core.old.parameters }
+        ensures owner { SameOwner self.old self.new }
+        ensures entries { self.old.entries ≤ self.new.entries + 1 }
+        ensures passes { self.new.passes ≡ self.old.passes }
+        ensures copies { self.new.copies ≡ self.old.copies }
+        ensures outcome { LookOutcome self.old.client result self.old.said self.new.said }
+        ensures alike { Alike core.old self.old.said core.new self.new.said }
+    {
+        let seen = reader.look(mark);
+        if seen <= core.durable() {
+            return Ok(());
+        }
+        match core.mark(self.client, seen) {
+            Ok(()) => {
+                self.tell(Call::Mark(seen), Reply::Done);
+                Ok(())
+            }
+            Err(refusal) => Err(refusal),
+        }
+    }
+
+    /// Asks the core for a page.
+    #[tactic(auto, using(crate::proofs::Asking::fix_refused, crate::proofs::Asking::write_first_sized))]
+    pub(crate) fn ask_fix(&mut self, core: &mut Core, page: PageNo) -> Result<Fix, Refusal>
+        requires client_in { self.old.client < core.old.parameters.clients }
+        requires page_in { page < core.old.parameters.pages }
+        requires size { self.old.size ≡ core.old.parameters.size }
+        requires entries { 3 ≤ self.old.entries }
+        requires passes { 1 ≤ self.old.passes }
+        requires copies { 2 ≤ self.old.copies }
+        ensures durable { durable core.new.past ≡ durable core.old.past }
+        ensures parameters { core.new.parameters ≡ core.old.parameters }
+        ensures owner { SameOwner self.old self.new }
+        ensures outcome { AskFixOutcome self.old.client page result self.old.said self.new.said }
+        ensures alike { Alike core.old self.old.said core.new self.new.said }
+    {
+        match core.fix(self.client, page) {
+            Ok(Fix::Hit(pass)) => {
+                let pass = self.tell_hit(page, pass);
+                Ok(Fix::Hit(pass))
+            }
+            Ok(Fix::Load(ticket, evicted)) => {
+                let ticket = self.tell_load(ticket, evicted.as_ref().copied());
+                Ok(Fix::Load(ticket, evicted))
+            }
+            Ok(Fix::WriteFirst(ticket)) => {
+                let ticket = self.tell_write_first(Call::Fix(page), ticket);
+                Ok(Fix::WriteFirst(ticket))
+            }
+            Err(refusal) => {
+                self.tell_refused(Call::Fix(page), &refusal);
+                Err(refusal)
+            }
+        }
+    }
+
+    /// Asks the core that a page be written out.
+    #[tactic(auto, using(crate::proofs::Asking::flush_refused, crate::proofs::Asking::write_first_sized))]
+    pub(crate) fn ask_flush(&mut self, core: &mut Core, page: PageNo) -> Result<Flush, Refusal>
+        requires client_in { self.old.client < core.old.parameters.clients }
+        requires page_in { page < core.old.parameters.pages }
+        requires size { self.old.size ≡ core.old.parameters.size }
+        requires entries { 3 ≤ self.old.entries }
+        requires passes { 1 ≤ self.old.passes }
+        requires copies { 2 ≤ self.old.copies }
+        ensures durable { durable core.new.past ≡ durable core.old.past }
+        ensures parameters { core.new.parameters ≡ core.old.parameters }
+        ensures owner { SameOwner self.old self.new }
+        ensures outcome { AskFlushOutcome self.old.client page result self.old.said self.new.said }
+        ensures alike { Alike core.old self.old.said core.new self.new.said }
+    {
+        match core.flush(self.client, page) {
+            Ok(Flush::Clean) => {
+                self.tell(Call::Flush(page), Reply::Clean);
+                Ok(Flush::Clean)
+            }
+            Ok(Flush::Absent) => {
+                self.tell(Call::Flush(page), Reply::Absent);
+                Ok(Flush::Absent)
+            }
+            Ok(Flush::WriteFirst(ticket)) => {
+                let ticket = self.tell_write_first(Call::Flush(page), ticket);
+                Ok(Flush::WriteFirst(ticket))
+            }
+            Err(refusal) => {
+                self.tell_refused(Call::Flush(page), &refusal);
+                Err(refusal)
+            }
+        }
+    }
+}

@@ -1,12 +1,26 @@
 //! The entries that a list gets, each kept with what is owed after it. None of these takes memory.
-ghost use Rattle.std.specs.Prelude.{◌≡◌, ◌≤◌, ◌<◌, ◌+◌, ◌-◌, ◌*◌, ◌∷◌, true, length, reverse, vec_len, vec_capacity};
+ghost use Rattle.std.specs.Prelude.{◌≡◌, ◌≤◌, ◌<◌, ◌+◌, ◌-◌, ◌*◌, ◌∷◌, true, IfSome, length, reverse, vec_len, vec_capacity};
 ghost use Rattle.bp_core.specs.declared.entries.Call.TheVariants as Call;
 ghost use Rattle.bp_core.specs.declared.entries.Reply.TheVariants as Reply;
 ghost use Rattle.bp_shared.specs.Books.{SameOwner, Tells, plain_call, plain_reply};
+ghost use Rattle.bp_shared.specs.Turns.{and_told, refusal_reply};
 
 use super::Book;
 use bp_core::{Call, Entry, Pass, ReadTicket, Reply, WriteTicket};
-use bp_page::PageNo;
+use bp_page::{PageNo, Refusal};
+
+/// The reply that a refusal is, if there is an entry with it.
+fn reply_of(refusal: &Refusal) -> Option<Reply>
+    ensures reply { result ≡ refusal_reply refusal.now }
+    ensures plain { IfSome result (λ reply. plain_reply reply ≡ true) }
+{
+    match refusal {
+        Refusal::NoVictim => Some(Reply::NoVictim),
+        Refusal::NeedLog(lsn) => Some(Reply::NeedLog(*lsn)),
+        Refusal::Busy => Some(Reply::Busy),
+        _ => None,
+    }
+}
 
 impl Book {
     /// Adds an entry by which no pass or ticket is given or given back.
@@ -46,12 +60,13 @@ impl Book {
     }
 
     /// Adds the entry of a ticket to read, with room for its end, the pass and the unfix.
-    pub(crate) fn tell_load(&mut self, ticket: &ReadTicket, evicted: Option<PageNo>)
-        requires whose { ticket.now.client ≡ self.old.client }
+    pub(crate) fn tell_load(&mut self, ticket: ReadTicket, evicted: Option<PageNo>) -> ReadTicket
+        requires whose { ticket.client ≡ self.old.client }
         requires entries { 3 ≤ self.old.entries }
         requires passes { 1 ≤ self.old.passes }
         requires copies { 1 ≤ self.old.copies }
-        ensures told { Tells self.old (Call.Fix ticket.now.page) (Reply.Load ticket.now.serial evicted) self.new }
+        ensures ticket { result ≡ ticket }
+        ensures told { Tells self.old (Call.Fix ticket.page) (Reply.Load ticket.serial evicted) self.new }
     {
         self.said.push_reserved(Entry {
             client: self.client,
@@ -62,17 +77,19 @@ impl Book {
             },
         });
         self.tickets += 1;
+        ticket
     }
 
     /// Adds the entry of a ticket to write, with room for its end.
-    pub(crate) fn tell_write_first(&mut self, call: Call, ticket: &WriteTicket)
+    pub(crate) fn tell_write_first(&mut self, call: Call, ticket: WriteTicket) -> WriteTicket
         requires plain { plain_call call ≡ true }
-        requires whose { ticket.now.client ≡ self.old.client }
-        requires size { length ticket.now.image ≡ self.old.size }
+        requires whose { ticket.client ≡ self.old.client }
+        requires size { length ticket.image ≡ self.old.size }
         requires entries { 3 ≤ self.old.entries }
         requires passes { 1 ≤ self.old.passes }
         requires copies { 2 ≤ self.old.copies }
-        ensures told { Tells self.old call (Reply.WriteFirst ticket.now.serial ticket.now.page ticket.now.image) self.new }
+        ensures ticket { result ≡ ticket }
+        ensures told { Tells self.old call (Reply.WriteFirst ticket.serial ticket.page ticket.image) self.new }
     {
         let image = self.copy_of(ticket.image());
         self.said.push_reserved(Entry {
@@ -85,5 +102,18 @@ impl Book {
             },
         });
         self.tickets += 1;
+        ticket
+    }
+
+    /// Adds the entry of an event that was refused, if the refusal is the reply of one.
+    pub(crate) fn tell_refused(&mut self, call: Call, refusal: &Refusal)
+        requires plain { plain_call call ≡ true }
+        requires room { 0 < self.old.entries }
+        ensures owner { SameOwner self.old self.new }
+        ensures said { self.new.said ≡ and_told self.old.client call (refusal_reply refusal.now) self.old.said }
+    {
+        if let Some(reply) = reply_of(refusal) {
+            self.tell(call, reply);
+        }
     }
 }

@@ -1,0 +1,54 @@
+-- What the core says of one event, in the words of a session's list.
+use Rattle.std.proofs.Common.{◌≡◌, refl, sym, ap, subst, ◌∙◌, ℕ, Bool, true, List, ◌∷◌, length, Option, Some, None, Result, Ok, Err}
+use Rattle.bp_page.specs.declared.refusals.Refusal.{Refusal}
+use Rattle.bp_page.specs.declared.refusals.Refusal.TheVariants as refusal
+use Rattle.bp_core.specs.declared.entries.Entry.{Entry}
+use Rattle.bp_core.specs.declared.entries.Call.{Call}
+use Rattle.bp_core.specs.declared.entries.Call.TheVariants.{Fix, Flush, Read}
+use Rattle.bp_core.specs.declared.entries.Reply.{Reply}
+use Rattle.bp_core.specs.declared.entries.Reply.TheVariants.{WriteFirst, Content, NoVictim, NeedLog, Busy}
+use Rattle.bp_core.specs.Parameters.{Parameters}
+use Rattle.bp_core.specs.Trail.{Trail}
+use Rattle.bp_core.specs.Legal.{Legal}
+use Rattle.bp_core.specs.CoreView.{CoreView, with_entry}
+use Rattle.bp_core.specs.Outcomes.{Adds, FixOutcome, FlushOutcome}
+use Rattle.bp_core.specs.Pieces.{by}
+use Rattle.bp_core.proofs.Events.{Event, event-of}
+use Rattle.bp_core.proofs.Events.Event.{fix_write, flush_write, page_read}
+use Rattle.bp_core.proofs.Victim.{victim-is, candidate-resident}
+use Rattle.bp_core.proofs.Ranges.{sized}
+use Rattle.bp_shared.specs.Turns.{fix_refuses, flush_refuses, refusal_reply, and_told}
+
+-- the core after an event that may have been refused with no entry
+abbrev pub core_told : CoreView → ℕ → Call → Option Reply → CoreView
+core_told old client call None = old
+core_told old client call (Some reply) = with_entry old client call reply
+
+pub record Refuses (refuses : Refusal → Bool) (old : CoreView) (client : ℕ) (call : Call) (why : Refusal) (new : CoreView) : Type 0 where
+  pub allowed : refuses why ≡ true
+  pub is : new ≡ core_told old client call (refusal_reply why)
+
+pub fix_refused : (old new : CoreView) (client page : ℕ) (why : Refusal) → FixOutcome old client page (Err why) new → Refuses fix_refuses old client (Fix page) why new
+fix_refused old new client page refusal.NoVictim h = record { allowed = refl; is = h.1.is }
+fix_refused old new client page (refusal.NeedLog lsn) h = record { allowed = refl; is = h.1.is }
+fix_refused old new client page refusal.Busy h = record { allowed = refl; is = h.1.is }
+fix_refused old new client page refusal.TrailFull h = record { allowed = refl; is = h.1 }
+fix_refused old new client page refusal.OutOfMemory h = record { allowed = refl; is = h.1 }
+fix_refused old new client page _ h = absurd h
+
+pub flush_refused : (old new : CoreView) (client page : ℕ) (why : Refusal) → FlushOutcome old client page (Err why) new → Refuses flush_refuses old client (Flush page) why new
+flush_refused old new client page (refusal.NeedLog lsn) h = record { allowed = refl; is = h.1.is }
+flush_refused old new client page refusal.Busy h = record { allowed = refl; is = h.1.is }
+flush_refused old new client page refusal.TrailFull h = record { allowed = refl; is = h.1 }
+flush_refused old new client page refusal.OutOfMemory h = record { allowed = refl; is = h.1 }
+flush_refused old new client page _ h = absurd h
+
+-- an image that goes out has the size of a page
+sized-event : (c : Parameters) (past : Trail) (who : ℕ) (call : Call) (t p : ℕ) (image : List ℕ) → Legal c past → Event c past who call (WriteFirst t p image) → length image ≡ c.size
+sized-event c past who call t p image l (fix_write q v m found go) = sized c past l v (candidate-resident c past v (victim-is c past v found).eligible)
+sized-event c past who call t p image l (flush_write q here w go) = sized c past l q here
+
+pub write_first_sized : (old new : CoreView) (client : ℕ) (call : Call) (t p : ℕ) (image : List ℕ) → Adds old client call (WriteFirst t p image) new → length image ≡ old.parameters.size
+write_first_sized old new client call t p image adds =
+    let l : Legal old.parameters (by client call (WriteFirst t p image) ∷ old.past) = subst (λ (core : CoreView). Legal core.parameters core.past) adds.is adds.legal in
+    sized-event old.parameters old.past client call t p image l.before (event-of old.parameters old.past (by client call (WriteFirst t p image)) l.here)
