@@ -1,22 +1,25 @@
 -- What the core says of one event, in the words of a session's list.
-use Rattle.std.proofs.Common.{◌≡◌, refl, sym, ap, subst, ◌∙◌, ℕ, Bool, true, List, ◌∷◌, length, Option, Some, None, Result, Ok, Err}
+use Rattle.std.proofs.Common.{◌≡◌, refl, sym, ap, subst, ◌∙◌, ℕ, Bool, true, List, ◌∷◌, length, Option, Some, None, Result, Ok, Err, inr}
 use Rattle.bp_page.specs.declared.refusals.Refusal.{Refusal}
 use Rattle.bp_page.specs.declared.refusals.Refusal.TheVariants as refusal
 use Rattle.bp_core.specs.declared.entries.Entry.{Entry}
+use Rattle.bp_core.specs.declared.passes.Pass.{Pass}
+use Rattle.bp_core.specs.declared.passes.ReadTicket.{ReadTicket}
 use Rattle.bp_core.specs.declared.entries.Call.{Call}
-use Rattle.bp_core.specs.declared.entries.Call.TheVariants.{Fix, Flush, Read}
+use Rattle.bp_core.specs.declared.entries.Call.TheVariants.{Fix, Flush, Read, ReadEnd}
 use Rattle.bp_core.specs.declared.entries.Reply.{Reply}
-use Rattle.bp_core.specs.declared.entries.Reply.TheVariants.{WriteFirst, Content, NoVictim, NeedLog, Busy}
+use Rattle.bp_core.specs.declared.entries.Reply.TheVariants.{WriteFirst, Content, NoVictim, NeedLog, Busy, Fixed}
 use Rattle.bp_core.specs.Parameters.{Parameters}
 use Rattle.bp_core.specs.Trail.{Trail}
 use Rattle.bp_core.specs.Legal.{Legal}
 use Rattle.bp_core.specs.CoreView.{CoreView, with_entry}
-use Rattle.bp_core.specs.Outcomes.{Adds, FixOutcome, FlushOutcome}
+use Rattle.bp_core.specs.Outcomes.{Adds, FixOutcome, FlushOutcome, ReadEndOutcome}
 use Rattle.bp_core.specs.Pieces.{by}
 use Rattle.bp_core.proofs.Events.{Event, event-of}
 use Rattle.bp_core.proofs.Events.Event.{fix_write, flush_write, page_read}
 use Rattle.bp_core.proofs.Victim.{victim-is, candidate-resident}
 use Rattle.bp_core.proofs.Ranges.{sized}
+use Rattle.bp_shared.specs.Locked.{Alike}
 use Rattle.bp_shared.specs.Turns.{fix_refuses, flush_refuses, refusal_reply, and_told}
 
 -- the core after an event that may have been refused with no entry
@@ -52,3 +55,10 @@ pub write_first_sized : (old new : CoreView) (client : ℕ) (call : Call) (t p :
 write_first_sized old new client call t p image adds =
     let l : Legal old.parameters (by client call (WriteFirst t p image) ∷ old.past) = subst (λ (core : CoreView). Legal core.parameters core.past) adds.is adds.legal in
     sized-event old.parameters old.past client call t p image l.before (event-of old.parameters old.past (by client call (WriteFirst t p image)) l.here)
+
+-- a read that ended well is in both
+pub loaded_alike : (old new : CoreView) (said after : Trail) (client : ℕ) (ticket : ReadTicket) (image : List ℕ) (pass : Pass) → ticket.client ≡ client → ReadEndOutcome old ticket (Ok image) (Ok pass) new
+    → after ≡ by client (ReadEnd ticket.serial ticket.page (Some image)) (Fixed pass.serial) ∷ said → Alike old said new after
+loaded_alike old new said after client ticket image pass whose ended grows =
+    let e = λ (c : ℕ). by c (ReadEnd ticket.serial ticket.page (Some image)) (Fixed pass.serial) in
+    inr (e ticket.client, ended.3.is, grows ∙ ap (λ c. e c ∷ said) (sym whose))

@@ -69,6 +69,13 @@ pub record OwesRead (client : ℕ) (ticket : ReadTicket) (said : Trail) : Type 0
   pub whose : ticket.client ≡ client
   pub gave : said ≡ by client (Fix ticket.page) (Load ticket.serial evicted) ∷ before
 
+pub record OwesWriteEnd (client ticket : ℕ) (said : Trail) : Type 0 where
+  pub call : Call
+  pub page : ℕ
+  pub image : List ℕ
+  pub before : Trail
+  pub gave : said ≡ by client call (WriteFirst ticket page image) ∷ before
+
 pub record OwesWrite (client : ℕ) (ticket : WriteTicket) (said : Trail) : Type 0 where
   pub call : Call
   pub before : Trail

@@ -68,6 +68,22 @@ fn make_blanks(
     Ok(())
 }
 
+/// A copy of an image, in the last of some blank images.
+fn copied(blanks: &mut Vec<Image>, image: &Image) -> Image
+    requires some { 0 < vec_len blanks.old }
+    requires sized { All (λ b. length b ≡ length image.now) blanks.old.items }
+    ensures copy { result ≡ image.now }
+    ensures sized { All (λ b. length b ≡ length image.now) blanks.new.items }
+    ensures len { vec_len blanks.new + 1 ≡ vec_len blanks.old }
+    ensures capacity { vec_capacity blanks.new ≡ vec_capacity blanks.old }
+{
+    let Some(mut copy) = blanks.pop() else {
+        unreachable!()
+    };
+    copy.copy_from(image);
+    copy
+}
+
 /// How many entries a list with these debts has to have room for before one more event with a mark.
 fn entries_wanted(held: usize, tickets: usize) -> Option<usize>
     ensures { IfSome result (λ n. n ≡ held + 2 * tickets + 4) }
@@ -150,10 +166,6 @@ impl Book {
         ensures passes { self.new.passes ≡ self.old.passes }
         ensures copies { self.new.copies + 1 ≡ self.old.copies }
     {
-        let Some(mut copy) = self.blanks.pop() else {
-            unreachable!()
-        };
-        copy.copy_from(image);
-        copy
+        copied(&mut self.blanks, image)
     }
 }

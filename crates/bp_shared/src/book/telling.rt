@@ -2,7 +2,7 @@
 ghost use Rattle.std.specs.Prelude.{◌≡◌, ◌≤◌, ◌<◌, ◌+◌, ◌-◌, ◌*◌, ◌∷◌, true, IfSome, length, reverse, vec_len, vec_capacity};
 ghost use Rattle.bp_core.specs.declared.entries.Call.TheVariants as Call;
 ghost use Rattle.bp_core.specs.declared.entries.Reply.TheVariants as Reply;
-ghost use Rattle.bp_shared.specs.Books.{SameOwner, Tells, plain_call, plain_reply};
+ghost use Rattle.bp_shared.specs.Books.{OwesWriteEnd, SameOwner, Tells, plain_call, plain_reply};
 ghost use Rattle.bp_shared.specs.Turns.{and_told, refusal_reply};
 
 use super::Book;
@@ -115,5 +115,19 @@ impl Book {
         if let Some(reply) = reply_of(refusal) {
             self.tell(call, reply);
         }
+    }
+
+    /// Adds the end of the write-out with this ticket, which the newest entry began.
+    pub(super) fn tell_write_end(&mut self, ticket: u64, page: PageNo, good: bool, reply: Reply)
+        requires gives_none { plain_reply reply ≡ true }
+        requires owes { OwesWriteEnd self.old.client ticket self.old.said }
+        ensures told { Tells self.old (Call.WriteEnd ticket page good) reply self.new }
+    {
+        self.said.push_reserved(Entry {
+            client: self.client,
+            call: Call::WriteEnd { ticket, page, good },
+            reply,
+        });
+        self.tickets -= 1;
     }
 }
