@@ -17,11 +17,11 @@ use Rattle.bp_core.specs.Passes.{passes_out, reads_out, writes_out}
 use Rattle.bp_core.specs.Pieces.{by}
 use Rattle.bp_shared.specs.Books.{KeepsRoom, plain_reply, OwesRead, OwesWrite, OwesWriteEnd}
 
-filter_le : {X : Type 0} (p : X → Bool) (xs : List X) → length (filter p xs) ≤ length xs
+pub filter_le : {X : Type 0} (p : X → Bool) (xs : List X) → length (filter p xs) ≤ length xs
 filter_le p [] = omega arith
 filter_le p (x ∷ xs) = elim (p x) as (λ b. length (if◌then◌else◌ b (x ∷ filter p xs) (filter p xs)) ≤ length (x ∷ xs)) [ true ↦ omega (arith, filter_le p xs) | false ↦ omega (arith, filter_le p xs) ]
 
-abbrev others : ℕ → Grant → Bool
+abbrev pub others : ℕ → Grant → Bool
 others n g = not (eqb g.serial n)
 
 one_fewer : (g : Grant) (gs : List Grant) → length (filter (others g.serial) (g ∷ gs)) + 1 ≤ length (g ∷ gs)

@@ -11,6 +11,7 @@ use Rattle.bp_core.specs.Trail.{Trail}
 use Rattle.bp_core.specs.Passes.{reads_out, writes_out}
 use Rattle.bp_core.specs.Pieces.{by}
 use Rattle.bp_core.specs.Script.{held_passes}
+use Rattle.bp_shared.specs.Rings.{unfixes}
 
 -- a client's own list, newest first, the bytes of a page, and the room beyond all that the list owes: for entries, for passes held, and for copies of images
 pub record BookValue : Type 0 where
@@ -27,9 +28,11 @@ pub record SameBook (old new : BookValue) : Type 0 where
   pub size : new.size ≡ old.size
   pub said : new.said ≡ old.said
 
+-- no pass went back
 pub record SameOwner (old new : BookValue) : Type 0 where
   pub client : new.client ≡ old.client
   pub size : new.size ≡ old.size
+  pub unfixes_are : unfixes new.said ≡ unfixes old.said
 
 -- the list has one more entry of its owner
 pub record Tells (old : BookValue) (call : Call) (reply : Reply) (new : BookValue) : Type 0 where

@@ -9,6 +9,7 @@ ghost use Rattle.bp_shared.specs.Books.{BookValue, SameBook, Tells, plain_call, 
 
 mod asking;
 mod ending;
+mod posting;
 mod telling;
 
 use bp_core::{Call, Entry, PassNote, Reply};

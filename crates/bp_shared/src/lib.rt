@@ -11,3 +11,4 @@ mod session;
 
 pub use flushed::Flushed;
 pub use names::PoolName;
+pub use session::Session;
