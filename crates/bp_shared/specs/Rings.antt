@@ -1,5 +1,5 @@
 -- Passes that went back: those that a list of entries posted, and those that a locked core took from a ring.
-use Rattle.std.specs.Prelude.{◌≡◌, ℕ, suc, ◌==◌, if◌then◌else◌, ◌≤◌, ◌^◌, ◌-◌, Bool, true, false, List, [], ◌∷◌, ◌++◌, length, reverse, filter_map, Option, Some, None}
+use Rattle.std.specs.Prelude.{◌≡◌, ◌⊎◌, ℕ, ◌+◌, min, ◌≤◌, ◌^◌, ◌-◌, Bool, true, false, List, [], ◌∷◌, ◌++◌, length, reverse, filter_map, Option, Some, None}
 use Rattle.bp_core.specs.declared.entries.Entry.{Entry}
 use Rattle.bp_core.specs.declared.entries.Call.{Call}
 use Rattle.bp_core.specs.declared.entries.Call.TheVariants.{Unfix}
@@ -19,18 +19,23 @@ unfixes past = filter_map (λ e. pass_unfixed e.client e.call) past
 
 -- one stray more, where the count still has room for it
 abbrev pub one_more : ℕ → ℕ
-one_more strays = if strays == 2 ^ 64 - 1 then strays else suc strays
+one_more strays = min (strays + 1) (2 ^ 64 - 1)
 
--- passes are taken from a ring, newest first: one that is out goes back, any other is a stray
+-- a pass that is out goes back, and any other is a stray
+abbrev pub OneBack : Trail → ℕ → Grant → Trail → ℕ → Type 0
+OneBack start strays g past strayed =
+    ((is_out g (passes_out start) ≡ true) × (past ≡ give_back g ∷ start) × (strayed ≡ strays)) ⊎ ((is_out g (passes_out start) ≡ false) × (past ≡ start) × (strayed ≡ one_more strays))
+
+-- the passes that were taken from a ring, newest first, each given back in its turn
 pub data GoBack (start : Trail) (strays : ℕ) : List Grant → Trail → ℕ → Type 0 where
   none_taken : GoBack start strays [] start strays
-  back : {taken : List Grant} {past : Trail} {strayed : ℕ} (g : Grant) → is_out g (passes_out past) ≡ true → GoBack start strays taken past strayed → GoBack start strays (g ∷ taken) (give_back g ∷ past) strayed
-  stray : {taken : List Grant} {past : Trail} {strayed : ℕ} (g : Grant) → is_out g (passes_out past) ≡ false → GoBack start strays taken past strayed → GoBack start strays (g ∷ taken) past (one_more strayed)
+  next_taken : {taken : List Grant} {past after : Trail} {strayed now_strayed : ℕ} (g : Grant) → GoBack start strays taken past strayed → OneBack past strayed g after now_strayed
+      → GoBack start strays (g ∷ taken) after now_strayed
 
--- a ring was drained: what it gave, 32 passes at most, went back in order
-pub record DrainsRing (received received_after : List Grant) (start : Trail) (strays : ℕ) (past : Trail) (strayed : ℕ) : Type 0 where
+-- a ring was drained: what it gave, at most so many passes, went back in order
+pub record DrainsRing (most : ℕ) (received received_after : List Grant) (start : Trail) (strays : ℕ) (past : Trail) (strayed : ℕ) : Type 0 where
   pub taken : List Grant
-  pub few : length taken ≤ 32
+  pub few : length taken ≤ most
   pub gave : received_after ≡ received ++ reverse taken
   pub go_back : GoBack start strays taken past strayed
 

@@ -8,6 +8,7 @@ mod book;
 pub mod flushed;
 pub mod names;
 mod session;
+mod state;
 
 pub use flushed::Flushed;
 pub use names::PoolName;

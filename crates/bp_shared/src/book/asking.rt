@@ -6,12 +6,13 @@ ghost use Rattle.bp_core.specs.declared.entries.Reply.TheVariants as Reply;
 ghost use Rattle.bp_core.specs.Clock.{durable};
 ghost use Rattle.bp_shared.specs.Books.{SameOwner};
 ghost use Rattle.bp_shared.specs.Turns.{LookOutcome, AskFixOutcome, AskFlushOutcome};
+ghost use Rattle.bp_shared.specs.Sessions.{TickSaid, PurgeSaid, ReadSaid, WriteSaid};
 ghost use Rattle.bp_shared.specs.Locked.{Alike};
 
 use super::Book;
-use bp_core::{Call, Core, Fix, Flush, Reply};
+use bp_core::{Call, Core, Fix, Flush, Pass, Reply};
 use bp_mark::{Mark, Reader};
-use bp_page::{Lsn, PageNo, Refusal};
+use bp_page::{Bytes, Image, Lsn, PageNo, Refusal};
 
 impl Book {
     /// Looks at the mark once, and marks what it sees where that is above what the core was told. `TrailFull` where the trail has no
@@ -116,6 +117,117 @@ impl Book {
                 self.tell_refused(Call::Flush(page), &refusal);
                 Err(refusal)
             }
+        }
+    }
+
+    /// Moves the clock.
+    pub(crate) fn ask_tick(&mut self, core: &mut Core, n: u64) -> Result<(), Refusal>
+        requires client_in { self.old.client < core.old.parameters.clients }
+        requires room { 0 < self.old.entries }
+        ensures durable { durable core.new.past ≡ durable core.old.past }
+        ensures parameters { core.new.parameters ≡ core.old.parameters }
+        ensures owner { SameOwner self.old self.new }
+        ensures outcome { TickSaid self.old.client n result self.old.said self.new.said }
+        ensures alike { Alike core.old self.old.said core.new self.new.said }
+    {
+        match core.tick(self.client, n) {
+            Ok(()) => {
+                self.tell(Call::Tick(n), Reply::Done);
+                Ok(())
+            }
+            Err(Refusal::TrailFull) => Err(Refusal::TrailFull),
+            Err(Refusal::ClockFull) => Err(Refusal::ClockFull),
+            Err(_) => unreachable!(),
+        }
+    }
+
+    /// Forgets old references, and counts their pages.
+    pub(crate) fn ask_purge(&mut self, core: &mut Core) -> Result<u64, Refusal>
+        requires client_in { self.old.client < core.old.parameters.clients }
+        requires room { 0 < self.old.entries }
+        ensures durable { durable core.new.past ≡ durable core.old.past }
+        ensures parameters { core.new.parameters ≡ core.old.parameters }
+        ensures owner { SameOwner self.old self.new }
+        ensures outcome { PurgeSaid self.old.client result self.old.said self.new.said }
+        ensures alike { Alike core.old self.old.said core.new self.new.said }
+    {
+        match core.purge(self.client) {
+            Ok(forgotten) => {
+                self.tell(Call::Purge, Reply::Forgot(forgotten));
+                Ok(forgotten)
+            }
+            Err(Refusal::TrailFull) => Err(Refusal::TrailFull),
+            Err(_) => unreachable!(),
+        }
+    }
+
+    /// Reads the page of a pass of the client's.
+    pub(crate) fn ask_read(&mut self, core: &mut Core, pass: &Pass) -> Result<Image, Refusal>
+        requires own { pass.now.client ≡ self.old.client }
+        requires size { self.old.size ≡ core.old.parameters.size }
+        requires room { 0 < self.old.entries }
+        requires copies { 0 < self.old.copies }
+        ensures durable { durable core.new.past ≡ durable core.old.past }
+        ensures parameters { core.new.parameters ≡ core.old.parameters }
+        ensures owner { SameOwner self.old self.new }
+        ensures outcome { ReadSaid self.old.client pass.now result self.old.said self.new.said }
+        ensures alike { Alike core.old self.old.said core.new self.new.said }
+    {
+        match core.read(pass) {
+            Ok(image) => {
+                let copy = self.copy_of(&image);
+                self.tell(
+                    Call::Read {
+                        pass: pass.serial(),
+                        page: pass.page(),
+                    },
+                    Reply::Content(copy),
+                );
+                Ok(image)
+            }
+            Err(Refusal::TrailFull) => Err(Refusal::TrailFull),
+            Err(Refusal::UnknownPass) => Err(Refusal::UnknownPass),
+            Err(Refusal::OutOfMemory) => Err(Refusal::OutOfMemory),
+            Err(_) => unreachable!(),
+        }
+    }
+
+    /// Writes to the page of a pass of the client's. The list keeps the bytes.
+    pub(crate) fn ask_write(
+        &mut self,
+        core: &mut Core,
+        pass: &Pass,
+        offset: u32,
+        bytes: Bytes,
+        lsn: Lsn,
+    ) -> Result<(), Refusal>
+        requires own { pass.now.client ≡ self.old.client }
+        requires fits { offset + length bytes ≤ core.old.parameters.size }
+        requires room { 0 < self.old.entries }
+        ensures durable { durable core.new.past ≡ durable core.old.past }
+        ensures parameters { core.new.parameters ≡ core.old.parameters }
+        ensures owner { SameOwner self.old self.new }
+        ensures outcome { WriteSaid self.old.client pass.now offset bytes lsn result self.old.said self.new.said }
+        ensures alike { Alike core.old self.old.said core.new self.new.said }
+    {
+        match core.write(pass, offset, &bytes, lsn) {
+            Ok(()) => {
+                self.tell(
+                    Call::Write {
+                        pass: pass.serial(),
+                        page: pass.page(),
+                        offset,
+                        bytes,
+                        lsn,
+                    },
+                    Reply::Done,
+                );
+                Ok(())
+            }
+            Err(Refusal::TrailFull) => Err(Refusal::TrailFull),
+            Err(Refusal::UnknownPass) => Err(Refusal::UnknownPass),
+            Err(Refusal::OutOfMemory) => Err(Refusal::OutOfMemory),
+            Err(_) => unreachable!(),
         }
     }
 }
