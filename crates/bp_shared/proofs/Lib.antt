@@ -2,3 +2,4 @@ pub mod Asking
 pub mod Ending
 pub mod Posting
 pub mod Draining
+pub mod Stepping

@@ -20,11 +20,15 @@ use Rattle.bp_core.specs.Trail.{Trail}
 use Rattle.bp_core.specs.Pieces.{by, FixGoesOn, FlushGoesOn}
 use Rattle.bp_core.specs.Pieces.Manner.{session}
 
--- at most one mark, where no room for it may have been left
+-- at most one mark, where memory was refused or the trail may have had no room for it
+abbrev pub look_refuses : Refusal → Bool
+look_refuses refusal.TrailFull = true
+look_refuses refusal.OutOfMemory = true
+look_refuses _ = false
+
 abbrev pub LookOutcome : {A : Type 0} → ℕ → Result A Refusal → Trail → Trail → Type 0
 LookOutcome client (Ok done) said after = (after ≡ said) ⊎ ((lsn : ℕ) × (after ≡ by client (Mark lsn) Done ∷ said))
-LookOutcome client (Err refusal.TrailFull) said after = after ≡ said
-LookOutcome client (Err _) said after = ⊥
+LookOutcome client (Err why) said after = (look_refuses why ≡ true) × (after ≡ said)
 
 -- a refusal that is an entry's reply
 abbrev pub refusal_reply : Refusal → Option Reply

@@ -46,8 +46,35 @@ impl Book {
                 self.tell(Call::Mark(seen), Reply::Done);
                 Ok(())
             }
-            Err(refusal) => Err(refusal),
+            Err(Refusal::TrailFull) => Err(Refusal::TrailFull),
+            Err(_) => unreachable!(),
         }
+    }
+
+    /// Takes the memory for one more event, and then looks at the mark once. `OutOfMemory` and `TrailFull` change nothing.
+    pub(crate) fn ready(
+        &mut self,
+        core: &mut Core,
+        reader: &mut Reader,
+        mark: &Mark,
+    ) -> Result<(), Refusal>
+        requires mark { reader.old.mark ≡ mark.now }
+        requires client_in { self.old.client < core.old.parameters.clients }
+        requires seen { durable core.old.past ≤ reader.old.seen }
+        ensures mark { reader.new.mark ≡ reader.old.mark }
+        ensures seen { durable core.new.past ≤ reader.new.seen }
+        ensures parameters { core.new.parameters ≡ core.old.parameters }
+        ensures owner { SameOwner self.old self.new }
+        ensures entries { OnOk result (3 ≤ self.new.entries) }
+        ensures passes { OnOk result (1 ≤ self.new.passes) }
+        ensures copies { OnOk result (2 ≤ self.new.copies) }
+        ensures outcome { LookOutcome self.old.client result self.old.said self.new.said }
+        ensures alike { Alike core.old self.old.said core.new self.new.said }
+    {
+        let Ok(()) = self.prepare() else {
+            return Err(Refusal::OutOfMemory);
+        };
+        self.look(core, reader, mark)
     }
 
     /// Asks the core for a page.

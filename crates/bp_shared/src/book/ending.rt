@@ -1,5 +1,5 @@
 //! The ends of device work. None of these takes memory.
-ghost use Rattle.std.specs.Prelude.{◌≡◌, ◌≤◌, ◌<◌, ◌+◌, ◌-◌, ◌*◌, ◌∷◌, length, reverse, vec_len, vec_capacity, Ok, Err};
+ghost use Rattle.std.specs.Prelude.{◌≡◌, ◌≤◌, ◌<◌, ◌+◌, ◌-◌, ◌*◌, ◌∷◌, length, reverse, vec_len, vec_capacity, IfOk, Ok, Err};
 ghost use Rattle.bp_core.specs.Clock.{durable};
 ghost use Rattle.bp_shared.specs.Books.{SameOwner, OwesRead, OwesWrite};
 ghost use Rattle.bp_shared.specs.Turns.{EndReadOutcome, EndWriteOutcome};
@@ -12,7 +12,7 @@ use bp_page::{Image, PortFault, Refusal};
 impl Book {
     /// Ends a read that went well. The list keeps a copy of the image. A ticket that the core does not know is forfeited, which is
     /// `UnknownTicket`, and nothing else changes.
-    pub(crate) fn end_load(
+    fn end_load(
         &mut self,
         core: &mut Core,
         ticket: ReadTicket,
@@ -56,7 +56,7 @@ impl Book {
     }
 
     /// Ends a read that failed, which is `ReadFailed`. A ticket that the core does not know is forfeited, as by `end_load`.
-    pub(crate) fn end_failed_load(
+    fn end_failed_load(
         &mut self,
         core: &mut Core,
         ticket: ReadTicket,
@@ -90,6 +90,29 @@ impl Book {
                 lost.forfeit();
                 Err(Refusal::UnknownTicket)
             }
+        }
+    }
+
+    /// Ends a read. Where it failed, this is `ReadFailed`. A ticket that the core does not know is forfeited, which is `UnknownTicket`,
+    /// and nothing else changes.
+    pub(crate) fn end_read(
+        &mut self,
+        core: &mut Core,
+        ticket: ReadTicket,
+        read: Result<Image, PortFault>,
+    ) -> Result<Pass, Refusal>
+        requires owes { OwesRead self.old.client ticket self.old.said }
+        requires size { IfOk read (λ image. length image ≡ self.old.size) }
+        requires core_size { core.old.parameters.size ≡ self.old.size }
+        ensures durable { durable core.new.past ≡ durable core.old.past }
+        ensures parameters { core.new.parameters ≡ core.old.parameters }
+        ensures owner { SameOwner self.old self.new }
+        ensures outcome { EndReadOutcome ticket read result self.old.said self.new.said }
+        ensures alike { Alike core.old self.old.said core.new self.new.said }
+    {
+        match read {
+            Ok(image) => self.end_load(core, ticket, image),
+            Err(fault) => self.end_failed_load(core, ticket, fault),
         }
     }
 
