@@ -3,3 +3,4 @@ pub mod Ending
 pub mod Posting
 pub mod Draining
 pub mod Stepping
+pub mod Fixing

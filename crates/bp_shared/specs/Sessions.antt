@@ -1,5 +1,5 @@
 -- What a session's call adds to the session's list, newest first, by what it answers.
-use Rattle.std.specs.Prelude.{◌≡◌, ◌⊎◌, ℕ, Bool, true, false, List, [], ◌∷◌, ◌++◌, Option, Some, None, Result, Ok, Err}
+use Rattle.std.specs.Prelude.{◌≡◌, ◌⊎◌, ℕ, zero, suc, Bool, true, false, List, [], ◌∷◌, ◌++◌, Option, Some, None, Result, Ok, Err}
 use Rattle.bp_page.specs.declared.refusals.Refusal.{Refusal}
 use Rattle.bp_page.specs.Refusals.{number_of}
 use Rattle.bp_page.specs.declared.refusals.Refusal.TheVariants as refusal
@@ -23,6 +23,11 @@ use Rattle.bp_shared.specs.declared.flushed.Flushed.TheVariants as flushed
 pub record SessionValue : Type 0 where
   pub client : ℕ
   pub said : Trail
+
+-- a session for each client, in order, that said nothing
+abbrev pub new_sessions : ℕ → List SessionValue
+new_sessions zero = []
+new_sessions (suc n) = new_sessions n ++ record { client = n; said = [] } ∷ []
 
 -- the reply of the newest entry
 abbrev pub LastReplyIs : Reply → Trail → Type 0

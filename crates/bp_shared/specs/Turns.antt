@@ -108,3 +108,12 @@ EndWriteOutcome ticket (Ok done) (Ok how) said after = after ≡ by ticket.clien
 EndWriteOutcome ticket (Err fault) (Err refusal.WriteFailed) said after = after ≡ by ticket.client (WriteEnd ticket.serial ticket.page false) WriteFailed ∷ said
 EndWriteOutcome ticket write (Err refusal.UnknownTicket) said after = after ≡ said
 EndWriteOutcome ticket _ _ said after = ⊥
+
+-- device work was done, and it ended with this answer
+pub record LoadOutcome (ticket : ReadTicket) (answer : Result Pass Refusal) (said after : Trail) : Type 0 where
+  pub read : Result (List ℕ) PortFault
+  pub ended : EndReadOutcome ticket read answer said after
+
+pub record WriteOutOutcome (ticket : WriteTicket) (answer : Result Ended Refusal) (said after : Trail) : Type 0 where
+  pub written : Result (Unit {0}) PortFault
+  pub ended : EndWriteOutcome ticket written answer said after

@@ -7,9 +7,11 @@
 mod book;
 pub mod flushed;
 pub mod names;
+pub mod pool;
 mod session;
 mod state;
 
 pub use flushed::Flushed;
 pub use names::PoolName;
+pub use pool::SharedPool;
 pub use session::Session;

@@ -8,6 +8,8 @@ use std::marker::{Model, PhantomData};
 mod draining;
 mod turns;
 
+pub(crate) use draining::RING;
+
 /// What lies under the lock. Its trail is legal, by the core's own type; the reader is the mark's, and has seen every LSN that the
 /// core was told.
 #[derive(Drop)]
@@ -58,5 +60,22 @@ impl<N: PoolName> State<N> {
     /// How often device work ended, modulo 2^64.
     pub(crate) fn ends(&self) -> u64 {
         self.ends
+    }
+
+    /// The core and its reader.
+    pub(crate) fn into_parts(self) -> (Core, Reader)
+        ensures reader { result.1.mark ≡ N.mark }
+        ensures parameters { result.0.parameters ≡ N.parameters }
+        ensures seen { durable result.0.past ≤ result.1.seen }
+    {
+        let State {
+            core,
+            reader,
+            consumers: _,
+            ends: _,
+            strays: _,
+            of: _,
+        } = self;
+        (core, reader)
     }
 }

@@ -1,0 +1,1 @@
+//! Flushes of shared pages.
