@@ -4,3 +4,5 @@ pub mod Posting
 pub mod Draining
 pub mod Stepping
 pub mod Fixing
+pub mod Making
+pub mod Flushing

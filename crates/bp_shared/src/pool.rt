@@ -1,5 +1,6 @@
 //! The pool: a core behind a lock, and the mark that it looks at.
 ghost use Rattle.std.specs.Prelude.{◌≡◌};
+ghost use Rattle.bp_shared.specs.Turns.{is_busy};
 
 use crate::names::PoolName;
 use crate::session::Session;
@@ -15,6 +16,16 @@ use std::sync::{Condvar, Mutex, Wait};
 mod fixing;
 mod flushing;
 mod single;
+
+/// Whether somebody else has the page in flight.
+fn is_busy(refusal: &Refusal) -> bool
+    ensures { result ≡ is_busy refusal.now }
+{
+    match refusal {
+        Refusal::Busy => true,
+        _ => false,
+    }
+}
 
 /// A buffer pool that many clients share, each through its own session.
 ///

@@ -1,7 +1,7 @@
 //! Fixes of shared pages, with their device work.
 ghost use Rattle.std.specs.Prelude.{◌≡◌, ◌<◌};
 
-use super::SharedPool;
+use super::{SharedPool, is_busy};
 use crate::names::PoolName;
 use crate::session::Session;
 use bp_core::{Ended, Fix, Pass, ReadTicket, WriteTicket};
@@ -89,14 +89,16 @@ impl<N: PoolName> SharedPool<N> {
                         Err(refusal) => return Err(refusal),
                     }
                 }
-                Err(Refusal::Busy) => {
+                Err(refusal) => {
+                    if !is_busy(&refusal) {
+                        return Err(refusal);
+                    }
                     let seen = state.ends();
                     drop(
                         self.ended
                             .wait_while(rt, state, |state| state.ends() == seen),
                     );
                 }
-                Err(refusal) => return Err(refusal),
             }
         }
         unreachable!()
