@@ -76,10 +76,10 @@ flush_refused_said client page refusal.OutOfMemory said after not t =
 flush_refused_said client page _ said after not t = absurd (let no : false ≡ true = t.asks.0 in cc)
 
 module _ (client page : ℕ) (ticket : WriteTicket) (said mid after : Trail) (t : FlushTurn client page (Ok (flushing.WriteFirst ticket)) said mid) where
-  w : FlushWaits client page said t.marked
+  abbrev w : FlushWaits client page said t.marked
   w = t.waits
 
-  e : Entry
+  abbrev e : Entry
   e = by client (Flush page) (WriteFirst ticket.serial page ticket.image)
 
   grown : mid ≡ e ∷ (w.piece ++ said)

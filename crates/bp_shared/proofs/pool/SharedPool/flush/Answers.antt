@@ -22,13 +22,15 @@ pub returns-in-Ok-clause-outcome : goal.returns-in-Ok-clause-outcome
 returns-in-Ok-clause-outcome g c =
     let i = c.loop.invariant in
     let t = rw (c.in-Ok-WriteFirst.field-0-is, i.client) at c.in-Ok-WriteFirst.ensures.turn in
-    flushed_said _ _ c.in-Ok-WriteFirst.ticket c.in-Ok.ended c.flushed_by.result _ _ _ (flush_turn_more _ _ _ _ _ _ i.waits t) c.flushed_by.ensures c.in-Ok.ensures.outcome
+    let o = rw c.in-Ok-WriteFirst.ticket-is at c.in-Ok.ensures.outcome in
+    flushed_said _ _ c.in-Ok-WriteFirst.ticket c.in-Ok.ended c.flushed_by.result _ _ _ (flush_turn_more _ _ _ _ _ _ i.waits t) c.flushed_by.ensures o
 
 pub returns-in-Err-write_out-clause-outcome : goal.returns-in-Err-write_out-clause-outcome
 returns-in-Err-write_out-clause-outcome g c =
     let i = c.loop.invariant in
     let t = rw (c.in-Ok-WriteFirst.field-0-is, i.client) at c.in-Ok-WriteFirst.ensures.turn in
-    unflushed_said _ _ c.in-Ok-WriteFirst.ticket c.in-Err-write_out.refusal _ _ _ (flush_turn_more _ _ _ _ _ _ i.waits t) c.in-Err-write_out.ensures.outcome
+    let o = rw c.in-Ok-WriteFirst.ticket-is at c.in-Err-write_out.ensures.outcome in
+    unflushed_said _ _ c.in-Ok-WriteFirst.ticket c.in-Err-write_out.refusal _ _ _ (flush_turn_more _ _ _ _ _ _ i.waits t) o
 
 pub loop-preserved : goal.loop-preserved
 loop-preserved g c =
