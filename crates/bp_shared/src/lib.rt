@@ -10,6 +10,8 @@ pub mod names;
 pub mod pool;
 mod session;
 mod state;
+#[cfg(test)]
+mod tests;
 
 pub use flushed::Flushed;
 pub use names::PoolName;
