@@ -46,12 +46,7 @@ impl Port for Zeros {
         }
     }
 
-    fn write<R: Wait>(
-        &mut self,
-        _rt: &R,
-        _page: PageNo,
-        _image: &Image,
-    ) -> Result<(), PortFault> {
+    fn write<R: Wait>(&mut self, _rt: &R, _page: PageNo, _image: &Image) -> Result<(), PortFault> {
         Ok(())
     }
 }
@@ -348,11 +343,7 @@ fn pass_of_another_pool(rt: HostRuntime) -> Result<(), Fail> {
 }
 
 // A client posts 33 passes and makes no other call.
-fn fill_a_ring<N: PoolName, R: Wait + Abort>(
-    rt: &R,
-    alloc: Global,
-    made: Made,
-) -> Result<(), Fail>
+fn fill_a_ring<N: PoolName, R: Wait + Abort>(rt: &R, alloc: Global, made: Made) -> Result<(), Fail>
     requires mark { made.mark ≡ N.mark }
     requires parameters { made.core.parameters ≡ N.parameters }
 {
@@ -377,7 +368,10 @@ fn fill_a_ring<N: PoolName, R: Wait + Abort>(
     assert_eq!(rt; unfixed(&pool, &mut only, last), Ok(()));
     let (core, _, _) = pool.finish();
     assert_eq!(rt; core.trail().len(), 67);
-    assert_eq!(rt; core.trail().iter().filter(|entry| is_unfix(entry)).count(), 33);
+    assert_eq!(rt;
+        core.trail().iter().filter(|entry| is_unfix(entry)).count(),
+        33
+    );
     Ok(())
 }
 
@@ -390,6 +384,7 @@ fn full_ring(rt: HostRuntime) -> Result<(), Fail> {
 const ROUNDS: usize = 20;
 
 /// What one thread does: it fixes a page again and again.
+#[derive(Drop)]
 struct Job<N: PoolName> {
     session: Session<N>,
     port: Zeros,
@@ -423,4 +418,120 @@ fn run<N: PoolName, R: Wait>(rt: &R, pool: &SharedPool<N>, job: &mut Job<N>) {
         }
         let _ = pool.tick(rt, &mut job.session, 1);
     }
+}
+
+/// A job for each session: all on page 1, or each on a page of its own.
+fn make_jobs<N: PoolName>(
+    alloc: Global,
+    geometry: Geometry,
+    sessions: Vec<Session<N>>,
+    spread: bool,
+) -> Result<Vec<Job<N>>, Fail>
+    requires pages { geometry.pages ≡ N.parameters.pages }
+    requires size { geometry.size ≡ N.parameters.size }
+{
+    let mut jobs = Vec::new(alloc);
+    for session in sessions {
+        let number = if spread {
+            u64::from(session.client())
+        } else {
+            1
+        };
+        let page = geometry.page(number).ok_or("page")?;
+        jobs.push(Job {
+            session,
+            port: Zeros { alloc, geometry },
+            page,
+            passes: 0,
+        })?;
+    }
+    Ok(jobs)
+}
+
+/// One thread for each job. All have ended at the return.
+fn run_jobs<N: PoolName + Send + Sync, R: Threads + Wait + Sync>(
+    rt: &R,
+    pool: &SharedPool<N>,
+    jobs: &mut [Job<N>],
+) {
+    let count = jobs.len();
+    if count > 0 {
+        thread::for_each_mut(rt, jobs, count, &|_, job| run(rt, pool, job));
+    }
+}
+
+/// Whether the list has just the trail's entries of this client, in order.
+fn agrees(trail: &[Entry], said: &[Entry], client: u8) -> bool {
+    let mut at = 0;
+    for entry in trail {
+        if entry.client == client {
+            if at >= said.len() || said[at] != *entry {
+                return false;
+            }
+            at += 1;
+        }
+    }
+    at == said.len()
+}
+
+// Threads take passes and post them back. Each pass goes back once, and each list is its client's part of the trail.
+fn run_together<N: PoolName + Send + Sync, R: Threads + Wait + Abort + Sync>(
+    rt: &R,
+    alloc: Global,
+    made: Made,
+    spread: bool,
+) -> Result<usize, Fail>
+    requires mark { made.mark ≡ N.mark }
+    requires parameters { made.core.parameters ≡ N.parameters }
+{
+    let geometry = made.core.geometry();
+    let Opened {
+        pool,
+        sessions,
+        end: _,
+        port: _,
+    } = open::<N>(alloc, made)?;
+    let mut jobs = make_jobs(alloc, geometry, sessions, spread)?;
+    run_jobs(rt, &pool, &mut jobs);
+    let (core, _, _) = pool.finish();
+    let trail = core.trail();
+    let taken = jobs.iter().map(|job| job.passes).sum::<usize>();
+    let hits = trail.iter().filter(|entry| is_hit(entry)).count();
+    let faults = trail.iter().filter(|entry| is_fault(entry)).count();
+    assert_eq!(rt; hits + faults, taken);
+    assert_eq!(rt; trail.iter().filter(|entry| is_unfix(entry)).count(), taken);
+    for job in &jobs {
+        assert!(rt; agrees(trail, job.session.said(), job.session.client()));
+    }
+    Ok(faults)
+}
+
+#[test]
+fn two_threads_on_one_page(rt: HostRuntime) -> Result<(), Fail> {
+    let made = make(rt.alloc(), 1, 2)?;
+    let faults = run_together::<Brand, _>(&rt, rt.alloc(), made, false)?;
+    assert_eq!(rt; faults, 1);
+    Ok(())
+}
+
+#[test]
+fn four_threads_on_one_page(rt: HostRuntime) -> Result<(), Fail> {
+    let made = make(rt.alloc(), 1, 4)?;
+    let faults = run_together::<Brand, _>(&rt, rt.alloc(), made, false)?;
+    assert_eq!(rt; faults, 1);
+    Ok(())
+}
+
+#[test]
+fn two_threads_over_few_frames(rt: HostRuntime) -> Result<(), Fail> {
+    let made = make(rt.alloc(), 2, 2)?;
+    run_together::<Brand, _>(&rt, rt.alloc(), made, true)?;
+    Ok(())
+}
+
+#[test]
+fn four_threads_over_few_frames(rt: HostRuntime) -> Result<(), Fail> {
+    let made = make(rt.alloc(), 2, 4)?;
+    run_together::<Brand, _>(&rt, rt.alloc(), made, true)?;
+    Ok(())
 }

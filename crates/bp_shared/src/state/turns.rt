@@ -37,10 +37,7 @@ impl<N: PoolName> State<N> {
         ensures in_step { InStep self.old session.old.said self.new session.new.said }
     {
         drain_all(&mut self.core, &mut self.strays, &mut self.consumers);
-        match session
-            .book
-            .ready(&mut self.core, &mut self.reader, mark)
-        {
+        match session.book.ready(&mut self.core, &mut self.reader, mark) {
             Ok(()) => {}
             Err(refusal) => return Err(refusal),
         }
@@ -61,10 +58,7 @@ impl<N: PoolName> State<N> {
         ensures in_step { InStep self.old session.old.said self.new session.new.said }
     {
         drain_all(&mut self.core, &mut self.strays, &mut self.consumers);
-        match session
-            .book
-            .ready(&mut self.core, &mut self.reader, mark)
-        {
+        match session.book.ready(&mut self.core, &mut self.reader, mark) {
             Ok(()) => {}
             Err(refusal) => return Err(refusal),
         }
@@ -103,9 +97,7 @@ impl<N: PoolName> State<N> {
         ensures in_step { InStep self.old session.old.said self.new session.new.said }
     {
         drain_all(&mut self.core, &mut self.strays, &mut self.consumers);
-        let ended = session
-            .book
-            .end_write_out(&mut self.core, ticket, written);
+        let ended = session.book.end_write_out(&mut self.core, ticket, written);
         self.ends = counted(self.ends, &ended);
         ended
     }
@@ -137,11 +129,7 @@ impl<N: PoolName> State<N> {
     }
 
     /// Reads the page of a pass of the session's client.
-    pub(crate) fn read(
-        &mut self,
-        session: &mut Session<N>,
-        pass: &Pass,
-    ) -> Result<Image, Refusal>
+    pub(crate) fn read(&mut self, session: &mut Session<N>, pass: &Pass) -> Result<Image, Refusal>
         requires own { pass.now.client ≡ session.old.client }
         ensures client { session.new.client ≡ session.old.client }
         ensures outcome { ReadSaid session.old.client pass.now result session.old.said session.new.said }

@@ -40,4 +40,4 @@ pub returns-in-Ok-clause-alike : goal.returns-in-Ok-clause-alike
 returns-in-Ok-clause-alike c =
     rw (← c.self.view_is)
     (loaded_alike _ _ _ _ c.self.inside.client c.args.ticket c.args.image c.in-Ok.pass (search rules) c.in-Ok.ensures.outcome
-        (ap reverse c.push_reserved.ensures.items ∙ reverse-push c.self.inside.said.items _ ∙ search rules))
+    (ap reverse c.push_reserved.ensures.items ∙ reverse-push c.self.inside.said.items _ ∙ search rules))
