@@ -2,25 +2,25 @@
 use Rattle.std.proofs.Common.{◌≡◌, refl, sym, ap, subst, ◌∙◌, ℕ, Bool, true, List, ◌∷◌, length, Option, Some, None, Result, Ok, Err, inr}
 use Rattle.bp_page.specs.declared.refusals.Refusal.{Refusal}
 use Rattle.bp_page.specs.declared.refusals.Refusal.TheVariants as refusal
-use Rattle.bp_core.specs.declared.entries.Entry.{Entry}
+use Rattle.bp_trail.specs.declared.entries.Entry.{Entry}
 use Rattle.bp_core.specs.declared.passes.Pass.{Pass}
 use Rattle.bp_core.specs.declared.passes.ReadTicket.{ReadTicket}
-use Rattle.bp_core.specs.declared.entries.Call.{Call}
-use Rattle.bp_core.specs.declared.entries.Call.TheVariants.{Fix, Flush, Read, ReadEnd}
-use Rattle.bp_core.specs.declared.entries.Reply.{Reply}
-use Rattle.bp_core.specs.declared.entries.Reply.TheVariants.{WriteFirst, Content, NoVictim, NeedLog, Busy, Fixed}
-use Rattle.bp_core.specs.Parameters.{Parameters}
-use Rattle.bp_core.specs.Trail.{Trail}
-use Rattle.bp_core.specs.Passes.{passes_out}
-use Rattle.bp_core.specs.Legal.{Legal}
+use Rattle.bp_trail.specs.declared.entries.Call.{Call}
+use Rattle.bp_trail.specs.declared.entries.Call.TheVariants.{Fix, Flush, Read, ReadEnd}
+use Rattle.bp_trail.specs.declared.entries.Reply.{Reply}
+use Rattle.bp_trail.specs.declared.entries.Reply.TheVariants.{WriteFirst, Content, NoVictim, NeedLog, Busy, Fixed}
+use Rattle.bp_trail.specs.Parameters.{Parameters}
+use Rattle.bp_trail.specs.Trail.{Trail}
+use Rattle.bp_trail.specs.Passes.{passes_out}
+use Rattle.bp_trail.specs.Legal.{Legal}
 use Rattle.bp_core.specs.CoreView.{CoreView, with_entry}
 use Rattle.bp_core.specs.Outcomes.{Adds, FixOutcome, FlushOutcome, ReadEndOutcome}
-use Rattle.bp_core.specs.Pieces.{by}
-use Rattle.bp_core.proofs.Events.{Event, event-of}
-use Rattle.bp_core.proofs.Events.Event.{fix_write, flush_write, page_read}
-use Rattle.bp_core.proofs.Victim.{victim-is, candidate-resident}
-use Rattle.bp_core.proofs.Places.{places, out-of_page}
-use Rattle.bp_core.proofs.Ranges.{sized}
+use Rattle.bp_trail.specs.Pieces.{by}
+use Rattle.bp_trail.proofs.Events.{Event, event-of}
+use Rattle.bp_trail.proofs.Events.Event.{fix_write, flush_write, page_read}
+use Rattle.bp_trail.proofs.Victim.{victim-is, candidate-resident}
+use Rattle.bp_trail.proofs.Places.{places, out-of_page}
+use Rattle.bp_trail.proofs.Ranges.{sized}
 use Rattle.bp_shared.specs.Locked.{Alike}
 use Rattle.bp_shared.specs.Turns.{fix_refuses, flush_refuses, refusal_reply, and_told}
 

@@ -1,9 +1,9 @@
 -- Passes that come out of rings.
 use Rattle.std.proofs.Common.{◌≡◌, ◌⊎◌, refl, sym, ap, subst, ◌∙◌, ℕ, ◌+◌, ◌≤◌, true, false, List, [], ◌∷◌, ◌++◌, length, reverse, append_assoc, arith, inl, inr}
 use Rattle.std.proofs.lemmas.List.{append-nil, reverse-append}
-use Rattle.bp_core.specs.Event.{Grant}
-use Rattle.bp_core.specs.Trail.{Trail}
-use Rattle.bp_core.specs.Clock.{durable}
+use Rattle.bp_trail.specs.Event.{Grant}
+use Rattle.bp_trail.specs.Trail.{Trail}
+use Rattle.bp_trail.specs.Clock.{durable}
 use Rattle.bp_shared.specs.Rings.{OneBack, GoBack, DrainsRing, Unfixed}
 use Rattle.bp_shared.specs.Rings.GoBack.{none_taken, next_taken}
 use Rattle.bp_shared.specs.Rings.Unfixed.{no_more, unfixed}

@@ -3,18 +3,18 @@ use Rattle.std.proofs.Common.{rules, ◌≡◌, refl, sym, ap, subst, ◌∙◌,
 use Rattle.std.proofs.lemmas.List.{reverse-append}
 use Rattle.std.proofs.lemmas.List.Elements.{All-append}
 use Rattle.std.specs.Prelude.{not, if◌then◌else◌}
-use Rattle.bp_core.specs.declared.entries.Entry.{Entry}
-use Rattle.bp_core.specs.declared.entries.Call.{Call}
-use Rattle.bp_core.specs.declared.entries.Call.TheVariants.{Fix, ReadEnd, WriteEnd}
-use Rattle.bp_core.specs.declared.entries.Reply.{Reply}
-use Rattle.bp_core.specs.declared.entries.Reply.TheVariants.{Hit, Load, WriteFirst, Fixed, ReadFailed}
+use Rattle.bp_trail.specs.declared.entries.Entry.{Entry}
+use Rattle.bp_trail.specs.declared.entries.Call.{Call}
+use Rattle.bp_trail.specs.declared.entries.Call.TheVariants.{Fix, ReadEnd, WriteEnd}
+use Rattle.bp_trail.specs.declared.entries.Reply.{Reply}
+use Rattle.bp_trail.specs.declared.entries.Reply.TheVariants.{Hit, Load, WriteFirst, Fixed, ReadFailed}
 use Rattle.bp_core.specs.declared.passes.ReadTicket.{ReadTicket}
 use Rattle.bp_core.specs.declared.passes.WriteTicket.{WriteTicket}
-use Rattle.bp_core.specs.Lists.{without, and_given}
-use Rattle.bp_core.specs.Event.{Grant, grant, pass_given, read_ticket_given, write_ticket_given, write_ticket_back}
-use Rattle.bp_core.specs.Trail.{Trail}
-use Rattle.bp_core.specs.Passes.{passes_out, reads_out, writes_out}
-use Rattle.bp_core.specs.Pieces.{by}
+use Rattle.bp_trail.specs.Lists.{without, and_given}
+use Rattle.bp_trail.specs.Event.{Grant, grant, pass_given, read_ticket_given, write_ticket_given, write_ticket_back}
+use Rattle.bp_trail.specs.Trail.{Trail}
+use Rattle.bp_trail.specs.Passes.{passes_out, reads_out, writes_out}
+use Rattle.bp_trail.specs.Pieces.{by}
 use Rattle.bp_shared.specs.Books.{KeepsRoom, plain_reply, OwesRead, OwesWrite, OwesWriteEnd}
 
 pub filter_le : {X : Type 0} (p : X → Bool) (xs : List X) → length (filter p xs) ≤ length xs

@@ -3,20 +3,20 @@ use Rattle.std.proofs.Common.{◌≡◌, refl, sym, ap, subst, ◌∙◌, ℕ, t
 use Rattle.bp_page.specs.declared.refusals.Refusal.{Refusal}
 use Rattle.bp_page.specs.declared.refusals.Refusal.TheVariants as refusal
 use Rattle.bp_page.specs.declared.refusals.PortFault.{PortFault}
-use Rattle.bp_core.specs.declared.entries.Entry.{Entry}
-use Rattle.bp_core.specs.declared.entries.Call.TheVariants.{Mark, Flush, WriteEnd}
-use Rattle.bp_core.specs.declared.entries.Reply.{Reply}
-use Rattle.bp_core.specs.declared.entries.Reply.TheVariants.{Done, WriteFirst, NeedLog, Busy, Cleaned, StillDirty, WriteFailed, Clean, Absent}
+use Rattle.bp_trail.specs.declared.entries.Entry.{Entry}
+use Rattle.bp_trail.specs.declared.entries.Call.TheVariants.{Mark, Flush, WriteEnd}
+use Rattle.bp_trail.specs.declared.entries.Reply.{Reply}
+use Rattle.bp_trail.specs.declared.entries.Reply.TheVariants.{Done, WriteFirst, NeedLog, Busy, Cleaned, StillDirty, WriteFailed, Clean, Absent}
 use Rattle.bp_core.specs.declared.passes.WriteTicket.{WriteTicket}
 use Rattle.bp_core.specs.declared.passes.Flush.{Flush as Flushing}
 use Rattle.bp_core.specs.declared.passes.Flush.TheVariants as flushing
 use Rattle.bp_core.specs.declared.passes.Ended.{Ended}
 use Rattle.bp_core.specs.declared.passes.Ended.TheVariants as ended
-use Rattle.bp_core.specs.Trail.{Trail}
-use Rattle.bp_core.specs.Pieces.{by, FlushGoesOn, FlushPiece}
-use Rattle.bp_core.specs.Pieces.Manner.{session}
-use Rattle.bp_core.specs.Pieces.FlushGoesOn.{begins, marked, waited}
-use Rattle.bp_core.specs.Pieces.FlushPiece.{clean, absent, cleaned, still_dirty, need_log, write_failed, lost_write, no_room, no_memory}
+use Rattle.bp_trail.specs.Trail.{Trail}
+use Rattle.bp_trail.specs.Pieces.{by, FlushGoesOn, FlushPiece}
+use Rattle.bp_trail.specs.Pieces.Manner.{session}
+use Rattle.bp_trail.specs.Pieces.FlushGoesOn.{begins, marked, waited}
+use Rattle.bp_trail.specs.Pieces.FlushPiece.{clean, absent, cleaned, still_dirty, need_log, write_failed, lost_write, no_room, no_memory}
 use Rattle.bp_shared.specs.declared.flushed.Flushed.{Flushed}
 use Rattle.bp_shared.specs.declared.flushed.Flushed.TheVariants as flushed
 use Rattle.bp_shared.specs.Books.{OwesWrite}

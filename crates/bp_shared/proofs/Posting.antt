@@ -4,15 +4,15 @@ use Rattle.std.proofs.lemmas.Bool.{eqb-true, eq-eqb, and_parts}
 use Rattle.std.proofs.lemmas.List.{reverse-reverse}
 use Rattle.std.proofs.lemmas.List.Sorted.{IsPermutation-reverse, list_any-IsPermutation}
 use Rattle.std.proofs.lemmas.List.Elements.{All-filter}
-use Rattle.bp_core.specs.declared.entries.Call.TheVariants.{Unfix}
-use Rattle.bp_core.specs.declared.entries.Reply.TheVariants.{Done}
-use Rattle.bp_core.specs.Lists.{some}
-use Rattle.bp_core.specs.Event.{Grant, grant, same_grant}
-use Rattle.bp_core.specs.Trail.{Trail}
-use Rattle.bp_core.specs.Passes.{passes_out, reads_out, writes_out}
-use Rattle.bp_core.specs.Legal.{is_out}
-use Rattle.bp_core.specs.Pieces.{by}
-use Rattle.bp_core.proofs.Counting.{filter-reverse}
+use Rattle.bp_trail.specs.declared.entries.Call.TheVariants.{Unfix}
+use Rattle.bp_trail.specs.declared.entries.Reply.TheVariants.{Done}
+use Rattle.bp_trail.specs.Lists.{some}
+use Rattle.bp_trail.specs.Event.{Grant, grant, same_grant}
+use Rattle.bp_trail.specs.Trail.{Trail}
+use Rattle.bp_trail.specs.Passes.{passes_out, reads_out, writes_out}
+use Rattle.bp_trail.specs.Legal.{is_out}
+use Rattle.bp_trail.specs.Pieces.{by}
+use Rattle.bp_trail.proofs.Counting.{filter-reverse}
 use Rattle.bp_shared.specs.Books.{KeepsRoom}
 use Rattle.bp_shared.proofs.Ending.{filter_le, others}
 

@@ -2,15 +2,15 @@
 use Rattle.std.specs.Prelude.{◌≡◌, ℕ, ◌+◌, ◌*◌, ◌≤◌, Bool, true, false, List, ◌∷◌, length, All, Option}
 use Rattle.bp_core.specs.declared.passes.ReadTicket.{ReadTicket}
 use Rattle.bp_core.specs.declared.passes.WriteTicket.{WriteTicket}
-use Rattle.bp_core.specs.declared.entries.Call.{Call}
-use Rattle.bp_core.specs.declared.entries.Call.TheVariants.{Fix, ReadEnd, WriteEnd, Unfix}
-use Rattle.bp_core.specs.declared.entries.Reply.{Reply}
-use Rattle.bp_core.specs.declared.entries.Reply.TheVariants.{Hit, Load, WriteFirst, Fixed}
-use Rattle.bp_core.specs.Event.{Grant}
-use Rattle.bp_core.specs.Trail.{Trail}
-use Rattle.bp_core.specs.Passes.{reads_out, writes_out}
-use Rattle.bp_core.specs.Pieces.{by}
-use Rattle.bp_core.specs.Script.{held_passes}
+use Rattle.bp_trail.specs.declared.entries.Call.{Call}
+use Rattle.bp_trail.specs.declared.entries.Call.TheVariants.{Fix, ReadEnd, WriteEnd, Unfix}
+use Rattle.bp_trail.specs.declared.entries.Reply.{Reply}
+use Rattle.bp_trail.specs.declared.entries.Reply.TheVariants.{Hit, Load, WriteFirst, Fixed}
+use Rattle.bp_trail.specs.Event.{Grant}
+use Rattle.bp_trail.specs.Trail.{Trail}
+use Rattle.bp_trail.specs.Passes.{reads_out, writes_out}
+use Rattle.bp_trail.specs.Pieces.{by}
+use Rattle.bp_trail.specs.Script.{held_passes}
 use Rattle.bp_shared.specs.Rings.{unfixes}
 
 -- a client's own list, newest first, the bytes of a page, and the room beyond all that the list owes: for entries, for passes held, and for copies of images

@@ -1,10 +1,10 @@
 -- What the locked state and a session's list have in common.
 use Rattle.std.specs.Prelude.{◌≡◌, ◌⊎◌, ℕ, ◌≤◌, List, ◌∷◌, ◌++◌}
 use Rattle.bp_mark.specs.Marks.{MarkName, ReaderValue}
-use Rattle.bp_core.specs.declared.entries.Entry.{Entry}
-use Rattle.bp_core.specs.Parameters.{Parameters}
-use Rattle.bp_core.specs.Trail.{Trail}
-use Rattle.bp_core.specs.Clock.{durable}
+use Rattle.bp_trail.specs.declared.entries.Entry.{Entry}
+use Rattle.bp_trail.specs.Parameters.{Parameters}
+use Rattle.bp_trail.specs.Trail.{Trail}
+use Rattle.bp_trail.specs.Clock.{durable}
 use Rattle.bp_core.specs.CoreView.{CoreView, with_entry}
 use Rattle.bp_shared.specs.Rings.{Unfixed}
 

@@ -1,13 +1,13 @@
 -- Passes that went back: those that a list of entries posted, and those that a locked core took from a ring.
 use Rattle.std.specs.Prelude.{◌≡◌, ◌⊎◌, ℕ, ◌+◌, min, ◌≤◌, ◌^◌, ◌-◌, Bool, true, false, List, [], ◌∷◌, ◌++◌, length, reverse, filter_map, Option, Some, None}
-use Rattle.bp_core.specs.declared.entries.Entry.{Entry}
-use Rattle.bp_core.specs.declared.entries.Call.{Call}
-use Rattle.bp_core.specs.declared.entries.Call.TheVariants.{Unfix}
-use Rattle.bp_core.specs.Event.{Grant, grant}
-use Rattle.bp_core.specs.Trail.{Trail}
-use Rattle.bp_core.specs.Passes.{passes_out}
-use Rattle.bp_core.specs.Legal.{is_out}
-use Rattle.bp_core.specs.Script.{give_back}
+use Rattle.bp_trail.specs.declared.entries.Entry.{Entry}
+use Rattle.bp_trail.specs.declared.entries.Call.{Call}
+use Rattle.bp_trail.specs.declared.entries.Call.TheVariants.{Unfix}
+use Rattle.bp_trail.specs.Event.{Grant, grant}
+use Rattle.bp_trail.specs.Trail.{Trail}
+use Rattle.bp_trail.specs.Passes.{passes_out}
+use Rattle.bp_trail.specs.Legal.{is_out}
+use Rattle.bp_trail.specs.Script.{give_back}
 
 abbrev pub pass_unfixed : ℕ → Call → Option Grant
 pass_unfixed client (Unfix n p) = Some (grant client p n)

@@ -4,18 +4,18 @@ use Rattle.bp_page.specs.declared.refusals.Refusal.{Refusal}
 use Rattle.bp_page.specs.Refusals.{number_of}
 use Rattle.bp_page.specs.declared.refusals.Refusal.TheVariants as refusal
 use Rattle.bp_core.specs.declared.passes.Pass.{Pass}
-use Rattle.bp_core.specs.declared.entries.Call.{Call}
-use Rattle.bp_core.specs.declared.entries.Call.TheVariants.{Tick, Read, Write, Unfix, Purge}
-use Rattle.bp_core.specs.declared.entries.Reply.{Reply}
-use Rattle.bp_core.specs.declared.entries.Reply.TheVariants.{Done, NeedLog, Cleaned, StillDirty, Clean, Absent, Content, Forgot}
-use Rattle.bp_core.specs.Lists.{and_given}
-use Rattle.bp_core.specs.Event.{Grant, grant}
-use Rattle.bp_core.specs.Trail.{Trail}
-use Rattle.bp_core.specs.Passes.{passes_out}
+use Rattle.bp_trail.specs.declared.entries.Call.{Call}
+use Rattle.bp_trail.specs.declared.entries.Call.TheVariants.{Tick, Read, Write, Unfix, Purge}
+use Rattle.bp_trail.specs.declared.entries.Reply.{Reply}
+use Rattle.bp_trail.specs.declared.entries.Reply.TheVariants.{Done, NeedLog, Cleaned, StillDirty, Clean, Absent, Content, Forgot}
+use Rattle.bp_trail.specs.Lists.{and_given}
+use Rattle.bp_trail.specs.Event.{Grant, grant}
+use Rattle.bp_trail.specs.Trail.{Trail}
+use Rattle.bp_trail.specs.Passes.{passes_out}
 use Rattle.bp_core.specs.Outcomes.{pass_is_out}
-use Rattle.bp_core.specs.Pieces.{by, FixPiece, FlushPiece}
-use Rattle.bp_core.specs.Pieces.Manner.{session}
-use Rattle.bp_core.specs.Pieces.Outcome.{accepted, refused}
+use Rattle.bp_trail.specs.Pieces.{by, FixPiece, FlushPiece}
+use Rattle.bp_trail.specs.Pieces.Manner.{session}
+use Rattle.bp_trail.specs.Pieces.Outcome.{accepted, refused}
 use Rattle.bp_shared.specs.declared.flushed.Flushed.{Flushed}
 use Rattle.bp_shared.specs.declared.flushed.Flushed.TheVariants as flushed
 

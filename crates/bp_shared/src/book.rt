@@ -1,10 +1,10 @@
 //! What a session keeps for itself: its own list of entries, with room for all that the list still owes.
 ghost use Rattle.std.specs.Prelude.{◌≡◌, ◌≤◌, ◌<◌, ◌+◌, ◌-◌, ◌*◌, ◌∷◌, [], ◌==◌, true, not, filter, All, Some, None, length, reverse, IfOk, IfSome, OnOk, OnErr, vec_len, vec_capacity};
-ghost use Rattle.bp_core.specs.declared.entries.Call.TheVariants as Call;
-ghost use Rattle.bp_core.specs.declared.entries.Reply.TheVariants as Reply;
-ghost use Rattle.bp_core.specs.Event.{grant, same_grant};
-ghost use Rattle.bp_core.specs.Passes.{passes_out};
-ghost use Rattle.bp_core.specs.Legal.{is_out};
+ghost use Rattle.bp_trail.specs.declared.entries.Call.TheVariants as Call;
+ghost use Rattle.bp_trail.specs.declared.entries.Reply.TheVariants as Reply;
+ghost use Rattle.bp_trail.specs.Event.{grant, same_grant};
+ghost use Rattle.bp_trail.specs.Passes.{passes_out};
+ghost use Rattle.bp_trail.specs.Legal.{is_out};
 ghost use Rattle.bp_shared.specs.Books.{BookValue, SameBook, Tells, plain_call, plain_reply, OwesRead, OwesWrite};
 
 mod asking;

@@ -5,7 +5,7 @@ use std::marker::Brand;
 /// call picks what it stands for.
 pub trait PoolName {
     ghost use Rattle.bp_mark.specs.Marks.{MarkName};
-    ghost use Rattle.bp_core.specs.Parameters.{Parameters};
+    ghost use Rattle.bp_trail.specs.Parameters.{Parameters};
 
     // The mark.
     ghost mark: { MarkName };

@@ -42,7 +42,7 @@ pub struct SharedPool<N: PoolName> {
 
 impl<N: PoolName> SharedPool<N> {
     ghost use Rattle.std.specs.Prelude.{◌≡◌, ◌≤◌, IfOk, OnErr};
-    ghost use Rattle.bp_core.specs.Clock.{durable};
+    ghost use Rattle.bp_trail.specs.Clock.{durable};
     ghost use Rattle.bp_shared.specs.Sessions.{new_sessions, UnfixSaid};
 
     /// A pool over a core, and one session for each client, in order. The reader is the mark's, and has seen what the core was told.

@@ -38,7 +38,7 @@ impl<N: PoolName> Model for State<N> {
 
 impl<N: PoolName> State<N> {
     ghost use Rattle.std.specs.Prelude.{◌≡◌, ◌≤◌};
-    ghost use Rattle.bp_core.specs.Clock.{durable};
+    ghost use Rattle.bp_trail.specs.Clock.{durable};
 
     /// A core whose rings gave nothing yet.
     pub(crate) fn new(core: Core, reader: Reader, consumers: Vec<Consumer<PassNote>>) -> State<N>

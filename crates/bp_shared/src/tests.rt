@@ -1,6 +1,6 @@
 //! Sessions in turn, and clients in threads of their own.
 ghost use Rattle.std.specs.Prelude.{◌≡◌, ◌<◌, []};
-ghost use Rattle.bp_core.specs.Parameters.{Parameters};
+ghost use Rattle.bp_trail.specs.Parameters.{Parameters};
 
 use super::*;
 use bp_core::{Call, Core, Entry, Pass, PassNote, Reply};

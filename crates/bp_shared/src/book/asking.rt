@@ -1,9 +1,9 @@
 //! One event of the core, which the list gets too.
 ghost use Rattle.std.specs.Prelude.{◌≡◌, ◌≤◌, ◌<◌, ◌+◌, ◌∷◌, true, length, OnOk, IfOk};
 ghost use Rattle.bp_mark.specs.Marks.{ReaderValue};
-ghost use Rattle.bp_core.specs.declared.entries.Call.TheVariants as Call;
-ghost use Rattle.bp_core.specs.declared.entries.Reply.TheVariants as Reply;
-ghost use Rattle.bp_core.specs.Clock.{durable};
+ghost use Rattle.bp_trail.specs.declared.entries.Call.TheVariants as Call;
+ghost use Rattle.bp_trail.specs.declared.entries.Reply.TheVariants as Reply;
+ghost use Rattle.bp_trail.specs.Clock.{durable};
 ghost use Rattle.bp_shared.specs.Books.{SameOwner};
 ghost use Rattle.bp_shared.specs.Turns.{LookOutcome, AskFixOutcome, AskFlushOutcome};
 ghost use Rattle.bp_shared.specs.Sessions.{TickSaid, PurgeSaid, ReadSaid, WriteSaid};

@@ -1,6 +1,6 @@
 //! The ends of device work. None of these takes memory.
 ghost use Rattle.std.specs.Prelude.{◌≡◌, ◌≤◌, ◌<◌, ◌+◌, ◌-◌, ◌*◌, ◌∷◌, length, reverse, vec_len, vec_capacity, IfOk, Ok, Err};
-ghost use Rattle.bp_core.specs.Clock.{durable};
+ghost use Rattle.bp_trail.specs.Clock.{durable};
 ghost use Rattle.bp_shared.specs.Books.{SameOwner, OwesRead, OwesWrite};
 ghost use Rattle.bp_shared.specs.Turns.{EndReadOutcome, EndWriteOutcome};
 ghost use Rattle.bp_shared.specs.Locked.{Alike};

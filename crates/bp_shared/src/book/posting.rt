@@ -1,10 +1,10 @@
 //! The passes that a list holds, and those that go back.
 ghost use Rattle.std.specs.Prelude.{◌≡◌, ◌==◌, true, not, filter, reverse, vec_capacity};
-ghost use Rattle.bp_core.specs.declared.entries.Call.TheVariants as Call;
-ghost use Rattle.bp_core.specs.declared.entries.Reply.TheVariants as Reply;
-ghost use Rattle.bp_core.specs.Event.{grant, same_grant};
-ghost use Rattle.bp_core.specs.Passes.{passes_out};
-ghost use Rattle.bp_core.specs.Legal.{is_out};
+ghost use Rattle.bp_trail.specs.declared.entries.Call.TheVariants as Call;
+ghost use Rattle.bp_trail.specs.declared.entries.Reply.TheVariants as Reply;
+ghost use Rattle.bp_trail.specs.Event.{grant, same_grant};
+ghost use Rattle.bp_trail.specs.Passes.{passes_out};
+ghost use Rattle.bp_trail.specs.Legal.{is_out};
 ghost use Rattle.bp_core.specs.Outcomes.{pass_is_out};
 ghost use Rattle.bp_shared.specs.Books.{Tells};
 

@@ -1,7 +1,7 @@
 //! The entries that a list gets, each kept with what is owed after it. None of these takes memory.
 ghost use Rattle.std.specs.Prelude.{◌≡◌, ◌≤◌, ◌<◌, ◌+◌, ◌-◌, ◌*◌, ◌∷◌, true, IfSome, length, reverse, vec_len, vec_capacity};
-ghost use Rattle.bp_core.specs.declared.entries.Call.TheVariants as Call;
-ghost use Rattle.bp_core.specs.declared.entries.Reply.TheVariants as Reply;
+ghost use Rattle.bp_trail.specs.declared.entries.Call.TheVariants as Call;
+ghost use Rattle.bp_trail.specs.declared.entries.Reply.TheVariants as Reply;
 ghost use Rattle.bp_shared.specs.Books.{OwesWriteEnd, SameOwner, Tells, plain_call, plain_reply};
 ghost use Rattle.bp_shared.specs.Turns.{and_told, refusal_reply};
 

@@ -1,7 +1,7 @@
 //! The passes that sessions posted go back to the core.
 ghost use Rattle.std.specs.Prelude.{◌≡◌, [], ◌∷◌};
 ghost use Rattle.rtrb.specs.Ring.{received};
-ghost use Rattle.bp_core.specs.Clock.{durable};
+ghost use Rattle.bp_trail.specs.Clock.{durable};
 ghost use Rattle.bp_shared.specs.Locked.{Settled};
 ghost use Rattle.bp_shared.specs.Rings.{OneBack, DrainsRing, Unfixed};
 

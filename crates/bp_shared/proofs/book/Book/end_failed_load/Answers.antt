@@ -1,6 +1,6 @@
 -- One ticket fewer.
 use Rattle.std.proofs.Common.{rules, ap, ◌∙◌, reverse}
-use Rattle.bp_core.proofs.Counting.{reverse-push}
+use Rattle.bp_trail.proofs.Counting.{reverse-push}
 use Rattle.bp_shared.proofs.Ending.{keeps_not_loaded}
 use Rattle.bp_shared.proofs.book.Book.end_failed_load.Goals as goal
 

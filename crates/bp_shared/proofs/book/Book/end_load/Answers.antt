@@ -1,7 +1,7 @@
 -- One ticket fewer, one pass more, and one blank spent; or nothing, and the blank is put back.
 use Rattle.std.proofs.Common.{rules, arith, ◌≡◌, ap, sym, subst, ◌∙◌, reverse, length, All, List, ℕ, [], ◌∷◌}
 use Rattle.std.proofs.lemmas.List.Elements.{All-append}
-use Rattle.bp_core.proofs.Counting.{reverse-push}
+use Rattle.bp_trail.proofs.Counting.{reverse-push}
 use Rattle.bp_shared.proofs.Asking.{loaded_alike}
 use Rattle.bp_shared.proofs.Ending.{keeps_loaded}
 use Rattle.bp_shared.proofs.book.Book.end_load.Goals as goal

@@ -1,6 +1,6 @@
 -- One session after another.
 use Rattle.std.proofs.Common.{rules, arith, ◌≡◌, ap, ◌∙◌, add-one}
-use Rattle.bp_core.specs.Parameters.{Parameters}
+use Rattle.bp_trail.specs.Parameters.{Parameters}
 use Rattle.bp_shared.specs.Sessions.{new_sessions}
 use Rattle.bp_shared.proofs.Making.{sessions_more}
 use Rattle.bp_shared.proofs.pool.SharedPool.new.Goals as goal
