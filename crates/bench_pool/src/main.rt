@@ -8,13 +8,12 @@ use bp_device::{FilePort, Port, drive_fix};
 use bp_lruk::Settings;
 use bp_page::{PageNo, Refusal};
 use std::alloc::Global;
-use std::env;
-use std::fs;
 use std::fs::File;
 use std::mem::size_of;
 use std::rt::{Files, Runtime};
 use std::sync::Wait;
 use std::time::{CpuClock, Duration};
+use std::{env, fs};
 
 /// The bytes of a page.
 const PAGE_SIZE: usize = 1024;
@@ -112,7 +111,14 @@ fn time_fixes<P: Port>(
     requires pages { frames ≤ (P.geometry_of port.old).pages }
 {
     let geometry = port.geometry();
-    let mut core = Core::new(rt.alloc(), geometry, Settings::new(2, 0, 0)?, frames, 1, ROOM)?;
+    let mut core = Core::new(
+        rt.alloc(),
+        geometry,
+        Settings::new(2, 0, 0)?,
+        frames,
+        1,
+        ROOM,
+    )?;
     let hot = frames as u64;
     fix_many(rt, &mut core, port, hot, hot, false)?;
     let start = rt.thread_cpu_time()?;
