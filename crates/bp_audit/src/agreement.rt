@@ -3,9 +3,8 @@ ghost use Rattle.std.specs.Prelude.{◌≡◌, ◌<◌, ◌==◌, ◌↔◌, IsT
 ghost use Rattle.bp_audit.specs.Clients.{of_client, posted_by, unfixed};
 
 use crate::sameness::same_entry;
-use bp_trail::Grant;
 use bp_core::PassNote;
-use bp_trail::{Call, Entry};
+use bp_trail::{Call, Entry, Grant};
 
 /// Whether this entry stands at the place.
 fn is_next(said: &[Entry], at: usize, e: &Entry) -> bool

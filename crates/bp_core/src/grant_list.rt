@@ -6,8 +6,8 @@ ghost use Rattle.bp_trail.specs.Lists.{some};
 ghost use Rattle.bp_trail.specs.Passes.{is_of};
 ghost use Rattle.bp_core.specs.Rising.{IsRisingBy, IsPlaceFor, IsPlaceOf};
 
-use bp_trail::Grant;
 use bp_page::PageNo;
+use bp_trail::Grant;
 use std::alloc::{AllocError, Global};
 use std::marker::Model;
 

@@ -6,11 +6,11 @@ ghost use Rattle.bp_trail.specs.PageMap.{has_free_frame};
 ghost use Rattle.bp_core.specs.CoreView.{EachPast, HasRoomFor};
 ghost use Rattle.bp_core.specs.Outcomes.{FixOutcome};
 
-use bp_trail::{Call, Reply};
 use crate::passes::Fix;
 use crate::pool::Core;
 use crate::state::withdraw;
 use bp_page::{PageNo, Refusal};
+use bp_trail::{Call, Reply};
 
 impl Core {
     /// Asks for a page (Gray and Reuter, chapter 13): a pass where it is resident; else a ticket to read it into a free frame or

@@ -11,13 +11,13 @@ ghost use Rattle.bp_trail.specs.PageMap.{has_free_frame};
 ghost use Rattle.bp_core.specs.CoreView.{EachPast, HasRoomFor};
 ghost use Rattle.bp_core.specs.Outcomes.{FixOutcome, ReadEndOutcome, Adds};
 
-use bp_trail::{Call, Reply};
 use crate::grant_list::GrantList;
 use crate::passes::{EndRefusal, Fix, Pass, ReadTicket};
 use crate::pool::Core;
 use crate::state::withdraw;
 use bp_lruk::Histories;
 use bp_page::{Image, PageNo, PortFault, Refusal};
+use bp_trail::{Call, Reply};
 use std::alloc::AllocError;
 
 impl Core {

@@ -7,11 +7,11 @@ ghost use Rattle.bp_core.specs.Agreement.{frame_of};
 ghost use Rattle.bp_core.specs.CoreView.{EachPast, HasRoomFor, room_after};
 ghost use Rattle.bp_core.specs.Outcomes.{Adds, IsQuiet, pass_is_out};
 
-use bp_trail::{Call, Reply};
 use crate::frame::Frame;
 use crate::passes::Pass;
 use crate::pool::Core;
 use bp_page::PageNo;
+use bp_trail::{Call, Reply};
 
 impl Core {
     /// The room that no entry has taken, nor any pass or ticket for the entries that will end it.

@@ -2,11 +2,11 @@
 ghost use Rattle.std.specs.Prelude.{◌+◌, ◌≤◌, length};
 ghost use Rattle.bp_core.specs.Outcomes.{ReadOutcome, WriteOutcome, UnfixOutcome};
 
-use bp_trail::{Call, Reply};
 use crate::passes::Pass;
 use crate::pool::Core;
 use crate::state::offer;
 use bp_page::{Bytes, Image, Lsn, Refusal};
+use bp_trail::{Call, Reply};
 
 impl Core {
     /// A copy of the image of the page of a pass. `TrailFull` where no entry is free, else `UnknownPass` where the pass is not out

@@ -7,10 +7,10 @@ ghost use Rattle.bp_trail.specs.Safety.{Safe};
 ghost use Rattle.bp_trail.specs.Claims.{HeldIsPlain, ReadsAreKnown};
 ghost use Rattle.bp_core.specs.CoreView.{EachPast};
 
-use bp_trail::Entry;
 use crate::pool::Core;
 use bp_lruk::Settings;
 use bp_page::{Geometry, Lsn, PageNo};
+use bp_trail::Entry;
 
 impl Core {
     /// All entries so far, the oldest first.

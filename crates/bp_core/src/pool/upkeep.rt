@@ -2,10 +2,10 @@
 ghost use Rattle.std.specs.Prelude.{◌<◌};
 ghost use Rattle.bp_core.specs.Outcomes.{StepOutcome, TickOutcome, PurgeOutcome};
 
-use bp_trail::{Call, Reply};
 use crate::frame::later;
 use crate::pool::Core;
 use bp_page::{Lsn, Refusal};
+use bp_trail::{Call, Reply};
 
 /// The last time.
 const CLOCK_END: u64 = 4611686018427387904;

@@ -10,11 +10,11 @@ ghost use Rattle.bp_trail.specs.Places.{resident};
 ghost use Rattle.bp_core.specs.CoreView.{EachPast, HasRoomFor};
 ghost use Rattle.bp_core.specs.Outcomes.{IsBegin, BeginOutcome, EndedOutcome, FlushOutcome, WriteEndOutcome, Adds};
 
-use bp_trail::{Call, Reply};
 use crate::passes::{EndRefusal, Ended, Flush, WriteTicket};
 use crate::pool::Core;
 use crate::state::{offer, withdraw};
 use bp_page::{Image, PageNo, PortFault, Refusal};
+use bp_trail::{Call, Reply};
 
 impl Core {
     /// Asks that a page be written out if it is unsaved: a ticket to do so; `Absent` where it is not resident, `Clean` where it is
