@@ -17,11 +17,12 @@ use Rattle.bp_trail.specs.Pieces.{by, FlushGoesOn, FlushPiece}
 use Rattle.bp_trail.specs.Pieces.Manner.{session}
 use Rattle.bp_trail.specs.Pieces.FlushGoesOn.{begins, marked, waited}
 use Rattle.bp_trail.specs.Pieces.FlushPiece.{clean, absent, cleaned, still_dirty, need_log, write_failed, lost_write, no_room, no_memory}
-use Rattle.bp_shared.specs.declared.flushed.Flushed.{Flushed}
-use Rattle.bp_shared.specs.declared.flushed.Flushed.TheVariants as flushed
+use Rattle.bp_device.specs.declared.drivers.Flushed.{Flushed}
+use Rattle.bp_device.specs.declared.drivers.Flushed.TheVariants as flushed
 use Rattle.bp_shared.specs.Books.{OwesWrite}
 use Rattle.bp_shared.specs.Turns.{is_busy, ended_reply, FlushWaits, FlushTurn, EndWriteOutcome, WriteOutOutcome}
-use Rattle.bp_shared.specs.Sessions.{Says, Gives, flushed_reply, FlushSaid}
+use Rattle.bp_shared.specs.Sessions.{Says, Gives, FlushSaid}
+use Rattle.bp_device.specs.Drivers.{flushed_reply}
 use Rattle.bp_shared.proofs.Fixing.{is-busy}
 
 goes_on-append : (client page : ℕ) (xs ys : Trail) → FlushGoesOn session client page xs → FlushGoesOn session client page ys → FlushGoesOn session client page (xs ++ ys)

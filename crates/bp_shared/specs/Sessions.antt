@@ -7,7 +7,7 @@ use Rattle.bp_core.specs.declared.passes.Pass.{Pass}
 use Rattle.bp_trail.specs.declared.entries.Call.{Call}
 use Rattle.bp_trail.specs.declared.entries.Call.TheVariants.{Tick, Read, Write, Unfix, Purge}
 use Rattle.bp_trail.specs.declared.entries.Reply.{Reply}
-use Rattle.bp_trail.specs.declared.entries.Reply.TheVariants.{Done, NeedLog, Cleaned, StillDirty, Clean, Absent, Content, Forgot}
+use Rattle.bp_trail.specs.declared.entries.Reply.TheVariants.{Done, NeedLog, Content, Forgot}
 use Rattle.bp_trail.specs.Lists.{and_given}
 use Rattle.bp_trail.specs.Event.{Grant, grant}
 use Rattle.bp_trail.specs.Trail.{Trail}
@@ -16,8 +16,8 @@ use Rattle.bp_core.specs.Outcomes.{pass_is_out}
 use Rattle.bp_trail.specs.Pieces.{by, FixPiece, FlushPiece}
 use Rattle.bp_trail.specs.Pieces.Manner.{session}
 use Rattle.bp_trail.specs.Pieces.Outcome.{accepted, refused}
-use Rattle.bp_shared.specs.declared.flushed.Flushed.{Flushed}
-use Rattle.bp_shared.specs.declared.flushed.Flushed.TheVariants as flushed
+use Rattle.bp_device.specs.declared.drivers.Flushed.{Flushed}
+use Rattle.bp_device.specs.Drivers.{flushed_reply}
 
 -- whose session it is, and its list
 pub record SessionValue : Type 0 where
@@ -54,12 +54,6 @@ abbrev pub FixSaid : ℕ → ℕ → Result Pass Refusal → Trail → Trail →
 FixSaid client page (Ok pass) said after =
     (pass.client ≡ client) × (pass.page ≡ page) × Says (λ piece. FixPiece session client page piece accepted) (Some (grant client page pass.serial)) said after
 FixSaid client page (Err why) said after = Says (λ piece. FixPiece session client page piece (refused (number_of why)) × Repeats why piece) None said after
-
-abbrev pub flushed_reply : Flushed → Reply
-flushed_reply flushed.Clean = Clean
-flushed_reply flushed.Absent = Absent
-flushed_reply flushed.Cleaned = Cleaned
-flushed_reply flushed.StillDirty = StillDirty
 
 abbrev pub FlushSaid : ℕ → ℕ → Result Flushed Refusal → Trail → Trail → Type 0
 FlushSaid client page (Ok how) said after = Says (λ piece. FlushPiece session client page piece accepted × LastReplyIs (flushed_reply how) piece) None said after

@@ -5,7 +5,6 @@
 #![tactic(auto)]
 
 mod book;
-pub mod flushed;
 pub mod names;
 pub mod pool;
 mod session;
@@ -13,7 +12,7 @@ mod state;
 #[cfg(test)]
 mod tests;
 
-pub use flushed::Flushed;
+pub use bp_device::Flushed;
 pub use names::PoolName;
 pub use pool::SharedPool;
 pub use session::Session;

@@ -1,14 +1,13 @@
 //! Flushes of shared pages, with their device work.
 ghost use Rattle.std.specs.Prelude.{◌≡◌};
 ghost use Rattle.bp_shared.specs.Turns.{ended_reply};
-ghost use Rattle.bp_shared.specs.Sessions.{flushed_reply};
+ghost use Rattle.bp_device.specs.Drivers.{flushed_reply};
 
 use super::{SharedPool, is_busy};
-use crate::flushed::Flushed;
 use crate::names::PoolName;
 use crate::session::Session;
 use bp_core::{Ended, Flush};
-use bp_device::Port;
+use bp_device::{Flushed, Port};
 use bp_page::{PageNo, Refusal};
 use std::sync::Wait;
 
