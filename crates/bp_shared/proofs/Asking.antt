@@ -1,14 +1,13 @@
 -- What the core says of one event, in the words of a session's list.
-use Rattle.std.proofs.Common.{◌≡◌, refl, sym, ap, subst, ◌∙◌, ℕ, Bool, true, List, ◌∷◌, length, Option, Some, None, Result, Ok, Err, inr}
+use Rattle.std.proofs.Common.{◌≡◌, refl, sym, ap, subst, ◌∙◌, ℕ, Bool, true, List, ◌∷◌, length, Option, Some, None, Ok, Err, inr}
 use Rattle.bp_page.specs.declared.refusals.Refusal.{Refusal}
 use Rattle.bp_page.specs.declared.refusals.Refusal.TheVariants as refusal
-use Rattle.bp_trail.specs.declared.entries.Entry.{Entry}
 use Rattle.bp_core.specs.declared.passes.Pass.{Pass}
 use Rattle.bp_core.specs.declared.passes.ReadTicket.{ReadTicket}
 use Rattle.bp_trail.specs.declared.entries.Call.{Call}
 use Rattle.bp_trail.specs.declared.entries.Call.TheVariants.{Fix, Flush, Read, ReadEnd}
 use Rattle.bp_trail.specs.declared.entries.Reply.{Reply}
-use Rattle.bp_trail.specs.declared.entries.Reply.TheVariants.{WriteFirst, Content, NoVictim, NeedLog, Busy, Fixed}
+use Rattle.bp_trail.specs.declared.entries.Reply.TheVariants.{WriteFirst, Content, Fixed}
 use Rattle.bp_trail.specs.Parameters.{Parameters}
 use Rattle.bp_trail.specs.Trail.{Trail}
 use Rattle.bp_trail.specs.Passes.{passes_out}
@@ -22,7 +21,7 @@ use Rattle.bp_trail.proofs.Victim.{victim-is, candidate-resident}
 use Rattle.bp_trail.proofs.Places.{places, out-of_page}
 use Rattle.bp_trail.proofs.Ranges.{sized}
 use Rattle.bp_shared.specs.Locked.{Alike}
-use Rattle.bp_shared.specs.Turns.{fix_refuses, flush_refuses, refusal_reply, and_told}
+use Rattle.bp_shared.specs.Turns.{fix_refuses, flush_refuses, refusal_reply}
 
 -- the core after an event that may have been refused with no entry
 abbrev pub core_told : CoreView → ℕ → Call → Option Reply → CoreView

@@ -4,8 +4,8 @@ use Rattle.bp_page.specs.declared.refusals.Refusal.{Refusal}
 use Rattle.bp_page.specs.declared.refusals.Refusal.TheVariants as refusal
 use Rattle.bp_page.specs.declared.refusals.PortFault.{PortFault}
 use Rattle.bp_trail.specs.declared.entries.Entry.{Entry}
-use Rattle.bp_trail.specs.declared.entries.Call.TheVariants.{Mark, Fix, ReadEnd, WriteEnd}
-use Rattle.bp_trail.specs.declared.entries.Reply.TheVariants.{Done, Hit, Load, WriteFirst, NoVictim, NeedLog, Busy, Fixed, ReadFailed, Cleaned, StillDirty, WriteFailed}
+use Rattle.bp_trail.specs.declared.entries.Call.TheVariants.{Fix, ReadEnd, WriteEnd}
+use Rattle.bp_trail.specs.declared.entries.Reply.TheVariants.{Hit, Load, WriteFirst, NoVictim, NeedLog, Busy, Fixed, ReadFailed, Cleaned, StillDirty, WriteFailed}
 use Rattle.bp_core.specs.declared.passes.Pass.{Pass}
 use Rattle.bp_core.specs.declared.passes.ReadTicket.{ReadTicket}
 use Rattle.bp_core.specs.declared.passes.WriteTicket.{WriteTicket}
@@ -13,16 +13,15 @@ use Rattle.bp_core.specs.declared.passes.Fix.{Fix as Fixing}
 use Rattle.bp_core.specs.declared.passes.Fix.TheVariants as fixing
 use Rattle.bp_core.specs.declared.passes.Ended.{Ended}
 use Rattle.bp_core.specs.declared.passes.Ended.TheVariants as ended
-use Rattle.bp_trail.specs.Event.{Grant, grant}
+use Rattle.bp_trail.specs.Event.{grant}
 use Rattle.bp_trail.specs.Trail.{Trail}
-use Rattle.bp_trail.specs.Passes.{passes_out}
-use Rattle.bp_trail.specs.Pieces.{by, FixGoesOn, FixPiece}
+use Rattle.bp_trail.specs.Pieces.{by, FixGoesOn}
 use Rattle.bp_trail.specs.Pieces.Manner.{session}
 use Rattle.bp_trail.specs.Pieces.FixGoesOn.{begins, marked, waited, cleaned, still_dirty}
 use Rattle.bp_trail.specs.Pieces.FixPiece.{hit, fixed, no_victim, need_log, read_failed, write_failed, lost_read, lost_write, no_room, no_memory}
 use Rattle.bp_shared.specs.Books.{OwesRead, OwesWrite}
 use Rattle.bp_shared.specs.Turns.{is_busy, FixWaits, FixTurn, EndReadOutcome, EndWriteOutcome, LoadOutcome, WriteOutOutcome}
-use Rattle.bp_shared.specs.Sessions.{Says, Gives, FixSaid}
+use Rattle.bp_shared.specs.Sessions.{Gives, FixSaid}
 
 goes_on-append : (client page : ℕ) (xs ys : Trail) → FixGoesOn session client page xs → FixGoesOn session client page ys → FixGoesOn session client page (xs ++ ys)
 goes_on-append client page _ ys begins q = q

@@ -1,27 +1,25 @@
 -- A flush, turn by turn.
-use Rattle.std.proofs.Common.{◌≡◌, refl, sym, ap, subst, ◌∙◌, ℕ, true, false, List, [], ◌∷◌, ◌++◌, append_assoc, Option, Some, None, Result, Ok, Err}
+use Rattle.std.proofs.Common.{◌≡◌, refl, sym, ap, subst, ◌∙◌, ℕ, true, false, [], ◌∷◌, ◌++◌, append_assoc, None, Result, Ok, Err}
 use Rattle.bp_page.specs.declared.refusals.Refusal.{Refusal}
 use Rattle.bp_page.specs.declared.refusals.Refusal.TheVariants as refusal
 use Rattle.bp_page.specs.declared.refusals.PortFault.{PortFault}
 use Rattle.bp_trail.specs.declared.entries.Entry.{Entry}
-use Rattle.bp_trail.specs.declared.entries.Call.TheVariants.{Mark, Flush, WriteEnd}
-use Rattle.bp_trail.specs.declared.entries.Reply.{Reply}
-use Rattle.bp_trail.specs.declared.entries.Reply.TheVariants.{Done, WriteFirst, NeedLog, Busy, Cleaned, StillDirty, WriteFailed, Clean, Absent}
+use Rattle.bp_trail.specs.declared.entries.Call.TheVariants.{Flush, WriteEnd}
+use Rattle.bp_trail.specs.declared.entries.Reply.TheVariants.{WriteFirst, NeedLog, Busy, Cleaned, StillDirty, WriteFailed, Clean, Absent}
 use Rattle.bp_core.specs.declared.passes.WriteTicket.{WriteTicket}
 use Rattle.bp_core.specs.declared.passes.Flush.{Flush as Flushing}
 use Rattle.bp_core.specs.declared.passes.Flush.TheVariants as flushing
 use Rattle.bp_core.specs.declared.passes.Ended.{Ended}
 use Rattle.bp_core.specs.declared.passes.Ended.TheVariants as ended
 use Rattle.bp_trail.specs.Trail.{Trail}
-use Rattle.bp_trail.specs.Pieces.{by, FlushGoesOn, FlushPiece}
+use Rattle.bp_trail.specs.Pieces.{by, FlushGoesOn}
 use Rattle.bp_trail.specs.Pieces.Manner.{session}
 use Rattle.bp_trail.specs.Pieces.FlushGoesOn.{begins, marked, waited}
 use Rattle.bp_trail.specs.Pieces.FlushPiece.{clean, absent, cleaned, still_dirty, need_log, write_failed, lost_write, no_room, no_memory}
 use Rattle.bp_device.specs.declared.drivers.Flushed.{Flushed}
 use Rattle.bp_device.specs.declared.drivers.Flushed.TheVariants as flushed
-use Rattle.bp_shared.specs.Books.{OwesWrite}
 use Rattle.bp_shared.specs.Turns.{is_busy, ended_reply, FlushWaits, FlushTurn, EndWriteOutcome, WriteOutOutcome}
-use Rattle.bp_shared.specs.Sessions.{Says, Gives, FlushSaid}
+use Rattle.bp_shared.specs.Sessions.{Gives, FlushSaid}
 use Rattle.bp_device.specs.Drivers.{flushed_reply}
 use Rattle.bp_shared.proofs.Fixing.{is-busy}
 

@@ -1,6 +1,5 @@
 -- The sessions of a new pool.
-use Rattle.std.proofs.Common.{◌≡◌, refl, sym, ap, ◌∙◌, ℕ, ◌+◌, suc, add-one, List, [], ◌∷◌, ◌++◌}
-use Rattle.bp_trail.specs.Trail.{Trail}
+use Rattle.std.proofs.Common.{◌≡◌, sym, ap, ◌∙◌, ℕ, suc, List, [], ◌∷◌, ◌++◌}
 use Rattle.bp_shared.specs.Sessions.{SessionValue, new_sessions}
 
 pub sessions_more : (n m : ℕ) (made more : List SessionValue) (s : SessionValue) → made ≡ new_sessions n → more ≡ made ++ s ∷ [] → s.client ≡ n → s.said ≡ [] → m ≡ suc n → more ≡ new_sessions m

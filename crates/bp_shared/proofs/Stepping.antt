@@ -1,21 +1,17 @@
 -- What the locked state and a session's list have in common after a critical section, and what one turn of a call adds.
-use Rattle.std.proofs.Common.{◌≡◌, ◌⊎◌, refl, sym, ap, subst, ◌∙◌, ℕ, Bool, true, false, List, [], ◌∷◌, ◌++◌, Option, Some, None, Result, Ok, Err, inl, inr}
+use Rattle.std.proofs.Common.{◌≡◌, ◌⊎◌, refl, ap, subst, ◌∙◌, ℕ, true, false, [], ◌∷◌, Result, Ok, Err, inl, inr}
 use Rattle.bp_page.specs.declared.refusals.Refusal.{Refusal}
 use Rattle.bp_page.specs.declared.refusals.Refusal.TheVariants as refusal
-use Rattle.bp_trail.specs.declared.entries.Entry.{Entry}
-use Rattle.bp_trail.specs.declared.entries.Call.TheVariants.{Mark, Fix, Flush}
+use Rattle.bp_trail.specs.declared.entries.Call.TheVariants.{Mark}
 use Rattle.bp_trail.specs.declared.entries.Reply.TheVariants.{Done}
-use Rattle.bp_core.specs.declared.passes.Fix.{Fix as Fixing}
-use Rattle.bp_core.specs.declared.passes.Flush.{Flush as Flushing}
 use Rattle.bp_trail.specs.Trail.{Trail}
 use Rattle.bp_core.specs.CoreView.{CoreView, with_entry}
-use Rattle.bp_trail.specs.Pieces.{by, FixGoesOn, FlushGoesOn}
-use Rattle.bp_trail.specs.Pieces.Manner.{session}
+use Rattle.bp_trail.specs.Pieces.{by}
 use Rattle.bp_trail.specs.Pieces.FixGoesOn.{begins as fix_begins, marked as fix_marked_by}
 use Rattle.bp_trail.specs.Pieces.FlushGoesOn.{begins as flush_begins, marked as flush_marked_by}
 use Rattle.bp_shared.specs.Rings.{Unfixed}
 use Rattle.bp_shared.specs.Locked.{Alike, InStep}
-use Rattle.bp_shared.specs.Turns.{look_refuses, LookOutcome, AskFixOutcome, AskFlushOutcome, FixWaits, FlushWaits, FixTurn, FlushTurn}
+use Rattle.bp_shared.specs.Turns.{LookOutcome, AskFixOutcome, AskFlushOutcome, FixWaits, FlushWaits, FixTurn, FlushTurn}
 
 -- only unfixes so far
 pub step_none : (old mid : CoreView) (said after : Trail) → Unfixed old.past mid.past → mid.parameters ≡ old.parameters → after ≡ said → InStep old said mid after

@@ -1,5 +1,5 @@
 -- What the locked state and a session's list have in common.
-use Rattle.std.specs.Prelude.{◌≡◌, ◌⊎◌, ℕ, ◌≤◌, List, ◌∷◌, ◌++◌}
+use Rattle.std.specs.Prelude.{◌≡◌, ◌⊎◌, ◌≤◌, ◌∷◌, ◌++◌}
 use Rattle.bp_mark.specs.Marks.{MarkName, ReaderValue}
 use Rattle.bp_trail.specs.declared.entries.Entry.{Entry}
 use Rattle.bp_trail.specs.Parameters.{Parameters}

@@ -1,6 +1,5 @@
 -- Passes that went back: those that a list of entries posted, and those that a locked core took from a ring.
-use Rattle.std.specs.Prelude.{◌≡◌, ◌⊎◌, ℕ, ◌+◌, min, ◌≤◌, ◌^◌, ◌-◌, Bool, true, false, List, [], ◌∷◌, ◌++◌, length, reverse, filter_map, Option, Some, None}
-use Rattle.bp_trail.specs.declared.entries.Entry.{Entry}
+use Rattle.std.specs.Prelude.{◌≡◌, ◌⊎◌, ℕ, ◌+◌, min, ◌≤◌, ◌^◌, ◌-◌, true, false, List, [], ◌∷◌, ◌++◌, length, reverse, filter_map, Option, Some, None}
 use Rattle.bp_trail.specs.declared.entries.Call.{Call}
 use Rattle.bp_trail.specs.declared.entries.Call.TheVariants.{Unfix}
 use Rattle.bp_trail.specs.Event.{Grant, grant}

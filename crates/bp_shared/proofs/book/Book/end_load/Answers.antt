@@ -1,5 +1,5 @@
 -- One ticket fewer, one pass more, and one blank spent; or nothing, and the blank is put back.
-use Rattle.std.proofs.Common.{rules, arith, ◌≡◌, ap, sym, subst, ◌∙◌, reverse, length, All, List, ℕ, [], ◌∷◌}
+use Rattle.std.proofs.Common.{rules, ◌≡◌, ap, sym, subst, ◌∙◌, reverse, length, All, List, ℕ, [], ◌∷◌}
 use Rattle.std.proofs.lemmas.List.Elements.{All-append}
 use Rattle.bp_trail.proofs.Counting.{reverse-push}
 use Rattle.bp_shared.proofs.Asking.{loaded_alike}

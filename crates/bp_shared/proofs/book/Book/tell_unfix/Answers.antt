@@ -1,7 +1,5 @@
 -- One pass fewer.
-use Rattle.std.proofs.Common.{rules, ◌≡◌, ap, ◌∙◌, reverse, true}
-use Rattle.bp_trail.specs.Passes.{passes_out}
-use Rattle.bp_trail.specs.Legal.{is_out}
+use Rattle.std.proofs.Common.{rules, ap, ◌∙◌, reverse}
 use Rattle.bp_trail.proofs.Counting.{reverse-push}
 use Rattle.bp_shared.proofs.Posting.{keeps_unfixed, held_of_list}
 use Rattle.bp_shared.proofs.book.Book.tell_unfix.Goals as goal

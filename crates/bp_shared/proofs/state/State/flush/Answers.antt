@@ -1,5 +1,5 @@
 -- Rings drained, at most one mark, one event.
-use Rattle.std.proofs.Common.{rules, refl}
+use Rattle.std.proofs.Common.{refl}
 use Rattle.bp_shared.proofs.Stepping.{step_one, step_two, flush_marked, flush_not_ready}
 use Rattle.bp_shared.proofs.state.State.flush.Goals as goal
 

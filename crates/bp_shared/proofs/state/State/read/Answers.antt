@@ -1,5 +1,4 @@
 -- Rings drained, and one event.
-use Rattle.std.proofs.Common.{rules}
 use Rattle.bp_shared.proofs.Stepping.{step_none, step_one}
 use Rattle.bp_shared.proofs.state.State.read.Goals as goal
 
