@@ -193,6 +193,15 @@ impl ReadTicket {
     {
         self.serial
     }
+
+    /// Spends the ticket. No core is asked: where one knows the ticket, its read stays in flight.
+    pub fn forfeit(self) {
+        let ReadTicket {
+            client: _,
+            page: _,
+            serial: _,
+        } = self;
+    }
 }
 
 impl WriteTicket {
@@ -229,5 +238,16 @@ impl WriteTicket {
         ensures { result ≡ self.now.lsn }
     {
         self.lsn
+    }
+
+    /// Spends the ticket. No core is asked: where one knows the ticket, its write-out stays in flight.
+    pub fn forfeit(self) {
+        let WriteTicket {
+            client: _,
+            page: _,
+            serial: _,
+            image: _,
+            lsn: _,
+        } = self;
     }
 }

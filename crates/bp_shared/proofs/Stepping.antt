@@ -1,0 +1,73 @@
+-- What the locked state and a session's list have in common after a critical section, and what one turn of a call adds.
+use Rattle.std.proofs.Common.{◌≡◌, ◌⊎◌, refl, ap, subst, ◌∙◌, ℕ, true, false, [], ◌∷◌, Result, Ok, Err, inl, inr}
+use Rattle.bp_page.specs.declared.refusals.Refusal.{Refusal}
+use Rattle.bp_page.specs.declared.refusals.Refusal.TheVariants as refusal
+use Rattle.bp_trail.specs.declared.entries.Call.TheVariants.{Mark}
+use Rattle.bp_trail.specs.declared.entries.Reply.TheVariants.{Done}
+use Rattle.bp_trail.specs.Trail.{Trail}
+use Rattle.bp_core.specs.CoreView.{CoreView, with_entry}
+use Rattle.bp_trail.specs.Pieces.{by}
+use Rattle.bp_trail.specs.Pieces.FixGoesOn.{begins as fix_begins, marked as fix_marked_by}
+use Rattle.bp_trail.specs.Pieces.FlushGoesOn.{begins as flush_begins, marked as flush_marked_by}
+use Rattle.bp_shared.specs.Rings.{Unfixed}
+use Rattle.bp_shared.specs.Locked.{Alike, InStep}
+use Rattle.bp_shared.specs.Turns.{LookOutcome, AskFixOutcome, AskFlushOutcome, FixWaits, FlushWaits, FixTurn, FlushTurn}
+
+-- only unfixes so far
+pub step_none : (old mid : CoreView) (said after : Trail) → Unfixed old.past mid.past → mid.parameters ≡ old.parameters → after ≡ said → InStep old said mid after
+step_none old mid said after back same grows = record { past = mid.past; unfixed = back; piece = []; is = λ i. record { parameters = same i; past = mid.past }; grows = grows }
+
+-- one more entry in both
+pub step_more : (old mid new : CoreView) (said told after : Trail) → InStep old said mid told → Alike mid told new after → InStep old said new after
+step_more old mid new said told after s (inl a) = record { past = s.past; unfixed = s.unfixed; piece = s.piece; is = a.0 ∙ s.is; grows = a.1 ∙ s.grows }
+step_more old mid new said told after s (inr a) =
+    let e = a.0 in
+    record {
+      past = s.past;
+      unfixed = s.unfixed;
+      piece = e ∷ s.piece;
+      is = a.1 ∙ ap (λ (core : CoreView). with_entry core e.client e.call e.reply) s.is;
+      grows = a.2 ∙ ap (λ es. e ∷ es) s.grows;
+    }
+
+-- an event with no mark before it
+pub step_one : (old mid new : CoreView) (said told after : Trail) → Unfixed old.past mid.past → mid.parameters ≡ old.parameters → told ≡ said → Alike mid told new after → InStep old said new after
+step_one old mid new said told after back same grows a = step_more old mid new said told after (step_none old mid said told back same grows) a
+
+pub step_two : (old mid marked new : CoreView) (said told after : Trail) → Unfixed old.past mid.past → mid.parameters ≡ old.parameters → Alike mid said marked told → Alike marked told new after → InStep old said new after
+step_two old mid marked new said told after back same a b = step_more old marked new said told after (step_one old mid marked said said told back same refl a) b
+
+-- ---- turns
+
+abbrev err : (A : Type 0) → Refusal → Result A Refusal
+err A r = Err r
+
+pub fix_marked : {A : Type 0} (client page : ℕ) (done : Result A Refusal) (x : A) (said after : Trail) → done ≡ Ok x → LookOutcome client done said after → FixWaits client page said after
+fix_marked client page done x said after is h = go (subst (λ r. LookOutcome client r said after) is h)
+  where
+    go : (after ≡ said) ⊎ ((lsn : ℕ) × (after ≡ by client (Mark lsn) Done ∷ said)) → FixWaits client page said after
+    go (inl same) = record { piece = []; goes_on = fix_begins; grows = same }
+    go (inr m) = record { piece = by client (Mark m.0) Done ∷ []; goes_on = fix_marked_by m.0 refl fix_begins; grows = m.1 }
+
+pub flush_marked : {A : Type 0} (client page : ℕ) (done : Result A Refusal) (x : A) (said after : Trail) → done ≡ Ok x → LookOutcome client done said after → FlushWaits client page said after
+flush_marked client page done x said after is h = go (subst (λ r. LookOutcome client r said after) is h)
+  where
+    go : (after ≡ said) ⊎ ((lsn : ℕ) × (after ≡ by client (Mark lsn) Done ∷ said)) → FlushWaits client page said after
+    go (inl same) = record { piece = []; goes_on = flush_begins; grows = same }
+    go (inr m) = record { piece = by client (Mark m.0) Done ∷ []; goes_on = flush_marked_by m.0 refl flush_begins; grows = m.1 }
+
+pub fix_not_ready : (A : Type 0) (client page : ℕ) (why : Refusal) (said after : Trail) → LookOutcome client (err A why) said after → FixTurn client page (Err why) said after
+fix_not_ready A client page why said after h = record { marked = said; waits = record { piece = []; goes_on = fix_begins; grows = refl }; asks = go why h }
+  where
+    go : (why : Refusal) → LookOutcome client (err A why) said after → AskFixOutcome client page (Err why) said after
+    go refusal.TrailFull h = (refl, h.1)
+    go refusal.OutOfMemory h = (refl, h.1)
+    go _ h = absurd (let no : false ≡ true = h.0 in cc)
+
+pub flush_not_ready : (A : Type 0) (client page : ℕ) (why : Refusal) (said after : Trail) → LookOutcome client (err A why) said after → FlushTurn client page (Err why) said after
+flush_not_ready A client page why said after h = record { marked = said; waits = record { piece = []; goes_on = flush_begins; grows = refl }; asks = go why h }
+  where
+    go : (why : Refusal) → LookOutcome client (err A why) said after → AskFlushOutcome client page (Err why) said after
+    go refusal.TrailFull h = (refl, h.1)
+    go refusal.OutOfMemory h = (refl, h.1)
+    go _ h = absurd (let no : false ≡ true = h.0 in cc)

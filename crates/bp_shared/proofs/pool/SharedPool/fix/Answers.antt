@@ -1,0 +1,47 @@
+-- Turn after turn.
+use Rattle.std.proofs.Common.{rules, refl, ◌∙◌}
+use Rattle.bp_shared.proofs.Fixing.{waits_none, turn_more, hit_said, busy_waits, refused_said, load_said, written_waits, unwritten_said}
+use Rattle.bp_shared.proofs.pool.SharedPool.fix.Goals as goal
+
+pub loop-init : goal.loop-init
+loop-init g c = record { client = refl; port = refl; waits = waits_none _ _ _ }
+
+pub returns-in-Ok-Hit-clause-outcome : goal.returns-in-Ok-Hit-clause-outcome
+returns-in-Ok-Hit-clause-outcome g c =
+    let i = c.loop.invariant in
+    let t = rw (c.in-Ok-Hit.field-0-is, i.client) at c.in-Ok-Hit.ensures.turn in
+    hit_said _ _ c.in-Ok-Hit.pass _ _ (turn_more _ _ _ _ _ _ i.waits t)
+
+pub returns-in-Ok-Load-clause-outcome : goal.returns-in-Ok-Load-clause-outcome
+returns-in-Ok-Load-clause-outcome g c =
+    let i = c.loop.invariant in
+    let t = rw (c.in-Ok-Load.field-0-is, i.client) at c.in-Ok-Load.ensures.turn in
+    load_said _ _ c.in-Ok-Load.ticket _ _ _ _ _ (turn_more _ _ _ _ _ _ i.waits t) c.load.ensures.outcome
+
+pub loop-preserved-in-Ok : goal.loop-preserved-in-Ok
+loop-preserved-in-Ok g c =
+    let i = c.loop.invariant in
+    let t = rw (c.in-Ok-WriteFirst.field-0-is, i.client) at c.in-Ok-WriteFirst.ensures.turn in
+    record {
+      client = c.write_out.ensures.client ∙ c.fix.ensures.client ∙ i.client;
+      port = c.write_out.ensures.port ∙ i.port;
+      waits = written_waits _ _ c.in-Ok-WriteFirst.ticket _ _ _ _ (turn_more _ _ _ _ _ _ i.waits t) c.in-Ok.ensures.outcome;
+    }
+
+pub returns-in-Err-write_out-clause-outcome : goal.returns-in-Err-write_out-clause-outcome
+returns-in-Err-write_out-clause-outcome g c =
+    let i = c.loop.invariant in
+    let t = rw (c.in-Ok-WriteFirst.field-0-is, i.client) at c.in-Ok-WriteFirst.ensures.turn in
+    unwritten_said _ _ c.in-Ok-WriteFirst.ticket c.in-Err-write_out.refusal _ _ _ (turn_more _ _ _ _ _ _ i.waits t) c.in-Err-write_out.ensures.outcome
+
+pub loop-preserved : goal.loop-preserved
+loop-preserved g c =
+    let i = c.loop.invariant in
+    let t = rw i.client at c.in-Err.ensures.turn in
+    record { client = c.fix.ensures.client ∙ i.client; port = i.port; waits = busy_waits _ _ c.in-Err.refusal _ _ (search rules) (turn_more _ _ _ _ _ _ i.waits t) }
+
+pub returns-then-not-is_busy : goal.returns-then-not-is_busy
+returns-then-not-is_busy g c =
+    let i = c.loop.invariant in
+    let t = rw i.client at c.in-Err.ensures.turn in
+    record { client = c.fix.ensures.client ∙ i.client; port = i.port; outcome = refused_said _ _ c.in-Err.refusal _ _ (search rules) (turn_more _ _ _ _ _ _ i.waits t) }

@@ -1,0 +1,12 @@
+-- The turns so far.
+use Rattle.std.proofs.Common.{◌≡◌}
+use Rattle.bp_shared.specs.Turns.{FlushWaits}
+use Rattle.bp_shared.proofs.pool.SharedPool.flush.Given as goal
+
+abbrev pub invariant-loop : goal.invariant-loop
+invariant-loop g l =
+    record {
+      client : l.session.client ≡ l.initial.session.client;
+      port : g.P.Port.geometry_of l.port ≡ g.P.Port.geometry_of l.initial.port;
+      waits : FlushWaits l.initial.session.client l.page l.initial.session.said l.session.said;
+    }

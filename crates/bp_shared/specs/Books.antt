@@ -1,0 +1,86 @@
+-- What a session keeps for itself, and the room in which it keeps what it owes.
+use Rattle.std.specs.Prelude.{◌≡◌, ℕ, ◌+◌, ◌*◌, ◌≤◌, Bool, true, false, List, ◌∷◌, length, All, Option}
+use Rattle.bp_core.specs.declared.passes.ReadTicket.{ReadTicket}
+use Rattle.bp_core.specs.declared.passes.WriteTicket.{WriteTicket}
+use Rattle.bp_trail.specs.declared.entries.Call.{Call}
+use Rattle.bp_trail.specs.declared.entries.Call.TheVariants.{Fix, ReadEnd, WriteEnd, Unfix}
+use Rattle.bp_trail.specs.declared.entries.Reply.{Reply}
+use Rattle.bp_trail.specs.declared.entries.Reply.TheVariants.{Hit, Load, WriteFirst, Fixed}
+use Rattle.bp_trail.specs.Event.{Grant}
+use Rattle.bp_trail.specs.Trail.{Trail}
+use Rattle.bp_trail.specs.Passes.{reads_out, writes_out}
+use Rattle.bp_trail.specs.Pieces.{by}
+use Rattle.bp_trail.specs.Script.{held_passes}
+use Rattle.bp_shared.specs.Rings.{unfixes}
+
+-- a client's own list, newest first, the bytes of a page, and the room beyond all that the list owes: for entries, for passes held, and for copies of images
+pub record BookValue : Type 0 where
+  pub client : ℕ
+  pub size : ℕ
+  pub said : Trail
+  pub entries : ℕ
+  pub passes : ℕ
+  pub copies : ℕ
+
+-- the list and its owner stay
+pub record SameBook (old new : BookValue) : Type 0 where
+  pub client : new.client ≡ old.client
+  pub size : new.size ≡ old.size
+  pub said : new.said ≡ old.said
+
+-- no pass went back
+pub record SameOwner (old new : BookValue) : Type 0 where
+  pub client : new.client ≡ old.client
+  pub size : new.size ≡ old.size
+  pub unfixes_are : unfixes new.said ≡ unfixes old.said
+
+-- the list has one more entry of its owner
+pub record Tells (old : BookValue) (call : Call) (reply : Reply) (new : BookValue) : Type 0 where
+  pub client : new.client ≡ old.client
+  pub size : new.size ≡ old.size
+  pub said : new.said ≡ by old.client call reply ∷ old.said
+
+-- the passes held are those that the list leaves out, and there is room for what is owed: an unfix for each of them; for each ticket out an end,
+-- an unfix and a copy of an image
+pub record KeepsRoom (client size : ℕ) (said : Trail) (held : List Grant) (tickets kept : ℕ) (blanks : List (List ℕ)) (for_said for_held : ℕ) : Type 0 where
+  pub held_are : held ≡ held_passes said
+  pub own : All (λ g. g.client ≡ client) held
+  pub few : length (reads_out said) + length (writes_out said) ≤ tickets
+  pub entries_fit : kept + (length held + 2 * tickets) ≤ for_said
+  pub passes_fit : length held + tickets ≤ for_held
+  pub copies_fit : tickets ≤ length blanks
+  pub sized : All (λ b. length b ≡ size) blanks
+
+-- no pass or ticket is given back by the call, or given by the reply
+abbrev pub plain_call : Call → Bool
+plain_call (ReadEnd t p image) = false
+plain_call (WriteEnd t p good) = false
+plain_call (Unfix n p) = false
+plain_call _ = true
+
+abbrev pub plain_reply : Reply → Bool
+plain_reply (Hit n) = false
+plain_reply (Fixed n) = false
+plain_reply (Load t victim) = false
+plain_reply (WriteFirst t p image) = false
+plain_reply _ = true
+
+-- the newest entry of the list gave the client this ticket
+pub record OwesRead (client : ℕ) (ticket : ReadTicket) (said : Trail) : Type 0 where
+  pub evicted : Option ℕ
+  pub before : Trail
+  pub whose : ticket.client ≡ client
+  pub gave : said ≡ by client (Fix ticket.page) (Load ticket.serial evicted) ∷ before
+
+pub record OwesWriteEnd (client ticket : ℕ) (said : Trail) : Type 0 where
+  pub call : Call
+  pub page : ℕ
+  pub image : List ℕ
+  pub before : Trail
+  pub gave : said ≡ by client call (WriteFirst ticket page image) ∷ before
+
+pub record OwesWrite (client : ℕ) (ticket : WriteTicket) (said : Trail) : Type 0 where
+  pub call : Call
+  pub before : Trail
+  pub whose : ticket.client ≡ client
+  pub gave : said ≡ by client call (WriteFirst ticket.serial ticket.page ticket.image) ∷ before

@@ -1,0 +1,44 @@
+-- Passes that went back: those that a list of entries posted, and those that a locked core took from a ring.
+use Rattle.std.specs.Prelude.{◌≡◌, ◌⊎◌, ℕ, ◌+◌, min, ◌≤◌, ◌^◌, ◌-◌, true, false, List, [], ◌∷◌, ◌++◌, length, reverse, filter_map, Option, Some, None}
+use Rattle.bp_trail.specs.declared.entries.Call.{Call}
+use Rattle.bp_trail.specs.declared.entries.Call.TheVariants.{Unfix}
+use Rattle.bp_trail.specs.Event.{Grant, grant}
+use Rattle.bp_trail.specs.Trail.{Trail}
+use Rattle.bp_trail.specs.Passes.{passes_out}
+use Rattle.bp_trail.specs.Legal.{is_out}
+use Rattle.bp_trail.specs.Script.{give_back}
+
+abbrev pub pass_unfixed : ℕ → Call → Option Grant
+pass_unfixed client (Unfix n p) = Some (grant client p n)
+pass_unfixed client _ = None
+
+-- the passes that these entries gave back, newest first
+abbrev pub unfixes : Trail → List Grant
+unfixes past = filter_map (λ e. pass_unfixed e.client e.call) past
+
+-- one stray more, where the count still has room for it
+abbrev pub one_more : ℕ → ℕ
+one_more strays = min (strays + 1) (2 ^ 64 - 1)
+
+-- a pass that is out goes back, and any other is a stray
+abbrev pub OneBack : Trail → ℕ → Grant → Trail → ℕ → Type 0
+OneBack start strays g past strayed =
+    ((is_out g (passes_out start) ≡ true) × (past ≡ give_back g ∷ start) × (strayed ≡ strays)) ⊎ ((is_out g (passes_out start) ≡ false) × (past ≡ start) × (strayed ≡ one_more strays))
+
+-- the passes that were taken from a ring, newest first, each given back in its turn
+pub data GoBack (start : Trail) (strays : ℕ) : List Grant → Trail → ℕ → Type 0 where
+  none_taken : GoBack start strays [] start strays
+  next_taken : {taken : List Grant} {past after : Trail} {strayed now_strayed : ℕ} (g : Grant) → GoBack start strays taken past strayed → OneBack past strayed g after now_strayed
+      → GoBack start strays (g ∷ taken) after now_strayed
+
+-- a ring was drained: what it gave, at most so many passes, went back in order
+pub record DrainsRing (most : ℕ) (received received_after : List Grant) (start : Trail) (strays : ℕ) (past : Trail) (strayed : ℕ) : Type 0 where
+  pub taken : List Grant
+  pub few : length taken ≤ most
+  pub gave : received_after ≡ received ++ reverse taken
+  pub go_back : GoBack start strays taken past strayed
+
+-- the same as entries alone: the unfix of each of some passes that were out
+pub data Unfixed (start : Trail) : Trail → Type 0 where
+  no_more : Unfixed start start
+  unfixed : {past : Trail} (g : Grant) → is_out g (passes_out past) ≡ true → Unfixed start past → Unfixed start (give_back g ∷ past)

@@ -1,0 +1,95 @@
+-- What a session's call adds to the session's list, newest first, by what it answers.
+use Rattle.std.specs.Prelude.{◌≡◌, ℕ, zero, suc, true, false, List, [], ◌∷◌, ◌++◌, Option, Some, None, Result, Ok, Err}
+use Rattle.bp_page.specs.declared.refusals.Refusal.{Refusal}
+use Rattle.bp_page.specs.Refusals.{number_of}
+use Rattle.bp_page.specs.declared.refusals.Refusal.TheVariants as refusal
+use Rattle.bp_core.specs.declared.passes.Pass.{Pass}
+use Rattle.bp_trail.specs.declared.entries.Call.TheVariants.{Tick, Read, Write, Unfix, Purge}
+use Rattle.bp_trail.specs.declared.entries.Reply.{Reply}
+use Rattle.bp_trail.specs.declared.entries.Reply.TheVariants.{Done, NeedLog, Content, Forgot}
+use Rattle.bp_trail.specs.Lists.{and_given}
+use Rattle.bp_trail.specs.Event.{Grant, grant}
+use Rattle.bp_trail.specs.Trail.{Trail}
+use Rattle.bp_trail.specs.Passes.{passes_out}
+use Rattle.bp_core.specs.Outcomes.{pass_is_out}
+use Rattle.bp_trail.specs.Pieces.{by, FixPiece, FlushPiece}
+use Rattle.bp_trail.specs.Pieces.Manner.{session}
+use Rattle.bp_trail.specs.Pieces.Outcome.{accepted, refused}
+use Rattle.bp_device.specs.declared.drivers.Flushed.{Flushed}
+use Rattle.bp_device.specs.Drivers.{flushed_reply}
+
+-- whose session it is, and its list
+pub record SessionValue : Type 0 where
+  pub client : ℕ
+  pub said : Trail
+
+-- a session for each client, in order, that said nothing
+abbrev pub new_sessions : ℕ → List SessionValue
+new_sessions zero = []
+new_sessions (suc n) = new_sessions n ++ record { client = n; said = [] } ∷ []
+
+-- the reply of the newest entry
+abbrev pub LastReplyIs : Reply → Trail → Type 0
+LastReplyIs reply [] = ⊥
+LastReplyIs reply (e ∷ older) = e.reply ≡ reply
+
+-- whatever was out before the piece is out after it, with the pass that it gave
+abbrev pub Gives : Trail → Option Grant → Type 0
+Gives piece given = (said : Trail) → passes_out (piece ++ said) ≡ and_given given (passes_out said)
+
+-- the list has one more piece, which is as P says
+pub record Says (P : Trail → Type 0) (given : Option Grant) (said after : Trail) : Type 0 where
+  pub piece : Trail
+  pub grows : after ≡ piece ++ said
+  pub of_row : P piece
+  pub gives : Gives piece given
+
+-- the LSN of a refusal is that of the piece's last reply
+abbrev pub Repeats : Refusal → Trail → Type 0
+Repeats (refusal.NeedLog lsn) piece = LastReplyIs (NeedLog lsn) piece
+Repeats _ piece = Unit {0}
+
+abbrev pub FixSaid : ℕ → ℕ → Result Pass Refusal → Trail → Trail → Type 0
+FixSaid client page (Ok pass) said after =
+    (pass.client ≡ client) × (pass.page ≡ page) × Says (λ piece. FixPiece session client page piece accepted) (Some (grant client page pass.serial)) said after
+FixSaid client page (Err why) said after = Says (λ piece. FixPiece session client page piece (refused (number_of why)) × Repeats why piece) None said after
+
+abbrev pub FlushSaid : ℕ → ℕ → Result Flushed Refusal → Trail → Trail → Type 0
+FlushSaid client page (Ok how) said after = Says (λ piece. FlushPiece session client page piece accepted × LastReplyIs (flushed_reply how) piece) None said after
+FlushSaid client page (Err why) said after = Says (λ piece. FlushPiece session client page piece (refused (number_of why)) × Repeats why piece) None said after
+
+-- calls of one event: the entry with the reply that the call answers, or a refusal and no entry; a pass is the client's own, or refused
+abbrev pub ReadSaid : ℕ → Pass → Result (List ℕ) Refusal → Trail → Trail → Type 0
+ReadSaid client pass (Ok image) said after = (pass.client ≡ client) × (after ≡ by client (Read pass.serial pass.page) (Content image) ∷ said)
+ReadSaid client pass (Err refusal.UnknownPass) said after = after ≡ said
+ReadSaid client pass (Err refusal.TrailFull) said after = (pass.client ≡ client) × (after ≡ said)
+ReadSaid client pass (Err refusal.OutOfMemory) said after = (pass.client ≡ client) × (after ≡ said)
+ReadSaid client pass (Err _) said after = ⊥
+
+abbrev pub WriteSaid : {A : Type 0} → ℕ → Pass → ℕ → List ℕ → ℕ → Result A Refusal → Trail → Trail → Type 0
+WriteSaid client pass offset bytes lsn (Ok done) said after = (pass.client ≡ client) × (after ≡ by client (Write pass.serial pass.page offset bytes lsn) Done ∷ said)
+WriteSaid client pass offset bytes lsn (Err refusal.UnknownPass) said after = after ≡ said
+WriteSaid client pass offset bytes lsn (Err refusal.TrailFull) said after = (pass.client ≡ client) × (after ≡ said)
+WriteSaid client pass offset bytes lsn (Err refusal.OutOfMemory) said after = (pass.client ≡ client) × (after ≡ said)
+WriteSaid client pass offset bytes lsn (Err _) said after = ⊥
+
+abbrev pub TickSaid : {A : Type 0} → ℕ → ℕ → Result A Refusal → Trail → Trail → Type 0
+TickSaid client n (Ok done) said after = after ≡ by client (Tick n) Done ∷ said
+TickSaid client n (Err refusal.TrailFull) said after = after ≡ said
+TickSaid client n (Err refusal.ClockFull) said after = after ≡ said
+TickSaid client n (Err refusal.OutOfMemory) said after = after ≡ said
+TickSaid client n (Err _) said after = ⊥
+
+abbrev pub PurgeSaid : ℕ → Result ℕ Refusal → Trail → Trail → Type 0
+PurgeSaid client (Ok n) said after = after ≡ by client Purge (Forgot n) ∷ said
+PurgeSaid client (Err refusal.TrailFull) said after = after ≡ said
+PurgeSaid client (Err refusal.OutOfMemory) said after = after ≡ said
+PurgeSaid client (Err _) said after = ⊥
+
+-- a pass that the list leaves out is posted, or finds the ring full; any other is unknown
+abbrev pub UnfixSaid : {A : Type 0} → ℕ → Pass → Result A (Pass × Refusal) → Trail → Trail → Type 0
+UnfixSaid client pass (Ok done) said after =
+    (pass_is_out pass said ≡ true) × (pass.client ≡ client) × (after ≡ by client (Unfix pass.serial pass.page) Done ∷ said)
+UnfixSaid client pass (Err (back, refusal.UnknownPass)) said after = (pass_is_out pass said ≡ false) × (back ≡ pass) × (after ≡ said)
+UnfixSaid client pass (Err (back, refusal.RingFull)) said after = (pass_is_out pass said ≡ true) × (back ≡ pass) × (after ≡ said)
+UnfixSaid client pass (Err (back, _)) said after = ⊥

@@ -1,0 +1,18 @@
+//! A buffer pool that many clients share: a core behind one lock, a session for each client, and the durable mark.
+//!
+//! Each call of a session is one or more critical sections, and in each the locked core makes its events. Device work is done
+//! outside the lock (Gray and Reuter, chapter 13). A pass goes back through the session's own ring, with no lock.
+#![tactic(auto)]
+
+mod book;
+pub mod names;
+pub mod pool;
+mod session;
+mod state;
+#[cfg(test)]
+mod tests;
+
+pub use bp_device::Flushed;
+pub use names::PoolName;
+pub use pool::SharedPool;
+pub use session::Session;

@@ -1,0 +1,106 @@
+//! Fixes of shared pages, with their device work.
+ghost use Rattle.std.specs.Prelude.{◌≡◌, ◌<◌};
+
+use super::{SharedPool, is_busy};
+use crate::names::PoolName;
+use crate::session::Session;
+use bp_core::{Ended, Fix, Pass, ReadTicket, WriteTicket};
+use bp_device::Port;
+use bp_page::{PageNo, Refusal};
+use std::sync::Wait;
+
+impl<N: PoolName> SharedPool<N> {
+    ghost use Rattle.std.specs.Prelude.{◌≡◌, ◌<◌};
+    ghost use Rattle.bp_shared.specs.Books.{OwesRead, OwesWrite};
+    ghost use Rattle.bp_shared.specs.Turns.{LoadOutcome, WriteOutOutcome};
+    ghost use Rattle.bp_shared.specs.Sessions.{FixSaid};
+
+    /// Reads a page with no lock held, ends the read, and wakes all that wait.
+    fn load<P: Port, R: Wait>(
+        &self,
+        rt: &R,
+        session: &mut Session<N>,
+        port: &mut P,
+        ticket: ReadTicket,
+    ) -> Result<Pass, Refusal>
+        requires owes { OwesRead session.old.client ticket session.old.said }
+        requires port { (P.geometry_of port.old).size ≡ N.parameters.size }
+        ensures client { session.new.client ≡ session.old.client }
+        ensures port { P.geometry_of port.new ≡ P.geometry_of port.old }
+        ensures outcome { LoadOutcome ticket result session.old.said session.new.said }
+    {
+        let read = port.read(rt, ticket.page());
+        let ended = self.state.lock(rt).end_read(session, ticket, read);
+        self.ended.notify_all();
+        ended
+    }
+
+    /// Writes a page's image with no lock held, ends the write-out, and wakes all that wait.
+    pub(super) fn write_out<P: Port, R: Wait>(
+        &self,
+        rt: &R,
+        session: &mut Session<N>,
+        port: &mut P,
+        ticket: WriteTicket,
+    ) -> Result<Ended, Refusal>
+        requires owes { OwesWrite session.old.client ticket session.old.said }
+        ensures client { session.new.client ≡ session.old.client }
+        ensures port { P.geometry_of port.new ≡ P.geometry_of port.old }
+        ensures outcome { WriteOutOutcome ticket result session.old.said session.new.said }
+    {
+        let written = port.write(rt, ticket.page(), ticket.image());
+        let ended = self.state.lock(rt).end_write(session, ticket, written);
+        self.ended.notify_all();
+        ended
+    }
+
+    /// Fixes a page: gives a pass of it, once it is in a frame. The page is read, and an unsaved victim written out first, through the
+    /// port and with no lock held; where another client has the page in flight, the call waits for the end of some device work and
+    /// asks again. Before each event it looks at the mark once.
+    ///
+    /// The session's list gets the events as the trail does. `NoVictim`, `NeedLog`, `ReadFailed` and `WriteFailed` are the reply of the
+    /// last one. `TrailFull` and `OutOfMemory` make no event, and those made before stand; `UnknownTicket` is the pool's answer for a
+    /// ticket that it does not know, which is forfeited.
+    pub fn fix<P: Port, R: Wait>(
+        &self,
+        rt: &R,
+        session: &mut Session<N>,
+        port: &mut P,
+        page: PageNo,
+    ) -> Result<Pass, Refusal>
+        requires page_in { page < N.parameters.pages }
+        requires port { (P.geometry_of port.old).size ≡ N.parameters.size }
+        ensures client { session.new.client ≡ session.old.client }
+        ensures port { P.geometry_of port.new ≡ P.geometry_of port.old }
+        ensures outcome { FixSaid session.old.client page result session.old.said session.new.said }
+    {
+        for _ in rt.forever() {
+            let mut state = self.state.lock(rt);
+            match state.fix(&self.mark, session, page) {
+                Ok(Fix::Hit(pass)) => return Ok(pass),
+                Ok(Fix::Load(ticket, _)) => {
+                    drop(state);
+                    return self.load(rt, session, port, ticket);
+                }
+                Ok(Fix::WriteFirst(ticket)) => {
+                    drop(state);
+                    match self.write_out(rt, session, port, ticket) {
+                        Ok(_) => {}
+                        Err(refusal) => return Err(refusal),
+                    }
+                }
+                Err(refusal) => {
+                    if !is_busy(&refusal) {
+                        return Err(refusal);
+                    }
+                    let seen = state.ends();
+                    drop(
+                        self.ended
+                            .wait_while(rt, state, |state| state.ends() == seen),
+                    );
+                }
+            }
+        }
+        unreachable!()
+    }
+}

@@ -1,0 +1,71 @@
+//! Flushes of shared pages, with their device work.
+ghost use Rattle.std.specs.Prelude.{◌≡◌};
+ghost use Rattle.bp_shared.specs.Turns.{ended_reply};
+ghost use Rattle.bp_device.specs.Drivers.{flushed_reply};
+
+use super::{SharedPool, is_busy};
+use crate::names::PoolName;
+use crate::session::Session;
+use bp_core::{Ended, Flush};
+use bp_device::{Flushed, Port};
+use bp_page::{PageNo, Refusal};
+use std::sync::Wait;
+
+/// What a flush came to whose write-out ended so.
+fn flushed_by(ended: Ended) -> Flushed
+    ensures { flushed_reply result ≡ ended_reply ended }
+{
+    match ended {
+        Ended::Cleaned => Flushed::Cleaned,
+        Ended::StillDirty => Flushed::StillDirty,
+    }
+}
+
+impl<N: PoolName> SharedPool<N> {
+    ghost use Rattle.std.specs.Prelude.{◌≡◌, ◌<◌};
+    ghost use Rattle.bp_shared.specs.Sessions.{FlushSaid};
+
+    /// Writes a page out if it is unsaved, through the port and with no lock held. Where the page is being read or written out, the call
+    /// waits for the end of some device work and asks again. Before each event it looks at the mark once.
+    ///
+    /// The session's list gets the events as the trail does. `NeedLog` and `WriteFailed` are the reply of the last one; `TrailFull`,
+    /// `OutOfMemory` and `UnknownTicket` as from `fix`.
+    pub fn flush<P: Port, R: Wait>(
+        &self,
+        rt: &R,
+        session: &mut Session<N>,
+        port: &mut P,
+        page: PageNo,
+    ) -> Result<Flushed, Refusal>
+        requires page_in { page < N.parameters.pages }
+        ensures client { session.new.client ≡ session.old.client }
+        ensures port { P.geometry_of port.new ≡ P.geometry_of port.old }
+        ensures outcome { FlushSaid session.old.client page result session.old.said session.new.said }
+    {
+        for _ in rt.forever() {
+            let mut state = self.state.lock(rt);
+            match state.flush(&self.mark, session, page) {
+                Ok(Flush::Clean) => return Ok(Flushed::Clean),
+                Ok(Flush::Absent) => return Ok(Flushed::Absent),
+                Ok(Flush::WriteFirst(ticket)) => {
+                    drop(state);
+                    match self.write_out(rt, session, port, ticket) {
+                        Ok(ended) => return Ok(flushed_by(ended)),
+                        Err(refusal) => return Err(refusal),
+                    }
+                }
+                Err(refusal) => {
+                    if !is_busy(&refusal) {
+                        return Err(refusal);
+                    }
+                    let seen = state.ends();
+                    drop(
+                        self.ended
+                            .wait_while(rt, state, |state| state.ends() == seen),
+                    );
+                }
+            }
+        }
+        unreachable!()
+    }
+}

@@ -1,0 +1,72 @@
+//! The calls of one event.
+ghost use Rattle.std.specs.Prelude.{◌≡◌};
+
+use super::SharedPool;
+use crate::names::PoolName;
+use crate::session::Session;
+use bp_core::Pass;
+use bp_page::{Bytes, Image, Lsn, Refusal};
+use std::sync::Wait;
+
+impl<N: PoolName> SharedPool<N> {
+    ghost use Rattle.std.specs.Prelude.{◌≡◌, ◌≢◌, ◌+◌, ◌≤◌, length};
+    ghost use Rattle.bp_shared.specs.Sessions.{TickSaid, PurgeSaid, ReadSaid, WriteSaid};
+
+    /// Moves the clock on. `OutOfMemory`, `TrailFull` and `ClockFull` change nothing.
+    pub fn tick<R: Wait>(&self, rt: &R, session: &mut Session<N>, n: u64) -> Result<(), Refusal>
+        ensures client { session.new.client ≡ session.old.client }
+        ensures outcome { TickSaid session.old.client n result session.old.said session.new.said }
+    {
+        self.state.lock(rt).tick(session, n)
+    }
+
+    /// Forgets old references, and counts their pages. `OutOfMemory` and `TrailFull` change nothing.
+    pub fn purge<R: Wait>(&self, rt: &R, session: &mut Session<N>) -> Result<u64, Refusal>
+        ensures client { session.new.client ≡ session.old.client }
+        ensures outcome { PurgeSaid session.old.client result session.old.said session.new.said }
+    {
+        self.state.lock(rt).purge(session)
+    }
+
+    /// A copy of the image of a pass's page. `UnknownPass`, before all else, where the pass is another client's, and where the pool
+    /// does not know it; `OutOfMemory` and `TrailFull`. All change nothing.
+    pub fn read<R: Wait>(
+        &self,
+        rt: &R,
+        session: &mut Session<N>,
+        pass: &Pass,
+    ) -> Result<Image, Refusal>
+        ensures client { session.new.client ≡ session.old.client }
+        ensures stranger { pass.now.client ≢ session.old.client → result ≡ Err Refusal.UnknownPass }
+        ensures outcome { ReadSaid session.old.client pass.now result session.old.said session.new.said }
+    {
+        if pass.client() != session.client() {
+            return Err(Refusal::UnknownPass);
+        }
+        self.state.lock(rt).read(session, pass)
+    }
+
+    /// Puts bytes into a pass's page, from the offset on, and raises the page LSN to `lsn` if that is greater. Refusals as from `read`.
+    pub fn write<R: Wait>(
+        &self,
+        rt: &R,
+        session: &mut Session<N>,
+        pass: &Pass,
+        offset: u32,
+        bytes: &Bytes,
+        lsn: Lsn,
+    ) -> Result<(), Refusal>
+        requires fits { offset + length bytes.now ≤ N.parameters.size }
+        ensures client { session.new.client ≡ session.old.client }
+        ensures stranger { pass.now.client ≢ session.old.client → result ≡ Err Refusal.UnknownPass }
+        ensures outcome { WriteSaid session.old.client pass.now offset bytes.now lsn result session.old.said session.new.said }
+    {
+        if pass.client() != session.client() {
+            return Err(Refusal::UnknownPass);
+        }
+        let Ok(kept) = Bytes::of(self.alloc, bytes.bytes()) else {
+            return Err(Refusal::OutOfMemory);
+        };
+        self.state.lock(rt).write(session, pass, offset, kept, lsn)
+    }
+}

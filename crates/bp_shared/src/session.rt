@@ -1,0 +1,92 @@
+//! One client's end of a pool.
+use crate::book::Book;
+use crate::names::PoolName;
+use bp_core::{Entry, Pass, PassNote};
+use bp_page::{Geometry, Refusal};
+use rtrb::{Producer, PushError};
+use std::alloc::Global;
+use std::marker::{Model, PhantomData};
+
+/// One client's end of a pool: the list of the client's own entries, and a ring by which its passes go back.
+///
+/// A pass that was given back stands in the list where the client posted it. The list gets no other entry than those of this
+/// session's calls, and room for all that it still owes is kept, so that an end and an unfix never want memory.
+#[derive(Drop)]
+pub struct Session<N: PoolName> {
+    pub(crate) book: Book,
+    pub(crate) producer: Producer<PassNote>,
+    pub(crate) of: PhantomData<N>,
+}
+
+impl<N: PoolName> Model for Session<N> {
+    ghost use Rattle.std.specs.Prelude.{◌≡◌, ◌<◌, reverse};
+    ghost use Rattle.rtrb.specs.Ring.{sent};
+    ghost use Rattle.bp_shared.specs.Sessions.{SessionValue};
+    ghost use Rattle.bp_shared.specs.Rings.{unfixes};
+
+    ghost Value = { SessionValue };
+
+    ghost view = { λ s. record { client = s.book.client; said = s.book.said } };
+
+    // The passes posted are those of the list's own unfixes, in order.
+    ghost invariant = { λ s. (s.book.client < N.parameters.clients) × (s.book.size ≡ N.parameters.size) × (sent s.producer ≡ reverse (unfixes s.book.said)) };
+}
+
+impl<N: PoolName> Session<N> {
+    ghost use Rattle.std.specs.Prelude.{◌≡◌, ◌<◌, [], reverse};
+    ghost use Rattle.rtrb.specs.Ring.{sent};
+    ghost use Rattle.bp_shared.specs.Sessions.{UnfixSaid};
+
+    /// A session that said nothing yet.
+    pub(crate) fn new(
+        alloc: Global,
+        geometry: Geometry,
+        client: u8,
+        producer: Producer<PassNote>,
+    ) -> Session<N>
+        requires client_in { client < N.parameters.clients }
+        requires size { geometry.size ≡ N.parameters.size }
+        requires unused { sent producer ≡ [] }
+        ensures client { result.client ≡ client }
+        ensures said { result.said ≡ [] }
+    {
+        Session {
+            book: Book::new(alloc, geometry, client),
+            producer,
+            of: PhantomData,
+        }
+    }
+
+    /// Whose session it is.
+    pub fn client(&self) -> u8
+        ensures { result ≡ self.now.client }
+    {
+        self.book.client()
+    }
+
+    /// The session's own list, the oldest entry first.
+    pub fn said(&self) -> &[Entry]
+        ensures { reverse result.now ≡ self.now.said }
+    {
+        self.book.said()
+    }
+
+    /// Puts a pass on the ring, with no lock and no memory. Where the list does not give it, or gives it back already, this is
+    /// `UnknownPass`; where the ring has 32 passes in it, `RingFull`. Both hand the pass back, and change nothing.
+    pub(crate) fn post(&mut self, pass: Pass) -> Result<(), (Pass, Refusal)>
+        ensures client { self.new.client ≡ self.old.client }
+        ensures outcome { UnfixSaid self.old.client pass result self.old.said self.new.said }
+    {
+        if !self.book.holds(&pass) {
+            return Err((pass, Refusal::UnknownPass));
+        }
+        let note = pass.note();
+        match self.producer.push(note) {
+            Ok(()) => {
+                self.book.tell_unfix(note);
+                Ok(())
+            }
+            Err(PushError::Full(back)) => Err((back.pass(), Refusal::RingFull)),
+        }
+    }
+}

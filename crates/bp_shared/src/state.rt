@@ -1,0 +1,81 @@
+//! What lies under the lock: the core, its reader of the mark, and the ends of the rings at which passes come out.
+use crate::names::PoolName;
+use bp_core::{Core, PassNote};
+use bp_mark::Reader;
+use rtrb::Consumer;
+use std::marker::{Model, PhantomData};
+
+mod draining;
+mod turns;
+
+pub(crate) use draining::RING;
+
+/// What lies under the lock. Its trail is legal, by the core's own type; the reader is the mark's, and has seen every LSN that the
+/// core was told.
+#[derive(Drop)]
+pub(crate) struct State<N: PoolName> {
+    pub(crate) core: Core,
+    pub(crate) reader: Reader,
+    /// The ring of each client.
+    pub(crate) consumers: Vec<Consumer<PassNote>>,
+    /// How often device work ended.
+    ends: u64,
+    /// The passes taken from rings that the core did not know.
+    pub(crate) strays: u64,
+    of: PhantomData<N>,
+}
+
+impl<N: PoolName> Model for State<N> {
+    ghost use Rattle.bp_core.specs.CoreView.{CoreView};
+    ghost use Rattle.bp_shared.specs.Locked.{IsLocked};
+
+    ghost Value = { CoreView };
+
+    ghost view = { λ s. s.core };
+
+    ghost invariant = { λ s. IsLocked N.mark N.parameters s.core s.reader };
+}
+
+impl<N: PoolName> State<N> {
+    ghost use Rattle.std.specs.Prelude.{◌≡◌, ◌≤◌};
+    ghost use Rattle.bp_trail.specs.Clock.{durable};
+
+    /// A core whose rings gave nothing yet.
+    pub(crate) fn new(core: Core, reader: Reader, consumers: Vec<Consumer<PassNote>>) -> State<N>
+        requires reader { reader.mark ≡ N.mark }
+        requires parameters { core.parameters ≡ N.parameters }
+        requires seen { durable core.past ≤ reader.seen }
+        ensures { result ≡ core }
+    {
+        State {
+            core,
+            reader,
+            consumers,
+            ends: 0,
+            strays: 0,
+            of: PhantomData,
+        }
+    }
+
+    /// How often device work ended, modulo 2^64.
+    pub(crate) fn ends(&self) -> u64 {
+        self.ends
+    }
+
+    /// The core and its reader.
+    pub(crate) fn into_parts(self) -> (Core, Reader)
+        ensures reader { result.1.mark ≡ N.mark }
+        ensures parameters { result.0.parameters ≡ N.parameters }
+        ensures seen { durable result.0.past ≤ result.1.seen }
+    {
+        let State {
+            core,
+            reader,
+            consumers: _,
+            ends: _,
+            strays: _,
+            of: _,
+        } = self;
+        (core, reader)
+    }
+}

@@ -1,0 +1,61 @@
+//! The passes that sessions posted go back to the core.
+ghost use Rattle.std.specs.Prelude.{◌≡◌, [], ◌∷◌};
+ghost use Rattle.rtrb.specs.Ring.{received};
+ghost use Rattle.bp_trail.specs.Clock.{durable};
+ghost use Rattle.bp_shared.specs.Locked.{Settled};
+ghost use Rattle.bp_shared.specs.Rings.{OneBack, DrainsRing, Unfixed};
+
+use super::State;
+use crate::names::PoolName;
+use bp_core::{Core, PassNote};
+use rtrb::Consumer;
+
+/// The most passes that are taken from a ring at once, which is as many as it holds.
+pub(crate) const RING: usize = 32;
+
+/// Gives a pass back. One that the core does not know is dropped, and counted as a stray; the count stays at 2^64 − 1.
+fn give_back(core: &mut Core, strays: &mut u64, note: PassNote)
+    ensures parameters { core.new.parameters ≡ core.old.parameters }
+    ensures back { OneBack core.old.past strays.old note core.new.past strays.new }
+{
+    match core.unfix(note.pass()) {
+        Ok(()) => {}
+        Err(stray) => {
+            stray.note();
+            *strays = strays.saturating_add(1);
+        }
+    }
+}
+
+/// Takes at most 32 passes from a ring, and gives them back in order.
+fn drain(core: &mut Core, strays: &mut u64, consumer: &mut Consumer<PassNote>)
+    ensures parameters { core.new.parameters ≡ core.old.parameters }
+    ensures drained { DrainsRing 32 (received consumer.old) (received consumer.new) core.old.past strays.old core.new.past strays.new }
+{
+    for _ in 0..RING {
+        let Ok(note) = consumer.pop() else {
+            return;
+        };
+        give_back(core, strays, note);
+    }
+}
+
+/// Drains each ring, the first client's first.
+pub(crate) fn drain_all(core: &mut Core, strays: &mut u64, consumers: &mut [Consumer<PassNote>])
+    ensures parameters { core.new.parameters ≡ core.old.parameters }
+    ensures unfixed { Unfixed core.old.past core.new.past }
+    ensures durable { durable core.new.past ≡ durable core.old.past }
+{
+    for consumer in consumers.iter_mut() {
+        drain(core, strays, consumer);
+    }
+}
+
+impl<N: PoolName> State<N> {
+    /// Drains each ring, the first client's first, at most 32 passes each.
+    pub(crate) fn settle(&mut self)
+        ensures { Settled self.old self.new }
+    {
+        drain_all(&mut self.core, &mut self.strays, &mut self.consumers);
+    }
+}
