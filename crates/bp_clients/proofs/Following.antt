@@ -1,9 +1,9 @@
 -- Row after row, a list follows its script; and then the passes that are still held go back.
-use Rattle.std.proofs.Common.{◌≡◌, ◌≢◌, ◌⊎◌, ⊎_elim, refl, sym, ◌∙◌, ap, subst, ℕ, ◌<◌, arith, Bool, true, false, List, [], ◌∷◌, ◌++◌, length, reverse, All, Option, Some, None, true≢false}
+use Rattle.std.proofs.Common.{◌≡◌, ◌≢◌, ◌⊎◌, inl, inr, refl, sym, ◌∙◌, ap, subst, ℕ, ◌<◌, arith, Bool, true, false, List, [], ◌∷◌, ◌++◌, length, reverse, All, Option, Some, None}
 use Rattle.std.specs.Prelude.{IsTrue, not, filter, ◌==◌}
 use Rattle.std.proofs.lemmas.Bool.{eq-eqb}
 use Rattle.std.proofs.lemmas.List.{reverse-reverse, reverse-append, length-reverse}
-use Rattle.std.proofs.lemmas.List.Elements.{All-append}
+use Rattle.std.proofs.lemmas.List.Elements.{All-push}
 use Rattle.bp_trail.specs.declared.scripts.Row.{Row}
 use Rattle.bp_trail.specs.declared.scripts.Refused.{Refused}
 use Rattle.bp_trail.specs.Event.{Grant}
@@ -22,7 +22,8 @@ use Rattle.bp_clients.specs.Jobs.{NoneIsStrange}
 -- ---- one more row
 
 no_fault : {A : Type 0} (b : Bool) → b ≡ false → IsTrue b ⊎ A → A
-no_fault {A} b none both = ⊎_elim {C = λ h. A} (λ yes. absurd (true≢false (sym yes ∙ none))) (λ a. a) both
+no_fault b none (inl is) = absurd (let no = sym is ∙ none in cc)
+no_fault b none (inr a) = a
 
 pub follows-more : (client : ℕ) (rows : List Row) (row : Row) (ends ends_after : List ℕ) (said after : Trail) (refusals refusals_after : List Refused) (o : Outcome) → row.client ≡ client
     → FollowsBy session (reverse rows) (reverse ends) said (reverse refusals) → StepSaid client row.step o said after → is_fault o ≡ false → reverse refusals_after ≡ refused_row row.row o ++ reverse refusals
@@ -49,7 +50,7 @@ known-more row refusals refusals_after (refused n) known none refuses =
     let one : Refused = record { row = row; number = n } in
     let more : refusals_after ≡ refusals ++ one ∷ [] =
     sym (reverse-reverse refusals_after) ∙ ap reverse refuses ∙ reverse-append (one ∷ []) (reverse refusals) ∙ ap (λ rs. rs ++ one ∷ []) (reverse-reverse refusals) in
-    subst NoneIsStrange (sym more) (All-append _ refusals (one ∷ []) known (fault-sixteen n none, tt))
+    subst NoneIsStrange (sym more) (All-push (λ r. r.number ≢ 16) refusals one known (fault-sixteen n none))
 
 -- ---- passes that go back
 

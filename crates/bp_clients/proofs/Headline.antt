@@ -1,8 +1,8 @@
 -- From what the jobs left to what holds of the run.
-use Rattle.std.proofs.Common.{◌≡◌, ℕ, zero, suc, ◌+◌, ◌<◌, List, [], ◌∷◌, length, map, reverse, get_or, refl, sym, ap, subst, ◌∙◌, All, arith}
+use Rattle.std.proofs.Common.{◌≡◌, ◌≢◌, ℕ, zero, suc, ◌+◌, ◌<◌, List, [], ◌∷◌, length, map, reverse, get_or, refl, sym, ap, subst, ◌∙◌, All, arith}
 use Rattle.std.specs.Prelude.{flat_map, ◌++◌}
 use Rattle.std.proofs.lemmas.List.{get_or-map, reverse-reverse, length-map}
-use Rattle.std.proofs.lemmas.List.Elements.{All-get_or, All-append}
+use Rattle.std.proofs.lemmas.List.Elements.{All-get_or, All-nil, All-head, All-tail, All-append}
 use Rattle.std.proofs.lemmas.List.Sorted.{All-permutation}
 use Rattle.std.proofs.lemmas.List.Folds.{flat_map-map}
 use Rattle.std.specs.List.Sorted.{IsPermutation}
@@ -21,9 +21,9 @@ use Rattle.bp_clients.specs.Jobs.{list_of, NoneIsStrange, FollowsCut, JobValue, 
 use Rattle.bp_clients.specs.Runs.{SaidIsTheirs, EachFollows, MarksWithinLog, IsRun, Joined}
 
 -- the job of client c, with its script
-pub record IsJobOf (c : ℕ) (script : List Row) (j : JobValue) : Type 0 where
+pub record IsJobOf (c : ℕ) (rows : List Row) (j : JobValue) : Type 0 where
   pub client : j.client ≡ c
-  pub script : j.script ≡ script
+  pub script : j.script ≡ rows
 
 -- the jobs are those of these scripts, in order
 abbrev pub AreJobsOf : List (List Row) → List JobValue → Type 0
@@ -46,14 +46,14 @@ same_jobs scripts old new are len same =
       len ∙ count,
       λ c d below.
         let kept = same c d (omega arith) in
-        let was : IsJobOf c (list_of c scripts) (get_or old c d) = subst (λ jobs. IsJobOf c (list_of c scripts) (get_or jobs c d)) (sym are) (new_job-at 0 scripts c c d below refl) in
+        let was : IsJobOf c (list_of c scripts) (get_or old c d) = subst (λ jobs. IsJobOf c (list_of c scripts) (get_or jobs c d)) (sym are) (new_job-at 0 scripts c c d below (omega arith)) in
         record { client = kept.client ∙ was.client; script = kept.script ∙ was.script },
     )
 
 -- ---- clause by clause
 
 module _ (scripts : List (List Row)) (trail : List Entry) (jobs : List JobValue) (are : AreJobsOf scripts jobs) (told : All (IsTold trail) jobs) where
-  job : ℕ → JobValue
+  abbrev job : ℕ → JobValue
   job c = get_or jobs c (new_job c [])
 
   told-at : (c : ℕ) → c < length scripts → IsTold trail (job c)
@@ -100,8 +100,9 @@ module _ (scripts : List (List Row)) (trail : List Entry) (jobs : List JobValue)
       }
 
 known-all : (trail : List Entry) (jobs : List JobValue) → All (IsTold trail) jobs → NoneIsStrange (flat_map (λ j. j.refused) jobs)
-known-all trail [] told = search rules
-known-all trail (j ∷ jobs) told = All-append _ j.refused (flat_map (λ j. j.refused) jobs) told.0.follows.known (known-all trail jobs told.1)
+known-all trail [] told = All-nil (λ r. r.number ≢ 16)
+known-all trail (j ∷ jobs) told =
+    All-append (λ r. r.number ≢ 16) j.refused (flat_map (λ k. k.refused) jobs) (All-head (IsTold trail) j jobs told).follows.known (known-all trail jobs (All-tail (IsTold trail) j jobs told))
 
 -- the headline, from what the jobs left
 pub run_is : (c : Parameters) (scripts : List (List Row)) (trail : List Entry) (jobs : List JobValue) (said : List (List Entry)) (refused : List Refused) → 0 < length scripts → Legal c (reverse trail)

@@ -2,5 +2,5 @@
 pub mod Headline
 pub mod Stepping
 pub mod Following
-pub mod Collecting
+pub mod TakingIn
 pub mod Making

@@ -12,7 +12,7 @@ one_more first (suc n) = ap (λ ss. record { client = first; said = [] } ∷ ss)
 -- the sessions of a new pool, counted from the first
 pub in_order : (n : ℕ) → new_sessions n ≡ sessions_from 0 n
 in_order zero = refl
-in_order (suc n) = ap (λ ss. ss ++ record { client = n; said = [] } ∷ []) (in_order n) ∙ sym (one_more 0 n)
+in_order (suc n) = ap (λ ss. ss ++ record { client = n; said = [] } ∷ []) (in_order n) ∙ sym (one_more 0 n ∙ ap (λ c. sessions_from 0 n ++ record { client = c; said = [] } ∷ []) (omega arith))
 
 -- the scripts fit, one by one
 fits_from : (p : Parameters) (first : ℕ) (scripts : List (List Row)) → ((k c : ℕ) → first + k ≡ c → k < length scripts → ScriptFits p c (list_of k scripts)) → ScriptsFit p first scripts
@@ -20,7 +20,7 @@ fits_from p first [] each = tt
 fits_from p first (script ∷ scripts) each = (each 0 first (omega arith) (omega arith), fits_from p (suc first) scripts (λ k c is below. each (suc k) c (omega arith) (omega arith)))
 
 pub scripts_fit : (p : Parameters) (scripts : List (List Row)) → EachScriptFits p scripts → ScriptsFit p 0 scripts
-scripts_fit p scripts each = fits_from p 0 scripts (λ k c is below. subst (λ n. ScriptFits p n (list_of k scripts)) is (each k below))
+scripts_fit p scripts each = fits_from p 0 scripts (λ k c is below. subst (λ n. ScriptFits p n (list_of k scripts)) (omega (arith, is)) (each k below))
 
 -- a slice that is written back to the vector that lent it
 pub lent_back : {J : Type 0} (n : ℕ) (new old : List J) → length new ≡ n → take n (new ++ drop (length new) old) ≡ new

@@ -1,6 +1,6 @@
 -- What a session's call says, as what the row's step adds.
-use Rattle.std.proofs.Common.{◌≡◌, refl, sym, ◌∙◌, ap, subst, ℕ, inl, inr, List, [], ◌∷◌, ◌==◌, Some, None, Result, Ok, Err, Option}
-use Rattle.std.specs.Prelude.{Contains, find, reverse}
+use Rattle.std.proofs.Common.{◌≡◌, refl, sym, ◌∙◌, ap, subst, ℕ, arith, inl, inr, List, [], ◌∷◌, ◌==◌, Some, None, Result, Ok, Err, Option}
+use Rattle.std.specs.Prelude.{OnOk, OnErr, Contains, find, reverse}
 use Rattle.std.proofs.lemmas.Bool.{eqb-true, and_parts}
 use Rattle.std.proofs.lemmas.List.{reverse-reverse}
 use Rattle.bp_page.specs.declared.refusals.Refusal.{Refusal}
@@ -23,14 +23,14 @@ use Rattle.bp_device.specs.declared.drivers.Flushed.{Flushed}
 use Rattle.bp_device.specs.Rows.{AreHeld}
 use Rattle.bp_device.proofs.PieceSteps.{find-there, at-first, at-second}
 use Rattle.bp_shared.specs.Sessions.{FixSaid, FlushSaid, ReadSaid, WriteSaid, TickSaid, PurgeSaid}
-use Rattle.bp_clients.specs.Steps.{as_fault, StepSaid}
+use Rattle.bp_clients.specs.Steps.{is_fault, as_fault, StepSaid}
 
 -- what a call without a result of its own answers
 abbrev pub outcome : Result (Unit {0}) Refusal → Outcome
 outcome r = outcome_of r
 
 pub fix_said : (client page : ℕ) (pass : Pass) (said after : Trail) → FixSaid client page (Ok pass) said after → StepSaid client (step.Fix page) accepted said after
-fix_said client page pass said after h = inr (record { piece = h.2.2.piece; of_row = h.2.2.of_row; grows = h.2.2.grows })
+fix_said client page pass said after h = inr (record { piece = h.2.piece; of_row = h.2.of_row; grows = h.2.grows })
 
 pub fix_refused : (client page : ℕ) (why : Refusal) (said after : Trail) → FixSaid client page (Err why) said after → StepSaid client (step.Fix page) (outcome (Err why)) said after
 fix_refused client page why said after h = inr (record { piece = h.piece; of_row = h.of_row.0; grows = h.grows })
@@ -144,3 +144,9 @@ pub unfix_said : (client page : ℕ) (g : Grant) (said after : Trail) → latest
 unfix_said client page g said after found grows =
     pass_said client page (step.Unfix page) [] (λ n. Unfix n page) Done g said after (λ said piece o w. w) found
     (grows ∙ ap (λ who. by who (Unfix g.serial g.page) Done ∷ said) (client-of_latest said client page g found) ∙ ap (λ p. by client (Unfix g.serial p) Done ∷ said) (page-of_latest said client page g found))
+
+-- a pass that was posted, or that the run is at fault for
+pub posted_said : (client page : ℕ) (g : Grant) (answer : Result (Unit {0}) Refusal) (said after : Trail) → latest_pass said client page ≡ Some g → OnOk answer ((g.client ≡ client) × (after ≡ give_back g ∷ said))
+    → OnErr answer ((answer ≡ Err refusal.Disagree) × (after ≡ said)) → StepSaid client (step.Unfix page) (outcome answer) said after
+posted_said client page g (Ok done) said after found ok err = unfix_said client page g said after found ok.1
+posted_said client page g (Err why) said after found ok err = inl (ap (λ r. is_fault (outcome r)) err.0)

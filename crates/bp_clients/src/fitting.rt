@@ -46,7 +46,10 @@ fn is_no_log(step: &Step) -> bool
 fn row_fits(row: &Row, client: u8, geometry: &Geometry) -> bool
     ensures { (p : Parameters) → p.pages ≡ geometry.now.pages → p.size ≡ geometry.now.size → client < p.clients → IsTrue result → RowFitsClient p client row.now }
 {
-    row.client == client && step_fits(&row.step, geometry) && (client == 0 || is_no_log(&row.step))
+    if row.client != client || !step_fits(&row.step, geometry) {
+        return false;
+    }
+    client == 0 || is_no_log(&row.step)
 }
 
 /// Whether all rows of a script are ones that this client may run.
@@ -70,12 +73,10 @@ pub fn scripts_fit(config: &Config, scripts: &[Vec<Row>]) -> bool
     if scripts.len() > 64 {
         return false;
     }
-    let mut client = 0;
-    for script in scripts {
-        if !script_fits(script, client, &config.geometry) {
+    for client in 0..scripts.len() {
+        if !script_fits(&scripts[client], client as u8, &config.geometry) {
             return false;
         }
-        client += 1;
     }
     true
 }

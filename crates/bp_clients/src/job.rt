@@ -39,6 +39,7 @@ impl<N: PoolName, P: Port> Model for Job<N, P> {
 }
 
 /// What a job left: the client's list in the order of time, where the pieces of its rows end, and the rows refused.
+#[derive(Drop)]
 pub(crate) struct Left {
     pub(crate) client: u8,
     pub(crate) script: Vec<Row>,
@@ -88,7 +89,7 @@ fn run_rows<N: PoolName, P: Port, R: Wait>(
 }
 
 impl<N: PoolName, P: Port> Job<N, P> {
-    ghost use Rattle.std.specs.Prelude.{◌≡◌, ◌×◌, IfOk, IfSome, IsTrue, [], reverse};
+    ghost use Rattle.std.specs.Prelude.{◌≡◌, IfOk, IfSome, IsTrue, [], reverse};
     ghost use Rattle.bp_clients.specs.Jobs.{ScriptFits, FollowsCut, new_job};
 
     /// The job of a script.

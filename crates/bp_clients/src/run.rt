@@ -69,7 +69,10 @@ fn make_jobs<N: PoolName, P: Port>(
     let mut sessions = sessions.into_iter();
     let mut ports = ports.into_iter();
     for script in scripts {
-        let (Some(session), Some(port)) = (sessions.next(), ports.next()) else {
+        let Some(session) = sessions.next() else {
+            unreachable!()
+        };
+        let Some(port) = ports.next() else {
             unreachable!()
         };
         let runner = Runner::new(session, port, log.take());

@@ -5,7 +5,7 @@ ghost use Rattle.bp_trail.specs.declared.entries.Reply.TheVariants as Reply;
 ghost use Rattle.bp_trail.specs.declared.scripts.Step.TheVariants as Step;
 ghost use Rattle.bp_trail.specs.Fits.{StepFits};
 ghost use Rattle.bp_trail.specs.Pieces.{outcome_of};
-ghost use Rattle.bp_trail.specs.Script.{GivesBack, give_back};
+ghost use Rattle.bp_trail.specs.Script.{GivesBack, give_back, latest_pass};
 ghost use Rattle.bp_clients.specs.Steps.{as_fault, StepSaid};
 
 use bp_core::{Entry, PassNote, Step};
@@ -177,10 +177,11 @@ impl<N: PoolName, P: Port> Runner<N, P> {
         let pass = note.pass();
         let read = pool.read(rt, &mut self.session, &pass);
         pass.note();
-        match read {
-            Ok(_) => Ok(()),
-            Err(refusal) => Err(as_fault(refusal)),
-        }
+        let _image = match read {
+            Ok(image) => image,
+            Err(refusal) => return Err(as_fault(refusal)),
+        };
+        Ok(())
     }
 
     /// `Disagree` where the pool does not know a pass that the client holds.
@@ -282,8 +283,9 @@ impl<N: PoolName, P: Port> Runner<N, P> {
         ensures back { IsTrue result → GivesBack self.old.said self.new.said }
     {
         while let Some(note) = next_to_go_back(self.session.held()) {
-            if post(rt, pool, &mut self.session, note).is_err() {
-                return false;
+            match post(rt, pool, &mut self.session, note) {
+                Ok(()) => {}
+                Err(_) => return false,
             }
         }
         true
