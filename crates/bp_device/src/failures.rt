@@ -1,6 +1,6 @@
 //! Counting the failures of a device.
 ghost use Rattle.std.specs.Prelude.{◌≡◌, ℕ};
-ghost use Rattle.bp_device.specs.Ports.{IsCounted};
+ghost use Rattle.bp_device.specs.Ports.{Counts, IsCounted};
 
 use bp_page::PortFault;
 use std::marker::Model;
@@ -41,5 +41,16 @@ impl Failures {
             self.count += 1;
         }
         PortFault::Device
+    }
+    /// Counts a failure of another port as one of this one.
+    pub(crate) fn counted<T>(&mut self, outcome: Result<T, PortFault>) -> Result<T, PortFault>
+        ensures same { result ≡ outcome }
+        ensures counts { Counts result self.old self.new }
+    {
+        match outcome {
+            Ok(done) => Ok(done),
+            Err(PortFault::Memory) => Err(PortFault::Memory),
+            Err(PortFault::Device) => Err(self.add()),
+        }
     }
 }

@@ -52,20 +52,6 @@ impl<P: Port> FusePort<P> {
         self.left = self.left.saturating_sub(1);
         blows
     }
-
-    /// Counts a failure of the other port as one of this one.
-    fn counted<T>(&mut self, outcome: Result<T, PortFault>) -> Result<T, PortFault>
-        ensures same { result ≡ outcome }
-        ensures left { self.new.left ≡ self.old.left }
-        ensures inner { self.new.inner ≡ self.old.inner }
-        ensures counts { Counts result self.old.count self.new.count }
-    {
-        match outcome {
-            Ok(done) => Ok(done),
-            Err(PortFault::Memory) => Err(PortFault::Memory),
-            Err(PortFault::Device) => Err(self.count.add()),
-        }
-    }
 }
 
 /// A page of bytes 255.
@@ -105,7 +91,7 @@ impl<P: Port> Port for FusePort<P> {
             return Err(self.count.add());
         }
         let read = self.inner.read(rt, page);
-        self.counted(read)
+        self.count.counted(read)
     }
 
     fn write<R: Wait>(&mut self, rt: &R, page: PageNo, image: &Image) -> Result<(), PortFault>
@@ -121,6 +107,6 @@ impl<P: Port> Port for FusePort<P> {
             return Err(self.count.add());
         }
         let written = self.inner.write(rt, page, image);
-        self.counted(written)
+        self.count.counted(written)
     }
 }

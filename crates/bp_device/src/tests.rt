@@ -1,6 +1,8 @@
 ghost use Rattle.std.specs.Prelude.{◌≡◌, ◌≤◌, All, IsTrue};
 ghost use Rattle.bp_trail.specs.Fits.{RowFits};
 
+mod gates;
+
 use super::*;
 use bp_core::{Core, PassNote, Refused, Reply, Row, Step};
 use bp_lruk::Settings;

@@ -3,7 +3,7 @@ ghost use Rattle.std.specs.Prelude.{◌≡◌, ◌<◌, []};
 ghost use Rattle.bp_trail.specs.Parameters.{Parameters};
 
 use crate::{PoolName, Session, SharedPool};
-use bp_core::{Call, Core, Entry, PassNote};
+use bp_core::{Call, Core, Entry, PassNote, Reply};
 use bp_device::Port;
 use bp_lruk::Settings;
 use bp_mark::{LogEnd, Mark, Reader};
@@ -254,4 +254,22 @@ fn is_unfix(entry: &Entry) -> bool {
 /// How many passes went back.
 pub(super) fn unfixes_in(trail: &[Entry]) -> usize {
     trail.iter().filter(|entry| is_unfix(entry)).count()
+}
+
+fn is_fault(entry: &Entry) -> bool {
+    matches!(entry.reply, Reply::Fixed(_))
+}
+
+/// How many fixes read their page.
+pub(super) fn faults_in(trail: &[Entry]) -> usize {
+    trail.iter().filter(|entry| is_fault(entry)).count()
+}
+
+fn is_hit(entry: &Entry) -> bool {
+    matches!(entry.reply, Reply::Hit(_))
+}
+
+/// How many fixes found their page in a frame.
+pub(super) fn hits_in(trail: &[Entry]) -> usize {
+    trail.iter().filter(|entry| is_hit(entry)).count()
 }

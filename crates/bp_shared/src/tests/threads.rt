@@ -1,9 +1,9 @@
 //! Clients in threads of their own.
 ghost use Rattle.std.specs.Prelude.{◌≡◌, ◌<◌};
 
-use super::making::{Client, Made, Opened, client_of, make, open, unfixes_in};
+use super::making::{Client, Made, Opened, client_of, faults_in, hits_in, make, open, unfixes_in};
 use crate::{PoolName, Session, SharedPool};
-use bp_core::{Entry, Pass, Reply};
+use bp_core::{Entry, Pass};
 use bp_page::{Geometry, PageNo, Refusal};
 use std::alloc::Global;
 use std::marker::Brand;
@@ -128,14 +128,6 @@ fn agrees(trail: &[Entry], said: &[Entry], client: u8) -> bool {
     at == said.len()
 }
 
-fn is_fault(entry: &Entry) -> bool {
-    matches!(entry.reply, Reply::Fixed(_))
-}
-
-fn is_hit(entry: &Entry) -> bool {
-    matches!(entry.reply, Reply::Hit(_))
-}
-
 /// What came of the jobs.
 #[derive(Drop)]
 struct Tally {
@@ -172,8 +164,8 @@ fn passes_of<N: PoolName>(jobs: &[Job<N>]) -> usize {
 fn count<N: PoolName>(trail: &[Entry], jobs: &[Job<N>]) -> Tally {
     Tally {
         taken: passes_of(jobs),
-        hits: trail.iter().filter(|entry| is_hit(entry)).count(),
-        faults: trail.iter().filter(|entry| is_fault(entry)).count(),
+        hits: hits_in(trail),
+        faults: faults_in(trail),
         unfixes: unfixes_in(trail),
         agree: all_agree(trail, jobs),
     }

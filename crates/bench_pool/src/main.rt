@@ -1,0 +1,325 @@
+//! Times fix and unfix over a page file where its argument is the path of one; else it does nothing. docs/BENCHMARKS.md has its numbers.
+#![tactic(auto)]
+
+ghost use Rattle.std.specs.Prelude.{◌≡◌, ◌*◌, ◌<◌, ◌≤◌, IfOk};
+
+use bp_core::{Core, Entry, Fix, Pass, Reply};
+use bp_device::{FilePort, OpenFault, Port, drive_fix};
+use bp_lruk::Settings;
+use bp_lruk::settings::MAX_PERIOD;
+use bp_page::{Geometry, PageNo, Refusal};
+use std::alloc::Global;
+use std::env;
+use std::fs::File;
+use std::mem::size_of;
+use std::rt::{Files, Runtime};
+use std::sync::Wait;
+use std::time::{CpuClock, Duration};
+
+const SIZE: usize = 1024;
+
+const PAGES_A_FRAME: u64 = 4;
+
+const ROOM: usize = 10000000;
+
+// The clock moves once in so many fixes: a page may leave only once it was last referenced before the present tick.
+const FIXES_A_TICK: u64 = 16;
+
+// The next number of a linear congruential generator.
+fn next(state: u64) -> u64 {
+    state
+        .wrapping_mul(6364136223846793005)
+        .wrapping_add(1442695040888963407)
+}
+
+// Gives a pass back, and counts that.
+fn give_back(core: &mut Core, pass: Pass) -> u64
+    ensures same { core.new.parameters ≡ core.old.parameters }
+    ensures one { result ≤ 1 }
+{
+    match core.unfix(pass) {
+        Ok(()) => 1,
+        Err(pass) => {
+            pass.note();
+            0
+        }
+    }
+}
+
+// Fixes a page, and gives it back. Counts that where the page was resident.
+fn use_resident(core: &mut Core, page: PageNo) -> u64
+    requires client { 0 < core.old.parameters.clients }
+    requires page_in { page < core.old.parameters.pages }
+    ensures same { core.new.parameters ≡ core.old.parameters }
+    ensures one { result ≤ 1 }
+{
+    match core.fix(0, page) {
+        Ok(Fix::Hit(pass)) => give_back(core, pass),
+        Ok(Fix::Load(ticket, _)) => {
+            ticket.forfeit();
+            0
+        }
+        Ok(Fix::WriteFirst(ticket)) => {
+            ticket.forfeit();
+            0
+        }
+        Err(_) => 0,
+    }
+}
+
+// Fixes a page, which is read where it is away, and gives it back. Counts that where it was not refused.
+fn use_any(rt: &impl Wait, core: &mut Core, port: &mut FilePort, page: PageNo) -> u64
+    requires size { port.old.device.size ≡ core.old.parameters.size }
+    requires client { 0 < core.old.parameters.clients }
+    requires page_in { page < core.old.parameters.pages }
+    ensures same { core.new.parameters ≡ core.old.parameters }
+    ensures device { port.new.device ≡ port.old.device }
+    ensures one { result ≤ 1 }
+{
+    match drive_fix(rt, core, port, 0, page) {
+        Ok(pass) => give_back(core, pass),
+        Err(_) => 0,
+    }
+}
+
+// Moves the clock where it is due.
+fn tick(core: &mut Core, call: u64)
+    requires client { 0 < core.old.parameters.clients }
+    ensures same { core.new.parameters ≡ core.old.parameters }
+{
+    if call % FIXES_A_TICK == 0 {
+        let _ = core.tick(0, 1);
+    }
+}
+
+// Brings in as many pages, in turn.
+fn fill(rt: &impl Wait, core: &mut Core, port: &mut FilePort, pages: u64)
+    requires size { port.old.device.size ≡ core.old.parameters.size }
+    requires client { 0 < core.old.parameters.clients }
+    requires pages_in { pages ≤ core.old.parameters.pages }
+    ensures same { core.new.parameters ≡ core.old.parameters }
+    ensures device { port.new.device ≡ port.old.device }
+{
+    for page in 0..pages {
+        tick(core, page);
+        use_any(rt, core, port, PageNo::new(page));
+    }
+}
+
+// Fixes pages at random. Counts those that were resident.
+fn hit_at_random(core: &mut Core, pages: u64, calls: u64) -> u64
+    requires some { 0 < pages }
+    requires client { 0 < core.old.parameters.clients }
+    requires pages_in { pages ≤ core.old.parameters.pages }
+{
+    let mut state = 1;
+    let mut hits = 0;
+    for call in 0..calls {
+        state = next(state);
+        tick(core, call);
+        hits += use_resident(core, PageNo::new((state >> 33) % pages));
+    }
+    hits
+}
+
+// Fixes pages at random. Counts those that were not refused.
+fn fix_at_random(
+    rt: &impl Wait,
+    core: &mut Core,
+    port: &mut FilePort,
+    pages: u64,
+    calls: u64,
+) -> u64
+    requires some { 0 < pages }
+    requires size { port.old.device.size ≡ core.old.parameters.size }
+    requires client { 0 < core.old.parameters.clients }
+    requires pages_in { pages ≤ core.old.parameters.pages }
+    ensures device { port.new.device ≡ port.old.device }
+{
+    let mut state = 1;
+    let mut fixes = 0;
+    for call in 0..calls {
+        state = next(state);
+        tick(core, call);
+        fixes += use_any(rt, core, port, PageNo::new((state >> 33) % pages));
+    }
+    fixes
+}
+
+// How many evictions the trail tells of.
+fn evictions(core: &Core) -> usize {
+    core.trail()
+        .iter()
+        .filter(|entry| {
+            matches!(
+                entry.reply,
+                Reply::Load {
+                    evicted: Some(_),
+                    ..
+                }
+            )
+        })
+        .count()
+}
+
+// How many calls a second these are, or 0 where they took no time.
+fn calls_a_second(start: Duration, end: Duration, calls: u64) -> u128 {
+    let spent = end.saturating_sub(start).as_nanos();
+    if spent == 0 {
+        return 0;
+    }
+    calls as u128 * 1000000000 / spent
+}
+
+// Opens a page file that has so many pages at least.
+fn open<R: Files<File = File>>(
+    rt: &R,
+    alloc: Global,
+    path: &str,
+    pages: u64,
+) -> Result<FilePort, OpenFault>
+    ensures size { IfOk result (λ port. port.device.size ≡ SIZE) }
+    ensures pages { IfOk result (λ port. pages ≤ port.device.pages) }
+{
+    let port = match FilePort::open(rt, alloc, path, SIZE) {
+        Ok(port) => port,
+        Err(fault) => return Err(fault),
+    };
+    if port.geometry().pages < pages {
+        return Err(OpenFault::Refused(Refusal::BadLength));
+    }
+    Ok(port)
+}
+
+// A core of K 2 and no periods for one client.
+fn new_core(alloc: Global, geometry: Geometry, frames: usize) -> Result<Core, Refusal>
+    ensures size { IfOk result (λ core. core.parameters.size ≡ geometry.size) }
+    ensures pages { IfOk result (λ core. core.parameters.pages ≡ geometry.pages) }
+    ensures client { IfOk result (λ core. core.parameters.clients ≡ 1) }
+{
+    let settings = match Settings::new(2, 0, MAX_PERIOD) {
+        Ok(settings) => settings,
+        Err(refusal) => return Err(refusal),
+    };
+    Core::new(alloc, geometry, settings, frames, 1, ROOM)
+}
+
+// Times fixes of pages that are resident.
+fn time_hits(
+    rt: &(impl Runtime<A = Global> + CpuClock),
+    core: &mut Core,
+    pages: u64,
+    calls: u64,
+) -> Result<(), anyhow::Error>
+    requires some { 0 < pages }
+    requires client { 0 < core.old.parameters.clients }
+    requires pages_in { pages ≤ core.old.parameters.pages }
+{
+    let start = rt.thread_cpu_time()?;
+    let hits = hit_at_random(core, pages, calls);
+    let end = rt.thread_cpu_time()?;
+    let each = calls_a_second(start, end, calls);
+    println!(rt; "{pages} pages: {each} fixes and unfixes a second; {hits} of {calls} were hits")?;
+    Ok(())
+}
+
+// Times fixes of more pages than there are frames.
+fn time_evictions(
+    rt: &(impl Runtime<A = Global> + CpuClock + Wait),
+    core: &mut Core,
+    port: &mut FilePort,
+    pages: u64,
+    calls: u64,
+) -> Result<(), anyhow::Error>
+    requires some { 0 < pages }
+    requires size { port.old.device.size ≡ core.old.parameters.size }
+    requires client { 0 < core.old.parameters.clients }
+    requires pages_in { pages ≤ core.old.parameters.pages }
+{
+    let start = rt.thread_cpu_time()?;
+    let fixes = fix_at_random(rt, core, port, pages, calls);
+    let end = rt.thread_cpu_time()?;
+    let each = calls_a_second(start, end, calls);
+    let gone = evictions(core);
+    println!(rt; "{pages} pages: {each} fixes and unfixes a second; {gone} of {fixes} evicted")?;
+    Ok(())
+}
+
+// A core whose frames are full of the first pages.
+fn full_core(
+    rt: &impl Wait,
+    alloc: Global,
+    port: &mut FilePort,
+    frames: usize,
+) -> Result<Core, Refusal>
+    requires pages_in { frames ≤ port.old.device.pages }
+    ensures device { port.new.device ≡ port.old.device }
+    ensures size { IfOk result (λ core. core.parameters.size ≡ port.old.device.size) }
+    ensures pages { IfOk result (λ core. core.parameters.pages ≡ port.old.device.pages) }
+    ensures client { IfOk result (λ core. core.parameters.clients ≡ 1) }
+{
+    match new_core(alloc, port.geometry(), frames) {
+        Ok(mut core) => {
+            fill(rt, &mut core, port, frames as u64);
+            Ok(core)
+        }
+        Err(refusal) => Err(refusal),
+    }
+}
+
+// Times hits over a new core.
+fn time_resident(
+    rt: &(impl Runtime<A = Global> + CpuClock + Wait),
+    port: &mut FilePort,
+    frames: usize,
+    calls: u64,
+) -> Result<(), anyhow::Error>
+    requires some { 0 < frames }
+    requires pages_in { frames ≤ port.old.device.pages }
+    ensures device { port.new.device ≡ port.old.device }
+{
+    let mut core = full_core(rt, rt.alloc(), port, frames)?;
+    time_hits(rt, &mut core, frames as u64, calls)
+}
+
+// Times fixes with evictions over a new core.
+fn time_away(
+    rt: &(impl Runtime<A = Global> + CpuClock + Wait),
+    port: &mut FilePort,
+    frames: usize,
+    calls: u64,
+) -> Result<(), anyhow::Error>
+    requires some { 0 < frames }
+    requires few { frames ≤ 65536 }
+    requires pages_in { frames * PAGES_A_FRAME ≤ port.old.device.pages }
+{
+    let mut core = full_core(rt, rt.alloc(), port, frames)?;
+    time_evictions(rt, &mut core, port, frames as u64 * PAGES_A_FRAME, calls)
+}
+
+fn time_pool(
+    rt: &(impl Runtime<A = Global> + CpuClock + Files<File = File> + Wait),
+    path: &str,
+    frames: usize,
+    hits: u64,
+    fixes: u64,
+) -> Result<(), anyhow::Error>
+    requires some { 0 < frames }
+    requires few { frames ≤ 65536 }
+{
+    println!(rt; "{frames} frames")?;
+    let mut port = open(rt, rt.alloc(), path, frames as u64 * PAGES_A_FRAME)?;
+    time_resident(rt, &mut port, frames, hits)?;
+    time_away(rt, &mut port, frames, fixes)
+}
+
+fn main(rt: HostRuntime) -> Result<(), anyhow::Error> {
+    for path in env::args(&rt)?.skip(1) {
+        let bytes = size_of::<Entry>();
+        println!(&rt; "an entry has {bytes} bytes")?;
+        time_pool(&rt, path.as_str(), 256, 4000000, 400000)?;
+        time_pool(&rt, path.as_str(), 4096, 4000000, 400000)?;
+        time_pool(&rt, path.as_str(), 65536, 400000, 400000)?;
+    }
+    Ok(())
+}

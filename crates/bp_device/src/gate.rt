@@ -1,0 +1,158 @@
+//! Ports in pairs that wait for one another, for tests that the device work of two clients overlaps.
+ghost use Rattle.std.specs.Prelude.{◌≡◌, ◌<◌, IsTrue, IfOk, OnErr, length};
+ghost use Rattle.bp_device.specs.Ports.{Counts};
+
+use crate::failures::Failures;
+use crate::port::Port;
+use bp_page::{Geometry, Image, PageNo, PortFault, Refusal};
+use std::alloc::Global;
+use std::sync::{Arc, Mutex, Wait};
+use std::thread;
+
+/// A flag that two ports share. It is raised once, and stays up.
+type Flag = Arc<Mutex<bool>, Global>;
+
+/// A flag that is down, for each of the two that share it. `OutOfMemory` where it can't be had.
+fn shared_flag(alloc: Global) -> Result<(Flag, Flag), Refusal>
+    ensures { OnErr result (result ≡ Err Refusal.OutOfMemory) }
+{
+    let Ok(flag) = Arc::new(alloc, Mutex::new(false)) else {
+        return Err(Refusal::OutOfMemory);
+    };
+    match Arc::try_clone(&flag) {
+        Ok(again) => Ok((flag, again)),
+        Err(_) => Err(Refusal::OutOfMemory),
+    }
+}
+
+/// One side of a gate, which opens once somebody has come to the other side.
+#[derive(Drop)]
+struct Gate {
+    here: Flag,
+    there: Flag,
+}
+
+impl Gate {
+    /// Both sides of a gate to which nobody has come. `OutOfMemory` where they can't be had.
+    fn sides(alloc: Global) -> Result<(Gate, Gate), Refusal>
+        ensures { OnErr result (result ≡ Err Refusal.OutOfMemory) }
+    {
+        let (first, seen_by_second) = shared_flag(alloc)?;
+        let (second, seen_by_first) = shared_flag(alloc)?;
+        let one = Gate {
+            here: first,
+            there: seen_by_first,
+        };
+        let other = Gate {
+            here: second,
+            there: seen_by_second,
+        };
+        Ok((one, other))
+    }
+
+    /// Comes to this side, and looks at the other one, up to so many times, until somebody has come there. It tells whether somebody was seen.
+    fn opens<R: Wait>(&self, rt: &R, turns: u64) -> bool
+        ensures looked { IsTrue result → 0 < turns }
+    {
+        *self.here.lock(rt) = true;
+        for _ in 0..turns {
+            if *self.there.lock(rt) {
+                return true;
+            }
+            thread::yield_now();
+        }
+        false
+    }
+}
+
+/// One port of a pair, each over another port. A read goes to the port below once some read of the pair's other port has begun, and a write
+/// once some write has. So where two clients read once each, and both reads are good, neither ended before the other began.
+#[derive(Drop)]
+pub struct GatePort<P: Port> {
+    inner: P,
+    /// How often a call looks for the other port's.
+    turns: u64,
+    reads: Gate,
+    writes: Gate,
+    count: Failures,
+}
+
+impl<P: Port> GatePort<P> {
+    /// A port behind these gates.
+    fn behind(inner: P, turns: u64, reads: Gate, writes: Gate) -> GatePort<P>
+        ensures inner { result.inner ≡ inner }
+        ensures turns { result.turns ≡ turns }
+        ensures count { result.count ≡ 0 }
+    {
+        GatePort {
+            inner,
+            turns,
+            reads,
+            writes,
+            count: Failures::none(),
+        }
+    }
+
+    /// A pair of ports. Each call looks up to `turns` times whether one of its kind has begun at the other port, and lets other threads run
+    /// in between. Where none is seen, as always with 0 turns, the call fails with `Device`, is counted, and never gets to the port below.
+    ///
+    /// `OutOfMemory` where the pair's flags can't be had; `a` and `b` are then dropped.
+    pub fn pair(
+        alloc: Global,
+        a: P,
+        b: P,
+        turns: u64,
+    ) -> Result<(GatePort<P>, GatePort<P>), Refusal>
+        ensures inner { IfOk result (λ pair. (pair.0.inner ≡ a) × (pair.1.inner ≡ b)) }
+        ensures turns { IfOk result (λ pair. (pair.0.turns ≡ turns) × (pair.1.turns ≡ turns)) }
+        ensures count { IfOk result (λ pair. (pair.0.count ≡ 0) × (pair.1.count ≡ 0)) }
+        ensures memory { OnErr result (result ≡ Err Refusal.OutOfMemory) }
+    {
+        let (reads, other_reads) = Gate::sides(alloc)?;
+        let (writes, other_writes) = Gate::sides(alloc)?;
+        let first = GatePort::behind(a, turns, reads, writes);
+        let second = GatePort::behind(b, turns, other_reads, other_writes);
+        Ok((first, second))
+    }
+}
+
+impl<P: Port> Port for GatePort<P> {
+    ghost geometry_of = { λ p. P.geometry_of p.inner };
+
+    ghost failures_of = { λ p. p.count };
+
+    fn geometry(&self) -> Geometry {
+        self.inner.geometry()
+    }
+
+    fn failures(&self) -> u64 {
+        self.count.count()
+    }
+
+    fn read<R: Wait>(&mut self, rt: &R, page: PageNo) -> Result<Image, PortFault>
+        ensures size { IfOk result (λ image. length image ≡ (P.geometry_of self.old.inner).size) }
+        ensures same { P.geometry_of self.new.inner ≡ P.geometry_of self.old.inner }
+        ensures counts { Counts result self.old.count self.new.count }
+        ensures turns { self.new.turns ≡ self.old.turns }
+        ensures shut { self.old.turns ≡ 0 → (result ≡ Err PortFault.Device) × (self.new.inner ≡ self.old.inner) }
+    {
+        if !self.reads.opens(rt, self.turns) {
+            return Err(self.count.add());
+        }
+        let read = self.inner.read(rt, page);
+        self.count.counted(read)
+    }
+
+    fn write<R: Wait>(&mut self, rt: &R, page: PageNo, image: &Image) -> Result<(), PortFault>
+        ensures same { P.geometry_of self.new.inner ≡ P.geometry_of self.old.inner }
+        ensures counts { Counts result self.old.count self.new.count }
+        ensures turns { self.new.turns ≡ self.old.turns }
+        ensures shut { self.old.turns ≡ 0 → (result ≡ Err PortFault.Device) × (self.new.inner ≡ self.old.inner) }
+    {
+        if !self.writes.opens(rt, self.turns) {
+            return Err(self.count.add());
+        }
+        let written = self.inner.write(rt, page, image);
+        self.count.counted(written)
+    }
+}
