@@ -32,13 +32,13 @@ follows-more client rows row ends ends_after said after refusals refusals_after 
     let adds : AddsStep client row.step o said after = no_fault (is_fault o) none said_so in
     subst (λ rs. FollowsBy session rs (reverse ends_after) after (reverse refusals_after)) (sym (reverse-append rows (row ∷ [])))
     (subst (λ es. FollowsBy session (row ∷ reverse rows) es after (reverse refusals_after)) (sym (ap reverse cut ∙ reverse-append ends (length after ∷ [])))
-      (record {
-        before = said;
-        earlier = reverse refusals;
-        adds = record { piece = adds.piece; outcome = o; of_row = subst (λ c. RowPiece session said c row.step adds.piece o) (sym whose) adds.of_row; grows = adds.grows; refuses = refuses };
-        ends_here = refl;
-        follows = so_far;
-      }))
+    (record {
+      before = said;
+      earlier = reverse refusals;
+      adds = record { piece = adds.piece; outcome = o; of_row = subst (λ c. RowPiece session said c row.step adds.piece o) (sym whose) adds.of_row; grows = adds.grows; refuses = refuses };
+      ends_here = refl;
+      follows = so_far;
+    }))
 
 fault-sixteen : (n : ℕ) → is_fault (refused n) ≡ false → n ≢ 16
 fault-sixteen n none is = let yes = eq-eqb n 16 is in cc

@@ -1,6 +1,8 @@
 -- From what the jobs left to what holds of the run.
 use Rattle.std.proofs.Common.{◌≡◌, ◌≢◌, ℕ, zero, suc, ◌+◌, ◌<◌, List, [], ◌∷◌, length, map, reverse, get_or, refl, sym, ap, subst, ◌∙◌, All, arith}
-use Rattle.std.specs.Prelude.{flat_map, ◌++◌}
+use Rattle.std.specs.Prelude.{flat_map, Result, Ok, Err, IfOk}
+use Rattle.bp_page.specs.declared.refusals.Refusal.{Refusal}
+use Rattle.bp_clients.specs.declared.run.Outcome.{Outcome}
 use Rattle.std.proofs.lemmas.List.{get_or-map, reverse-reverse, length-map}
 use Rattle.std.proofs.lemmas.List.Elements.{All-get_or, All-nil, All-head, All-tail, All-append}
 use Rattle.std.proofs.lemmas.List.Sorted.{All-permutation}
@@ -17,7 +19,7 @@ use Rattle.bp_trail.specs.Script.{FollowsBy, GivesBack, Follows}
 use Rattle.bp_audit.specs.Clients.{of_client}
 use Rattle.bp_audit.specs.Log.{IsWithinLog}
 use Rattle.bp_audit.proofs.Comparing.{of_client-reverse}
-use Rattle.bp_clients.specs.Jobs.{list_of, NoneIsStrange, FollowsCut, JobValue, SameJob, new_job, new_jobs, IsTold, Collected}
+use Rattle.bp_clients.specs.Jobs.{list_of, lists, NoneIsStrange, FollowsCut, JobValue, SameJob, new_job, new_jobs, IsTold, Collected}
 use Rattle.bp_clients.specs.Runs.{SaidIsTheirs, EachFollows, MarksWithinLog, IsRun, Joined}
 
 -- the job of client c, with its script
@@ -29,7 +31,7 @@ pub record IsJobOf (c : ℕ) (rows : List Row) (j : JobValue) : Type 0 where
 abbrev pub AreJobsOf : List (List Row) → List JobValue → Type 0
 AreJobsOf scripts jobs = (length jobs ≡ length scripts) × ((c : ℕ) (d : JobValue) → c < length scripts → IsJobOf c (list_of c scripts) (get_or jobs c d))
 
-length-new_jobs : (first : ℕ) (scripts : List (List Row)) → length (new_jobs first scripts) ≡ length scripts
+pub length-new_jobs : (first : ℕ) (scripts : List (List Row)) → length (new_jobs first scripts) ≡ length scripts
 length-new_jobs first [] = refl
 length-new_jobs first (script ∷ scripts) = ap suc (length-new_jobs (suc first) scripts)
 
@@ -45,9 +47,9 @@ same_jobs scripts old new are len same =
     let count : length old ≡ length scripts = ap length are ∙ length-new_jobs 0 scripts in (
       len ∙ count,
       λ c d below.
-        let kept = same c d (omega arith) in
-        let was : IsJobOf c (list_of c scripts) (get_or old c d) = subst (λ jobs. IsJobOf c (list_of c scripts) (get_or jobs c d)) (sym are) (new_job-at 0 scripts c c d below (omega arith)) in
-        record { client = kept.client ∙ was.client; script = kept.script ∙ was.script },
+          let kept = same c d (omega arith) in
+          let was : IsJobOf c (list_of c scripts) (get_or old c d) = subst (λ jobs. IsJobOf c (list_of c scripts) (get_or jobs c d)) (sym are) (new_job-at 0 scripts c c d below (omega arith)) in
+          record { client = kept.client ∙ was.client; script = kept.script ∙ was.script },
     )
 
 -- ---- clause by clause
@@ -85,17 +87,23 @@ module _ (scripts : List (List Row)) (trail : List Entry) (jobs : List JobValue)
   follows : (c : ℕ) → c < length scripts → Follows session (list_of c scripts) (reverse (list_of c (map (λ j. reverse j.said) jobs))) (list_of c (map (λ j. j.refused) jobs))
   follows c below =
       subst (λ refused. Follows session (list_of c scripts) (reverse (list_of c (map (λ j. reverse j.said) jobs))) refused) (sym (refused-at c below))
-        (follows-at c _ below (sym (reverse-reverse (job c).said) ∙ ap reverse (sym (said-at c below))))
+      (follows-at c _ below (sym (reverse-reverse (job c).said) ∙ ap reverse (sym (said-at c below))))
 
   within : 0 < length scripts → MarksWithinLog (list_of 0 scripts) trail
   within some =
       let told = told-at 0 some in
       let is = job-at 0 some in
+      let f = told.follows in
       let mine : (job 0).said ≡ of_client 0 (reverse trail) =
       sym (reverse-reverse (job 0).said) ∙ ap reverse (told.said ∙ ap (λ n. of_client n trail) is.client) ∙ sym (of_client-reverse 0 trail) in
       record {
         refused = (job 0).refused;
-        cut = follows-at 0 (of_client 0 (reverse trail)) some mine;
+        cut = record {
+          by_rows = f.by_rows;
+          ends = (job 0).ends;
+          pieces = subst (λ script. FollowsBy session (reverse script) (job 0).ends f.by_rows (reverse (job 0).refused)) is.script f.pieces;
+          gives_back = subst (λ list. GivesBack f.by_rows list) mine f.gives_back;
+        };
         within = subst (λ script. IsWithinLog script (job 0).ends (reverse trail)) is.script (told.within is.client);
       }
 
@@ -115,11 +123,23 @@ run_is c scripts trail jobs said refused some legal are j =
       theirs = λ k below. ap (list_of k) is ∙ theirs scripts trail jobs are told k below;
       follows = record {
         refusals = map (λ j. j.refused) jobs;
-        each = λ k below. subst (λ said. Follows session (list_of k scripts) (reverse (list_of k said)) (list_of k (map (λ j. j.refused) jobs))) (sym is) (follows scripts trail jobs are told k below);
-        counted = length-map (λ j. j.refused) jobs ∙ are.0;
-        joined = subst (λ all. IsPermutation all refused) (j.collected.refused_are ∙ sym (flat_map-map (λ r. r) (λ j. j.refused) jobs)) j.same;
+        each = λ k below. subst (λ (lists : List (List Entry)). Follows session (list_of k scripts) (reverse (list_of k lists)) (list_of k (map (λ j. j.refused) jobs))) (sym is) (follows scripts trail jobs are told k below);
+        counted = length-map jobs (λ j. j.refused) ∙ are.0;
+        joined = subst (λ (all : List Refused). IsPermutation all refused) (j.collected.refused_are ∙ sym (flat_map-map (λ (rs : List Refused). rs) (λ (k : JobValue). k.refused) jobs)) j.same;
         in_order = j.in_order;
       };
-      known = All-permutation _ _ _ j.same (subst NoneIsStrange (sym j.collected.refused_are) (known-all trail jobs told));
+      known = All-permutation (λ r. r.number ≢ 16) j.one_by_one refused j.same (subst NoneIsStrange (sym j.collected.refused_are) (known-all trail jobs told));
       within_log = within scripts trail jobs are told some;
     }
+
+-- the same of a run's answer
+pub run_all : (p q : Parameters) (scripts : List (List Row)) (jobs : List JobValue) (answer : Result Outcome Refusal) → 0 < length scripts → AreJobsOf scripts jobs → q ≡ p
+    → IfOk answer (λ run. Legal q (reverse run.trail.items)) → IfOk answer (λ run. Joined run.trail.items jobs (lists run.said.items) run.refused.items)
+    → IfOk answer (λ run. IsRun p scripts run.trail.items (lists run.said.items) run.refused.items)
+run_all p q scripts jobs (Ok run) some are same legal joined = run_is p scripts _ jobs _ _ some (subst (λ c. Legal c (reverse run.trail.items)) same legal) are joined
+run_all p q scripts jobs (Err why) some are same legal joined = tt
+
+pub answer-said : (p : Parameters) (scripts : List (List Row)) (n : ℕ) (answer : Result Outcome Refusal) → length scripts ≡ n
+    → IfOk answer (λ run. IsRun p scripts run.trail.items (lists run.said.items) run.refused.items) → IfOk answer (λ run. SaidIsTheirs n run.trail.items (lists run.said.items))
+answer-said p scripts n (Ok run) count is = subst (λ m. SaidIsTheirs m run.trail.items (lists run.said.items)) count is.theirs
+answer-said p scripts n (Err why) count is = tt

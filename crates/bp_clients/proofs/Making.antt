@@ -1,9 +1,12 @@
 -- A job for each session, script and port.
-use Rattle.std.proofs.Common.{◌≡◌, refl, sym, ◌∙◌, ap, subst, ℕ, zero, suc, ◌+◌, ◌<◌, arith, List, [], ◌∷◌, ◌++◌, length, take, drop}
+use Rattle.std.proofs.Common.{◌≡◌, refl, sym, ◌∙◌, ap, subst, ℕ, zero, suc, ◌+◌, ◌<◌, arith, List, [], ◌∷◌, ◌++◌, length, take, drop, get_or, rules, Bool, true, false, ◌==◌, ◌≢◌}
+use Rattle.std.proofs.lemmas.Bool.{eqb-true, eq-eqb}
+use Rattle.std.specs.declared.vec.Vec.{Vec}
+use Rattle.std.proofs.lemmas.List.{get_or-map, append_assoc}
 use Rattle.bp_shared.specs.Sessions.{SessionValue, new_sessions}
 use Rattle.bp_trail.specs.declared.scripts.Row.{Row}
 use Rattle.bp_trail.specs.Parameters.{Parameters}
-use Rattle.bp_clients.specs.Jobs.{list_of, ScriptFits, EachScriptFits, ScriptsFit, sessions_from}
+use Rattle.bp_clients.specs.Jobs.{list_of, lists, ScriptFits, EachScriptFits, ScriptsFit, sessions_from, JobValue, new_job, new_jobs}
 
 one_more : (first n : ℕ) → sessions_from first (suc n) ≡ sessions_from first n ++ record { client = first + n; said = [] } ∷ []
 one_more first zero = ap (λ c. record { client = c; said = [] } ∷ []) (omega arith)
@@ -34,3 +37,37 @@ lent_back (suc n) (x ∷ new) old len = ap (λ xs. x ∷ xs) (taken n new (drop 
     taken (suc n) [] ys len = absurd (omega arith)
     taken zero (x ∷ xs) ys len = absurd (omega arith)
     taken (suc n) (x ∷ xs) ys len = ap (λ zs. x ∷ zs) (taken n xs ys (omega arith))
+
+-- one script more fits
+pub one_more_fits : {A : Type 0} (p : Parameters) (scripts : List (Vec Row A)) (n : ℕ) (script : Vec Row A) (rows : List Row) → ((c : ℕ) → c < n → ScriptFits p c (list_of c (lists scripts))) → n < length scripts
+    → script ≡ get_or scripts n script → rows ≡ script.items → ScriptFits p n rows → (c : ℕ) → c < n + 1 → ScriptFits p c (list_of c (lists scripts))
+one_more_fits p scripts n script rows so_far below is are fits c within = go (c == n) refl
+  where
+    here : list_of n (lists scripts) ≡ rows
+    here = get_or-map (λ v. v.items) scripts n script [] below ∙ ap (λ v. v.items) (sym is) ∙ sym are
+
+    go : (b : Bool) → (c == n) ≡ b → ScriptFits p c (list_of c (lists scripts))
+    go true same = subst (λ m. ScriptFits p m (list_of m (lists scripts))) (sym (eqb-true c n same)) (subst (λ rs. ScriptFits p n rs) (sym here) fits)
+    go false other = let apart : c ≢ n = λ same. (let both = eq-eqb c n same in cc) in so_far c (omega (arith, within, apart))
+
+-- ---- one job more
+
+-- the session that comes next, and those after it
+pub record NextSession (n left : ℕ) (s : SessionValue) (rest : List SessionValue) : Type 0 where
+  pub is : s ≡ record { client = n; said = [] }
+  pub after : rest ≡ sessions_from (suc n) left
+
+pub next_session : (n m left : ℕ) (sessions rest : List SessionValue) (s : SessionValue) → sessions ≡ sessions_from n m → sessions ≡ s ∷ rest → m ≡ suc left → NextSession n left s rest
+next_session n m left sessions rest s are begins some =
+    let same : s ∷ rest ≡ record { client = n; said = [] } ∷ sessions_from (suc n) left = sym begins ∙ are ∙ ap (sessions_from n) some in
+    record { is = cc; after = cc }
+
+pub made_more : (jobs jobs_after all : List JobValue) (n next : ℕ) (rows : List Row) (scripts rest : List (List Row)) (j : JobValue) → jobs ++ new_jobs n scripts ≡ all → scripts ≡ rows ∷ rest → jobs_after ≡ jobs ++ j ∷ []
+    → j ≡ new_job n rows → next ≡ suc n → jobs_after ++ new_jobs next rest ≡ all
+made_more jobs jobs_after all n next rows scripts rest j so_far begins adds is one =
+    ap (λ m. jobs_after ++ new_jobs m rest) one ∙ ap (λ js. js ++ new_jobs (suc n) rest) (adds ∙ ap (λ k. jobs ++ k ∷ []) is) ∙ append_assoc jobs (new_job n rows ∷ []) (new_jobs (suc n) rest)
+    ∙ ap (λ ss. jobs ++ new_jobs n ss) (sym begins) ∙ so_far
+
+-- the script that comes next fits, and so do those after it
+pub next_fits : (p : Parameters) (n : ℕ) (rows : List Row) (scripts rest : List (List Row)) → ScriptsFit p n scripts → scripts ≡ rows ∷ rest → ScriptFits p n rows × ScriptsFit p (suc n) rest
+next_fits p n rows scripts rest fits begins = subst (ScriptsFit p n) begins fits

@@ -1,7 +1,7 @@
 -- What the jobs left, one after the other.
 use Rattle.std.proofs.Common.{◌≡◌, refl, sym, ◌∙◌, ap, subst, List, [], ◌∷◌, ◌++◌, map, reverse, length, arith, All}
 use Rattle.std.specs.Prelude.{flat_map}
-use Rattle.std.proofs.lemmas.List.{map-append, append_assoc, append-nil}
+use Rattle.std.proofs.lemmas.List.{map-append, append_assoc, append-nil, reverse-reverse}
 use Rattle.std.proofs.lemmas.List.Elements.{All-nil, All-push}
 use Rattle.std.proofs.lemmas.Grind.{flat_map-append}
 use Rattle.bp_trail.specs.declared.entries.Entry.{Entry}
@@ -34,3 +34,7 @@ one_more trail all rest left j said said_after refused refused_after s next told
 pub all_taken : (trail : List Entry) (all rest : List JobValue) (said : List (List Entry)) (refused : List Refused) → SoFar trail all rest said refused → length rest ≡ 0 → Collected trail all said refused
 all_taken trail all (j ∷ rest) said refused s none = absurd (omega (arith, none))
 all_taken trail all [] said refused s none = subst (λ js. Collected trail js said refused) (sym (append-nil s.taken) ∙ s.joined) s.collected
+
+-- two lists that are the same turned round
+pub same_reversed : {X : Type 0} (xs ys past : List X) → reverse xs ≡ past → reverse ys ≡ past → xs ≡ ys
+same_reversed xs ys past x_is y_is = sym (reverse-reverse xs) ∙ ap reverse (x_is ∙ sym y_is) ∙ reverse-reverse ys

@@ -15,4 +15,4 @@ loop-note-preserved g c = record {
 }
 
 pub returns-clause-back : goal.returns-clause-back
-returns-clause-back g c yes = rw (← c.self.view_is) (goes-to_end _ c.loop-note.self-inside.session.said c.held.result.now c.loop-note.invariant.back c.held.ensures c.in_default.ensures.none)
+returns-clause-back g c given = rw (← c.self.view_is) (goes-to_end _ c.loop-note.self-inside.session.said c.held.result.now c.loop-note.invariant.back c.held.ensures c.in_default.ensures.none)
