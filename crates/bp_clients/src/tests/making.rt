@@ -69,9 +69,16 @@ pub(super) fn script(
     Ok(rows)
 }
 
-/// These two lists as one.
-pub(super) fn both<T>(alloc: Global, first: T, second: T) -> Result<Vec<T>, Refusal> {
-    vec![in alloc; first, second].map_err(|_| Refusal::OutOfMemory)
+/// These two scripts.
+pub(super) fn both(
+    alloc: Global,
+    first: Vec<Row>,
+    second: Vec<Row>,
+) -> Result<Vec<Vec<Row>>, Refusal> {
+    match vec![in alloc; first, second] {
+        Ok(both) => Ok(both),
+        Err(_) => Err(Refusal::OutOfMemory),
+    }
 }
 
 pub(super) fn geometry() -> Result<Geometry, Refusal> {
@@ -88,14 +95,15 @@ pub(super) fn ports(
     ensures count { IfOk result (λ ports. vec_len ports ≡ clients) }
 {
     let device = MemDevice::new(alloc, geometry)?;
-    let Ok(mut ports) = Vec::with_capacity(alloc, clients) else {
-        return Err(Refusal::OutOfMemory);
-    };
+    let mut ports = Vec::new(alloc);
     for _ in 0..clients {
-        match device.port() {
-            Ok(port) => ports.push_reserved(port),
+        let port = match device.port() {
+            Ok(port) => port,
             Err(refusal) => return Err(refusal),
-        }
+        };
+        let Ok(()) = ports.push(port) else {
+            return Err(Refusal::OutOfMemory);
+        };
     }
     Ok(ports)
 }

@@ -93,7 +93,7 @@ fn small_room(rt: HostRuntime) -> Result<(), Fail> {
     let done = run_alone(&rt, alloc, 5, rows)?;
     let full = Refused { row: 3, number: 20 };
     let unknown = Refused { row: 4, number: 14 };
-    assert_eq!(rt; done.refused.as_slice(), &[full, unknown]);
+    assert_eq!(rt; done.refused.as_slice(), [full, unknown].as_slice());
     assert_eq!(rt; done.trail.len(), 3);
     Ok(())
 }
@@ -128,7 +128,7 @@ fn passes_held_at_the_end_go_back(rt: HostRuntime) -> Result<(), Fail> {
     let rows = script(alloc, 0, 1, &[Do::Fix(1), Do::Fix(1)])?;
     let done = run_alone(&rt, alloc, 4096, rows)?;
     assert_eq!(rt; done.trail.len(), 5);
-    assert_eq!(rt; done.said.iter().map(|said| said.len()).sum::<usize>(), 5);
+    assert_eq!(rt; done.said.first().map(|said| said.len()), Some(5));
     Ok(())
 }
 
