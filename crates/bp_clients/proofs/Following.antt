@@ -1,5 +1,5 @@
 -- Row after row, a list follows its script; and then the passes that are still held go back.
-use Rattle.std.proofs.Common.{◌≡◌, ◌≢◌, ◌⊎◌, inl, inr, refl, sym, ◌∙◌, ap, subst, ℕ, ◌<◌, arith, Bool, true, false, List, [], ◌∷◌, ◌++◌, length, reverse, All, Option, Some, None}
+use Rattle.std.proofs.Common.{◌≡◌, ◌≢◌, ◌⊎◌, inl, inr, refl, sym, ◌∙◌, ap, subst, ℕ, ◌<◌, arith, Bool, false, List, [], ◌∷◌, ◌++◌, length, reverse, Some}
 use Rattle.std.specs.Prelude.{IsTrue, not, filter, ◌==◌}
 use Rattle.std.proofs.lemmas.Bool.{eq-eqb}
 use Rattle.std.proofs.lemmas.List.{reverse-reverse, reverse-append, length-reverse}
@@ -12,7 +12,7 @@ use Rattle.bp_trail.specs.Passes.{passes_out}
 use Rattle.bp_trail.specs.Pieces.{Outcome}
 use Rattle.bp_trail.specs.Pieces.Manner.{session}
 use Rattle.bp_trail.specs.Pieces.Outcome.{accepted, refused}
-use Rattle.bp_trail.specs.Script.{RowPiece, refused_row, AddsRow, FollowsBy, held_passes, first_to_go_back, give_back, GivesBack}
+use Rattle.bp_trail.specs.Script.{RowPiece, refused_row, FollowsBy, held_passes, first_to_go_back, give_back, GivesBack}
 use Rattle.bp_trail.specs.Script.GivesBack.{none_held, next}
 use Rattle.bp_trail.proofs.Counting.{filter-reverse}
 use Rattle.bp_device.proofs.ScriptSteps.{going-fewer}

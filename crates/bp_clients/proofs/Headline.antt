@@ -19,8 +19,8 @@ use Rattle.bp_trail.specs.Script.{FollowsBy, GivesBack, Follows}
 use Rattle.bp_audit.specs.Clients.{of_client}
 use Rattle.bp_audit.specs.Log.{IsWithinLog}
 use Rattle.bp_audit.proofs.Comparing.{of_client-reverse}
-use Rattle.bp_clients.specs.Jobs.{list_of, lists, NoneIsStrange, FollowsCut, JobValue, SameJob, new_job, new_jobs, IsTold, Collected}
-use Rattle.bp_clients.specs.Runs.{SaidIsTheirs, EachFollows, MarksWithinLog, IsRun, Joined}
+use Rattle.bp_clients.specs.Jobs.{list_of, lists, NoneIsStrange, JobValue, SameJob, new_job, new_jobs, IsTold}
+use Rattle.bp_clients.specs.Runs.{SaidIsTheirs, MarksWithinLog, IsRun, Joined}
 
 -- the job of client c, with its script
 pub record IsJobOf (c : ℕ) (rows : List Row) (j : JobValue) : Type 0 where

@@ -1,5 +1,5 @@
 -- What the jobs left, one after the other.
-use Rattle.std.proofs.Common.{◌≡◌, refl, sym, ◌∙◌, ap, subst, List, [], ◌∷◌, ◌++◌, map, reverse, length, arith, All}
+use Rattle.std.proofs.Common.{◌≡◌, refl, sym, ◌∙◌, ap, subst, List, [], ◌∷◌, ◌++◌, reverse, length, arith}
 use Rattle.std.specs.Prelude.{flat_map}
 use Rattle.std.proofs.lemmas.List.{map-append, append_assoc, append-nil, reverse-reverse}
 use Rattle.std.proofs.lemmas.List.Elements.{All-nil, All-push}

@@ -24,7 +24,10 @@ fn write_ahead_rule_in_a_run(rt: HostRuntime) -> Result<(), Fail> {
         Do::Unfix(2),
     ];
     let done = run_alone(&rt, alloc, 4096, script(alloc, 0, 1, &steps)?)?;
-    assert_eq!(rt; done.refused.as_slice(), [Refused { row: 6, number: 12 }].as_slice());
+    assert_eq!(rt;
+        done.refused.as_slice(),
+        [Refused { row: 6, number: 12 }].as_slice()
+    );
     assert_eq!(rt; counts(&done.trail), (0, 2, 1, 1));
     assert_eq!(rt; done.trail.iter().filter(|entry| is_mark(entry)).count(), 2);
     Ok(())

@@ -1,5 +1,5 @@
 -- Test by test.
-use Rattle.std.proofs.Common.{arith, rules, sym, ap}
+use Rattle.std.proofs.Common.{arith, rules}
 use Rattle.bp_clients.proofs.fitting.row_fits.Goals as goal
 
 pub returns-then-client-eq0 : goal.returns-then-client-eq0

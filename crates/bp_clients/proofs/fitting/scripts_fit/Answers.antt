@@ -1,7 +1,5 @@
 -- Script after script.
-use Rattle.std.proofs.Common.{arith, rules, refl, sym, ap, subst, length, ◌≡◌, ◌∙◌}
-use Rattle.std.proofs.lemmas.List.{get_or-map}
-use Rattle.bp_clients.specs.Jobs.{list_of, lists, ScriptFits}
+use Rattle.std.proofs.Common.{arith, rules, refl, length}
 use Rattle.bp_clients.specs.Runs.{run_parameters}
 use Rattle.bp_clients.proofs.Making.{one_more_fits}
 use Rattle.bp_clients.proofs.fitting.scripts_fit.Goals as goal

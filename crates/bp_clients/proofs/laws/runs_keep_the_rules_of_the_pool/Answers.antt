@@ -1,5 +1,5 @@
 -- Each law of legal trails, of the trail of a run.
-use Rattle.std.proofs.Common.{◌≡◌, List, [], ◌∷◌, reverse}
+use Rattle.std.proofs.Common.{◌≡◌, [], ◌∷◌, reverse}
 use Rattle.bp_trail.specs.Parameters.{Parameters}
 use Rattle.bp_trail.specs.Trail.{Trail}
 use Rattle.bp_trail.specs.Lists.{EachEntry}

@@ -1,5 +1,5 @@
 -- What was taken in, with the refused rows put in order.
-use Rattle.std.proofs.Common.{◌≡◌, rules, sym, ◌∙◌, subst}
+use Rattle.std.proofs.Common.{rules, subst}
 use Rattle.std.proofs.lemmas.List.Sorted.{IsNonDecreasingBy-from_sort_by_key}
 use Rattle.bp_clients.specs.Jobs.{lists, Collected}
 use Rattle.bp_clients.proofs.TakingIn.{same_reversed}

@@ -1,5 +1,5 @@
 -- One job after the other.
-use Rattle.std.proofs.Common.{◌≡◌, ◌∷◌, sym, ◌∙◌, ap, subst, suc, length, vec_len, arith, All}
+use Rattle.std.proofs.Common.{◌≡◌, sym, ◌∙◌, ap, subst, suc, length, vec_len, arith}
 use Rattle.std.proofs.lemmas.List.Elements.{All-head, All-tail, All-same}
 use Rattle.std.specs.Vec.Iter.{into_iter_items}
 use Rattle.bp_clients.specs.Jobs.{lists, ScriptFits, ScriptsFit, sessions_from, new_job}

@@ -1,5 +1,5 @@
 -- From the jobs that were made to the headline.
-use Rattle.std.proofs.Common.{◌≡◌, ◌<◌, rules, arith, sym, ap, ◌∙◌, length}
+use Rattle.std.proofs.Common.{◌≡◌, ◌<◌, rules, arith, ap, ◌∙◌, length}
 use Rattle.std.proofs.lemmas.List.{length-map}
 use Rattle.bp_clients.specs.Jobs.{lists, sessions_from}
 use Rattle.bp_clients.proofs.Making.{in_order, scripts_fit, lent_back}

@@ -1,5 +1,5 @@
 -- The passes held are those that the list leaves out.
-use Rattle.std.proofs.Common.{◌≡◌, ◌∙◌, ap}
+use Rattle.std.proofs.Common.{◌∙◌, ap}
 use Rattle.std.specs.Prelude.{find, reverse}
 use Rattle.bp_trail.specs.Script.{is_pass_of}
 use Rattle.bp_clients.proofs.Stepping.{latest_found}
