@@ -47,6 +47,13 @@ impl TrailBuffer {
         &self.entries
     }
 
+    /// Gives all of them, the oldest first.
+    pub(crate) fn into_entries(self) -> Vec<Entry>
+        ensures { reverse result.items ≡ self.past }
+    {
+        self.entries
+    }
+
     /// Adds an entry, which takes no memory.
     pub(crate) fn record(&mut self, client: u8, call: Call, reply: Reply)
         requires { length self.old.past < self.old.capacity }

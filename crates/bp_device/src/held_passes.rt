@@ -32,8 +32,8 @@ fn is_taken_by(note: &PassNote, client: u8) -> bool
     note.client() == client
 }
 
-/// The pass of the page that the client took latest and still holds.
-pub(crate) fn latest(held: &[PassNote], client: u8, page: PageNo) -> Option<PassNote>
+/// Of the passes that are held, in the order taken, the one of the page that the client took latest.
+pub fn latest_pass(held: &[PassNote], client: u8, page: PageNo) -> Option<PassNote>
     ensures { result ≡ find (is_pass_of client page) (reverse held.now) }
 {
     held.iter()
@@ -67,8 +67,9 @@ fn lowest_client(held: &[PassNote]) -> Option<u8>
     held.iter().map(|note| note.client()).min()
 }
 
-/// The pass that goes back next: of the lowest client that holds any, the one taken first.
-fn next_back(held: &[PassNote]) -> Option<PassNote>
+/// Of the passes that are held, in the order taken, the one that goes back next: of the lowest client that holds any, the
+/// one taken first.
+pub fn next_to_go_back(held: &[PassNote]) -> Option<PassNote>
     ensures first { result ≡ first_to_go_back held.now }
     ensures none { IfNone result (held.now ≡ []) }
 {
@@ -81,7 +82,7 @@ pub(crate) fn give_back_all(core: &mut Core, held: &mut Vec<PassNote>)
     requires ends_in { EndsIn core.old held.old.items }
     ensures outcome { GaveBack core.old held.old.items core.new }
 {
-    while let Some(note) = next_back(held) {
+    while let Some(note) = next_to_go_back(held) {
         give(core, held, note);
     }
 }

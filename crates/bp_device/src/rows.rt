@@ -6,7 +6,7 @@ ghost use Rattle.bp_trail.specs.Pieces.{outcome_of};
 ghost use Rattle.bp_device.specs.Rows.{EndsIn, DrivesRow};
 
 use crate::drivers::{drive_fix, drive_flush};
-use crate::held_passes::{give, latest};
+use crate::held_passes::{give, latest_pass};
 use crate::port::Port;
 use bp_core::{Core, PassNote, Row, Step};
 use bp_page::{Bytes, Lsn, PageNo, Refusal};
@@ -17,7 +17,7 @@ fn read_row(core: &mut Core, held: &[PassNote], client: u8, page: PageNo) -> Res
     requires ends_in { EndsIn core.old held.now }
     ensures outcome { DrivesRow core.old client (Step.Read page) (outcome_of result) held.now held.now core.new }
 {
-    let Some(note) = latest(held, client, page) else {
+    let Some(note) = latest_pass(held, client, page) else {
         return Err(Refusal::UnknownPass);
     };
     let pass = note.pass();
@@ -44,7 +44,7 @@ fn write_row(
     requires fits { offset + length bytes.now ≤ core.old.parameters.size }
     ensures outcome { DrivesRow core.old client (Step.Write page offset bytes.now lsn) (outcome_of result) held.now held.now core.new }
 {
-    let Some(note) = latest(held, client, page) else {
+    let Some(note) = latest_pass(held, client, page) else {
         return Err(Refusal::UnknownPass);
     };
     let pass = note.pass();
@@ -68,7 +68,7 @@ fn unfix_row(
     ensures fewer { vec_len held.new ≤ vec_len held.old }
     ensures capacity { vec_capacity held.new ≡ vec_capacity held.old }
 {
-    let Some(note) = latest(held, client, page) else {
+    let Some(note) = latest_pass(held, client, page) else {
         return Err(Refusal::UnknownPass);
     };
     give(core, held, note);

@@ -1,43 +1,100 @@
 -- Passes that come out of rings.
-use Rattle.std.proofs.Common.{◌≡◌, refl, sym, ap, subst, ◌∙◌, ℕ, ◌+◌, ◌≤◌, List, [], ◌∷◌, ◌++◌, reverse, append_assoc, arith, inl, inr}
-use Rattle.std.proofs.lemmas.List.{append-nil, reverse-append}
+use Rattle.std.proofs.Common.{Vec, ◌≡◌, refl, sym, ap, subst, ◌∙◌, ℕ, ◌+◌, ◌≤◌, ◌<◌, List, [], ◌∷◌, ◌++◌, length, map, take, drop, set, get_or, reverse, append_assoc, add-one, arith, inl, inr}
+use Rattle.std.proofs.Math.ListN.{get_or-map}
+use Rattle.std.proofs.Math.Seq.{take-suc, take-suc-set}
+use Rattle.std.proofs.lemmas.List.{append-nil, reverse-append, length-map, map-set, drop_more, drop-set-lt, with_items_is}
+use Rattle.std.specs.Vec.{with_items}
+use Rattle.rtrb.specs.declared.consumer.Consumer.{Consumer}
 use Rattle.bp_trail.specs.Event.{Grant}
 use Rattle.bp_trail.specs.Trail.{Trail}
 use Rattle.bp_trail.specs.Clock.{durable}
-use Rattle.bp_shared.specs.Rings.{OneBack, GoBack, DrainsRing, Unfixed}
+use Rattle.bp_shared.specs.Rings.{OneBack, GoBack, RingView, ring_view, DrainsRing, DrainsRings}
 use Rattle.bp_shared.specs.Rings.GoBack.{none_taken, next_taken}
-use Rattle.bp_shared.specs.Rings.Unfixed.{no_more, unfixed}
+use Rattle.bp_shared.specs.Rings.DrainsRings.{none_left, next_ring}
 
-pub drains_none : (received : List Grant) (past : Trail) (strays : ℕ) → DrainsRing 0 received received past strays past strays
-drains_none received past strays = record { taken = []; few = omega arith; gave = sym (append-nil received); go_back = none_taken }
+-- just so many passes came out and went back
+pub record Takes (n : ℕ) (received received_after : List Grant) (start : Trail) (strays : ℕ) (past : Trail) (strayed : ℕ) : Type 0 where
+  pub taken : List Grant
+  pub count : length taken ≡ n
+  pub gave : received_after ≡ received ++ reverse taken
+  pub go_back : GoBack start strays taken past strayed
 
-pub drains_more : (n m : ℕ) (received mid after : List Grant) (start past next : Trail) (strays strayed now : ℕ) (g : Grant) → DrainsRing n received mid start strays past strayed → n + 1 ≤ m
-    → after ≡ mid ++ g ∷ [] → OneBack past strayed g next now → DrainsRing m received after start strays next now
-drains_more n m received mid after start past next strays strayed now g d most took back =
+pub takes_none : (received : List Grant) (past : Trail) (strays : ℕ) → Takes 0 received received past strays past strays
+takes_none received past strays = record { taken = []; count = refl; gave = sym (append-nil received); go_back = none_taken }
+
+pub takes_more : (n m : ℕ) (received mid after : List Grant) (start past next : Trail) (strays strayed now : ℕ) (g : Grant) → Takes n received mid start strays past strayed → m ≡ n + 1
+    → after ≡ mid ++ g ∷ [] → OneBack past strayed g next now → Takes m received after start strays next now
+takes_more n m received mid after start past next strays strayed now g t is took back =
     record {
-      taken = g ∷ d.taken;
-      few = omega (arith, d.few, most);
-      gave = took ∙ ap (λ gs. gs ++ g ∷ []) d.gave ∙ append_assoc received (reverse d.taken) (g ∷ []) ∙ ap (λ gs. received ++ gs) (sym (reverse-append (g ∷ []) d.taken));
-      go_back = next_taken g d.go_back back;
+      taken = g ∷ t.taken;
+      count = omega (arith, t.count, is);
+      gave = took ∙ ap (λ gs. gs ++ g ∷ []) t.gave ∙ append_assoc received (reverse t.taken) (g ∷ []) ∙ ap (λ gs. received ++ gs) (sym (reverse-append (g ∷ []) t.taken));
+      go_back = next_taken g t.go_back back;
     }
 
-pub drains_fewer : (n m : ℕ) (received after : List Grant) (start past : Trail) (strays strayed : ℕ) → DrainsRing n received after start strays past strayed → n ≤ m → DrainsRing m received after start strays past strayed
-drains_fewer n m received after start past strays strayed d most = record { taken = d.taken; few = omega (arith, d.few, most); gave = d.gave; go_back = d.go_back }
+-- as many as may be taken
+pub drains_most : (n most : ℕ) (ring after : RingView) (start past : Trail) (strays strayed : ℕ) → Takes n ring.received after.received start strays past strayed → n ≡ most → DrainsRing most ring after start strays past strayed
+drains_most n most ring after start past strays strayed t is = record { taken = t.taken; few = omega (arith, t.count, is); gave = t.gave; emptied = λ fewer. absurd (omega (arith, t.count, is, fewer)); go_back = t.go_back }
 
-pub drains_as : (n : ℕ) (received after after' : List Grant) (start past : Trail) (strays strayed : ℕ) → after' ≡ after → DrainsRing n received after start strays past strayed → DrainsRing n received after' start strays past strayed
-drains_as n received after after' start past strays strayed same d = record { taken = d.taken; few = d.few; gave = same ∙ d.gave; go_back = d.go_back }
+-- all that there were
+pub drains_all : (n most : ℕ) (received : List Grant) (ring after : RingView) (start past : Trail) (strays strayed : ℕ) → Takes n ring.received received start strays past strayed → n ≤ most
+    → after.received ≡ received → after.waiting ≡ [] → DrainsRing most ring after start strays past strayed
+drains_all n most received ring after start past strays strayed t few same empty = record { taken = t.taken; few = omega (arith, t.count, few); gave = same ∙ t.gave; emptied = λ fewer. empty; go_back = t.go_back }
 
--- what went back are unfixes
-pub unfixed_by : (start : Trail) (strays : ℕ) (taken : List Grant) (past : Trail) (strayed : ℕ) → GoBack start strays taken past strayed → Unfixed start past
-unfixed_by start strays _ _ _ none_taken = no_more
-unfixed_by start strays _ _ _ (next_taken {taken} {past} {after} {strayed} {now_strayed} g before (inl h)) = subst (Unfixed start) (sym h.1) (unfixed g h.0 (unfixed_by start strays taken past strayed before))
-unfixed_by start strays _ _ _ (next_taken {taken} {past} {after} {strayed} {now_strayed} g before (inr h)) = subst (Unfixed start) (sym h.1) (unfixed_by start strays taken past strayed before)
+-- one ring more
+pub rings_more : (most : ℕ) (firsts firsts_after : List RingView) (last last_after : RingView) (begin end after : Trail) (strays now_strayed then_strayed : ℕ) → DrainsRings most firsts firsts_after begin strays end now_strayed
+    → DrainsRing most last last_after end now_strayed after then_strayed → DrainsRings most (firsts ++ last ∷ []) (firsts_after ++ last_after ∷ []) begin strays after then_strayed
+rings_more most _ _ last last_after begin _ after strays _ then_strayed none_left d = next_ring d none_left
+rings_more most _ _ last last_after begin end after strays now_strayed then_strayed (next_ring {rings} {rings_after} {mid} {so_far} first rest) d =
+    next_ring first (rings_more most rings rings_after last last_after mid end after so_far now_strayed then_strayed rest d)
 
-pub unfixed_more : (start mid past : Trail) → Unfixed start mid → Unfixed mid past → Unfixed start past
-unfixed_more start mid _ u no_more = u
-unfixed_more start mid _ u (unfixed {past} g out v) = unfixed g out (unfixed_more start mid past u v)
+-- one ring of a list, where the rings from it on are as they were
+pub rings_next : {X : Type 0} (view : X → RingView) (most i : ℕ) (old now : List X) (d y : X) (begin end after : Trail) (strays now_strayed then_strayed : ℕ) → i < length old → i < length now
+    → DrainsRings most (take i (map view old)) (take i (map view now)) begin strays end now_strayed → drop i (map view now) ≡ drop i (map view old) → DrainsRing most (view (get_or now i d)) (view y) end now_strayed after then_strayed
+    → DrainsRings most (take (i + 1) (map view old)) (take (i + 1) (map view (set now i y))) begin strays after then_strayed × (drop (i + 1) (map view (set now i y)) ≡ drop (i + 1) (map view old))
+rings_next view most i old now d y begin end after strays now_strayed then_strayed in_old in_now so_far left ring =
+    let more = rings_more most (take i a) (take i b) x (view y) begin end after strays now_strayed then_strayed so_far ring in (
+      subst (λ rs. DrainsRings most rs (take (i + 1) (map view (set now i y))) begin strays after then_strayed) (sym olds) (subst (λ rs. DrainsRings most (take i a ++ x ∷ []) rs begin strays after then_strayed) (sym news) more),
+      rest,
+    )
+  where
+    a : List RingView
+    a = map view old
 
--- they leave what is durable
-pub unfixed_durable : (start past : Trail) → Unfixed start past → durable past ≡ durable start
-unfixed_durable start _ no_more = refl
-unfixed_durable start _ (unfixed {past} g out v) = unfixed_durable start past v
+    b : List RingView
+    b = map view now
+
+    x : RingView
+    x = view (get_or now i d)
+
+    from_here : get_or a i (view d) ∷ drop (i + 1) a ≡ get_or b i (view d) ∷ drop (i + 1) b
+    from_here = sym (drop_more a i (view d) (subst (λ n. i < n) (sym (length-map old view)) in_old)) ∙ sym left ∙ drop_more b i (view d) (subst (λ n. i < n) (sym (length-map now view)) in_now)
+
+    here : get_or a i (view d) ≡ x
+    here = ap (λ rs. get_or rs 0 (view d)) from_here ∙ get_or-map view now i d
+
+    olds : take (i + 1) a ≡ take i a ++ x ∷ []
+    olds = ap (λ n. take n a) (add-one i) ∙ take-suc a i (view d) (subst (λ n. i < n) (sym (length-map old view)) in_old) ∙ ap (λ r. take i a ++ r ∷ []) here
+
+    news : take (i + 1) (map view (set now i y)) ≡ take i b ++ view y ∷ []
+    news = ap (take (i + 1)) (map-set view now i y) ∙ ap (λ n. take n (set b i (view y))) (add-one i) ∙ take-suc-set b i (view y) (subst (λ n. i < n) (sym (length-map now view)) in_now)
+
+    rest : drop (i + 1) (map view (set now i y)) ≡ drop (i + 1) a
+    rest = ap (drop (i + 1)) (map-set view now i y) ∙ drop-set-lt (i + 1) b i (view y) (omega arith) ∙ sym (ap (drop 1) from_here)
+
+-- the rings that a vector lends
+pub lent_rings : {A P Z : Type 0} (most : ℕ) (rings : Vec (Consumer Grant A P) Z) (lent after : List (Consumer Grant A P)) (begin end : Trail) (strays now_strayed : ℕ) → lent ≡ rings.items → length after ≡ rings.len
+    → DrainsRings most (map ring_view lent) (map ring_view after) begin strays end now_strayed → DrainsRings most (map ring_view rings.items) (map ring_view (with_items rings after).items) begin strays end now_strayed
+lent_rings most rings lent after begin end strays now_strayed is len drained =
+    subst (λ cs. DrainsRings most (map ring_view rings.items) (map ring_view cs) begin strays end now_strayed) (sym (with_items_is rings after len)) (subst (λ cs. DrainsRings most (map ring_view cs) (map ring_view after) begin strays end now_strayed) is drained)
+
+-- the passes that went back leave what is durable
+pub go_back_durable : (start : Trail) (strays : ℕ) (taken : List Grant) (past : Trail) (strayed : ℕ) → GoBack start strays taken past strayed → durable past ≡ durable start
+go_back_durable start strays _ _ _ none_taken = refl
+go_back_durable start strays _ _ _ (next_taken {taken} {past} {after} {strayed} {now_strayed} g before (inl h)) = ap durable h.1 ∙ go_back_durable start strays taken past strayed before
+go_back_durable start strays _ _ _ (next_taken {taken} {past} {after} {strayed} {now_strayed} g before (inr h)) = ap durable h.1 ∙ go_back_durable start strays taken past strayed before
+
+pub rings_durable : (most : ℕ) (firsts firsts_after : List RingView) (begin : Trail) (strays : ℕ) (end : Trail) (now_strayed : ℕ) → DrainsRings most firsts firsts_after begin strays end now_strayed → durable end ≡ durable begin
+rings_durable most _ _ begin strays _ _ none_left = refl
+rings_durable most _ _ begin strays end now_strayed (next_ring {rings} {rings_after} {mid} {so_far} first rest) =
+    rings_durable most rings rings_after mid so_far end now_strayed rest ∙ go_back_durable begin strays first.taken mid so_far first.go_back

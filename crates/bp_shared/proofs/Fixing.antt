@@ -21,7 +21,8 @@ use Rattle.bp_trail.specs.Pieces.FixGoesOn.{begins, marked, waited, cleaned, sti
 use Rattle.bp_trail.specs.Pieces.FixPiece.{hit, fixed, no_victim, need_log, read_failed, write_failed, lost_read, lost_write, no_room, no_memory}
 use Rattle.bp_shared.specs.Books.{OwesRead, OwesWrite}
 use Rattle.bp_shared.specs.Turns.{is_busy, FixWaits, FixTurn, EndReadOutcome, EndWriteOutcome, LoadOutcome, WriteOutOutcome}
-use Rattle.bp_shared.specs.Sessions.{Gives, FixSaid}
+use Rattle.bp_shared.specs.Sessions.{FixSaid}
+use Rattle.bp_device.specs.Drivers.{Gives}
 
 goes_on-append : (client page : ℕ) (xs ys : Trail) → FixGoesOn session client page xs → FixGoesOn session client page ys → FixGoesOn session client page (xs ++ ys)
 goes_on-append client page _ ys begins q = q

@@ -9,33 +9,35 @@ use Rattle.bp_core.specs.CoreView.{CoreView, with_entry}
 use Rattle.bp_trail.specs.Pieces.{by}
 use Rattle.bp_trail.specs.Pieces.FixGoesOn.{begins as fix_begins, marked as fix_marked_by}
 use Rattle.bp_trail.specs.Pieces.FlushGoesOn.{begins as flush_begins, marked as flush_marked_by}
-use Rattle.bp_shared.specs.Rings.{Unfixed}
-use Rattle.bp_shared.specs.Locked.{Alike, InStep}
+use Rattle.bp_shared.specs.Rings.{DrainsRings}
+use Rattle.bp_shared.specs.Locked.{LockedValue, Alike, InStep}
 use Rattle.bp_shared.specs.Turns.{LookOutcome, AskFixOutcome, AskFlushOutcome, FixWaits, FlushWaits, FixTurn, FlushTurn}
 
--- only unfixes so far
-pub step_none : (old mid : CoreView) (said after : Trail) → Unfixed old.past mid.past → mid.parameters ≡ old.parameters → after ≡ said → InStep old said mid after
-step_none old mid said after back same grows = record { past = mid.past; unfixed = back; piece = []; is = λ i. record { parameters = same i; past = mid.past }; grows = grows }
+-- rings drained, and no more so far
+pub step_none : (old new : LockedValue) (said after : Trail) → DrainsRings 32 old.rings new.rings old.core.past old.strays new.core.past new.strays → new.core.parameters ≡ old.core.parameters → after ≡ said → InStep old said new after
+step_none old new said after drained same grows = record { past = new.core.past; drained = drained; piece = []; is = λ i. record { parameters = same i; past = new.core.past }; grows = grows }
 
 -- one more entry in both
-pub step_more : (old mid new : CoreView) (said told after : Trail) → InStep old said mid told → Alike mid told new after → InStep old said new after
-step_more old mid new said told after s (inl a) = record { past = s.past; unfixed = s.unfixed; piece = s.piece; is = a.0 ∙ s.is; grows = a.1 ∙ s.grows }
+pub step_more : (old : LockedValue) (mid : CoreView) (new : LockedValue) (said told after : Trail) → InStep old said (record new { core = mid }) told → Alike mid told new.core after → InStep old said new after
+step_more old mid new said told after s (inl a) = record { past = s.past; drained = s.drained; piece = s.piece; is = a.0 ∙ s.is; grows = a.1 ∙ s.grows }
 step_more old mid new said told after s (inr a) =
     let e = a.0 in
     record {
       past = s.past;
-      unfixed = s.unfixed;
+      drained = s.drained;
       piece = e ∷ s.piece;
       is = a.1 ∙ ap (λ (core : CoreView). with_entry core e.client e.call e.reply) s.is;
       grows = a.2 ∙ ap (λ es. e ∷ es) s.grows;
     }
 
 -- an event with no mark before it
-pub step_one : (old mid new : CoreView) (said told after : Trail) → Unfixed old.past mid.past → mid.parameters ≡ old.parameters → told ≡ said → Alike mid told new after → InStep old said new after
-step_one old mid new said told after back same grows a = step_more old mid new said told after (step_none old mid said told back same grows) a
+pub step_one : (old : LockedValue) (mid : CoreView) (new : LockedValue) (said told after : Trail) → DrainsRings 32 old.rings new.rings old.core.past old.strays mid.past new.strays → mid.parameters ≡ old.core.parameters → told ≡ said
+    → Alike mid told new.core after → InStep old said new after
+step_one old mid new said told after drained same grows a = step_more old mid new said told after (step_none old (record new { core = mid }) said told drained same grows) a
 
-pub step_two : (old mid marked new : CoreView) (said told after : Trail) → Unfixed old.past mid.past → mid.parameters ≡ old.parameters → Alike mid said marked told → Alike marked told new after → InStep old said new after
-step_two old mid marked new said told after back same a b = step_more old marked new said told after (step_one old mid marked said said told back same refl a) b
+pub step_two : (old : LockedValue) (mid marked : CoreView) (new : LockedValue) (said told after : Trail) → DrainsRings 32 old.rings new.rings old.core.past old.strays mid.past new.strays → mid.parameters ≡ old.core.parameters
+    → Alike mid said marked told → Alike marked told new.core after → InStep old said new after
+step_two old mid marked new said told after drained same a b = step_more old marked new said told after (step_one old mid (record new { core = marked }) said said told drained same refl a) b
 
 -- ---- turns
 

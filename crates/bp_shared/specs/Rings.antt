@@ -1,5 +1,7 @@
 -- Passes that went back: those that a list of entries posted, and those that a locked core took from a ring.
-use Rattle.std.specs.Prelude.{◌≡◌, ◌⊎◌, ℕ, ◌+◌, min, ◌≤◌, ◌^◌, ◌-◌, true, false, List, [], ◌∷◌, ◌++◌, length, reverse, filter_map, Option, Some, None}
+use Rattle.std.specs.Prelude.{◌≡◌, ◌⊎◌, ℕ, ◌+◌, min, ◌≤◌, ◌<◌, ◌^◌, ◌-◌, true, false, List, [], ◌∷◌, ◌++◌, length, reverse, filter_map, Option, Some, None}
+use Rattle.rtrb.specs.declared.consumer.Consumer.{Consumer}
+use Rattle.rtrb.specs.Ring.{received, known_items}
 use Rattle.bp_trail.specs.declared.entries.Call.{Call}
 use Rattle.bp_trail.specs.declared.entries.Call.TheVariants.{Unfix}
 use Rattle.bp_trail.specs.Event.{Grant, grant}
@@ -31,14 +33,24 @@ pub data GoBack (start : Trail) (strays : ℕ) : List Grant → Trail → ℕ �
   next_taken : {taken : List Grant} {past after : Trail} {strayed now_strayed : ℕ} (g : Grant) → GoBack start strays taken past strayed → OneBack past strayed g after now_strayed
       → GoBack start strays (g ∷ taken) after now_strayed
 
--- a ring was drained: what it gave, at most so many passes, went back in order
-pub record DrainsRing (most : ℕ) (received received_after : List Grant) (start : Trail) (strays : ℕ) (past : Trail) (strayed : ℕ) : Type 0 where
+-- a ring as its taking end sees it: the passes that came out, oldest first, and those that it saw in the ring
+pub record RingView : Type 0 where
+  pub received : List Grant
+  pub waiting : List Grant
+
+abbrev pub ring_view : {A P : Type 0} → Consumer Grant A P → RingView
+ring_view ring = record { received = received ring; waiting = known_items ring }
+
+-- a ring was drained: what it gave, at most so many passes, went back in order, and where it gave fewer it shows empty
+pub record DrainsRing (most : ℕ) (ring ring_after : RingView) (start : Trail) (strays : ℕ) (past : Trail) (strayed : ℕ) : Type 0 where
   pub taken : List Grant
   pub few : length taken ≤ most
-  pub gave : received_after ≡ received ++ reverse taken
+  pub gave : ring_after.received ≡ ring.received ++ reverse taken
+  pub emptied : length taken < most → ring_after.waiting ≡ []
   pub go_back : GoBack start strays taken past strayed
 
--- the same as entries alone: the unfix of each of some passes that were out
-pub data Unfixed (start : Trail) : Trail → Type 0 where
-  no_more : Unfixed start start
-  unfixed : {past : Trail} (g : Grant) → is_out g (passes_out past) ≡ true → Unfixed start past → Unfixed start (give_back g ∷ past)
+-- each ring was drained: the first one, and then the others
+pub data DrainsRings (most : ℕ) : (rings rings_after : List RingView) (start : Trail) (strays : ℕ) (past : Trail) (strayed : ℕ) → Type 0 where
+  none_left : {past : Trail} {strays : ℕ} → DrainsRings most [] [] past strays past strays
+  next_ring : {ring ring_after : RingView} {rings rings_after : List RingView} {start mid past : Trail} {strays so_far strayed : ℕ} → DrainsRing most ring ring_after start strays mid so_far → DrainsRings most rings rings_after mid so_far past strayed
+      → DrainsRings most (ring ∷ rings) (ring_after ∷ rings_after) start strays past strayed

@@ -5,18 +5,15 @@ use Rattle.bp_page.specs.Refusals.{number_of}
 use Rattle.bp_page.specs.declared.refusals.Refusal.TheVariants as refusal
 use Rattle.bp_core.specs.declared.passes.Pass.{Pass}
 use Rattle.bp_trail.specs.declared.entries.Call.TheVariants.{Tick, Read, Write, Unfix, Purge}
-use Rattle.bp_trail.specs.declared.entries.Reply.{Reply}
 use Rattle.bp_trail.specs.declared.entries.Reply.TheVariants.{Done, NeedLog, Content, Forgot}
-use Rattle.bp_trail.specs.Lists.{and_given}
 use Rattle.bp_trail.specs.Event.{Grant, grant}
 use Rattle.bp_trail.specs.Trail.{Trail}
-use Rattle.bp_trail.specs.Passes.{passes_out}
 use Rattle.bp_core.specs.Outcomes.{pass_is_out}
 use Rattle.bp_trail.specs.Pieces.{by, FixPiece, FlushPiece}
 use Rattle.bp_trail.specs.Pieces.Manner.{session}
 use Rattle.bp_trail.specs.Pieces.Outcome.{accepted, refused}
 use Rattle.bp_device.specs.declared.drivers.Flushed.{Flushed}
-use Rattle.bp_device.specs.Drivers.{flushed_reply}
+use Rattle.bp_device.specs.Drivers.{Gives, Ends, flushed_reply}
 
 -- whose session it is, and its list
 pub record SessionValue : Type 0 where
@@ -28,15 +25,6 @@ abbrev pub new_sessions : ℕ → List SessionValue
 new_sessions zero = []
 new_sessions (suc n) = new_sessions n ++ record { client = n; said = [] } ∷ []
 
--- the reply of the newest entry
-abbrev pub LastReplyIs : Reply → Trail → Type 0
-LastReplyIs reply [] = ⊥
-LastReplyIs reply (e ∷ older) = e.reply ≡ reply
-
--- whatever was out before the piece is out after it, with the pass that it gave
-abbrev pub Gives : Trail → Option Grant → Type 0
-Gives piece given = (said : Trail) → passes_out (piece ++ said) ≡ and_given given (passes_out said)
-
 -- the list has one more piece, which is as P says
 pub record Says (P : Trail → Type 0) (given : Option Grant) (said after : Trail) : Type 0 where
   pub piece : Trail
@@ -46,7 +34,7 @@ pub record Says (P : Trail → Type 0) (given : Option Grant) (said after : Trai
 
 -- the LSN of a refusal is that of the piece's last reply
 abbrev pub Repeats : Refusal → Trail → Type 0
-Repeats (refusal.NeedLog lsn) piece = LastReplyIs (NeedLog lsn) piece
+Repeats (refusal.NeedLog lsn) piece = Ends (NeedLog lsn) piece
 Repeats _ piece = Unit {0}
 
 abbrev pub FixSaid : ℕ → ℕ → Result Pass Refusal → Trail → Trail → Type 0
@@ -55,7 +43,7 @@ FixSaid client page (Ok pass) said after =
 FixSaid client page (Err why) said after = Says (λ piece. FixPiece session client page piece (refused (number_of why)) × Repeats why piece) None said after
 
 abbrev pub FlushSaid : ℕ → ℕ → Result Flushed Refusal → Trail → Trail → Type 0
-FlushSaid client page (Ok how) said after = Says (λ piece. FlushPiece session client page piece accepted × LastReplyIs (flushed_reply how) piece) None said after
+FlushSaid client page (Ok how) said after = Says (λ piece. FlushPiece session client page piece accepted × Ends (flushed_reply how) piece) None said after
 FlushSaid client page (Err why) said after = Says (λ piece. FlushPiece session client page piece (refused (number_of why)) × Repeats why piece) None said after
 
 -- calls of one event: the entry with the reply that the call answers, or a refusal and no entry; a pass is the client's own, or refused

@@ -11,14 +11,14 @@ use Rattle.bp_core.specs.declared.passes.Fix.TheVariants as fixing
 use Rattle.bp_core.specs.declared.passes.Flush.{Flush as Flushing}
 use Rattle.bp_core.specs.declared.passes.Flush.TheVariants as flushing
 use Rattle.bp_core.specs.declared.passes.Ended.{Ended}
-use Rattle.bp_core.specs.declared.passes.Ended.TheVariants as ended
 use Rattle.bp_trail.specs.declared.entries.Call.{Call}
 use Rattle.bp_trail.specs.declared.entries.Call.TheVariants.{Mark, Fix, ReadEnd, WriteEnd, Flush}
 use Rattle.bp_trail.specs.declared.entries.Reply.{Reply}
-use Rattle.bp_trail.specs.declared.entries.Reply.TheVariants.{Done, Hit, Load, WriteFirst, NoVictim, NeedLog, Busy, Fixed, ReadFailed, Cleaned, StillDirty, WriteFailed, Clean, Absent}
+use Rattle.bp_trail.specs.declared.entries.Reply.TheVariants.{Done, Hit, Load, WriteFirst, NoVictim, NeedLog, Busy, Fixed, ReadFailed, WriteFailed, Clean, Absent}
 use Rattle.bp_trail.specs.Trail.{Trail}
 use Rattle.bp_trail.specs.Pieces.{by, FixGoesOn, FlushGoesOn}
 use Rattle.bp_trail.specs.Pieces.Manner.{session}
+use Rattle.bp_device.specs.Drivers.{ended_reply}
 
 -- at most one mark, where memory was refused or the trail may have had no room for it
 abbrev pub look_refuses : Refusal → Bool
@@ -102,10 +102,6 @@ EndReadOutcome ticket (Ok image) (Ok pass) said after =
 EndReadOutcome ticket (Err fault) (Err refusal.ReadFailed) said after = after ≡ by ticket.client (ReadEnd ticket.serial ticket.page None) ReadFailed ∷ said
 EndReadOutcome ticket read (Err refusal.UnknownTicket) said after = after ≡ said
 EndReadOutcome ticket _ _ said after = ⊥
-
-abbrev pub ended_reply : Ended → Reply
-ended_reply ended.Cleaned = Cleaned
-ended_reply ended.StillDirty = StillDirty
 
 -- the end of a write-out, likewise
 abbrev pub EndWriteOutcome : {A : Type 0} → WriteTicket → Result A PortFault → Result Ended Refusal → Trail → Trail → Type 0

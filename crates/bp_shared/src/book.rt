@@ -5,6 +5,7 @@ ghost use Rattle.bp_trail.specs.declared.entries.Reply.TheVariants as Reply;
 ghost use Rattle.bp_trail.specs.Event.{grant, same_grant};
 ghost use Rattle.bp_trail.specs.Passes.{passes_out};
 ghost use Rattle.bp_trail.specs.Legal.{is_out};
+ghost use Rattle.bp_trail.specs.Script.{held_passes};
 ghost use Rattle.bp_shared.specs.Books.{BookValue, SameBook, Tells, plain_call, plain_reply, OwesRead, OwesWrite};
 
 mod asking;
@@ -122,6 +123,20 @@ impl Book {
         ensures { reverse result.now ≡ self.now.said }
     {
         &self.said
+    }
+
+    /// The passes that the list leaves out, in the order taken.
+    pub(crate) fn held(&self) -> &[PassNote]
+        ensures { result.now ≡ held_passes self.now.said }
+    {
+        &self.held
+    }
+
+    /// Gives the list, the oldest entry first.
+    pub(crate) fn into_said(self) -> Vec<Entry>
+        ensures { reverse result.items ≡ self.said }
+    {
+        self.said
     }
 
     /// Takes the memory for a mark, for one event, and for all that is owed then. Where it is refused, which is `OutOfMemory`, the

@@ -35,6 +35,7 @@ impl<N: PoolName> Model for Session<N> {
 impl<N: PoolName> Session<N> {
     ghost use Rattle.std.specs.Prelude.{◌≡◌, ◌<◌, [], reverse};
     ghost use Rattle.rtrb.specs.Ring.{sent};
+    ghost use Rattle.bp_trail.specs.Script.{held_passes};
     ghost use Rattle.bp_shared.specs.Sessions.{UnfixSaid};
 
     /// A session that said nothing yet.
@@ -69,6 +70,20 @@ impl<N: PoolName> Session<N> {
         ensures { reverse result.now ≡ self.now.said }
     {
         self.book.said()
+    }
+
+    /// The passes that the list gave and did not give back, in the order taken.
+    pub fn held(&self) -> &[PassNote]
+        ensures { result.now ≡ held_passes self.now.said }
+    {
+        self.book.held()
+    }
+
+    /// Ends the session and gives its list, the oldest entry first. It takes no memory.
+    pub fn into_said(self) -> Vec<Entry>
+        ensures { reverse result.items ≡ self.said }
+    {
+        self.book.into_said()
     }
 
     /// Puts a pass on the ring, with no lock and no memory. Where the list does not give it, or gives it back already, this is

@@ -26,26 +26,30 @@ pub(crate) struct State<N: PoolName> {
 }
 
 impl<N: PoolName> Model for State<N> {
-    ghost use Rattle.bp_core.specs.CoreView.{CoreView};
-    ghost use Rattle.bp_shared.specs.Locked.{IsLocked};
+    ghost use Rattle.std.specs.Prelude.{map};
+    ghost use Rattle.bp_shared.specs.Locked.{LockedValue, IsLocked};
+    ghost use Rattle.bp_shared.specs.Rings.{ring_view};
 
-    ghost Value = { CoreView };
+    ghost Value = { LockedValue };
 
-    ghost view = { λ s. s.core };
+    ghost view = { λ s. record { core = s.core; rings = map ring_view s.consumers.items; strays = s.strays } };
 
     ghost invariant = { λ s. IsLocked N.mark N.parameters s.core s.reader };
 }
 
 impl<N: PoolName> State<N> {
-    ghost use Rattle.std.specs.Prelude.{◌≡◌, ◌≤◌};
+    ghost use Rattle.std.specs.Prelude.{◌≡◌, ◌≤◌, map};
     ghost use Rattle.bp_trail.specs.Clock.{durable};
+    ghost use Rattle.bp_shared.specs.Rings.{ring_view};
 
     /// A core whose rings gave nothing yet.
     pub(crate) fn new(core: Core, reader: Reader, consumers: Vec<Consumer<PassNote>>) -> State<N>
         requires reader { reader.mark ≡ N.mark }
         requires parameters { core.parameters ≡ N.parameters }
         requires seen { durable core.past ≤ reader.seen }
-        ensures { result ≡ core }
+        ensures core { result.core ≡ core }
+        ensures rings { result.rings ≡ map ring_view consumers.items }
+        ensures strays { result.strays ≡ 0 }
     {
         State {
             core,

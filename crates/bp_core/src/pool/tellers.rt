@@ -26,6 +26,13 @@ impl Core {
         self.trail.entries()
     }
 
+    /// Ends the core and gives all its entries, the oldest first. It takes no memory.
+    pub fn into_trail(self) -> Vec<Entry>
+        ensures entries { reverse result.items ≡ self.past }
+    {
+        self.trail.into_entries()
+    }
+
     /// The file's pages and their size.
     pub fn geometry(&self) -> Geometry
         ensures pages { result.pages ≡ self.now.parameters.pages }

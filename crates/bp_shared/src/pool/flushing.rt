@@ -1,7 +1,6 @@
 //! Flushes of shared pages, with their device work.
 ghost use Rattle.std.specs.Prelude.{◌≡◌};
-ghost use Rattle.bp_shared.specs.Turns.{ended_reply};
-ghost use Rattle.bp_device.specs.Drivers.{flushed_reply};
+ghost use Rattle.bp_device.specs.Drivers.{ended_reply, flushed_reply};
 
 use super::{SharedPool, is_busy};
 use crate::names::PoolName;

@@ -1,9 +1,8 @@
 //! The passes that sessions posted go back to the core.
-ghost use Rattle.std.specs.Prelude.{◌≡◌, [], ◌∷◌};
-ghost use Rattle.rtrb.specs.Ring.{received};
+ghost use Rattle.std.specs.Prelude.{◌≡◌, map};
 ghost use Rattle.bp_trail.specs.Clock.{durable};
 ghost use Rattle.bp_shared.specs.Locked.{Settled};
-ghost use Rattle.bp_shared.specs.Rings.{OneBack, DrainsRing, Unfixed};
+ghost use Rattle.bp_shared.specs.Rings.{OneBack, ring_view, DrainsRing, DrainsRings};
 
 use super::State;
 use crate::names::PoolName;
@@ -30,7 +29,7 @@ fn give_back(core: &mut Core, strays: &mut u64, note: PassNote)
 /// Takes at most 32 passes from a ring, and gives them back in order.
 fn drain(core: &mut Core, strays: &mut u64, consumer: &mut Consumer<PassNote>)
     ensures parameters { core.new.parameters ≡ core.old.parameters }
-    ensures drained { DrainsRing 32 (received consumer.old) (received consumer.new) core.old.past strays.old core.new.past strays.new }
+    ensures drained { DrainsRing 32 (ring_view consumer.old) (ring_view consumer.new) core.old.past strays.old core.new.past strays.new }
 {
     for _ in 0..RING {
         let Ok(note) = consumer.pop() else {
@@ -43,7 +42,7 @@ fn drain(core: &mut Core, strays: &mut u64, consumer: &mut Consumer<PassNote>)
 /// Drains each ring, the first client's first.
 pub(crate) fn drain_all(core: &mut Core, strays: &mut u64, consumers: &mut [Consumer<PassNote>])
     ensures parameters { core.new.parameters ≡ core.old.parameters }
-    ensures unfixed { Unfixed core.old.past core.new.past }
+    ensures drained { DrainsRings 32 (map ring_view consumers.old) (map ring_view consumers.new) core.old.past strays.old core.new.past strays.new }
     ensures durable { durable core.new.past ≡ durable core.old.past }
 {
     for consumer in consumers.iter_mut() {

@@ -1,7 +1,8 @@
 -- Rings drained, and one event.
-use Rattle.std.proofs.Common.{refl}
+use Rattle.std.proofs.Common.{arith, refl}
+use Rattle.bp_shared.proofs.Draining.{lent_rings}
 use Rattle.bp_shared.proofs.Stepping.{step_one}
 use Rattle.bp_shared.proofs.state.State.end_write.Goals as goal
 
 pub returns-clause-in_step : goal.returns-clause-in_step
-returns-clause-in_step g c = rw (← c.self.view_is, ← c.session.view_is) (step_one _ _ _ _ _ _ c.drain_all.ensures.unfixed c.drain_all.ensures.parameters refl c.end_write_out-ended.ensures.alike)
+returns-clause-in_step g c = rw (← c.self.view_is, ← c.session.view_is) (step_one _ _ _ _ _ _ (lent_rings _ c.self.inside.consumers _ _ _ _ _ _ c.deref_mut.ensures.value (omega arith) c.drain_all.ensures.drained) c.drain_all.ensures.parameters refl c.end_write_out-ended.ensures.alike)

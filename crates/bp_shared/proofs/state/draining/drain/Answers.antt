@@ -1,21 +1,21 @@
 -- One pass after another.
 use Rattle.std.proofs.Common.{arith, refl, ◌∙◌}
-use Rattle.bp_shared.proofs.Draining.{drains_none, drains_more, drains_fewer, drains_as}
+use Rattle.bp_shared.proofs.Draining.{takes_none, takes_more, drains_most, drains_all}
 use Rattle.bp_shared.proofs.state.draining.drain.Goals as goal
 
 pub loop-init : goal.loop-init
-loop-init c = record { parameters = refl; drained = drains_none _ _ _ }
+loop-init c = record { parameters = refl; takes = takes_none _ _ _ }
 
 pub loop-preserved : goal.loop-preserved
 loop-preserved c =
     let i = c.loop.invariant in
     record {
       parameters = c.give_back.ensures.parameters ∙ i.parameters;
-      drained = drains_more _ _ _ _ _ _ _ _ _ _ _ c.in-Ok.note i.drained (omega arith) c.in-Ok.ensures.ok.0 c.give_back.ensures.back;
+      takes = takes_more _ _ _ _ _ _ _ _ _ _ _ c.in-Ok.note i.takes (omega arith) c.in-Ok.ensures.ok.0 c.give_back.ensures.back;
     }
 
 pub returns-in_default-clause-drained : goal.returns-in_default-clause-drained
-returns-in_default-clause-drained c = drains_as _ _ _ _ _ _ _ _ c.in_default.ensures.empty.0 (drains_fewer _ _ _ _ _ _ _ _ c.loop.invariant.drained (omega arith))
+returns-in_default-clause-drained c = drains_all _ _ _ _ _ _ _ _ _ c.loop.invariant.takes (omega arith) c.in_default.ensures.empty.0 c.in_default.ensures.empty.1
 
 pub returns-clause-drained : goal.returns-clause-drained
-returns-clause-drained c = drains_fewer _ _ _ _ _ _ _ _ c.loop.invariant.drained (omega arith)
+returns-clause-drained c = drains_most _ _ _ _ _ _ _ _ c.loop.invariant.takes (omega arith)

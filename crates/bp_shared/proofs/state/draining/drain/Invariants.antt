@@ -1,12 +1,12 @@
 -- What was taken so far went back.
 use Rattle.std.proofs.Common.{◌≡◌}
 use Rattle.rtrb.specs.Ring.{received}
-use Rattle.bp_shared.specs.Rings.{DrainsRing}
+use Rattle.bp_shared.proofs.Draining.{Takes}
 use Rattle.bp_shared.proofs.state.draining.drain.Given as goal
 
 abbrev pub invariant-loop : goal.invariant-loop
 invariant-loop l =
     record {
       parameters : l.core.parameters ≡ l.initial.core.parameters;
-      drained : DrainsRing l.counter (received l.initial.consumer) (received l.consumer) l.initial.core.past l.initial.strays l.core.past l.strays;
+      takes : Takes l.counter (received l.initial.consumer) (received l.consumer) l.initial.core.past l.initial.strays l.core.past l.strays;
     }

@@ -1,16 +1,18 @@
 -- One ring after another.
-use Rattle.std.proofs.Common.{refl, ◌∙◌}
-use Rattle.bp_shared.specs.Rings.Unfixed.{no_more}
-use Rattle.bp_shared.proofs.Draining.{unfixed_by, unfixed_more, unfixed_durable}
+use Rattle.std.proofs.Common.{arith, refl, ◌∙◌}
+use Rattle.bp_shared.specs.Rings.{ring_view}
+use Rattle.bp_shared.specs.Rings.DrainsRings.{none_left}
+use Rattle.bp_shared.proofs.Draining.{rings_next, rings_durable}
 use Rattle.bp_shared.proofs.state.draining.drain_all.Goals as goal
 
 pub loop-consumer-init : goal.loop-consumer-init
-loop-consumer-init c = record { parameters = refl; unfixed = no_more }
+loop-consumer-init c = record { parameters = refl; drained = none_left; left = refl }
 
 pub loop-consumer-preserved : goal.loop-consumer-preserved
 loop-consumer-preserved c =
     let i = c.loop-consumer.invariant in
-    record { parameters = c.drain.ensures.parameters ∙ i.parameters; unfixed = unfixed_more _ _ _ i.unfixed (unfixed_by _ _ _ _ _ c.drain.ensures.drained.go_back) }
+    let next = rings_next ring_view 32 _ _ _ c.consumer-item.result _ _ _ _ _ _ _ (omega arith) (omega arith) i.drained i.left c.drain.ensures.drained in
+    record { parameters = c.drain.ensures.parameters ∙ i.parameters; drained = next.0; left = next.1 }
 
 pub returns-clause-durable : goal.returns-clause-durable
-returns-clause-durable c = unfixed_durable _ _ c.loop-consumer.invariant.unfixed
+returns-clause-durable c = rings_durable _ _ _ _ _ _ _ c.loop-consumer.invariant.drained

@@ -1,11 +1,15 @@
--- What went back so far.
-use Rattle.std.proofs.Common.{◌≡◌}
-use Rattle.bp_shared.specs.Rings.{Unfixed}
+-- The rings before this one were drained, and the others are as they were.
+use Rattle.std.proofs.Common.{◌≡◌, map, take, drop}
+use Rattle.bp_shared.specs.Rings.{ring_view, DrainsRings}
 use Rattle.bp_shared.proofs.state.draining.drain_all.Given as goal
 
 abbrev pub invariant-loop-consumer : goal.invariant-loop-consumer
 invariant-loop-consumer l =
+    let i = l.consumer-index in
+    let before = map ring_view l.initial.consumers in
+    let after = map ring_view l.consumers in
     record {
       parameters : l.core.parameters ≡ l.initial.core.parameters;
-      unfixed : Unfixed l.initial.core.past l.core.past;
+      drained : DrainsRings 32 (take i before) (take i after) l.initial.core.past l.initial.strays l.core.past l.strays;
+      left : drop i after ≡ drop i before;
     }

@@ -3,7 +3,7 @@ use Rattle.std.proofs.Common.{rules, tests, ◌∙◌, ◌==◌}
 use Rattle.std.proofs.lemmas.Iterator.{YieldsList-from_slice}
 use Rattle.std.proofs.lemmas.Iterator.Search.{find_from_yields_List}
 use Rattle.bp_device.proofs.GivingBack.{first-of_lowest, none-of_lowest}
-use Rattle.bp_device.proofs.held_passes.next_back.Goals as goal
+use Rattle.bp_device.proofs.held_passes.next_to_go_back.Goals as goal
 
 pub returns-clause-first : goal.returns-clause-first
 returns-clause-first c = c.copied.ensures ∙ find_from_yields_List (λ g. g.client == c.in_ok-lowest.lowest) _ _ c.find.result c.find.ensures.ran (YieldsList-from_slice c.args.held.now (search rules)) (λ x b q k. search (rules, tests))

@@ -1,0 +1,145 @@
+-- From what the jobs left to what holds of the run.
+use Rattle.std.proofs.Common.{◌≡◌, ◌≢◌, ℕ, zero, suc, ◌+◌, ◌<◌, List, [], ◌∷◌, length, map, reverse, get_or, refl, sym, ap, subst, ◌∙◌, All, arith}
+use Rattle.std.specs.Prelude.{flat_map, Result, Ok, Err, IfOk}
+use Rattle.bp_page.specs.declared.refusals.Refusal.{Refusal}
+use Rattle.bp_clients.specs.declared.run.Outcome.{Outcome}
+use Rattle.std.proofs.lemmas.List.{get_or-map, reverse-reverse, length-map}
+use Rattle.std.proofs.lemmas.List.Elements.{All-get_or, All-nil, All-head, All-tail, All-append}
+use Rattle.std.proofs.lemmas.List.Sorted.{All-permutation}
+use Rattle.std.proofs.lemmas.List.Folds.{flat_map-map}
+use Rattle.std.specs.List.Sorted.{IsPermutation}
+use Rattle.bp_trail.specs.declared.entries.Entry.{Entry}
+use Rattle.bp_trail.specs.declared.scripts.Row.{Row}
+use Rattle.bp_trail.specs.declared.scripts.Refused.{Refused}
+use Rattle.bp_trail.specs.Parameters.{Parameters}
+use Rattle.bp_trail.specs.Trail.{Trail}
+use Rattle.bp_trail.specs.Legal.{Legal}
+use Rattle.bp_trail.specs.Pieces.Manner.{session}
+use Rattle.bp_trail.specs.Script.{FollowsBy, GivesBack, Follows}
+use Rattle.bp_audit.specs.Clients.{of_client}
+use Rattle.bp_audit.specs.Log.{IsWithinLog}
+use Rattle.bp_audit.proofs.Comparing.{of_client-reverse}
+use Rattle.bp_clients.specs.Jobs.{list_of, lists, NoneIsStrange, JobValue, SameJob, new_job, new_jobs, IsTold}
+use Rattle.bp_clients.specs.Runs.{SaidIsTheirs, MarksWithinLog, IsRun, Joined}
+
+-- the job of client c, with its script
+pub record IsJobOf (c : ℕ) (rows : List Row) (j : JobValue) : Type 0 where
+  pub client : j.client ≡ c
+  pub script : j.script ≡ rows
+
+-- the jobs are those of these scripts, in order
+abbrev pub AreJobsOf : List (List Row) → List JobValue → Type 0
+AreJobsOf scripts jobs = (length jobs ≡ length scripts) × ((c : ℕ) (d : JobValue) → c < length scripts → IsJobOf c (list_of c scripts) (get_or jobs c d))
+
+pub length-new_jobs : (first : ℕ) (scripts : List (List Row)) → length (new_jobs first scripts) ≡ length scripts
+length-new_jobs first [] = refl
+length-new_jobs first (script ∷ scripts) = ap suc (length-new_jobs (suc first) scripts)
+
+new_job-at : (first : ℕ) (scripts : List (List Row)) (k c : ℕ) (d : JobValue) → k < length scripts → first + k ≡ c → IsJobOf c (list_of k scripts) (get_or (new_jobs first scripts) k d)
+new_job-at first [] k c d below is = absurd (omega arith)
+new_job-at first (script ∷ scripts) zero c d below is = record { client = omega arith; script = refl }
+new_job-at first (script ∷ scripts) (suc k) c d below is = new_job-at (suc first) scripts k c d (omega arith) (omega arith)
+
+-- a run of the jobs leaves each with its client and its script
+pub same_jobs : (scripts : List (List Row)) (old new : List JobValue) → old ≡ new_jobs 0 scripts → length new ≡ length old
+    → ((k : ℕ) (d : JobValue) → k < length old → SameJob (get_or old k d) (get_or new k d)) → AreJobsOf scripts new
+same_jobs scripts old new are len same =
+    let count : length old ≡ length scripts = ap length are ∙ length-new_jobs 0 scripts in (
+      len ∙ count,
+      λ c d below.
+          let kept = same c d (omega arith) in
+          let was : IsJobOf c (list_of c scripts) (get_or old c d) = subst (λ jobs. IsJobOf c (list_of c scripts) (get_or jobs c d)) (sym are) (new_job-at 0 scripts c c d below (omega arith)) in
+          record { client = kept.client ∙ was.client; script = kept.script ∙ was.script },
+    )
+
+-- ---- clause by clause
+
+module _ (scripts : List (List Row)) (trail : List Entry) (jobs : List JobValue) (are : AreJobsOf scripts jobs) (told : All (IsTold trail) jobs) where
+  abbrev job : ℕ → JobValue
+  job c = get_or jobs c (new_job c [])
+
+  told-at : (c : ℕ) → c < length scripts → IsTold trail (job c)
+  told-at c below = All-get_or (IsTold trail) jobs c (new_job c []) (omega (arith, are.0)) told
+
+  job-at : (c : ℕ) → c < length scripts → IsJobOf c (list_of c scripts) (job c)
+  job-at c below = are.1 c (new_job c []) below
+
+  said-at : (c : ℕ) → c < length scripts → list_of c (map (λ j. reverse j.said) jobs) ≡ reverse (job c).said
+  said-at c below = get_or-map (λ j. reverse j.said) jobs c (new_job c []) [] (omega (arith, are.0))
+
+  refused-at : (c : ℕ) → c < length scripts → list_of c (map (λ j. j.refused) jobs) ≡ (job c).refused
+  refused-at c below = get_or-map (λ j. j.refused) jobs c (new_job c []) [] (omega (arith, are.0))
+
+  theirs : (c : ℕ) → c < length scripts → list_of c (map (λ j. reverse j.said) jobs) ≡ of_client c trail
+  theirs c below = said-at c below ∙ (told-at c below).said ∙ ap (λ n. of_client n trail) (job-at c below).client
+
+  -- client c's list follows its script, whatever equals that list
+  follows-at : (c : ℕ) (said : Trail) → c < length scripts → (job c).said ≡ said → Follows session (list_of c scripts) said (job c).refused
+  follows-at c said below is =
+      let f = (told-at c below).follows in
+      record {
+        by_rows = f.by_rows;
+        ends = (job c).ends;
+        pieces = subst (λ script. FollowsBy session (reverse script) (job c).ends f.by_rows (reverse (job c).refused)) (job-at c below).script f.pieces;
+        gives_back = subst (λ list. GivesBack f.by_rows list) is f.gives_back;
+      }
+
+  follows : (c : ℕ) → c < length scripts → Follows session (list_of c scripts) (reverse (list_of c (map (λ j. reverse j.said) jobs))) (list_of c (map (λ j. j.refused) jobs))
+  follows c below =
+      subst (λ refused. Follows session (list_of c scripts) (reverse (list_of c (map (λ j. reverse j.said) jobs))) refused) (sym (refused-at c below))
+      (follows-at c _ below (sym (reverse-reverse (job c).said) ∙ ap reverse (sym (said-at c below))))
+
+  within : 0 < length scripts → MarksWithinLog (list_of 0 scripts) trail
+  within some =
+      let told = told-at 0 some in
+      let is = job-at 0 some in
+      let f = told.follows in
+      let mine : (job 0).said ≡ of_client 0 (reverse trail) =
+      sym (reverse-reverse (job 0).said) ∙ ap reverse (told.said ∙ ap (λ n. of_client n trail) is.client) ∙ sym (of_client-reverse 0 trail) in
+      record {
+        refused = (job 0).refused;
+        cut = record {
+          by_rows = f.by_rows;
+          ends = (job 0).ends;
+          pieces = subst (λ script. FollowsBy session (reverse script) (job 0).ends f.by_rows (reverse (job 0).refused)) is.script f.pieces;
+          gives_back = subst (λ list. GivesBack f.by_rows list) mine f.gives_back;
+        };
+        within = subst (λ script. IsWithinLog script (job 0).ends (reverse trail)) is.script (told.within is.client);
+      }
+
+known-all : (trail : List Entry) (jobs : List JobValue) → All (IsTold trail) jobs → NoneIsStrange (flat_map (λ j. j.refused) jobs)
+known-all trail [] told = All-nil (λ r. r.number ≢ 16)
+known-all trail (j ∷ jobs) told =
+    All-append (λ r. r.number ≢ 16) j.refused (flat_map (λ k. k.refused) jobs) (All-head (IsTold trail) j jobs told).follows.known (known-all trail jobs (All-tail (IsTold trail) j jobs told))
+
+-- the headline, from what the jobs left
+pub run_is : (c : Parameters) (scripts : List (List Row)) (trail : List Entry) (jobs : List JobValue) (said : List (List Entry)) (refused : List Refused) → 0 < length scripts → Legal c (reverse trail)
+    → AreJobsOf scripts jobs → Joined trail jobs said refused → IsRun c scripts trail said refused
+run_is c scripts trail jobs said refused some legal are j =
+    let told = j.collected.told in
+    let is = j.collected.said_are in
+    record {
+      legal = legal;
+      theirs = λ k below. ap (list_of k) is ∙ theirs scripts trail jobs are told k below;
+      follows = record {
+        refusals = map (λ j. j.refused) jobs;
+        each = λ k below. subst (λ (lists : List (List Entry)). Follows session (list_of k scripts) (reverse (list_of k lists)) (list_of k (map (λ j. j.refused) jobs))) (sym is) (follows scripts trail jobs are told k below);
+        counted = length-map jobs (λ j. j.refused) ∙ are.0;
+        joined = subst (λ (all : List Refused). IsPermutation all refused) (j.collected.refused_are ∙ sym (flat_map-map (λ (rs : List Refused). rs) (λ (k : JobValue). k.refused) jobs)) j.same;
+        in_order = j.in_order;
+      };
+      known = All-permutation (λ r. r.number ≢ 16) j.one_by_one refused j.same (subst NoneIsStrange (sym j.collected.refused_are) (known-all trail jobs told));
+      within_log = within scripts trail jobs are told some;
+    }
+
+-- the same of a run's answer
+pub run_all : (p q : Parameters) (scripts : List (List Row)) (jobs : List JobValue) (answer : Result Outcome Refusal) → 0 < length scripts → AreJobsOf scripts jobs → q ≡ p
+    → IfOk answer (λ run. Legal q (reverse run.trail.items)) → IfOk answer (λ run. Joined run.trail.items jobs (lists run.said.items) run.refused.items)
+    → IfOk answer (λ run. IsRun p scripts run.trail.items (lists run.said.items) run.refused.items)
+run_all p q scripts jobs (Ok run) some are same legal joined = run_is p scripts _ jobs _ _ some (subst (λ c. Legal c (reverse run.trail.items)) same legal) are joined
+run_all p q scripts jobs (Err why) some are same legal joined = tt
+
+pub answer-said : (p : Parameters) (scripts : List (List Row)) (n : ℕ) (answer : Result Outcome Refusal) → length scripts ≡ n
+    → IfOk answer (λ run. IsRun p scripts run.trail.items (lists run.said.items) run.refused.items) → IfOk answer (λ run. SaidIsTheirs n run.trail.items (lists run.said.items))
+answer-said p scripts n (Ok run) count is = subst (λ m. SaidIsTheirs m run.trail.items (lists run.said.items)) count is.theirs
+answer-said p scripts n (Err why) count is = tt

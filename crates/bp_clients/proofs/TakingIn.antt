@@ -1,0 +1,40 @@
+-- What the jobs left, one after the other.
+use Rattle.std.proofs.Common.{◌≡◌, refl, sym, ◌∙◌, ap, subst, List, [], ◌∷◌, ◌++◌, reverse, length, arith}
+use Rattle.std.specs.Prelude.{flat_map}
+use Rattle.std.proofs.lemmas.List.{map-append, append_assoc, append-nil, reverse-reverse}
+use Rattle.std.proofs.lemmas.List.Elements.{All-nil, All-push}
+use Rattle.std.proofs.lemmas.Grind.{flat_map-append}
+use Rattle.bp_trail.specs.declared.entries.Entry.{Entry}
+use Rattle.bp_trail.specs.declared.scripts.Refused.{Refused}
+use Rattle.bp_clients.specs.Jobs.{JobValue, IsTold, Collected}
+
+-- some of the jobs were taken in, and these are left
+pub record SoFar (trail : List Entry) (all left : List JobValue) (said : List (List Entry)) (refused : List Refused) : Type 0 where
+  pub taken : List JobValue
+  pub joined : taken ++ left ≡ all
+  pub collected : Collected trail taken said refused
+
+pub none_yet : (trail : List Entry) (all : List JobValue) (said : List (List Entry)) (refused : List Refused) → said ≡ [] → refused ≡ [] → SoFar trail all all said refused
+none_yet trail all said refused none_said none_refused = record { taken = []; joined = refl; collected = record { told = All-nil (IsTold trail); said_are = none_said; refused_are = none_refused } }
+
+pub one_more : (trail : List Entry) (all rest left : List JobValue) (j : JobValue) (said said_after : List (List Entry)) (refused refused_after : List Refused) → SoFar trail all rest said refused → rest ≡ j ∷ left
+    → IsTold trail j → said_after ≡ said ++ reverse j.said ∷ [] → refused_after ≡ refused ++ j.refused → SoFar trail all left said_after refused_after
+one_more trail all rest left j said said_after refused refused_after s next told more_said more_refused =
+    let c = s.collected in
+    record {
+      taken = s.taken ++ j ∷ [];
+      joined = append_assoc s.taken (j ∷ []) left ∙ ap (λ js. s.taken ++ js) (sym next) ∙ s.joined;
+      collected = record {
+        told = All-push (IsTold trail) s.taken j c.told told;
+        said_are = more_said ∙ ap (λ ss. ss ++ reverse j.said ∷ []) c.said_are ∙ sym (map-append (λ k. reverse k.said) s.taken (j ∷ []));
+        refused_are = more_refused ∙ ap (λ rs. rs ++ j.refused) c.refused_are ∙ ap (λ rs. flat_map (λ k. k.refused) s.taken ++ rs) (sym (append-nil j.refused)) ∙ sym (flat_map-append (λ k. k.refused) s.taken (j ∷ []));
+      };
+    }
+
+pub all_taken : (trail : List Entry) (all rest : List JobValue) (said : List (List Entry)) (refused : List Refused) → SoFar trail all rest said refused → length rest ≡ 0 → Collected trail all said refused
+all_taken trail all (j ∷ rest) said refused s none = absurd (omega (arith, none))
+all_taken trail all [] said refused s none = subst (λ js. Collected trail js said refused) (sym (append-nil s.taken) ∙ s.joined) s.collected
+
+-- two lists that are the same turned round
+pub same_reversed : {X : Type 0} (xs ys past : List X) → reverse xs ≡ past → reverse ys ≡ past → xs ≡ ys
+same_reversed xs ys past x_is y_is = sym (reverse-reverse xs) ∙ ap reverse (x_is ∙ sym y_is) ∙ reverse-reverse ys

@@ -1,0 +1,36 @@
+-- One job after the other.
+use Rattle.std.proofs.Common.{◌≡◌, sym, ◌∙◌, ap, subst, suc, length, vec_len, arith}
+use Rattle.std.proofs.lemmas.List.Elements.{All-head, All-tail, All-same}
+use Rattle.std.specs.Vec.Iter.{into_iter_items}
+use Rattle.bp_clients.specs.Jobs.{lists, ScriptFits, ScriptsFit, sessions_from, new_job}
+use Rattle.bp_clients.proofs.Making.{next_session, made_more, next_fits}
+use Rattle.bp_clients.proofs.run.make_jobs.Goals as goal
+
+pub new-runner-requires : goal.new-runner-requires
+new-runner-requires g c = record {
+  port = All-head (λ p. (g.P.Port.geometry_of p).size ≡ g.N.PoolName.parameters.size) c.in-Some-next-2.port (into_iter_items c.next-in-loop-script-2.new.self) (All-same (λ p. (g.P.Port.geometry_of p).size ≡ g.N.PoolName.parameters.size) _ _ (sym c.in-Some-next-2.ensures.items) c.loop-script.invariant.size);
+}
+
+pub new-requires-clause-fits : goal.new-requires-clause-fits
+new-requires-clause-fits g c =
+    let i = c.loop-script.invariant in
+    let next = c.in-Some.ensures.steps.0 in
+    let s = next_session _ _ _ _ _ c.in-Some-next.session i.sessions c.in-Some-next.ensures.items (ap length next) in
+    subst (λ n. ScriptFits g.N.PoolName.parameters n c.in-Some.script.items) (sym (ap (λ v. v.client) (c.new-runner.ensures ∙ s.is)))
+    (next_fits _ _ c.in-Some.script.items _ _ i.fits (ap lists next)).0
+
+pub loop-script-preserved : goal.loop-script-preserved
+loop-script-preserved g c =
+    let i = c.loop-script.invariant in
+    let next = c.in-Some.ensures.steps.0 in
+    let s = next_session _ _ _ _ _ c.in-Some-next.session i.sessions c.in-Some-next.ensures.items (ap length next) in
+    let one : vec_len c.push.new.self ≡ suc (vec_len c.loop-script.jobs) = omega (arith, c.in-Ok-push.ensures.len) in
+    let client : c.new-runner.result.client ≡ vec_len c.loop-script.jobs = ap (λ v. v.client) (c.new-runner.ensures ∙ s.is) in
+    let left = length (into_iter_items c.next.new.self) in
+    record {
+      made = made_more c.loop-script.jobs.items _ _ _ _ c.in-Some.script.items _ _ c.in-Ok.job i.made (ap lists next) c.in-Ok-push.ensures.items (c.in-Ok.ensures ∙ ap (λ n. new_job n c.in-Some.script.items) client) one;
+      sessions = s.after ∙ ap (λ n. sessions_from n left) (sym one);
+      ports = omega (arith, i.ports, ap length next, ap length c.in-Some-next-2.ensures.items);
+      size = All-tail (λ p. (g.P.Port.geometry_of p).size ≡ g.N.PoolName.parameters.size) c.in-Some-next-2.port (into_iter_items c.next-in-loop-script-2.new.self) (All-same (λ p. (g.P.Port.geometry_of p).size ≡ g.N.PoolName.parameters.size) _ _ (sym c.in-Some-next-2.ensures.items) i.size);
+      fits = subst (λ n. ScriptsFit g.N.PoolName.parameters n (lists (into_iter_items c.next.new.self))) (sym one) (next_fits _ _ c.in-Some.script.items _ _ i.fits (ap lists next)).1;
+    }

@@ -1,0 +1,5 @@
+-- The mark and the core that were just made.
+use Rattle.bp_clients.proofs.run.run_clients.Given as goal
+
+abbrev pub ghosts-run_named : goal.ghosts-run_named
+ghosts-run_named g a = record { mark = a.parts.0; parameters = a.core.parameters }

@@ -1,0 +1,12 @@
+-- The passes held are those that the list leaves out.
+use Rattle.std.proofs.Common.{◌∙◌, ap}
+use Rattle.std.specs.Prelude.{find, reverse}
+use Rattle.bp_trail.specs.Script.{is_pass_of}
+use Rattle.bp_clients.proofs.Stepping.{latest_found}
+use Rattle.bp_clients.proofs.runner.Runner.latest.Goals as goal
+
+pub returns : goal.returns
+returns g c =
+    rw (← c.self.view_is)
+    (latest_found c.held.result.now c.self.inside.session.said c.self.inside.session.client c.args.page c.latest_pass.result c.held.ensures
+    (c.latest_pass.ensures ∙ ap (λ who. find (is_pass_of who c.args.page) (reverse c.held.result.now)) c.client.ensures))

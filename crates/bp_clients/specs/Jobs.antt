@@ -1,0 +1,97 @@
+-- What one client's thread is given, and what it leaves.
+use Rattle.std.specs.Prelude.{◌≡◌, ◌≢◌, ℕ, zero, suc, ◌<◌, ◌≤◌, Bool, true, false, List, [], ◌∷◌, All, reverse, length, map, flat_map, slice_index_or, None}
+use Rattle.std.specs.declared.vec.Vec.{Vec}
+use Rattle.bp_trail.specs.declared.entries.Entry.{Entry}
+use Rattle.bp_trail.specs.declared.scripts.Row.{Row}
+use Rattle.bp_trail.specs.declared.scripts.Refused.{Refused}
+use Rattle.bp_trail.specs.Parameters.{Parameters}
+use Rattle.bp_trail.specs.Trail.{Trail}
+use Rattle.bp_trail.specs.Fits.{RowFits}
+use Rattle.bp_trail.specs.Pieces.Manner.{session}
+use Rattle.bp_trail.specs.Script.{FollowsBy, GivesBack}
+use Rattle.bp_shared.specs.Sessions.{SessionValue}
+use Rattle.bp_audit.specs.Clients.{of_client}
+use Rattle.bp_audit.specs.Log.{log_of, IsWithinLog}
+
+-- a row of this client, inside the file and its pages; client 0 alone writes the log
+pub record RowFitsClient (p : Parameters) (client : ℕ) (row : Row) : Type 0 where
+  pub fits : RowFits p row
+  pub own : row.client ≡ client
+  pub log : 0 < client → log_of row.step ≡ None
+
+abbrev pub ScriptFits : Parameters → ℕ → List Row → Type 0
+ScriptFits p client script = All (RowFitsClient p client) script
+
+-- the list that stands at this place
+abbrev pub list_of : {X : Type 0} → ℕ → List (List X) → List X
+list_of c lists = slice_index_or lists c []
+
+abbrev pub EachScriptFits : Parameters → List (List Row) → Type 0
+EachScriptFits p scripts = (c : ℕ) → c < length scripts → ScriptFits p c (list_of c scripts)
+
+-- the same, one by one: the scripts of the clients from this one on
+abbrev pub ScriptsFit : Parameters → ℕ → List (List Row) → Type 0
+ScriptsFit p first [] = Unit {0}
+ScriptsFit p first (script ∷ scripts) = ScriptFits p first script × ScriptsFit p (suc first) scripts
+
+-- no row was refused since the pool did not know a ticket
+abbrev pub NoneIsStrange : List Refused → Type 0
+NoneIsStrange refused = All (λ r. r.number ≢ 16) refused
+
+-- the list (newest first) follows the script by the cut with these ends (newest first)
+pub record FollowsCut (client : ℕ) (script : List Row) (ends : List ℕ) (said : Trail) (refused : List Refused) : Type 0 where
+  pub by_rows : Trail
+  pub pieces : FollowsBy session (reverse script) ends by_rows (reverse refused)
+  pub gives_back : GivesBack by_rows said
+  pub known : NoneIsStrange refused
+
+-- a client's script, its list and the ends of its rows' pieces (newest first), the rows refused, and whether all of it was run
+pub record JobValue : Type 0 where
+  pub client : ℕ
+  pub script : List Row
+  pub said : Trail
+  pub ends : List ℕ
+  pub refused : List Refused
+  pub is_done : Bool
+
+pub record IsJob (p : Parameters) (j : JobValue) (for_ends for_refused : ℕ) : Type 0 where
+  pub fits : ScriptFits p j.client j.script
+  pub ends_fit : length j.script ≤ for_ends
+  pub refused_fit : length j.script ≤ for_refused
+  pub done : j.is_done ≡ true → FollowsCut j.client j.script j.ends j.said j.refused
+
+abbrev pub new_job : ℕ → List Row → JobValue
+new_job client script = record { client = client; script = script; said = []; ends = []; refused = []; is_done = false }
+
+-- a job for each script, the clients from this one on
+abbrev pub new_jobs : ℕ → List (List Row) → List JobValue
+new_jobs first [] = []
+new_jobs first (script ∷ scripts) = new_job first script ∷ new_jobs (suc first) scripts
+
+-- the same of the sessions that are given to them
+abbrev pub sessions_from : ℕ → ℕ → List SessionValue
+sessions_from first zero = []
+sessions_from first (suc n) = record { client = first; said = [] } ∷ sessions_from (suc first) n
+
+-- a job keeps its client and its script
+pub record SameJob (old new : JobValue) : Type 0 where
+  pub client : new.client ≡ old.client
+  pub script : new.script ≡ old.script
+
+-- what each of some vectors holds
+abbrev pub lists : {X A : Type 0} → List (Vec X A) → List (List X)
+lists vectors = map (λ v. v.items) vectors
+
+-- ---- after the threads
+
+-- the job is done, its list is what the trail (in order) has of its client, and the log of client 0 bounds the marks
+pub record IsTold (trail : List Entry) (j : JobValue) : Type 0 where
+  pub follows : FollowsCut j.client j.script j.ends j.said j.refused
+  pub said : reverse j.said ≡ of_client j.client trail
+  pub within : j.client ≡ 0 → IsWithinLog j.script j.ends (reverse trail)
+
+-- the lists of some jobs, in order, and their refused rows
+pub record Collected (trail : List Entry) (jobs : List JobValue) (said : List (List Entry)) (refused : List Refused) : Type 0 where
+  pub told : All (IsTold trail) jobs
+  pub said_are : said ≡ map (λ j. reverse j.said) jobs
+  pub refused_are : refused ≡ flat_map (λ j. j.refused) jobs

@@ -1,0 +1,4 @@
+-- A run of client threads.
+pub mod Steps
+pub mod Jobs
+pub mod Runs

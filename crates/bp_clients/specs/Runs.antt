@@ -1,0 +1,71 @@
+-- What holds after a run of client threads. A trail and a client's list are in the order of time here, and so are scripts and refused rows.
+use Rattle.std.specs.Prelude.{◌≡◌, ℕ, ◌<◌, List, reverse, length, flat_map, Result, Ok, Err}
+use Rattle.std.specs.List.Sorted.{IsPermutation, IsNonDecreasingBy}
+use Rattle.bp_page.specs.declared.refusals.Refusal.{Refusal}
+use Rattle.bp_page.specs.declared.refusals.Refusal.TheVariants as refusal
+use Rattle.bp_trail.specs.declared.entries.Entry.{Entry}
+use Rattle.bp_trail.specs.declared.scripts.Row.{Row}
+use Rattle.bp_trail.specs.declared.scripts.Refused.{Refused}
+use Rattle.bp_trail.specs.Parameters.{Parameters}
+use Rattle.bp_trail.specs.Pieces.Manner.{session}
+use Rattle.bp_trail.specs.Script.{Follows}
+use Rattle.bp_trail.specs.Legal.{Legal}
+use Rattle.bp_core.specs.Outcomes.{IsFit}
+use Rattle.bp_audit.specs.Clients.{of_client}
+use Rattle.bp_audit.specs.Log.{IsWithinLog}
+use Rattle.bp_clients.specs.declared.run.Config.{Config}
+use Rattle.bp_clients.specs.Jobs.{list_of, NoneIsStrange, JobValue, Collected}
+
+-- each client's list has the trail's entries of that client, in order, and no others
+abbrev pub SaidIsTheirs : ℕ → List Entry → List (List Entry) → Type 0
+SaidIsTheirs clients trail said = (c : ℕ) → c < clients → list_of c said ≡ of_client c trail
+
+-- each client's list follows its script; the refused rows of all, in the order of their numbers, are those of each
+pub record EachFollows (scripts : List (List Row)) (said : List (List Entry)) (refused : List Refused) : Type 0 where
+  pub refusals : List (List Refused)
+  pub each : (c : ℕ) → c < length scripts → Follows session (list_of c scripts) (reverse (list_of c said)) (list_of c refusals)
+  pub counted : length refusals ≡ length scripts
+  pub joined : IsPermutation (flat_map (λ r. r) refusals) refused
+  pub in_order : IsNonDecreasingBy (λ r. r.row) refused
+
+-- by one cut, by which client 0's entries follow its script, no mark comes before its log rows allow it
+pub record MarksWithinLog (script : List Row) (trail : List Entry) : Type 0 where
+  pub refused : List Refused
+  pub cut : Follows session script (of_client 0 (reverse trail)) refused
+  pub within : IsWithinLog script cut.ends (reverse trail)
+
+-- the trail is one legal history; it holds each client's calls once and in that client's order, as its script asks for them; and no mark is ahead of the log
+pub record IsRun (c : Parameters) (scripts : List (List Row)) (trail : List Entry) (said : List (List Entry)) (refused : List Refused) : Type 0 where
+  pub legal : Legal c (reverse trail)
+  pub theirs : SaidIsTheirs (length scripts) trail said
+  pub follows : EachFollows scripts said refused
+  pub known : NoneIsStrange refused
+  pub within_log : MarksWithinLog (list_of 0 scripts) trail
+
+-- what the jobs left, with the refused rows of all put in the order of their numbers
+pub record Joined (trail : List Entry) (jobs : List JobValue) (said : List (List Entry)) (refused : List Refused) : Type 0 where
+  pub one_by_one : List Refused
+  pub collected : Collected trail jobs said one_by_one
+  pub same : IsPermutation one_by_one refused
+  pub in_order : IsNonDecreasingBy (λ r. r.row) refused
+
+-- what the core of a run is made with
+abbrev pub run_parameters : Config → ℕ → Parameters
+run_parameters config clients = record {
+  frames = config.frames;
+  k = config.settings.k;
+  correlated = config.settings.correlated;
+  retained = config.settings.retained;
+  pages = config.geometry.pages;
+  size = config.geometry.size;
+  clients = clients;
+  room = config.room;
+}
+
+-- why a run is refused, and that a run that is not had fit parameters
+abbrev pub RunAnswers : {A : Type 0} → Parameters → Result A Refusal → Type 0
+RunAnswers c (Ok done) = IsFit c
+RunAnswers c (Err refusal.BadSettings) = ¬ IsFit c
+RunAnswers c (Err refusal.OutOfMemory) = IsFit c
+RunAnswers c (Err refusal.Disagree) = IsFit c
+RunAnswers c (Err _) = ⊥

@@ -1,0 +1,29 @@
+-- What one step of a client's script adds to the client's list.
+use Rattle.std.specs.Prelude.{◌≡◌, ◌⊎◌, ℕ, Bool, false, ◌||◌, ◌==◌, IsTrue, ◌++◌}
+use Rattle.bp_page.specs.declared.refusals.Refusal.{Refusal}
+use Rattle.bp_page.specs.declared.refusals.Refusal.TheVariants as refusal
+use Rattle.bp_trail.specs.declared.scripts.Step.{Step}
+use Rattle.bp_trail.specs.Trail.{Trail}
+use Rattle.bp_trail.specs.Pieces.{Outcome}
+use Rattle.bp_trail.specs.Pieces.Manner.{session}
+use Rattle.bp_trail.specs.Pieces.Outcome.{accepted, refused}
+use Rattle.bp_trail.specs.Script.{RowPiece}
+
+-- the pool does not know a ticket (16) or a pass (24) that it gave: the run is at fault, and no row
+abbrev pub is_fault : Outcome → Bool
+is_fault accepted = false
+is_fault (refused n) = (n == 16) || (n == 24)
+
+abbrev pub as_fault : Refusal → Refusal
+as_fault refusal.UnknownPass = refusal.Disagree
+as_fault why = why
+
+-- the piece of the step was added
+pub record AddsStep (client : ℕ) (step : Step) (outcome : Outcome) (said after : Trail) : Type 0 where
+  pub piece : Trail
+  pub of_row : RowPiece session said client step piece outcome
+  pub grows : after ≡ piece ++ said
+
+-- so it was, where the run is not at fault
+abbrev pub StepSaid : ℕ → Step → Outcome → Trail → Trail → Type 0
+StepSaid client step outcome said after = IsTrue (is_fault outcome) ⊎ AddsStep client step outcome said after

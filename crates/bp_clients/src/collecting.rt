@@ -1,0 +1,85 @@
+//! What is compared once all threads have ended.
+ghost use Rattle.std.specs.Prelude.{◌≡◌, ◌⊎◌, OnOk, OnErr, [], ◌∷◌, ◌++◌, IfSome, reverse};
+ghost use Rattle.bp_page.specs.declared.refusals.Refusal.TheVariants as Refusal;
+ghost use Rattle.bp_clients.specs.Jobs.{lists, IsTold, Collected};
+
+use crate::job::{Job, Left};
+use bp_audit::{agrees, is_within_log};
+use bp_core::{Entry, Refused};
+use bp_device::Port;
+use bp_page::Refusal;
+use bp_shared::PoolName;
+
+/// What a job left, where its list is what the trail has of its client, and where the log of client 0 bounds the marks. It takes
+/// no memory.
+fn told<N: PoolName, P: Port>(trail: &[Entry], job: Job<N, P>) -> Option<Left>
+    ensures told { IfSome result (λ left. IsTold trail.now job) }
+    ensures said { IfSome result (λ left. left.said.items ≡ reverse job.said) }
+    ensures refused { IfSome result (λ left. left.refused.items ≡ job.refused) }
+{
+    let left = job.into_left()?;
+    if !agrees(trail, &left.said, left.client) {
+        return None;
+    }
+    if left.client == 0 && !is_within_log(trail, &left.script, &left.ends) {
+        return None;
+    }
+    Some(left)
+}
+
+/// Adds refused rows. The room for them was reserved before.
+fn append(all: &mut Vec<Refused>, more: &[Refused]) -> Result<(), Refusal>
+    ensures items { OnOk result (all.new.items ≡ all.old.items ++ more.now) }
+    ensures refused { OnErr result (result ≡ Err Refusal.OutOfMemory) }
+{
+    match all.extend_from_slice(more) {
+        Ok(()) => Ok(()),
+        Err(_) => Err(Refusal::OutOfMemory),
+    }
+}
+
+/// Takes what one job left.
+fn take_in<N: PoolName, P: Port>(
+    trail: &[Entry],
+    job: Job<N, P>,
+    said: &mut Vec<Vec<Entry>>,
+    refused: &mut Vec<Refused>,
+) -> Result<(), Refusal>
+    ensures told { OnOk result (IsTold trail.now job) }
+    ensures said { OnOk result (lists said.new.items ≡ lists said.old.items ++ reverse job.said ∷ []) }
+    ensures refused { OnOk result (refused.new.items ≡ refused.old.items ++ job.refused) }
+    ensures fault { OnErr result ((result ≡ Err Refusal.OutOfMemory) ⊎ (result ≡ Err Refusal.Disagree)) }
+{
+    let Some(left) = told(trail, job) else {
+        return Err(Refusal::Disagree);
+    };
+    match append(refused, &left.refused) {
+        Ok(()) => {}
+        Err(refusal) => return Err(refusal),
+    }
+    match said.push(left.said) {
+        Ok(()) => Ok(()),
+        Err(_) => Err(Refusal::OutOfMemory),
+    }
+}
+
+/// What the jobs left, one after the other. `Disagree` where one was not run whole, where its list is not what the trail has of its
+/// client, or where a mark came before the log rows of client 0 allow it.
+pub(crate) fn collect<N: PoolName, P: Port>(
+    trail: &[Entry],
+    jobs: Vec<Job<N, P>>,
+    said: &mut Vec<Vec<Entry>>,
+    refused: &mut Vec<Refused>,
+) -> Result<(), Refusal>
+    requires empty { (said.old.items ≡ []) × (refused.old.items ≡ []) }
+    ensures collected { OnOk result (Collected trail.now jobs.items (lists said.new.items) refused.new.items) }
+    ensures fault { OnErr result ((result ≡ Err Refusal.OutOfMemory) ⊎ (result ≡ Err Refusal.Disagree)) }
+{
+    for job in jobs {
+        match take_in(trail, job, said, refused) {
+            Ok(()) => {}
+            Err(refusal) => return Err(refusal),
+        }
+    }
+    Ok(())
+}

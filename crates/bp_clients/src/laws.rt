@@ -1,0 +1,39 @@
+//! What every run has besides, since its trail is legal. Each function does nothing: its contract is the law.
+ghost use Rattle.std.specs.Prelude.{◌≡◌, ℕ, false, List, ◌∷◌, ◌++◌, reverse, Some};
+ghost use Rattle.bp_lruk.specs.Distance.{is_farther};
+ghost use Rattle.bp_trail.specs.declared.entries.Entry.{Entry as AnEntry};
+ghost use Rattle.bp_trail.specs.declared.entries.Reply.TheVariants.{Load};
+ghost use Rattle.bp_trail.specs.declared.scripts.Row.{Row as ARow};
+ghost use Rattle.bp_trail.specs.Parameters.{Parameters};
+ghost use Rattle.bp_trail.specs.Lists.{EachEntry};
+ghost use Rattle.bp_trail.specs.Trail.{Trail};
+ghost use Rattle.bp_trail.specs.PageMap.{reply_of};
+ghost use Rattle.bp_trail.specs.Victim.{backward_distance};
+ghost use Rattle.bp_trail.specs.Sentences.{IsCandidate, IsFirst};
+ghost use Rattle.bp_trail.specs.Legal.{Legal};
+ghost use Rattle.bp_trail.specs.Safety.{EvictsSafely, WritesAreDurable};
+ghost use Rattle.bp_trail.specs.Claims.{AnswersPlain};
+ghost use Rattle.bp_trail.specs.Pieces.Manner.{session};
+ghost use Rattle.bp_audit.specs.Log.{is_unfix};
+ghost use Rattle.bp_audit.specs.Cut.{BoundedByItsRow};
+ghost use Rattle.bp_clients.specs.Runs.{MarksWithinLog};
+
+/// In the trail of every run each reply is what the page map answers there from the calls before it; each page that leaves has no
+/// pins and is not unsaved, and is the eligible page that comes first, so that none is farther by its backward K-distance; no image
+/// goes out before the log is durable as far as every earlier write of its page; and over a device that gives back what was written
+/// each content is the plain map's.
+pub fn runs_keep_the_rules_of_the_pool()
+    ensures replies { (c : Parameters) (trail : List AnEntry) → Legal c (reverse trail) → EachEntry (λ before e. e.reply ≡ reply_of c before e.call) (reverse trail) }
+    ensures evictions { (c : Parameters) (trail : List AnEntry) → Legal c (reverse trail) → EachEntry (EvictsSafely c) (reverse trail) }
+    ensures victims { (c : Parameters) (trail : List AnEntry) → Legal c (reverse trail) → EachEntry (λ before e. (t v : ℕ) → e.reply ≡ Load t (Some v) → IsFirst c before v) (reverse trail) }
+    ensures farthest { (c : Parameters) (trail : List AnEntry) → Legal c (reverse trail) → EachEntry (λ before e. (t v q : ℕ) → e.reply ≡ Load t (Some v) → IsCandidate c before q → is_farther (backward_distance c before q) (backward_distance c before v) ≡ false) (reverse trail) }
+    ensures write_outs { (c : Parameters) (trail : List AnEntry) → Legal c (reverse trail) → EachEntry WritesAreDurable (reverse trail) }
+    ensures contents { (c : Parameters) (trail : List AnEntry) → Legal c (reverse trail) → EachEntry AnswersPlain (reverse trail) }
+{}
+
+/// Where no mark is ahead of the log rows, each entry of client 0 that is no unfix stands in the piece of a row, by the one cut by
+/// which the entries of client 0 follow its script; and the greatest LSN marked up to and with that entry is at most the greatest
+/// of the log rows before that row.
+pub fn marks_keep_to_the_log_rows()
+    ensures { (script : List ARow) (trail : List AnEntry) (newer past : Trail) (e : AnEntry) (log : MarksWithinLog script trail) → reverse trail ≡ newer ++ e ∷ past → e.client ≡ 0 → is_unfix e.call ≡ false → BoundedByItsRow session script (reverse trail) log.refused log.cut past e }
+{}

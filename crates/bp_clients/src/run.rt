@@ -1,0 +1,213 @@
+//! A run: one thread for each client, and the comparisons once all have ended.
+ghost use Rattle.std.specs.Prelude.{◌≡◌, ◌⊎◌, ◌≤◌, ◌<◌, ℕ, IfOk, OnErr, All, [], map, reverse, length, vec_len, slice_index_or};
+ghost use Rattle.bp_trail.specs.Legal.{Legal};
+ghost use Rattle.bp_clients.specs.Jobs.{list_of, EachScriptFits, ScriptsFit, NoneIsStrange, SameJob, sessions_from, new_jobs, lists};
+ghost use Rattle.bp_clients.specs.Runs.{run_parameters, RunAnswers, SaidIsTheirs, EachFollows, MarksWithinLog, Joined, IsRun};
+
+use crate::collecting::collect;
+use crate::job::Job;
+use crate::runner::{LogWriter, Runner};
+use bp_core::{Core, Entry, Refused, Row};
+use bp_device::Port;
+use bp_lruk::Settings;
+use bp_mark::{LogEnd, Mark, Reader};
+use bp_page::{Geometry, Refusal};
+use bp_shared::{PoolName, Session, SharedPool};
+use std::alloc::Global;
+use std::marker::{Brand, Send, Sync};
+use std::sync::Wait;
+use std::thread;
+use std::thread::Threads;
+
+/// What a pool of client threads is made with.
+#[derive(Clone, Copy)]
+pub struct Config {
+    pub geometry: Geometry,
+    pub settings: Settings,
+    pub frames: usize,
+    /// The entries that the trail may have.
+    pub room: usize,
+}
+
+/// How a run went.
+#[derive(Drop)]
+pub struct Outcome {
+    /// All entries, in order.
+    pub trail: Vec<Entry>,
+    /// Each client's own list, in order.
+    pub said: Vec<Vec<Entry>>,
+    /// The rows that were refused, in the order of their numbers.
+    pub refused: Vec<Refused>,
+}
+
+/// How many rows there are.
+fn count_rows(scripts: &[Vec<Row>]) -> usize {
+    let mut rows = 0usize;
+    for script in scripts {
+        rows = rows.saturating_add(script.len());
+    }
+    rows
+}
+
+/// A job for each session, with the script and the port of the same number. The first has the log.
+fn make_jobs<N: PoolName, P: Port>(
+    alloc: Global,
+    sessions: Vec<Session<N>>,
+    scripts: Vec<Vec<Row>>,
+    ports: Vec<P>,
+    log: LogWriter<N>,
+) -> Result<Vec<Job<N, P>>, Refusal>
+    requires sessions { sessions.items ≡ sessions_from 0 (vec_len scripts) }
+    requires ports { vec_len ports ≡ vec_len scripts }
+    requires size { All (λ p. (P.geometry_of p).size ≡ N.parameters.size) ports.items }
+    requires fits { ScriptsFit N.parameters 0 (lists scripts.items) }
+    ensures jobs { IfOk result (λ jobs. jobs.items ≡ new_jobs 0 (lists scripts.items)) }
+    ensures refused { OnErr result (result ≡ Err Refusal.OutOfMemory) }
+{
+    let mut jobs = Vec::new(alloc);
+    let mut log = Some(log);
+    let mut sessions = sessions.into_iter();
+    let mut ports = ports.into_iter();
+    for script in scripts {
+        let Some(session) = sessions.next() else {
+            unreachable!()
+        };
+        let Some(port) = ports.next() else {
+            unreachable!()
+        };
+        let runner = Runner::new(session, port, log.take());
+        let Ok(job) = Job::new(alloc, runner, script) else {
+            return Err(Refusal::OutOfMemory);
+        };
+        let Ok(()) = jobs.push(job) else {
+            return Err(Refusal::OutOfMemory);
+        };
+    }
+    Ok(jobs)
+}
+
+/// One thread for each job. All have ended at the return.
+fn run_jobs<N: PoolName + Send + Sync, P: Port + Send, R: Threads + Wait + Sync>(
+    rt: &R,
+    pool: &SharedPool<N>,
+    jobs: &mut [Job<N, P>],
+)
+    requires some { 0 < length jobs.old }
+    ensures same { (k : ℕ) (d : _) → k < length jobs.old → SameJob (slice_index_or jobs.old k d) (slice_index_or jobs.new k d) }
+{
+    let count = jobs.len();
+    thread::for_each_mut(rt, jobs, count, &|_, job| job.run(rt, pool));
+}
+
+/// What the jobs left, joined: each client's list, and the refused rows of all in the order of their numbers.
+fn joined<N: PoolName, P: Port>(
+    core: Core,
+    jobs: Vec<Job<N, P>>,
+    said: Vec<Vec<Entry>>,
+    refused: Vec<Refused>,
+) -> Result<Outcome, Refusal>
+    requires empty { (said.items ≡ []) × (refused.items ≡ []) }
+    ensures legal { IfOk result (λ run. Legal core.parameters (reverse run.trail.items)) }
+    ensures joined { IfOk result (λ run. Joined run.trail.items jobs.items (lists run.said.items) run.refused.items) }
+    ensures refused { OnErr result ((result ≡ Err Refusal.OutOfMemory) ⊎ (result ≡ Err Refusal.Disagree)) }
+{
+    let mut said = said;
+    let mut refused = refused;
+    match collect(core.trail(), jobs, &mut said, &mut refused) {
+        Ok(()) => {}
+        Err(refusal) => return Err(refusal),
+    }
+    refused.sort_unstable_by_key(|refused| refused.row);
+    Ok(Outcome {
+        trail: core.into_trail(),
+        said,
+        refused,
+    })
+}
+
+/// Runs the clients of a pool whose parts agree on N.
+fn run_named<N: PoolName + Send + Sync, P: Port + Send, R: Threads + Wait + Sync>(
+    rt: &R,
+    alloc: Global,
+    core: Core,
+    parts: (Mark, LogEnd, Reader),
+    scripts: Vec<Vec<Row>>,
+    ports: Vec<P>,
+) -> Result<Outcome, Refusal>
+    requires mark { (parts.0 ≡ N.mark) × (parts.1.mark ≡ N.mark) × (parts.2.mark ≡ N.mark) }
+    requires parameters { core.parameters ≡ N.parameters }
+    requires new { core.past ≡ [] }
+    requires clients { N.parameters.clients ≡ vec_len scripts }
+    requires some { 0 < vec_len scripts }
+    requires ports { vec_len ports ≡ vec_len scripts }
+    requires size { All (λ p. (P.geometry_of p).size ≡ N.parameters.size) ports.items }
+    requires fits { EachScriptFits N.parameters (lists scripts.items) }
+    ensures run { IfOk result (λ run. IsRun N.parameters (lists scripts.items) run.trail.items (lists run.said.items) run.refused.items) }
+    ensures refused { OnErr result ((result ≡ Err Refusal.OutOfMemory) ⊎ (result ≡ Err Refusal.Disagree)) }
+{
+    let Ok(said) = Vec::with_capacity(alloc, scripts.len()) else {
+        return Err(Refusal::OutOfMemory);
+    };
+    let Ok(refused) = Vec::with_capacity(alloc, count_rows(&scripts)) else {
+        return Err(Refusal::OutOfMemory);
+    };
+    let (mark, end, reader) = parts;
+    let (pool, sessions) = match SharedPool::<N>::new(alloc, core, mark, reader) {
+        Ok(made) => made,
+        Err(refusal) => return Err(refusal),
+    };
+    let mut jobs = match make_jobs(alloc, sessions, scripts, ports, LogWriter::new(end)) {
+        Ok(jobs) => jobs,
+        Err(refusal) => return Err(refusal),
+    };
+    run_jobs(rt, &pool, jobs.as_mut_slice());
+    let (core, _, _) = pool.finish();
+    joined(core, jobs, said, refused)
+}
+
+/// Runs the clients of one pool, each in a thread of its own: client c runs `scripts[c]` over `ports[c]`, and gives back what it
+/// holds at the end. Client 0 has the log: a log row raises the durable mark.
+///
+/// It takes 1 to 64 scripts and as many ports, whose pages are those of the configuration. A script has rows of its own client, of
+/// pages of the file and of bytes within a page, and log rows stand in script 0 alone.
+///
+/// At `Ok` the trail is one legal history, each client's list is the trail's entries of that client and follows its script, and no
+/// mark is ahead of the log rows of client 0. `BadSettings` where the frames are not 1 to 65,536 or the room not 1 to 16,777,216,
+/// before any thread starts. `OutOfMemory` where memory is wanted outside a row. `Disagree` where a client was given what the pool
+/// did not know, or what it saw is not what the trail has of it. Threads have ended at every return.
+pub fn run_clients<P: Port + Send, R: Threads + Wait + Sync>(
+    rt: &R,
+    alloc: Global,
+    config: Config,
+    scripts: Vec<Vec<Row>>,
+    ports: Vec<P>,
+) -> Result<Outcome, Refusal>
+    requires clients { (0 < vec_len scripts) × (vec_len scripts ≤ 64) }
+    requires ports { vec_len ports ≡ vec_len scripts }
+    requires geometry { All (λ p. P.geometry_of p ≡ config.geometry) ports.items }
+    requires fits { EachScriptFits (run_parameters config (vec_len scripts)) (lists scripts.items) }
+    ensures legal { IfOk result (λ run. Legal (run_parameters config (vec_len scripts)) (reverse run.trail.items)) }
+    ensures said { IfOk result (λ run. SaidIsTheirs (vec_len scripts) run.trail.items (lists run.said.items)) }
+    ensures follows { IfOk result (λ run. EachFollows (lists scripts.items) (lists run.said.items) run.refused.items) }
+    ensures known { IfOk result (λ run. NoneIsStrange run.refused.items) }
+    ensures within_log { IfOk result (λ run. MarksWithinLog (list_of 0 (lists scripts.items)) run.trail.items) }
+    ensures answers { RunAnswers (run_parameters config (vec_len scripts)) result }
+{
+    let clients = scripts.len() as u8;
+    let core = match Core::new(
+        alloc,
+        config.geometry,
+        config.settings,
+        config.frames,
+        clients,
+        config.room,
+    ) {
+        Ok(core) => core,
+        Err(refusal) => return Err(refusal),
+    };
+    let parts = match Mark::new(alloc) {
+        Ok(parts) => parts,
+        Err(refusal) => return Err(refusal),
+    };
+    run_named::<Brand, P, R>(rt, alloc, core, parts, scripts, ports)
+}

@@ -1,0 +1,293 @@
+//! What one client's thread acts with, and what each step of a script does.
+ghost use Rattle.std.specs.Prelude.{◌≡◌, ◌+◌, ◌≤◌, ◌<◌, OnOk, OnErr, IsTrue, ◌∷◌, length};
+ghost use Rattle.bp_trail.specs.declared.entries.Call.TheVariants as Call;
+ghost use Rattle.bp_trail.specs.declared.entries.Reply.TheVariants as Reply;
+ghost use Rattle.bp_trail.specs.declared.scripts.Step.TheVariants as Step;
+ghost use Rattle.bp_trail.specs.Fits.{StepFits};
+ghost use Rattle.bp_trail.specs.Pieces.{outcome_of};
+ghost use Rattle.bp_trail.specs.Script.{GivesBack, give_back, latest_pass};
+ghost use Rattle.bp_clients.specs.Steps.{as_fault, StepSaid};
+
+use bp_core::{Entry, PassNote, Step};
+use bp_device::{Port, latest_pass, next_to_go_back};
+use bp_mark::LogEnd;
+use bp_page::{Bytes, Lsn, PageNo, Refusal};
+use bp_shared::{PoolName, Session, SharedPool};
+use std::marker::{Model, PhantomData};
+use std::sync::Wait;
+
+/// The log end of the pool's mark.
+#[derive(Drop)]
+pub(crate) struct LogWriter<N: PoolName> {
+    end: LogEnd,
+    of: PhantomData<N>,
+    ghost mark_is: { end.mark ≡ N.mark },
+}
+
+impl<N: PoolName> LogWriter<N> {
+    /// The writer over this log end.
+    pub(crate) fn new(end: LogEnd) -> LogWriter<N>
+        requires mark { end.mark ≡ N.mark }
+    {
+        LogWriter {
+            end,
+            of: PhantomData,
+        }
+    }
+
+    /// Says that the log is durable so far.
+    fn raise(&mut self, pool: &SharedPool<N>, lsn: Lsn) {
+        self.end.raise(pool.mark(), lsn);
+    }
+}
+
+/// What one client's thread acts with: its session, its way to the device, and for client 0 the log.
+#[derive(Drop)]
+pub(crate) struct Runner<N: PoolName, P: Port> {
+    session: Session<N>,
+    port: P,
+    log: Option<LogWriter<N>>,
+}
+
+impl<N: PoolName, P: Port> Model for Runner<N, P> {
+    ghost use Rattle.std.specs.Prelude.{◌≡◌};
+    ghost use Rattle.bp_shared.specs.Sessions.{SessionValue};
+
+    ghost Value = { SessionValue };
+
+    ghost view = { λ r. r.session };
+
+    ghost invariant = { λ r. (P.geometry_of r.port).size ≡ N.parameters.size };
+}
+
+/// A pass that its client holds and the pool does not know is a fault of the run.
+fn as_fault(refusal: Refusal) -> Refusal
+    ensures { result ≡ as_fault refusal }
+{
+    match refusal {
+        Refusal::UnknownPass => Refusal::Disagree,
+        other => other,
+    }
+}
+
+/// Gives a pass back. Where the ring is full it is emptied first, and `Disagree` is that it is full still, or that the session
+/// does not know the pass.
+fn post<N: PoolName, R: Wait>(
+    rt: &R,
+    pool: &SharedPool<N>,
+    session: &mut Session<N>,
+    note: PassNote,
+) -> Result<(), Refusal>
+    ensures client { session.new.client ≡ session.old.client }
+    ensures posted { OnOk result ((note.client ≡ session.old.client) × (session.new.said ≡ give_back note ∷ session.old.said)) }
+    ensures refused { OnErr result ((result ≡ Err Refusal.Disagree) × (session.new.said ≡ session.old.said)) }
+{
+    match pool.unfix(session, note.pass()) {
+        Ok(()) => Ok(()),
+        Err((pass, _)) => {
+            pool.settle(rt, session);
+            match pool.unfix(session, pass) {
+                Ok(()) => Ok(()),
+                Err((pass, _)) => {
+                    pass.note();
+                    Err(Refusal::Disagree)
+                }
+            }
+        }
+    }
+}
+
+impl<N: PoolName, P: Port> Runner<N, P> {
+    ghost use Rattle.std.specs.Prelude.{◌≡◌, ◌+◌, ◌≤◌, ◌<◌, IsTrue, length, reverse};
+
+    pub(crate) fn new(session: Session<N>, port: P, log: Option<LogWriter<N>>) -> Runner<N, P>
+        requires port { (P.geometry_of port).size ≡ N.parameters.size }
+        ensures { result ≡ session }
+    {
+        Runner { session, port, log }
+    }
+
+    /// Whose it is.
+    pub(crate) fn client(&self) -> u8
+        ensures { result ≡ self.now.client }
+    {
+        self.session.client()
+    }
+
+    /// How many entries the client's list has.
+    pub(crate) fn count(&self) -> usize
+        ensures { result ≡ length self.now.said }
+    {
+        self.session.said().len()
+    }
+
+    /// Gives the client's list, the oldest entry first.
+    pub(crate) fn into_said(self) -> Vec<Entry>
+        ensures { reverse result.items ≡ self.said }
+    {
+        let Runner {
+            session,
+            port: _,
+            log: _,
+        } = self;
+        session.into_said()
+    }
+
+    fn fix<R: Wait>(&mut self, rt: &R, pool: &SharedPool<N>, page: PageNo) -> Result<(), Refusal>
+        requires page_in { page < N.parameters.pages }
+        ensures client { self.new.client ≡ self.old.client }
+        ensures outcome { StepSaid self.old.client (Step.Fix page) (outcome_of result) self.old.said self.new.said }
+    {
+        match pool.fix(rt, &mut self.session, &mut self.port, page) {
+            Ok(pass) => {
+                // The session knows which passes it holds.
+                pass.note();
+                Ok(())
+            }
+            Err(refusal) => Err(refusal),
+        }
+    }
+
+    fn flush<R: Wait>(&mut self, rt: &R, pool: &SharedPool<N>, page: PageNo) -> Result<(), Refusal>
+        requires page_in { page < N.parameters.pages }
+        ensures client { self.new.client ≡ self.old.client }
+        ensures outcome { StepSaid self.old.client (Step.Flush page) (outcome_of result) self.old.said self.new.said }
+    {
+        match pool.flush(rt, &mut self.session, &mut self.port, page) {
+            Ok(_) => Ok(()),
+            Err(refusal) => Err(refusal),
+        }
+    }
+
+    /// The pass of the page that the client took latest and still holds.
+    fn latest(&self, page: PageNo) -> Option<PassNote>
+        ensures { result ≡ latest_pass self.now.said self.now.client page }
+    {
+        latest_pass(self.session.held(), self.session.client(), page)
+    }
+
+    /// `Disagree` where the pool does not know a pass that the client holds.
+    fn read<R: Wait>(&mut self, rt: &R, pool: &SharedPool<N>, page: PageNo) -> Result<(), Refusal>
+        ensures client { self.new.client ≡ self.old.client }
+        ensures outcome { StepSaid self.old.client (Step.Read page) (outcome_of result) self.old.said self.new.said }
+    {
+        let Some(note) = self.latest(page) else {
+            return Err(Refusal::UnknownPass);
+        };
+        let pass = note.pass();
+        let read = pool.read(rt, &mut self.session, &pass);
+        pass.note();
+        let _image = match read {
+            Ok(image) => image,
+            Err(refusal) => return Err(as_fault(refusal)),
+        };
+        Ok(())
+    }
+
+    /// `Disagree` where the pool does not know a pass that the client holds.
+    fn write<R: Wait>(
+        &mut self,
+        rt: &R,
+        pool: &SharedPool<N>,
+        page: PageNo,
+        offset: u32,
+        bytes: &Bytes,
+        lsn: Lsn,
+    ) -> Result<(), Refusal>
+        requires fits { offset + length bytes.now ≤ N.parameters.size }
+        ensures client { self.new.client ≡ self.old.client }
+        ensures outcome { StepSaid self.old.client (Step.Write page offset bytes.now lsn) (outcome_of result) self.old.said self.new.said }
+    {
+        let Some(note) = self.latest(page) else {
+            return Err(Refusal::UnknownPass);
+        };
+        let pass = note.pass();
+        let written = pool.write(rt, &mut self.session, &pass, offset, bytes, lsn);
+        pass.note();
+        match written {
+            Ok(()) => Ok(()),
+            Err(refusal) => Err(as_fault(refusal)),
+        }
+    }
+
+    fn unfix<R: Wait>(&mut self, rt: &R, pool: &SharedPool<N>, page: PageNo) -> Result<(), Refusal>
+        ensures client { self.new.client ≡ self.old.client }
+        ensures outcome { StepSaid self.old.client (Step.Unfix page) (outcome_of result) self.old.said self.new.said }
+    {
+        let Some(note) = self.latest(page) else {
+            return Err(Refusal::UnknownPass);
+        };
+        post(rt, pool, &mut self.session, note)
+    }
+
+    fn tick<R: Wait>(&mut self, rt: &R, pool: &SharedPool<N>, n: u64) -> Result<(), Refusal>
+        ensures client { self.new.client ≡ self.old.client }
+        ensures outcome { StepSaid self.old.client (Step.Tick n) (outcome_of result) self.old.said self.new.said }
+    {
+        pool.tick(rt, &mut self.session, n)
+    }
+
+    fn purge<R: Wait>(&mut self, rt: &R, pool: &SharedPool<N>) -> Result<(), Refusal>
+        ensures client { self.new.client ≡ self.old.client }
+        ensures outcome { StepSaid self.old.client Step.Purge (outcome_of result) self.old.said self.new.said }
+    {
+        match pool.purge(rt, &mut self.session) {
+            Ok(_) => Ok(()),
+            Err(refusal) => Err(refusal),
+        }
+    }
+
+    /// Raises the mark. Only client 0 has the log.
+    fn log(&mut self, pool: &SharedPool<N>, lsn: Lsn) -> Result<(), Refusal>
+        ensures client { self.new.client ≡ self.old.client }
+        ensures outcome { StepSaid self.old.client (Step.Log lsn) (outcome_of result) self.old.said self.new.said }
+    {
+        if let Some(log) = &mut self.log {
+            log.raise(pool, lsn);
+        }
+        Ok(())
+    }
+
+    /// Does what a step asks for. `UnknownTicket` and `Disagree` are that the pool does not know what it gave: then the run is at
+    /// fault. Every other refusal is the row's.
+    pub(crate) fn step<R: Wait>(
+        &mut self,
+        rt: &R,
+        pool: &SharedPool<N>,
+        step: &Step,
+    ) -> Result<(), Refusal>
+        requires fits { StepFits N.parameters step.now }
+        ensures client { self.new.client ≡ self.old.client }
+        ensures outcome { StepSaid self.old.client step.now (outcome_of result) self.old.said self.new.said }
+    {
+        match step {
+            Step::Fix(page) => self.fix(rt, pool, *page),
+            Step::Unfix(page) => self.unfix(rt, pool, *page),
+            Step::Read(page) => self.read(rt, pool, *page),
+            Step::Write {
+                page,
+                offset,
+                bytes,
+                lsn,
+            } => self.write(rt, pool, *page, *offset, bytes, *lsn),
+            Step::Flush(page) => self.flush(rt, pool, *page),
+            Step::Tick(n) => self.tick(rt, pool, *n),
+            Step::Purge => self.purge(rt, pool),
+            Step::Log(lsn) => self.log(pool, *lsn),
+        }
+    }
+
+    /// Gives back all passes that are held, in the order taken. Whether it could.
+    pub(crate) fn give_back_all<R: Wait>(&mut self, rt: &R, pool: &SharedPool<N>) -> bool
+        ensures client { self.new.client ≡ self.old.client }
+        ensures back { IsTrue result → GivesBack self.old.said self.new.said }
+    {
+        while let Some(note) = next_to_go_back(self.session.held()) {
+            match post(rt, pool, &mut self.session, note) {
+                Ok(()) => {}
+                Err(_) => return false,
+            }
+        }
+        true
+    }
+}
