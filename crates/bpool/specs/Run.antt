@@ -34,17 +34,17 @@ abbrev pub ports_for : Order → ℕ
 ports_for order.Trace = 1
 ports_for order.Free = 64
 
--- what the core of a run is made with, over a page file of this geometry, for these rows
-abbrev pub parameters_for : Told → Geometry → List Row → Parameters
-parameters_for told g rows = record {
+-- what the core of a run in this order is made with, over a page file of this geometry, for these rows
+abbrev pub parameters_for : Order → Told → Geometry → List Row → Parameters
+parameters_for in_order told g rows = record {
   frames = told.frames;
   k = told.k;
   correlated = told.correlated;
   retained = told.retained;
   pages = g.pages;
   size = g.size;
-  clients = clients_for told.order rows;
-  room = room_for told.order (length rows);
+  clients = clients_for in_order rows;
+  room = room_for in_order (length rows);
 }
 
 -- what was written is the report of a legal trail and of refused rows, both of which follow the script
@@ -82,7 +82,7 @@ pub record Runs (told : Told) (bytes : Option (List ℕ)) (all_accepted : Bool) 
   pub size : geometry.size ≡ told.size
   pub rows : List Row
   pub read : AreRead told.trace geometry bytes rows
-  pub reports : ReportsIn told.order (parameters_for told geometry rows) rows all_accepted old new
+  pub reports : ReportsIn told.order (parameters_for told.order told geometry rows) rows all_accepted old new
 
 -- what was written is the report of such a run, with what the words name; the status is 0 where all rows were accepted, else 1
 pub record RunsWords (words : List Text) (bytes : Option (List ℕ)) (status : ℕ) (old new : Option (List ℕ)) : Type 0 where

@@ -27,8 +27,7 @@ use std::thread::Threads;
 /// What the pool of a run in free order is made with.
 fn config_of(run: &RunWords<'_>, geometry: Geometry, rows: &[Row]) -> Config
     requires runnable { IsRunnable (told_of run.now) }
-    requires order { run.now.order ≡ Order.Free }
-    ensures parameters { run_parameters result (clients_of rows.now) ≡ parameters_for (told_of run.now) geometry rows.now }
+    ensures parameters { run_parameters result (clients_of rows.now) ≡ parameters_for Order.Free (told_of run.now) geometry rows.now }
     ensures geometry { result.geometry ≡ geometry }
 {
     let settings = Settings::new(run.k, run.correlated, run.retained).unwrap();
@@ -79,11 +78,10 @@ pub(crate) fn run_free<P: Port + Send, R: Threads + Wait + Sync, W: Write>(
     out: &mut W,
 ) -> Result<bool, Ending>
     requires runnable { IsRunnable (told_of run.now) }
-    requires order { run.now.order ≡ Order.Free }
     requires ports { vec_len ports ≡ 64 }
     requires alike { All (λ p. P.geometry_of p ≡ geometry) ports.items }
     requires fits { All (IsInRange geometry) rows.items }
-    ensures reported { IfOk result (λ all_accepted. ReportsFree (parameters_for (told_of run.now) geometry rows.items) (scripts_of rows.items) all_accepted (W.contents out.old) (W.contents out.new)) }
+    ensures reported { IfOk result (λ all_accepted. ReportsFree (parameters_for Order.Free (told_of run.now) geometry rows.items) (scripts_of rows.items) all_accepted (W.contents out.old) (W.contents out.new)) }
     ensures fault { IfErr result (λ ending. is_help ending ≡ false) }
 {
     let config = config_of(run, geometry, &rows);

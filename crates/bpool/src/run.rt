@@ -79,8 +79,7 @@ fn new_core(
     rows: &[Row],
 ) -> Result<Core, Ending>
     requires runnable { IsRunnable (told_of run.now) }
-    requires order { run.now.order ≡ Order.Trace }
-    ensures made { IfOk result (λ core. (core.parameters ≡ parameters_for (told_of run.now) geometry rows.now) × (core.past ≡ [])) }
+    ensures made { IfOk result (λ core. (core.parameters ≡ parameters_for Order.Trace (told_of run.now) geometry rows.now) × (core.past ≡ [])) }
     ensures fault { IfErr result (λ ending. is_help ending ≡ false) }
 {
     let settings = Settings::new(run.k, run.correlated, run.retained).unwrap();
@@ -95,8 +94,8 @@ fn new_core(
     core.map_err(Ending::RunRefused)
 }
 
-/// Runs the rows in their order over a new core and the port, and writes the report and the refused rows. Answers whether all rows were
-/// accepted.
+/// Runs the rows in the order of the trace over a new core and the port, and writes the report and the refused rows. Answers
+/// whether all rows were accepted.
 fn run_rows<P: Port, R: Wait, W: Write>(
     rt: &R,
     alloc: Global,
@@ -106,9 +105,8 @@ fn run_rows<P: Port, R: Wait, W: Write>(
     out: &mut W,
 ) -> Result<bool, Ending>
     requires runnable { IsRunnable (told_of run.now) }
-    requires order { run.now.order ≡ Order.Trace }
     requires fits { All (IsInRange (P.geometry_of port.old)) rows.now }
-    ensures reported { IfOk result (λ all_accepted. Reports (parameters_for (told_of run.now) (P.geometry_of port.old) rows.now) rows.now all_accepted (W.contents out.old) (W.contents out.new)) }
+    ensures reported { IfOk result (λ all_accepted. Reports (parameters_for Order.Trace (told_of run.now) (P.geometry_of port.old) rows.now) rows.now all_accepted (W.contents out.old) (W.contents out.new)) }
     ensures fault { IfErr result (λ ending. is_help ending ≡ false) }
 {
     let mut core = match new_core(alloc, run, port.geometry(), rows) {
@@ -204,7 +202,7 @@ fn run_in_order<P: Port + Send, R: Threads + Wait + Sync, W: Write>(
     requires ports { vec_len ports ≡ ports_for run.now.order }
     requires alike { All (λ p. P.geometry_of p ≡ geometry) ports.items }
     requires fits { All (IsInRange geometry) rows.items }
-    ensures reported { IfOk result (λ all_accepted. ReportsIn run.now.order (parameters_for (told_of run.now) geometry rows.items) rows.items all_accepted (W.contents out.old) (W.contents out.new)) }
+    ensures reported { IfOk result (λ all_accepted. ReportsIn run.now.order (parameters_for run.now.order (told_of run.now) geometry rows.items) rows.items all_accepted (W.contents out.old) (W.contents out.new)) }
     ensures fault { IfErr result (λ ending. is_help ending ≡ false) }
 {
     let mut ports = ports;
