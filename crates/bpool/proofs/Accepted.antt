@@ -1,5 +1,5 @@
 -- Words in which clap finds no fault name a run.
-use Rattle.std.proofs.Common.{◌≡◌, ◌∙◌, ℕ, ◌≤◌, ◌^◌, ◌&&◌, ◌||◌, ◌⊎◌, inl, inr, not, nat_le, nat_lt, if◌then◌else◌, cond, true, false, Bool, codes, ap, refl, sym, subst, List, [], ◌∷◌, Option, Some, None, IsSome, is_some, option_map}
+use Rattle.std.proofs.Common.{◌≡◌, ◌∙◌, ℕ, ◌≤◌, ◌^◌, ◌&&◌, ◌||◌, ◌⊎◌, inl, inr, not, nat_le, nat_lt, if◌then◌else◌, cond, true, false, Bool, codes, ap, ap₂, refl, sym, subst, List, [], ◌∷◌, Option, Some, None, is_some, option_map}
 use Rattle.std.proofs.lemmas.Slice.Eq.{bytes_eq-Decides}
 use Rattle.std.proofs.lemmas.Bool.{leb-true}
 use Rattle.std.specs.List.{filter, find, list_any}
@@ -7,19 +7,22 @@ use Rattle.std.specs.Option.{option_map_or}
 use Rattle.std.specs.Str.{bytes_eq}
 use Rattle.std.specs.Str.Parse.{digits_value, without_leading_plus}
 use Rattle.clap.specs.Facts.{explicit_source}
-use Rattle.clap.specs.Kinds.{Kinds}
+use Rattle.clap.specs.Kinds.{HasKind, IsAmong, Kinds, or_else}
 use Rattle.clap.specs.Faults.{check_fault, defaults_fault, entered_fault, fault_of, level_fault, settle_fault, walk_fault}
 use Rattle.clap.specs.declared.parser.matches.ArgMatches.{ArgMatches}
 use Rattle.clap.specs.Simple.{App, HasMatchesOf, Shape, is_simple, subcommand_rows_of, built, built_leaf, entered, inherited, marked_built, names_of, on_top, rows_at, subcommand_of, with_index, with_leaf_noted, filled as filled_rule, help_shape}
 use Rattle.clap.specs.Takes.{is_given, value_passes}
 use Rattle.clap.specs.ValueTests.{is_numeral}
-use Rattle.clap.specs.Values.{read_as}
+use Rattle.clap.specs.Values.{kind_of, read_as}
 use Rattle.clap.specs.Walk.{Row, Rule, Text, answers_to, finished, first_of, has_row, is_empty, nothing_held, one_of, reading_by, settled, stop_after, walk, walk_from}
 use Rattle.clap.specs.declared.builder.value_parser.ValueParser.TheVariants as parser
-use Rattle.clap.specs.declared.error.kind.ErrorKind.TheVariants.{MissingRequiredArgument}
+use Rattle.clap.specs.declared.error.Error.{Error}
+use Rattle.clap.specs.declared.error.kind.ErrorKind.{ErrorKind}
+use Rattle.clap.specs.declared.error.kind.ErrorKind.TheVariants.{InvalidValue, MissingRequiredArgument}
 use Rattle.clap.proofs.WalkLemmas.{both}
 use Rattle.bpool.specs.Command.{bpool_app, number_option, positional as positional_rule, run_shape}
-use Rattle.bpool.specs.Words.{IsInLimits, Told, number_at, told_by, told_by_rows, told_in, trace_of}
+use Rattle.bpool.specs.declared.words.Order.{Order}
+use Rattle.bpool.specs.Words.{IsInLimits, Told, ◌>>=◌, fault_in, number_at, order_at, order_fault, told_by, told_by_rows, told_in, trace_of}
 use Rattle.bpool.proofs.Entering.{NotHelp, walk_not_help}
 use Rattle.bpool.proofs.Fits.{AllFit, Fits, IsOf, or_else-nil}
 use Rattle.bpool.proofs.Level.{IsFilled, has_default, level_filled}
@@ -133,18 +136,28 @@ both_given true true e = (refl, refl)
 both_given true false e = cc
 both_given false h e = cc
 
-pub rows_told : (rows : List Row) → IsFilled run_built rows → (told : Told) × (told_by_rows rows ≡ Some told) × IsInLimits told
-rows_told rows filled = (
-  record { trace = trace_of trace.word; page_file = pages.word; frames = frames.number; k = k.number; correlated = correlated.number; retained = retained.number; size = size.number },
-  rw (trace.as_text, pages.as_text, frames.is, k.is, correlated.is, retained.is, size.is) refl,
-  record {
+-- what the rows tell a run in either order
+record Tells (rows : List Row) : Type 0 where
+  told : Order → Told
+  tells : told_by_rows rows ≡ option_map told (order_at rows)
+  limits : (order : Order) → IsInLimits (told order)
+
+last_bound : {A B : Type 0} (f : A → B) (o : Option A) → (o >>= λ x. Some (f x)) ≡ option_map f o
+last_bound f None = refl
+last_bound f (Some x) = refl
+
+rows_tell : (rows : List Row) → IsFilled run_built rows → Tells rows
+rows_tell rows filled = record {
+  told = told_in_order;
+  tells = rw (trace.as_text, pages.as_text, frames.is, k.is, correlated.is, retained.is, size.is) (last_bound told_in_order (order_at rows));
+  limits = λ order. record {
     some_frames = frames.at_least;
     few_frames = frames.at_most;
     settings = record { at_least_one = k.at_least; at_most_sixteen = k.at_most; correlated_fits = correlated.at_most; retained_fits = retained.at_most };
     some_bytes = size.at_least;
     few_bytes = size.at_most;
-  },
-)
+  };
+}
   where
     given : (is_given (codes "trace") rows ≡ true) × (is_given (codes "page-file") rows ≡ true)
     given = both_given (is_given (codes "trace") rows) (is_given (codes "page-file") rows) filled.checked
@@ -174,6 +187,18 @@ rows_told rows filled = (
 
     size : IsNumber (codes "page-size") 16 65536 rows
     size = option_read (codes "page-size") 16 65536 (codes "64") refl refl
+
+    told_in_order : Order → Told
+    told_in_order order = record {
+      trace = trace_of trace.word;
+      page_file = pages.word;
+      frames = frames.number;
+      k = k.number;
+      correlated = correlated.number;
+      retained = retained.number;
+      size = size.number;
+      order = order;
+    }
 
 -- ---- the words
 
@@ -209,14 +234,23 @@ run_entered (Some p) other e fault = go (answers_to p.0 (codes "run", [])) (answ
     go false true is other e fault = cc
     go false false is other e fault = cc
 
-run_tells : (stop : Option (Text × List Text)) (run : IsRun stop) (told : Told)
-    → told_by_rows (finished run_built.rules (walk run_built.rules [] nothing_held run.words).held) ≡ Some told → told_in (entered (built bpool_app) stop) ≡ Some told
-run_tells stop run told tells =
-    let met : told_in (entered (built bpool_app) stop) ≡ told_in (Some (rows_at run_built run.words)) = ap told_in run.met in
-    met ∙ tells
+-- what words in which clap finds no fault tell a run in the order that they name, if they name one
+record IsAccepted (words : List Text) : Type 0 where
+  order : Option Order
+  told : Order → Told
+  tells : told_in (subcommand_of bpool_app words) ≡ option_map told order
+  limits : (o : Order) → IsInLimits (told o)
+  fault : order_fault (subcommand_of bpool_app words) ≡ (if is_some order then [] else InvalidValue ∷ [])
+
+run_tells : (words : List Text) (run : IsRun (stop_after (built bpool_app).top.rules (names_of (built bpool_app)) words))
+    → Tells (finished run_built.rules (walk run_built.rules [] nothing_held run.words).held) → IsAccepted words
+run_tells words run told =
+    let met : told_in (subcommand_of bpool_app words) ≡ told_in (Some (rows_at run_built run.words)) = ap told_in run.met in
+    let named : order_fault (subcommand_of bpool_app words) ≡ order_fault (Some (rows_at run_built run.words)) = ap order_fault run.met in
+    record { order = order_at (finished run_built.rules (walk run_built.rules [] nothing_held run.words).held); told = told.told; tells = met ∙ told.tells; limits = told.limits; fault = named }
 
 -- words in which clap finds no fault
-pub accepted : (words : List Text) → fault_of bpool_app words ≡ [] → (told : Told) × (told_in (subcommand_of bpool_app words) ≡ Some told) × IsInLimits told
+accepted : (words : List Text) → fault_of bpool_app words ≡ [] → IsAccepted words
 accepted words fault =
     let top = (built bpool_app).top in
     let names = names_of (built bpool_app) in
@@ -228,38 +262,65 @@ accepted words fault =
     let settles = or_else-nil (settle_fault top.rules top.args_override_self end) _ below.1 in
     let filled = or_else-nil (defaults_fault (settled top.rules end).rows top.rules) (check_fault top (finished top.rules end) has) settles.1 in
     let run = run_entered stop (walk_not_help top names (walk_from nothing_held) words refl walked.0 tt) (entered_one (finished top.rules end) has filled.1) below.0 in
-    let told = rows_told _ (level_filled run_built run.words refl run.fault) in
-    (told.0, run_tells stop run told.0 told.1, told.2)
+    run_tells words run (rows_tell _ (level_filled run_built run.words refl run.fault))
 
--- what the matches of such words tell
+-- what the matches of such words tell, where they name an order
 pub record IsTold (words : List Text) (m : ArgMatches) : Type 0 where
   pub told : Told
   pub by_matches : told_in (subcommand_rows_of m) ≡ Some told
   pub by_words : told_by words ≡ Some told
   pub limits : IsInLimits told
-  pub fault : fault_of bpool_app words ≡ []
+  pub fault : fault_in words ≡ []
 
-pub matches_told : (app : App) (words : List Text) (m : ArgMatches) → app ≡ bpool_app → HasMatchesOf app words m → fault_of app words ≡ [] → IsTold words m
-matches_told app words m same matches fault =
-    let none : fault_of bpool_app words ≡ [] = ap (λ (a : App). fault_of a words) (sym same) ∙ fault in
-    let found = accepted words none in
-    let met : subcommand_rows_of m ≡ subcommand_of bpool_app words = (matches (ap is_simple same)).1 ∙ ap (λ (a : App). subcommand_of a words) same in
-    record {
-      told = found.0;
-      by_matches = ap told_in met ∙ found.1;
-      by_words = ap (λ (kinds : Kinds). if is_empty kinds then told_in (subcommand_of bpool_app words) else None) none ∙ found.1;
-      limits = found.2;
-      fault = none;
-    }
+-- and where they name none
+pub record IsUntold (words : List Text) (m : ArgMatches) : Type 0 where
+  pub by_matches : told_in (subcommand_rows_of m) ≡ None
+  pub fault : fault_in words ≡ InvalidValue ∷ []
 
--- a value that is told is there
-pub is_told : {X : Type 0} (told_as : X → Told) (o : Option X) (told : Told) → option_map told_as o ≡ Some told → IsSome o
-is_told told_as None told e = cc
-is_told told_as (Some x) told e = refl
+pub matches_told : (app : App) (words : List Text) (m : ArgMatches) → app ≡ bpool_app → HasMatchesOf app words m → fault_of app words ≡ [] → IsTold words m ⊎ IsUntold words m
+matches_told app words m same matches fault = go found.order found.tells found.fault
+  where
+    none : fault_of bpool_app words ≡ []
+    none = ap (λ (a : App). fault_of a words) (sym same) ∙ fault
 
-pub told_is : {X : Type 0} (told_as : X → Told) (o : Option X) (x : X) (told : Told) → o ≡ Some x → option_map told_as o ≡ Some told → told_as x ≡ told
-told_is told_as None x told is e = cc
-told_is told_as (Some y) x told is e =
-    let same : y ≡ x = cc in
-    let tells : told_as y ≡ told = cc in
-    ap told_as (sym same) ∙ tells
+    found : IsAccepted words
+    found = accepted words none
+
+    met : subcommand_rows_of m ≡ subcommand_of bpool_app words
+    met = (matches (ap is_simple same)).1 ∙ ap (λ (a : App). subcommand_of a words) same
+
+    go : (order : Option Order) → told_in (subcommand_of bpool_app words) ≡ option_map found.told order
+        → order_fault (subcommand_of bpool_app words) ≡ (if is_some order then [] else InvalidValue ∷ []) → IsTold words m ⊎ IsUntold words m
+    go (Some order) tells names =
+        let no_fault : fault_in words ≡ [] = ap₂ or_else none names in
+        inl (record {
+          told = found.told order;
+          by_matches = ap told_in met ∙ tells;
+          by_words = ap (λ (kinds : Kinds). if is_empty kinds then told_in (subcommand_of bpool_app words) else None) no_fault ∙ tells;
+          limits = found.limits order;
+          fault = no_fault;
+        })
+    go None tells names = inr (record { by_matches = ap told_in met ∙ tells; fault = ap₂ or_else none names })
+
+-- a run that is told is that of the words
+pub run_is : {X : Type 0} (told_as : X → Told) (x : X) (words : List Text) (m : ArgMatches) → IsTold words m ⊎ IsUntold words m → Some (told_as x) ≡ told_in (subcommand_rows_of m)
+    → (told_by words ≡ Some (told_as x)) × IsInLimits (told_as x) × (fault_in words ≡ [])
+run_is told_as x words m (inl told) is =
+    let same : told.told ≡ told_as x = (let both : Some (told_as x) ≡ Some told.told = is ∙ told.by_matches in cc) in
+    (told.by_words ∙ ap Some same, subst IsInLimits same told.limits, told.fault)
+run_is told_as x words m (inr untold) is = let bad : Some (told_as x) ≡ None = is ∙ untold.by_matches in cc
+
+-- where none is told the order is at fault
+pub no_order_is : (words : List Text) (m : ArgMatches) (e : Error) → IsTold words m ⊎ IsUntold words m → None ≡ told_in (subcommand_rows_of m) → kind_of e ≡ InvalidValue → HasKind (fault_in words) e
+no_order_is words m e (inl told) is kind = let bad : None ≡ Some told.told = is ∙ told.by_matches in cc
+no_order_is words m e (inr untold) is kind = inr (subst (IsAmong (kind_of e)) (sym untold.fault) (inl kind))
+
+among_either : (kind : ErrorKind) (first next : Kinds) → IsAmong kind first → IsAmong kind (or_else first next)
+among_either kind [] next among = absurd among
+among_either kind (k ∷ ks) next among = among
+
+-- a fault of clap's is one of the words
+pub clap_faults : (app : App) (words : List Text) (e : Error) → app ≡ bpool_app → HasKind (fault_of app words) e → HasKind (fault_in words) e
+clap_faults app words e same (inl memory) = inl memory
+clap_faults app words e same (inr among) =
+    inr (among_either (kind_of e) (fault_of bpool_app words) (order_fault (subcommand_of bpool_app words)) (subst (λ (a : App). IsAmong (kind_of e) (fault_of a words)) same among))

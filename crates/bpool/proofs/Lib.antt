@@ -5,6 +5,9 @@ pub mod Fits
 pub mod Level
 pub mod Messages
 pub mod OneLine
+pub mod Opened
 pub mod Reading
 pub mod Refusals
+pub mod Splitting
+pub mod Threads
 pub mod Walking

@@ -13,6 +13,10 @@ abbrev pub number_option : Text → ℕ → ℕ → Text → Rule
 number_option id low high default =
     record (new_rule id) { long = Some id; value_names = 1; parser = Some (parser.Unsigned low high); defaults = default ∷ [] }
 
+-- an option that takes any word
+abbrev pub word_option : Text → Text → Rule
+word_option id default = record (new_rule id) { long = Some id; value_names = 1; defaults = default ∷ [] }
+
 abbrev pub run_rules : List Rule
 run_rules =
     positional (codes "trace")
@@ -22,6 +26,7 @@ run_rules =
     ∷ number_option (codes "correlated") 0 4611686018427387904 (codes "0")
     ∷ number_option (codes "retained") 0 4611686018427387904 (codes "1000")
     ∷ number_option (codes "page-size") 16 65536 (codes "64")
+    ∷ word_option (codes "order") (codes "trace")
     ∷ []
 
 abbrev pub run_shape : Shape

@@ -1,12 +1,11 @@
 -- What the words of a command line decide.
-use Rattle.std.specs.Prelude.{◌≡◌, ◌≢◌, ℕ, ◌%◌, List, Result, Ok, Err, Some}
+use Rattle.std.specs.Prelude.{◌≡◌, ◌≢◌, ◌%◌, List, Result, Ok, Err, Some}
 use Rattle.clap.specs.Kinds.{IsAmong}
-use Rattle.clap.specs.Words.{Text, fault_of}
+use Rattle.clap.specs.Words.{Text}
 use Rattle.clap.specs.declared.error.kind.ErrorKind.{ErrorKind}
 use Rattle.clap.specs.declared.error.kind.ErrorKind.TheVariants.{DisplayHelp, OutOfMemory as no_memory}
 use Rattle.bp_page.specs.declared.refusals.Refusal.TheVariants.{BadGeometry, OutOfMemory}
-use Rattle.bpool.specs.Command.{bpool_app}
-use Rattle.bpool.specs.Words.{Told, IsInLimits, told_by, told_of}
+use Rattle.bpool.specs.Words.{Told, IsInLimits, fault_in, told_by, told_of}
 use Rattle.bpool.specs.declared.words.RunWords.{RunWords}
 use Rattle.bpool.specs.declared.ending.Ending.{Ending}
 use Rattle.bpool.specs.declared.ending.Ending.TheVariants as ending
@@ -18,10 +17,10 @@ pub record IsRunnable (told : Told) : Type 0 where
 
 -- the words ask for help, or have another fault
 abbrev pub AsksForHelp : List Text → Type 0
-AsksForHelp words = IsAmong DisplayHelp (fault_of bpool_app words)
+AsksForHelp words = IsAmong DisplayHelp (fault_in words)
 
 abbrev pub HasFault : List Text → Type 0
-HasFault words = (kind : ErrorKind) × IsAmong kind (fault_of bpool_app words) × (kind ≢ DisplayHelp)
+HasFault words = (kind : ErrorKind) × IsAmong kind (fault_in words) × (kind ≢ DisplayHelp)
 
 -- what a refusal of this kind by clap comes to, but for want of memory
 abbrev pub IsRefusal : ErrorKind → Ending → Type 0

@@ -6,4 +6,5 @@ pub mod Ending
 pub mod Decision
 pub mod PageFile
 pub mod AnyPort
+pub mod Scripts
 pub mod Run

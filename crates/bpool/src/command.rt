@@ -72,6 +72,24 @@ fn number_option<'a>(
         .help(help)
 }
 
+/// An option that takes a word. That it is one of those that the option knows is looked at later.
+fn word_option<'a>(
+    alloc: Global,
+    id: &'a str,
+    shown: &'a str,
+    default: &'a str,
+    help: &'a str,
+) -> Arg<'a>
+    ensures rule { rule_of result ≡ spec.word_option id.entry.now default.entry.now }
+    ensures local { result.global ≡ false }
+{
+    Arg::new(alloc, id)
+        .long(id)
+        .value_name(shown)
+        .default_value(default)
+        .help(help)
+}
+
 /// The words and options of a run.
 fn run_arguments<'a>(alloc: Global) -> Result<Vec<Arg<'a>>, AllocError>
     ensures rules { IfOk result (λ arguments. map rule_of arguments.items ≡ run_rules) }
@@ -118,6 +136,13 @@ fn run_arguments<'a>(alloc: Global) -> Result<Vec<Arg<'a>>, AllocError>
             page_sizes(),
             "64",
             "Bytes of a page, a multiple of 16 from 16 to 65536"
+        ),
+        word_option(
+            alloc,
+            "order",
+            "ORDER",
+            "trace",
+            "Order of the rows: trace for that of the trace, free for one thread for each client"
         ),
     ]?;
     Ok(arguments)

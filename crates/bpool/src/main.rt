@@ -4,10 +4,12 @@
 mod command;
 mod decision;
 mod ending;
+mod free;
 mod line;
 mod opening;
 mod page_files;
 mod run;
+mod scripts;
 mod words;
 
 use crate::page_files::PageFiles;

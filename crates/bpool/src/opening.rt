@@ -1,9 +1,10 @@
 //! The page files of runs.
 use bp_device::{OpenFault, Port};
+use std::marker::Send;
 
 /// Opens the page files that words name: `mem:N` is N pages of zero bytes in memory, any other word is a path.
 pub trait Ports<R> {
-    type P: Port;
+    type P: Port + Send;
 
     ghost use Rattle.std.specs.Prelude.{◌≡◌, IfOk, map, vec_len};
     ghost use Rattle.bp_page.specs.Limits.{IsGeometry};

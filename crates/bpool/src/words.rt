@@ -1,21 +1,30 @@
 //! What the words of a command line name.
 ghost use Rattle.std.specs.Prelude.{◌≡◌, [], ◌∷◌, option_map, codes, Some, IfOk};
 ghost use Rattle.clap.specs.Walk.{texts};
-ghost use Rattle.clap.specs.Words.{fault_of, first_of, found_of, rows_of, subcommand_rows_of, FailsBy};
-ghost use Rattle.bpool.specs.Command.{bpool_app};
-ghost use Rattle.bpool.specs.Words.{IsInLimits, number_at, told_by, told_by_rows, told_in, told_of, words_or_default, from_stdin, at_path};
+ghost use Rattle.clap.specs.Values.{kind_of};
+ghost use Rattle.clap.specs.Words.{first_of, found_of, rows_of, subcommand_rows_of, FailsBy};
+ghost use Rattle.bpool.specs.Words.{IsInLimits, fault_in, number_at, order_at, order_of, told_by, told_by_rows, told_in, told_of, words_or_default, from_stdin, at_path};
 ghost use Rattle.bpool.specs.Words as spec;
 
 use crate::command::bpool_command;
 use clap::error::ErrorKind;
 use clap::{ArgMatches, Error};
-use std::alloc::Global;
+use std::alloc::{AllocError, Global};
 
 /// Where a run reads its trace.
 #[derive(Clone, Copy, Debug, PartialEq, Eq)]
 pub enum TraceSource<'a> {
     Stdin,
     Path(&'a str),
+}
+
+/// The order in which the rows of a trace are run.
+#[derive(Clone, Copy, Debug, PartialEq, Eq)]
+pub enum Order {
+    /// That of the trace.
+    Trace,
+    /// Any that keeps each client's own: the clients are threads of one pool.
+    Free,
 }
 
 /// What the words of a run name.
@@ -28,6 +37,7 @@ pub struct RunWords<'a> {
     pub correlated: u64,
     pub retained: u64,
     pub page_size: usize,
+    pub order: Order,
 }
 
 fn trace_source<'a>(word: &'a str) -> TraceSource<'a>
@@ -37,6 +47,16 @@ fn trace_source<'a>(word: &'a str) -> TraceSource<'a>
         TraceSource::Stdin
     } else {
         TraceSource::Path(word)
+    }
+}
+
+fn order_of(word: &str) -> Option<Order>
+    ensures { result ≡ order_of word.now }
+{
+    match word {
+        "trace" => Some(Order::Trace),
+        "free" => Some(Order::Free),
+        _ => None,
     }
 }
 
@@ -61,6 +81,14 @@ fn word_at<'a>(matches: &ArgMatches<'a>, id: &str) -> Option<&'a str>
     matches.get_str(id)
 }
 
+/// The order that the matches of a run name.
+fn order_at(matches: &ArgMatches<'_>) -> Option<Order>
+    ensures { result ≡ order_at (rows_of (found_of matches.now)) }
+{
+    let word = word_at(matches, "order")?;
+    order_of(word)
+}
+
 /// What the matches of a run name.
 fn run_words<'a>(matches: &ArgMatches<'a>) -> Option<RunWords<'a>>
     ensures { option_map told_of result ≡ told_by_rows (rows_of (found_of matches.now)) }
@@ -72,6 +100,7 @@ fn run_words<'a>(matches: &ArgMatches<'a>) -> Option<RunWords<'a>>
     let correlated = period_at(matches, "correlated")?;
     let retained = period_at(matches, "retained")?;
     let page_size = count_at(matches, "page-size")?;
+    let order = order_at(matches)?;
     Some(RunWords {
         trace: trace_source(trace),
         page_file,
@@ -80,6 +109,7 @@ fn run_words<'a>(matches: &ArgMatches<'a>) -> Option<RunWords<'a>>
         correlated,
         retained,
         page_size,
+        order,
     })
 }
 
@@ -91,28 +121,49 @@ fn words_in<'a>(matches: &ArgMatches<'a>) -> Option<RunWords<'a>>
     run_words(run)
 }
 
+/// The fault of words that name no order.
+fn no_order(alloc: Global, matches: &ArgMatches<'_>) -> Result<Error, AllocError>
+    ensures { IfOk result (λ e. kind_of e ≡ ErrorKind.InvalidValue) }
+{
+    let word = match matches.subcommand_matches("run") {
+        Some(run) => word_at(run, "order").unwrap_or(""),
+        None => "",
+    };
+    let said = format!(in alloc;
+        "invalid value '{word}' for '--order <ORDER>' [possible values: trace, free]"
+    )?;
+    let mut command = bpool_command(alloc)?;
+    command.error(ErrorKind::InvalidValue, said.as_str())
+}
+
 /// Reads the words of a command line, which leave out the program's name.
 ///
-/// An `Err` is clap's, by the kind of the words' first fault: a mistake, a call for help, or want of memory.
+/// An `Err` is by the kind of the words' first fault: a mistake, a call for help, or want of memory.
 pub fn read_words<'a>(alloc: Global, words: &'a [&'a str]) -> Result<RunWords<'a>, Error>
     ensures told { IfOk result (λ run. told_by (texts words.now) ≡ Some (told_of run)) }
     ensures limits { IfOk result (λ run. IsInLimits (told_of run)) }
-    ensures faults { FailsBy (fault_of bpool_app (texts words.now)) result }
+    ensures faults { FailsBy (fault_in (texts words.now)) result }
 {
     let command = bpool_command(alloc)?;
-    let matches = command.try_get_matches_from(words)?;
-    let run = words_in(&matches).unwrap();
-    Ok(run)
+    let matches = match command.try_get_matches_from(words) {
+        Ok(matches) => matches,
+        Err(error) => return Err(error),
+    };
+    match words_in(&matches) {
+        Some(run) => Ok(run),
+        None => Err(no_order(alloc, &matches)?),
+    }
 }
 
 /// What some words name, as the definition computes.
 pub fn words_by_example()
-    ensures none { told_by (words_or_default []) ≡ Some (record { trace = from_stdin; page_file = codes "mem:16"; frames = 2; k = 1; correlated = 0; retained = 1000; size = 64 }) }
+    ensures none { told_by (words_or_default []) ≡ Some (record { trace = from_stdin; page_file = codes "mem:16"; frames = 2; k = 1; correlated = 0; retained = 1000; size = 64; order = Order.Trace }) }
     ensures defaults { told_by (codes "run" ∷ codes "stdin" ∷ codes "mem:16" ∷ [])
-        ≡ Some (record { trace = from_stdin; page_file = codes "mem:16"; frames = 8; k = 2; correlated = 0; retained = 1000; size = 64 }) }
-    ensures all { told_by (codes "run" ∷ codes "--k" ∷ codes "16" ∷ codes "--correlated=4611686018427387904" ∷ codes "t.csv" ∷ codes "--retained" ∷ codes "0" ∷ codes "--frames" ∷ codes "65536" ∷ codes "mem:" ∷ codes "--page-size=16" ∷ [])
-        ≡ Some (record { trace = at_path (codes "t.csv"); page_file = codes "mem:"; frames = 65536; k = 16; correlated = 4611686018427387904; retained = 0; size = 16 }) }
-    ensures out_of_range { fault_of bpool_app (codes "run" ∷ codes "stdin" ∷ codes "mem:16" ∷ codes "--k" ∷ codes "17" ∷ []) ≡ ErrorKind.ValueValidation ∷ [] }
-    ensures unknown { fault_of bpool_app (codes "run" ∷ codes "stdin" ∷ codes "mem:16" ∷ codes "--order" ∷ codes "free" ∷ []) ≡ ErrorKind.UnknownArgument ∷ [] }
-    ensures help { fault_of bpool_app (codes "run" ∷ codes "--help" ∷ []) ≡ ErrorKind.DisplayHelp ∷ [] }
+        ≡ Some (record { trace = from_stdin; page_file = codes "mem:16"; frames = 8; k = 2; correlated = 0; retained = 1000; size = 64; order = Order.Trace }) }
+    ensures all { told_by (codes "run" ∷ codes "--k" ∷ codes "16" ∷ codes "--correlated=4611686018427387904" ∷ codes "t.csv" ∷ codes "--retained" ∷ codes "0" ∷ codes "--frames" ∷ codes "65536" ∷ codes "mem:" ∷ codes "--page-size=16" ∷ codes "--order" ∷ codes "free" ∷ [])
+        ≡ Some (record { trace = at_path (codes "t.csv"); page_file = codes "mem:"; frames = 65536; k = 16; correlated = 4611686018427387904; retained = 0; size = 16; order = Order.Free }) }
+    ensures out_of_range { fault_in (codes "run" ∷ codes "stdin" ∷ codes "mem:16" ∷ codes "--k" ∷ codes "17" ∷ []) ≡ ErrorKind.ValueValidation ∷ [] }
+    ensures unknown { fault_in (codes "run" ∷ codes "stdin" ∷ codes "mem:16" ∷ codes "--seed" ∷ codes "1" ∷ []) ≡ ErrorKind.UnknownArgument ∷ [] }
+    ensures no_order { fault_in (codes "run" ∷ codes "stdin" ∷ codes "mem:16" ∷ codes "--order" ∷ codes "Free" ∷ []) ≡ ErrorKind.InvalidValue ∷ [] }
+    ensures help { fault_in (codes "run" ∷ codes "--help" ∷ []) ≡ ErrorKind.DisplayHelp ∷ [] }
 {}

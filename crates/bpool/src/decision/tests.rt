@@ -1,6 +1,6 @@
 use super::decide;
 use crate::ending::Ending;
-use crate::words::TraceSource;
+use crate::words::{Order, TraceSource};
 use bp_page::Refusal;
 use bp_trace::TraceFault;
 use std::alloc::Global;
@@ -73,6 +73,24 @@ fn words_that_are_run(rt: HostRuntime) -> Result<(), Fail> {
 }
 
 #[test]
+fn orders_that_are_run(rt: HostRuntime) -> Result<(), Fail> {
+    let alloc = rt.alloc();
+    let rows = [
+        ("run stdin mem:16", Order::Trace),
+        ("run stdin mem:16 --order trace", Order::Trace),
+        ("run --order=free stdin mem:16", Order::Free),
+    ];
+    for (line, order) in rows {
+        let words: Vec<&str> = line.split_ascii_whitespace().collect(alloc)?;
+        let Ok(run) = decide(alloc, words.as_slice()) else {
+            return Err(Fail::from("the words are refused"));
+        };
+        assert!(rt; run.order == order, "{line}");
+    }
+    Ok(())
+}
+
+#[test]
 fn words_that_are_not_run(rt: HostRuntime) -> Result<(), Fail> {
     let rows = [
         // the words
@@ -89,8 +107,8 @@ fn words_that_are_not_run(rt: HostRuntime) -> Result<(), Fail> {
             "error: unexpected argument 'more' found",
         ),
         (
-            "run stdin mem:16 --order free",
-            "error: unexpected argument '--order' found",
+            "run stdin mem:16 --seed 1",
+            "error: unexpected argument '--seed' found",
         ),
         (
             "run stdin mem:16 --retained -1",
@@ -146,6 +164,18 @@ fn words_that_are_not_run(rt: HostRuntime) -> Result<(), Fail> {
             "run stdin mem:16 --page-size 65537",
             "error: invalid value '65537' for '--page-size <N>': 65537 is not in 16..=65536",
         ),
+        (
+            "run stdin mem:16 --order",
+            "error: a value is required for '--order <ORDER>' but none was supplied",
+        ),
+        (
+            "run stdin mem:16 --order Free",
+            "error: invalid value 'Free' for '--order <ORDER>' [possible values: trace, free]",
+        ),
+        (
+            "run stdin mem:16 --page-size 17 --order both",
+            "error: invalid value 'both' for '--order <ORDER>' [possible values: trace, free]",
+        ),
         // a page size that no page file has
         ("run stdin mem:16 --page-size 17", "page file refused 1"),
         ("run t.csv pages --page-size 65535", "page file refused 1"),
@@ -191,6 +221,7 @@ fn help_of_a_run(rt: HostRuntime) -> Result<(), Fail> {
         "      --correlated <N>  Correlated reference period in ticks, from 0 to 2^62 [default: 0]\n",
         "      --retained <N>    Retained information period in ticks, from 0 to 2^62 [default: 1000]\n",
         "      --page-size <N>   Bytes of a page, a multiple of 16 from 16 to 65536 [default: 64]\n",
+        "      --order <ORDER>   Order of the rows: trace for that of the trace, free for one thread for each client [default: trace]\n",
         "Status 0: all rows were accepted. Status 1: some row was refused; ",
     ];
     for line in ["help run", "run --help", "run stdin mem:0 --k 16 --help"] {

@@ -3,10 +3,12 @@ use crate::page_files::PageFiles;
 use std::alloc::Global;
 use std::fs::File;
 use std::io::{Read, Write};
+use std::marker::Sync;
 use std::process::Abort;
 use std::rt::{Files, Runtime};
 use std::sync::Wait;
 use std::test::*;
+use std::thread::Threads;
 use std::{fs, io};
 
 /// What a run of the program leaves.
@@ -18,7 +20,7 @@ struct Ran {
 }
 
 fn run(
-    rt: &(impl Runtime<A = Global> + Files<File = File> + Wait),
+    rt: &(impl Runtime<A = Global> + Files<File = File> + Threads + Wait + Sync),
     line: &str,
     trace: &[u8],
 ) -> Result<Ran, Fail> {
@@ -42,7 +44,7 @@ fn run(
 
 /// Asserts the status, the report and what is said of faults.
 fn expect_run(
-    rt: &(impl Runtime<A = Global> + Files<File = File> + Wait + Abort),
+    rt: &(impl Runtime<A = Global> + Files<File = File> + Threads + Wait + Sync + Abort),
     line: &str,
     trace: &[u8],
     status: u8,
@@ -161,14 +163,13 @@ const AHEAD: &[u8] =
 fn write_ahead_rule(rt: HostRuntime) -> Result<(), Fail> {
     let report =
         "out 2 1\nevict 2 1\nevict 3 2\nread 0 1 ff000000000000000000000000000000\nhits 0\nfaults 3\nevictions 2\nwrites 1\nfailed 0\nrefused 1\nrow 6 refused 12\n";
-    expect_run(
-        &rt,
+    for line in [
         "run stdin mem:16 --page-size 16 --frames 1 --k 1",
-        AHEAD,
-        1,
-        report,
-        "",
-    )
+        "run stdin mem:16 --page-size 16 --frames 1 --k 1 --order free",
+    ] {
+        expect_run(&rt, line, AHEAD, 1, report, "")?;
+    }
+    Ok(())
 }
 
 #[test]
@@ -176,14 +177,30 @@ fn flush_from_a_trace(rt: HostRuntime) -> Result<(), Fail> {
     let trace =
         b"0,fix,1,,,\n0,write,1,0,07,0\n0,flush,1,,,\n0,flush,1,,,\n0,unfix,1,,,\n0,purge,,,,\n";
     let report = "out 1 1\nhits 0\nfaults 1\nevictions 0\nwrites 1\nfailed 0\nrefused 0\n";
-    expect_run(
-        &rt,
+    for line in [
         "run stdin mem:16 --page-size 16",
-        trace.as_slice(),
-        0,
-        report,
-        "",
-    )
+        "run stdin mem:16 --page-size 16 --order free",
+    ] {
+        expect_run(&rt, line, trace.as_slice(), 0, report, "")?;
+    }
+    Ok(())
+}
+
+#[test]
+fn two_clients_in_free_order(rt: HostRuntime) -> Result<(), Fail> {
+    // Each has a page and a frame of its own, so no schedule shows.
+    let trace = b"0,fix,0,,,\n1,fix,1,,,\n1,unfix,0,,,\n0,unfix,0,,,\n1,unfix,1,,,\n";
+    let report = "hits 0\nfaults 2\nevictions 0\nwrites 0\nfailed 0\nrefused 0\nrow 3 refused 14\n";
+    let line = "run stdin mem:16 --order free";
+    expect_run(&rt, line, trace.as_slice(), 1, report, "")
+}
+
+#[test]
+fn fewest_and_most_clients_in_free_order(rt: HostRuntime) -> Result<(), Fail> {
+    let line = "run stdin mem:16 --order free";
+    expect_run(&rt, line, b"".as_slice(), 0, NO_EVENTS, "")?;
+    let one_fault = "hits 0\nfaults 1\nevictions 0\nwrites 0\nfailed 0\nrefused 0\n";
+    expect_run(&rt, line, b"63,fix,1,,,\n".as_slice(), 0, one_fault, "")
 }
 
 #[test]
@@ -368,7 +385,8 @@ fn faults_of_the_command_line(rt: HostRuntime) -> Result<(), Fail> {
         "run stdin mem:16 --frames 0",
         "run stdin mem:16 --page-size 15",
         "run stdin mem:16 --page-size 65552",
-        "run stdin mem:16 --order trace",
+        "run stdin mem:16 --order both",
+        "run stdin mem:16 --order",
         "walk",
     ] {
         let ran = run(&rt, line, b"0,fix,1,,,\n".as_slice())?;

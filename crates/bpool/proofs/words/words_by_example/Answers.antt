@@ -22,6 +22,10 @@ pub returns-clause-unknown : goal.returns-clause-unknown
 unfolding clap_on_literals
 returns-clause-unknown c = refl
 
+pub returns-clause-no_order : goal.returns-clause-no_order
+unfolding clap_on_literals
+returns-clause-no_order c = refl
+
 pub returns-clause-help : goal.returns-clause-help
 unfolding clap_on_literals
 returns-clause-help c = refl
