@@ -1,12 +1,11 @@
 -- A list that is compared, element by element, with what a longer one gives. Here `give` is what a list gives, part by part.
-use Rattle.std.proofs.Common.{◌≡◌, ◌≢◌, ℕ, zero, suc, ◌+◌, ◌<◌, ◌≤◌, List, [], ◌∷◌, ◌++◌, length, take, drop, get_or, reverse, Bool, refl, sym, ap, ◌∙◌, arith, rules, eqb, eq-eqb, ne_eqb}
-use Rattle.std.specs.Prelude.{◌==◌, if◌then◌else◌, true, false, filter_map, Some, None}
+use Rattle.std.proofs.Common.{◌≡◌, ◌≢◌, ℕ, zero, suc, ◌+◌, ◌<◌, ◌≤◌, List, [], ◌∷◌, ◌++◌, length, take, drop, get_or, reverse, Bool, refl, sym, ap, ◌∙◌, arith, eqb, eq-eqb, ne_eqb}
+use Rattle.std.specs.Prelude.{◌==◌, if◌then◌else◌, true, false}
 use Rattle.std.proofs.lemmas.List.{take_more, append-nil, take-append-drop, reverse-append}
-use Rattle.std.proofs.lemmas.List.Elements.{filter-append, filter_map-append}
+use Rattle.std.proofs.lemmas.List.Elements.{filter-append}
 use Rattle.std.proofs.Math.Seq.{drop-cons}
 use Rattle.bp_trail.specs.declared.entries.Entry.{Entry}
-use Rattle.bp_trail.specs.Event.{Grant}
-use Rattle.bp_audit.specs.Clients.{of_client, unfixed, posted_by}
+use Rattle.bp_audit.specs.Clients.{of_client}
 
 abbrev pub GivesByParts : {X Y : Type 0} → (List X → List Y) → Type 0
 GivesByParts {X} give = (xs ys : List X) → give (xs ++ ys) ≡ give xs ++ give ys
@@ -24,20 +23,11 @@ of_client-reverse c (x ∷ xs) =
     one_more true = sym (reverse-append (x ∷ []) (of_client c xs))
     one_more false = append-nil (reverse (of_client c xs))
 
-pub posted_by-append : (c : ℕ) → GivesByParts (posted_by c)
-posted_by-append c xs ys = ap (filter_map (λ e. unfixed e.client e.call)) (of_client-append c xs ys) ∙ filter_map-append (λ e. unfixed e.client e.call) (of_client c xs) (of_client c ys)
-
 pub of_client-hit : (c : ℕ) (e : Entry) (xs : List Entry) → e.client ≡ c → of_client c (e ∷ xs) ≡ e ∷ of_client c xs
 of_client-hit c e xs is = rw (eq-eqb e.client c is) refl
 
 pub of_client-miss : (c : ℕ) (e : Entry) (xs : List Entry) → e.client ≢ c → of_client c (e ∷ xs) ≡ of_client c xs
 of_client-miss c e xs is = rw (ne_eqb e.client c is) refl
-
-pub posted_by-hit : (c : ℕ) (e : Entry) (g : Grant) → (if e.client == c then unfixed e.client e.call else None) ≡ Some g → posted_by c (e ∷ []) ≡ g ∷ []
-posted_by-hit c e g is = grind (rules)
-
-pub posted_by-miss : (c : ℕ) (e : Entry) → (if e.client == c then unfixed e.client e.call else None) ≡ None → posted_by c (e ∷ []) ≡ []
-posted_by-miss c e is = grind (rules)
 
 -- one element more
 give_more : {X Y : Type 0} (give : List X → List Y) (xs : List X) (i : ℕ) (d x : X) → GivesByParts give → i < length xs → x ≡ get_or xs i d → give (take (i + 1) xs) ≡ give (take i xs) ++ give (x ∷ [])

@@ -8,7 +8,7 @@ pub mod laws;
 pub mod log_bound;
 pub mod sameness;
 
-pub use agreement::{agrees, posts_agree};
+pub use agreement::agrees;
 pub use log_bound::is_within_log;
 pub use sameness::same_entry;
 

@@ -3,8 +3,8 @@ ghost use Rattle.std.specs.Prelude.{◌≡◌, ◌≤◌, ◌+◌, ◌==◌, ◌
 ghost use Rattle.bp_trail.specs.Event.{marked};
 ghost use Rattle.bp_audit.specs.Log as bound;
 
-use bp_core::{Call, Entry, Row, Step};
 use bp_page::Lsn;
+use bp_trail::{Call, Entry, Row, Step};
 
 /// The LSN that a call marks durable.
 fn mark_of(call: &Call) -> Option<Lsn>

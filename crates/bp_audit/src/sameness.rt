@@ -1,7 +1,7 @@
 //! Whether two entries are the same.
 ghost use Rattle.std.specs.Prelude.{◌≡◌, ◌↔◌, IsTrue};
 
-use bp_core::{Call, Entry, Reply};
+use bp_trail::{Call, Entry, Reply};
 
 fn same_call(a: &Call, b: &Call) -> bool
     ensures { IsTrue result ↔ (a.now ≡ b.now) }

@@ -1,9 +1,8 @@
 ghost use Rattle.std.specs.Prelude.{◌<◌};
 
 use super::*;
-use bp_core::{Call, Core, EndRefusal, Entry, Fix, PassNote, Reply, Row, Step};
-use bp_lruk::Settings;
-use bp_page::{Bytes, Geometry, Image, Lsn, PageNo};
+use bp_page::{Bytes, Image, Lsn, PageNo};
+use bp_trail::{Call, Entry, Reply, Row, Step};
 use std::alloc::Global;
 use std::process::Abort;
 use std::test::Fail;
@@ -210,58 +209,5 @@ fn no_row_logs_nothing(rt: HostRuntime) -> Result<(), Fail> {
     assert!(rt; within(rt.alloc(), &[Event::Mark(1, 0)], &[], &[])?);
     assert!(rt; !within(rt.alloc(), &[Event::Mark(1, 1)], &[], &[])?);
     assert!(rt; !within(rt.alloc(), &[Event::Mark(0, 1)], &[0], &[1])?);
-    Ok(())
-}
-
-/// A note of a pass of the page, with serial number 0. Its core is gone.
-fn note_of<R: Abort>(rt: &R, alloc: Global, page: u64) -> Result<PassNote, Fail>
-    requires { page < 4 }
-{
-    let geometry = Geometry::new(4, 16)?;
-    let mut core = Core::new(alloc, geometry, Settings::new(1, 0, 0)?, 1, 1, 3)?;
-    let image = Image::blank(alloc, &geometry)?;
-    let ticket = match core.fix(0, PageNo::new(page)) {
-        Ok(Fix::Load(ticket, _)) => ticket,
-        Ok(Fix::Hit(_pass)) => panic!(rt; "the page was there"),
-        Ok(Fix::WriteFirst(_ticket)) => panic!(rt; "a page was unsaved"),
-        Err(_) => panic!(rt; "the page was not loaded"),
-    };
-    match core.read_end(ticket, Ok(image)) {
-        Ok(pass) => Ok(pass.note()),
-        Err(EndRefusal::Unknown(_ticket, _)) => panic!(rt; "the ticket was not known"),
-        Err(EndRefusal::Failed(_)) => panic!(rt; "the read failed"),
-    }
-}
-
-fn posts(alloc: Global, trail: &[Event], posted: &[PassNote], client: u8) -> Result<bool, Fail> {
-    let trail = entries(alloc, trail)?;
-    Ok(posts_agree(&trail, posted, client))
-}
-
-#[test]
-fn posts_in_the_order_of_the_trail(rt: HostRuntime) -> Result<(), Fail> {
-    let alloc = rt.alloc();
-    let (first, second) = (note_of(&rt, alloc, 1)?, note_of(&rt, alloc, 2)?);
-    let trail = &[
-        Event::Unfix(0, 1),
-        Event::Tick(0, 1),
-        Event::Unfix(1, 3),
-        Event::Unfix(0, 2),
-    ];
-    assert!(rt; posts(alloc, trail, &[first, second], 0)?);
-    assert!(rt; posts(alloc, trail, &[], 2)?);
-    assert!(rt;
-        !posts(alloc, trail, &[second, first], 0)?,
-        "they are swapped"
-    );
-    assert!(rt; !posts(alloc, trail, &[first], 0)?, "the last is missing");
-    assert!(rt;
-        !posts(alloc, trail, &[first, second, second], 0)?,
-        "one is too many"
-    );
-    assert!(rt;
-        !posts(alloc, trail, &[first], 1)?,
-        "they are another client's"
-    );
     Ok(())
 }

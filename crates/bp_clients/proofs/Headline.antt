@@ -120,7 +120,10 @@ run_is c scripts trail jobs said refused some legal are j =
     let is = j.collected.said_are in
     record {
       legal = legal;
-      theirs = λ k below. ap (list_of k) is ∙ theirs scripts trail jobs are told k below;
+      theirs = record {
+        counted = ap length is ∙ length-map jobs (λ k. reverse k.said) ∙ are.0;
+        each = λ k below. ap (list_of k) is ∙ theirs scripts trail jobs are told k below;
+      };
       follows = record {
         refusals = map (λ j. j.refused) jobs;
         each = λ k below. subst (λ (lists : List (List Entry)). Follows session (list_of k scripts) (reverse (list_of k lists)) (list_of k (map (λ j. j.refused) jobs))) (sym is) (follows scripts trail jobs are told k below);

@@ -16,9 +16,10 @@ use Rattle.bp_audit.specs.Log.{IsWithinLog}
 use Rattle.bp_clients.specs.declared.run.Config.{Config}
 use Rattle.bp_clients.specs.Jobs.{list_of, NoneIsStrange, JobValue, Collected}
 
--- each client's list has the trail's entries of that client, in order, and no others
-abbrev pub SaidIsTheirs : ℕ → List Entry → List (List Entry) → Type 0
-SaidIsTheirs clients trail said = (c : ℕ) → c < clients → list_of c said ≡ of_client c trail
+-- there is one list for each client, with the trail's entries of that client, in order, and no others
+pub record SaidIsTheirs (clients : ℕ) (trail : List Entry) (said : List (List Entry)) : Type 0 where
+  pub counted : length said ≡ clients
+  pub each : (c : ℕ) → c < clients → list_of c said ≡ of_client c trail
 
 -- each client's list follows its script; the refused rows of all, in the order of their numbers, are those of each
 pub record EachFollows (scripts : List (List Row)) (said : List (List Entry)) (refused : List Refused) : Type 0 where
