@@ -2,7 +2,7 @@
 use Rattle.std.proofs.Common.{◌≡◌, refl, sym, ◌∙◌, ap, subst, ℕ, zero, suc, ◌+◌, ◌<◌, arith, List, [], ◌∷◌, ◌++◌, length, take, drop, get_or, Bool, true, false, ◌==◌, ◌≢◌}
 use Rattle.std.proofs.lemmas.Bool.{eqb-true, eq-eqb}
 use Rattle.std.specs.declared.vec.Vec.{Vec}
-use Rattle.std.proofs.lemmas.List.{get_or-map, append_assoc}
+use Rattle.std.proofs.lemmas.List.{get_or-map, length-map, append_assoc}
 use Rattle.bp_shared.specs.Sessions.{SessionValue, new_sessions}
 use Rattle.bp_trail.specs.declared.scripts.Row.{Row}
 use Rattle.bp_trail.specs.Parameters.{Parameters}
@@ -38,16 +38,23 @@ lent_back (suc n) (x ∷ new) old len = ap (λ xs. x ∷ xs) (taken n new (drop 
     taken zero (x ∷ xs) ys len = absurd (omega arith)
     taken (suc n) (x ∷ xs) ys len = ap (λ zs. x ∷ zs) (taken n xs ys (omega arith))
 
+-- the list that the vector at a place holds
+list_at : {A : Type 0} (scripts : List (Vec Row A)) (n : ℕ) (script : Vec Row A) (rows : List Row) → n < length scripts → script ≡ get_or scripts n script → rows ≡ script.items → list_of n (lists scripts) ≡ rows
+list_at scripts n script rows below is are = get_or-map (λ v. v.items) scripts n script [] below ∙ ap (λ v. v.items) (sym is) ∙ sym are
+
+-- the script at a place fits where each does
+pub fits_at : {A : Type 0} (p : Parameters) (scripts : List (Vec Row A)) (n : ℕ) (script : Vec Row A) (rows : List Row) → n < length scripts → script ≡ get_or scripts n script → rows ≡ script.items
+    → EachScriptFits p (lists scripts) → ScriptFits p n rows
+fits_at p scripts n script rows below is are fits =
+    subst (λ rs. ScriptFits p n rs) (list_at scripts n script rows below is are) (fits n (omega (arith, below, length-map scripts (λ v. v.items))))
+
 -- one script more fits
 pub one_more_fits : {A : Type 0} (p : Parameters) (scripts : List (Vec Row A)) (n : ℕ) (script : Vec Row A) (rows : List Row) → ((c : ℕ) → c < n → ScriptFits p c (list_of c (lists scripts))) → n < length scripts
     → script ≡ get_or scripts n script → rows ≡ script.items → ScriptFits p n rows → (c : ℕ) → c < n + 1 → ScriptFits p c (list_of c (lists scripts))
 one_more_fits p scripts n script rows so_far below is are fits c within = go (c == n) refl
   where
-    here : list_of n (lists scripts) ≡ rows
-    here = get_or-map (λ v. v.items) scripts n script [] below ∙ ap (λ v. v.items) (sym is) ∙ sym are
-
     go : (b : Bool) → (c == n) ≡ b → ScriptFits p c (list_of c (lists scripts))
-    go true same = subst (λ m. ScriptFits p m (list_of m (lists scripts))) (sym (eqb-true c n same)) (subst (λ rs. ScriptFits p n rs) (sym here) fits)
+    go true same = subst (λ m. ScriptFits p m (list_of m (lists scripts))) (sym (eqb-true c n same)) (subst (λ rs. ScriptFits p n rs) (sym (list_at scripts n script rows below is are)) fits)
     go false other = let apart : c ≢ n = λ same. (let both = eq-eqb c n same in cc) in so_far c (omega (arith, within, apart))
 
 -- ---- one job more

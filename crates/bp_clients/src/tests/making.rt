@@ -144,7 +144,7 @@ pub(super) fn run<P: Port + Send, R: Threads + Wait + Sync>(
         frames,
         room,
     };
-    if scripts.is_empty() || ports.len() != scripts.len() || !scripts_fit(&config, &scripts) {
+    if ports.len() != scripts.len() || !scripts_fit(&config, &scripts) {
         return Err(Refusal::BadShape);
     }
     run_clients(rt, alloc, config, scripts, ports)
