@@ -6,7 +6,7 @@ use Rattle.std.proofs.lemmas.List.{get_or-map, length-map, append_assoc}
 use Rattle.bp_shared.specs.Sessions.{SessionValue, new_sessions}
 use Rattle.bp_trail.specs.declared.scripts.Row.{Row}
 use Rattle.bp_trail.specs.Parameters.{Parameters}
-use Rattle.bp_clients.specs.Jobs.{list_of, lists, ScriptFits, EachScriptFits, ScriptsFit, sessions_from, JobValue, new_job, new_jobs}
+use Rattle.bp_clients.specs.Jobs.{list_of, lists, ScriptFits, EachScriptFits, sessions_from, JobValue, new_job, new_jobs}
 
 one_more : (first n : ℕ) → sessions_from first (suc n) ≡ sessions_from first n ++ record { client = first + n; said = [] } ∷ []
 one_more first zero = ap (λ c. record { client = c; said = [] } ∷ []) (omega arith)
@@ -17,7 +17,11 @@ pub in_order : (n : ℕ) → new_sessions n ≡ sessions_from 0 n
 in_order zero = refl
 in_order (suc n) = ap (λ ss. ss ++ record { client = n; said = [] } ∷ []) (in_order n) ∙ sym (one_more 0 n ∙ ap (λ c. sessions_from 0 n ++ record { client = c; said = [] } ∷ []) (omega arith))
 
--- the scripts fit, one by one
+-- the scripts fit, one by one, as those of the clients from this one on
+abbrev pub ScriptsFit : Parameters → ℕ → List (List Row) → Type 0
+ScriptsFit p first [] = Unit {0}
+ScriptsFit p first (script ∷ scripts) = ScriptFits p first script × ScriptsFit p (suc first) scripts
+
 fits_from : (p : Parameters) (first : ℕ) (scripts : List (List Row)) → ((k c : ℕ) → first + k ≡ c → k < length scripts → ScriptFits p c (list_of k scripts)) → ScriptsFit p first scripts
 fits_from p first [] each = tt
 fits_from p first (script ∷ scripts) each = (each 0 first (omega arith) (omega arith), fits_from p (suc first) scripts (λ k c is below. each (suc k) c (omega arith) (omega arith)))

@@ -29,11 +29,6 @@ list_of c lists = slice_index_or lists c []
 abbrev pub EachScriptFits : Parameters → List (List Row) → Type 0
 EachScriptFits p scripts = (c : ℕ) → c < length scripts → ScriptFits p c (list_of c scripts)
 
--- the same, one by one: the scripts of the clients from this one on
-abbrev pub ScriptsFit : Parameters → ℕ → List (List Row) → Type 0
-ScriptsFit p first [] = Unit {0}
-ScriptsFit p first (script ∷ scripts) = ScriptFits p first script × ScriptsFit p (suc first) scripts
-
 -- no row was refused since the pool did not know a ticket
 abbrev pub NoneIsStrange : List Refused → Type 0
 NoneIsStrange refused = All (λ r. r.number ≢ 16) refused

@@ -1,7 +1,7 @@
 //! A run: one thread for each client, and the comparisons once all have ended.
 ghost use Rattle.std.specs.Prelude.{◌≡◌, ◌⊎◌, ◌≤◌, ◌<◌, ℕ, IfOk, OnErr, All, [], map, reverse, length, vec_len, slice_index_or};
 ghost use Rattle.bp_trail.specs.Legal.{Legal};
-ghost use Rattle.bp_clients.specs.Jobs.{list_of, EachScriptFits, ScriptsFit, NoneIsStrange, SameJob, sessions_from, new_jobs, lists};
+ghost use Rattle.bp_clients.specs.Jobs.{list_of, EachScriptFits, NoneIsStrange, SameJob, sessions_from, new_jobs, lists};
 ghost use Rattle.bp_clients.specs.Runs.{run_parameters, RunAnswers, SaidIsTheirs, EachFollows, MarksWithinLog, Joined, IsRun};
 
 use crate::collecting::collect;
@@ -60,7 +60,7 @@ fn make_jobs<N: PoolName, P: Port>(
     requires sessions { sessions.items ≡ sessions_from 0 (vec_len scripts) }
     requires ports { vec_len ports ≡ vec_len scripts }
     requires size { All (λ p. (P.geometry_of p).size ≡ N.parameters.size) ports.items }
-    requires fits { ScriptsFit N.parameters 0 (lists scripts.items) }
+    requires fits { EachScriptFits N.parameters (lists scripts.items) }
     ensures jobs { IfOk result (λ jobs. jobs.items ≡ new_jobs 0 (lists scripts.items)) }
     ensures refused { OnErr result (result ≡ Err Refusal.OutOfMemory) }
 {

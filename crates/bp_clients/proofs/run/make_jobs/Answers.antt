@@ -1,10 +1,19 @@
 -- One job after the other.
-use Rattle.std.proofs.Common.{◌≡◌, sym, ◌∙◌, ap, subst, suc, length, vec_len, arith}
+use Rattle.std.proofs.Common.{◌≡◌, sym, ◌∙◌, ap, subst, suc, length, vec_len, arith, rules}
 use Rattle.std.proofs.lemmas.List.Elements.{All-head, All-tail, All-same}
 use Rattle.std.specs.Vec.Iter.{into_iter_items}
-use Rattle.bp_clients.specs.Jobs.{lists, ScriptFits, ScriptsFit, sessions_from, new_job}
-use Rattle.bp_clients.proofs.Making.{next_session, made_more, next_fits}
+use Rattle.bp_clients.specs.Jobs.{lists, ScriptFits, sessions_from, new_job}
+use Rattle.bp_clients.proofs.Making.{ScriptsFit, next_session, made_more, next_fits, scripts_fit}
 use Rattle.bp_clients.proofs.run.make_jobs.Goals as goal
+
+pub loop-script-init : goal.loop-script-init
+loop-script-init g c = record {
+  made = search rules;
+  sessions = search rules;
+  ports = search rules;
+  size = All-same (λ p. (g.P.Port.geometry_of p).size ≡ g.N.PoolName.parameters.size) _ _ (search rules) c.requires.size;
+  fits = search (rules, scripts_fit g.N.PoolName.parameters (lists c.args.scripts.items) c.requires.fits);
+}
 
 pub new-runner-requires : goal.new-runner-requires
 new-runner-requires g c = record {

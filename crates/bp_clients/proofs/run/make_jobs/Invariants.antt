@@ -1,7 +1,8 @@
 -- The jobs so far, and what is left for the others.
 use Rattle.std.proofs.Common.{◌≡◌, ◌++◌, All, length, vec_len}
 use Rattle.std.specs.Vec.Iter.{into_iter_items}
-use Rattle.bp_clients.specs.Jobs.{ScriptsFit, sessions_from, new_jobs, lists}
+use Rattle.bp_clients.specs.Jobs.{sessions_from, new_jobs, lists}
+use Rattle.bp_clients.proofs.Making.{ScriptsFit}
 use Rattle.bp_clients.proofs.run.make_jobs.Given as goal
 
 abbrev pub invariant-loop-script : goal.invariant-loop-script

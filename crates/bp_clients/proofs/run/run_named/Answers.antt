@@ -2,15 +2,12 @@
 use Rattle.std.proofs.Common.{◌≡◌, ◌<◌, rules, arith, ap, ◌∙◌, length}
 use Rattle.std.proofs.lemmas.List.{length-map}
 use Rattle.bp_clients.specs.Jobs.{lists, sessions_from}
-use Rattle.bp_clients.proofs.Making.{in_order, scripts_fit, lent_back}
+use Rattle.bp_clients.proofs.Making.{in_order, lent_back}
 use Rattle.bp_clients.proofs.Headline.{length-new_jobs, same_jobs, run_all}
 use Rattle.bp_clients.proofs.run.run_named.Goals as goal
 
 pub make_jobs-requires-clause-sessions : goal.make_jobs-requires-clause-sessions
 make_jobs-requires-clause-sessions g c = c.in-Ok-new.ensures.sessions ∙ in_order _ ∙ ap (sessions_from 0) c.requires.clients
-
-pub make_jobs-requires-clause-fits : goal.make_jobs-requires-clause-fits
-make_jobs-requires-clause-fits g c = scripts_fit _ _ c.requires.fits
 
 pub run_jobs-requires-clause-some : goal.run_jobs-requires-clause-some
 run_jobs-requires-clause-some g c =
