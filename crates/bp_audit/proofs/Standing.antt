@@ -103,11 +103,12 @@ not_given_back past said newer older e (next g first back) kept is =
     let h = not_given_back (give_back g ∷ past) said newer older e back kept is in
     one_sooner g past newer h.rest older e kept h.has
 
-pub bounded_by_its_row : (m : Manner) (script : List Row) (trail newer past : Trail) (e : Entry) (refusals : List Refused) (cut : Follows m script (of_client 0 trail) refusals) → IsWithinLog script cut.ends trail → trail ≡ newer ++ e ∷ past → e.client ≡ 0 → is_unfix e.call ≡ false → BoundedByItsRow m script trail refusals cut past e
-bounded_by_its_row m script trail newer past e refusals cut within is mine kept =
-    let said : of_client 0 trail ≡ of_client 0 newer ++ e ∷ of_client 0 past =
-    ap (of_client 0) is ∙ of_client-append 0 newer (e ∷ past) ∙ ap (λ xs. of_client 0 newer ++ xs) (of_client-hit 0 e past mine) in
-    let h = not_given_back cut.by_rows (of_client 0 trail) (of_client 0 newer) (of_client 0 past) e cut.gives_back kept said in
+pub bounded_by_its_row : (m : Manner) (script : List Row) (trail newer past said : Trail) (e : Entry) (refusals : List Refused) (cut : Follows m script said refusals) → said ≡ of_client 0 trail → IsWithinLog script cut.ends trail → trail ≡ newer ++ e ∷ past → e.client ≡ 0
+    → is_unfix e.call ≡ false → BoundedByItsRow m script said refusals cut past e
+bounded_by_its_row m script trail newer past said e refusals cut theirs within is mine kept =
+    let stands : said ≡ of_client 0 newer ++ e ∷ of_client 0 past =
+    theirs ∙ ap (of_client 0) is ∙ of_client-append 0 newer (e ∷ past) ∙ ap (λ xs. of_client 0 newer ++ xs) (of_client-hit 0 e past mine) in
+    let h = not_given_back cut.by_rows said (of_client 0 newer) (of_client 0 past) e cut.gives_back kept stands in
     let here = (each_before (EntryWithinLog script cut.ends) newer (e ∷ past) (subst (EachEntry (EntryWithinLog script cut.ends)) is within.each)).here in
     record {
       r = row_at (reverse cut.ends) (length (of_client 0 past));

@@ -24,8 +24,8 @@ InPieceOf m r e older (row ∷ rows) [] past refusals cut = ⊥
 InPieceOf m r e older (row ∷ rows) (end ∷ ends) past refusals cut =
     ((r ≡ length rows) × StandsIn cut.adds.piece cut.before older e) ⊎ InPieceOf m r e older rows ends cut.before cut.earlier cut.follows
 
--- an entry of client 0 stands in the piece of a row, and the mark up to and with it is at most what the rows before that row logged
-pub record BoundedByItsRow (m : Manner) (script : List Row) (trail : Trail) (refusals : List Refused) (cut : Follows m script (of_client 0 trail) refusals) (past : Trail) (e : Entry) : Type 0 where
+-- by the cut of client 0's entries the entry stands in the piece of a row, and the mark up to and with it is at most what the rows before that row logged
+pub record BoundedByItsRow (m : Manner) (script : List Row) (said : Trail) (refusals : List Refused) (cut : Follows m script said refusals) (past : Trail) (e : Entry) : Type 0 where
   pub r : ℕ
   pub in_piece : InPieceOf m r e (of_client 0 past) (reverse script) cut.ends cut.by_rows (reverse refusals) cut.pieces
   pub bounded : durable (e ∷ past) ≤ logged (take r script)

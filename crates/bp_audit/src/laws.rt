@@ -25,5 +25,5 @@ pub fn entry_is_in_the_piece_of_its_row()
 /// each entry of client 0 that is no unfix stands in the piece of a row, and the greatest LSN marked up to and with that
 /// entry is at most the greatest of the log rows before that row.
 pub fn marks_are_bounded_row_by_row()
-    ensures { (m : Manner) (script : List ARow) (trail newer past : Trail) (e : AnEntry) (refusals : List ARefused) (cut : Follows m script (of_client 0 trail) refusals) → IsWithinLog script cut.ends trail → trail ≡ newer ++ e ∷ past → e.client ≡ 0 → is_unfix e.call ≡ false → BoundedByItsRow m script trail refusals cut past e }
+    ensures { (m : Manner) (script : List ARow) (trail newer past said : Trail) (e : AnEntry) (refusals : List ARefused) (cut : Follows m script said refusals) → said ≡ of_client 0 trail → IsWithinLog script cut.ends trail → trail ≡ newer ++ e ∷ past → e.client ≡ 0 → is_unfix e.call ≡ false → BoundedByItsRow m script said refusals cut past e }
 {}

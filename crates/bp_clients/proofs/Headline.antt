@@ -18,9 +18,8 @@ use Rattle.bp_trail.specs.Pieces.Manner.{session}
 use Rattle.bp_trail.specs.Script.{FollowsBy, GivesBack, Follows}
 use Rattle.bp_audit.specs.Clients.{of_client}
 use Rattle.bp_audit.specs.Log.{IsWithinLog}
-use Rattle.bp_audit.proofs.Comparing.{of_client-reverse}
 use Rattle.bp_clients.specs.Jobs.{list_of, lists, NoneIsStrange, JobValue, SameJob, new_job, new_jobs, IsTold}
-use Rattle.bp_clients.specs.Runs.{SaidIsTheirs, MarksWithinLog, IsRun, Joined}
+use Rattle.bp_clients.specs.Runs.{SaidIsTheirs, EachFollows, IsRun, Joined}
 
 -- the job of client c, with its script
 pub record IsJobOf (c : ℕ) (rows : List Row) (j : JobValue) : Type 0 where
@@ -73,39 +72,27 @@ module _ (scripts : List (List Row)) (trail : List Entry) (jobs : List JobValue)
   theirs : (c : ℕ) → c < length scripts → list_of c (map (λ j. reverse j.said) jobs) ≡ of_client c trail
   theirs c below = said-at c below ∙ (told-at c below).said ∙ ap (λ n. of_client n trail) (job-at c below).client
 
-  -- client c's list follows its script, whatever equals that list
-  follows-at : (c : ℕ) (said : Trail) → c < length scripts → (job c).said ≡ said → Follows session (list_of c scripts) said (job c).refused
-  follows-at c said below is =
+  -- client c's list follows its script by the cut of its job, whatever equals that list and its refused rows
+  follows-at : (c : ℕ) (said : Trail) (refusals : List Refused) → c < length scripts → (job c).said ≡ said → (job c).refused ≡ refusals → Follows session (list_of c scripts) said refusals
+  follows-at c said refusals below is are_refused =
       let f = (told-at c below).follows in
       record {
         by_rows = f.by_rows;
         ends = (job c).ends;
-        pieces = subst (λ script. FollowsBy session (reverse script) (job c).ends f.by_rows (reverse (job c).refused)) (job-at c below).script f.pieces;
+        pieces = subst (λ (rs : List Refused). FollowsBy session (reverse (list_of c scripts)) (job c).ends f.by_rows (reverse rs)) are_refused
+            (subst (λ script. FollowsBy session (reverse script) (job c).ends f.by_rows (reverse (job c).refused)) (job-at c below).script f.pieces);
         gives_back = subst (λ list. GivesBack f.by_rows list) is f.gives_back;
       }
 
-  follows : (c : ℕ) → c < length scripts → Follows session (list_of c scripts) (reverse (list_of c (map (λ j. reverse j.said) jobs))) (list_of c (map (λ j. j.refused) jobs))
-  follows c below =
-      subst (λ refused. Follows session (list_of c scripts) (reverse (list_of c (map (λ j. reverse j.said) jobs))) refused) (sym (refused-at c below))
-      (follows-at c _ below (sym (reverse-reverse (job c).said) ∙ ap reverse (sym (said-at c below))))
+  -- the same of the lists that the jobs left
+  follows : (said : List (List Entry)) (c : ℕ) → said ≡ map (λ j. reverse j.said) jobs → c < length scripts → Follows session (list_of c scripts) (reverse (list_of c said)) (list_of c (map (λ j. j.refused) jobs))
+  follows said c are_said below =
+      follows-at c (reverse (list_of c said)) (list_of c (map (λ j. j.refused) jobs)) below
+      (sym (reverse-reverse (job c).said) ∙ ap reverse (sym (said-at c below)) ∙ ap (λ (lists : List (List Entry)). reverse (list_of c lists)) (sym are_said))
+      (sym (refused-at c below))
 
-  within : 0 < length scripts → MarksWithinLog (list_of 0 scripts) trail
-  within some =
-      let told = told-at 0 some in
-      let is = job-at 0 some in
-      let f = told.follows in
-      let mine : (job 0).said ≡ of_client 0 (reverse trail) =
-      sym (reverse-reverse (job 0).said) ∙ ap reverse (told.said ∙ ap (λ n. of_client n trail) is.client) ∙ sym (of_client-reverse 0 trail) in
-      record {
-        refused = (job 0).refused;
-        cut = record {
-          by_rows = f.by_rows;
-          ends = (job 0).ends;
-          pieces = subst (λ script. FollowsBy session (reverse script) (job 0).ends f.by_rows (reverse (job 0).refused)) is.script f.pieces;
-          gives_back = subst (λ list. GivesBack f.by_rows list) mine f.gives_back;
-        };
-        within = subst (λ script. IsWithinLog script (job 0).ends (reverse trail)) is.script (told.within is.client);
-      }
+  within : 0 < length scripts → IsWithinLog (list_of 0 scripts) (job 0).ends (reverse trail)
+  within some = let is = job-at 0 some in subst (λ script. IsWithinLog script (job 0).ends (reverse trail)) is.script ((told-at 0 some).within is.client)
 
 known-all : (trail : List Entry) (jobs : List JobValue) → All (IsTold trail) jobs → NoneIsStrange (flat_map (λ j. j.refused) jobs)
 known-all trail [] told = All-nil (λ r. r.number ≢ 16)
@@ -115,24 +102,26 @@ known-all trail (j ∷ jobs) told =
 -- the headline, from what the jobs left
 pub run_is : (c : Parameters) (scripts : List (List Row)) (trail : List Entry) (jobs : List JobValue) (said : List (List Entry)) (refused : List Refused) → 0 < length scripts → Legal c (reverse trail)
     → AreJobsOf scripts jobs → Joined trail jobs said refused → IsRun c scripts trail said refused
+unfolding follows follows-at
 run_is c scripts trail jobs said refused some legal are j =
     let told = j.collected.told in
     let is = j.collected.said_are in
+    let followed : EachFollows scripts said refused = record {
+      refusals = map (λ j. j.refused) jobs;
+      each = λ k below. follows scripts trail jobs are told said k is below;
+      counted = length-map jobs (λ j. j.refused) ∙ are.0;
+      joined = subst (λ (all : List Refused). IsPermutation all refused) (j.collected.refused_are ∙ sym (flat_map-map (λ (rs : List Refused). rs) (λ (k : JobValue). k.refused) jobs)) j.same;
+      in_order = j.in_order;
+    } in
     record {
       legal = legal;
       theirs = record {
         counted = ap length is ∙ length-map jobs (λ k. reverse k.said) ∙ are.0;
         each = λ k below. ap (list_of k) is ∙ theirs scripts trail jobs are told k below;
       };
-      follows = record {
-        refusals = map (λ j. j.refused) jobs;
-        each = λ k below. subst (λ (lists : List (List Entry)). Follows session (list_of k scripts) (reverse (list_of k lists)) (list_of k (map (λ j. j.refused) jobs))) (sym is) (follows scripts trail jobs are told k below);
-        counted = length-map jobs (λ j. j.refused) ∙ are.0;
-        joined = subst (λ (all : List Refused). IsPermutation all refused) (j.collected.refused_are ∙ sym (flat_map-map (λ (rs : List Refused). rs) (λ (k : JobValue). k.refused) jobs)) j.same;
-        in_order = j.in_order;
-      };
+      follows = followed;
       known = All-permutation (λ r. r.number ≢ 16) j.one_by_one refused j.same (subst NoneIsStrange (sym j.collected.refused_are) (known-all trail jobs told));
-      within_log = within scripts trail jobs are told some;
+      within_log = record { follows = followed; some = some; within = within scripts trail jobs are told some };
     }
 
 -- the same of a run's answer

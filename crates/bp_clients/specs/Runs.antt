@@ -29,11 +29,11 @@ pub record EachFollows (scripts : List (List Row)) (said : List (List Entry)) (r
   pub joined : IsPermutation (flat_map (λ r. r) refusals) refused
   pub in_order : IsNonDecreasingBy (λ r. r.row) refused
 
--- by one cut, by which client 0's entries follow its script, no mark comes before its log rows allow it
-pub record MarksWithinLog (script : List Row) (trail : List Entry) : Type 0 where
-  pub refused : List Refused
-  pub cut : Follows session script (of_client 0 (reverse trail)) refused
-  pub within : IsWithinLog script cut.ends (reverse trail)
+-- by one cut of client 0's list, by which it follows its script with the refused rows that the run has, no mark comes before the log rows allow it
+pub record MarksWithinLog (scripts : List (List Row)) (trail : List Entry) (said : List (List Entry)) (refused : List Refused) : Type 0 where
+  pub follows : EachFollows scripts said refused
+  pub some : 0 < length scripts
+  pub within : IsWithinLog (list_of 0 scripts) (follows.each 0 some).ends (reverse trail)
 
 -- the trail is one legal history; it holds each client's calls once and in that client's order, as its script asks for them; and no mark is ahead of the log
 pub record IsRun (c : Parameters) (scripts : List (List Row)) (trail : List Entry) (said : List (List Entry)) (refused : List Refused) : Type 0 where
@@ -41,7 +41,7 @@ pub record IsRun (c : Parameters) (scripts : List (List Row)) (trail : List Entr
   pub theirs : SaidIsTheirs (length scripts) trail said
   pub follows : EachFollows scripts said refused
   pub known : NoneIsStrange refused
-  pub within_log : MarksWithinLog (list_of 0 scripts) trail
+  pub within_log : MarksWithinLog scripts trail said refused
 
 -- what the jobs left, with the refused rows of all put in the order of their numbers
 pub record Joined (trail : List Entry) (jobs : List JobValue) (said : List (List Entry)) (refused : List Refused) : Type 0 where

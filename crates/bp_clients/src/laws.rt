@@ -1,9 +1,10 @@
 //! What every run has besides, since its trail is legal. Each function does nothing: its contract is the law.
-ghost use Rattle.std.specs.Prelude.{◌≡◌, ℕ, false, List, ◌∷◌, ◌++◌, reverse, Some};
+ghost use Rattle.std.specs.Prelude.{◌≡◌, ℕ, false, List, ◌∷◌, ◌++◌, length, reverse, Some};
 ghost use Rattle.bp_lruk.specs.Distance.{is_farther};
 ghost use Rattle.bp_trail.specs.declared.entries.Entry.{Entry as AnEntry};
 ghost use Rattle.bp_trail.specs.declared.entries.Reply.TheVariants.{Load};
 ghost use Rattle.bp_trail.specs.declared.scripts.Row.{Row as ARow};
+ghost use Rattle.bp_trail.specs.declared.scripts.Refused.{Refused as ARefused};
 ghost use Rattle.bp_trail.specs.Parameters.{Parameters};
 ghost use Rattle.bp_trail.specs.Lists.{EachEntry};
 ghost use Rattle.bp_trail.specs.Trail.{Trail};
@@ -16,7 +17,8 @@ ghost use Rattle.bp_trail.specs.Claims.{AnswersPlain};
 ghost use Rattle.bp_trail.specs.Pieces.Manner.{session};
 ghost use Rattle.bp_audit.specs.Log.{is_unfix};
 ghost use Rattle.bp_audit.specs.Cut.{BoundedByItsRow};
-ghost use Rattle.bp_clients.specs.Runs.{MarksWithinLog};
+ghost use Rattle.bp_clients.specs.Jobs.{list_of};
+ghost use Rattle.bp_clients.specs.Runs.{MarksWithinLog, SaidIsTheirs};
 
 /// In the trail of every run each reply is what the page map answers there from the calls before it; each page that leaves has no
 /// pins and is not unsaved, and is the eligible page that comes first, so that none is farther by its backward K-distance; no image
@@ -31,9 +33,9 @@ pub fn runs_keep_the_rules_of_the_pool()
     ensures contents { (c : Parameters) (trail : List AnEntry) → Legal c (reverse trail) → EachEntry AnswersPlain (reverse trail) }
 {}
 
-/// Where no mark is ahead of the log rows, each entry of client 0 that is no unfix stands in the piece of a row, by the one cut by
-/// which the entries of client 0 follow its script; and the greatest LSN marked up to and with that entry is at most the greatest
-/// of the log rows before that row.
+/// Where each client's list is the trail's entries of it and no mark is ahead of the log rows, each entry of client 0 that is no
+/// unfix stands in the piece of a row, by the one cut by which client 0's list follows its script; and the greatest LSN marked up to
+/// and with that entry is at most the greatest of the log rows before that row.
 pub fn marks_keep_to_the_log_rows()
-    ensures { (script : List ARow) (trail : List AnEntry) (newer past : Trail) (e : AnEntry) (log : MarksWithinLog script trail) → reverse trail ≡ newer ++ e ∷ past → e.client ≡ 0 → is_unfix e.call ≡ false → BoundedByItsRow session script (reverse trail) log.refused log.cut past e }
+    ensures { (scripts : List (List ARow)) (trail : List AnEntry) (said : List (List AnEntry)) (refused : List ARefused) (newer past : Trail) (e : AnEntry) (log : MarksWithinLog scripts trail said refused) → SaidIsTheirs (length scripts) trail said → reverse trail ≡ newer ++ e ∷ past → e.client ≡ 0 → is_unfix e.call ≡ false → BoundedByItsRow session (list_of 0 scripts) (reverse (list_of 0 said)) (list_of 0 log.follows.refusals) (log.follows.each 0 log.some) past e }
 {}

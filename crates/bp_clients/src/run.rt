@@ -1,7 +1,7 @@
 //! A run: one thread for each client, and the comparisons once all have ended.
 ghost use Rattle.std.specs.Prelude.{◌≡◌, ◌⊎◌, ◌≤◌, ◌<◌, ℕ, IfOk, OnErr, All, [], map, reverse, length, vec_len, slice_index_or};
 ghost use Rattle.bp_trail.specs.Legal.{Legal};
-ghost use Rattle.bp_clients.specs.Jobs.{list_of, EachScriptFits, NoneIsStrange, SameJob, sessions_from, new_jobs, lists};
+ghost use Rattle.bp_clients.specs.Jobs.{EachScriptFits, NoneIsStrange, SameJob, sessions_from, new_jobs, lists};
 ghost use Rattle.bp_clients.specs.Runs.{run_parameters, RunAnswers, SaidIsTheirs, EachFollows, MarksWithinLog, Joined, IsRun};
 
 use crate::collecting::collect;
@@ -190,7 +190,7 @@ pub fn run_clients<P: Port + Send, R: Threads + Wait + Sync>(
     ensures said { IfOk result (λ run. SaidIsTheirs (vec_len scripts) run.trail.items (lists run.said.items)) }
     ensures follows { IfOk result (λ run. EachFollows (lists scripts.items) (lists run.said.items) run.refused.items) }
     ensures known { IfOk result (λ run. NoneIsStrange run.refused.items) }
-    ensures within_log { IfOk result (λ run. MarksWithinLog (list_of 0 (lists scripts.items)) run.trail.items) }
+    ensures within_log { IfOk result (λ run. MarksWithinLog (lists scripts.items) run.trail.items (lists run.said.items) run.refused.items) }
     ensures answers { RunAnswers (run_parameters config (vec_len scripts)) result }
 {
     let clients = scripts.len() as u8;

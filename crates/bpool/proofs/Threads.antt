@@ -62,14 +62,14 @@ script_count rows scripts are = ap length are ∙ length-map-range_with_len (λ 
 
 -- a run of some scripts is one of the scripts that they are
 pub run_of : (config : Config) (n : ℕ) (scripts : List (List Row)) (rows : List Row) (trail : List Entry) (said : List (List Entry)) (refused : List Refused) → n ≡ clients_of rows → scripts ≡ scripts_of rows
-    → Legal (run_parameters config n) (reverse trail) → SaidIsTheirs n trail said → EachFollows scripts said refused → NoneIsStrange refused → MarksWithinLog (list_of 0 scripts) trail
+    → Legal (run_parameters config n) (reverse trail) → SaidIsTheirs n trail said → EachFollows scripts said refused → NoneIsStrange refused → MarksWithinLog scripts trail said refused
     → IsRun (run_parameters config (clients_of rows)) (scripts_of rows) trail said refused
 run_of config n scripts rows trail said refused count are legal theirs follows known within = record {
   legal = subst (λ m. Legal (run_parameters config m) (reverse trail)) count legal;
   theirs = subst (λ m. SaidIsTheirs m trail said) (count ∙ sym (script_count rows (scripts_of rows) refl)) theirs;
   follows = subst (λ s. EachFollows s said refused) are follows;
   known = known;
-  within_log = subst (λ s. MarksWithinLog (list_of 0 s) trail) are within;
+  within_log = subst (λ s. MarksWithinLog s trail said refused) are within;
 }
 
 -- the scripts that the rows were split into are those of their clients
