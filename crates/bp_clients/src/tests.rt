@@ -1,4 +1,4 @@
-//! Runs of client threads. What they print is the same whatever the schedule.
+//! Runs of client threads. What is asserted of them holds whatever the schedule.
 mod log;
 mod making;
 mod overlap;

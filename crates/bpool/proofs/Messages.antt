@@ -1,5 +1,5 @@
 -- What is said has no line end.
-use Rattle.std.proofs.Common.{◌≡◌, ℕ, zero, suc, ◌+◌, ◌/◌, ◌%◌, ◌==◌, ◌&&◌, ◌++◌, not, nat_lt, if◌then◌else◌, true, false, Bool, List, [], ◌∷◌, codes, refl, arith}
+use Rattle.std.proofs.Common.{◌≡◌, ℕ, zero, suc, ◌+◌, ◌/◌, ◌%◌, ◌==◌, ◌&&◌, ◌++◌, not, nat_lt, if◌then◌else◌, true, false, Bool, List, [], ◌∷◌, codes, string_bytes, refl, arith}
 use Rattle.std.proofs.lemmas.Bool.{ne_eqb}
 use Rattle.std.specs.Fmt.{decimal, digit_glyph, digits, digits_onto}
 use Rattle.bp_page.specs.Refusals.{number_of}
@@ -34,7 +34,8 @@ both-line = all-append (λ b. not (b == 10))
 
 pub message-line : (e : Ending) → is_help e ≡ false → is_line (message_of e) ≡ true
 message-line (ending.Help text) e = cc
-message-line (ending.CommandLine line) e = line.unbroken
+message-line ending.WordsNotText e = refl
+message-line (ending.CommandLine line) e = both-line (string_bytes line.text) (codes "; try 'bpool --help'") line.unbroken refl
 message-line ending.PageFileNotOpened e = refl
 message-line (ending.PageFileRefused refusal) e = both-line (codes "page file refused ") (decimal (number_of refusal)) refl (decimal-line (number_of refusal))
 message-line ending.TraceNotOpened e = refl

@@ -11,7 +11,8 @@ use Rattle.bpool.specs.declared.ending.Ending.TheVariants as ending
 
 abbrev pub message_of : Ending → List ℕ
 message_of (ending.Help text) = string_bytes text
-message_of (ending.CommandLine line) = string_bytes line.text
+message_of ending.WordsNotText = codes "error: a word is not UTF-8"
+message_of (ending.CommandLine line) = string_bytes line.text ++ codes "; try 'bpool --help'"
 message_of ending.PageFileNotOpened = codes "page file not opened"
 message_of (ending.PageFileRefused refusal) = codes "page file refused " ++ decimal (number_of refusal)
 message_of ending.TraceNotOpened = codes "trace not opened"

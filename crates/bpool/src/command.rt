@@ -12,7 +12,43 @@ use std::alloc::{AllocError, Global};
 /// What the statuses of a run mean.
 const STATUSES: &str =
     "Status 0: all rows were accepted. Status 1: some row was refused; the report says which, and why. \
-Status 2: there is no report; one line on standard error says why.";
+Status 2: one line on standard error says why there is no report, or only a part of it.";
+
+/// The words and options of a run, in short, and what the program does without words.
+const SUMMARY: &str = "\
+bpool run TRACE PAGEFILE [--frames N] [--k N] [--correlated N] [--retained N] [--page-size N] [--order ORDER]
+
+  TRACE             A path, or stdin for the standard input
+  PAGEFILE          A path, or mem:N for N pages of zero bytes in memory, N from 1 to 1048576
+  --frames N        1 to 65536 [default: 8]
+  --k N             1 to 16 [default: 2]
+  --correlated N    0 to 2^62 ticks [default: 0]
+  --retained N      0 to 2^62 ticks [default: 1000]
+  --page-size N     16 to 65536 bytes, a multiple of 16 [default: 64]
+  --order ORDER     trace or free [default: trace]
+
+No words at all: run stdin mem:16 --frames 2 --k 1
+
+Status 0: all rows were accepted, or help was asked for. Status 1: some row was refused. \
+Status 2: one line on standard error says why there is no report, or only a part of it.";
+
+const TRACE: &str = "The trace: a path, or stdin for the standard input";
+
+const PAGE_FILE: &str =
+    "The page file: a path, or mem:N for N pages of zero bytes in memory, N from 1 to 1048576";
+
+const FRAMES: &str = "Frames of the pool, from 1 to 65536";
+
+const STAMPS: &str = "K of LRU-K, from 1 to 16";
+
+const CORRELATED: &str = "Correlated reference period in ticks, from 0 to 2^62";
+
+const RETAINED: &str = "Retained information period in ticks, from 0 to 2^62";
+
+const PAGE_SIZE: &str = "Bytes of a page, a multiple of 16 from 16 to 65536";
+
+const ORDER: &str =
+    "Order of the rows: trace for that of the trace, free for one thread for each client";
 
 /// How many frames a pool may have.
 fn frame_counts<'a>() -> ValueParser<'a>
@@ -96,54 +132,14 @@ fn run_arguments<'a>(alloc: Global) -> Result<Vec<Arg<'a>>, AllocError>
     ensures local { IfOk result (λ arguments. All (λ a. a.global ≡ false) arguments.items) }
 {
     let arguments = vec![in alloc;
-        positional(
-            alloc,
-            "trace",
-            "TRACE",
-            "The trace: a path, or stdin for the standard input"
-        ),
-        positional(
-            alloc,
-            "page-file",
-            "PAGEFILE",
-            "The page file: a path, or mem:N for N pages of zero bytes in memory, N from 1 to 1048576"
-        ),
-        number_option(
-            alloc,
-            "frames",
-            frame_counts(),
-            "8",
-            "Frames of the pool, from 1 to 65536"
-        ),
-        number_option(alloc, "k", stamp_counts(), "2", "K of LRU-K, from 1 to 16"),
-        number_option(
-            alloc,
-            "correlated",
-            periods(),
-            "0",
-            "Correlated reference period in ticks, from 0 to 2^62"
-        ),
-        number_option(
-            alloc,
-            "retained",
-            periods(),
-            "1000",
-            "Retained information period in ticks, from 0 to 2^62"
-        ),
-        number_option(
-            alloc,
-            "page-size",
-            page_sizes(),
-            "64",
-            "Bytes of a page, a multiple of 16 from 16 to 65536"
-        ),
-        word_option(
-            alloc,
-            "order",
-            "ORDER",
-            "trace",
-            "Order of the rows: trace for that of the trace, free for one thread for each client"
-        ),
+        positional(alloc, "trace", "TRACE", TRACE),
+        positional(alloc, "page-file", "PAGEFILE", PAGE_FILE),
+        number_option(alloc, "frames", frame_counts(), "8", FRAMES),
+        number_option(alloc, "k", stamp_counts(), "2", STAMPS),
+        number_option(alloc, "correlated", periods(), "0", CORRELATED),
+        number_option(alloc, "retained", periods(), "1000", RETAINED),
+        number_option(alloc, "page-size", page_sizes(), "64", PAGE_SIZE),
+        word_option(alloc, "order", "ORDER", "trace", ORDER),
     ]?;
     Ok(arguments)
 }
@@ -169,6 +165,7 @@ pub fn bpool_command<'a>(alloc: Global) -> Result<Command<'a>, AllocError>
     let named = Command::new(alloc, "bpool").bin_name("bpool")?;
     let command = named
         .about("A buffer pool with LRU-K replacement")
+        .after_help(SUMMARY)
         .no_binary_name(true)
         .subcommand_required(true)
         .subcommand(run)?;

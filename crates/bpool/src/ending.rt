@@ -15,6 +15,8 @@ use std::{fmt, io};
 pub enum Ending {
     /// The words ask for help, which is this text.
     Help(String),
+    /// A word is not text in UTF-8.
+    WordsNotText,
     /// The words have this fault.
     CommandLine(Line),
     PageFileNotOpened,
@@ -36,7 +38,8 @@ impl fmt::Display for Ending {
     fn fmt<W: fmt::Write>(&self, f: &mut fmt::Formatter<W>) -> fmt::Result {
         match self {
             Ending::Help(text) => f.write_str(text.as_str()),
-            Ending::CommandLine(line) => f.write_str(line.as_str()),
+            Ending::WordsNotText => f.write_str("error: a word is not UTF-8"),
+            Ending::CommandLine(line) => write!(f, "{}; try 'bpool --help'", line.as_str()),
             Ending::PageFileNotOpened => f.write_str("page file not opened"),
             Ending::PageFileRefused(refusal) => {
                 write!(f, "page file refused {}", refusal.number())
@@ -51,8 +54,6 @@ impl fmt::Display for Ending {
         }
     }
 }
-
-impl std::error::Error for Ending {}
 
 impl Ending {
     pub fn is_help(&self) -> bool
@@ -77,7 +78,8 @@ impl Ending {
         ensures err_kept { is_help self.now ≡ true → err.new ≡ err.old }
     {
         if self.is_help() {
-            write!(out, "{self}")
+            write!(out, "{self}")?;
+            out.flush()
         } else {
             writeln!(err, "{self}")
         }

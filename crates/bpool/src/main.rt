@@ -12,26 +12,72 @@ mod run;
 mod scripts;
 mod words;
 
+use crate::ending::Ending;
 use crate::page_files::PageFiles;
 use crate::run::run_with;
+use bp_page::Refusal;
+use std::fs::File;
+use std::io::{BufWriter, ErrorKind, Write};
+use std::marker::Sync;
 use std::process::ExitCode;
+use std::rt::{Env, Files};
+use std::sync::Wait;
+use std::thread::Threads;
 use std::{env, io};
 
-fn main(rt: HostRuntime) -> anyhow::Result<ExitCode> {
+/// The words of the command line, without the program's name.
+fn words_given<R: AllocGlobal + Env>(rt: &R) -> Result<Vec<String>, Ending> {
+    let words = match env::args(rt) {
+        Ok(words) => words,
+        Err(error) if error.kind() == ErrorKind::OutOfMemory => {
+            return Err(Ending::RunRefused(Refusal::OutOfMemory));
+        }
+        Err(_) => return Err(Ending::WordsNotText),
+    };
+    words
+        .skip(1)
+        .collect(rt.alloc())
+        .map_err(|_| Ending::RunRefused(Refusal::OutOfMemory))
+}
+
+/// Does what the words say, over standard input and output, and gives the status to end with.
+fn run_words<R: AllocGlobal + Files<File = File> + Input + Print + Threads + Wait + Sync, E: Write>(
+    rt: &R,
+    given: &[String],
+    err: &mut E,
+) -> Result<u8, Ending> {
     let alloc = rt.alloc();
-    let given: Vec<String> = env::args(&rt)?.skip(1).collect(alloc)?;
     let mut words = Vec::new(alloc);
-    for word in &given {
-        words.push(word.as_str())?;
+    for word in given {
+        let Ok(()) = words.push(word.as_str()) else {
+            return Err(Ending::RunRefused(Refusal::OutOfMemory));
+        };
     }
+    let Ok(mut out) = BufWriter::new(alloc, io::writer(rt)) else {
+        return Err(Ending::RunRefused(Refusal::OutOfMemory));
+    };
+    let mut ports = PageFiles::new(alloc);
     let status = run_with(
-        &rt,
+        rt,
         alloc,
         words.as_slice(),
         &mut rt.reader(),
-        &mut PageFiles::new(alloc),
-        &mut io::writer(&rt),
-        &mut rt.stderr(),
+        &mut ports,
+        &mut out,
+        err,
     );
-    Ok(ExitCode::from(status))
+    Ok(status)
+}
+
+fn main(rt: HostRuntime) -> ExitCode {
+    let mut err = rt.stderr();
+    let run = match words_given(&rt) {
+        Ok(given) => run_words(&rt, &given, &mut err),
+        Err(ending) => Err(ending),
+    };
+    let status = match run {
+        Ok(status) => status,
+        Err(ending) => ending.finish(&mut io::writer(&rt), &mut err),
+    };
+    ExitCode::from(status)
 }

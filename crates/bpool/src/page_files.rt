@@ -1,6 +1,5 @@
 //! Page files in memory and on disk.
 ghost use Rattle.std.specs.Prelude.{◌≡◌, All, IfOk, length};
-ghost use Rattle.bp_page.specs.Limits.{IsGeometry};
 ghost use Rattle.bpool.specs.PageFile.{memory_named};
 ghost use Rattle.bpool.specs.AnyPort.{device_of, AreOf};
 
@@ -108,40 +107,27 @@ fn reopen<R: Files<File = File>>(
     Ok(AnyPort::File(port))
 }
 
-/// The geometry of the page file at a path, with pages of so many bytes.
-fn geometry_at<R: Files<File = File>>(
-    rt: &R,
-    alloc: Global,
-    path: &str,
-    size: usize,
-) -> Result<Geometry, OpenFault>
-    requires size { IsGeometry 1 size }
-    ensures size { IfOk result (λ geometry. geometry.size ≡ size) }
-{
-    match FilePort::open(rt, alloc, path, size) {
-        Ok(port) => Ok(port.geometry()),
-        Err(fault) => Err(fault),
-    }
-}
-
-/// Opens the page file at a path, once for each client.
+/// Ports to the page file at a path, one for each client: the one that was opened first, and as many more as it takes.
 fn file_ports<R: Files<File = File>>(
     rt: &R,
     alloc: Global,
     path: &str,
-    geometry: Geometry,
+    first: FilePort,
     clients: usize,
 ) -> Result<Vec<AnyPort>, OpenFault>
-    ensures ports { IfOk result (λ ports. AreOf geometry clients ports.items) }
+    ensures ports { IfOk result (λ ports. AreOf first.device clients ports.items) }
 {
+    let geometry = first.geometry();
+    let mut first = Some(AnyPort::File(first));
     let Ok(mut ports) = Vec::with_capacity(alloc, clients) else {
         return Err(OpenFault::Port(PortFault::Memory));
     };
     for _ in 0..clients {
-        match reopen(rt, alloc, path, geometry) {
-            Ok(port) => ports.push_reserved(port),
-            Err(fault) => return Err(fault),
-        }
+        let port = match first.take() {
+            Some(port) => port,
+            None => reopen(rt, alloc, path, geometry)?,
+        };
+        ports.push_reserved(port);
     }
     Ok(ports)
 }
@@ -173,8 +159,8 @@ impl<R: Files<File = File>> Ports<R> for PageFiles {
                 Ok(geometry) => memory_ports(self.alloc, geometry, clients),
                 Err(refusal) => Err(OpenFault::Refused(refusal)),
             },
-            None => match geometry_at(rt, self.alloc, word, size) {
-                Ok(geometry) => file_ports(rt, self.alloc, word, geometry, clients),
+            None => match FilePort::open(rt, self.alloc, word, size) {
+                Ok(first) => file_ports(rt, self.alloc, word, first, clients),
                 Err(fault) => Err(fault),
             },
         }

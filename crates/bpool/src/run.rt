@@ -65,7 +65,7 @@ pub(crate) fn print_run<W: Write>(
     ensures written { OnOk result (Appends (W.contents out.old) (W.contents out.new) (report_text entries.now ++ rows_text refused.now)) }
     ensures fault { IfErr result (λ ending. is_help ending ≡ false) }
 {
-    if report(entries, out).is_err() || report_rows(refused, out).is_err() {
+    if report(entries, out).is_err() || report_rows(refused, out).is_err() || out.flush().is_err() {
         return Err(Ending::OutputFailed);
     }
     Ok(())

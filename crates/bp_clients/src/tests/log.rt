@@ -28,7 +28,7 @@ fn write_ahead_rule_in_a_run(rt: HostRuntime) -> Result<(), Fail> {
         done.refused.as_slice(),
         [Refused { row: 6, number: 12 }].as_slice()
     );
-    assert_eq!(rt; counts(&done.trail), (0, 2, 1, 1));
+    assert_eq!(rt; counts(&done.trail), [0, 2, 1, 1, 0, 1]);
     assert_eq!(rt; done.trail.iter().filter(|entry| is_mark(entry)).count(), 2);
     Ok(())
 }

@@ -172,14 +172,28 @@ fn is_good_write_out(entry: &Entry) -> bool {
     matches!(entry.reply, Reply::Cleaned | Reply::StillDirty)
 }
 
-/// Hits, faults, evictions and good write-outs.
-pub(super) fn counts(trail: &[Entry]) -> (usize, usize, usize, usize) {
-    let hits = trail.iter().filter(|entry| is_hit(entry)).count();
-    let faults = trail.iter().filter(|entry| is_fault(entry)).count();
-    let evictions = trail.iter().filter(|entry| is_eviction(entry)).count();
-    let written = trail
-        .iter()
-        .filter(|entry| is_good_write_out(entry))
-        .count();
-    (hits, faults, evictions, written)
+fn is_failure(entry: &Entry) -> bool {
+    matches!(entry.reply, Reply::ReadFailed | Reply::WriteFailed)
+}
+
+fn is_refusal(entry: &Entry) -> bool {
+    matches!(
+        entry.reply,
+        Reply::NoVictim | Reply::NeedLog(_) | Reply::Busy
+    )
+}
+
+/// Hits, faults, evictions, good write-outs, failed ends and refusals.
+pub(super) fn counts(trail: &[Entry]) -> [usize; 6] {
+    [
+        trail.iter().filter(|entry| is_hit(entry)).count(),
+        trail.iter().filter(|entry| is_fault(entry)).count(),
+        trail.iter().filter(|entry| is_eviction(entry)).count(),
+        trail
+            .iter()
+            .filter(|entry| is_good_write_out(entry))
+            .count(),
+        trail.iter().filter(|entry| is_failure(entry)).count(),
+        trail.iter().filter(|entry| is_refusal(entry)).count(),
+    ]
 }

@@ -28,7 +28,7 @@ fn loads_overlap(rt: HostRuntime) -> Result<(), Fail> {
     let first = script(alloc, 0, 1, &[Do::Fix(0), Do::Unfix(0)])?;
     let second = script(alloc, 1, 3, &[Do::Fix(1), Do::Unfix(1)])?;
     let done = run_gated(&rt, alloc, first, second)?;
-    assert_eq!(rt; counts(&done.trail), (0, 2, 0, 0));
+    assert_eq!(rt; counts(&done.trail), [0, 2, 0, 0, 0, 0]);
     assert!(rt; done.refused.is_empty());
     Ok(())
 }
@@ -49,7 +49,7 @@ fn flushes_overlap(rt: HostRuntime) -> Result<(), Fail> {
         &[Do::Fix(1), Do::Write(1, 0), Do::Flush(1), Do::Unfix(1)],
     )?;
     let done = run_gated(&rt, alloc, first, second)?;
-    assert_eq!(rt; counts(&done.trail), (0, 2, 0, 2));
+    assert_eq!(rt; counts(&done.trail), [0, 2, 0, 2, 0, 0]);
     assert!(rt; done.refused.is_empty());
     Ok(())
 }
@@ -79,7 +79,7 @@ fn write_outs_of_a_fix_overlap(rt: HostRuntime) -> Result<(), Fail> {
     let first = script_of_two_pages(alloc, 0, 1, 0)?;
     let second = script_of_two_pages(alloc, 1, 7, 1)?;
     let done = run_gated(&rt, alloc, first, second)?;
-    assert_eq!(rt; counts(&done.trail), (0, 4, 2, 2));
+    assert_eq!(rt; counts(&done.trail), [0, 4, 2, 2, 0, 0]);
     assert!(rt; done.refused.is_empty());
     Ok(())
 }

@@ -4,6 +4,7 @@ use crate::words::{Order, TraceSource};
 use bp_page::Refusal;
 use bp_trace::TraceFault;
 use std::alloc::Global;
+use std::process::Abort;
 use std::test::Fail;
 
 /// What the program says of a line that it does not run.
@@ -90,122 +91,140 @@ fn orders_that_are_run(rt: HostRuntime) -> Result<(), Fail> {
     Ok(())
 }
 
-#[test]
-fn words_that_are_not_run(rt: HostRuntime) -> Result<(), Fail> {
-    let rows = [
-        // the words
-        (
-            "run",
-            "error: the following required arguments were not provided: <TRACE> <PAGEFILE>",
-        ),
-        (
-            "run stdin",
-            "error: the following required arguments were not provided: <PAGEFILE>",
-        ),
-        (
-            "run stdin mem:16 more",
-            "error: unexpected argument 'more' found",
-        ),
-        (
-            "run stdin mem:16 --seed 1",
-            "error: unexpected argument '--seed' found",
-        ),
-        (
-            "run stdin mem:16 --retained -1",
-            "error: unexpected argument '-1' found",
-        ),
-        ("walk", "error: unrecognized subcommand 'walk'"),
-        ("--frames 2", "error: unexpected argument '--frames' found"),
-        (
-            "run stdin mem:16 --k",
-            "error: a value is required for '--k <N>' but none was supplied",
-        ),
-        (
-            "run stdin mem:16 --k 2 --k 2",
-            "error: the argument '--k <N>' cannot be used multiple times",
-        ),
-        (
-            "run stdin mem:16 --k two",
-            "error: invalid value 'two' for '--k <N>': invalid digit found in string",
-        ),
-        (
-            "run stdin mem:16 --k 0",
-            "error: invalid value '0' for '--k <N>': 0 is not in 1..=16",
-        ),
-        (
-            "run stdin mem:16 --k 17",
-            "error: invalid value '17' for '--k <N>': 17 is not in 1..=16",
-        ),
-        (
-            "run stdin mem:16 --frames 0",
-            "error: invalid value '0' for '--frames <N>': 0 is not in 1..=65536",
-        ),
-        (
-            "run stdin mem:16 --frames 65537",
-            "error: invalid value '65537' for '--frames <N>': 65537 is not in 1..=65536",
-        ),
-        (
-            "run stdin mem:16 --correlated 4611686018427387905",
-            "error: invalid value '4611686018427387905' for '--correlated <N>': 4611686018427387905 is not in 0..=4611686018427387904",
-        ),
-        (
-            "run stdin mem:16 --retained 4611686018427387905",
-            "error: invalid value '4611686018427387905' for '--retained <N>': 4611686018427387905 is not in 0..=4611686018427387904",
-        ),
-        (
-            "run t.csv mem:0 --k 17",
-            "error: invalid value '17' for '--k <N>': 17 is not in 1..=16",
-        ),
-        (
-            "run stdin mem:16 --page-size 15",
-            "error: invalid value '15' for '--page-size <N>': 15 is not in 16..=65536",
-        ),
-        (
-            "run stdin mem:16 --page-size 65537",
-            "error: invalid value '65537' for '--page-size <N>': 65537 is not in 16..=65536",
-        ),
-        (
-            "run stdin mem:16 --order",
-            "error: a value is required for '--order <ORDER>' but none was supplied",
-        ),
-        (
-            "run stdin mem:16 --order Free",
-            "error: invalid value 'Free' for '--order <ORDER>' [possible values: trace, free]",
-        ),
-        (
-            "run stdin mem:16 --page-size 17 --order both",
-            "error: invalid value 'both' for '--order <ORDER>' [possible values: trace, free]",
-        ),
-        // a page size that no page file has
-        ("run stdin mem:16 --page-size 17", "page file refused 1"),
-        ("run t.csv pages --page-size 65535", "page file refused 1"),
-    ];
-    let alloc = rt.alloc();
-    for (line, message) in rows {
+/// Asserts that each line is a fault of the words, which is said in a line of its own, with where to find help.
+fn expect_faults<R: Abort>(rt: &R, alloc: Global, rows: &[(&str, &str)]) -> Result<(), Fail> {
+    for (line, fault) in rows {
         let (status, text, said) = ended(alloc, line)?;
         assert_eq!(rt; status, 2, "{line}");
         assert!(rt; text.is_empty(), "{line}");
-        let expected = format!(in alloc; "{message}\n")?;
+        let expected = format!(in alloc; "error: {fault}; try 'bpool --help'\n")?;
         assert_eq!(rt; said.as_str(), expected.as_str(), "{line}");
     }
     Ok(())
 }
 
 #[test]
+fn words_that_are_missing_or_unknown(rt: HostRuntime) -> Result<(), Fail> {
+    let rows = [
+        (
+            "run",
+            "the following required arguments were not provided: <TRACE> <PAGEFILE>",
+        ),
+        (
+            "run stdin",
+            "the following required arguments were not provided: <PAGEFILE>",
+        ),
+        ("run stdin mem:16 more", "unexpected argument 'more' found"),
+        (
+            "run stdin mem:16 --seed 1",
+            "unexpected argument '--seed' found",
+        ),
+        (
+            "run stdin mem:16 --retained -1",
+            "unexpected argument '-1' found",
+        ),
+        ("walk", "unrecognized subcommand 'walk'"),
+        ("--frames 2", "unexpected argument '--frames' found"),
+        (
+            "run stdin mem:16 --k",
+            "a value is required for '--k <N>' but none was supplied",
+        ),
+        (
+            "run stdin mem:16 --k 2 --k 2",
+            "the argument '--k <N>' cannot be used multiple times",
+        ),
+    ];
+    expect_faults(&rt, rt.alloc(), rows.as_slice())
+}
+
+#[test]
+fn numbers_out_of_their_limits(rt: HostRuntime) -> Result<(), Fail> {
+    // the option, the number, and what is said of it
+    let rows = [
+        ("k", "two", "invalid digit found in string"),
+        ("k", "0", "0 is not in 1..=16"),
+        ("k", "17", "17 is not in 1..=16"),
+        ("frames", "0", "0 is not in 1..=65536"),
+        ("frames", "65537", "65537 is not in 1..=65536"),
+        (
+            "correlated",
+            "4611686018427387905",
+            "4611686018427387905 is not in 0..=4611686018427387904",
+        ),
+        (
+            "retained",
+            "4611686018427387905",
+            "4611686018427387905 is not in 0..=4611686018427387904",
+        ),
+        ("page-size", "15", "15 is not in 16..=65536"),
+        ("page-size", "65537", "65537 is not in 16..=65536"),
+    ];
+    let alloc = rt.alloc();
+    for (option, number, why) in rows {
+        let line = format!(in alloc; "run t.csv mem:0 --{option} {number}")?;
+        let fault = format!(in alloc; "invalid value '{number}' for '--{option} <N>': {why}")?;
+        expect_faults(&rt, alloc, &[(line.as_str(), fault.as_str())])?;
+    }
+    Ok(())
+}
+
+#[test]
+fn words_that_are_no_order(rt: HostRuntime) -> Result<(), Fail> {
+    let rows = [
+        (
+            "run stdin mem:16 --order",
+            "a value is required for '--order <ORDER>' but none was supplied",
+        ),
+        (
+            "run stdin mem:16 --order Free",
+            "invalid value 'Free' for '--order <ORDER>' [possible values: trace, free]",
+        ),
+        (
+            "run stdin mem:16 --page-size 17 --order both",
+            "invalid value 'both' for '--order <ORDER>' [possible values: trace, free]",
+        ),
+    ];
+    expect_faults(&rt, rt.alloc(), rows.as_slice())
+}
+
+#[test]
+fn page_sizes_of_no_page_file(rt: HostRuntime) -> Result<(), Fail> {
+    for line in [
+        "run stdin mem:16 --page-size 17",
+        "run t.csv pages --page-size 65535",
+    ] {
+        let (status, text, said) = ended(rt.alloc(), line)?;
+        assert_eq!(rt; status, 2, "{line}");
+        assert!(rt; text.is_empty(), "{line}");
+        assert_eq!(rt; said.as_str(), "page file refused 1\n", "{line}");
+    }
+    Ok(())
+}
+
+#[test]
 fn help_of_the_program(rt: HostRuntime) -> Result<(), Fail> {
+    let parts = [
+        "Usage: bpool <COMMAND>\n",
+        "\n  run   Runs a trace over a buffer pool ",
+        "\nbpool run TRACE PAGEFILE [--frames N] [--k N] [--correlated N] [--retained N] [--page-size N] [--order ORDER]\n",
+        "\n  TRACE             A path, or stdin for the standard input\n",
+        "\n  PAGEFILE          A path, or mem:N for N pages of zero bytes in memory, N from 1 to 1048576\n",
+        "\n  --frames N        1 to 65536 [default: 8]\n",
+        "\n  --k N             1 to 16 [default: 2]\n",
+        "\n  --correlated N    0 to 2^62 ticks [default: 0]\n",
+        "\n  --retained N      0 to 2^62 ticks [default: 1000]\n",
+        "\n  --page-size N     16 to 65536 bytes, a multiple of 16 [default: 64]\n",
+        "\n  --order ORDER     trace or free [default: trace]\n",
+        "\nNo words at all: run stdin mem:16 --frames 2 --k 1\n",
+        "\nStatus 0: all rows were accepted, or help was asked for. Status 1: some row was refused. Status 2: ",
+    ];
     for line in ["help", "--help", "-h"] {
         let (status, text, said) = ended(rt.alloc(), line)?;
         assert_eq!(rt; status, 0, "{line}");
         assert!(rt; said.is_empty(), "{line}");
-        assert!(rt;
-            text.as_str().contains("Usage: bpool <COMMAND>\n"),
-            "{line}"
-        );
-        assert!(rt;
-            text.as_str()
-                .contains("\n  run   Runs a trace over a buffer pool "),
-            "{line}"
-        );
+        for part in parts {
+            assert!(rt; text.as_str().contains(part), "{line}: {part}");
+        }
     }
     Ok(())
 }

@@ -63,6 +63,7 @@ fn expect_run(
 struct Full {
     held: Vec<u8>,
     limit: usize,
+    can_flush: bool,
 }
 
 impl Write for Full {
@@ -77,7 +78,11 @@ impl Write for Full {
     }
 
     fn flush(&mut self) -> io::Result<()> {
-        Ok(())
+        if self.can_flush {
+            Ok(())
+        } else {
+            Err(io::Error::from(io::ErrorKind::StorageFull))
+        }
     }
 }
 
@@ -349,6 +354,26 @@ fn page_file_keeps_what_was_flushed(rt: HostRuntime) -> Result<(), Fail> {
     Ok(())
 }
 
+/// Two clients flush different pages of one file.
+#[test]
+fn page_file_in_free_order(rt: HostRuntime) -> Result<(), Fail> {
+    let path = "bpool_free.pages";
+    let zeros = [0u8; 48];
+    fs::write(&rt, path, zeros.as_slice())?;
+    let trace =
+        b"0,fix,1,,,\n0,write,1,3,ab,0\n0,flush,1,,,\n1,fix,2,,,\n1,write,2,15,cd,0\n1,flush,2,,,\n";
+    let line = "run stdin bpool_free.pages --page-size 16 --order free";
+    let ran = run(&rt, line, trace.as_slice())?;
+    assert_eq!(rt; ran.status, 0);
+    assert!(rt; ran.err.is_empty());
+    let mut expected = [0u8; 48];
+    expected[19] = 0xab;
+    expected[47] = 0xcd;
+    assert_eq!(rt; fs::read(&rt, path)?.as_slice(), expected.as_slice());
+    fs::remove_file(&rt, path)?;
+    Ok(())
+}
+
 #[test]
 fn trace_from_a_file(rt: HostRuntime) -> Result<(), Fail> {
     let path = "bpool_trace.csv";
@@ -395,6 +420,10 @@ fn faults_of_the_command_line(rt: HostRuntime) -> Result<(), Fail> {
         let line_ends = ran.err.iter().filter(|byte| **byte == b'\n').count();
         assert_eq!(rt; line_ends, 1, "{line}");
         assert!(rt; ran.err.starts_with(b"error: ".as_slice()), "{line}");
+        assert!(rt;
+            ran.err.ends_with(b"; try 'bpool --help'\n".as_slice()),
+            "{line}"
+        );
     }
     Ok(())
 }
@@ -412,41 +441,65 @@ fn help_is_no_run(rt: HostRuntime) -> Result<(), Fail> {
     Ok(())
 }
 
-#[test]
-fn streams_that_fail(rt: HostRuntime) -> Result<(), Fail> {
+/// Asserts that the output failed in the run of no words over the classical trace, with this much of it written.
+fn expect_output_failed(
+    rt: &(impl Runtime<A = Global> + Files<File = File> + Threads + Wait + Sync + Abort),
+    out: &mut Full,
+    written: &[u8],
+) -> Result<(), Fail> {
     let alloc = rt.alloc();
-    let words = ["run", "stdin", "mem:16"];
-    let mut files = PageFiles::new(alloc);
-    let mut out = Full {
-        held: Vec::new(alloc),
-        limit: 10,
-    };
+    let words: Vec<&str> = Vec::new(alloc);
     let mut err = Vec::new(alloc);
     let mut reader = CLASSICAL;
     let status = run_with(
-        &rt,
+        rt,
         alloc,
         words.as_slice(),
         &mut reader,
-        &mut files,
-        &mut out,
+        &mut PageFiles::new(alloc),
+        out,
         &mut err,
     );
     assert_eq!(rt; status, 2);
     assert_eq!(rt; err.as_slice(), b"output failed\n".as_slice());
-    let mut text = Vec::new(alloc);
-    let mut said = Vec::new(alloc);
+    assert_eq!(rt; out.held.as_slice(), written);
+    Ok(())
+}
+
+#[test]
+fn outputs_that_fail(rt: HostRuntime) -> Result<(), Fail> {
+    let mut ten_bytes = Full {
+        held: Vec::new(rt.alloc()),
+        limit: 10,
+        can_flush: true,
+    };
+    expect_output_failed(&rt, &mut ten_bytes, b"evict 4 1\n".as_slice())?;
+    let report = b"evict 4 1\nhits 1\nfaults 3\nevictions 1\nwrites 0\nfailed 0\nrefused 0\n";
+    let mut no_flush = Full {
+        held: Vec::new(rt.alloc()),
+        limit: 1000,
+        can_flush: false,
+    };
+    expect_output_failed(&rt, &mut no_flush, report.as_slice())
+}
+
+#[test]
+fn trace_that_cannot_be_read(rt: HostRuntime) -> Result<(), Fail> {
+    let alloc = rt.alloc();
+    let words: Vec<&str> = Vec::new(alloc);
+    let mut out = Vec::new(alloc);
+    let mut err = Vec::new(alloc);
     let status = run_with(
         &rt,
         alloc,
         words.as_slice(),
         &mut Broken,
-        &mut files,
-        &mut text,
-        &mut said,
+        &mut PageFiles::new(alloc),
+        &mut out,
+        &mut err,
     );
     assert_eq!(rt; status, 2);
-    assert!(rt; text.is_empty());
-    assert_eq!(rt; said.as_slice(), b"trace row 0 refused 47\n".as_slice());
+    assert!(rt; out.is_empty());
+    assert_eq!(rt; err.as_slice(), b"trace row 0 refused 47\n".as_slice());
     Ok(())
 }

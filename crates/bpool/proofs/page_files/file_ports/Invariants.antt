@@ -1,6 +1,10 @@
-use Rattle.std.proofs.Common.{◌≤◌, vec_capacity}
-use Rattle.bpool.specs.AnyPort.{AreOf}
+use Rattle.std.proofs.Common.{◌≡◌, ◌≤◌, IfSome, vec_capacity}
+use Rattle.bpool.specs.AnyPort.{AreOf, device_of}
 use Rattle.bpool.proofs.page_files.file_ports.Given as goal
 
 abbrev pub invariant-loop : goal.invariant-loop
-invariant-loop g l = AreOf l.fn.geometry l.counter l.ports.items × (l.fn.clients ≤ vec_capacity l.ports)
+invariant-loop g l = record {
+  are : AreOf l.fn.first.device l.counter l.ports.items;
+  room : l.fn.clients ≤ vec_capacity l.ports;
+  first : IfSome l.first (λ port. device_of port ≡ l.fn.first.device);
+}

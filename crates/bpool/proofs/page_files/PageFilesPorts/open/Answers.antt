@@ -25,10 +25,10 @@ returns-in-Ok-clause-opened g c =
     opened c.args.word.now c.args.size c.in-Ok.geometry c.args.clients c.memory_ports.result
     (in-memory (memory_named c.args.word.now) c.in-Some.pages c.in-Ok.geometry.pages (sym c.in-Some.ensures) c.in-Ok.ensures.pages) c.in-Ok.ensures.size c.memory_ports.ensures.ports
 
-pub returns-in-Ok-geometry_at-clause-opened : goal.returns-in-Ok-geometry_at-clause-opened
-returns-in-Ok-geometry_at-clause-opened g c =
-    opened c.args.word.now c.args.size c.in-Ok-geometry_at.geometry c.args.clients c.file_ports.result
-    (at-path (memory_named c.args.word.now) c.in-Ok-geometry_at.geometry.pages c.in-None.ensures) c.in-Ok-geometry_at.ensures.size c.file_ports.ensures.ports
+pub returns-in-Ok-open-clause-opened : goal.returns-in-Ok-open-clause-opened
+returns-in-Ok-open-clause-opened g c =
+    opened c.args.word.now c.args.size c.in-Ok-open.first.device c.args.clients c.file_ports.result
+    (at-path (memory_named c.args.word.now) c.in-Ok-open.first.device.pages c.in-None.ensures) c.in-Ok-open.ensures.opened.0 c.file_ports.ensures.ports
   where
     at-path : (named : Option ℕ) (pages : ℕ) → None ≡ named → HasPages named pages
     at-path None pages is = tt
