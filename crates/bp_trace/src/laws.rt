@@ -6,8 +6,8 @@ ghost use Rattle.bp_trace.specs.Numbers.{number_in};
 ghost use Rattle.bp_trace.specs.Script.{script_from};
 ghost use Rattle.bp_trace.specs.Written.{written_row};
 
-use bp_core::Row;
 use bp_page::Geometry;
+use bp_trail::Row;
 
 /// Each number up to 2^62 reads back as itself from the text that it is printed as.
 pub fn printed_number_reads_back(number: u64)

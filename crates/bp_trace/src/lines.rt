@@ -5,7 +5,7 @@ ghost use Rattle.hex.specs.Hex.{encode_lower};
 ghost use Rattle.bp_trail.specs.Event.{page_of};
 ghost use Rattle.bp_trace.specs.Lines.{event_line, read_line, refused_line};
 
-use bp_core::{Call, Entry, Refused, Reply};
+use bp_trail::{Call, Entry, Refused, Reply};
 use std::io;
 use std::io::Write;
 

@@ -6,7 +6,7 @@ ghost use Rattle.bp_trace.specs.Report.{lines_after, report_text, rows_text, ste
 
 use crate::lines::{write_event, write_refused};
 use crate::totals::Totals;
-use bp_core::{Call, Entry, Refused};
+use bp_trail::{Call, Entry, Refused};
 use std::io;
 use std::io::Write;
 

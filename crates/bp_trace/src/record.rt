@@ -5,8 +5,8 @@ ghost use Rattle.bp_trace.specs.Fields.{Gives, texts_of};
 ghost use Rattle.bp_trace.specs.Record.{has_extra, is_log, op_in, place_in, row_in, step_in, texts_row, write_in};
 
 use crate::fields::{Fields, parse_client, six_fields, wanted_bytes, wanted_number, wanted_page};
-use bp_core::{Row, Step};
 use bp_page::{Bytes, Geometry, Lsn, Refusal};
+use bp_trail::{Row, Step};
 use csv::ByteRecord;
 use std::alloc::Global;
 

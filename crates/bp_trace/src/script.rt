@@ -8,8 +8,8 @@ ghost use Rattle.bp_trace.specs.Script.{Answers, IsScriptOfSome, fault, fault_at
 use crate::faults::TraceFault;
 use crate::input::read_all;
 use crate::record::parse_row;
-use bp_core::Row;
 use bp_page::{Geometry, Refusal};
+use bp_trail::Row;
 use csv::{ByteRecord, Error, ErrorKind, ReaderBuilder};
 use std::alloc::Global;
 use std::io::Read;

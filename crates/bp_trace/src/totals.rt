@@ -3,7 +3,7 @@ ghost use Rattle.std.specs.Prelude.{◌≡◌, ◌<◌, ◌^◌, OnOk};
 ghost use Rattle.std.specs.Io.KnownBytes.{Appends};
 ghost use Rattle.bp_trace.specs.Totals.{HasRoom, counted, no_totals, total_line, totals_text};
 
-use bp_core::Reply;
+use bp_trail::Reply;
 use std::io;
 use std::io::Write;
 

@@ -72,10 +72,7 @@ fn memory_ports(
 ) -> Result<Vec<AnyPort>, OpenFault>
     ensures ports { IfOk result (λ ports. AreOf geometry clients ports.items) }
 {
-    let device = match MemDevice::new(alloc, geometry) {
-        Ok(device) => device,
-        Err(refusal) => return Err(OpenFault::Refused(refusal)),
-    };
+    let device = MemDevice::new(alloc, geometry).map_err(OpenFault::Refused)?;
     let Ok(mut ports) = Vec::with_capacity(alloc, clients) else {
         return Err(OpenFault::Port(PortFault::Memory));
     };
@@ -97,10 +94,7 @@ fn reopen<R: Files<File = File>>(
 ) -> Result<AnyPort, OpenFault>
     ensures same { IfOk result (λ port. device_of port ≡ geometry) }
 {
-    let port = match FilePort::open(rt, alloc, path, geometry.size) {
-        Ok(port) => port,
-        Err(fault) => return Err(fault),
-    };
+    let port = FilePort::open(rt, alloc, path, geometry.size)?;
     if port.geometry().pages != geometry.pages {
         return Err(OpenFault::Port(PortFault::Device));
     }

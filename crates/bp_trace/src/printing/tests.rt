@@ -1,6 +1,6 @@
 use super::{report, report_rows};
-use bp_core::{Call, Entry, Refused, Reply};
 use bp_page::{Bytes, Image, Lsn, PageNo};
+use bp_trail::{Call, Entry, Refused, Reply};
 use std::alloc::{AllocError, Global};
 use std::io;
 use std::io::Write;

@@ -1,7 +1,7 @@
 use super::read_script;
 use crate::faults::TraceFault;
-use bp_core::{Row, Step};
 use bp_page::{Bytes, Geometry, Lsn, PageNo};
+use bp_trail::{Row, Step};
 use std::alloc::{AllocError, Global};
 use std::io;
 use std::io::Read;
@@ -430,9 +430,9 @@ fn interrupted_readers(rt: HostRuntime) {
     assert_eq!(rt; got, Err(TraceFault { row: 0, number: 47 }));
 }
 
-// Whichever allocation is refused, if one is: the rows are all there, or memory was wanted.
+// With memory the rows are all there. `rt try --fail-alloc` refuses one growth after another: then memory was wanted.
 #[test]
-fn refused_growths(rt: HostRuntime) {
+fn rows_or_want_of_memory(rt: HostRuntime) {
     let trace = b"1,write,3,4,00ff,9\n0,log,9,,,\n1,read,3,,,\n";
     match read_script(rt.alloc(), &mut trace.as_slice(), &sixteen_pages(&rt)) {
         Ok(rows) => {
