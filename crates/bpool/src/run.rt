@@ -109,10 +109,18 @@ fn run_rows<P: Port, R: Wait, W: Write>(
     ensures reported { IfOk result (λ all_accepted. Reports (parameters_for Order.Trace (told_of run.now) (P.geometry_of port.old) rows.now) rows.now all_accepted (W.contents out.old) (W.contents out.new)) }
     ensures fault { IfErr result (λ ending. is_help ending ≡ false) }
 {
-    let mut core = new_core(alloc, run, port.geometry(), rows)?;
-    let refused = drive_all(rt, alloc, &mut core, port, rows).map_err(Ending::RunRefused)?;
-    print_run(core.trail(), &refused, out)?;
-    Ok(refused.is_empty())
+    let mut core = match new_core(alloc, run, port.geometry(), rows) {
+        Ok(core) => core,
+        Err(ending) => return Err(ending),
+    };
+    let refused = match drive_all(rt, alloc, &mut core, port, rows) {
+        Ok(refused) => refused,
+        Err(refusal) => return Err(Ending::RunRefused(refusal)),
+    };
+    match print_run(core.trail(), &refused, out) {
+        Ok(()) => Ok(refused.is_empty()),
+        Err(fault) => Err(fault),
+    }
 }
 
 /// The rows of a trace over pages of this geometry.
