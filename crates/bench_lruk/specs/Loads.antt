@@ -1,6 +1,6 @@
 -- What the timed loops keep.
-use Rattle.std.specs.Prelude.{◌≡◌, ℕ, ◌<◌, ◌≤◌, true, false, length}
-use Rattle.bp_lruk.specs.Histories.{Blocks, is_held, last_of}
+use Rattle.std.specs.Prelude.{◌≡◌, ℕ, ◌<◌, ◌≤◌, true, false, List, length, Some, slice_index}
+use Rattle.bp_lruk.specs.Histories.{Blocks, is_held, last_of, place_of}
 use Rattle.bp_lruk.specs.Candidates.{Entered, is_entered}
 
 -- the pages below `pages` are held and have a reference, and no reference is after t
@@ -8,6 +8,10 @@ pub record IsLoaded (h : Blocks) (pages t : ℕ) : Type 0 where
   pub held : (page : ℕ) → page < pages → is_held h page ≡ true
   pub known : (page : ℕ) → page < pages → 0 < last_of h page
   pub by_now : (page : ℕ) → last_of h page ≤ t
+
+-- a table of the blocks of the pages from 0 on
+abbrev pub IsTable : Blocks → List ℕ → Type 0
+IsTable h blocks = (page : ℕ) → page < length blocks → place_of h page ≡ Some (slice_index blocks page)
 
 -- the pages below `frames` are entered, and no other
 pub record IsFull (c : Entered) (frames : ℕ) : Type 0 where
@@ -26,3 +30,9 @@ pub record FillsBelow (c : Entered) (frames so_far : ℕ) : Type 0 where
   pub not_entered : (page : ℕ) → so_far ≤ page → is_entered c page ≡ false
   pub room : c.frames ≡ frames
   pub count : length c.entries ≡ so_far
+
+-- the table has the blocks of the pages so far
+pub record TablesBelow (h : Blocks) (blocks : List ℕ) (so_far : ℕ) : Type 0 where
+  pub loads : LoadsBelow h so_far
+  pub table : IsTable h blocks
+  pub count : length blocks ≡ so_far

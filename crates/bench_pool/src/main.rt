@@ -1,9 +1,10 @@
-//! Times fix and unfix over a page file where its argument is the path of one; else it does nothing. docs/BENCHMARKS.md has its numbers.
+//! Times fix and unfix over a page file where its argument is the path of one; else it does nothing. A second argument is the
+//! trail's room: the trail is then cut, and let go, each time it is half full. docs/BENCHMARKS.md has its numbers.
 #![tactic(auto)]
 
 ghost use Rattle.std.specs.Prelude.{◌≡◌, ◌*◌, ◌<◌, ◌≤◌, IfOk};
 
-use bp_core::{Core, Entry, Fix, Pass, Reply};
+use bp_core::{Core, Entry, Fix, Pass};
 use bp_device::{FilePort, OpenFault, Port, drive_fix};
 use bp_lruk::Settings;
 use bp_lruk::settings::MAX_PERIOD;
@@ -20,6 +21,7 @@ const SIZE: usize = 1024;
 
 const PAGES_A_FRAME: u64 = 4;
 
+// The room where no trail is cut.
 const ROOM: usize = 10000000;
 
 // The clock moves once in so many fixes: a page may leave only once it was last referenced before the present tick.
@@ -82,18 +84,31 @@ fn use_any(rt: &impl Wait, core: &mut Core, port: &mut FilePort, page: PageNo) -
     }
 }
 
-// Moves the clock where it is due.
-fn tick(core: &mut Core, call: u64)
+// Hands out the trail, and lets it go.
+fn cut(core: &mut Core)
+    ensures same { core.new.parameters ≡ core.old.parameters }
+{
+    match core.cut() {
+        Ok(_entries) => (),
+        Err(_) => (),
+    }
+}
+
+// Moves the clock where it is due, and cuts a long trail.
+fn tick(core: &mut Core, call: u64, cut_at: usize)
     requires client { 0 < core.old.parameters.clients }
     ensures same { core.new.parameters ≡ core.old.parameters }
 {
     if call % FIXES_A_TICK == 0 {
         let _ = core.tick(0, 1);
+        if core.trail().len() >= cut_at {
+            cut(core);
+        }
     }
 }
 
 // Brings in as many pages, in turn.
-fn fill(rt: &impl Wait, core: &mut Core, port: &mut FilePort, pages: u64)
+fn fill(rt: &impl Wait, core: &mut Core, port: &mut FilePort, pages: u64, cut_at: usize)
     requires size { port.old.device.size ≡ core.old.parameters.size }
     requires client { 0 < core.old.parameters.clients }
     requires pages_in { pages ≤ core.old.parameters.pages }
@@ -101,13 +116,13 @@ fn fill(rt: &impl Wait, core: &mut Core, port: &mut FilePort, pages: u64)
     ensures device { port.new.device ≡ port.old.device }
 {
     for page in 0..pages {
-        tick(core, page);
+        tick(core, page, cut_at);
         use_any(rt, core, port, PageNo::new(page));
     }
 }
 
 // Fixes pages at random. Counts those that were resident.
-fn hit_at_random(core: &mut Core, pages: u64, calls: u64) -> u64
+fn hit_at_random(core: &mut Core, pages: u64, calls: u64, cut_at: usize) -> u64
     requires some { 0 < pages }
     requires client { 0 < core.old.parameters.clients }
     requires pages_in { pages ≤ core.old.parameters.pages }
@@ -116,7 +131,7 @@ fn hit_at_random(core: &mut Core, pages: u64, calls: u64) -> u64
     let mut hits = 0;
     for call in 0..calls {
         state = next(state);
-        tick(core, call);
+        tick(core, call, cut_at);
         hits += use_resident(core, PageNo::new((state >> 33) % pages));
     }
     hits
@@ -129,6 +144,7 @@ fn fix_at_random(
     port: &mut FilePort,
     pages: u64,
     calls: u64,
+    cut_at: usize,
 ) -> u64
     requires some { 0 < pages }
     requires size { port.old.device.size ≡ core.old.parameters.size }
@@ -140,26 +156,10 @@ fn fix_at_random(
     let mut fixes = 0;
     for call in 0..calls {
         state = next(state);
-        tick(core, call);
+        tick(core, call, cut_at);
         fixes += use_any(rt, core, port, PageNo::new((state >> 33) % pages));
     }
     fixes
-}
-
-// How many evictions the trail tells of.
-fn evictions(core: &Core) -> usize {
-    core.trail()
-        .iter()
-        .filter(|entry| {
-            matches!(
-                entry.reply,
-                Reply::Load {
-                    evicted: Some(_),
-                    ..
-                }
-            )
-        })
-        .count()
 }
 
 // How many calls a second these are, or 0 where they took no time.
@@ -192,7 +192,7 @@ fn open<R: Files<File = File>>(
 }
 
 // A core of K 2 and no periods for one client.
-fn new_core(alloc: Global, geometry: Geometry, frames: usize) -> Result<Core, Refusal>
+fn new_core(alloc: Global, geometry: Geometry, frames: usize, room: usize) -> Result<Core, Refusal>
     ensures size { IfOk result (λ core. core.parameters.size ≡ geometry.size) }
     ensures pages { IfOk result (λ core. core.parameters.pages ≡ geometry.pages) }
     ensures client { IfOk result (λ core. core.parameters.clients ≡ 1) }
@@ -201,7 +201,7 @@ fn new_core(alloc: Global, geometry: Geometry, frames: usize) -> Result<Core, Re
         Ok(settings) => settings,
         Err(refusal) => return Err(refusal),
     };
-    Core::new(alloc, geometry, settings, frames, 1, ROOM)
+    Core::new(alloc, geometry, settings, frames, 1, room)
 }
 
 // Times fixes of pages that are resident.
@@ -210,13 +210,14 @@ fn time_hits(
     core: &mut Core,
     pages: u64,
     calls: u64,
+    cut_at: usize,
 ) -> Result<(), anyhow::Error>
     requires some { 0 < pages }
     requires client { 0 < core.old.parameters.clients }
     requires pages_in { pages ≤ core.old.parameters.pages }
 {
     let start = rt.thread_cpu_time()?;
-    let hits = hit_at_random(core, pages, calls);
+    let hits = hit_at_random(core, pages, calls, cut_at);
     let end = rt.thread_cpu_time()?;
     let each = calls_a_second(start, end, calls);
     println!(rt; "{pages} pages: {each} fixes and unfixes a second; {hits} of {calls} were hits")?;
@@ -230,6 +231,7 @@ fn time_evictions(
     port: &mut FilePort,
     pages: u64,
     calls: u64,
+    cut_at: usize,
 ) -> Result<(), anyhow::Error>
     requires some { 0 < pages }
     requires size { port.old.device.size ≡ core.old.parameters.size }
@@ -237,11 +239,12 @@ fn time_evictions(
     requires pages_in { pages ≤ core.old.parameters.pages }
 {
     let start = rt.thread_cpu_time()?;
-    let fixes = fix_at_random(rt, core, port, pages, calls);
+    let fixes = fix_at_random(rt, core, port, pages, calls, cut_at);
     let end = rt.thread_cpu_time()?;
     let each = calls_a_second(start, end, calls);
-    let gone = evictions(core);
-    println!(rt; "{pages} pages: {each} fixes and unfixes a second; {gone} of {fixes} evicted")?;
+    println!(rt;
+        "{pages} pages: {each} fixes and unfixes a second; {fixes} of {calls} were not refused"
+    )?;
     Ok(())
 }
 
@@ -251,6 +254,8 @@ fn full_core(
     alloc: Global,
     port: &mut FilePort,
     frames: usize,
+    room: usize,
+    cut_at: usize,
 ) -> Result<Core, Refusal>
     requires pages_in { frames ≤ port.old.device.pages }
     ensures device { port.new.device ≡ port.old.device }
@@ -258,9 +263,9 @@ fn full_core(
     ensures pages { IfOk result (λ core. core.parameters.pages ≡ port.old.device.pages) }
     ensures client { IfOk result (λ core. core.parameters.clients ≡ 1) }
 {
-    match new_core(alloc, port.geometry(), frames) {
+    match new_core(alloc, port.geometry(), frames, room) {
         Ok(mut core) => {
-            fill(rt, &mut core, port, frames as u64);
+            fill(rt, &mut core, port, frames as u64, cut_at);
             Ok(core)
         }
         Err(refusal) => Err(refusal),
@@ -273,13 +278,15 @@ fn time_resident(
     port: &mut FilePort,
     frames: usize,
     calls: u64,
+    room: usize,
+    cut_at: usize,
 ) -> Result<(), anyhow::Error>
     requires some { 0 < frames }
     requires pages_in { frames ≤ port.old.device.pages }
     ensures device { port.new.device ≡ port.old.device }
 {
-    let mut core = full_core(rt, rt.alloc(), port, frames)?;
-    time_hits(rt, &mut core, frames as u64, calls)
+    let mut core = full_core(rt, rt.alloc(), port, frames, room, cut_at)?;
+    time_hits(rt, &mut core, frames as u64, calls, cut_at)
 }
 
 // Times fixes with evictions over a new core.
@@ -288,13 +295,22 @@ fn time_away(
     port: &mut FilePort,
     frames: usize,
     calls: u64,
+    room: usize,
+    cut_at: usize,
 ) -> Result<(), anyhow::Error>
     requires some { 0 < frames }
     requires few { frames ≤ 65536 }
     requires pages_in { frames * PAGES_A_FRAME ≤ port.old.device.pages }
 {
-    let mut core = full_core(rt, rt.alloc(), port, frames)?;
-    time_evictions(rt, &mut core, port, frames as u64 * PAGES_A_FRAME, calls)
+    let mut core = full_core(rt, rt.alloc(), port, frames, room, cut_at)?;
+    time_evictions(
+        rt,
+        &mut core,
+        port,
+        frames as u64 * PAGES_A_FRAME,
+        calls,
+        cut_at,
+    )
 }
 
 fn time_pool(
@@ -303,23 +319,41 @@ fn time_pool(
     frames: usize,
     hits: u64,
     fixes: u64,
+    room: usize,
+    cut_at: usize,
 ) -> Result<(), anyhow::Error>
     requires some { 0 < frames }
     requires few { frames ≤ 65536 }
 {
     println!(rt; "{frames} frames")?;
     let mut port = open(rt, rt.alloc(), path, frames as u64 * PAGES_A_FRAME)?;
-    time_resident(rt, &mut port, frames, hits)?;
-    time_away(rt, &mut port, frames, fixes)
+    time_resident(rt, &mut port, frames, hits, room, cut_at)?;
+    time_away(rt, &mut port, frames, fixes, room, cut_at)
+}
+
+fn time_pools(
+    rt: &(impl Runtime<A = Global> + CpuClock + Files<File = File> + Wait),
+    path: &str,
+    room: usize,
+    cut_at: usize,
+) -> Result<(), anyhow::Error> {
+    let bytes = size_of::<Entry>();
+    println!(rt; "an entry has {bytes} bytes")?;
+    time_pool(rt, path, 256, 4000000, 400000, room, cut_at)?;
+    time_pool(rt, path, 4096, 4000000, 400000, room, cut_at)?;
+    time_pool(rt, path, 65536, 400000, 400000, room, cut_at)
 }
 
 fn main(rt: HostRuntime) -> Result<(), anyhow::Error> {
-    for path in env::args(&rt)?.skip(1) {
-        let bytes = size_of::<Entry>();
-        println!(&rt; "an entry has {bytes} bytes")?;
-        time_pool(&rt, path.as_str(), 256, 4000000, 400000)?;
-        time_pool(&rt, path.as_str(), 4096, 4000000, 400000)?;
-        time_pool(&rt, path.as_str(), 65536, 400000, 400000)?;
+    let mut words = env::args(&rt)?.skip(1);
+    let Some(path) = words.next() else {
+        return Ok(());
+    };
+    match words.next() {
+        Some(room) => {
+            let room = room.as_str().parse::<usize>()?;
+            time_pools(&rt, path.as_str(), room, room / 2)
+        }
+        None => time_pools(&rt, path.as_str(), ROOM, ROOM),
     }
-    Ok(())
 }

@@ -11,6 +11,3 @@ pub mod sameness;
 pub use agreement::agrees;
 pub use log_bound::is_within_log;
 pub use sameness::same_entry;
-
-#[cfg(test)]
-mod tests;

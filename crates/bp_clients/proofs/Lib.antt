@@ -1,5 +1,6 @@
 -- Lemmas.
 pub mod Headline
+pub mod Pieces
 pub mod Stepping
 pub mod Following
 pub mod TakingIn

@@ -1,11 +1,12 @@
 -- What holds after a run of client threads. A trail and a client's list are in the order of time here, and so are scripts and refused rows.
-use Rattle.std.specs.Prelude.{◌≡◌, ℕ, ◌<◌, List, reverse, length, flat_map, Result, Ok, Err}
+use Rattle.std.specs.Prelude.{◌≡◌, ℕ, ◌<◌, List, [], ◌∷◌, ◌++◌, reverse, length, flat_map, Result, Ok, Err}
 use Rattle.std.specs.List.Sorted.{IsPermutation, IsNonDecreasingBy}
 use Rattle.bp_page.specs.declared.refusals.Refusal.{Refusal}
 use Rattle.bp_page.specs.declared.refusals.Refusal.TheVariants as refusal
 use Rattle.bp_trail.specs.declared.entries.Entry.{Entry}
 use Rattle.bp_trail.specs.declared.scripts.Row.{Row}
 use Rattle.bp_trail.specs.declared.scripts.Refused.{Refused}
+use Rattle.bp_trail.specs.Trail.{Trail}
 use Rattle.bp_trail.specs.Parameters.{Parameters}
 use Rattle.bp_trail.specs.Pieces.Manner.{session}
 use Rattle.bp_trail.specs.Script.{Follows}
@@ -70,3 +71,19 @@ RunAnswers c (Err refusal.BadSettings) = ¬ IsFit c
 RunAnswers c (Err refusal.OutOfMemory) = IsFit c
 RunAnswers c (Err refusal.Disagree) = IsFit c
 RunAnswers c (Err _) = ⊥
+
+-- ---- a trail that is taken in pieces
+
+-- the entries (newest first) after some pieces, each in the order of time, as each cut adds its own
+abbrev pub after_lists : Trail → List (List Entry) → Trail
+after_lists before [] = before
+after_lists before (piece ∷ pieces) = after_lists (reverse piece ++ before) pieces
+
+-- the pieces joined
+abbrev pub joined_lists : List (List Entry) → List Entry
+joined_lists pieces = flat_map (λ piece. piece) pieces
+
+-- of each client the pieces of its list are, joined, what the pieces of the trail have of it, joined; each piece of the trail can be looked at alone
+pub record PiecesAreTheirs (clients : ℕ) (trail : List (List Entry)) (said : List (List (List Entry))) : Type 0 where
+  pub counted : length said ≡ clients
+  pub each : (c : ℕ) → c < clients → joined_lists (list_of c said) ≡ flat_map (of_client c) trail

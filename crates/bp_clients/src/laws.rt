@@ -1,5 +1,5 @@
 //! What every run has besides, since its trail is legal. Each function does nothing: its contract is the law.
-ghost use Rattle.std.specs.Prelude.{◌≡◌, ℕ, false, List, ◌∷◌, ◌++◌, length, reverse, Some};
+ghost use Rattle.std.specs.Prelude.{◌≡◌, ℕ, false, List, [], map, ◌∷◌, ◌++◌, length, reverse, Some};
 ghost use Rattle.bp_lruk.specs.Distance.{is_farther};
 ghost use Rattle.bp_trail.specs.declared.entries.Entry.{Entry as AnEntry};
 ghost use Rattle.bp_trail.specs.declared.entries.Reply.TheVariants.{Load};
@@ -18,7 +18,7 @@ ghost use Rattle.bp_trail.specs.Pieces.Manner.{session};
 ghost use Rattle.bp_audit.specs.Log.{is_unfix};
 ghost use Rattle.bp_audit.specs.Cut.{BoundedByItsRow};
 ghost use Rattle.bp_clients.specs.Jobs.{list_of};
-ghost use Rattle.bp_clients.specs.Runs.{MarksWithinLog, SaidIsTheirs};
+ghost use Rattle.bp_clients.specs.Runs.{MarksWithinLog, SaidIsTheirs, after_lists, joined_lists, PiecesAreTheirs};
 
 /// In the trail of every run each reply is what the page map answers there from the calls before it; each page that leaves has no
 /// pins and is not unsaved, and is the eligible page that comes first, so that none is farther by its backward K-distance; no image
@@ -38,4 +38,13 @@ pub fn runs_keep_the_rules_of_the_pool()
 /// and with that entry is at most the greatest of the log rows before that row.
 pub fn marks_keep_to_the_log_rows()
     ensures { (scripts : List (List ARow)) (trail : List AnEntry) (said : List (List AnEntry)) (refused : List ARefused) (newer past : Trail) (e : AnEntry) (log : MarksWithinLog scripts trail said refused) → SaidIsTheirs (length scripts) trail said → reverse trail ≡ newer ++ e ∷ past → e.client ≡ 0 → is_unfix e.call ≡ false → BoundedByItsRow session (list_of 0 scripts) (reverse (list_of 0 said)) (list_of 0 log.follows.refusals) (log.follows.each 0 log.some) past e }
+{}
+
+/// A trail that is taken in pieces, and lists that are cut in pieces, are a run's when they are joined: what each cut says of its piece
+/// adds up to the joined pieces; so these are legal where the whole is; and the lists are the trail's entries of each client where that
+/// is so piece by piece.
+pub fn pieces_are_a_run()
+    ensures whole { (pieces : List (List AnEntry)) → after_lists [] pieces ≡ reverse (joined_lists pieces) }
+    ensures legal { (c : Parameters) (pieces : List (List AnEntry)) → Legal c (after_lists [] pieces) → Legal c (reverse (joined_lists pieces)) }
+    ensures theirs { (clients : ℕ) (trail : List (List AnEntry)) (said : List (List (List AnEntry))) → PiecesAreTheirs clients trail said → SaidIsTheirs clients (joined_lists trail) (map joined_lists said) }
 {}

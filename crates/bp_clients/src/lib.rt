@@ -10,8 +10,6 @@ mod job;
 pub mod laws;
 pub mod run;
 mod runner;
-#[cfg(test)]
-mod tests;
 
 pub use fitting::scripts_fit;
 pub use run::{Config, Outcome, run_clients};

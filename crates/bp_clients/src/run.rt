@@ -12,7 +12,7 @@ use bp_device::Port;
 use bp_lruk::Settings;
 use bp_mark::{LogEnd, Mark, Reader};
 use bp_page::{Geometry, Refusal};
-use bp_shared::{PoolName, Session, SharedPool};
+use bp_shared::{PoolName, Session, SharedPool, TrailRing};
 use std::alloc::Global;
 use std::marker::{Brand, Send, Sync};
 use std::sync::Wait;
@@ -106,6 +106,7 @@ fn joined<N: PoolName, P: Port>(
     said: Vec<Vec<Entry>>,
     refused: Vec<Refused>,
 ) -> Result<Outcome, Refusal>
+    requires uncut { core.before ≡ [] }
     requires empty { (said.items ≡ []) × (refused.items ≡ []) }
     ensures legal { IfOk result (λ run. Legal core.parameters (reverse run.trail.items)) }
     ensures joined { IfOk result (λ run. Joined run.trail.items jobs.items (lists run.said.items) run.refused.items) }
@@ -131,11 +132,14 @@ fn run_named<N: PoolName + Send + Sync, P: Port + Send, R: Threads + Wait + Sync
     alloc: Global,
     core: Core,
     parts: (Mark, LogEnd, Reader),
+    ring: TrailRing,
     scripts: Vec<Vec<Row>>,
     ports: Vec<P>,
 ) -> Result<Outcome, Refusal>
     requires mark { (parts.0 ≡ N.mark) × (parts.1.mark ≡ N.mark) × (parts.2.mark ≡ N.mark) }
     requires parameters { core.parameters ≡ N.parameters }
+    requires before { (core.before ≡ N.before) × (core.before ≡ []) }
+    requires ring { ring ≡ N.ring }
     requires new { core.past ≡ [] }
     requires clients { N.parameters.clients ≡ vec_len scripts }
     requires some { 0 < vec_len scripts }
@@ -152,7 +156,7 @@ fn run_named<N: PoolName + Send + Sync, P: Port + Send, R: Threads + Wait + Sync
         return Err(Refusal::OutOfMemory);
     };
     let (mark, end, reader) = parts;
-    let (pool, sessions) = match SharedPool::<N>::new(alloc, core, mark, reader) {
+    let (pool, sessions, taker) = match SharedPool::<N>::new(alloc, core, mark, reader, ring) {
         Ok(made) => made,
         Err(refusal) => return Err(refusal),
     };
@@ -161,7 +165,7 @@ fn run_named<N: PoolName + Send + Sync, P: Port + Send, R: Threads + Wait + Sync
         Err(refusal) => return Err(refusal),
     };
     run_jobs(rt, &pool, jobs.as_mut_slice());
-    let (core, _, _) = pool.finish();
+    let (core, _, _) = pool.finish(taker);
     joined(core, jobs, said, refused)
 }
 
@@ -209,5 +213,9 @@ pub fn run_clients<P: Port + Send, R: Threads + Wait + Sync>(
         Ok(parts) => parts,
         Err(refusal) => return Err(refusal),
     };
-    run_named::<Brand, P, R>(rt, alloc, core, parts, scripts, ports)
+    let ring = match TrailRing::new(alloc) {
+        Ok(ring) => ring,
+        Err(refusal) => return Err(refusal),
+    };
+    run_named::<Brand, P, R>(rt, alloc, core, parts, ring, scripts, ports)
 }

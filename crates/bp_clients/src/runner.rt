@@ -50,14 +50,15 @@ pub(crate) struct Runner<N: PoolName, P: Port> {
 }
 
 impl<N: PoolName, P: Port> Model for Runner<N, P> {
-    ghost use Rattle.std.specs.Prelude.{◌≡◌};
+    ghost use Rattle.std.specs.Prelude.{◌≡◌, []};
     ghost use Rattle.bp_shared.specs.Sessions.{SessionValue};
 
     ghost Value = { SessionValue };
 
     ghost view = { λ r. r.session };
 
-    ghost invariant = { λ r. (P.geometry_of r.port).size ≡ N.parameters.size };
+    // Nothing was cut from the list.
+    ghost invariant = { λ r. ((P.geometry_of r.port).size ≡ N.parameters.size) × (r.session.before ≡ []) };
 }
 
 /// A pass that its client holds and the pool does not know is a fault of the run.
@@ -79,6 +80,7 @@ fn post<N: PoolName, R: Wait>(
     note: PassNote,
 ) -> Result<(), Refusal>
     ensures client { session.new.client ≡ session.old.client }
+    ensures before { session.new.before ≡ session.old.before }
     ensures posted { OnOk result ((note.client ≡ session.old.client) × (session.new.said ≡ give_back note ∷ session.old.said)) }
     ensures refused { OnErr result ((result ≡ Err Refusal.Disagree) × (session.new.said ≡ session.old.said)) }
 {
@@ -98,10 +100,11 @@ fn post<N: PoolName, R: Wait>(
 }
 
 impl<N: PoolName, P: Port> Runner<N, P> {
-    ghost use Rattle.std.specs.Prelude.{◌≡◌, ◌+◌, ◌≤◌, ◌<◌, IsTrue, length, reverse};
+    ghost use Rattle.std.specs.Prelude.{◌≡◌, ◌+◌, ◌≤◌, ◌<◌, [], IsTrue, length, reverse};
 
     pub(crate) fn new(session: Session<N>, port: P, log: Option<LogWriter<N>>) -> Runner<N, P>
         requires port { (P.geometry_of port).size ≡ N.parameters.size }
+        requires whole { session.before ≡ [] }
         ensures { result ≡ session }
     {
         Runner { session, port, log }

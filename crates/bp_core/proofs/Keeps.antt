@@ -1,7 +1,8 @@
 -- A core stays one with each entry: here those that touch no page. What a caller sees of each entry.
-use Rattle.std.proofs.Common.{◌≡◌, ℕ, suc, ◌+◌, ◌*◌, ◌^◌, ◌<◌, ◌≤◌, max, true, false, [], length, sym, ◌∙◌, ap, subst, arith, refl}
+use Rattle.std.proofs.Common.{◌≡◌, ℕ, suc, ◌+◌, ◌*◌, ◌^◌, ◌<◌, ◌≤◌, max, true, false, [], ◌∷◌, length, sym, ◌∙◌, ap, subst, arith, refl}
 use Rattle.std.proofs.lemmas.Bool.{lt-ltb}
 use Rattle.bp_lruk.specs.Histories.{Blocks, is_held, last_of, HasStampsOf, SameAt, SameSettings, forgets, count_below}
+use Rattle.bp_trail.specs.declared.entries.Entry.{Entry}
 use Rattle.bp_trail.specs.declared.entries.Call.{Call}
 use Rattle.bp_trail.specs.declared.entries.Call.TheVariants.{Tick, Mark, Purge}
 use Rattle.bp_trail.specs.declared.entries.Reply.{Reply}
@@ -23,10 +24,12 @@ use Rattle.bp_core.proofs.CandidateSteps.{stay, stay-purge}
 use Rattle.bp_core.proofs.PurgeSteps.{agrees-purge, count-same, nothing-beyond}
 
 -- one entry more, of a trail with so many passes and tickets more at most
-pub longer : (c : Parameters) (kept : ℕ) (past : Trail) (capacity : ℕ) → HasTrailRoom c kept past capacity → (later : Trail) → suc kept + length (passes_out later) + length (writes_out later) + 2 * length (reads_out later) ≤ c.room → passes later ≤ suc (passes past) → tickets later ≤ suc (tickets past) → HasTrailRoom c (suc kept) later capacity
-longer c kept past capacity r later owed passes_fit tickets_fit = record {
+pub longer : (c : Parameters) (trail : Kept) → HasTrailRoom c trail → (e : Entry) → suc trail.len + length (passes_out (e ∷ trail.past)) + length (writes_out (e ∷ trail.past)) + 2 * length (reads_out (e ∷ trail.past)) ≤ c.room
+    → passes (e ∷ trail.past) ≤ suc (passes trail.past) → tickets (e ∷ trail.past) ≤ suc (tickets trail.past) → HasTrailRoom c (record trail { past = e ∷ trail.past; len = suc trail.len })
+longer c trail r e owed passes_fit tickets_fit = record {
   small = r.small;
   reserved = r.reserved;
+  counted = omega (arith, r.counted);
   owed = owed;
   passes_fit = omega (arith, r.passes_fit, passes_fit);
   tickets_fit = omega (arith, r.tickets_fit, tickets_fit);
@@ -40,8 +43,8 @@ module _ (c : Parameters) (trail : Kept) (x : State) (core : IsCore c trail x) (
   pub at-parameters : (P : Parameters → Type 0) → P v.parameters → P c
   at-parameters P holds = subst (λ u. P u.parameters) (sym is) holds
 
-  pub at-room : (n : ℕ) → HasRoomFor n v → n ≤ free_keeping c (length trail.past) trail.past
-  at-room n room = subst (HasRoomFor n) (sym is) room
+  pub at-room : (n : ℕ) → HasRoomFor n v → n ≤ free_keeping c trail.len trail.past
+  at-room n room = let seen : HasRoomFor n (view_of c trail) = subst (HasRoomFor n) (sym is) room in omega (arith, seen, core.trail_room.counted)
 
   -- a caller sees the entry that was added
   pub adds : (who : ℕ) (call : Call) (reply : Reply) (later : Kept) (state : State) → later ≡ with_next trail who call reply → IsCore c later state → Adds v who call reply (view_of c later)
@@ -52,37 +55,39 @@ module _ (c : Parameters) (trail : Kept) (x : State) (core : IsCore c trail x) (
     agrees = agrees-quiet c trail.past (parts_of x) core.agrees who call reply quiet (at-parameters (λ q. who < q.clients) client) (at-past (λ q past. allowed q past who call ≡ true) may) (at-past (λ q past. reply ≡ reply_of q past call) lawful);
     candidates = same call reply quiet;
     trail_room = roomy call reply quiet;
+    opening = core.opening;
     pass_room = core.pass_room;
     read_room = core.read_room;
     frame_room = core.frame_room;
   }
     where
-      same : (call : Call) (reply : Reply) → IsQuiet call reply → HasCandidates c (with_next trail who call reply).past x.candidates
-      same _ _ (fix_busy p) = stay c trail.past x.candidates core.candidates _ (λ q. refl)
-      same _ _ (fix_none p) = stay c trail.past x.candidates core.candidates _ (λ q. refl)
-      same _ _ (fix_log p lsn) = stay c trail.past x.candidates core.candidates _ (λ q. refl)
-      same _ _ (flush_busy p) = stay c trail.past x.candidates core.candidates _ (λ q. refl)
-      same _ _ (flush_absent p) = stay c trail.past x.candidates core.candidates _ (λ q. refl)
-      same _ _ (flush_clean p) = stay c trail.past x.candidates core.candidates _ (λ q. refl)
-      same _ _ (flush_log p lsn) = stay c trail.past x.candidates core.candidates _ (λ q. refl)
-      same _ _ (page_read n p image) = stay c trail.past x.candidates core.candidates _ (λ q. refl)
+      same : (call : Call) (reply : Reply) → IsQuiet call reply → HasCandidates c (with_next trail who call reply).past x.frames.candidates
+      same _ _ (fix_busy p) = stay c trail.past x.frames.candidates core.candidates _ (λ q. refl)
+      same _ _ (fix_none p) = stay c trail.past x.frames.candidates core.candidates _ (λ q. refl)
+      same _ _ (fix_log p lsn) = stay c trail.past x.frames.candidates core.candidates _ (λ q. refl)
+      same _ _ (flush_busy p) = stay c trail.past x.frames.candidates core.candidates _ (λ q. refl)
+      same _ _ (flush_absent p) = stay c trail.past x.frames.candidates core.candidates _ (λ q. refl)
+      same _ _ (flush_clean p) = stay c trail.past x.frames.candidates core.candidates _ (λ q. refl)
+      same _ _ (flush_log p lsn) = stay c trail.past x.frames.candidates core.candidates _ (λ q. refl)
+      same _ _ (page_read n p image) = stay c trail.past x.frames.candidates core.candidates _ (λ q. refl)
 
-      roomy : (call : Call) (reply : Reply) → IsQuiet call reply → HasTrailRoom c (suc (length trail.past)) (with_next trail who call reply).past trail.capacity
-      roomy _ _ (fix_busy p) = longer c _ _ _ core.trail_room _ (omega (arith, at-room 1 room)) (omega arith) (omega arith)
-      roomy _ _ (fix_none p) = longer c _ _ _ core.trail_room _ (omega (arith, at-room 1 room)) (omega arith) (omega arith)
-      roomy _ _ (fix_log p lsn) = longer c _ _ _ core.trail_room _ (omega (arith, at-room 1 room)) (omega arith) (omega arith)
-      roomy _ _ (flush_busy p) = longer c _ _ _ core.trail_room _ (omega (arith, at-room 1 room)) (omega arith) (omega arith)
-      roomy _ _ (flush_absent p) = longer c _ _ _ core.trail_room _ (omega (arith, at-room 1 room)) (omega arith) (omega arith)
-      roomy _ _ (flush_clean p) = longer c _ _ _ core.trail_room _ (omega (arith, at-room 1 room)) (omega arith) (omega arith)
-      roomy _ _ (flush_log p lsn) = longer c _ _ _ core.trail_room _ (omega (arith, at-room 1 room)) (omega arith) (omega arith)
-      roomy _ _ (page_read n p image) = longer c _ _ _ core.trail_room _ (omega (arith, at-room 1 room)) (omega arith) (omega arith)
+      roomy : (call : Call) (reply : Reply) → IsQuiet call reply → HasTrailRoom c (with_next trail who call reply)
+      roomy _ _ (fix_busy p) = longer c _ core.trail_room _ (omega (arith, at-room 1 room)) (omega arith) (omega arith)
+      roomy _ _ (fix_none p) = longer c _ core.trail_room _ (omega (arith, at-room 1 room)) (omega arith) (omega arith)
+      roomy _ _ (fix_log p lsn) = longer c _ core.trail_room _ (omega (arith, at-room 1 room)) (omega arith) (omega arith)
+      roomy _ _ (flush_busy p) = longer c _ core.trail_room _ (omega (arith, at-room 1 room)) (omega arith) (omega arith)
+      roomy _ _ (flush_absent p) = longer c _ core.trail_room _ (omega (arith, at-room 1 room)) (omega arith) (omega arith)
+      roomy _ _ (flush_clean p) = longer c _ core.trail_room _ (omega (arith, at-room 1 room)) (omega arith) (omega arith)
+      roomy _ _ (flush_log p lsn) = longer c _ core.trail_room _ (omega (arith, at-room 1 room)) (omega arith) (omega arith)
+      roomy _ _ (page_read n p image) = longer c _ core.trail_room _ (omega (arith, at-room 1 room)) (omega arith) (omega arith)
 
   -- ---- the clock, the mark and the histories
   pub keeps-tick : (who n : ℕ) → who < v.parameters.clients → x.clock + n ≤ 2 ^ 62 → HasRoomFor 1 v → IsCore c (with_next trail who (Tick n) Done) (record x { clock = x.clock + n })
   keeps-tick who n client fits room = record {
     agrees = agrees-tick c trail.past (parts_of x) core.agrees who n (at-parameters (λ q. who < q.clients) client) (omega (arith, core.agrees.observed.clock_is, fits));
-    candidates = stay c trail.past x.candidates core.candidates _ (λ q. refl);
-    trail_room = longer c _ _ _ core.trail_room _ (omega (arith, at-room 1 room)) (omega arith) (omega arith);
+    candidates = stay c trail.past x.frames.candidates core.candidates _ (λ q. refl);
+    trail_room = longer c _ core.trail_room _ (omega (arith, at-room 1 room)) (omega arith) (omega arith);
+    opening = core.opening;
     pass_room = core.pass_room;
     read_room = core.read_room;
     frame_room = core.frame_room;
@@ -91,8 +96,9 @@ module _ (c : Parameters) (trail : Kept) (x : State) (core : IsCore c trail x) (
   pub keeps-mark : (who lsn : ℕ) → who < v.parameters.clients → HasRoomFor 1 v → IsCore c (with_next trail who (Mark lsn) Done) (record x { durable = max lsn x.durable })
   keeps-mark who lsn client room = record {
     agrees = agrees-mark c trail.past (parts_of x) core.agrees who lsn (at-parameters (λ q. who < q.clients) client);
-    candidates = stay c trail.past x.candidates core.candidates _ (λ q. refl);
-    trail_room = longer c _ _ _ core.trail_room _ (omega (arith, at-room 1 room)) (omega arith) (omega arith);
+    candidates = stay c trail.past x.frames.candidates core.candidates _ (λ q. refl);
+    trail_room = longer c _ core.trail_room _ (omega (arith, at-room 1 room)) (omega arith) (omega arith);
+    opening = core.opening;
     pass_room = core.pass_room;
     read_room = core.read_room;
     frame_room = core.frame_room;
@@ -103,8 +109,9 @@ module _ (c : Parameters) (trail : Kept) (x : State) (core : IsCore c trail x) (
       → IsCore c (with_next trail who Purge (Forgot n)) (record x { histories = h })
   keeps-purge who n h client room counted settings gone kept held = record {
     agrees = agrees-purge c trail.past (parts_of x) core.agrees who n h (lt-ltb who c.clients (at-parameters (λ q. who < q.clients) client)) (counted c.pages (nothing-beyond c trail.past (parts_of x) core.agrees) ∙ count-same c trail.past (parts_of x) core.agrees) settings gone kept held;
-    candidates = stay-purge c trail.past x.candidates core.candidates who n;
-    trail_room = longer c _ _ _ core.trail_room _ (omega (arith, at-room 1 room)) (omega arith) (omega arith);
+    candidates = stay-purge c trail.past x.frames.candidates core.candidates who n;
+    trail_room = longer c _ core.trail_room _ (omega (arith, at-room 1 room)) (omega arith) (omega arith);
+    opening = core.opening;
     pass_room = core.pass_room;
     read_room = core.read_room;
     frame_room = core.frame_room;

@@ -17,9 +17,9 @@ use Rattle.bp_trail.specs.References.{references}
 use Rattle.bp_trail.specs.Victim.{victim}
 use Rattle.bp_trail.specs.PageMap.{has_free_frame}
 use Rattle.bp_trail.specs.Legal.{is_out}
-use Rattle.bp_core.specs.Frames.{is_frame_of, loaded_with, without_page}
+use Rattle.bp_frames.specs.Frames.{is_frame_of, loaded_with, without_page}
 use Rattle.bp_trail.specs.Lists.{some}
-use Rattle.bp_core.specs.Tables.{Table}
+use Rattle.bp_frames.specs.Tables.{Table}
 use Rattle.bp_trail.proofs.Counting.{some-count}
 use Rattle.bp_trail.proofs.Serials.{numbered}
 use Rattle.bp_trail.proofs.Places.{places, out-of_page}
@@ -35,8 +35,10 @@ use Rattle.bp_trail.specs.Parameters.{Parameters}
 use Rattle.bp_trail.specs.Event.{grant}
 use Rattle.bp_trail.specs.Trail.{Trail}
 use Rattle.bp_core.specs.CoreView.{CoreView, EachPast, HasRoomFor}
-use Rattle.bp_core.specs.Lodging.{Kept, Given, with_next, with_grant}
-use Rattle.bp_core.specs.Agreement.{parts_of, IsCore, view_of}
+use Rattle.bp_core.specs.Lodging.{Kept, with_next}
+use Rattle.bp_frames.specs.GrantLists.{Given, with_grant}
+use Rattle.bp_core.specs.Agreement.{parts_of, HasCandidates, IsCore, view_of}
+use Rattle.bp_trail.proofs.Ranges.{ranges}
 use Rattle.bp_core.proofs.Keeps.{longer, at-past, at-parameters, at-room}
 
 module _ (c : Parameters) (trail : Kept) (x : State) (core : IsCore c trail x) (v : CoreView) (is : view_of c trail ≡ v) (who p : ℕ) where
@@ -76,28 +78,29 @@ module _ (c : Parameters) (trail : Kept) (x : State) (core : IsCore c trail x) (
 
   -- ---- a read begins
   module _ (client : who < v.parameters.clients) (page : p < v.parameters.pages) (idle : EachPast v (λ past. loading past p ≡ false)) (away : EachPast v (λ past. resident past p ≡ false)) (room : HasRoomFor 3 v) (ps : Given) (same : ps.out ≡ x.passes.out) (capacity : length x.passes.out + length x.reads.out + 1 ≤ ps.capacity) where
-    pub keeps-load : EachPast v (λ past. has_free_frame v.parameters past ≡ true) → (fs : Table) → fs.frames ≡ x.frames.frames → fs.size ≡ x.frames.size → fs.limit ≡ x.frames.limit → length x.reads.out < fs.spare
+    pub keeps-load : EachPast v (λ past. has_free_frame v.parameters past ≡ true) → (fs : Table) → fs.frames ≡ x.frames.frames → fs.size ≡ x.frames.size → fs.limit ≡ x.frames.limit → fs.pages ≡ x.frames.pages → fs.candidates ≡ x.frames.candidates → length x.reads.out < fs.spare
         → (h : Blocks) → SameSettings x.histories h → SameStampsAt x.histories h p → ((q : ℕ) → q ≢ p → SameAt x.histories h q) → is_held h p ≡ true
         → IsCore c (with_next trail who (Fix p) (Load x.tickets_given None)) (record x { tickets_given = x.tickets_given + 1; reads = with_grant x.reads who p x.tickets_given; passes = ps; frames = fs; histories = h })
-    keeps-load frame fs frames size limit spare h settings stamps others kept =
+    keeps-load frame fs frames size limit in_file same_candidates spare h settings stamps others kept =
         let next = agrees-load c trail.past (parts_of x) core.agrees who p (lt-ltb who c.clients (given (λ q. who < q.clients) client)) (lt-ltb p c.pages (given (λ q. p < q.pages) page))
         (at (λ q past. loading past p ≡ false) idle) (at (λ q past. resident past p ≡ false) away) h settings (unprepared x.histories h p stamps others)
         (at (λ q past. has_free_frame q past ≡ true) frame) kept (λ q n. (others q n).held) in
         record {
           agrees = rw (same, frames) next;
-          candidates = stay c trail.past x.candidates core.candidates _ (λ q. refl);
-          trail_room = longer c _ _ _ core.trail_room _ (omega (arith, at-room c trail x core v is 3 room)) (omega arith) (omega arith);
+          candidates = subst (HasCandidates c (with_next trail who (Fix p) (Load x.tickets_given None)).past) (sym same_candidates) (stay c trail.past x.frames.candidates core.candidates _ (λ q. refl));
+          trail_room = longer c _ core.trail_room _ (omega (arith, at-room c trail x core v is 3 room)) (omega arith) (omega arith);
+          opening = core.opening;
           pass_room = record { reserved = omega (arith, capacity, ap length same) };
           read_room = core.read_room;
-          frame_room = record { reserved = omega (arith, spare); size_is = omega (arith, size, core.frame_room.size_is); limit_is = omega (arith, limit, core.frame_room.limit_is) };
+          frame_room = record { reserved = omega (arith, spare); size_is = omega (arith, size, core.frame_room.size_is); limit_is = omega (arith, limit, core.frame_room.limit_is); pages_is = omega (arith, in_file, core.frame_room.pages_is) };
         }
 
     pub keeps-replace : (gone : ℕ) → EachPast v (λ past. has_free_frame v.parameters past ≡ false) → EachPast v (λ past. victim v.parameters past ≡ Some gone) → EachPast v (λ past. unsaved past gone ≡ false)
-        → (e : Entered) → SameLimits x.candidates e → (NoPageTwice x.candidates.entries → NoPageTwice e.entries) → ((q : ℕ) → q ≢ gone → entry_of e q ≡ entry_of x.candidates q) → entry_of e gone ≡ None
+        → (e : Entered) → SameLimits x.frames.candidates e → (NoPageTwice x.frames.candidates.entries → NoPageTwice e.entries) → ((q : ℕ) → q ≢ gone → entry_of e q ≡ entry_of x.frames.candidates q) → entry_of e gone ≡ None
         → (g h : Blocks) → SameSettings x.histories g → SameStampsAt x.histories g p → ((q : ℕ) → q ≢ p → SameAt x.histories g q) → is_held g p ≡ true
         → SameSettings g h → SameStampsAt g h gone → ((q : ℕ) → q ≢ gone → SameAt g h q) → is_held h gone ≡ false
         → IsCore c (with_next trail who (Fix p) (Load x.tickets_given (Some gone)))
-        (record x { tickets_given = x.tickets_given + 1; reads = with_grant x.reads who p x.tickets_given; passes = ps; frames = record x.frames { frames = without_page gone x.frames.frames; spare = x.frames.spare + 1 }; histories = h; candidates = e })
+        (record x { tickets_given = x.tickets_given + 1; reads = with_grant x.reads who p x.tickets_given; passes = ps; frames = record x.frames { frames = without_page gone x.frames.frames; spare = x.frames.spare + 1; candidates = e }; histories = h })
     keeps-replace gone full chosen saved e limits pages leaves out g h g_settings g_stamps g_others g_kept h_settings h_stamps h_others h_gone =
         let apart = victim-apart gone chosen away in
         let first = unprepared x.histories g p g_stamps g_others in
@@ -108,11 +111,12 @@ module _ (c : Parameters) (trail : Kept) (x : State) (core : IsCore c trail x) (
         ((h_others p (λ e. apart (sym e))).held ∙ g_kept) h_gone (λ q n m. (h_others q m).held ∙ (g_others q n).held) in
         record {
           agrees = rw same next;
-          candidates = move-evict c trail.past x.candidates core.candidates e limits pages gone leaves who p x.tickets_given out;
-          trail_room = longer c _ _ _ core.trail_room _ (omega (arith, at-room c trail x core v is 3 room)) (omega arith) (omega arith);
+          candidates = move-evict c trail.past x.frames.candidates core.candidates e limits pages gone leaves who p x.tickets_given out;
+          trail_room = longer c _ core.trail_room _ (omega (arith, at-room c trail x core v is 3 room)) (omega arith) (omega arith);
+          opening = core.opening;
           pass_room = record { reserved = omega (arith, capacity, ap length same) };
           read_room = core.read_room;
-          frame_room = record { reserved = omega (arith, core.frame_room.reserved); size_is = core.frame_room.size_is; limit_is = core.frame_room.limit_is };
+          frame_room = record { reserved = omega (arith, core.frame_room.reserved); size_is = core.frame_room.size_is; limit_is = core.frame_room.limit_is; pages_is = core.frame_room.pages_is };
         }
 
   -- ---- a read ends
@@ -127,6 +131,9 @@ module _ (c : Parameters) (trail : Kept) (x : State) (core : IsCore c trail x) (
     absent : resident trail.past p ≡ false
     absent = (places c trail.past core.agrees.legal).away p (out-of_page who p t (reads_out trail.past) out-now)
 
+    pub in-file : p < x.frames.pages
+    in-file = omega (arith, ltb-true p c.pages ((ranges c trail.past core.agrees.legal).reads p (out-of_page who p t (reads_out trail.past) out-now)), core.frame_room.pages_is)
+
     pub absent-now : some (is_frame_of p) x.frames.frames ≡ false
     absent-now = resident_seen c trail.past (parts_of x) core.agrees p ∙ absent
 
@@ -140,26 +147,28 @@ module _ (c : Parameters) (trail : Kept) (x : State) (core : IsCore c trail x) (
         → IsCore c (with_next trail who (ReadEnd t p None) ReadFailed) (record x { reads = record x.reads { out = filter (λ g. not (g.serial == t)) x.reads.out }; histories = h })
     keeps-fail_load h settings stamps others gone = record {
       agrees = agrees-failed c trail.past (parts_of x) core.agrees who p t out-now h settings (unprepared x.histories h p stamps others) gone (λ q n. (others q n).held);
-      candidates = stay c trail.past x.candidates core.candidates _ (λ q. refl);
-      trail_room = longer c _ _ _ core.trail_room _ (omega (arith, core.trail_room.owed, fewer)) (omega arith) (omega arith);
+      candidates = stay c trail.past x.frames.candidates core.candidates _ (λ q. refl);
+      trail_room = longer c _ core.trail_room _ (omega (arith, core.trail_room.owed, fewer)) (omega arith) (omega arith);
+      opening = core.opening;
       pass_room = record { reserved = omega (arith, core.pass_room.reserved, fewer-kept) };
       read_room = core.read_room;
-      frame_room = record { reserved = omega (arith, core.frame_room.reserved, fewer-kept); size_is = core.frame_room.size_is; limit_is = core.frame_room.limit_is };
+      frame_room = record { reserved = omega (arith, core.frame_room.reserved, fewer-kept); size_is = core.frame_room.size_is; limit_is = core.frame_room.limit_is; pages_is = core.frame_room.pages_is };
     }
 
-    pub keeps-end_load : (image : List ℕ) → length image ≡ v.parameters.size → (fs : Table) → IsPermutation (loaded_with p image ∷ x.frames.frames) fs.frames → fs.spare + 1 ≡ x.frames.spare → fs.size ≡ x.frames.size → fs.limit ≡ x.frames.limit
+    pub keeps-end_load : (image : List ℕ) → length image ≡ v.parameters.size → (fs : Table) → IsPermutation (loaded_with p image ∷ x.frames.frames) fs.frames → fs.spare + 1 ≡ x.frames.spare → fs.size ≡ x.frames.size → fs.limit ≡ x.frames.limit → fs.pages ≡ x.frames.pages → fs.candidates ≡ x.frames.candidates
         → (h : Blocks) → SameSettings x.histories h → ((refs : List Reference) → IsTimed refs → HasStampsOf x.histories p refs → HasStampsOf h p (fault x.clock ∷ refs)) → ((q : ℕ) → q ≢ p → SameAt x.histories h q) → is_held h p ≡ true
         → IsCore c (with_next trail who (ReadEnd t p (Some image)) (Fixed x.passes_given))
         (record x { passes_given = x.passes_given + 1; passes = with_grant x.passes who p x.passes_given; reads = record x.reads { out = filter (λ g. not (g.serial == t)) x.reads.out }; frames = fs; histories = h })
-    keeps-end_load image fits fs moved spare size limit h settings stamps others kept =
+    keeps-end_load image fits fs moved spare size limit in_file same_candidates h settings stamps others kept =
         let a = core.agrees in
         let refs = references c trail.past p in
         let stamped = subst (λ u. HasStampsOf h p (fault u ∷ refs)) a.observed.clock_is (stamps refs (references-timed c trail.past p).timed (a.observed.stamps_are p)) in
         record {
           agrees = agrees-fixed c trail.past (parts_of x) a who p t out-now h settings image (given (λ q. length image ≡ q.size) fits) fs.frames moved stamped others kept;
-          candidates = stay-end_load c trail.past x.candidates core.candidates who t p x.passes_given image absent;
-          trail_room = longer c _ _ _ core.trail_room _ (omega (arith, core.trail_room.owed, fewer)) (omega arith) (omega arith);
+          candidates = subst (HasCandidates c (with_next trail who (ReadEnd t p (Some image)) (Fixed x.passes_given)).past) (sym same_candidates) (stay-end_load c trail.past x.frames.candidates core.candidates who t p x.passes_given image absent);
+          trail_room = longer c _ core.trail_room _ (omega (arith, core.trail_room.owed, fewer)) (omega arith) (omega arith);
+          opening = core.opening;
           pass_room = record { reserved = omega (arith, core.pass_room.reserved, fewer-kept) };
           read_room = core.read_room;
-          frame_room = record { reserved = omega (arith, core.frame_room.reserved, fewer-kept, spare); size_is = omega (arith, size, core.frame_room.size_is); limit_is = omega (arith, limit, core.frame_room.limit_is) };
+          frame_room = record { reserved = omega (arith, core.frame_room.reserved, fewer-kept, spare); size_is = omega (arith, size, core.frame_room.size_is); limit_is = omega (arith, limit, core.frame_room.limit_is); pages_is = omega (arith, in_file, core.frame_room.pages_is) };
         }

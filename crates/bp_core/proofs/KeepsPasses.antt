@@ -13,14 +13,15 @@ use Rattle.bp_trail.specs.Passes.{passes_out, is_of, pins}
 use Rattle.bp_trail.specs.Places.{resident, writing}
 use Rattle.bp_trail.specs.References.{references}
 use Rattle.bp_trail.specs.Legal.{is_out}
-use Rattle.bp_core.specs.Frames.{pinned, unpinned, written_on}
-use Rattle.bp_core.specs.Tables.{with_changed}
+use Rattle.bp_frames.specs.Frames.{pinned, unpinned, written_on}
+use Rattle.bp_frames.specs.Tables.{with_changed}
 use Rattle.bp_trail.proofs.Counting.{some-count, length-split}
 use Rattle.bp_trail.proofs.Serials.{numbered}
 use Rattle.bp_trail.proofs.Places.{places, out-of_page}
-use Rattle.bp_core.proofs.Seen.{ranked}
+use Rattle.bp_core.proofs.Seen.{ranked, resident_seen}
+use Rattle.bp_frames.specs.Frames.{is_frame_of}
+use Rattle.bp_trail.specs.Lists.{some}
 use Rattle.bp_core.proofs.CandidateSteps.{no-entry, stay, move-hit, move-unfix}
-use Rattle.bp_core.proofs.Chosen.{has-room}
 use Rattle.bp_trail.proofs.Residents.{reads-rest}
 use Rattle.bp_trail.proofs.Timed.{references-timed}
 use Rattle.bp_core.proofs.PassSteps.{agrees-unfix, agrees-write, agrees-hit}
@@ -29,7 +30,8 @@ use Rattle.bp_trail.specs.Parameters.{Parameters}
 use Rattle.bp_trail.specs.Event.{grant}
 use Rattle.bp_trail.specs.Trail.{Trail}
 use Rattle.bp_core.specs.CoreView.{CoreView, EachPast, HasRoomFor}
-use Rattle.bp_core.specs.Lodging.{Kept, Given, with_next, with_grant}
+use Rattle.bp_core.specs.Lodging.{Kept, with_next}
+use Rattle.bp_frames.specs.GrantLists.{Given, with_grant}
 use Rattle.bp_core.specs.Agreement.{parts_of, IsCore, view_of}
 use Rattle.bp_core.proofs.Keeps.{longer, at-past, at-parameters, at-room}
 
@@ -45,25 +47,26 @@ module _ (c : Parameters) (trail : Kept) (x : State) (core : IsCore c trail x) (
   pinned-page who p n known = (places c trail.past core.agrees.legal).pinned p (out-of_page who p n (passes_out trail.past) (at (λ q past. is_out (grant who p n) (passes_out past) ≡ true) known))
 
   -- so it is no candidate, and there is room for it
-  pub no-candidate : (who p n : ℕ) → EachPast v (λ past. is_out (grant who p n) (passes_out past) ≡ true) → entry_of x.candidates p ≡ None
+  pub no-candidate : (who p n : ℕ) → EachPast v (λ past. is_out (grant who p n) (passes_out past) ≡ true) → entry_of x.frames.candidates p ≡ None
   no-candidate who p n known =
       let some = some-count (is_of p) (passes_out trail.past) (out-of_page who p n (passes_out trail.past) (at (λ q past. is_out (grant who p n) (passes_out past) ≡ true) known)) in
       core.candidates.entries_are p ∙ no-entry c trail.past trail.past p (ap (λ b. b && ((pins trail.past p == 0) && not (writing trail.past p))) (pinned-page who p n known) ∙ ap (λ b. b && not (writing trail.past p)) (ne_eqb (pins trail.past p) 0 (λ i. absurd (omega (arith, i, some)))))
 
-  pub candidate-room : (who p n : ℕ) → EachPast v (λ past. is_out (grant who p n) (passes_out past) ≡ true) → length x.candidates.entries < x.candidates.frames
-  candidate-room who p n known = has-room c trail.past x.candidates core.candidates core.agrees.legal p (pinned-page who p n known) (no-candidate who p n known)
+  pub frame-here : (who p n : ℕ) → EachPast v (λ past. is_out (grant who p n) (passes_out past) ≡ true) → some (is_frame_of p) x.frames.frames ≡ true
+  frame-here who p n known = resident_seen c trail.past (parts_of x) core.agrees p ∙ pinned-page who p n known
 
   pub keeps-unfix : (who p n : ℕ) → EachPast v (λ past. is_out (grant who p n) (passes_out past) ≡ true) → (unused_now : Bool) → EachPast v (λ past. unused_now ≡ ((pins past p == 1) && not (writing past p)))
-      → (e : Entered) → SameLimits x.candidates e → (NoPageTwice x.candidates.entries → NoPageTwice e.entries) → ((q : ℕ) → q ≢ p → entry_of e q ≡ entry_of x.candidates q) → entry_of e p ≡ (if unused_now then Some (stamp_of x.histories p c.k, last_of x.histories p) else entry_of x.candidates p)
-      → IsCore c (with_next trail who (Unfix n p) Done) (record x { frames = with_changed x.frames p unpinned; passes = record x.passes { out = filter (λ g. not (g.serial == n)) x.passes.out }; candidates = e })
+      → (e : Entered) → SameLimits x.frames.candidates e → (NoPageTwice x.frames.candidates.entries → NoPageTwice e.entries) → ((q : ℕ) → q ≢ p → entry_of e q ≡ entry_of x.frames.candidates q) → entry_of e p ≡ (if unused_now then Some (stamp_of x.histories p c.k, last_of x.histories p) else entry_of x.frames.candidates p)
+      → IsCore c (with_next trail who (Unfix n p) Done) (record x { frames = record (with_changed x.frames p unpinned) { candidates = e }; passes = record x.passes { out = filter (λ g. not (g.serial == n)) x.passes.out } })
   keeps-unfix who p n known unused_now last_one e limits pages others entered =
       let out = at (λ q past. is_out (grant who p n) (passes_out past) ≡ true) known in
       let fewer = reads-rest who p n (passes_out trail.past) (numbered c trail.past core.agrees.legal).passes_once out in
       record {
         agrees = agrees-unfix c trail.past (parts_of x) core.agrees who p n out;
-        candidates = move-unfix c trail.past x.candidates core.candidates e limits pages p others who n unused_now (at (λ q past. unused_now ≡ ((pins past p == 1) && not (writing past p))) last_one) core.agrees.legal out (pinned-page who p n known)
-            (entered ∙ ap (λ t. if unused_now then Some t else entry_of x.candidates p) (ranked c trail.past (parts_of x) core.agrees p));
-        trail_room = longer c _ _ _ core.trail_room _ (omega (arith, fewer, core.trail_room.owed)) (omega arith) (omega arith);
+        candidates = move-unfix c trail.past x.frames.candidates core.candidates e limits pages p others who n unused_now (at (λ q past. unused_now ≡ ((pins past p == 1) && not (writing past p))) last_one) core.agrees.legal out (pinned-page who p n known)
+            (entered ∙ ap (λ t. if unused_now then Some t else entry_of x.frames.candidates p) (ranked c trail.past (parts_of x) core.agrees p));
+        trail_room = longer c _ core.trail_room _ (omega (arith, fewer, core.trail_room.owed)) (omega arith) (omega arith);
+        opening = core.opening;
         pass_room = record { reserved = omega (arith, core.pass_room.reserved, length-split (λ g. g.serial == n) x.passes.out) };
         read_room = core.read_room;
         frame_room = core.frame_room;
@@ -75,8 +78,9 @@ module _ (c : Parameters) (trail : Kept) (x : State) (core : IsCore c trail x) (
       let out = at (λ q past. is_out (grant who p n) (passes_out past) ≡ true) known in
       record {
         agrees = agrees-write c trail.past (parts_of x) core.agrees who p n offset bytes lsn out (given (λ q. offset + length bytes ≤ q.size) fits);
-        candidates = stay c trail.past x.candidates core.candidates _ (λ q. refl);
-        trail_room = longer c _ _ _ core.trail_room _ (omega (arith, at-room c trail x core v is 1 room)) (omega arith) (omega arith);
+        candidates = stay c trail.past x.frames.candidates core.candidates _ (λ q. refl);
+        trail_room = longer c _ core.trail_room _ (omega (arith, at-room c trail x core v is 1 room)) (omega arith) (omega arith);
+        opening = core.opening;
         pass_room = core.pass_room;
         read_room = core.read_room;
         frame_room = core.frame_room;
@@ -85,8 +89,8 @@ module _ (c : Parameters) (trail : Kept) (x : State) (core : IsCore c trail x) (
   pub keeps-hit : (who p : ℕ) → who < v.parameters.clients → p < v.parameters.pages → EachPast v (λ past. resident past p ≡ true) → HasRoomFor 3 v
       → (ps : Given) → ps.out ≡ x.passes.out → length x.passes.out + (length x.reads.out + 1) ≤ ps.capacity
       → (h : Blocks) → SameSettings x.histories h → ((refs : List Reference) → IsTimed refs → HasStampsOf x.histories p refs → HasStampsOf h p (hit x.clock ∷ refs)) → ((q : ℕ) → q ≢ p → SameAt x.histories h q) → is_held h p ≡ true
-      → (e : Entered) → SameLimits x.candidates e → (NoPageTwice x.candidates.entries → NoPageTwice e.entries) → ((q : ℕ) → q ≢ p → entry_of e q ≡ entry_of x.candidates q) → entry_of e p ≡ None
-      → IsCore c (with_next trail who (Fix p) (Hit x.passes_given)) (record x { passes_given = x.passes_given + 1; passes = with_grant ps who p x.passes_given; frames = with_changed x.frames p pinned; histories = h; candidates = e })
+      → (e : Entered) → SameLimits x.frames.candidates e → (NoPageTwice x.frames.candidates.entries → NoPageTwice e.entries) → ((q : ℕ) → q ≢ p → entry_of e q ≡ entry_of x.frames.candidates q) → entry_of e p ≡ None
+      → IsCore c (with_next trail who (Fix p) (Hit x.passes_given)) (record x { passes_given = x.passes_given + 1; passes = with_grant ps who p x.passes_given; frames = record (with_changed x.frames p pinned) { candidates = e }; histories = h })
   keeps-hit who p client page here room ps same capacity h settings stamps others kept e limits pages leaves gone =
       let a = core.agrees in
       let refs = references c trail.past p in
@@ -94,8 +98,9 @@ module _ (c : Parameters) (trail : Kept) (x : State) (core : IsCore c trail x) (
       let next = agrees-hit c trail.past (parts_of x) a who p h (lt-ltb who c.clients (given (λ q. who < q.clients) client)) (lt-ltb p c.pages (given (λ q. p < q.pages) page)) (at (λ q past. resident past p ≡ true) here) settings stamped others kept in
       record {
         agrees = rw same next;
-        candidates = move-hit c trail.past x.candidates core.candidates e limits pages p leaves who x.passes_given gone;
-        trail_room = longer c _ _ _ core.trail_room _ (omega (arith, at-room c trail x core v is 3 room)) (omega arith) (omega arith);
+        candidates = move-hit c trail.past x.frames.candidates core.candidates e limits pages p leaves who x.passes_given gone;
+        trail_room = longer c _ core.trail_room _ (omega (arith, at-room c trail x core v is 3 room)) (omega arith) (omega arith);
+        opening = core.opening;
         pass_room = record { reserved = omega (arith, capacity, ap length same) };
         read_room = core.read_room;
         frame_room = core.frame_room;

@@ -1,5 +1,5 @@
 -- A core stays one as a write-out of a page begins and ends.
-use Rattle.std.proofs.Common.{◌≡◌, ℕ, suc, ◌+◌, ◌<◌, true, false, length, filter, sym, ◌∙◌, arith, ◌≢◌, Bool, if◌then◌else◌, Some, None, refl, ap}
+use Rattle.std.proofs.Common.{◌≡◌, ℕ, ◌+◌, ◌<◌, true, false, length, filter, sym, ◌∙◌, arith, ◌≢◌, Bool, if◌then◌else◌, Some, None, refl, ap}
 use Rattle.std.specs.Prelude.{not, ◌==◌, ◌&&◌}
 use Rattle.std.proofs.lemmas.Bool.{lt-ltb, eq-eqb, true≢false}
 use Rattle.bp_lruk.specs.Candidates.{Entered, entry_of, NoPageTwice, SameLimits}
@@ -15,8 +15,8 @@ use Rattle.bp_trail.specs.Saved.{written_since}
 use Rattle.bp_trail.specs.Images.{held}
 use Rattle.bp_trail.specs.PageMap.{reply_of}
 use Rattle.bp_trail.specs.Legal.{is_out, allowed}
-use Rattle.bp_core.specs.Frames.{saving, saved, not_saved}
-use Rattle.bp_core.specs.Tables.{with_changed}
+use Rattle.bp_frames.specs.Frames.{saving, saved, not_saved}
+use Rattle.bp_frames.specs.Tables.{with_changed}
 use Rattle.bp_core.specs.Outcomes.{IsBegin}
 use Rattle.bp_core.specs.Outcomes.IsBegin.{by_fix, by_flush}
 use Rattle.bp_core.specs.Agreement.{rewritten, HasCandidates, HasTrailRoom}
@@ -25,15 +25,16 @@ use Rattle.bp_trail.proofs.Places.{out-of_page}
 use Rattle.bp_trail.proofs.Ranges.{stays}
 use Rattle.bp_trail.proofs.Residents.{reads-rest}
 use Rattle.bp_core.proofs.WriteSteps.{agrees-begin, agrees-cleaned, agrees-still_dirty, agrees-write_failed, written-seen, landed, still}
-use Rattle.bp_core.proofs.Seen.{ranked}
+use Rattle.bp_core.proofs.Seen.{ranked, resident_seen}
+use Rattle.bp_frames.specs.Frames.{is_frame_of}
 use Rattle.bp_core.proofs.CandidateSteps.{no-entry, move-begin, move-write_end}
-use Rattle.bp_core.proofs.Chosen.{has-room}
 use Rattle.bp_core.specs.declared.state.State.{State}
 use Rattle.bp_trail.specs.Parameters.{Parameters}
 use Rattle.bp_trail.specs.Event.{grant}
 use Rattle.bp_trail.specs.Trail.{Trail}
 use Rattle.bp_core.specs.CoreView.{CoreView, EachPast, HasRoomFor}
-use Rattle.bp_core.specs.Lodging.{Kept, Given, with_next, with_grant}
+use Rattle.bp_core.specs.Lodging.{Kept, with_next}
+use Rattle.bp_frames.specs.GrantLists.{Given, with_grant}
 use Rattle.bp_core.specs.Agreement.{parts_of, IsCore, view_of}
 use Rattle.bp_core.proofs.Keeps.{longer, at-past, at-parameters, at-room}
 
@@ -46,23 +47,24 @@ module _ (c : Parameters) (trail : Kept) (x : State) (core : IsCore c trail x) (
 
   pub keeps-begin : (call : Call) (p : ℕ) → IsBegin call → who < v.parameters.clients → EachPast v (λ past. allowed v.parameters past who call ≡ true) → EachPast v (λ past. WriteFirst (tickets past) p (held past p) ≡ reply_of v.parameters past call) → HasRoomFor 2 v
       → (ws : Given) → ws.out ≡ x.writes.out
-      → (e : Entered) → SameLimits x.candidates e → (NoPageTwice x.candidates.entries → NoPageTwice e.entries) → ((q : ℕ) → q ≢ p → entry_of e q ≡ entry_of x.candidates q) → entry_of e p ≡ None
-      → IsCore c (with_next trail who call (WriteFirst x.tickets_given p (held trail.past p))) (record x { tickets_given = x.tickets_given + 1; writes = with_grant ws who p x.tickets_given; frames = with_changed x.frames p saving; candidates = e })
+      → (e : Entered) → SameLimits x.frames.candidates e → (NoPageTwice x.frames.candidates.entries → NoPageTwice e.entries) → ((q : ℕ) → q ≢ p → entry_of e q ≡ entry_of x.frames.candidates q) → entry_of e p ≡ None
+      → IsCore c (with_next trail who call (WriteFirst x.tickets_given p (held trail.past p))) (record x { tickets_given = x.tickets_given + 1; writes = with_grant ws who p x.tickets_given; frames = record (with_changed x.frames p saving) { candidates = e } })
   keeps-begin call p begins client may lawful room ws same e limits pages leaves gone =
       let next = agrees-begin c trail.past (parts_of x) core.agrees who p (lt-ltb who c.clients (given (λ q. who < q.clients) client)) call begins (at (λ q past. allowed q past who call ≡ true) may)
       (at (λ q past. WriteFirst (tickets past) p (held past p) ≡ reply_of q past call) lawful) in
       record {
         agrees = rw same next;
-        candidates = move-begin c trail.past x.candidates core.candidates e limits pages p leaves who call x.tickets_given (held trail.past p) begins gone;
+        candidates = move-begin c trail.past x.frames.candidates core.candidates e limits pages p leaves who call x.tickets_given (held trail.past p) begins gone;
         trail_room = roomy call begins;
+        opening = core.opening;
         pass_room = core.pass_room;
         read_room = core.read_room;
         frame_room = core.frame_room;
       }
     where
-      roomy : (call : Call) → IsBegin call → HasTrailRoom c (suc (length trail.past)) (with_next trail who call (WriteFirst x.tickets_given p (held trail.past p))).past trail.capacity
-      roomy _ (by_fix q) = longer c _ _ _ core.trail_room _ (omega (arith, at-room c trail x core v is 2 room)) (omega arith) (omega arith)
-      roomy _ (by_flush q) = longer c _ _ _ core.trail_room _ (omega (arith, at-room c trail x core v is 2 room)) (omega arith) (omega arith)
+      roomy : (call : Call) → IsBegin call → HasTrailRoom c (with_next trail who call (WriteFirst x.tickets_given p (held trail.past p)))
+      roomy _ (by_fix q) = longer c _ core.trail_room _ (omega (arith, at-room c trail x core v is 2 room)) (omega arith) (omega arith)
+      roomy _ (by_flush q) = longer c _ core.trail_room _ (omega (arith, at-room c trail x core v is 2 room)) (omega arith) (omega arith)
 
   module _ (p t : ℕ) (known : EachPast v (λ past. is_out (grant who p t) (writes_out past) ≡ true)) where
     out-now : is_out (grant who p t) (writes_out trail.past) ≡ true
@@ -76,7 +78,7 @@ module _ (c : Parameters) (trail : Kept) (x : State) (core : IsCore c trail x) (
     here-now away = true≢false (sym (stays c trail.past core.agrees.legal p (out-of_page who p t (writes_out trail.past) out-now)) ∙ at (λ q past. resident past p ≡ false) away)
 
     -- so it is no candidate, and there is room for it
-    pub no-candidate : entry_of x.candidates p ≡ None
+    pub no-candidate : entry_of x.frames.candidates p ≡ None
     no-candidate = core.candidates.entries_are p ∙ no-entry c trail.past trail.past p (ap (λ b. resident trail.past p && ((pins trail.past p == 0) && not b)) (out-of_page who p t (writes_out trail.past) out-now) ∙ none (resident trail.past p) (pins trail.past p == 0))
       where
         none : (a b : Bool) → (a && (b && false)) ≡ false
@@ -84,48 +86,51 @@ module _ (c : Parameters) (trail : Kept) (x : State) (core : IsCore c trail x) (
         none true false = refl
         none false b = refl
 
-    pub candidate-room : length x.candidates.entries < x.candidates.frames
-    candidate-room = has-room c trail.past x.candidates core.candidates core.agrees.legal p (stays c trail.past core.agrees.legal p (out-of_page who p t (writes_out trail.past) out-now)) no-candidate
+    pub frame-here : some (is_frame_of p) x.frames.frames ≡ true
+    frame-here = resident_seen c trail.past (parts_of x) core.agrees p ∙ stays c trail.past core.agrees.legal p (out-of_page who p t (writes_out trail.past) out-now)
 
     since : rewritten trail.past p ≡ written_since trail.past t p
     since = written-seen c trail.past (parts_of x) core.agrees who t p out-now
 
     -- its page is entered among the candidates if no pass of it is out
-    module _ (unused_now : Bool) (idle : EachPast v (λ past. unused_now ≡ (pins past p == 0))) (e : Entered) (limits : SameLimits x.candidates e) (pages : NoPageTwice x.candidates.entries → NoPageTwice e.entries) (others : (q : ℕ) → q ≢ p → entry_of e q ≡ entry_of x.candidates q)
-        (entered : entry_of e p ≡ (if unused_now then Some (stamp_of x.histories p c.k, last_of x.histories p) else entry_of x.candidates p)) where
+    module _ (unused_now : Bool) (idle : EachPast v (λ past. unused_now ≡ (pins past p == 0))) (e : Entered) (limits : SameLimits x.frames.candidates e) (pages : NoPageTwice x.frames.candidates.entries → NoPageTwice e.entries) (others : (q : ℕ) → q ≢ p → entry_of e q ≡ entry_of x.frames.candidates q)
+        (entered : entry_of e p ≡ (if unused_now then Some (stamp_of x.histories p c.k, last_of x.histories p) else entry_of x.frames.candidates p)) where
       ended : (later : Trail) → ((q : ℕ) → resident later q ≡ resident trail.past q) → ((q : ℕ) → pins later q ≡ pins trail.past q) → ((q : ℕ) → references c later q ≡ references c trail.past q)
           → writing later p ≡ some (is_of p) (rest t (writes_out trail.past)) → ((q : ℕ) → writing later q ≡ some (is_of q) (rest t (writes_out trail.past))) → HasCandidates c later e
-      ended later r n f landing flying = move-write_end c trail.past x.candidates core.candidates e limits pages p others later r n f (out-of_page who p t (writes_out trail.past) out-now)
+      ended later r n f landing flying = move-write_end c trail.past x.frames.candidates core.candidates e limits pages p others later r n f (out-of_page who p t (writes_out trail.past) out-now)
           (landing ∙ landed c trail.past (parts_of x) core.agrees who t p out-now p (eq-eqb p p refl)) (λ q apart. flying q ∙ still c trail.past (parts_of x) core.agrees who t p out-now q apart) (stays c trail.past core.agrees.legal p (out-of_page who p t (writes_out trail.past) out-now))
-          (entered ∙ (λ i. if at (λ q past. unused_now ≡ (pins past p == 0)) idle i then Some (ranked c trail.past (parts_of x) core.agrees p i) else entry_of x.candidates p))
+          (entered ∙ (λ i. if at (λ q past. unused_now ≡ (pins past p == 0)) idle i then Some (ranked c trail.past (parts_of x) core.agrees p i) else entry_of x.frames.candidates p))
 
       pub keeps-cleaned : EachPast v (λ past. rewritten past p ≡ false)
-          → IsCore c (with_next trail who (WriteEnd t p true) Cleaned) (record x { writes = record x.writes { out = filter (λ g. not (g.serial == t)) x.writes.out }; frames = with_changed x.frames p saved; candidates = e })
+          → IsCore c (with_next trail who (WriteEnd t p true) Cleaned) (record x { writes = record x.writes { out = filter (λ g. not (g.serial == t)) x.writes.out }; frames = record (with_changed x.frames p saved) { candidates = e } })
       keeps-cleaned none = record {
         agrees = agrees-cleaned c trail.past (parts_of x) core.agrees who t p out-now (sym since ∙ at (λ q past. rewritten past p ≡ false) none);
         candidates = ended _ (λ q. refl) (λ q. refl) (λ q. refl) refl (λ q. refl);
-        trail_room = longer c _ _ _ core.trail_room _ (omega (arith, core.trail_room.owed, fewer)) (omega arith) (omega arith);
+        trail_room = longer c _ core.trail_room _ (omega (arith, core.trail_room.owed, fewer)) (omega arith) (omega arith);
+        opening = core.opening;
         pass_room = core.pass_room;
         read_room = core.read_room;
         frame_room = core.frame_room;
       }
 
       pub keeps-still_dirty : EachPast v (λ past. rewritten past p ≡ true)
-          → IsCore c (with_next trail who (WriteEnd t p true) StillDirty) (record x { writes = record x.writes { out = filter (λ g. not (g.serial == t)) x.writes.out }; frames = with_changed x.frames p saved; candidates = e })
+          → IsCore c (with_next trail who (WriteEnd t p true) StillDirty) (record x { writes = record x.writes { out = filter (λ g. not (g.serial == t)) x.writes.out }; frames = record (with_changed x.frames p saved) { candidates = e } })
       keeps-still_dirty some = record {
         agrees = agrees-still_dirty c trail.past (parts_of x) core.agrees who t p out-now (sym since ∙ at (λ q past. rewritten past p ≡ true) some);
         candidates = ended _ (λ q. refl) (λ q. refl) (λ q. refl) refl (λ q. refl);
-        trail_room = longer c _ _ _ core.trail_room _ (omega (arith, core.trail_room.owed, fewer)) (omega arith) (omega arith);
+        trail_room = longer c _ core.trail_room _ (omega (arith, core.trail_room.owed, fewer)) (omega arith) (omega arith);
+        opening = core.opening;
         pass_room = core.pass_room;
         read_room = core.read_room;
         frame_room = core.frame_room;
       }
 
-      pub keeps-fail_write_out : IsCore c (with_next trail who (WriteEnd t p false) WriteFailed) (record x { writes = record x.writes { out = filter (λ g. not (g.serial == t)) x.writes.out }; frames = with_changed x.frames p not_saved; candidates = e })
+      pub keeps-fail_write_out : IsCore c (with_next trail who (WriteEnd t p false) WriteFailed) (record x { writes = record x.writes { out = filter (λ g. not (g.serial == t)) x.writes.out }; frames = record (with_changed x.frames p not_saved) { candidates = e } })
       keeps-fail_write_out = record {
         agrees = agrees-write_failed c trail.past (parts_of x) core.agrees who t p out-now;
         candidates = ended _ (λ q. refl) (λ q. refl) (λ q. refl) refl (λ q. refl);
-        trail_room = longer c _ _ _ core.trail_room _ (omega (arith, core.trail_room.owed, fewer)) (omega arith) (omega arith);
+        trail_room = longer c _ core.trail_room _ (omega (arith, core.trail_room.owed, fewer)) (omega arith) (omega arith);
+        opening = core.opening;
         pass_room = core.pass_room;
         read_room = core.read_room;
         frame_room = core.frame_room;

@@ -6,7 +6,7 @@ use Rattle.bp_lruk.specs.Burst.Reference.{hit}
 use Rattle.bp_lruk.specs.Histories.{Blocks, is_held, HasStampsOf, SameAt, SameSettings}
 use Rattle.bp_trail.specs.declared.entries.Call.TheVariants.{Fix, Write, Unfix}
 use Rattle.bp_trail.specs.declared.entries.Reply.TheVariants.{Done, Hit}
-use Rattle.bp_core.specs.declared.frame.Frame.{Frame}
+use Rattle.bp_frames.specs.declared.frame.Frame.{Frame}
 use Rattle.bp_trail.specs.Parameters.{Parameters}
 use Rattle.bp_trail.specs.Lists.{some, count}
 use Rattle.bp_trail.specs.Event.{Grant, grant, patched}
@@ -19,7 +19,7 @@ use Rattle.bp_trail.specs.Images.{held}
 use Rattle.bp_trail.specs.References.{references}
 use Rattle.bp_trail.specs.PageMap.{fix_reply}
 use Rattle.bp_trail.specs.Legal.{is_out}
-use Rattle.bp_core.specs.Frames.{is_frame_of, pinned, unpinned, written_on, changed_at}
+use Rattle.bp_frames.specs.Frames.{is_frame_of, pinned, unpinned, written_on, changed_at}
 use Rattle.bp_core.specs.Agreement.{Parts, Agrees, frame_of, rewritten}
 use Rattle.bp_trail.proofs.Counting.{count-agree, count-map, some-from_counts}
 use Rattle.bp_trail.proofs.Serials.{numbered, count-rest, rest, OneSerial}

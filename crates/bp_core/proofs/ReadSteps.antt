@@ -7,7 +7,7 @@ use Rattle.bp_lruk.specs.Histories.{Blocks, is_held, HasStampsOf, SameStampsAt, 
 use Rattle.bp_trail.specs.declared.entries.Call.TheVariants.{Fix, ReadEnd}
 use Rattle.bp_trail.specs.declared.entries.Reply.{Reply}
 use Rattle.bp_trail.specs.declared.entries.Reply.TheVariants.{Load, WriteFirst, NeedLog, Fixed, ReadFailed}
-use Rattle.bp_core.specs.declared.frame.Frame.{Frame}
+use Rattle.bp_frames.specs.declared.frame.Frame.{Frame}
 use Rattle.bp_trail.specs.Parameters.{Parameters}
 use Rattle.bp_trail.specs.Lists.{some, count}
 use Rattle.bp_trail.specs.Event.{grant, begins_of, writes}
@@ -20,7 +20,7 @@ use Rattle.bp_trail.specs.Images.{held}
 use Rattle.bp_trail.specs.References.{references}
 use Rattle.bp_trail.specs.PageMap.{fix_reply}
 use Rattle.bp_trail.specs.Legal.{is_out}
-use Rattle.bp_core.specs.Frames.{is_frame_of, loaded_with, without_page}
+use Rattle.bp_frames.specs.Frames.{is_frame_of, loaded_with, without_page}
 use Rattle.bp_core.specs.Agreement.{Parts, Agrees, frame_of, rewritten}
 use Rattle.bp_trail.proofs.Lists.{since-mono}
 use Rattle.bp_trail.proofs.Counting.{count-cons, none-count, count-agree_but, count-permutation, count-filter}

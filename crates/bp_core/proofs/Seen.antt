@@ -7,7 +7,7 @@ use Rattle.std.proofs.lemmas.Bool.{eqb-true, eq-eqb, and_parts, and_from, or_lef
 use Rattle.bp_lruk.specs.Histories.{stamp_of, last_of, IsNow}
 use Rattle.bp_lruk.specs.Burst.{Reference, last_time}
 use Rattle.bp_lruk.specs.Stamp.{stamp, IsTimed}
-use Rattle.bp_core.specs.declared.frame.Frame.{Frame}
+use Rattle.bp_frames.specs.declared.frame.Frame.{Frame}
 use Rattle.bp_trail.specs.Parameters.{Parameters}
 use Rattle.bp_trail.specs.Lists.{some, count}
 use Rattle.bp_trail.specs.Event.{Grant, grant, ticket_given}
@@ -17,7 +17,7 @@ use Rattle.bp_trail.specs.Passes.{passes, tickets, pass_of, passes_out, reads_ou
 use Rattle.bp_trail.specs.Places.{residents, resident}
 use Rattle.bp_trail.specs.References.{references, hist, last, is_empty}
 use Rattle.bp_trail.specs.Legal.{is_out}
-use Rattle.bp_core.specs.Frames.{is_frame_of}
+use Rattle.bp_frames.specs.Frames.{is_frame_of}
 use Rattle.bp_core.specs.Agreement.{Parts, Agrees, frame_of}
 use Rattle.bp_trail.proofs.Lists.{member}
 use Rattle.bp_trail.proofs.Counting.{some-at, count-cons, some-count, count-all, some-from_counts, length-split}

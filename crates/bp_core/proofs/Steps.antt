@@ -1,5 +1,5 @@
 -- Each call keeps what the core holds in agreement with the trail.
-use Rattle.std.proofs.Common.{◌≡◌, ℕ, ◌+◌, ◌*◌, ◌^◌, ◌<◌, ◌≤◌, max, true, List, [], ◌∷◌, ◌++◌, length, refl, sym, ◌∙◌, ap, arith}
+use Rattle.std.proofs.Common.{◌≡◌, ℕ, ◌+◌, ◌^◌, ◌<◌, ◌≤◌, max, true, ◌∷◌, refl, sym, ◌∙◌, ap, arith}
 use Rattle.std.proofs.lemmas.Bool.{lt-ltb, le-leb}
 use Rattle.bp_trail.specs.declared.entries.Entry.{Entry}
 use Rattle.bp_trail.specs.declared.entries.Call.{Call}
@@ -9,30 +9,15 @@ use Rattle.bp_trail.specs.declared.entries.Reply.TheVariants.{Done}
 use Rattle.bp_trail.specs.Parameters.{Parameters}
 use Rattle.bp_trail.specs.Trail.{Trail}
 use Rattle.bp_trail.specs.Clock.{clock}
-use Rattle.bp_trail.specs.Passes.{passes_out, reads_out, writes_out}
 use Rattle.bp_trail.specs.PageMap.{reply_of}
-use Rattle.bp_trail.specs.Legal.{allowed, Legal}
+use Rattle.bp_trail.specs.Legal.{allowed}
 use Rattle.bp_core.specs.Agreement.{Parts, Observed, Agrees}
-use Rattle.std.specs.Prelude.{reverse}
-use Rattle.bp_core.specs.CoreView.{CoreView, with_entry}
-use Rattle.bp_trail.proofs.Counting.{reverse-push}
-use Rattle.bp_core.specs.Outcomes.{IsQuiet, Adds}
+use Rattle.bp_core.specs.Outcomes.{IsQuiet}
 use Rattle.bp_core.specs.Outcomes.IsQuiet.{fix_busy, fix_none, fix_log, flush_busy, flush_absent, flush_clean, flush_log, page_read}
 use Rattle.bp_core.proofs.Changes.{clock-tick}
 
 abbrev pub by : ℕ → Call → Reply → Entry
 by client call reply = record { client = client; call = call; reply = reply }
-
-pub owed : Trail → ℕ
-owed past = length past + length (passes_out past) + length (writes_out past) + 2 * length (reads_out past)
-
--- what a caller sees of one more entry
-pub added : (c : Parameters) (items after : List Entry) (v : CoreView) (who : ℕ) (call : Call) (reply : Reply) → (let u : CoreView = record { parameters = c; past = reverse items } in u) ≡ v
-    → after ≡ items ++ by who call reply ∷ [] → Legal c (reverse after) → Adds v who call reply (record { parameters = c; past = reverse after })
-added c items after v who call reply is pushed legal = record {
-  is = ap (λ es. let u : CoreView = record { parameters = c; past = es } in u) (ap reverse pushed ∙ reverse-push items (by who call reply)) ∙ ap (λ u. with_entry u who call reply) is;
-  legal = legal;
-}
 
 module _ (c : Parameters) (past : Trail) (x : Parts) (a : Agrees c past x) where
   pub agrees-tick : (who n : ℕ) → who < c.clients → clock past + n ≤ 2 ^ 62 → Agrees c (by who (Tick n) Done ∷ past) (record x { now = x.now + n })

@@ -14,7 +14,7 @@ use Rattle.bp_trail.specs.Saved.{unsaved, top}
 use Rattle.bp_trail.specs.Images.{held}
 use Rattle.bp_trail.specs.PageMap.{reply_of}
 use Rattle.bp_trail.specs.Legal.{is_out, allowed, Legal}
-use Rattle.bp_core.specs.Frames.{saving, saved, not_saved, changed_at}
+use Rattle.bp_frames.specs.Frames.{saving, saved, not_saved, changed_at}
 use Rattle.bp_core.specs.Agreement.{Parts, Agrees, frame_of, rewritten}
 use Rattle.bp_trail.proofs.Serials.{numbered, rest}
 use Rattle.bp_trail.proofs.Residents.{reads-rest}

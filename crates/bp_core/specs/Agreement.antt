@@ -1,9 +1,9 @@
 -- What a core keeps, and that it agrees with the trail.
-use Rattle.std.specs.Prelude.{◌≡◌, ℕ, ◌+◌, ◌*◌, ◌^◌, ◌≤◌, ◌==◌, Bool, not, ◌&&◌, ◌||◌, false, List, [], length, Option, Some, None, if◌then◌else◌}
+use Rattle.std.specs.Prelude.{◌≡◌, ℕ, Decides, ◌+◌, ◌*◌, ◌^◌, ◌≤◌, ◌==◌, Bool, not, ◌&&◌, ◌||◌, false, List, [], length, Option, Some, None, if◌then◌else◌}
 use Rattle.bp_lruk.specs.Histories.{Blocks, HasStampsOf, is_held}
 use Rattle.bp_lruk.specs.Candidates.{Entered, entry_of, NoPageTwice}
 use Rattle.bp_core.specs.declared.config.Config.{Config}
-use Rattle.bp_core.specs.declared.frame.Frame.{Frame}
+use Rattle.bp_frames.specs.declared.frame.Frame.{Frame}
 use Rattle.bp_core.specs.declared.state.State.{State}
 use Rattle.bp_trail.specs.Parameters.{Parameters}
 use Rattle.bp_trail.specs.Lists.{count, since}
@@ -16,6 +16,7 @@ use Rattle.bp_trail.specs.Saved.{unsaved, top}
 use Rattle.bp_trail.specs.Images.{held}
 use Rattle.bp_trail.specs.References.{references, hist, last}
 use Rattle.bp_trail.specs.Legal.{Legal}
+use Rattle.bp_trail.specs.Standing.{standing}
 use Rattle.bp_core.specs.CoreView.{CoreView}
 use Rattle.bp_core.specs.Lodging.{Kept}
 
@@ -89,12 +90,17 @@ pub record Agrees (c : Parameters) (past : Trail) (x : Parts) : Type 0 where
   pub in_time : clock past ≤ 2 ^ 62
 
 -- the room that later calls rely on, list by list: for the entries that are owed, of which so many are kept already,
-pub record HasTrailRoom (c : Parameters) (kept : ℕ) (past : Trail) (capacity : ℕ) : Type 0 where
+pub record HasTrailRoom (c : Parameters) (trail : Kept) : Type 0 where
   pub small : c.room ≤ 16777216
-  pub reserved : c.room ≤ capacity
-  pub owed : kept + length (passes_out past) + length (writes_out past) + 2 * length (reads_out past) ≤ c.room
-  pub passes_fit : passes past ≤ 2 ^ 62 + kept
-  pub tickets_fit : tickets past ≤ 2 ^ 62 + kept
+  pub reserved : c.room ≤ trail.capacity
+  pub counted : trail.len + length trail.before ≡ length trail.past
+  pub owed : trail.len + length (passes_out trail.past) + length (writes_out trail.past) + 2 * length (reads_out trail.past) ≤ c.room
+  pub passes_fit : passes trail.past ≤ 2 ^ 62 + trail.len
+  pub tickets_fit : tickets trail.past ≤ 2 ^ 62 + trail.len
+
+-- whether the trail opens where no entries lead
+abbrev pub OpensFresh : Parameters → Kept → Type 0
+OpensFresh c trail = Decides trail.fresh (standing c trail.before ≡ standing c [])
 
 -- for a pass at the end of each read,
 pub record HasPassRoom (out reads capacity : ℕ) : Type 0 where
@@ -106,10 +112,11 @@ pub record HasReadRoom (c : Parameters) (capacity : ℕ) : Type 0 where
   pub reserved : c.frames ≤ capacity
 
 -- and a frame for each read
-pub record HasFrameRoom (c : Parameters) (reads spare size limit : ℕ) : Type 0 where
+pub record HasFrameRoom (c : Parameters) (reads spare size limit pages : ℕ) : Type 0 where
   pub reserved : reads ≤ spare
   pub size_is : size ≡ c.size
   pub limit_is : limit ≡ c.frames
+  pub pages_is : pages ≡ c.pages
 
 -- the candidates for replacement: the pages that nobody uses, each with its K-th stamp and its last time
 abbrev pub unused : Trail → ℕ → Bool
@@ -126,14 +133,15 @@ pub record HasCandidates (c : Parameters) (past : Trail) (candidates : Entered) 
 
 pub record IsCore (c : Parameters) (trail : Kept) (x : State) : Type 0 where
   pub agrees : Agrees c trail.past (parts_of x)
-  pub candidates : HasCandidates c trail.past x.candidates
-  pub trail_room : HasTrailRoom c (length trail.past) trail.past trail.capacity
+  pub candidates : HasCandidates c trail.past x.frames.candidates
+  pub trail_room : HasTrailRoom c trail
+  pub opening : OpensFresh c trail
   pub pass_room : HasPassRoom (length x.passes.out) (length x.reads.out) x.passes.capacity
   pub read_room : HasReadRoom c x.reads.capacity
-  pub frame_room : HasFrameRoom c (length x.reads.out) x.frames.spare x.frames.size x.frames.limit
+  pub frame_room : HasFrameRoom c (length x.reads.out) x.frames.spare x.frames.size x.frames.limit x.frames.pages
 
 abbrev pub view_of : Parameters → Kept → CoreView
-view_of c trail = record { parameters = c; past = trail.past }
+view_of c trail = record { parameters = c; before = trail.before; past = trail.past }
 
 -- what no entries come to
 pub record IsFirst (c : Parameters) (x : State) : Type 0 where
@@ -145,10 +153,9 @@ pub record IsFirst (c : Parameters) (x : State) : Type 0 where
   pub reads : x.reads.out ≡ []
   pub reads_reserved : c.frames ≤ x.reads.capacity
   pub writes : x.writes.out ≡ []
-  pub frames : x.frames ≡ record { frames = []; spare = 0; size = c.size; limit = c.frames }
+  pub frames : x.frames ≡ record { frames = []; spare = 0; size = c.size; limit = c.frames; pages = c.pages; candidates = record { frames = c.frames; correlated = c.correlated; entries = [] } }
   pub k : x.histories.k ≡ c.k
   pub correlated : x.histories.correlated ≡ c.correlated
   pub retained : x.histories.retained ≡ c.retained
   pub held : (page : ℕ) → is_held x.histories page ≡ false
   pub stamps : (page : ℕ) → HasStampsOf x.histories page []
-  pub candidates : x.candidates ≡ record { frames = c.frames; correlated = c.correlated; entries = [] }

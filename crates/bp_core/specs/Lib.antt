@@ -2,8 +2,5 @@
 pub mod CoreView
 pub mod Outcomes
 pub mod EndRefusals
-pub mod Frames
-pub mod Rising
 pub mod Lodging
-pub mod Tables
 pub mod Agreement

@@ -1,17 +1,18 @@
 -- What each call answers and leaves.
-use Rattle.std.specs.Prelude.{◌≡◌, ℕ, ◌+◌, ◌^◌, ◌<◌, ◌≤◌, Bool, true, false, List, [], Some, None, Result, Ok, Err}
+use Rattle.std.specs.Prelude.{◌≡◌, ℕ, ◌+◌, ◌^◌, ◌<◌, ◌≤◌, Bool, true, false, List, [], ◌++◌, ◌⊎◌, reverse, Some, None, Result, Ok, Err}
 use Rattle.bp_page.specs.declared.refusals.Refusal.{Refusal}
 use Rattle.bp_page.specs.declared.refusals.Refusal.TheVariants as refusal
 use Rattle.bp_page.specs.declared.refusals.PortFault.{PortFault}
 use Rattle.bp_trail.specs.Parameters.{Parameters}
 use Rattle.bp_trail.specs.Event.{grant}
 use Rattle.bp_trail.specs.Clock.{clock}
-use Rattle.bp_trail.specs.Passes.{passes_out, reads_out, writes_out}
+use Rattle.bp_trail.specs.Passes.{passes, tickets, passes_out, reads_out, writes_out}
 use Rattle.bp_trail.specs.Saved.{top}
-use Rattle.bp_trail.specs.Room.{free}
 use Rattle.bp_trail.specs.Legal.{is_out, Legal}
 use Rattle.bp_trail.specs.Trail.{Trail}
-use Rattle.bp_core.specs.CoreView.{CoreView, EachPast, with_entry, HasRoomFor, LacksRoomFor}
+use Rattle.bp_trail.specs.Cuts.{LeadsOn}
+use Rattle.bp_trail.specs.declared.entries.Entry.{Entry}
+use Rattle.bp_core.specs.CoreView.{CoreView, opening, EachPast, with_entry, HasRoomFor, LacksRoomFor}
 use Rattle.bp_trail.specs.declared.entries.Call.{Call}
 use Rattle.bp_trail.specs.declared.entries.Call.TheVariants.{Tick, Fix, ReadEnd, WriteEnd, Read, Write, Unfix, Flush, Purge}
 use Rattle.bp_trail.specs.declared.entries.Reply.{Reply}
@@ -27,10 +28,6 @@ use Rattle.bp_core.specs.declared.passes.Ended.{Ended}
 use Rattle.bp_core.specs.declared.passes.Ended.TheVariants as ended
 use Rattle.bp_core.specs.declared.passes.EndRefusal.{EndRefusal}
 use Rattle.bp_core.specs.declared.passes.EndRefusal.TheVariants as end_refusal
-
--- the room that is left
-abbrev pub room_left : CoreView → ℕ
-room_left core = free core.parameters core.past
 
 -- one more entry, of a legal trail
 pub record Adds (old : CoreView) (client : ℕ) (call : Call) (reply : Reply) (new : CoreView) : Type 0 where
@@ -104,10 +101,24 @@ pub record IsFit (c : Parameters) : Type 0 where
   pub small_room : c.room ≤ 16777216
 
 abbrev pub NewOutcome : Parameters → Result CoreView Refusal → Type 0
-NewOutcome c (Ok core) = IsFit c × (core ≡ record { parameters = c; past = [] })
+NewOutcome c (Ok core) = IsFit c × (core ≡ record { parameters = c; before = []; past = [] })
 NewOutcome c (Err refusal.BadSettings) = ¬ IsFit c
 NewOutcome c (Err refusal.OutOfMemory) = IsFit c
 NewOutcome c (Err _) = ⊥
+
+-- the trail is handed out, and the next one opens where it led
+pub record Cuts (old : CoreView) (entries : List Entry) (new : CoreView) : Type 0 where
+  pub is : new ≡ record old { before = old.past }
+  pub whole : reverse entries ++ old.before ≡ old.past
+  pub few_passes : EachPast old (λ past. passes past ≤ 2 ^ 62)
+  pub few_tickets : EachPast old (λ past. tickets past ≤ 2 ^ 62)
+  pub leads_on : LeadsOn old.parameters (opening old) (reverse entries) (opening new)
+  pub legal : EachPast new (Legal new.parameters)
+
+abbrev pub CutRefused : CoreView → Refusal → CoreView → Type 0
+CutRefused old refusal.ClockFull new = EachPast old (λ past. (2 ^ 62 < passes past) ⊎ (2 ^ 62 < tickets past)) × (new ≡ old)
+CutRefused old refusal.OutOfMemory new = EachPast old (λ past. passes past ≤ 2 ^ 62) × EachPast old (λ past. tickets past ≤ 2 ^ 62) × (new ≡ old)
+CutRefused old _ new = ⊥
 
 -- a call that is refused for want of room alone
 abbrev pub StepOutcome : {A : Type 0} → CoreView → ℕ → Call → Result A Refusal → CoreView → Type 0

@@ -4,18 +4,14 @@
 //! replacement by LRU-K (O'Neil, O'Neil and Weikum, SIGMOD 1993, figure 2.1).
 #![tactic(auto)]
 
+pub mod before;
 pub mod config;
-mod frame;
-mod frame_table;
-mod grant_list;
 pub mod passes;
 pub mod pool;
 mod state;
 mod trail;
 
+pub use before::Before;
 pub use bp_trail::{Call, Entry, Refused, Reply, Row, Step};
 pub use passes::{EndRefusal, Ended, Fix, Flush, Pass, PassNote, ReadTicket, WriteTicket};
 pub use pool::Core;
-
-#[cfg(test)]
-mod tests;

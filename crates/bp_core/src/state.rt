@@ -1,13 +1,14 @@
 //! What a core keeps beside its trail.
-ghost use Rattle.std.specs.Prelude.{◌≡◌, ◌≢◌, ℕ, ◌+◌, ◌^◌, ◌<◌, true, All, Some, None, if◌then◌else◌, IfOk, length};
+ghost use Rattle.std.specs.Prelude.{◌≡◌, ◌≢◌, ℕ, ◌+◌, ◌^◌, ◌<◌, ◌≤◌, true, All, Some, None, if◌then◌else◌, IfOk, length};
 ghost use Rattle.bp_lruk.specs.Histories.{stamp_of, last_of};
 ghost use Rattle.bp_lruk.specs.Candidates.{entry_of, NoPageTwice, SameLimits};
+ghost use Rattle.bp_trail.specs.Lists.{some};
+ghost use Rattle.bp_frames.specs.Frames.{is_frame_of};
 
 use crate::config::Config;
-use crate::frame_table::FrameTable;
-use crate::grant_list::GrantList;
 use crate::passes::{Pass, ReadTicket};
-use bp_lruk::{Candidates, Histories};
+use bp_frames::{FrameTable, GrantList};
+use bp_lruk::Histories;
 use bp_page::{Lsn, PageNo};
 use std::alloc::{AllocError, Global};
 
@@ -23,23 +24,20 @@ pub(crate) struct State {
     pub(crate) passes: GrantList,
     pub(crate) reads: GrantList,
     pub(crate) writes: GrantList,
+    /// The frames, of which those that nobody uses are candidates: with no pass out and no write-out under way.
     pub(crate) frames: FrameTable,
     pub(crate) histories: Histories,
-    /// The resident pages that nobody uses: with no pass out and no write-out under way.
-    pub(crate) candidates: Candidates,
 }
 
 impl State {
-    ghost use Rattle.bp_core.specs.Lodging.{with_grant};
+    ghost use Rattle.bp_frames.specs.GrantLists.{with_grant};
     ghost use Rattle.bp_core.specs.Agreement.{parameters_of, IsFirst};
 
     /// What no entries come to, with the room that it will ever need but for passes, histories and images.
     pub(crate) fn new(alloc: Global, config: &Config) -> Result<State, AllocError>
+        requires { config.now.frames ≤ 65536 }
         ensures { IfOk result (IsFirst (parameters_of config.now)) }
     {
-        let Ok(candidates) = Candidates::new(alloc, config.frames, config.settings) else {
-            return Err(AllocError);
-        };
         Ok(State {
             clock: 1,
             durable: Lsn::new(0),
@@ -48,9 +46,13 @@ impl State {
             passes: GrantList::new(alloc),
             reads: GrantList::with_capacity(alloc, config.frames)?,
             writes: GrantList::new(alloc),
-            frames: FrameTable::with_capacity(alloc, config.frames, config.geometry)?,
+            frames: FrameTable::with_capacity(
+                alloc,
+                config.frames,
+                config.geometry,
+                config.settings,
+            )?,
             histories: Histories::new(alloc, config.settings),
-            candidates,
         })
     }
 
@@ -105,36 +107,24 @@ impl State {
     }
 }
 
-/// Enters a page among the candidates for replacement, if nobody uses it.
+/// Enters a page that has a frame among the candidates for replacement, if nobody uses it.
 pub(crate) fn offer(
-    candidates: &mut Candidates,
+    frames: &mut FrameTable,
     histories: &Histories,
     page: PageNo,
     k: usize,
     is_unused: bool,
 )
-    requires apart { is_unused ≡ true → entry_of candidates.old page ≡ None }
-    requires room { is_unused ≡ true → length candidates.old.entries < candidates.old.frames }
-    ensures entered { entry_of candidates.new page ≡ (if is_unused then Some (stamp_of histories.now page k, last_of histories.now page) else entry_of candidates.old page) }
-    ensures others { (q : ℕ) → q ≢ page → entry_of candidates.new q ≡ entry_of candidates.old q }
-    ensures pages { NoPageTwice candidates.old.entries → NoPageTwice candidates.new.entries }
-    ensures limits { SameLimits candidates.old candidates.new }
+    requires here { is_unused ≡ true → some (is_frame_of page) frames.old.frames ≡ true }
+    requires apart { is_unused ≡ true → entry_of frames.old.candidates page ≡ None }
+    ensures same { frames.new ≡ record frames.old { candidates = frames.new.candidates } }
+    ensures entered { entry_of frames.new.candidates page ≡ (if is_unused then Some (stamp_of histories.now page k, last_of histories.now page) else entry_of frames.old.candidates page) }
+    ensures others { (q : ℕ) → q ≢ page → entry_of frames.new.candidates q ≡ entry_of frames.old.candidates q }
+    ensures pages { NoPageTwice frames.old.candidates.entries → NoPageTwice frames.new.candidates.entries }
+    ensures limits { SameLimits frames.old.candidates frames.new.candidates }
 {
     if is_unused {
-        let stamp = histories.stamp(page, k);
-        let last = histories.last(page);
-        candidates.enter(page, stamp, last);
-    }
-}
-
-/// Takes a page out of the candidates, if it is one.
-pub(crate) fn withdraw(candidates: &mut Candidates, page: PageNo)
-    ensures left { entry_of candidates.new page ≡ None }
-    ensures others { (q : ℕ) → q ≢ page → entry_of candidates.new q ≡ entry_of candidates.old q }
-    ensures pages { NoPageTwice candidates.old.entries → NoPageTwice candidates.new.entries }
-    ensures limits { SameLimits candidates.old candidates.new }
-{
-    if candidates.contains(page) {
-        candidates.leave(page);
+        let rank = histories.rank(page, k);
+        frames.enter(page, rank.0, rank.1);
     }
 }

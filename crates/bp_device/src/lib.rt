@@ -12,8 +12,6 @@ mod places;
 pub mod port;
 mod rows;
 pub mod scripts;
-#[cfg(test)]
-mod tests;
 
 pub use drivers::{Flushed, drive_fix, drive_flush};
 pub use files::{FilePort, OpenFault};

@@ -15,7 +15,7 @@ use Rattle.bp_lruk.proofs.OrderLaws.{Ordered}
 pub not_before_itself : (a : Candidate) → is_before a a ≡ false
 not_before_itself a = grind (arith, nat_tests)
 
-not_before_earlier : (a b c : Candidate) → is_before a b ≡ false → is_before b c ≡ false → is_before a c ≡ false
+pub not_before_earlier : (a b c : Candidate) → is_before a b ≡ false → is_before b c ≡ false → is_before a c ≡ false
 not_before_earlier a b c h k = grind (arith, nat_tests)
 
 pub before_later : (a b c : Candidate) → is_before a b ≡ true → is_before b c ≡ true → is_before a c ≡ true

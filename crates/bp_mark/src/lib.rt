@@ -8,8 +8,6 @@
 mod log_end;
 mod marks;
 mod readers;
-#[cfg(test)]
-mod tests;
 mod views;
 
 pub use log_end::LogEnd;

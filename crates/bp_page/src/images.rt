@@ -12,13 +12,14 @@ use std::marker::Model;
 /// The bytes of one page, its own copy. Two images are equal where their bytes are.
 #[derive(Debug, Drop)]
 pub struct Image {
-    bytes: Vec<u8>,
+    // One word, so that an entry is small.
+    bytes: Box<Vec<u8>>,
 }
 
 impl Model for Image {
     ghost Value = { List ℕ };
 
-    ghost view = { λ image. image.bytes.items };
+    ghost view = { λ image. image.bytes.value.items };
 }
 
 impl PartialEq for Image {
@@ -42,7 +43,9 @@ impl Image {
     {
         let mut own = Vec::new(alloc);
         own.extend_from_slice(bytes)?;
-        Ok(Image { bytes: own })
+        Ok(Image {
+            bytes: Box::new(alloc, own)?,
+        })
     }
 
     /// An image of zeros, of the page size. It fails by want of memory alone.
@@ -50,8 +53,9 @@ impl Image {
         ensures { IfOk result (λ image. image ≡ replicate geometry.now.size 0) }
     {
         let size = geometry.size;
+        let zeros = vec![in alloc; 0; size]?;
         Ok(Image {
-            bytes: vec![in alloc; 0; size]?,
+            bytes: Box::new(alloc, zeros)?,
         })
     }
 
@@ -95,13 +99,14 @@ impl Image {
 /// A list of bytes, its own copy. Two lists are equal where their bytes are.
 #[derive(Debug, Drop)]
 pub struct Bytes {
-    bytes: Vec<u8>,
+    // One word, so that an entry is small.
+    bytes: Box<Vec<u8>>,
 }
 
 impl Model for Bytes {
     ghost Value = { List ℕ };
 
-    ghost view = { λ list. list.bytes.items };
+    ghost view = { λ list. list.bytes.value.items };
 }
 
 impl PartialEq for Bytes {
@@ -125,7 +130,9 @@ impl Bytes {
     {
         let mut own = Vec::new(alloc);
         own.extend_from_slice(bytes)?;
-        Ok(Bytes { bytes: own })
+        Ok(Bytes {
+            bytes: Box::new(alloc, own)?,
+        })
     }
 
     /// Its bytes.

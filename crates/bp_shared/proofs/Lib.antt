@@ -3,6 +3,7 @@ pub mod Ending
 pub mod Posting
 pub mod Draining
 pub mod Stepping
+pub mod Taking
 pub mod Fixing
 pub mod Making
 pub mod Flushing

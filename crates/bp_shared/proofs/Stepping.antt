@@ -14,8 +14,8 @@ use Rattle.bp_shared.specs.Locked.{LockedValue, Alike, InStep}
 use Rattle.bp_shared.specs.Turns.{LookOutcome, AskFixOutcome, AskFlushOutcome, FixWaits, FlushWaits, FixTurn, FlushTurn}
 
 -- rings drained, and no more so far
-pub step_none : (old new : LockedValue) (said after : Trail) → DrainsRings 32 old.rings new.rings old.core.past old.strays new.core.past new.strays → new.core.parameters ≡ old.core.parameters → after ≡ said → InStep old said new after
-step_none old new said after drained same grows = record { past = new.core.past; drained = drained; piece = []; is = λ i. record { parameters = same i; past = new.core.past }; grows = grows }
+pub step_none : (old new : LockedValue) (said after : Trail) → DrainsRings 32 old.rings new.rings old.core.past old.strays new.core.past new.strays → new.core.parameters ≡ old.core.parameters → new.core.before ≡ old.core.before → after ≡ said → InStep old said new after
+step_none old new said after drained same same_before grows = record { past = new.core.past; drained = drained; piece = []; is = λ i. record { parameters = same i; before = same_before i; past = new.core.past }; grows = grows }
 
 -- one more entry in both
 pub step_more : (old : LockedValue) (mid : CoreView) (new : LockedValue) (said told after : Trail) → InStep old said (record new { core = mid }) told → Alike mid told new.core after → InStep old said new after
@@ -31,13 +31,13 @@ step_more old mid new said told after s (inr a) =
     }
 
 -- an event with no mark before it
-pub step_one : (old : LockedValue) (mid : CoreView) (new : LockedValue) (said told after : Trail) → DrainsRings 32 old.rings new.rings old.core.past old.strays mid.past new.strays → mid.parameters ≡ old.core.parameters → told ≡ said
+pub step_one : (old : LockedValue) (mid : CoreView) (new : LockedValue) (said told after : Trail) → DrainsRings 32 old.rings new.rings old.core.past old.strays mid.past new.strays → mid.parameters ≡ old.core.parameters → mid.before ≡ old.core.before → told ≡ said
     → Alike mid told new.core after → InStep old said new after
-step_one old mid new said told after drained same grows a = step_more old mid new said told after (step_none old (record new { core = mid }) said told drained same grows) a
+step_one old mid new said told after drained same same_before grows a = step_more old mid new said told after (step_none old (record new { core = mid }) said told drained same same_before grows) a
 
-pub step_two : (old : LockedValue) (mid marked : CoreView) (new : LockedValue) (said told after : Trail) → DrainsRings 32 old.rings new.rings old.core.past old.strays mid.past new.strays → mid.parameters ≡ old.core.parameters
+pub step_two : (old : LockedValue) (mid marked : CoreView) (new : LockedValue) (said told after : Trail) → DrainsRings 32 old.rings new.rings old.core.past old.strays mid.past new.strays → mid.parameters ≡ old.core.parameters → mid.before ≡ old.core.before
     → Alike mid said marked told → Alike marked told new.core after → InStep old said new after
-step_two old mid marked new said told after drained same a b = step_more old marked new said told after (step_one old mid (record new { core = marked }) said said told drained same refl a) b
+step_two old mid marked new said told after drained same same_before a b = step_more old marked new said told after (step_one old mid (record new { core = marked }) said said told drained same same_before refl a) b
 
 -- ---- turns
 

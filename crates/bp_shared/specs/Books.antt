@@ -13,10 +13,18 @@ use Rattle.bp_trail.specs.Pieces.{by}
 use Rattle.bp_trail.specs.Script.{held_passes}
 use Rattle.bp_shared.specs.Rings.{unfixes}
 
--- a client's own list, newest first, the bytes of a page, and the room beyond all that the list owes: for entries, for passes held, and for copies of images
+-- the entries of a list, newest first: those that cuts handed out, and all; how many are kept, and in how much room
+pub record SaidValue : Type 0 where
+  pub before : Trail
+  pub all : Trail
+  pub kept : ℕ
+  pub capacity : ℕ
+
+-- a client's own list, newest first, and what cuts handed out of it, the bytes of a page, and the room beyond all that the list owes: for entries, for passes held, and for copies of images
 pub record BookValue : Type 0 where
   pub client : ℕ
   pub size : ℕ
+  pub before : Trail
   pub said : Trail
   pub entries : ℕ
   pub passes : ℕ
@@ -26,18 +34,21 @@ pub record BookValue : Type 0 where
 pub record SameBook (old new : BookValue) : Type 0 where
   pub client : new.client ≡ old.client
   pub size : new.size ≡ old.size
+  pub before : new.before ≡ old.before
   pub said : new.said ≡ old.said
 
 -- no pass went back
 pub record SameOwner (old new : BookValue) : Type 0 where
   pub client : new.client ≡ old.client
   pub size : new.size ≡ old.size
+  pub before : new.before ≡ old.before
   pub unfixes_are : unfixes new.said ≡ unfixes old.said
 
 -- the list has one more entry of its owner
 pub record Tells (old : BookValue) (call : Call) (reply : Reply) (new : BookValue) : Type 0 where
   pub client : new.client ≡ old.client
   pub size : new.size ≡ old.size
+  pub before : new.before ≡ old.before
   pub said : new.said ≡ by old.client call reply ∷ old.said
 
 -- the passes held are those that the list leaves out, and there is room for what is owed: an unfix for each of them; for each ticket out an end,

@@ -4,3 +4,4 @@ pub mod Turns
 pub mod Sessions
 pub mod Rings
 pub mod Locked
+pub mod Taking

@@ -31,6 +31,7 @@ Alike old said new after = ((new ≡ old) × (after ≡ said)) ⊎ ((e : Entry) 
 -- the rings were drained, and nothing else was done
 pub record Settled (old new : LockedValue) : Type 0 where
   pub parameters : new.core.parameters ≡ old.core.parameters
+  pub before : new.core.before ≡ old.core.before
   pub drained : DrainsRings 32 old.rings new.rings old.core.past old.strays new.core.past new.strays
 
 -- the rings were drained, and then the trail and the list got the same entries

@@ -15,15 +15,16 @@ use Rattle.bp_trail.specs.Pieces.Outcome.{accepted, refused}
 use Rattle.bp_device.specs.declared.drivers.Flushed.{Flushed}
 use Rattle.bp_device.specs.Drivers.{Gives, Ends, flushed_reply}
 
--- whose session it is, and its list
+-- whose session it is, and its list: what cuts handed out, and all of it
 pub record SessionValue : Type 0 where
   pub client : ℕ
+  pub before : Trail
   pub said : Trail
 
 -- a session for each client, in order, that said nothing
 abbrev pub new_sessions : ℕ → List SessionValue
 new_sessions zero = []
-new_sessions (suc n) = new_sessions n ++ record { client = n; said = [] } ∷ []
+new_sessions (suc n) = new_sessions n ++ record { client = n; before = []; said = [] } ∷ []
 
 -- the list has one more piece, which is as P says
 pub record Says (P : Trail → Type 0) (given : Option Grant) (said after : Trail) : Type 0 where

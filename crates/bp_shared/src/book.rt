@@ -1,5 +1,5 @@
 //! What a session keeps for itself: its own list of entries, with room for all that the list still owes.
-ghost use Rattle.std.specs.Prelude.{◌≡◌, ◌≤◌, ◌<◌, ◌+◌, ◌-◌, ◌*◌, ◌∷◌, [], ◌==◌, true, not, filter, All, Some, None, length, reverse, IfOk, IfSome, OnOk, OnErr, vec_len, vec_capacity};
+ghost use Rattle.std.specs.Prelude.{◌≡◌, ◌≤◌, ◌<◌, ◌+◌, ◌-◌, ◌*◌, ◌∷◌, ◌++◌, [], ◌==◌, true, not, filter, All, Some, None, length, reverse, IfOk, IfSome, OnOk, OnErr, vec_len, vec_capacity};
 ghost use Rattle.bp_trail.specs.declared.entries.Call.TheVariants as Call;
 ghost use Rattle.bp_trail.specs.declared.entries.Reply.TheVariants as Reply;
 ghost use Rattle.bp_trail.specs.Event.{grant, same_grant};
@@ -13,6 +13,7 @@ mod ending;
 mod posting;
 mod telling;
 
+use crate::said::Said;
 use bp_core::{Call, Entry, PassNote, Reply};
 use bp_page::{Geometry, Image, Refusal};
 use std::alloc::{AllocError, Global};
@@ -21,10 +22,10 @@ use std::marker::Model;
 /// A client's own list of entries, the passes that the list leaves out, and what is reserved for the entries that it owes.
 #[derive(Drop)]
 pub(crate) struct Book {
-    alloc: Global,
+    pub(crate) alloc: Global,
     geometry: Geometry,
     client: u8,
-    said: Vec<Entry>,
+    said: Said,
     /// The passes that the list gave and did not give back, in the order taken.
     held: Vec<PassNote>,
     /// The tickets whose end may still come.
@@ -34,7 +35,7 @@ pub(crate) struct Book {
 }
 
 impl Model for Book {
-    ghost use Rattle.std.specs.Prelude.{◌+◌, ◌-◌, ◌*◌, reverse, vec_len, vec_capacity};
+    ghost use Rattle.std.specs.Prelude.{◌+◌, ◌-◌, ◌*◌, vec_len, vec_capacity};
     ghost use Rattle.bp_shared.specs.Books.{BookValue, KeepsRoom};
 
     ghost Value = { BookValue };
@@ -42,13 +43,14 @@ impl Model for Book {
     ghost view = { λ b. record {
       client = b.client;
       size = b.geometry.size;
-      said = reverse b.said.items;
-      entries = vec_capacity b.said - (vec_len b.said + (vec_len b.held + 2 * b.tickets));
+      before = b.said.before;
+      said = b.said.all;
+      entries = b.said.capacity - (b.said.kept + (vec_len b.held + 2 * b.tickets));
       passes = vec_capacity b.held - (vec_len b.held + b.tickets);
       copies = vec_len b.blanks - b.tickets;
     } };
 
-    ghost invariant = { λ b. KeepsRoom b.client b.geometry.size (reverse b.said.items) b.held.items b.tickets (vec_len b.said) b.blanks.items (vec_capacity b.said) (vec_capacity b.held) };
+    ghost invariant = { λ b. KeepsRoom b.client b.geometry.size b.said.all b.held.items b.tickets b.said.kept b.blanks.items b.said.capacity (vec_capacity b.held) };
 }
 
 /// Makes so many blank images more.
@@ -98,13 +100,14 @@ impl Book {
     pub(crate) fn new(alloc: Global, geometry: Geometry, client: u8) -> Book
         ensures client { result.client ≡ client }
         ensures size { result.size ≡ geometry.size }
+        ensures before { result.before ≡ [] }
         ensures said { result.said ≡ [] }
     {
         Book {
             alloc,
             geometry,
             client,
-            said: Vec::new(alloc),
+            said: Said::new(alloc),
             held: Vec::new(alloc),
             tickets: 0,
             blanks: Vec::new(alloc),
@@ -118,11 +121,11 @@ impl Book {
         self.client
     }
 
-    /// The list, the oldest entry first.
+    /// What cuts left of the list, the oldest entry first.
     pub(crate) fn said(&self) -> &[Entry]
-        ensures { reverse result.now ≡ self.now.said }
+        ensures { reverse result.now ++ self.now.before ≡ self.now.said }
     {
-        &self.said
+        self.said.entries()
     }
 
     /// The passes that the list leaves out, in the order taken.
@@ -132,11 +135,28 @@ impl Book {
         &self.held
     }
 
-    /// Gives the list, the oldest entry first.
+    /// Gives what cuts left of the list, the oldest entry first.
     pub(crate) fn into_said(self) -> Vec<Entry>
-        ensures { reverse result.items ≡ self.said }
+        ensures { reverse result.items ++ self.before ≡ self.said }
     {
-        self.said
+        self.said.into_entries()
+    }
+
+    /// Hands out what earlier cuts left of the list, the oldest entry first, and goes on in the spare's memory with room for
+    /// all that is owed. Where the memory for that is refused, which is `OutOfMemory`, nothing changes.
+    pub(crate) fn cut(&mut self, spare: Vec<Entry>) -> Result<Vec<Entry>, Refusal>
+        ensures entries { IfOk result (λ entries. reverse entries.items ++ self.old.before ≡ self.old.said) }
+        ensures client { self.new.client ≡ self.old.client }
+        ensures size { self.new.size ≡ self.old.size }
+        ensures said { self.new.said ≡ self.old.said }
+        ensures before { OnOk result (self.new.before ≡ self.old.said) }
+        ensures unchanged { OnErr result (self.new.before ≡ self.old.before) }
+        ensures refused { OnErr result (result ≡ Err Refusal.OutOfMemory) }
+    {
+        match self.said.cut(spare, self.held.len() + 2 * self.tickets) {
+            Ok(entries) => Ok(entries),
+            Err(_) => Err(Refusal::OutOfMemory),
+        }
     }
 
     /// Takes the memory for a mark, for one event, and for all that is owed then. Where it is refused, which is `OutOfMemory`, the

@@ -7,12 +7,15 @@
 mod book;
 pub mod names;
 pub mod pool;
+mod said;
 mod session;
 mod state;
-#[cfg(test)]
-mod tests;
+mod taker;
+mod trail_ring;
 
 pub use bp_device::Flushed;
 pub use names::PoolName;
 pub use pool::SharedPool;
 pub use session::Session;
+pub use taker::Taker;
+pub use trail_ring::TrailRing;

@@ -6,18 +6,30 @@ use std::marker::Brand;
 pub trait PoolName {
     ghost use Rattle.bp_mark.specs.Marks.{MarkName};
     ghost use Rattle.bp_trail.specs.Parameters.{Parameters};
+    ghost use Rattle.bp_trail.specs.Trail.{Trail};
+    ghost use Rattle.bp_shared.specs.Taking.{RingName};
 
     // The mark.
     ghost mark: { MarkName };
     // What the core was made with.
     ghost parameters: { Parameters };
+    // What earlier cuts had handed out of the core's trail.
+    ghost before: { Trail };
+    // The ring by which the trail goes to its taker.
+    ghost ring: { RingName };
 }
 
 impl PoolName for Brand {
+    ghost use Rattle.std.specs.Prelude.{[]};
     ghost use Rattle.bp_mark.specs.Marks.{no_mark};
     ghost use Rattle.bp_shared.specs.Locked.{no_parameters};
+    ghost use Rattle.bp_shared.specs.Taking.{no_ring};
 
     ghost mark = { no_mark };
 
     ghost parameters = { no_parameters };
+
+    ghost before = { [] };
+
+    ghost ring = { no_ring };
 }

@@ -5,7 +5,9 @@ ghost use Rattle.bp_shared.specs.Turns.{is_busy};
 use crate::names::PoolName;
 use crate::session::Session;
 use crate::state::{RING, State};
-use bp_core::{Core, Pass};
+use crate::taker::Taker;
+use crate::trail_ring::TrailRing;
+use bp_core::{Core, Entry, Pass};
 use bp_mark::{Mark, Reader};
 use bp_page::Refusal;
 use rtrb::RingBuffer;
@@ -37,13 +39,26 @@ pub struct SharedPool<N: PoolName> {
     state: Mutex<State<N>>,
     /// Where sessions wait for the end of device work.
     ended: Condvar,
-    ghost mark_is: { mark ≡ N.mark },
+    /// How many entries the trail may have.
+    room: usize,
+}
+
+impl<N: PoolName> Model for SharedPool<N> {
+    ghost use Rattle.std.specs.Prelude.{◌≡◌};
+
+    ghost Value = { Unit {0} };
+
+    ghost view = { λ p. tt };
+
+    ghost invariant = { λ p. (p.mark ≡ N.mark) × (p.room ≡ N.parameters.room) };
 }
 
 impl<N: PoolName> SharedPool<N> {
-    ghost use Rattle.std.specs.Prelude.{◌≡◌, ◌≤◌, IfOk, OnErr};
+    ghost use Rattle.std.specs.Prelude.{◌≡◌, ◌⊎◌, ◌≤◌, IfOk, OnErr, vec_capacity};
+    ghost use Rattle.bp_page.specs.declared.refusals.Refusal.TheVariants as Refusal;
     ghost use Rattle.bp_trail.specs.Clock.{durable};
     ghost use Rattle.bp_shared.specs.Sessions.{new_sessions, UnfixSaid};
+    ghost use Rattle.bp_shared.specs.Taking.{ComesNext};
 
     /// A pool over a core, and one session for each client, in order. The reader is the mark's, and has seen what the core was told.
     ///
@@ -53,11 +68,15 @@ impl<N: PoolName> SharedPool<N> {
         core: Core,
         mark: Mark,
         reader: Reader,
-    ) -> Result<(SharedPool<N>, Vec<Session<N>>), Refusal>
+        ring: TrailRing,
+    ) -> Result<(SharedPool<N>, Vec<Session<N>>, Taker<N>), Refusal>
         requires mark { mark ≡ N.mark }
         requires reader { reader.mark ≡ N.mark }
         requires parameters { core.parameters ≡ N.parameters }
+        requires before { core.before ≡ N.before }
+        requires ring { ring ≡ N.ring }
         requires seen { durable core.past ≤ reader.seen }
+        ensures taker { IfOk result (λ made. made.2.past ≡ N.before) }
         ensures sessions { IfOk result (λ made. made.1.items ≡ new_sessions N.parameters.clients) }
         ensures refused { OnErr result (result ≡ Err Refusal.OutOfMemory) }
     {
@@ -76,13 +95,16 @@ impl<N: PoolName> SharedPool<N> {
                 return Err(Refusal::OutOfMemory);
             };
         }
+        let room = core.room();
+        let TrailRing { pieces, taken } = ring;
         let pool = SharedPool {
             alloc,
             mark,
-            state: Mutex::new(State::new(core, reader, consumers)),
+            room,
+            state: Mutex::new(State::new(core, reader, consumers, pieces)),
             ended: Condvar::new(),
         };
-        Ok((pool, sessions))
+        Ok((pool, sessions, Taker::new(taken)))
     }
 
     /// The pool's mark, for the log writer to raise. It neither waits nor takes memory.
@@ -99,9 +121,46 @@ impl<N: PoolName> SharedPool<N> {
     /// wait in the ring. Both hand the pass back and change nothing.
     pub fn unfix(&self, session: &mut Session<N>, pass: Pass) -> Result<(), (Pass, Refusal)>
         ensures client { session.new.client ≡ session.old.client }
+        ensures before { session.new.before ≡ session.old.before }
         ensures outcome { UnfixSaid session.old.client pass result session.old.said session.new.said }
     {
         session.post(pass)
+    }
+
+    /// Hands the trail to its taker, the oldest entry first, and goes on with an empty one: the rings are drained before.
+    /// Nothing else changes: frames, passes and tickets that are out, the clock, histories. It may be called at any time.
+    ///
+    /// `ClockFull` where more than 2^62 passes or tickets were given; `OutOfMemory` where the room of a trail can't be
+    /// reserved anew, which is done before the lock is taken. Both hand out nothing.
+    pub fn cut<R: Wait>(&self, rt: &R, taker: &mut Taker<N>) -> Result<Vec<Entry>, Refusal>
+        ensures next { IfOk result (λ entries. ComesNext N.parameters taker.old entries.items taker.new) }
+        ensures memory { IfOk result (λ entries. N.parameters.room ≤ vec_capacity entries) }
+        ensures unchanged { OnErr result (taker.new ≡ taker.old) }
+        ensures refused { OnErr result ((result ≡ Err Refusal.ClockFull) ⊎ (result ≡ Err Refusal.OutOfMemory)) }
+    {
+        self.cut_into(rt, taker, Vec::new(self.alloc))
+    }
+
+    /// A cut that goes on in the memory of a spare list: more is taken only where that has not the trail's room. What the
+    /// spare has is dropped, also before the lock is taken. A piece that was handed out has the room.
+    pub fn cut_into<R: Wait>(
+        &self,
+        rt: &R,
+        taker: &mut Taker<N>,
+        spare: Vec<Entry>,
+    ) -> Result<Vec<Entry>, Refusal>
+        ensures next { IfOk result (λ entries. ComesNext N.parameters taker.old entries.items taker.new) }
+        ensures memory { IfOk result (λ entries. N.parameters.room ≤ vec_capacity entries) }
+        ensures unchanged { OnErr result (taker.new ≡ taker.old) }
+        ensures refused { OnErr result ((result ≡ Err Refusal.ClockFull) ⊎ (result ≡ Err Refusal.OutOfMemory)) }
+        ensures enough { N.parameters.room ≤ vec_capacity spare → OnErr result (result ≡ Err Refusal.ClockFull) }
+    {
+        let mut empty = spare;
+        empty.clear();
+        let Ok(()) = empty.reserve_exact(self.room) else {
+            return Err(Refusal::OutOfMemory);
+        };
+        self.state.lock(rt).cut(taker, empty)
     }
 
     /// Drains the rings, and does nothing else. It takes no memory.
@@ -112,9 +171,10 @@ impl<N: PoolName> SharedPool<N> {
         self.state.lock(rt).settle();
     }
 
-    /// Ends the pool: drains the rings once more, and gives back the core, the mark and its reader. It neither waits nor takes memory.
-    /// A pass that is posted later stays out.
-    pub fn finish(self) -> (Core, Mark, Reader)
+    /// Ends the pool: drains the rings once more, and gives back the core, the mark and its reader. It neither waits nor
+    /// takes memory. A pass that is posted later stays out. The core's trail goes on from all that the taker was handed.
+    pub fn finish(self, taker: Taker<N>) -> (Core, Mark, Reader)
+        ensures before { result.0.before ≡ taker.past }
         ensures mark { result.1 ≡ N.mark }
         ensures reader { result.2.mark ≡ N.mark }
         ensures parameters { result.0.parameters ≡ N.parameters }
@@ -125,10 +185,11 @@ impl<N: PoolName> SharedPool<N> {
             mark,
             state,
             ended: _,
+            room: _,
         } = self;
         let mut state = state.into_inner();
         state.settle();
-        let (core, reader) = state.into_parts();
+        let (core, reader) = state.into_parts(taker);
         (core, mark, reader)
     }
 }

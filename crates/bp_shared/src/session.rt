@@ -26,14 +26,15 @@ impl<N: PoolName> Model for Session<N> {
 
     ghost Value = { SessionValue };
 
-    ghost view = { λ s. record { client = s.book.client; said = s.book.said } };
+    ghost view = { λ s. record { client = s.book.client; before = s.book.before; said = s.book.said } };
 
     // The passes posted are those of the list's own unfixes, in order.
     ghost invariant = { λ s. (s.book.client < N.parameters.clients) × (s.book.size ≡ N.parameters.size) × (sent s.producer ≡ reverse (unfixes s.book.said)) };
 }
 
 impl<N: PoolName> Session<N> {
-    ghost use Rattle.std.specs.Prelude.{◌≡◌, ◌<◌, [], reverse};
+    ghost use Rattle.std.specs.Prelude.{◌≡◌, ◌<◌, ◌++◌, [], reverse, IfOk, OnOk, OnErr};
+    ghost use Rattle.bp_page.specs.declared.refusals.Refusal.TheVariants as Refusal;
     ghost use Rattle.rtrb.specs.Ring.{sent};
     ghost use Rattle.bp_trail.specs.Script.{held_passes};
     ghost use Rattle.bp_shared.specs.Sessions.{UnfixSaid};
@@ -49,6 +50,7 @@ impl<N: PoolName> Session<N> {
         requires size { geometry.size ≡ N.parameters.size }
         requires unused { sent producer ≡ [] }
         ensures client { result.client ≡ client }
+        ensures before { result.before ≡ [] }
         ensures said { result.said ≡ [] }
     {
         Session {
@@ -65,9 +67,9 @@ impl<N: PoolName> Session<N> {
         self.book.client()
     }
 
-    /// The session's own list, the oldest entry first.
+    /// What cuts left of the session's own list, the oldest entry first.
     pub fn said(&self) -> &[Entry]
-        ensures { reverse result.now ≡ self.now.said }
+        ensures { reverse result.now ++ self.now.before ≡ self.now.said }
     {
         self.book.said()
     }
@@ -79,17 +81,41 @@ impl<N: PoolName> Session<N> {
         self.book.held()
     }
 
-    /// Ends the session and gives its list, the oldest entry first. It takes no memory.
+    /// Ends the session and gives what cuts left of its list, the oldest entry first. It takes no memory.
     pub fn into_said(self) -> Vec<Entry>
-        ensures { reverse result.items ≡ self.said }
+        ensures { reverse result.items ++ self.before ≡ self.said }
     {
         self.book.into_said()
+    }
+
+    /// Hands out what earlier cuts left of the list, the oldest entry first. All else goes on: the passes held, and the room for what is
+    /// owed. It takes no lock, and may be called between any two calls of the session. Memory is wanted only where passes are held;
+    /// where it is refused, which is `OutOfMemory`, nothing changes.
+    pub fn cut(&mut self) -> Result<Vec<Entry>, Refusal>
+        ensures entries { IfOk result (λ entries. reverse entries.items ++ self.old.before ≡ self.old.said) }
+        ensures after { OnOk result (self.new ≡ record self.old { before = self.old.said }) }
+        ensures unchanged { OnErr result (self.new ≡ self.old) }
+        ensures refused { OnErr result (result ≡ Err Refusal.OutOfMemory) }
+    {
+        self.cut_into(Vec::new(self.book.alloc))
+    }
+
+    /// A cut that goes on in the memory of a spare list: more is taken only where that has not the room for what is owed.
+    /// What the spare has is dropped.
+    pub fn cut_into(&mut self, spare: Vec<Entry>) -> Result<Vec<Entry>, Refusal>
+        ensures entries { IfOk result (λ entries. reverse entries.items ++ self.old.before ≡ self.old.said) }
+        ensures after { OnOk result (self.new ≡ record self.old { before = self.old.said }) }
+        ensures unchanged { OnErr result (self.new ≡ self.old) }
+        ensures refused { OnErr result (result ≡ Err Refusal.OutOfMemory) }
+    {
+        self.book.cut(spare)
     }
 
     /// Puts a pass on the ring, with no lock and no memory. Where the list does not give it, or gives it back already, this is
     /// `UnknownPass`; where the ring has 32 passes in it, `RingFull`. Both hand the pass back, and change nothing.
     pub(crate) fn post(&mut self, pass: Pass) -> Result<(), (Pass, Refusal)>
         ensures client { self.new.client ≡ self.old.client }
+        ensures before { self.new.before ≡ self.old.before }
         ensures outcome { UnfixSaid self.old.client pass result self.old.said self.new.said }
     {
         if !self.book.holds(&pass) {

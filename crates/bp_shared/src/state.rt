@@ -1,10 +1,13 @@
 //! What lies under the lock: the core, its reader of the mark, and the ends of the rings at which passes come out.
 use crate::names::PoolName;
-use bp_core::{Core, PassNote};
+use crate::taker::Taker;
+use crate::trail_ring::meet;
+use bp_core::{Core, Entry, PassNote};
 use bp_mark::Reader;
-use rtrb::Consumer;
+use rtrb::{Consumer, Producer};
 use std::marker::{Model, PhantomData};
 
+mod cutting;
 mod draining;
 mod turns;
 
@@ -22,6 +25,8 @@ pub(crate) struct State<N: PoolName> {
     ends: u64,
     /// The passes taken from rings that the core did not know.
     pub(crate) strays: u64,
+    /// Where the trail is handed out.
+    pieces: Producer<Vec<Entry>>,
     of: PhantomData<N>,
 }
 
@@ -29,23 +34,34 @@ impl<N: PoolName> Model for State<N> {
     ghost use Rattle.std.specs.Prelude.{map};
     ghost use Rattle.bp_shared.specs.Locked.{LockedValue, IsLocked};
     ghost use Rattle.bp_shared.specs.Rings.{ring_view};
+    ghost use Rattle.bp_shared.specs.Taking.{IsHandedOut};
 
     ghost Value = { LockedValue };
 
     ghost view = { λ s. record { core = s.core; rings = map ring_view s.consumers.items; strays = s.strays } };
 
-    ghost invariant = { λ s. IsLocked N.mark N.parameters s.core s.reader };
+    ghost invariant = { λ s. IsLocked N.mark N.parameters s.core s.reader × IsHandedOut N.ring N.before s.pieces s.core };
 }
 
 impl<N: PoolName> State<N> {
-    ghost use Rattle.std.specs.Prelude.{◌≡◌, ◌≤◌, map};
+    ghost use Rattle.std.specs.Prelude.{◌≡◌, ◌≤◌, [], map};
+    ghost use Rattle.rtrb.specs.Ring.{sent};
     ghost use Rattle.bp_trail.specs.Clock.{durable};
     ghost use Rattle.bp_shared.specs.Rings.{ring_view};
+    ghost use Rattle.bp_shared.specs.Taking.{ring_of, IsEmptied};
 
     /// A core whose rings gave nothing yet.
-    pub(crate) fn new(core: Core, reader: Reader, consumers: Vec<Consumer<PassNote>>) -> State<N>
+    pub(crate) fn new(
+        core: Core,
+        reader: Reader,
+        consumers: Vec<Consumer<PassNote>>,
+        pieces: Producer<Vec<Entry>>,
+    ) -> State<N>
         requires reader { reader.mark ≡ N.mark }
         requires parameters { core.parameters ≡ N.parameters }
+        requires before { core.before ≡ N.before }
+        requires ring { ring_of pieces ≡ N.ring }
+        requires unused { IsEmptied pieces × (sent pieces ≡ []) }
         requires seen { durable core.past ≤ reader.seen }
         ensures core { result.core ≡ core }
         ensures rings { result.rings ≡ map ring_view consumers.items }
@@ -57,6 +73,7 @@ impl<N: PoolName> State<N> {
             consumers,
             ends: 0,
             strays: 0,
+            pieces,
             of: PhantomData,
         }
     }
@@ -66,8 +83,9 @@ impl<N: PoolName> State<N> {
         self.ends
     }
 
-    /// The core and its reader.
-    pub(crate) fn into_parts(self) -> (Core, Reader)
+    /// The core and its reader. The taker has all that the core handed out.
+    pub(crate) fn into_parts(self, taker: Taker<N>) -> (Core, Reader)
+        ensures before { result.0.before ≡ taker.past }
         ensures reader { result.1.mark ≡ N.mark }
         ensures parameters { result.0.parameters ≡ N.parameters }
         ensures seen { durable result.0.past ≤ result.1.seen }
@@ -78,8 +96,11 @@ impl<N: PoolName> State<N> {
             consumers: _,
             ends: _,
             strays: _,
+            mut pieces,
             of: _,
         } = self;
+        let Taker { mut taken, of: _ } = taker;
+        meet(&mut pieces, &mut taken);
         (core, reader)
     }
 }

@@ -6,3 +6,4 @@ pub mod ReadBack
 pub mod RowSteps
 pub mod SixFields
 pub mod Writes
+pub mod Pieces

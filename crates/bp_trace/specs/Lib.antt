@@ -9,3 +9,5 @@ pub mod Written
 pub mod Lines
 pub mod Totals
 pub mod Report
+pub mod Counts
+pub mod Pieces

@@ -4,9 +4,12 @@ ghost use Rattle.std.specs.Io.KnownBytes.{Appends};
 ghost use Rattle.bp_trace.specs.Totals.{totals_of};
 ghost use Rattle.bp_trace.specs.Report.{lines_after, report_text, rows_text, steps_of};
 
+mod pieces;
+
 use crate::lines::{write_event, write_refused};
 use crate::totals::Totals;
 use bp_trail::{Call, Entry, Refused};
+pub use pieces::ReportRun;
 use std::io;
 use std::io::Write;
 
@@ -57,6 +60,3 @@ pub fn report_rows<W: Write>(rows: &[Refused], writer: &mut W) -> io::Result<()>
     }
     Ok(())
 }
-
-#[cfg(test)]
-mod tests;

@@ -97,6 +97,3 @@ pub fn read_script<R: Read>(
     let bytes = read_all(alloc, reader)?;
     rows_of(alloc, bytes.as_slice(), geometry)
 }
-
-#[cfg(test)]
-mod tests;

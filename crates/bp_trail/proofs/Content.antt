@@ -33,7 +33,7 @@ sent m [] p = m p
 sent m (e ∷ past) p = sent_with p e.reply (sent m past p)
 
 -- what is known to be due is the image last sent
-due-sent : (whole : Trail) (m : ℕ → List ℕ) (p : ℕ) (past : Trail) → is_known whole p past ≡ true → due_among whole m past p ≡ Some (sent m past p)
+pub due-sent : (whole : Trail) (m : ℕ → List ℕ) (p : ℕ) (past : Trail) → is_known whole p past ≡ true → due_among whole m past p ≡ Some (sent m past p)
 due-sent whole m p [] k = refl
 due-sent whole m p (e ∷ past) k = go e.reply (is_known whole p past) (due-sent whole m p past) k
   where
@@ -51,7 +51,7 @@ due-sent whole m p (e ∷ past) k = go e.reply (is_known whole p past) (due-sent
 abbrev pub written_since_sent : Trail → ℕ → Bool
 written_since_sent past p = some (writes p) (after_last (λ e. begins_of p e.reply) past)
 
-saved-sent : (whole : Trail) (p : ℕ) (past : Trail) → since (writes p) (λ e. began_saving whole p e.reply) past ≡ false → written_since_sent past p ≡ false
+pub saved-sent : (whole : Trail) (p : ℕ) (past : Trail) → since (writes p) (λ e. began_saving whole p e.reply) past ≡ false → written_since_sent past p ≡ false
 saved-sent whole p [] h = refl
 saved-sent whole p (e ∷ past) h = go (begins_of p e.reply) refl (saved-sent whole p past) (or_parts (writes p e) _ h)
   where

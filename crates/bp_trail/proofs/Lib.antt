@@ -18,3 +18,11 @@ pub mod Given
 pub mod LegalLaws
 pub mod Distance
 pub mod Words
+pub mod Same
+pub mod SeenAlike
+pub mod Outside
+pub mod Standings
+pub mod StandingsAlike
+pub mod Fresh
+pub mod Since
+pub mod Cuts

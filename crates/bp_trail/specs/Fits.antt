@@ -1,5 +1,5 @@
 -- The rows of a script that a core's parameters allow.
-use Rattle.std.specs.Prelude.{ℕ, ◌+◌, ◌<◌, ◌≤◌, length}
+use Rattle.std.specs.Prelude.{◌+◌, ◌<◌, ◌≤◌, length}
 use Rattle.bp_trail.specs.declared.scripts.Row.{Row}
 use Rattle.bp_trail.specs.declared.scripts.Step.{Step}
 use Rattle.bp_trail.specs.declared.scripts.Step.TheVariants as step

@@ -21,3 +21,5 @@ pub mod Wording
 pub mod Pieces
 pub mod Script
 pub mod Fits
+pub mod Standing
+pub mod Cuts

@@ -20,6 +20,8 @@ ghost use Rattle.bp_trail.specs.References.{references, forgets, last, hist};
 ghost use Rattle.bp_trail.specs.Victim.{backward_distance, candidate, victim};
 ghost use Rattle.bp_trail.specs.Legal.{is_out, Legal};
 ghost use Rattle.bp_trail.specs.Device.{due};
+ghost use Rattle.bp_trail.specs.Standing.{Standing, standing};
+ghost use Rattle.bp_trail.specs.Cuts.{Precedes, AfterEach, Piece, Chained, joined, ReadsSince};
 ghost use Rattle.bp_trail.specs.Safety.{EvictsSafely, WritesAreDurable, Safe};
 ghost use Rattle.bp_trail.specs.Claims.{HeldIsPlain, ReadsAreKnown, FindsDue, AnswersPlain, SendsPlain};
 ghost use Rattle.bp_trail.specs.Wording.{FitsItsCall, SaysSo};
@@ -192,4 +194,18 @@ pub fn write_outs_stay_behind_the_log()
 /// Every legal trail is safe: at each eviction and at each begin of a write-out, as the two laws above say.
 pub fn legal_trails_are_safe()
     ensures { (c : Parameters) (past : Trail) → Legal c past → Safe c past }
+{}
+
+/// A standing decides what may come. Trails that may follow one history may follow each legal one of the same standing, and lead to
+/// the same standing; four numbers tell whether a legal trail leads where no entries do.
+pub fn standings_decide_what_may_come()
+    ensures follows { (c : Parameters) (trail h k : Trail) → Legal c (trail ++ h) → Legal c k → standing c h ≡ standing c k → Precedes c (standing c (trail ++ h)) (trail ++ k) }
+    ensures nowhere { (c : Parameters) (past : Trail) → Legal c past → clock past ≡ 1 → durable past ≡ 0 → passes past ≡ 0 → tickets past ≡ 0 → standing c past ≡ standing c [] }
+{}
+
+/// Pieces of a trail, each of which opens where the one before it led, are one legal trail when they are joined. Over a device that was
+/// honest since, the reads of a piece answer by each plain map that begins with the images held at its opening.
+pub fn pieces_are_one_legal_trail()
+    ensures joined { (c : Parameters) (pieces : List Piece) (next : Standing) → Chained c pieces next → Precedes c next (joined pieces) }
+    ensures reads { (c : Parameters) (opening : Standing) (trail : Trail) → AfterEach c opening trail (Legal c) → ReadsSince c opening trail }
 {}

@@ -1,21 +1,9 @@
 //! Runs a trace over a buffer pool and reports what the pool did.
 #![tactic(auto)]
 
-mod command;
-mod decision;
-mod ending;
-mod free;
-mod line;
-mod opening;
-mod page_files;
-mod run;
-mod scripts;
-mod words;
-
-use crate::ending::Ending;
-use crate::page_files::PageFiles;
-use crate::run::run_with;
 use bp_page::Refusal;
+use bp_run::{PageFiles, run_with};
+use bp_words::Ending;
 use std::fs::File;
 use std::io::{BufWriter, ErrorKind, Write};
 use std::marker::Sync;

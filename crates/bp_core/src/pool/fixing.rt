@@ -8,7 +8,6 @@ ghost use Rattle.bp_core.specs.Outcomes.{FixOutcome};
 
 use crate::passes::Fix;
 use crate::pool::Core;
-use crate::state::withdraw;
 use bp_page::{PageNo, Refusal};
 use bp_trail::{Call, Reply};
 
@@ -52,7 +51,7 @@ impl Core {
         let Ok(()) = self.state.passes.reserve(pending) else {
             return Err(Refusal::OutOfMemory);
         };
-        withdraw(&mut self.state.candidates, page);
+        self.state.frames.withdraw(page);
         self.state.frames.pin(page);
         self.state.histories.hit(page, self.state.clock);
         let pass = self.state.give_pass(client, page);
@@ -91,9 +90,10 @@ impl Core {
     }
 
     /// The page that leaves its frame first.
-    fn victim(&self) -> Option<PageNo>
-        ensures { EachPast self.now (λ past. result ≡ victim self.now.parameters past) }
+    fn victim(&mut self) -> Option<PageNo>
+        ensures same { self.new ≡ self.old }
+        ensures chosen { EachPast self.old (λ past. result ≡ victim self.old.parameters past) }
     {
-        self.state.candidates.victim(self.state.clock)
+        self.state.frames.victim(self.state.clock)
     }
 }

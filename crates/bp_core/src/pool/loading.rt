@@ -11,10 +11,9 @@ ghost use Rattle.bp_trail.specs.PageMap.{has_free_frame};
 ghost use Rattle.bp_core.specs.CoreView.{EachPast, HasRoomFor};
 ghost use Rattle.bp_core.specs.Outcomes.{FixOutcome, ReadEndOutcome, Adds};
 
-use crate::grant_list::GrantList;
 use crate::passes::{EndRefusal, Fix, Pass, ReadTicket};
 use crate::pool::Core;
-use crate::state::withdraw;
+use bp_frames::GrantList;
 use bp_lruk::Histories;
 use bp_page::{Image, PageNo, PortFault, Refusal};
 use bp_trail::{Call, Reply};
@@ -73,7 +72,7 @@ impl Core {
         ) else {
             return Err(Refusal::OutOfMemory);
         };
-        withdraw(&mut self.state.candidates, gone);
+        self.state.frames.withdraw(gone);
         self.state.frames.vacate(gone);
         self.state.histories.unprepare(gone);
         let ticket = self.state.give_read(client, page);

@@ -7,9 +7,9 @@ ghost use Rattle.bp_core.specs.Agreement.{frame_of};
 ghost use Rattle.bp_core.specs.CoreView.{EachPast, HasRoomFor, room_after};
 ghost use Rattle.bp_core.specs.Outcomes.{Adds, IsQuiet, pass_is_out};
 
-use crate::frame::Frame;
 use crate::passes::Pass;
 use crate::pool::Core;
+use bp_frames::Frame;
 use bp_page::PageNo;
 use bp_trail::{Call, Reply};
 
@@ -22,11 +22,14 @@ impl Core {
         self.config.room - (self.trail.len() + owed)
     }
 
-    /// Whether a read of the page is out.
+    /// Whether a read of the page is out. The histories hold resident pages and those that are being read.
     pub(super) fn is_loading(&self, page: PageNo) -> bool
         ensures { EachPast self.now (λ past. result ≡ loading past page) }
     {
-        self.state.reads.has_page(page)
+        match self.frame(page) {
+            Some(_) => false,
+            None => self.state.histories.holds(page),
+        }
     }
 
     /// Whether the pass is out here.

@@ -97,7 +97,7 @@ impl Core {
         self.state.passes.take_back(serial);
         let k = self.config.settings.k;
         offer(
-            &mut self.state.candidates,
+            &mut self.state.frames,
             &self.state.histories,
             page,
             k,

@@ -1,11 +1,13 @@
 //! What a core tells.
-ghost use Rattle.std.specs.Prelude.{◌≡◌, reverse};
+ghost use Rattle.std.specs.Prelude.{◌≡◌, ◌++◌, reverse};
 ghost use Rattle.bp_trail.specs.Clock.{clock, durable};
 ghost use Rattle.bp_trail.specs.References.{last, hist};
 ghost use Rattle.bp_trail.specs.Legal.{Legal};
 ghost use Rattle.bp_trail.specs.Safety.{Safe};
 ghost use Rattle.bp_trail.specs.Claims.{HeldIsPlain, ReadsAreKnown};
-ghost use Rattle.bp_core.specs.CoreView.{EachPast};
+ghost use Rattle.bp_trail.specs.Cuts.{LeadsOn, ReadsSince};
+ghost use Rattle.bp_trail.specs.Standing.{standing};
+ghost use Rattle.bp_core.specs.CoreView.{EachPast, opening};
 
 use crate::pool::Core;
 use bp_lruk::Settings;
@@ -13,11 +15,14 @@ use bp_page::{Geometry, Lsn, PageNo};
 use bp_trail::Entry;
 
 impl Core {
-    /// All entries so far, the oldest first.
+    /// The entries since the last cut, the oldest first, or all where no cut was made.
     pub fn trail(&self) -> &[Entry]
-        ensures entries { reverse result.now ≡ self.now.past }
+        ensures entries { reverse result.now ++ self.now.before ≡ self.now.past }
         ensures legal { EachPast self.now (Legal self.now.parameters) }
         ensures safe { EachPast self.now (Safe self.now.parameters) }
+        ensures before { Legal self.now.parameters self.now.before }
+        ensures leads_on { LeadsOn self.now.parameters (opening self.now) (reverse result.now) (standing self.now.parameters self.now.past) }
+        ensures reads { ReadsSince self.now.parameters (opening self.now) (reverse result.now) }
         ensures plain { EachPast self.now HeldIsPlain }
         ensures known { EachPast self.now ReadsAreKnown }
     {
@@ -26,9 +31,9 @@ impl Core {
         self.trail.entries()
     }
 
-    /// Ends the core and gives all its entries, the oldest first. It takes no memory.
+    /// Ends the core and gives its trail, the oldest entry first. It takes no memory.
     pub fn into_trail(self) -> Vec<Entry>
-        ensures entries { reverse result.items ≡ self.past }
+        ensures entries { reverse result.items ++ self.before ≡ self.past }
     {
         self.trail.into_entries()
     }

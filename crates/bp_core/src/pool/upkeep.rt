@@ -2,8 +2,8 @@
 ghost use Rattle.std.specs.Prelude.{◌<◌};
 ghost use Rattle.bp_core.specs.Outcomes.{StepOutcome, TickOutcome, PurgeOutcome};
 
-use crate::frame::later;
 use crate::pool::Core;
+use bp_frames::frame::later;
 use bp_page::{Lsn, Refusal};
 use bp_trail::{Call, Reply};
 

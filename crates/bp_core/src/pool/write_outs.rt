@@ -12,7 +12,7 @@ ghost use Rattle.bp_core.specs.Outcomes.{IsBegin, BeginOutcome, EndedOutcome, Fl
 
 use crate::passes::{EndRefusal, Ended, Flush, WriteTicket};
 use crate::pool::Core;
-use crate::state::{offer, withdraw};
+use crate::state::offer;
 use bp_page::{Image, PageNo, PortFault, Refusal};
 use bp_trail::{Call, Reply};
 
@@ -84,7 +84,7 @@ impl Core {
         let Ok(()) = self.state.writes.reserve(1) else {
             return Err(Refusal::OutOfMemory);
         };
-        withdraw(&mut self.state.candidates, page);
+        self.state.frames.withdraw(page);
         self.state.frames.begin_write_out(page);
         let serial = self.state.give_write(client, page);
         let reply = Reply::WriteFirst {
@@ -149,7 +149,7 @@ impl Core {
         self.state.frames.end_write_out(page);
         let k = self.config.settings.k;
         offer(
-            &mut self.state.candidates,
+            &mut self.state.frames,
             &self.state.histories,
             page,
             k,
@@ -181,7 +181,7 @@ impl Core {
         self.state.frames.fail_write_out(page);
         let k = self.config.settings.k;
         offer(
-            &mut self.state.candidates,
+            &mut self.state.frames,
             &self.state.histories,
             page,
             k,

@@ -30,6 +30,7 @@ impl Book {
         ensures mark { reader.new.mark ≡ reader.old.mark }
         ensures seen { durable core.new.past ≤ reader.new.seen }
         ensures parameters { core.new.parameters ≡ core.old.parameters }
+        ensures before { core.new.before ≡ core.old.before }
         ensures owner { SameOwner self.old self.new }
         ensures entries { self.old.entries ≤ self.new.entries + 1 }
         ensures passes { self.new.passes ≡ self.old.passes }
@@ -64,6 +65,7 @@ impl Book {
         ensures mark { reader.new.mark ≡ reader.old.mark }
         ensures seen { durable core.new.past ≤ reader.new.seen }
         ensures parameters { core.new.parameters ≡ core.old.parameters }
+        ensures before { core.new.before ≡ core.old.before }
         ensures owner { SameOwner self.old self.new }
         ensures entries { OnOk result (3 ≤ self.new.entries) }
         ensures passes { OnOk result (1 ≤ self.new.passes) }
@@ -88,6 +90,7 @@ impl Book {
         requires copies { 2 ≤ self.old.copies }
         ensures durable { durable core.new.past ≡ durable core.old.past }
         ensures parameters { core.new.parameters ≡ core.old.parameters }
+        ensures before { core.new.before ≡ core.old.before }
         ensures owner { SameOwner self.old self.new }
         ensures outcome { AskFixOutcome self.old.client page result self.old.said self.new.said }
         ensures alike { Alike core.old self.old.said core.new self.new.said }
@@ -123,6 +126,7 @@ impl Book {
         requires copies { 2 ≤ self.old.copies }
         ensures durable { durable core.new.past ≡ durable core.old.past }
         ensures parameters { core.new.parameters ≡ core.old.parameters }
+        ensures before { core.new.before ≡ core.old.before }
         ensures owner { SameOwner self.old self.new }
         ensures outcome { AskFlushOutcome self.old.client page result self.old.said self.new.said }
         ensures alike { Alike core.old self.old.said core.new self.new.said }
@@ -153,6 +157,7 @@ impl Book {
         requires room { 0 < self.old.entries }
         ensures durable { durable core.new.past ≡ durable core.old.past }
         ensures parameters { core.new.parameters ≡ core.old.parameters }
+        ensures before { core.new.before ≡ core.old.before }
         ensures owner { SameOwner self.old self.new }
         ensures outcome { TickSaid self.old.client n result self.old.said self.new.said }
         ensures alike { Alike core.old self.old.said core.new self.new.said }
@@ -174,6 +179,7 @@ impl Book {
         requires room { 0 < self.old.entries }
         ensures durable { durable core.new.past ≡ durable core.old.past }
         ensures parameters { core.new.parameters ≡ core.old.parameters }
+        ensures before { core.new.before ≡ core.old.before }
         ensures owner { SameOwner self.old self.new }
         ensures outcome { PurgeSaid self.old.client result self.old.said self.new.said }
         ensures alike { Alike core.old self.old.said core.new self.new.said }
@@ -196,6 +202,7 @@ impl Book {
         requires copies { 0 < self.old.copies }
         ensures durable { durable core.new.past ≡ durable core.old.past }
         ensures parameters { core.new.parameters ≡ core.old.parameters }
+        ensures before { core.new.before ≡ core.old.before }
         ensures owner { SameOwner self.old self.new }
         ensures outcome { ReadSaid self.old.client pass.now result self.old.said self.new.said }
         ensures alike { Alike core.old self.old.said core.new self.new.said }
@@ -233,6 +240,7 @@ impl Book {
         requires room { 0 < self.old.entries }
         ensures durable { durable core.new.past ≡ durable core.old.past }
         ensures parameters { core.new.parameters ≡ core.old.parameters }
+        ensures before { core.new.before ≡ core.old.before }
         ensures owner { SameOwner self.old self.new }
         ensures outcome { WriteSaid self.old.client pass.now offset bytes lsn result self.old.said self.new.said }
         ensures alike { Alike core.old self.old.said core.new self.new.said }

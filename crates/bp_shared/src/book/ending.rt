@@ -23,6 +23,7 @@ impl Book {
         requires core_size { core.old.parameters.size ≡ self.old.size }
         ensures durable { durable core.new.past ≡ durable core.old.past }
         ensures parameters { core.new.parameters ≡ core.old.parameters }
+        ensures before { core.new.before ≡ core.old.before }
         ensures owner { SameOwner self.old self.new }
         ensures outcome { EndReadOutcome ticket (Ok image) result self.old.said self.new.said }
         ensures alike { Alike core.old self.old.said core.new self.new.said }
@@ -33,7 +34,7 @@ impl Book {
         match core.read_end(ticket, Ok(image)) {
             Ok(pass) => {
                 let note = pass.note();
-                self.said.push_reserved(Entry {
+                self.said.add(Entry {
                     client: self.client,
                     call: Call::ReadEnd {
                         ticket: serial,
@@ -65,6 +66,7 @@ impl Book {
         requires owes { OwesRead self.old.client ticket self.old.said }
         ensures durable { durable core.new.past ≡ durable core.old.past }
         ensures parameters { core.new.parameters ≡ core.old.parameters }
+        ensures before { core.new.before ≡ core.old.before }
         ensures owner { SameOwner self.old self.new }
         ensures outcome { EndReadOutcome ticket (Err fault) result self.old.said self.new.said }
         ensures alike { Alike core.old self.old.said core.new self.new.said }
@@ -74,7 +76,7 @@ impl Book {
         match core.read_end(ticket, Err(fault)) {
             Ok(_pass) => unreachable!(),
             Err(EndRefusal::Failed(_)) => {
-                self.said.push_reserved(Entry {
+                self.said.add(Entry {
                     client: self.client,
                     call: Call::ReadEnd {
                         ticket: serial,
@@ -106,6 +108,7 @@ impl Book {
         requires core_size { core.old.parameters.size ≡ self.old.size }
         ensures durable { durable core.new.past ≡ durable core.old.past }
         ensures parameters { core.new.parameters ≡ core.old.parameters }
+        ensures before { core.new.before ≡ core.old.before }
         ensures owner { SameOwner self.old self.new }
         ensures outcome { EndReadOutcome ticket read result self.old.said self.new.said }
         ensures alike { Alike core.old self.old.said core.new self.new.said }
@@ -126,6 +129,7 @@ impl Book {
         requires owes { OwesWrite self.old.client ticket self.old.said }
         ensures durable { durable core.new.past ≡ durable core.old.past }
         ensures parameters { core.new.parameters ≡ core.old.parameters }
+        ensures before { core.new.before ≡ core.old.before }
         ensures owner { SameOwner self.old self.new }
         ensures outcome { EndWriteOutcome ticket written result self.old.said self.new.said }
         ensures alike { Alike core.old self.old.said core.new self.new.said }

@@ -56,7 +56,7 @@ impl Book {
         ensures whose { note.client ≡ self.old.client }
         ensures told { Tells self.old (Call.Unfix note.serial note.page) Reply.Done self.new }
     {
-        self.said.push_reserved(Entry {
+        self.said.add(Entry {
             client: self.client,
             call: Call::Unfix {
                 pass: note.serial(),

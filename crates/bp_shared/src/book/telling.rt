@@ -33,7 +33,7 @@ impl Book {
         ensures passes { self.new.passes ≡ self.old.passes }
         ensures copies { self.new.copies ≡ self.old.copies }
     {
-        self.said.push_reserved(Entry {
+        self.said.add(Entry {
             client: self.client,
             call,
             reply,
@@ -50,7 +50,7 @@ impl Book {
         ensures told { Tells self.old (Call.Fix page) (Reply.Hit pass.serial) self.new }
     {
         let note = pass.note();
-        self.said.push_reserved(Entry {
+        self.said.add(Entry {
             client: self.client,
             call: Call::Fix(page),
             reply: Reply::Hit(note.serial()),
@@ -68,7 +68,7 @@ impl Book {
         ensures ticket { result ≡ ticket }
         ensures told { Tells self.old (Call.Fix ticket.page) (Reply.Load ticket.serial evicted) self.new }
     {
-        self.said.push_reserved(Entry {
+        self.said.add(Entry {
             client: self.client,
             call: Call::Fix(ticket.page()),
             reply: Reply::Load {
@@ -92,7 +92,7 @@ impl Book {
         ensures told { Tells self.old call (Reply.WriteFirst ticket.serial ticket.page ticket.image) self.new }
     {
         let image = self.copy_of(ticket.image());
-        self.said.push_reserved(Entry {
+        self.said.add(Entry {
             client: self.client,
             call,
             reply: Reply::WriteFirst {
@@ -123,7 +123,7 @@ impl Book {
         requires owes { OwesWriteEnd self.old.client ticket self.old.said }
         ensures told { Tells self.old (Call.WriteEnd ticket page good) reply self.new }
     {
-        self.said.push_reserved(Entry {
+        self.said.add(Entry {
             client: self.client,
             call: Call::WriteEnd { ticket, page, good },
             reply,

@@ -26,6 +26,7 @@ impl<N: PoolName> SharedPool<N> {
         requires owes { OwesRead session.old.client ticket session.old.said }
         requires port { (P.geometry_of port.old).size ≡ N.parameters.size }
         ensures client { session.new.client ≡ session.old.client }
+        ensures before { session.new.before ≡ session.old.before }
         ensures port { P.geometry_of port.new ≡ P.geometry_of port.old }
         ensures outcome { LoadOutcome ticket result session.old.said session.new.said }
     {
@@ -45,6 +46,7 @@ impl<N: PoolName> SharedPool<N> {
     ) -> Result<Ended, Refusal>
         requires owes { OwesWrite session.old.client ticket session.old.said }
         ensures client { session.new.client ≡ session.old.client }
+        ensures before { session.new.before ≡ session.old.before }
         ensures port { P.geometry_of port.new ≡ P.geometry_of port.old }
         ensures outcome { WriteOutOutcome ticket result session.old.said session.new.said }
     {
@@ -71,6 +73,7 @@ impl<N: PoolName> SharedPool<N> {
         requires page_in { page < N.parameters.pages }
         requires port { (P.geometry_of port.old).size ≡ N.parameters.size }
         ensures client { session.new.client ≡ session.old.client }
+        ensures before { session.new.before ≡ session.old.before }
         ensures port { P.geometry_of port.new ≡ P.geometry_of port.old }
         ensures outcome { FixSaid session.old.client page result session.old.said session.new.said }
     {

@@ -38,6 +38,7 @@ impl<N: PoolName> SharedPool<N> {
     ) -> Result<Flushed, Refusal>
         requires page_in { page < N.parameters.pages }
         ensures client { session.new.client ≡ session.old.client }
+        ensures before { session.new.before ≡ session.old.before }
         ensures port { P.geometry_of port.new ≡ P.geometry_of port.old }
         ensures outcome { FlushSaid session.old.client page result session.old.said session.new.said }
     {

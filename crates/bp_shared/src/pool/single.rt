@@ -15,6 +15,7 @@ impl<N: PoolName> SharedPool<N> {
     /// Moves the clock on. `OutOfMemory`, `TrailFull` and `ClockFull` change nothing.
     pub fn tick<R: Wait>(&self, rt: &R, session: &mut Session<N>, n: u64) -> Result<(), Refusal>
         ensures client { session.new.client ≡ session.old.client }
+        ensures before { session.new.before ≡ session.old.before }
         ensures outcome { TickSaid session.old.client n result session.old.said session.new.said }
     {
         self.state.lock(rt).tick(session, n)
@@ -23,6 +24,7 @@ impl<N: PoolName> SharedPool<N> {
     /// Forgets old references, and counts their pages. `OutOfMemory` and `TrailFull` change nothing.
     pub fn purge<R: Wait>(&self, rt: &R, session: &mut Session<N>) -> Result<u64, Refusal>
         ensures client { session.new.client ≡ session.old.client }
+        ensures before { session.new.before ≡ session.old.before }
         ensures outcome { PurgeSaid session.old.client result session.old.said session.new.said }
     {
         self.state.lock(rt).purge(session)
@@ -37,6 +39,7 @@ impl<N: PoolName> SharedPool<N> {
         pass: &Pass,
     ) -> Result<Image, Refusal>
         ensures client { session.new.client ≡ session.old.client }
+        ensures before { session.new.before ≡ session.old.before }
         ensures stranger { pass.now.client ≢ session.old.client → result ≡ Err Refusal.UnknownPass }
         ensures outcome { ReadSaid session.old.client pass.now result session.old.said session.new.said }
     {
@@ -58,6 +61,7 @@ impl<N: PoolName> SharedPool<N> {
     ) -> Result<(), Refusal>
         requires fits { offset + length bytes.now ≤ N.parameters.size }
         ensures client { session.new.client ≡ session.old.client }
+        ensures before { session.new.before ≡ session.old.before }
         ensures stranger { pass.now.client ≢ session.old.client → result ≡ Err Refusal.UnknownPass }
         ensures outcome { WriteSaid session.old.client pass.now offset bytes.now lsn result session.old.said session.new.said }
     {

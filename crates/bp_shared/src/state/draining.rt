@@ -15,6 +15,7 @@ pub(crate) const RING: usize = 32;
 /// Gives a pass back. One that the core does not know is dropped, and counted as a stray; the count stays at 2^64 − 1.
 fn give_back(core: &mut Core, strays: &mut u64, note: PassNote)
     ensures parameters { core.new.parameters ≡ core.old.parameters }
+    ensures before { core.new.before ≡ core.old.before }
     ensures back { OneBack core.old.past strays.old note core.new.past strays.new }
 {
     match core.unfix(note.pass()) {
@@ -29,6 +30,7 @@ fn give_back(core: &mut Core, strays: &mut u64, note: PassNote)
 /// Takes at most 32 passes from a ring, and gives them back in order.
 fn drain(core: &mut Core, strays: &mut u64, consumer: &mut Consumer<PassNote>)
     ensures parameters { core.new.parameters ≡ core.old.parameters }
+    ensures before { core.new.before ≡ core.old.before }
     ensures drained { DrainsRing 32 (ring_view consumer.old) (ring_view consumer.new) core.old.past strays.old core.new.past strays.new }
 {
     for _ in 0..RING {
@@ -42,6 +44,7 @@ fn drain(core: &mut Core, strays: &mut u64, consumer: &mut Consumer<PassNote>)
 /// Drains each ring, the first client's first.
 pub(crate) fn drain_all(core: &mut Core, strays: &mut u64, consumers: &mut [Consumer<PassNote>])
     ensures parameters { core.new.parameters ≡ core.old.parameters }
+    ensures before { core.new.before ≡ core.old.before }
     ensures drained { DrainsRings 32 (map ring_view consumers.old) (map ring_view consumers.new) core.old.past strays.old core.new.past strays.new }
     ensures durable { durable core.new.past ≡ durable core.old.past }
 {

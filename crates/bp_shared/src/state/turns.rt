@@ -33,6 +33,7 @@ impl<N: PoolName> State<N> {
         requires mark { mark.now ≡ N.mark }
         requires page_in { page < N.parameters.pages }
         ensures client { session.new.client ≡ session.old.client }
+        ensures before { session.new.before ≡ session.old.before }
         ensures turn { FixTurn session.old.client page result session.old.said session.new.said }
         ensures in_step { InStep self.old session.old.said self.new session.new.said }
     {
@@ -54,6 +55,7 @@ impl<N: PoolName> State<N> {
         requires mark { mark.now ≡ N.mark }
         requires page_in { page < N.parameters.pages }
         ensures client { session.new.client ≡ session.old.client }
+        ensures before { session.new.before ≡ session.old.before }
         ensures turn { FlushTurn session.old.client page result session.old.said session.new.said }
         ensures in_step { InStep self.old session.old.said self.new session.new.said }
     {
@@ -75,6 +77,7 @@ impl<N: PoolName> State<N> {
         requires owes { OwesRead session.old.client ticket session.old.said }
         requires size { IfOk read (λ image. length image ≡ N.parameters.size) }
         ensures client { session.new.client ≡ session.old.client }
+        ensures before { session.new.before ≡ session.old.before }
         ensures outcome { EndReadOutcome ticket read result session.old.said session.new.said }
         ensures in_step { InStep self.old session.old.said self.new session.new.said }
     {
@@ -93,6 +96,7 @@ impl<N: PoolName> State<N> {
     ) -> Result<Ended, Refusal>
         requires owes { OwesWrite session.old.client ticket session.old.said }
         ensures client { session.new.client ≡ session.old.client }
+        ensures before { session.new.before ≡ session.old.before }
         ensures outcome { EndWriteOutcome ticket written result session.old.said session.new.said }
         ensures in_step { InStep self.old session.old.said self.new session.new.said }
     {
@@ -105,6 +109,7 @@ impl<N: PoolName> State<N> {
     /// Moves the clock.
     pub(crate) fn tick(&mut self, session: &mut Session<N>, n: u64) -> Result<(), Refusal>
         ensures client { session.new.client ≡ session.old.client }
+        ensures before { session.new.before ≡ session.old.before }
         ensures outcome { TickSaid session.old.client n result session.old.said session.new.said }
         ensures in_step { InStep self.old session.old.said self.new session.new.said }
     {
@@ -118,6 +123,7 @@ impl<N: PoolName> State<N> {
     /// Forgets old references, and counts their pages.
     pub(crate) fn purge(&mut self, session: &mut Session<N>) -> Result<u64, Refusal>
         ensures client { session.new.client ≡ session.old.client }
+        ensures before { session.new.before ≡ session.old.before }
         ensures outcome { PurgeSaid session.old.client result session.old.said session.new.said }
         ensures in_step { InStep self.old session.old.said self.new session.new.said }
     {
@@ -132,6 +138,7 @@ impl<N: PoolName> State<N> {
     pub(crate) fn read(&mut self, session: &mut Session<N>, pass: &Pass) -> Result<Image, Refusal>
         requires own { pass.now.client ≡ session.old.client }
         ensures client { session.new.client ≡ session.old.client }
+        ensures before { session.new.before ≡ session.old.before }
         ensures outcome { ReadSaid session.old.client pass.now result session.old.said session.new.said }
         ensures in_step { InStep self.old session.old.said self.new session.new.said }
     {
@@ -154,6 +161,7 @@ impl<N: PoolName> State<N> {
         requires own { pass.now.client ≡ session.old.client }
         requires fits { offset + length bytes ≤ N.parameters.size }
         ensures client { session.new.client ≡ session.old.client }
+        ensures before { session.new.before ≡ session.old.before }
         ensures outcome { WriteSaid session.old.client pass.now offset bytes lsn result session.old.said session.new.said }
         ensures in_step { InStep self.old session.old.said self.new session.new.said }
     {

@@ -18,6 +18,7 @@ loop-script-init g c = record {
 pub new-runner-requires : goal.new-runner-requires
 new-runner-requires g c = record {
   port = All-head (λ p. (g.P.Port.geometry_of p).size ≡ g.N.PoolName.parameters.size) c.in-Some-next-2.port (into_iter_items c.next-in-loop-script-2.new.self) (All-same (λ p. (g.P.Port.geometry_of p).size ≡ g.N.PoolName.parameters.size) _ _ (sym c.in-Some-next-2.ensures.items) c.loop-script.invariant.size);
+  whole = ap (λ v. v.before) (next_session _ _ _ _ _ c.in-Some-next.session c.loop-script.invariant.sessions c.in-Some-next.ensures.items (ap length c.in-Some.ensures.steps.0)).is;
 }
 
 pub new-requires-clause-fits : goal.new-requires-clause-fits

@@ -11,8 +11,15 @@ pub loop-note-preserved : goal.loop-note-preserved
 loop-note-preserved g c = record {
   client = c.post.ensures.client ∙ c.loop-note.invariant.client;
   size = c.loop-note.invariant.size;
+  before = c.post.ensures.before ∙ c.loop-note.invariant.before;
   back = goes-on _ c.loop-note.self-inside.session.said c.post.new.session.said c.held.result.now c.in-Some.note c.loop-note.invariant.back c.held.ensures (sym c.next_to_go_back.ensures.first ∙ c.in-Some.is) c.in-Ok.ensures.posted.1;
 }
 
 pub returns-clause-back : goal.returns-clause-back
 returns-clause-back g c given = rw (← c.self.view_is) (goes-to_end _ c.loop-note.self-inside.session.said c.held.result.now c.loop-note.invariant.back c.held.ensures c.in_default.ensures.none)
+
+pub invariant_of-self : goal.invariant_of-self
+invariant_of-self g c = (c.loop-note.invariant.size, c.post.ensures.before ∙ c.loop-note.invariant.before ∙ c.self.invariant.1)
+
+pub invariant_of-self-in_default : goal.invariant_of-self-in_default
+invariant_of-self-in_default g c = (c.loop-note.invariant.size, c.loop-note.invariant.before ∙ c.self.invariant.1)

@@ -8,6 +8,7 @@ abbrev pub invariant-loop-note : goal.invariant-loop-note
 invariant-loop-note g l = record {
   client : l.self-inside.session.client ≡ l.initial.self-inside.session.client;
   size : (g.P.Port.geometry_of l.self-inside.port).size ≡ g.N.PoolName.parameters.size;
+  before : l.self-inside.session.before ≡ l.initial.self-inside.session.before;
   back : GoesBack l.initial.self-inside.session.said l.self-inside.session.said;
 }
 

@@ -3,11 +3,14 @@ use Rattle.bp_trail.specs.declared.entries.Call.TheVariants.{ReadEnd}
 use Rattle.bp_trail.specs.declared.entries.Reply.TheVariants.{Fixed}
 use Rattle.bp_core.proofs.Seen.{now_is, newest_pass}
 use Rattle.bp_core.proofs.Keeps.{adds}
-use Rattle.bp_core.proofs.KeepsLoads.{held-now, absent-now, keeps-end_load}
+use Rattle.bp_core.proofs.KeepsLoads.{held-now, absent-now, in-file, keeps-end_load}
 use Rattle.bp_core.proofs.pool.Core.end_load.Goals as goal
 
 pub fill-requires-clause-absent : goal.fill-requires-clause-absent
 fill-requires-clause-absent c = absent-now _ _ _ c.self.invariant _ c.self.view_is c.args.client c.args.page c.args.serial c.requires.out
+
+pub fill-requires-clause-in_range : goal.fill-requires-clause-in_range
+fill-requires-clause-in_range c = in-file _ _ _ c.self.invariant _ c.self.view_is c.args.client c.args.page c.args.serial c.requires.out
 
 pub fault-requires-clause-held : goal.fault-requires-clause-held
 fault-requires-clause-held c = held-now _ _ _ c.self.invariant _ c.self.view_is c.args.client c.args.page c.args.serial c.requires.out
@@ -23,7 +26,7 @@ invariant_of-self c =
     let f = c.fill.ensures in
     let h = c.fault.ensures in
     rw (c.record.ensures, c.give_pass-pass.ensures.after, c.give_pass-pass.ensures.pass, c.take_back.ensures)
-    (keeps-end_load _ _ _ c.self.invariant _ c.self.view_is c.args.client c.args.page c.args.serial c.requires.out c.args.image c.requires.size c.fill.new.self f.frames f.spare f.size f.limit c.fault.new.self h.settings h.stamps h.others h.held)
+    (keeps-end_load _ _ _ c.self.invariant _ c.self.view_is c.args.client c.args.page c.args.serial c.requires.out c.args.image c.requires.size c.fill.new.self f.frames f.spare f.size f.limit f.pages f.candidates c.fault.new.self h.settings h.stamps h.others h.held)
 
 pub returns-clause-entry : goal.returns-clause-entry
 returns-clause-entry c =

@@ -1,4 +1,7 @@
-use Rattle.std.proofs.Common.{◌≡◌, ap, true, arith}
+use Rattle.std.proofs.Common.{◌≡◌, ◌<◌, ◌^◌, ap, sym, subst, true, arith}
+use Rattle.std.specs.Prelude.{All}
+use Rattle.bp_frames.specs.declared.frame.Frame.{Frame}
+use Rattle.bp_frames.specs.Tables.{Table}
 use Rattle.bp_trail.specs.declared.entries.Call.TheVariants.{Fix}
 use Rattle.bp_trail.specs.declared.entries.Reply.TheVariants.{Hit}
 use Rattle.bp_trail.specs.Places.{resident}
@@ -10,7 +13,7 @@ use Rattle.bp_core.proofs.pool.Core.hit.Goals as goal
 pub pin-requires : goal.pin-requires
 pin-requires c =
     let r = c.self.invariant.trail_room in
-    few_pins _ _ _ c.self.invariant.agrees (omega (arith, r.owed, r.small))
+    subst (λ (t : Table). All (λ (f : Frame). f.pins < 2 ^ 63) t.frames) (sym c.withdraw.ensures.same) (few_pins _ _ _ c.self.invariant.agrees (omega (arith, r.owed, r.small)))
 
 pub hit-requires-clause-known : goal.hit-requires-clause-known
 hit-requires-clause-known c =
@@ -27,7 +30,7 @@ pub invariant_of-self-2 : goal.invariant_of-self-2
 invariant_of-self-2 c =
     let h = c.hit.ensures in
     let w = c.withdraw.ensures in
-    rw (c.record.ensures, c.give_pass-pass.ensures.after, c.give_pass-pass.ensures.pass, c.pin.ensures) (keeps-hit _ _ _ c.self.invariant _ c.self.view_is c.args.client c.args.page c.requires.client_in c.requires.page_in c.requires.here c.requires.room c.reserve.new.self c.reserve.ensures.out (omega (arith, c.in-Ok.ensures.room, c.len-pending.ensures)) c.hit.new.self h.settings h.stamps h.others h.held c.withdraw.new.candidates w.limits w.pages w.others w.left)
+    rw (c.record.ensures, c.give_pass-pass.ensures.after, c.give_pass-pass.ensures.pass, c.pin.ensures, c.withdraw.ensures.same) (keeps-hit _ _ _ c.self.invariant _ c.self.view_is c.args.client c.args.page c.requires.client_in c.requires.page_in c.requires.here c.requires.room c.reserve.new.self c.reserve.ensures.out (omega (arith, c.in-Ok.ensures.room, c.len-pending.ensures)) c.hit.new.self h.settings h.stamps h.others h.held c.withdraw.new.self.candidates w.limits w.pages w.others w.left)
 
 pub returns : goal.returns
 returns c =

@@ -1,4 +1,6 @@
-use Rattle.std.proofs.Common.{◌≡◌, sym, ◌∙◌, Some}
+use Rattle.std.proofs.Common.{◌≡◌, sym, ◌∙◌, Some, subst, false}
+use Rattle.bp_trail.specs.Places.{resident}
+use Rattle.bp_core.specs.CoreView.{CoreView, EachPast}
 use Rattle.std.proofs.lemmas.Bool.{true≢false}
 use Rattle.bp_trail.specs.Victim.{victim}
 use Rattle.bp_core.specs.Outcomes.IsQuiet.{fix_none, fix_log}
@@ -12,8 +14,8 @@ answer-requires-clause-quiet c = fix_none c.args.page
 pub unreachable-requires : goal.unreachable-requires
 unreachable-requires c =
     let v = c.args.self.now in
-    let chosen : victim v.parameters v.past ≡ Some c.in-Some.victim = sym c.victim.ensures ∙ c.in-Some.is in
-    true≢false (sym (candidate-resident v.parameters v.past c.in-Some.victim (victim-is v.parameters v.past c.in-Some.victim chosen).eligible) ∙ c.in_default-frame.ensures.away)
+    let chosen : victim v.parameters v.past ≡ Some c.in-Some.victim = sym c.victim.ensures.chosen ∙ c.in-Some.is in
+    true≢false (sym (candidate-resident v.parameters v.past c.in-Some.victim (victim-is v.parameters v.past c.in-Some.victim chosen).eligible) ∙ subst (λ (v : CoreView). EachPast v (λ past. resident past c.in-Some.victim ≡ false)) c.victim.ensures.same c.in_default-frame.ensures.away)
 
 pub answer-requires-then-lt-clause-quiet : goal.answer-requires-then-lt-clause-quiet
 answer-requires-then-lt-clause-quiet c = fix_log c.args.page c.in-Some-frame.frame.now.top

@@ -1,11 +1,14 @@
-use Rattle.std.proofs.Common.{◌∙◌, arith}
+use Rattle.std.proofs.Common.{◌∙◌, ap, arith}
+use Rattle.bp_trail.specs.Lists.{some}
+use Rattle.bp_frames.specs.Frames.{is_frame_of}
+use Rattle.bp_frames.specs.Tables.{Table}
 use Rattle.bp_core.proofs.Seen.{newest_read}
 use Rattle.bp_core.proofs.KeepsLoads.{victim-here, victim-apart, victim-held, few-reads, keeps-replace}
 use Rattle.bp_core.proofs.pool.Core.replace.Goals as goal
 
-pub vacate-requires : goal.vacate-requires
-vacate-requires c =
-    victim-here _ _ _ c.self.invariant _ c.self.view_is c.args.client c.args.page c.args.gone c.requires.chosen
+pub vacate-requires-clause-here : goal.vacate-requires-clause-here
+vacate-requires-clause-here c =
+    ap (λ (t : Table). some (is_frame_of c.args.gone) t.frames) c.withdraw.ensures.same ∙ victim-here _ _ _ c.self.invariant _ c.self.view_is c.args.client c.args.page c.args.gone c.requires.chosen
 
 pub unprepare-requires : goal.unprepare-requires
 unprepare-requires c =
@@ -25,5 +28,5 @@ invariant_of-self-2 c =
     let m = c.make_ready.ensures in
     let u = c.unprepare.ensures in
     let w = c.withdraw.ensures in
-    rw (c.record.ensures, c.give_read-ticket.ensures.after, c.give_read-ticket.ensures.ticket, c.vacate.ensures)
-    (keeps-replace _ _ _ c.self.invariant _ c.self.view_is c.args.client c.args.page c.requires.client_in c.requires.page_in c.requires.idle c.requires.away c.requires.room c.make_ready.new.passes m.passes (omega (arith, c.in-Ok.ensures.room, c.len-reads.ensures)) c.args.gone c.requires.full c.requires.chosen c.requires.saved c.withdraw.new.candidates w.limits w.pages w.others w.left c.make_ready.new.histories c.unprepare.new.self m.settings m.stamps m.others c.in-Ok.ensures.held u.settings u.stamps u.others u.held)
+    rw (c.record.ensures, c.give_read-ticket.ensures.after, c.give_read-ticket.ensures.ticket, c.vacate.ensures, c.withdraw.ensures.same)
+    (keeps-replace _ _ _ c.self.invariant _ c.self.view_is c.args.client c.args.page c.requires.client_in c.requires.page_in c.requires.idle c.requires.away c.requires.room c.make_ready.new.passes m.passes (omega (arith, c.in-Ok.ensures.room, c.len-reads.ensures)) c.args.gone c.requires.full c.requires.chosen c.requires.saved c.withdraw.new.self.candidates w.limits w.pages w.others w.left c.make_ready.new.histories c.unprepare.new.self m.settings m.stamps m.others c.in-Ok.ensures.held u.settings u.stamps u.others u.held)

@@ -1,4 +1,9 @@
-use Rattle.std.proofs.Common.{◌≡◌, sym, ◌∙◌, true, false, ap, ◌==◌, ◌&&◌}
+use Rattle.std.proofs.Common.{refl, ◌≡◌, sym, ◌∙◌, true, false, ap, ◌==◌, ◌&&◌}
+use Rattle.bp_lruk.specs.Candidates.{entry_of}
+use Rattle.bp_trail.specs.Lists.{some}
+use Rattle.bp_frames.specs.Frames.{is_frame_of, unpinned}
+use Rattle.bp_frames.specs.Tables.{Table}
+use Rattle.bp_frames.proofs.Tables.{some-changed}
 use Rattle.std.specs.Prelude.{not}
 use Rattle.std.proofs.lemmas.Bool.{true≢false}
 use Rattle.bp_trail.specs.declared.entries.Call.TheVariants.{Unfix}
@@ -9,7 +14,7 @@ use Rattle.bp_trail.specs.Places.{resident}
 use Rattle.bp_trail.specs.Legal.{is_out}
 use Rattle.bp_core.proofs.Seen.{some_pins}
 use Rattle.bp_core.proofs.Keeps.{at-past, adds}
-use Rattle.bp_core.proofs.KeepsPasses.{pinned-page, no-candidate, candidate-room, keeps-unfix}
+use Rattle.bp_core.proofs.KeepsPasses.{pinned-page, no-candidate, frame-here, keeps-unfix}
 use Rattle.bp_core.proofs.pool.Core.unfix.Goals as goal
 
 pub unpin-requires : goal.unpin-requires
@@ -22,21 +27,21 @@ unreachable-requires c =
     let p = c.args.pass in
     true≢false (sym (pinned-page _ _ _ c.self.invariant _ c.self.view_is p.client p.page p.serial (sym c.knows.ensures ∙ c.if-not-knows.false)) ∙ at-past _ _ _ c.self.invariant _ c.self.view_is (λ q past. resident past p.page ≡ false) c.in_default.ensures.away)
 
+pub offer-requires-clause-here : goal.offer-requires-clause-here
+offer-requires-clause-here c =
+    let p = c.args.pass in
+    λ unused. ap (λ (t : Table). some (is_frame_of p.page) t.frames) c.unpin.ensures ∙ some-changed p.page unpinned (λ f. refl) c.self.inside.state.frames.frames ∙ frame-here _ _ _ c.self.invariant _ c.self.view_is p.client p.page p.serial (sym c.knows.ensures ∙ c.if-not-knows.false)
+
 pub offer-requires-clause-apart : goal.offer-requires-clause-apart
 offer-requires-clause-apart c =
     let p = c.args.pass in
-    λ unused. no-candidate _ _ _ c.self.invariant _ c.self.view_is p.client p.page p.serial (sym c.knows.ensures ∙ c.if-not-knows.false)
-
-pub offer-requires-clause-room : goal.offer-requires-clause-room
-offer-requires-clause-room c =
-    let p = c.args.pass in
-    λ unused. candidate-room _ _ _ c.self.invariant _ c.self.view_is p.client p.page p.serial (sym c.knows.ensures ∙ c.if-not-knows.false)
+    λ unused. ap (λ (t : Table). entry_of t.candidates p.page) c.unpin.ensures ∙ no-candidate _ _ _ c.self.invariant _ c.self.view_is p.client p.page p.serial (sym c.knows.ensures ∙ c.if-not-knows.false)
 
 pub invariant_of-self : goal.invariant_of-self
 invariant_of-self c =
     let p = c.args.pass in
-    let o = c.offer.ensures in
-    rw (c.record.ensures, c.take_back.ensures, c.unpin.ensures) (keeps-unfix _ _ _ c.self.invariant _ c.self.view_is p.client p.page p.serial (sym c.knows.ensures ∙ c.if-not-knows.false) c.is_last_use-is_unused.result (c.is_last_use-is_unused.ensures ∙ ap (λ f. (f.pins == 1) && not f.is_writing) c.in-Some.ensures.found) c.offer.new.candidates o.limits o.pages o.others o.entered)
+    let o = rw c.unpin.ensures at c.offer.ensures in
+    rw (c.record.ensures, c.take_back.ensures, o.same) (keeps-unfix _ _ _ c.self.invariant _ c.self.view_is p.client p.page p.serial (sym c.knows.ensures ∙ c.if-not-knows.false) c.is_last_use-is_unused.result (c.is_last_use-is_unused.ensures ∙ ap (λ f. (f.pins == 1) && not f.is_writing) c.in-Some.ensures.found) c.offer.new.frames.candidates o.limits o.pages o.others o.entered)
 
 pub returns : goal.returns
 returns c =

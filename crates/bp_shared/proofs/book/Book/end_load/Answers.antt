@@ -1,7 +1,6 @@
 -- One ticket fewer, one pass more, and one blank spent; or nothing, and the blank is put back.
-use Rattle.std.proofs.Common.{rules, ◌≡◌, ap, sym, subst, ◌∙◌, reverse, length, All, List, ℕ, [], ◌∷◌}
+use Rattle.std.proofs.Common.{rules, ◌≡◌, sym, subst, ◌∙◌, length, All, List, ℕ, [], ◌∷◌}
 use Rattle.std.proofs.lemmas.List.Elements.{All-append}
-use Rattle.bp_trail.proofs.Counting.{reverse-push}
 use Rattle.bp_shared.proofs.Asking.{loaded_alike}
 use Rattle.bp_shared.proofs.Ending.{keeps_loaded}
 use Rattle.bp_shared.proofs.book.Book.end_load.Goals as goal
@@ -13,9 +12,9 @@ pub invariant_of-self : goal.invariant_of-self
 invariant_of-self c =
     let blanks = c.copied-copy.new.blanks.items in
     keeps_loaded _ _ _ _ _ _ _ _ _ _ _ _ _ _ _ c.args.ticket c.note-note.result.serial c.copied-copy.result c.self.invariant (search rules)
-    (ap reverse c.push_reserved.ensures.items ∙ reverse-push c.self.inside.said.items _ ∙ search rules)
-    (c.push_reserved-in-Ok.ensures.items ∙ search rules)
-    c.push_reserved.ensures.len c.push_reserved.ensures.capacity c.push_reserved-in-Ok.ensures.capacity
+    (c.add.ensures.all ∙ search rules)
+    (c.push_reserved.ensures.items ∙ search rules)
+    c.add.ensures.kept c.add.ensures.capacity c.push_reserved.ensures.capacity
     (subst (λ n. All (λ (b : List ℕ). length b ≡ n) blanks) (search rules) c.copied-copy.ensures.sized)
     (search rules)
 
@@ -40,4 +39,4 @@ pub returns-in-Ok-clause-alike : goal.returns-in-Ok-clause-alike
 returns-in-Ok-clause-alike c =
     rw (← c.self.view_is)
     (loaded_alike _ _ _ _ c.self.inside.client c.args.ticket c.args.image c.in-Ok.pass (search rules) c.in-Ok.ensures.outcome
-    (ap reverse c.push_reserved.ensures.items ∙ reverse-push c.self.inside.said.items _ ∙ search rules))
+    (c.add.ensures.all ∙ search rules))

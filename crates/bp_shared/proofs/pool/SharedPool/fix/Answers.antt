@@ -4,7 +4,7 @@ use Rattle.bp_shared.proofs.Fixing.{waits_none, turn_more, hit_said, busy_waits,
 use Rattle.bp_shared.proofs.pool.SharedPool.fix.Goals as goal
 
 pub loop-init : goal.loop-init
-loop-init g c = record { client = refl; port = refl; waits = waits_none _ _ _ }
+loop-init g c = record { client = refl; before = refl; port = refl; waits = waits_none _ _ _ }
 
 pub returns-in-Ok-Hit-clause-outcome : goal.returns-in-Ok-Hit-clause-outcome
 returns-in-Ok-Hit-clause-outcome g c =
@@ -24,6 +24,7 @@ loop-preserved-in-Ok g c =
     let t = rw (c.in-Ok-WriteFirst.field-0-is, i.client) at c.in-Ok-WriteFirst.ensures.turn in
     record {
       client = c.write_out.ensures.client ∙ c.fix.ensures.client ∙ i.client;
+      before = c.write_out.ensures.before ∙ c.fix.ensures.before ∙ i.before;
       port = c.write_out.ensures.port ∙ i.port;
       waits = written_waits _ _ c.in-Ok-WriteFirst.ticket _ _ _ _ (turn_more _ _ _ _ _ _ i.waits t) c.in-Ok.ensures.outcome;
     }
@@ -38,10 +39,10 @@ pub loop-preserved : goal.loop-preserved
 loop-preserved g c =
     let i = c.loop.invariant in
     let t = rw i.client at c.in-Err.ensures.turn in
-    record { client = c.fix.ensures.client ∙ i.client; port = i.port; waits = busy_waits _ _ c.in-Err.refusal _ _ (search rules) (turn_more _ _ _ _ _ _ i.waits t) }
+    record { client = c.fix.ensures.client ∙ i.client; before = c.fix.ensures.before ∙ i.before; port = i.port; waits = busy_waits _ _ c.in-Err.refusal _ _ (search rules) (turn_more _ _ _ _ _ _ i.waits t) }
 
 pub returns-then-not-is_busy : goal.returns-then-not-is_busy
 returns-then-not-is_busy g c =
     let i = c.loop.invariant in
     let t = rw i.client at c.in-Err.ensures.turn in
-    record { client = c.fix.ensures.client ∙ i.client; port = i.port; outcome = refused_said _ _ c.in-Err.refusal _ _ (search rules) (turn_more _ _ _ _ _ _ i.waits t) }
+    record { client = c.fix.ensures.client ∙ i.client; before = c.fix.ensures.before ∙ i.before; port = i.port; outcome = refused_said _ _ c.in-Err.refusal _ _ (search rules) (turn_more _ _ _ _ _ _ i.waits t) }

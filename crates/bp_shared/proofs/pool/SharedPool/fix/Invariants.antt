@@ -7,6 +7,7 @@ abbrev pub invariant-loop : goal.invariant-loop
 invariant-loop g l =
     record {
       client : l.session.client ≡ l.initial.session.client;
+      before : l.session.before ≡ l.initial.session.before;
       port : g.P.Port.geometry_of l.port ≡ g.P.Port.geometry_of l.initial.port;
       waits : FixWaits l.initial.session.client l.page l.initial.session.said l.session.said;
     }

@@ -4,13 +4,14 @@ use Rattle.bp_shared.proofs.Draining.{takes_none, takes_more, drains_most, drain
 use Rattle.bp_shared.proofs.state.draining.drain.Goals as goal
 
 pub loop-init : goal.loop-init
-loop-init c = record { parameters = refl; takes = takes_none _ _ _ }
+loop-init c = record { parameters = refl; before = refl; takes = takes_none _ _ _ }
 
 pub loop-preserved : goal.loop-preserved
 loop-preserved c =
     let i = c.loop.invariant in
     record {
       parameters = c.give_back.ensures.parameters ∙ i.parameters;
+      before = c.give_back.ensures.before ∙ i.before;
       takes = takes_more _ _ _ _ _ _ _ _ _ _ _ c.in-Ok.note i.takes (omega arith) c.in-Ok.ensures.ok.0 c.give_back.ensures.back;
     }
 

@@ -8,5 +8,6 @@ abbrev pub invariant-loop : goal.invariant-loop
 invariant-loop l =
     record {
       parameters : l.core.parameters ≡ l.initial.core.parameters;
+      before : l.core.before ≡ l.initial.core.before;
       takes : Takes l.counter (received l.initial.consumer) (received l.consumer) l.initial.core.past l.initial.strays l.core.past l.strays;
     }

@@ -6,10 +6,11 @@ use Rattle.bp_shared.proofs.state.draining.drain_all.Given as goal
 abbrev pub invariant-loop-consumer : goal.invariant-loop-consumer
 invariant-loop-consumer l =
     let i = l.consumer-index in
-    let before = map ring_view l.initial.consumers in
-    let after = map ring_view l.consumers in
+    let first = map ring_view l.initial.consumers in
+    let now = map ring_view l.consumers in
     record {
       parameters : l.core.parameters ≡ l.initial.core.parameters;
-      drained : DrainsRings 32 (take i before) (take i after) l.initial.core.past l.initial.strays l.core.past l.strays;
-      left : drop i after ≡ drop i before;
+      before : l.core.before ≡ l.initial.core.before;
+      drained : DrainsRings 32 (take i first) (take i now) l.initial.core.past l.initial.strays l.core.past l.strays;
+      left : drop i now ≡ drop i first;
     }

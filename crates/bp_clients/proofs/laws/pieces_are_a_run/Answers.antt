@@ -1,0 +1,14 @@
+-- Piece after piece.
+use Rattle.std.proofs.Common.{subst}
+use Rattle.bp_trail.specs.Legal.{Legal}
+use Rattle.bp_clients.proofs.Pieces.{whole, theirs}
+use Rattle.bp_clients.proofs.laws.pieces_are_a_run.Goals as goal
+
+pub returns-clause-whole : goal.returns-clause-whole
+returns-clause-whole a pieces = whole pieces
+
+pub returns-clause-legal : goal.returns-clause-legal
+returns-clause-legal a c pieces legal = subst (Legal c) (whole pieces) legal
+
+pub returns-clause-theirs : goal.returns-clause-theirs
+returns-clause-theirs a clients trail said are = theirs clients trail said are

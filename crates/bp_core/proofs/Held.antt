@@ -1,0 +1,17 @@
+-- Of the pages that are away, those are held that are being read.
+use Rattle.std.proofs.Common.{◌≡◌, ℕ, true, false, sym, ap, ◌∙◌}
+use Rattle.std.specs.Prelude.{◌||◌}
+use Rattle.std.proofs.lemmas.Bool.{true≢false, false_from_ne_true}
+use Rattle.bp_lruk.specs.Histories.{is_held}
+use Rattle.bp_trail.specs.Parameters.{Parameters}
+use Rattle.bp_trail.specs.Trail.{Trail}
+use Rattle.bp_trail.specs.Places.{loading, resident}
+use Rattle.bp_trail.proofs.Places.{places}
+use Rattle.bp_core.specs.Agreement.{Parts, Agrees}
+
+module _ (c : Parameters) (past : Trail) (x : Parts) (a : Agrees c past x) (p : ℕ) where
+  pub here-idle : resident past p ≡ true → loading past p ≡ false
+  here-idle here = false_from_ne_true (loading past p) (λ l. true≢false (sym here ∙ (places c past a.legal).away p l))
+
+  pub away-held : resident past p ≡ false → is_held x.blocks p ≡ loading past p
+  away-held away = a.observed.held_is p ∙ ap (λ b. b || loading past p) away

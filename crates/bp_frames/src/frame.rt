@@ -1,0 +1,120 @@
+//! One frame: a page in memory, and how it is used.
+ghost use Rattle.std.specs.Prelude.{max, not, ◌≡◌, ◌==◌, ◌&&◌, ◌+◌, ◌^◌, ◌<◌, ◌≤◌, length};
+
+use bp_page::{Image, Lsn, PageNo};
+
+/// A frame with the page that it holds. A [`FrameTable`](crate::FrameTable) makes and changes it; others read it.
+#[derive(Drop)]
+pub struct Frame {
+    /// The page that it holds.
+    pub page: PageNo,
+    /// How many passes of the page are out.
+    pub pins: u64,
+    /// Whether some write is not yet saved.
+    pub is_unsaved: bool,
+    /// Whether it was written since the newest write-out began.
+    pub is_rewritten: bool,
+    /// Whether a write-out is under way.
+    pub is_writing: bool,
+    /// The page LSN: the greatest LSN of its writes since it was loaded, or 0.
+    pub top: Lsn,
+    /// The page's bytes, with all writes so far.
+    pub image: Image,
+}
+
+/// The greater of two LSNs.
+pub fn later(a: Lsn, b: Lsn) -> Lsn
+    ensures { result ≡ max a b }
+{
+    if a < b { b } else { a }
+}
+
+impl Frame {
+    ghost use Rattle.bp_frames.specs.Frames.{loaded_with, pinned, unpinned, written_on, saving, saved, not_saved};
+
+    /// A frame that waits for a page, with this image to copy it into.
+    pub(crate) fn waiting(image: Image) -> Frame
+        ensures { result.image ≡ image }
+    {
+        Frame {
+            page: PageNo::new(0),
+            pins: 0,
+            is_unsaved: false,
+            is_rewritten: false,
+            is_writing: false,
+            top: Lsn::new(0),
+            image,
+        }
+    }
+
+    /// Takes a page that was read, with one pass out.
+    pub(crate) fn load(&mut self, page: PageNo, image: &Image)
+        requires { length self.old.image ≡ length image.now }
+        ensures { self.new ≡ loaded_with page image.now }
+    {
+        self.page = page;
+        self.pins = 1;
+        self.is_unsaved = false;
+        self.is_rewritten = false;
+        self.is_writing = false;
+        self.top = Lsn::new(0);
+        self.image.copy_from(image);
+    }
+
+    /// Counts one more pass.
+    pub(crate) fn pin(&mut self)
+        requires { self.old.pins < 2 ^ 63 }
+        ensures { self.new ≡ pinned self.old }
+    {
+        self.pins += 1;
+    }
+
+    /// Counts one pass fewer.
+    pub(crate) fn unpin(&mut self)
+        requires { 0 < self.old.pins }
+        ensures { self.new ≡ unpinned self.old }
+    {
+        self.pins -= 1;
+    }
+
+    /// Whether nobody uses the page any longer once a pass is given back.
+    pub fn is_last_use(&self) -> bool
+        ensures { result ≡ ((self.now.pins == 1) && not self.now.is_writing) }
+    {
+        self.pins == 1 && !self.is_writing
+    }
+
+    /// Puts bytes into the image.
+    pub(crate) fn write(&mut self, offset: usize, bytes: &[u8], lsn: Lsn)
+        requires { offset + length bytes.now ≤ length self.old.image }
+        ensures { self.new ≡ written_on offset bytes.now lsn self.old }
+    {
+        self.is_unsaved = true;
+        self.is_rewritten = true;
+        self.top = later(lsn, self.top);
+        self.image.patch(offset, bytes);
+    }
+
+    /// Notes that a write-out begins.
+    pub(crate) fn begin_write_out(&mut self)
+        ensures { self.new ≡ saving self.old }
+    {
+        self.is_rewritten = false;
+        self.is_writing = true;
+    }
+
+    /// Notes that the write-out ended well: what was not written since is saved.
+    pub(crate) fn end_write_out(&mut self)
+        ensures { self.new ≡ saved self.old }
+    {
+        self.is_unsaved = self.is_rewritten;
+        self.is_writing = false;
+    }
+
+    /// Notes that the write-out failed.
+    pub(crate) fn fail_write_out(&mut self)
+        ensures { self.new ≡ not_saved self.old }
+    {
+        self.is_writing = false;
+    }
+}

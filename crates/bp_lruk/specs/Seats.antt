@@ -1,0 +1,113 @@
+-- Candidates that are entered by seats: each stands at a seat of its own, as a page stands in a frame.
+use Rattle.std.specs.Prelude.{◌≡◌, ℕ, ◌*◌, ◌+◌, ◌-◌, ◌/◌, ◌≢◌, ◌<◌, ◌≤◌, ◌&&◌, ◌==◌, nat_lt, zero, suc, Bool, true, List, [], ◌∷◌, length, slice_index_or, set, Option, Some, None, if◌then◌else◌}
+use Rattle.bp_lruk.specs.Candidates.{Candidate, Entered, is_before}
+use Rattle.bp_lruk.specs.declared.tournament.Winners.{Winners}
+
+-- the candidates that are seated, by seats, and the correlated period
+pub record Seated : Type 0 where
+  pub correlated : ℕ
+  pub seats : List (Option Candidate)
+
+-- who stands at the seats
+abbrev pub seated_in : List (Option Candidate) → List Candidate
+seated_in [] = []
+seated_in (None ∷ seats) = seated_in seats
+seated_in (Some e ∷ seats) = e ∷ seated_in seats
+
+-- the same candidates, of as many frames as there are seats
+abbrev pub entered : Seated → Entered
+entered c = record { frames = length c.seats; correlated = c.correlated; entries = seated_in c.seats }
+
+abbrev pub seat_at : List (Option Candidate) → ℕ → Option Candidate
+seat_at seats k = slice_index_or seats k None
+
+abbrev pub seat_of : Seated → ℕ → Option Candidate
+seat_of c seat = slice_index_or c.seats seat None
+
+-- one seat changed
+abbrev pub with_seat : Seated → ℕ → Option Candidate → Seated
+with_seat c seat e = record c { seats = set c.seats seat e }
+
+-- the seats without the page of the seat that was left last, if one was
+abbrev pub emptied : Option ℕ → List (Option Candidate) → List (Option Candidate)
+emptied None seats = seats
+emptied (Some left) seats = set seats left None
+
+-- the seat that was left last, unless it is this one
+abbrev pub unless : ℕ → Option ℕ → Option ℕ
+unless seat None = None
+unless seat (Some left) = if left == seat then None else Some left
+
+abbrev pub IsSeatOf : List (Option Candidate) → Option ℕ → Type 0
+IsSeatOf seats left = (k : ℕ) → left ≡ Some k → k < length seats
+
+-- ---- who comes first
+
+-- of two seats, the one that comes first; an empty one comes last
+abbrev pub winner : Option Candidate → Option Candidate → Option Candidate
+winner None b = b
+winner (Some a) None = Some a
+winner (Some a) (Some b) = if is_before b a then Some b else Some a
+
+-- the first of those at the seats of whom P holds, none where it holds of none
+pub record IsFirst (seats : List (Option Candidate)) (P : Candidate → Type 0) (first : Option Candidate) : Type 0 where
+  pub there : (x : Candidate) → first ≡ Some x → (k : ℕ) × (seat_at seats k ≡ Some x) × P x
+  pub none_before : (k : ℕ) (x : Candidate) → seat_at seats k ≡ Some x → P x → winner first (Some x) ≡ first
+
+-- ---- a tree of winners: below the node i stand the nodes 2 i and 2 i + 1
+
+-- nobody stands there, or one who was last referenced before a time
+abbrev pub is_aged : ℕ → Option Candidate → Bool
+is_aged time None = true
+is_aged time (Some e) = nat_lt e.1 time
+
+-- who comes first of those last referenced before a time; one who was not where the node does not know
+unfoldable pub aged_first : ℕ → Winners → Option Candidate
+aged_first time w = if is_aged time w.first then w.first else w.older
+
+-- below two nodes, who comes first of those last referenced before `first`; where a node does not know, `first` again
+unfoldable pub older_of : Winners → Winners → Option Candidate → Option Candidate
+older_of a b None = None
+older_of a b (Some e) =
+    if is_aged e.1 (aged_first e.1 a) && is_aged e.1 (aged_first e.1 b)
+    then winner (aged_first e.1 a) (aged_first e.1 b)
+    else Some e
+
+-- what is known of the seats below two nodes
+unfoldable pub both : Winners → Winners → Winners
+both a b = record { first = winner a.first b.first; older = older_of a b (winner a.first b.first) }
+
+-- what is known of one seat
+abbrev pub alone : Option Candidate → Winners
+alone e = record { first = e; older = None }
+
+-- below the nodes stand the seats
+unfoldable pub node : List Winners → List (Option Candidate) → ℕ → Winners
+node nodes seats i =
+    if nat_lt i (length nodes) then slice_index_or nodes i (alone None) else alone (seat_at seats (i - length nodes))
+
+abbrev pub IsWon : List Winners → List (Option Candidate) → ℕ → Type 0
+IsWon nodes seats i = node nodes seats i ≡ both (node nodes seats (2 * i)) (node nodes seats (2 * i + 1))
+
+-- each node has what is known of the two nodes below it
+pub record IsTournament (nodes : List Winners) (seats : List (Option Candidate)) : Type 0 where
+  pub length_is : length nodes ≡ length seats
+  pub won : (i : ℕ) → 1 ≤ i → i < length nodes → IsWon nodes seats i
+
+-- and so has each node but the one above this one
+pub record IsWonBut (nodes : List Winners) (seats : List (Option Candidate)) (at : ℕ) : Type 0 where
+  pub length_is : length nodes ≡ length seats
+  pub won : (i : ℕ) → 1 ≤ i → i < length nodes → i ≢ at / 2 → IsWon nodes seats i
+
+-- the node that stands so many steps above another
+abbrev pub above : ℕ → ℕ → ℕ
+above zero i = i
+above (suc steps) i = above steps i / 2
+
+abbrev pub IsBelow : ℕ → ℕ → Type 0
+IsBelow i j = (steps : ℕ) × (above steps j ≡ i)
+
+-- the same, of the seats below a node
+pub record IsFirstBelow (seats : List (Option Candidate)) (i : ℕ) (P : Candidate → Type 0) (first : Option Candidate) : Type 0 where
+  pub there : (x : Candidate) → first ≡ Some x → (k : ℕ) × IsBelow i (length seats + k) × (seat_at seats k ≡ Some x) × P x
+  pub none_before : (k : ℕ) (x : Candidate) → IsBelow i (length seats + k) → seat_at seats k ≡ Some x → P x → winner first (Some x) ≡ first

@@ -1,5 +1,0 @@
-use Rattle.std.proofs.Common.{◌≡◌}
-use Rattle.bp_mark.proofs.tests.raise_a_thousand.Given as goal
-
-abbrev pub invariant-loop-lsn : goal.invariant-loop-lsn
-invariant-loop-lsn l = l.end.mark ≡ l.initial.end.mark

@@ -1,0 +1,10 @@
+use Rattle.std.proofs.Common.{◌≡◌, ◌≤◌, IfSome, vec_capacity}
+use Rattle.bp_run.specs.AnyPort.{AreOf, device_of}
+use Rattle.bp_run.proofs.page_files.file_ports.Given as goal
+
+abbrev pub invariant-loop : goal.invariant-loop
+invariant-loop g l = record {
+  are : AreOf l.fn.first.device l.counter l.ports.items;
+  room : l.fn.clients ≤ vec_capacity l.ports;
+  first : IfSome l.first (λ port. device_of port ≡ l.fn.first.device);
+}

@@ -1,0 +1,95 @@
+//! A run in free order: one thread for each client.
+ghost use Rattle.std.specs.Prelude.{◌≡◌, All, IfErr, IfOk, false, vec_len};
+ghost use Rattle.bp_clients.specs.Jobs.{lists};
+ghost use Rattle.bp_clients.specs.Runs.{IsRun, run_parameters};
+ghost use Rattle.bp_trace.specs.InRange.{IsInRange};
+ghost use Rattle.bp_words.specs.Decision.{IsRunnable};
+ghost use Rattle.bp_words.specs.Ending.{is_help};
+ghost use Rattle.bp_run.specs.Run.{ReportsFree, parameters_for};
+ghost use Rattle.bp_run.specs.Scripts.{clients_of, scripts_of};
+ghost use Rattle.bp_words.specs.Words.{told_of};
+
+use crate::run::{print_run, room_for};
+use crate::scripts::{client_count, split};
+use bp_clients::{Config, Outcome, run_clients};
+use bp_core::Row;
+use bp_device::Port;
+use bp_lruk::Settings;
+use bp_page::Geometry;
+use bp_words::{Ending, Order, RunWords};
+use std::alloc::Global;
+use std::io::Write;
+use std::marker::{Send, Sync};
+use std::sync::Wait;
+use std::thread::Threads;
+
+/// What the pool of a run in free order is made with.
+fn config_of(run: &RunWords<'_>, geometry: Geometry, rows: &[Row]) -> Config
+    requires runnable { IsRunnable (told_of run.now) }
+    ensures parameters { run_parameters result (clients_of rows.now) ≡ parameters_for Order.Free (told_of run.now) geometry rows.now }
+    ensures geometry { result.geometry ≡ geometry }
+{
+    let settings = Settings::new(run.k, run.correlated, run.retained).unwrap();
+    Config {
+        geometry,
+        settings,
+        frames: run.frames,
+        room: room_for(Order::Free, rows.len()),
+    }
+}
+
+/// Runs the rows by one thread for each client, each with the rows of its own over a port of its own. The ports are the first of
+/// those that were opened.
+fn run_threads<P: Port + Send, R: Threads + Wait + Sync>(
+    rt: &R,
+    alloc: Global,
+    config: Config,
+    ports: Vec<P>,
+    rows: Vec<Row>,
+) -> Result<Outcome, Ending>
+    requires ports { vec_len ports ≡ 64 }
+    requires alike { All (λ p. P.geometry_of p ≡ config.geometry) ports.items }
+    requires fits { All (IsInRange config.geometry) rows.items }
+    ensures run { IfOk result (λ run. IsRun (run_parameters config (clients_of rows.items)) (scripts_of rows.items) run.trail.items (lists run.said.items) run.refused.items) }
+    ensures fault { IfErr result (λ ending. is_help ending ≡ false) }
+{
+    let clients = client_count(&rows);
+    let scripts = match split(alloc, rows, clients) {
+        Ok(scripts) => scripts,
+        Err(refusal) => return Err(Ending::RunRefused(refusal)),
+    };
+    let mut ports = ports;
+    ports.truncate(clients);
+    match run_clients(rt, alloc, config, scripts, ports) {
+        Ok(outcome) => Ok(outcome),
+        Err(refusal) => Err(Ending::RunRefused(refusal)),
+    }
+}
+
+/// Runs the rows by one thread for each client, and writes the report and the refused rows. Answers whether all rows were accepted.
+pub(crate) fn run_free<P: Port + Send, R: Threads + Wait + Sync, W: Write>(
+    rt: &R,
+    alloc: Global,
+    run: &RunWords<'_>,
+    ports: Vec<P>,
+    geometry: Geometry,
+    rows: Vec<Row>,
+    out: &mut W,
+) -> Result<bool, Ending>
+    requires runnable { IsRunnable (told_of run.now) }
+    requires ports { vec_len ports ≡ 64 }
+    requires alike { All (λ p. P.geometry_of p ≡ geometry) ports.items }
+    requires fits { All (IsInRange geometry) rows.items }
+    ensures reported { IfOk result (λ all_accepted. ReportsFree (parameters_for Order.Free (told_of run.now) geometry rows.items) (scripts_of rows.items) all_accepted (W.contents out.old) (W.contents out.new)) }
+    ensures fault { IfErr result (λ ending. is_help ending ≡ false) }
+{
+    let config = config_of(run, geometry, &rows);
+    let outcome = match run_threads(rt, alloc, config, ports, rows) {
+        Ok(outcome) => outcome,
+        Err(ending) => return Err(ending),
+    };
+    match print_run(&outcome.trail, &outcome.refused, out) {
+        Ok(()) => Ok(outcome.refused.is_empty()),
+        Err(fault) => Err(fault),
+    }
+}

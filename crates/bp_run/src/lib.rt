@@ -1,0 +1,14 @@
+//! A run of the program: from the words of its command line and the bytes of a trace to the bytes of the report.
+//!
+//! The contract of `run_with` is the promise of the whole program.
+#![tactic(auto)]
+
+mod free;
+mod opening;
+mod page_files;
+mod run;
+mod scripts;
+
+pub use opening::Ports;
+pub use page_files::{AnyPort, PageFiles};
+pub use run::run_with;

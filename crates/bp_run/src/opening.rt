@@ -1,0 +1,24 @@
+//! The page files of runs.
+use bp_device::{OpenFault, Port};
+use std::marker::Send;
+
+/// Opens the page files that words name: `mem:N` is N pages of zero bytes in memory, any other word is a path.
+pub trait Ports<R> {
+    type P: Port + Send;
+
+    ghost use Rattle.std.specs.Prelude.{◌≡◌, IfOk, map, vec_len};
+    ghost use Rattle.bp_page.specs.Limits.{IsGeometry};
+    ghost use Rattle.bp_run.specs.PageFile.{AreOpened};
+
+    /// Opens a page file whose pages have `size` bytes, once for each client. All ports are to the same pages.
+    fn open(
+        &mut self,
+        rt: &R,
+        word: &str,
+        size: usize,
+        clients: usize,
+    ) -> Result<Vec<Self::P>, OpenFault>
+        requires size { IsGeometry 1 size }
+        ensures count { IfOk result (λ ports. vec_len ports ≡ clients) }
+        ensures opened { IfOk result (λ ports. AreOpened word.now size (map Self.P.geometry_of ports.items)) };
+}

@@ -1,0 +1,276 @@
+//! A run: the rows of a trace over a new core and a page file, and the report of what it did.
+ghost use Rattle.std.specs.Prelude.{◌≡◌, ◌++◌, ◌<◌, ◌≤◌, All, IfErr, IfOk, OnOk, [], false, if◌then◌else◌, map, vec_len};
+ghost use Rattle.std.specs.Io.KnownBytes.{Appends};
+ghost use Rattle.clap.specs.Walk.{texts};
+ghost use Rattle.bp_trace.specs.InRange.{IsInRange};
+ghost use Rattle.bp_trace.specs.Report.{report_text, rows_text};
+ghost use Rattle.bp_words.specs.Decision.{AsksForHelp, IsRunnable};
+ghost use Rattle.bp_words.specs.Ending.{is_help};
+ghost use Rattle.bp_run.specs.Opening.{ending_of};
+ghost use Rattle.bp_run.specs.PageFile.{AreOpened};
+ghost use Rattle.bp_words.specs.Words.{from_stdin, told_of, trace_told, words_or_default};
+ghost use Rattle.bp_run.specs.Run.{AreRead, Reports, ReportsIn, Runs, RunsWords, parameters_for, ports_for, room_for};
+
+use crate::free::run_free;
+use crate::opening::Ports;
+use bp_core::{Core, Entry, Refused, Row};
+use bp_device::{OpenFault, Port, drive_all};
+use bp_lruk::Settings;
+use bp_page::{Geometry, PortFault, Refusal};
+use bp_trace::{read_script, report, report_rows};
+use bp_words::{Ending, Order, RunWords, TraceSource, decide};
+use std::alloc::Global;
+use std::fs;
+use std::io::{Read, Write};
+use std::marker::{Send, Sync};
+use std::rt::Files;
+use std::sync::Wait;
+use std::thread::Threads;
+
+/// The most entries that a trail may have.
+const MAX_ROOM: usize = 16_777_216;
+
+/// The clients that a trace may name.
+const CLIENTS: u8 = 64;
+
+/// The room of a trail for so many rows.
+pub(crate) fn room_for(order: Order, rows: usize) -> usize
+    ensures { result ≡ room_for order rows }
+{
+    let room = match order {
+        Order::Trace => rows.saturating_mul(8).saturating_add(16),
+        Order::Free => rows.saturating_mul(64).saturating_add(1_024),
+    };
+    room.min(MAX_ROOM)
+}
+
+/// How many ports a run asks for. In free order each client has one, and the clients are not known before the page file is open.
+fn ports_for(order: Order) -> usize
+    ensures { result ≡ ports_for order }
+{
+    match order {
+        Order::Trace => 1,
+        Order::Free => CLIENTS as usize,
+    }
+}
+
+/// Writes the report of the entries, and the refused rows.
+pub(crate) fn print_run<W: Write>(
+    entries: &[Entry],
+    refused: &[Refused],
+    out: &mut W,
+) -> Result<(), Ending>
+    ensures written { OnOk result (Appends (W.contents out.old) (W.contents out.new) (report_text entries.now ++ rows_text refused.now)) }
+    ensures fault { IfErr result (λ ending. is_help ending ≡ false) }
+{
+    if report(entries, out).is_err() || report_rows(refused, out).is_err() || out.flush().is_err() {
+        return Err(Ending::OutputFailed);
+    }
+    Ok(())
+}
+
+/// A core over such pages, for these rows in the order of the trace.
+fn new_core(
+    alloc: Global,
+    run: &RunWords<'_>,
+    geometry: Geometry,
+    rows: &[Row],
+) -> Result<Core, Ending>
+    requires runnable { IsRunnable (told_of run.now) }
+    ensures made { IfOk result (λ core. (core.parameters ≡ parameters_for Order.Trace (told_of run.now) geometry rows.now) × (core.before ≡ []) × (core.past ≡ [])) }
+    ensures fault { IfErr result (λ ending. is_help ending ≡ false) }
+{
+    let settings = Settings::new(run.k, run.correlated, run.retained).unwrap();
+    let core = Core::new(
+        alloc,
+        geometry,
+        settings,
+        run.frames,
+        CLIENTS,
+        room_for(Order::Trace, rows.len()),
+    );
+    core.map_err(Ending::RunRefused)
+}
+
+/// Runs the rows in the order of the trace over a new core and the port, and writes the report and the refused rows. Answers
+/// whether all rows were accepted.
+fn run_rows<P: Port, R: Wait, W: Write>(
+    rt: &R,
+    alloc: Global,
+    run: &RunWords<'_>,
+    port: &mut P,
+    rows: &[Row],
+    out: &mut W,
+) -> Result<bool, Ending>
+    requires runnable { IsRunnable (told_of run.now) }
+    requires fits { All (IsInRange (P.geometry_of port.old)) rows.now }
+    ensures reported { IfOk result (λ all_accepted. Reports (parameters_for Order.Trace (told_of run.now) (P.geometry_of port.old) rows.now) rows.now all_accepted (W.contents out.old) (W.contents out.new)) }
+    ensures fault { IfErr result (λ ending. is_help ending ≡ false) }
+{
+    let mut core = match new_core(alloc, run, port.geometry(), rows) {
+        Ok(core) => core,
+        Err(ending) => return Err(ending),
+    };
+    let refused = match drive_all(rt, alloc, &mut core, port, rows) {
+        Ok(refused) => refused,
+        Err(refusal) => return Err(Ending::RunRefused(refusal)),
+    };
+    match print_run(core.trail(), &refused, out) {
+        Ok(()) => Ok(refused.is_empty()),
+        Err(fault) => Err(fault),
+    }
+}
+
+/// The rows of a trace over pages of this geometry.
+fn rows_from<I: Read>(
+    alloc: Global,
+    reader: &mut I,
+    geometry: &Geometry,
+) -> Result<Vec<Row>, Ending>
+    ensures read { IfOk result (λ rows. AreRead from_stdin geometry.now (I.remaining reader.old) rows.items) }
+    ensures fits { IfOk result (λ rows. All (IsInRange geometry.now) rows.items) }
+    ensures fault { IfErr result (λ ending. is_help ending ≡ false) }
+{
+    read_script(alloc, reader, geometry).map_err(Ending::TraceRefused)
+}
+
+/// The rows of the trace: of standard input, or of the file at its path.
+fn rows_of<I: Read, R: Files>(
+    rt: &R,
+    alloc: Global,
+    trace: TraceSource<'_>,
+    reader: &mut I,
+    geometry: &Geometry,
+) -> Result<Vec<Row>, Ending>
+    ensures read { IfOk result (λ rows. AreRead (trace_told trace.entry) geometry.now (I.remaining reader.old) rows.items) }
+    ensures fits { IfOk result (λ rows. All (IsInRange geometry.now) rows.items) }
+    ensures fault { IfErr result (λ ending. is_help ending ≡ false) }
+{
+    match trace {
+        TraceSource::Stdin => rows_from(alloc, reader, geometry),
+        TraceSource::Path(path) => {
+            let Ok(mut file) = fs::open(rt, path) else {
+                return Err(Ending::TraceNotOpened);
+            };
+            rows_from(alloc, &mut file, geometry)
+        }
+    }
+}
+
+/// How the program ends where a page file is not opened.
+fn ending_of(fault: OpenFault) -> Ending
+    ensures { result ≡ ending_of fault }
+{
+    match fault {
+        OpenFault::Refused(refusal) => Ending::PageFileRefused(refusal),
+        OpenFault::Port(PortFault::Device) => Ending::PageFileNotOpened,
+        OpenFault::Port(PortFault::Memory) => Ending::PageFileRefused(Refusal::OutOfMemory),
+    }
+}
+
+/// Ports to the page file that the words name, as many as a run in their order asks for.
+fn open_ports<R, O: Ports<R>>(
+    rt: &R,
+    ports: &mut O,
+    run: &RunWords<'_>,
+) -> Result<Vec<O::P>, Ending>
+    requires runnable { IsRunnable (told_of run.now) }
+    ensures count { IfOk result (λ opened. vec_len opened ≡ ports_for run.now.order) }
+    ensures opened { IfOk result (λ opened. AreOpened run.now.page_file.now run.now.page_size (map O.P.geometry_of opened.items)) }
+    ensures fault { IfErr result (λ ending. is_help ending ≡ false) }
+{
+    match ports.open(rt, run.page_file, run.page_size, ports_for(run.order)) {
+        Ok(opened) => Ok(opened),
+        Err(fault) => Err(ending_of(fault)),
+    }
+}
+
+/// Runs the rows in the order that the words name over the opened ports, and writes the report and the refused rows. Answers
+/// whether all rows were accepted.
+fn run_in_order<P: Port + Send, R: Threads + Wait + Sync, W: Write>(
+    rt: &R,
+    alloc: Global,
+    run: &RunWords<'_>,
+    ports: Vec<P>,
+    geometry: Geometry,
+    rows: Vec<Row>,
+    out: &mut W,
+) -> Result<bool, Ending>
+    requires runnable { IsRunnable (told_of run.now) }
+    requires ports { vec_len ports ≡ ports_for run.now.order }
+    requires alike { All (λ p. P.geometry_of p ≡ geometry) ports.items }
+    requires fits { All (IsInRange geometry) rows.items }
+    ensures reported { IfOk result (λ all_accepted. ReportsIn run.now.order (parameters_for run.now.order (told_of run.now) geometry rows.items) rows.items all_accepted (W.contents out.old) (W.contents out.new)) }
+    ensures fault { IfErr result (λ ending. is_help ending ≡ false) }
+{
+    let mut ports = ports;
+    match run.order {
+        Order::Trace => run_rows(rt, alloc, run, &mut ports[0], &rows, out),
+        Order::Free => run_free(rt, alloc, run, ports, geometry, rows, out),
+    }
+}
+
+/// Opens the page file, then reads the trace, and runs its rows. Answers whether all were accepted.
+///
+/// The trace is read whole first: where it has no script, nothing is written.
+fn run_told<R: Files + Threads + Wait + Sync, I: Read, O: Ports<R>, W: Write>(
+    rt: &R,
+    alloc: Global,
+    run: &RunWords<'_>,
+    reader: &mut I,
+    ports: &mut O,
+    out: &mut W,
+) -> Result<bool, Ending>
+    requires runnable { IsRunnable (told_of run.now) }
+    ensures ran { IfOk result (λ all_accepted. Runs (told_of run.now) (I.remaining reader.old) all_accepted (W.contents out.old) (W.contents out.new)) }
+    ensures fault { IfErr result (λ ending. is_help ending ≡ false) }
+{
+    let opened = match open_ports(rt, ports, run) {
+        Ok(opened) => opened,
+        Err(ending) => return Err(ending),
+    };
+    let geometry = opened[0].geometry();
+    let rows = match rows_of(rt, alloc, run.trace, reader, &geometry) {
+        Ok(rows) => rows,
+        Err(ending) => return Err(ending),
+    };
+    run_in_order(rt, alloc, run, opened, geometry, rows, out)
+}
+
+/// The status of a run: 0 where all rows were accepted, else 1.
+fn status_of_run(all_accepted: bool) -> u8
+    ensures { result ≡ (if all_accepted then 0 else 1) }
+{
+    if all_accepted { 0 } else { 1 }
+}
+
+/// Does what the words of the command line say, which leave out the program's name, and gives the status to end with.
+/// No words at all are those of the default run. It looks at the words first, then opens the page file by `ports`, and
+/// then reads the trace: from `reader` where its word is `stdin`, else from the file at that path. In the order `trace` it runs
+/// the rows one after the other; in the order `free` each client is a thread, which runs its own rows.
+///
+/// Status 0: help, or a run whose rows were all accepted. Status 1: a run with refused rows. Their report, and then the
+/// refused rows, are on `out`. Status 2: one line on `err` says why there is no report; nothing is on `out`, but where
+/// the line is `output failed`, which comes after whatever was written.
+pub fn run_with<R: Files + Threads + Wait + Sync, I: Read, O: Ports<R>, W: Write, E: Write>(
+    rt: &R,
+    alloc: Global,
+    words: &[&str],
+    reader: &mut I,
+    ports: &mut O,
+    out: &mut W,
+    err: &mut E,
+) -> u8
+    ensures reported { ¬ AsksForHelp (words_or_default (texts words.entry.now)) → result < 2
+        → RunsWords (words_or_default (texts words.entry.now)) (I.remaining reader.old) result (W.contents out.old) (W.contents out.new) }
+    ensures status { result ≤ 2 }
+{
+    let run = match decide(alloc, words) {
+        Ok(run) => run,
+        Err(ending) => return ending.finish(out, err),
+    };
+    match run_told(rt, alloc, &run, reader, ports, out) {
+        Ok(all_accepted) => status_of_run(all_accepted),
+        Err(ending) => ending.finish(out, err),
+    }
+}

@@ -1,0 +1,44 @@
+-- The core is cut, and its taker gets the piece.
+use Rattle.std.proofs.Common.{rules, ◌≡◌, refl, sym, ap, ◌∙◌, length, map}
+use Rattle.std.proofs.lemmas.List.{with_items_is}
+use Rattle.rtrb.specs.Ring.{received}
+use Rattle.bp_shared.specs.Rings.{ring_view}
+use Rattle.bp_shared.specs.Taking.{after_pieces}
+use Rattle.bp_shared.proofs.Taking.{one_more, handed_out, comes_next, still_locked}
+use Rattle.bp_shared.proofs.state.State.cut.Goals as goal
+
+pub invariant_of-self-2 : goal.invariant_of-self-2
+invariant_of-self-2 g c =
+    let cut = c.in-Ok.ensures.done in
+    let drained = c.drain_all.ensures in
+    let passed = c.pass_on.ensures in (
+      still_locked _ _ _ _ _ _ _ c.self.invariant.0 drained.parameters drained.durable cut,
+      handed_out _ _ _ _ c.in-Ok.entries _ c.drain_all.new.core c.cut_into.new.self c.self.invariant.1 drained.before cut passed.producer passed.emptied passed.sent,
+    )
+
+pub returns-clause-done : goal.returns-clause-done
+returns-clause-done g c =
+    let before = g.N.PoolName.before in
+    let drained = c.drain_all.ensures in
+    let passed = c.pass_on.ensures in
+    let len : length c.drain_all.new.consumers ≡ c.self.inside.consumers.len = search rules in
+    rw (← c.self.view_is) (rw (← c.taker.view_is) (rw passed.same (record {
+      mid = record { core = c.drain_all.new.core; rings = map ring_view c.drain_all.new.consumers; strays = c.drain_all.new.strays };
+      settled = record { parameters = drained.parameters; before = drained.before; drained = rw c.deref_mut.ensures.value at drained.drained };
+      cuts = c.in-Ok.ensures.done;
+      rings_stay = (ap (map ring_view) (with_items_is c.self.inside.consumers c.drain_all.new.consumers len), refl);
+      had_all = ap (after_pieces before) passed.all ∙ sym c.self.invariant.1.pieces_are;
+      takes = ap (after_pieces before) passed.received ∙ one_more before (received c.taker.inside.taken) c.in-Ok.entries;
+    })))
+
+pub returns-clause-next : goal.returns-clause-next
+returns-clause-next g c =
+    let before = g.N.PoolName.before in
+    let drained = c.drain_all.ensures in
+    let passed = c.pass_on.ensures in
+    let same = drained.parameters ∙ c.self.invariant.0.parameters_are in
+    let had = ap (after_pieces before) passed.all ∙ sym c.self.invariant.1.pieces_are ∙ sym drained.before in
+    let takes = ap (after_pieces before) passed.received ∙ one_more before (received c.taker.inside.taken) c.in-Ok.entries in
+    let entries = c.in-Ok.entries.items in
+    rw (← c.taker.view_is) (rw passed.same
+    (comes_next _ _ _ c.drain_all.new.core c.cut_into.new.self entries same had takes c.in-Ok.ensures.done))

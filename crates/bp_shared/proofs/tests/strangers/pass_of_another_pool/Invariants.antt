@@ -1,8 +1,0 @@
--- The pool that was just made.
-use Rattle.bp_shared.proofs.tests.strangers.pass_of_another_pool.Given as goal
-
-abbrev pub ghosts-stranger : goal.ghosts-stranger
-ghosts-stranger g a = record { mark = a.made.mark; parameters = a.made.core.parameters }
-
-abbrev pub ghosts-run_another_pools_pass : goal.ghosts-run_another_pools_pass
-ghosts-run_another_pools_pass g a = record { mark = a.made.mark; parameters = a.made.core.parameters }

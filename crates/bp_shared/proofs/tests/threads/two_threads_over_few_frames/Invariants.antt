@@ -1,5 +1,0 @@
--- The pool that was just made.
-use Rattle.bp_shared.proofs.tests.threads.two_threads_over_few_frames.Given as goal
-
-abbrev pub ghosts-see_together : goal.ghosts-see_together
-ghosts-see_together g a = record { mark = a.made.mark; parameters = a.made.core.parameters }

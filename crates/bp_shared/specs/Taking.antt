@@ -1,0 +1,67 @@
+-- The trail of a pool, as it is taken piece by piece.
+use Rattle.std.specs.Prelude.{◌≡◌, ℕ, List, [], ◌∷◌, ◌++◌, reverse}
+use Rattle.std.specs.declared.vec.Vec.{Vec}
+use denote.RawPtr.{Ptr, null_ptr}
+use Rattle.rtrb.specs.declared.producer.Producer.{Producer}
+use Rattle.rtrb.specs.declared.consumer.Consumer.{Consumer}
+use Rattle.rtrb.specs.Ring.{sent, known_free, producer_capacity}
+use Rattle.bp_trail.specs.declared.entries.Entry.{Entry}
+use Rattle.bp_trail.specs.Parameters.{Parameters}
+use Rattle.bp_trail.specs.Trail.{Trail}
+use Rattle.bp_trail.specs.Cuts.{LeadsOn}
+use Rattle.bp_trail.specs.Legal.{Legal}
+use Rattle.bp_trail.specs.Standing.{standing}
+use Rattle.bp_core.specs.CoreView.{CoreView}
+use Rattle.bp_core.specs.Outcomes.{Cuts}
+use Rattle.bp_shared.specs.Locked.{LockedValue, Settled}
+
+-- the name by which a ring is told from every other
+pub record RingName : Type 0 where
+  pub words : Ptr
+  pub slots : Ptr
+  pub names : ℕ × (ℕ × ℕ)
+
+-- the name of no ring
+abbrev pub no_ring : RingName
+no_ring = record { words = null_ptr; slots = null_ptr; names = (0, (0, 0)) }
+
+abbrev pub ring_of : {T A P : Type 0} → Producer T A P → RingName
+ring_of pieces = record { words = pieces.end.words; slots = pieces.end.slots; names = pieces.end.names }
+
+abbrev pub ring_at : {T A P : Type 0} → Consumer T A P → RingName
+ring_at taken = record { words = taken.end.words; slots = taken.end.slots; names = taken.end.names }
+
+-- no piece waits in the ring, which has room for one
+abbrev pub IsEmptied : {T A P : Type 0} → Producer T A P → Type 0
+IsEmptied pieces = (producer_capacity pieces ≡ 1) × (known_free pieces ≡ 1)
+
+-- the entries so far, newest first: those from before the pool, and those of the pieces that were taken
+pub record TakerValue : Type 0 where
+  pub past : Trail
+
+-- the entries of some pieces, each of which is in order, after those before them
+abbrev pub after_pieces : {A : Type 0} → Trail → List (Vec Entry A) → Trail
+after_pieces before [] = before
+after_pieces before (piece ∷ pieces) = after_pieces (reverse piece.items ++ before) pieces
+
+-- what the core handed out went through the ring, in order
+pub record IsHandedOut {A B P : Type 0} (ring : RingName) (before : Trail) (pieces : Producer (Vec Entry A) B P)
+    (core : CoreView) : Type 0 where
+  pub ring_is : ring_of pieces ≡ ring
+  pub emptied : IsEmptied pieces
+  pub pieces_are : core.before ≡ after_pieces before (sent pieces)
+
+-- the piece comes next: it goes on lawfully from where those before it led
+pub record ComesNext (c : Parameters) (had : TakerValue) (entries : List Entry) (has : TakerValue) : Type 0 where
+  pub joins : has.past ≡ reverse entries ++ had.past
+  pub leads_on : LeadsOn c (standing c had.past) (reverse entries) (standing c has.past)
+  pub legal : Legal c has.past
+
+-- the rings were drained, then the core was cut; and its taker, which had all that was handed out, got exactly that piece
+pub record HandsOut (old : LockedValue) (had : TakerValue) (entries : List Entry) (new : LockedValue) (has : TakerValue) : Type 0 where
+  pub mid : LockedValue
+  pub settled : Settled old mid
+  pub cuts : Cuts mid.core entries new.core
+  pub rings_stay : (new.rings ≡ mid.rings) × (new.strays ≡ mid.strays)
+  pub had_all : had.past ≡ old.core.before
+  pub takes : has.past ≡ reverse entries ++ had.past

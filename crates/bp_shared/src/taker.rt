@@ -1,0 +1,43 @@
+//! The one who takes a pool's trail, piece by piece.
+use crate::names::PoolName;
+use bp_core::Entry;
+use rtrb::Consumer;
+use std::alloc::Global;
+use std::marker::{Model, PhantomData};
+
+/// The one who takes a pool's trail: each piece that it is handed goes on from the one before. Each pool has exactly one.
+#[derive(Drop)]
+pub struct Taker<N: PoolName> {
+    pub(crate) taken: Consumer<Vec<Entry>>,
+    pub(crate) of: PhantomData<N>,
+}
+
+impl<N: PoolName> Model for Taker<N> {
+    ghost use Rattle.std.specs.Prelude.{◌≡◌};
+    ghost use Rattle.rtrb.specs.Ring.{received};
+    ghost use Rattle.bp_shared.specs.Taking.{TakerValue, after_pieces, ring_at};
+
+    ghost Value = { TakerValue };
+
+    ghost view = { λ t. record { past = after_pieces N.before (received t.taken) } };
+
+    ghost invariant = { λ t. ring_at t.taken ≡ N.ring };
+}
+
+impl<N: PoolName> Taker<N> {
+    ghost use Rattle.std.specs.Prelude.{◌≡◌, []};
+    ghost use Rattle.rtrb.specs.Ring.{received};
+    ghost use Rattle.bp_shared.specs.Taking.{ring_at};
+
+    /// The taker of a pool that handed out nothing yet.
+    pub(crate) fn new(taken: Consumer<Vec<Entry>>) -> Taker<N>
+        requires ring { ring_at taken ≡ N.ring }
+        requires unused { received taken ≡ [] }
+        ensures { result.past ≡ N.before }
+    {
+        Taker {
+            taken,
+            of: PhantomData,
+        }
+    }
+}

@@ -1,0 +1,8 @@
+use Rattle.bp_trail.proofs.Cuts.{pieces-joined, reads-since}
+use Rattle.bp_trail.proofs.laws.pieces_are_one_legal_trail.Goals as goal
+
+pub returns-clause-joined : goal.returns-clause-joined
+returns-clause-joined c = pieces-joined
+
+pub returns-clause-reads : goal.returns-clause-reads
+returns-clause-reads c = λ q opening trail legal h p m images honest. reads-since q m h trail (legal h p) images honest

@@ -1,0 +1,47 @@
+-- A trail that is handed out piece by piece: each piece opens where the ones before it led.
+use Rattle.std.specs.Prelude.{◌≡◌, ℕ, true, List, [], ◌∷◌, ◌++◌}
+use Rattle.bp_trail.specs.declared.entries.Entry.{Entry}
+use Rattle.bp_trail.specs.declared.entries.Call.TheVariants.{Read}
+use Rattle.bp_trail.specs.declared.entries.Reply.TheVariants.{Content}
+use Rattle.bp_trail.specs.Parameters.{Parameters}
+use Rattle.bp_trail.specs.Lists.{EachEntry}
+use Rattle.bp_trail.specs.Trail.{Trail}
+use Rattle.bp_trail.specs.Places.{resident}
+use Rattle.bp_trail.specs.Images.{held, plain_map}
+use Rattle.bp_trail.specs.Legal.{Legal}
+use Rattle.bp_trail.specs.Device.{Honest}
+use Rattle.bp_trail.specs.Standing.{Standing, standing}
+
+-- h may be what came before a trail that opens from this standing
+pub record Precedes (c : Parameters) (opening : Standing) (h : Trail) : Type 0 where
+  pub legal : Legal c h
+  pub leads_to : standing c h ≡ opening
+
+-- P of the trail with each history before it that it may have
+abbrev pub AfterEach : Parameters → Standing → Trail → (Trail → Type 0) → Type 0
+AfterEach c opening trail P = (h : Trail) → Precedes c opening h → P (trail ++ h)
+
+-- what the trail opens from, it goes on from lawfully, and leads to the next standing
+abbrev pub LeadsOn : Parameters → Standing → Trail → Standing → Type 0
+LeadsOn c opening trail next = AfterEach c opening trail (Precedes c next)
+
+-- pieces of a trail, the newest first, each with the standing that it opens from: that where the one before it led, and the first that of no entries
+pub record Piece : Type 0 where
+  pub opening : Standing
+  pub trail : Trail
+
+abbrev pub Chained : Parameters → List Piece → Standing → Type 0
+Chained c [] next = next ≡ standing c []
+Chained c (piece ∷ older) next = record { here : LeadsOn c piece.opening piece.trail next; before : Chained c older piece.opening }
+
+abbrev pub joined : List Piece → Trail
+joined [] = []
+joined (piece ∷ older) = piece.trail ++ joined older
+
+-- a read answers the image of the plain map
+abbrev pub AnswersBy : (ℕ → List ℕ) → Trail → Entry → Type 0
+AnswersBy m past e = (n p : ℕ) (image : List ℕ) → e.call ≡ Read n p → e.reply ≡ Content image → image ≡ plain_map m past p
+
+-- each read since answers by each plain map that begins with the images held at the opening, over a device that was honest since
+abbrev pub ReadsSince : Parameters → Standing → Trail → Type 0
+ReadsSince c opening trail = (h : Trail) → Precedes c opening h → (m : ℕ → List ℕ) → ((p : ℕ) → resident h p ≡ true → m p ≡ held h p) → Honest m trail → EachEntry (AnswersBy m) trail

@@ -1,0 +1,326 @@
+-- Words in which clap finds no fault name a run.
+use Rattle.std.proofs.Common.{◌≡◌, ◌∙◌, ℕ, ◌≤◌, ◌^◌, ◌&&◌, ◌||◌, ◌⊎◌, inl, inr, not, nat_le, nat_lt, if◌then◌else◌, cond, true, false, Bool, codes, ap, ap₂, refl, sym, subst, List, [], ◌∷◌, Option, Some, None, is_some, option_map}
+use Rattle.std.proofs.lemmas.Slice.Eq.{bytes_eq-Decides}
+use Rattle.std.proofs.lemmas.Bool.{leb-true}
+use Rattle.std.specs.List.{filter, find, list_any}
+use Rattle.std.specs.Option.{option_map_or}
+use Rattle.std.specs.Str.{bytes_eq}
+use Rattle.std.specs.Str.Parse.{digits_value, without_leading_plus}
+use Rattle.clap.specs.Facts.{explicit_source}
+use Rattle.clap.specs.Kinds.{HasKind, IsAmong, Kinds, or_else}
+use Rattle.clap.specs.Faults.{check_fault, defaults_fault, entered_fault, fault_of, level_fault, settle_fault, walk_fault}
+use Rattle.clap.specs.declared.parser.matches.ArgMatches.{ArgMatches}
+use Rattle.clap.specs.Simple.{App, HasMatchesOf, Shape, is_simple, subcommand_rows_of, built, built_leaf, entered, inherited, marked_built, names_of, on_top, rows_at, subcommand_of, with_index, with_leaf_noted, filled as filled_rule, help_shape}
+use Rattle.clap.specs.Takes.{is_given, value_passes}
+use Rattle.clap.specs.ValueTests.{is_numeral}
+use Rattle.clap.specs.Values.{kind_of, read_as}
+use Rattle.clap.specs.Walk.{Row, Rule, Text, answers_to, finished, first_of, has_row, is_empty, nothing_held, one_of, reading_by, settled, stop_after, walk, walk_from}
+use Rattle.clap.specs.declared.builder.value_parser.ValueParser.TheVariants as parser
+use Rattle.clap.specs.declared.error.Error.{Error}
+use Rattle.clap.specs.declared.error.kind.ErrorKind.{ErrorKind}
+use Rattle.clap.specs.declared.error.kind.ErrorKind.TheVariants.{InvalidValue, MissingRequiredArgument}
+use Rattle.clap.proofs.WalkLemmas.{both}
+use Rattle.bp_words.specs.Command.{bpool_app, number_option, positional as positional_rule, run_shape}
+use Rattle.bp_words.specs.declared.words.Order.{Order}
+use Rattle.bp_words.specs.Words.{IsInLimits, Told, ◌>>=◌, fault_in, number_at, order_at, order_fault, told_by, told_by_rows, told_in, trace_of}
+use Rattle.bp_words.proofs.Entering.{NotHelp, walk_not_help}
+use Rattle.bp_words.proofs.Fits.{AllFit, Fits, IsOf, or_else-nil}
+use Rattle.bp_words.proofs.Level.{IsFilled, has_default, level_filled}
+
+-- ---- one argument
+
+abbrev pub named : Text → List Rule → List Rule
+named id = filter (λ a. bytes_eq a.id id)
+
+fits_named : (id : Text) (c : List Rule) (r : Row) → Fits c r → r.id ≡ id → Fits (named id c) r
+fits_named id [] r fits same = fits
+fits_named id (a ∷ rest) r fits same = go (bytes_eq a.id id) refl fits (λ f. fits_named id rest r f same)
+  where
+    go : (b : Bool) → bytes_eq a.id id ≡ b → IsOf a r ⊎ Fits rest r → (Fits rest r → Fits (named id rest) r) → Fits (cond b (a ∷ named id rest) (named id rest)) r
+    go true e (inl is) later = inl is
+    go true e (inr f) later = inr (later f)
+    go false e (inl is) later = let bad : bytes_eq a.id id ≡ true = (bytes_eq-Decides a.id id).1 (sym is.id ∙ same) in cc
+    go false e (inr f) later = later f
+
+row_at : (id : Text) (c : List Rule) (rows : List Row) → AllFit c rows → has_row id rows ≡ true
+    → (r : Row) × (find (λ r. bytes_eq r.id id) rows ≡ Some r) × Fits (named id c) r
+row_at id c [] fit e = cc
+row_at id c (r ∷ rows) fit e = go (bytes_eq r.id id) refl e (row_at id c rows fit.1)
+  where
+    go : (b : Bool) → bytes_eq r.id id ≡ b → b || has_row id rows ≡ true
+        → (has_row id rows ≡ true → (q : Row) × (find (λ r. bytes_eq r.id id) rows ≡ Some q) × Fits (named id c) q)
+        → (q : Row) × (cond b (Some r) (find (λ r. bytes_eq r.id id) rows) ≡ Some q) × Fits (named id c) q
+    go true is e later = (r, refl, fits_named id c r fit.0 ((bytes_eq-Decides r.id id).0 is))
+    go false is e later = later e
+
+-- what the getters read of an argument
+record IsRead (id : Text) (a : Rule) (rows : List Row) : Type 0 where
+  word : Text
+  as_text : first_of id rows ≡ Some word
+  as_value : one_of id rows ≡ Some (read_as (reading_by a) word)
+  passes : value_passes a word ≡ true
+
+argument_read : (id : Text) (c : List Rule) (a : Rule) (rows : List Row) → named id c ≡ a ∷ [] → AllFit c rows → has_row id rows ≡ true → IsRead id a rows
+argument_read id c a rows only fit has = go (row_at id c rows fit has)
+  where
+    of_one : (r : Row) → find (λ r. bytes_eq r.id id) rows ≡ Some r → IsOf a r ⊎ ⊥ → IsRead id a rows
+    of_one r found (inl is) = record {
+      word = is.first;
+      as_text = rw (found, is.values) refl;
+      as_value = rw (found, is.values, is.reading) refl;
+      passes = is.passes;
+    }
+    of_one r found (inr none) = absurd none
+
+    go : (r : Row) × (find (λ r. bytes_eq r.id id) rows ≡ Some r) × Fits (named id c) r → IsRead id a rows
+    go p = of_one p.0 p.1 (subst (λ (l : List Rule). Fits l p.0) only p.2)
+
+-- a number from low to high
+record IsNumber (id : Text) (low high : ℕ) (rows : List Row) : Type 0 where
+  number : ℕ
+  is : number_at id rows ≡ Some number
+  at_least : low ≤ number
+  at_most : number ≤ high
+
+number_read : (id : Text) (low high : ℕ) (a : Rule) (rows : List Row) → a.parser ≡ Some (parser.Unsigned low high) → IsRead id a rows → IsNumber id low high rows
+number_read id low high a rows parses read = record {
+  number = value;
+  is = rw read.as_value (rw parses (rw (numeral.0, fits.0) refl));
+  at_least = leb-true low value range.0;
+  at_most = leb-true value high range.1;
+}
+  where
+    value : ℕ
+    value = digits_value 10 (without_leading_plus read.word)
+
+    passed : is_numeral (without_leading_plus read.word) && (nat_lt value (2 ^ 64) && (nat_le low value && nat_le value high)) ≡ true
+    passed = rw parses at read.passes
+
+    numeral : (is_numeral (without_leading_plus read.word) ≡ true) × (nat_lt value (2 ^ 64) && (nat_le low value && nat_le value high) ≡ true)
+    numeral = both _ _ passed
+
+    fits : (nat_lt value (2 ^ 64) ≡ true) × (nat_le low value && nat_le value high ≡ true)
+    fits = both _ _ numeral.1
+
+    range : (nat_le low value ≡ true) × (nat_le value high ≡ true)
+    range = both _ _ fits.1
+
+-- ---- the arguments of a run
+
+-- the command `run`, built below the command of the program
+abbrev pub run_built : Shape
+run_built = built_leaf (inherited (on_top with_leaf_noted (on_top marked_built bpool_app)).top run_shape)
+
+given_has : (id : Text) (rows : List Row) → is_given id rows ≡ true → has_row id rows ≡ true
+given_has id [] e = cc
+given_has id (r ∷ rows) e = go (bytes_eq r.id id) e (given_has id rows)
+  where
+    go : (b : Bool) → option_map_or (λ r. explicit_source r.source) (cond b (Some r) (find (λ r. bytes_eq r.id id) rows)) false ≡ true
+        → (is_given id rows ≡ true → has_row id rows ≡ true) → b || has_row id rows ≡ true
+    go true e later = refl
+    go false e later = later e
+
+-- the rules of a run as building fills them in
+abbrev trace_rule : Rule
+trace_rule = with_index 1 (filled_rule (positional_rule (codes "trace")))
+
+abbrev page_file_rule : Rule
+page_file_rule = with_index 2 (filled_rule (positional_rule (codes "page-file")))
+
+abbrev option_rule : Text → ℕ → ℕ → Text → Rule
+option_rule id low high default = filled_rule (number_option id low high default)
+
+-- the words that a run needs are there
+both_given : (g h : Bool) → (if not g || (not h || false) then MissingRequiredArgument ∷ [] else []) ≡ [] → (g ≡ true) × (h ≡ true)
+both_given true true e = (refl, refl)
+both_given true false e = cc
+both_given false h e = cc
+
+-- what the rows tell a run in either order
+record Tells (rows : List Row) : Type 0 where
+  told : Order → Told
+  tells : told_by_rows rows ≡ option_map told (order_at rows)
+  limits : (order : Order) → IsInLimits (told order)
+
+last_bound : {A B : Type 0} (f : A → B) (o : Option A) → (o >>= λ x. Some (f x)) ≡ option_map f o
+last_bound f None = refl
+last_bound f (Some x) = refl
+
+rows_tell : (rows : List Row) → IsFilled run_built rows → Tells rows
+rows_tell rows filled = record {
+  told = told_in_order;
+  tells = rw (trace.as_text, pages.as_text, frames.is, k.is, correlated.is, retained.is, size.is) (last_bound told_in_order (order_at rows));
+  limits = λ order. record {
+    some_frames = frames.at_least;
+    few_frames = frames.at_most;
+    settings = record { at_least_one = k.at_least; at_most_sixteen = k.at_most; correlated_fits = correlated.at_most; retained_fits = retained.at_most };
+    some_bytes = size.at_least;
+    few_bytes = size.at_most;
+  };
+}
+  where
+    given : (is_given (codes "trace") rows ≡ true) × (is_given (codes "page-file") rows ≡ true)
+    given = both_given (is_given (codes "trace") rows) (is_given (codes "page-file") rows) filled.checked
+
+    trace : IsRead (codes "trace") (trace_rule) rows
+    trace = argument_read (codes "trace") run_built.rules trace_rule rows refl filled.fits (given_has (codes "trace") rows given.0)
+
+    pages : IsRead (codes "page-file") (page_file_rule) rows
+    pages = argument_read (codes "page-file") run_built.rules page_file_rule rows refl filled.fits (given_has (codes "page-file") rows given.1)
+
+    option_read : (id : Text) (low high : ℕ) (default : Text) → named id run_built.rules ≡ option_rule id low high default ∷ []
+        → list_any (has_default id) run_built.rules ≡ true → IsNumber id low high rows
+    option_read id low high default only there =
+        number_read id low high (option_rule id low high default) rows refl (argument_read id run_built.rules (option_rule id low high default) rows only filled.fits (filled.defaults id there))
+
+    frames : IsNumber (codes "frames") 1 65536 rows
+    frames = option_read (codes "frames") 1 65536 (codes "8") refl refl
+
+    k : IsNumber (codes "k") 1 16 rows
+    k = option_read (codes "k") 1 16 (codes "2") refl refl
+
+    correlated : IsNumber (codes "correlated") 0 4611686018427387904 rows
+    correlated = option_read (codes "correlated") 0 4611686018427387904 (codes "0") refl refl
+
+    retained : IsNumber (codes "retained") 0 4611686018427387904 rows
+    retained = option_read (codes "retained") 0 4611686018427387904 (codes "1000") refl refl
+
+    size : IsNumber (codes "page-size") 16 65536 rows
+    size = option_read (codes "page-size") 16 65536 (codes "64") refl refl
+
+    told_in_order : Order → Told
+    told_in_order order = record {
+      trace = trace_of trace.word;
+      page_file = pages.word;
+      frames = frames.number;
+      k = k.number;
+      correlated = correlated.number;
+      retained = retained.number;
+      size = size.number;
+      order = order;
+    }
+
+-- ---- the words
+
+entered_one : (rows : List Row) (entered : Bool) → check_fault (built bpool_app).top rows entered ≡ [] → entered ≡ true
+entered_one rows true e = refl
+entered_one rows false e = cc
+
+-- the subcommand that was met is `run`, and its words have no fault
+record IsRun (stop : Option (Text × List Text)) : Type 0 where
+  words : List Text
+  met : entered (built bpool_app) stop ≡ Some (rows_at run_built words)
+  fault : level_fault run_built [] nothing_held words false [] ≡ []
+
+run_entered : (stop : Option (Text × List Text)) → NotHelp stop → is_some (entered (built bpool_app) stop) ≡ true → entered_fault (built bpool_app) stop ≡ [] → IsRun stop
+run_entered None other e fault = cc
+run_entered (Some p) other e fault = go (answers_to p.0 (codes "run", [])) (answers_to p.0 (codes "help", [])) refl (not_help (bytes_eq (codes "help") p.0) refl) e fault
+  where
+    not_help : (b : Bool) → bytes_eq (codes "help") p.0 ≡ b → b || false ≡ false
+    not_help true e =
+        let same : codes "help" ≡ p.0 = (bytes_eq-Decides (codes "help") p.0).0 e in
+        let bad : bytes_eq p.0 (codes "help") ≡ true = (bytes_eq-Decides p.0 (codes "help")).1 (sym same) in
+        cc
+    not_help false e = refl
+
+    help_built : Shape
+    help_built = built_leaf help_shape
+
+    go : (run help : Bool) → answers_to p.0 (codes "run", []) ≡ run → help ≡ false
+        → is_some (option_map (λ s. rows_at s p.1) (cond run (Some run_built) (cond help (Some help_built) None))) ≡ true
+        → option_map_or (λ s. level_fault s [] nothing_held p.1 false []) (cond run (Some run_built) (cond help (Some help_built) None)) [] ≡ []
+        → IsRun (Some p)
+    go true help is other e fault = record { words = p.1; met = rw is refl; fault = fault }
+    go false true is other e fault = cc
+    go false false is other e fault = cc
+
+-- what words in which clap finds no fault tell a run in the order that they name, if they name one
+record IsAccepted (words : List Text) : Type 0 where
+  order : Option Order
+  told : Order → Told
+  tells : told_in (subcommand_of bpool_app words) ≡ option_map told order
+  limits : (o : Order) → IsInLimits (told o)
+  fault : order_fault (subcommand_of bpool_app words) ≡ (if is_some order then [] else InvalidValue ∷ [])
+
+run_tells : (words : List Text) (run : IsRun (stop_after (built bpool_app).top.rules (names_of (built bpool_app)) words))
+    → Tells (finished run_built.rules (walk run_built.rules [] nothing_held run.words).held) → IsAccepted words
+run_tells words run told =
+    let met : told_in (subcommand_of bpool_app words) ≡ told_in (Some (rows_at run_built run.words)) = ap told_in run.met in
+    let named : order_fault (subcommand_of bpool_app words) ≡ order_fault (Some (rows_at run_built run.words)) = ap order_fault run.met in
+    record { order = order_at (finished run_built.rules (walk run_built.rules [] nothing_held run.words).held); told = told.told; tells = met ∙ told.tells; limits = told.limits; fault = named }
+
+-- words in which clap finds no fault
+accepted : (words : List Text) → fault_of bpool_app words ≡ [] → IsAccepted words
+accepted words fault =
+    let top = (built bpool_app).top in
+    let names = names_of (built bpool_app) in
+    let stop = stop_after top.rules names words in
+    let end = (walk top.rules names nothing_held words).held in
+    let has = is_some (entered (built bpool_app) stop) in
+    let walked = or_else-nil (walk_fault top names (walk_from nothing_held) words) _ fault in
+    let below = or_else-nil (entered_fault (built bpool_app) stop) _ walked.1 in
+    let settles = or_else-nil (settle_fault top.rules top.args_override_self end) _ below.1 in
+    let filled = or_else-nil (defaults_fault (settled top.rules end).rows top.rules) (check_fault top (finished top.rules end) has) settles.1 in
+    let run = run_entered stop (walk_not_help top names (walk_from nothing_held) words refl walked.0 tt) (entered_one (finished top.rules end) has filled.1) below.0 in
+    run_tells words run (rows_tell _ (level_filled run_built run.words refl run.fault))
+
+-- what the matches of such words tell, where they name an order
+pub record IsTold (words : List Text) (m : ArgMatches) : Type 0 where
+  pub told : Told
+  pub by_matches : told_in (subcommand_rows_of m) ≡ Some told
+  pub by_words : told_by words ≡ Some told
+  pub limits : IsInLimits told
+  pub fault : fault_in words ≡ []
+
+-- and where they name none
+pub record IsUntold (words : List Text) (m : ArgMatches) : Type 0 where
+  pub by_matches : told_in (subcommand_rows_of m) ≡ None
+  pub fault : fault_in words ≡ InvalidValue ∷ []
+
+pub matches_told : (app : App) (words : List Text) (m : ArgMatches) → app ≡ bpool_app → HasMatchesOf app words m → fault_of app words ≡ [] → IsTold words m ⊎ IsUntold words m
+matches_told app words m same matches fault = go found.order found.tells found.fault
+  where
+    none : fault_of bpool_app words ≡ []
+    none = ap (λ (a : App). fault_of a words) (sym same) ∙ fault
+
+    found : IsAccepted words
+    found = accepted words none
+
+    met : subcommand_rows_of m ≡ subcommand_of bpool_app words
+    met = (matches (ap is_simple same)).1 ∙ ap (λ (a : App). subcommand_of a words) same
+
+    go : (order : Option Order) → told_in (subcommand_of bpool_app words) ≡ option_map found.told order
+        → order_fault (subcommand_of bpool_app words) ≡ (if is_some order then [] else InvalidValue ∷ []) → IsTold words m ⊎ IsUntold words m
+    go (Some order) tells names =
+        let no_fault : fault_in words ≡ [] = ap₂ or_else none names in
+        inl (record {
+          told = found.told order;
+          by_matches = ap told_in met ∙ tells;
+          by_words = ap (λ (kinds : Kinds). if is_empty kinds then told_in (subcommand_of bpool_app words) else None) no_fault ∙ tells;
+          limits = found.limits order;
+          fault = no_fault;
+        })
+    go None tells names = inr (record { by_matches = ap told_in met ∙ tells; fault = ap₂ or_else none names })
+
+-- a run that is told is that of the words
+pub run_is : {X : Type 0} (told_as : X → Told) (x : X) (words : List Text) (m : ArgMatches) → IsTold words m ⊎ IsUntold words m → Some (told_as x) ≡ told_in (subcommand_rows_of m)
+    → (told_by words ≡ Some (told_as x)) × IsInLimits (told_as x) × (fault_in words ≡ [])
+run_is told_as x words m (inl told) is =
+    let same : told.told ≡ told_as x = (let both : Some (told_as x) ≡ Some told.told = is ∙ told.by_matches in cc) in
+    (told.by_words ∙ ap Some same, subst IsInLimits same told.limits, told.fault)
+run_is told_as x words m (inr untold) is = let bad : Some (told_as x) ≡ None = is ∙ untold.by_matches in cc
+
+-- where none is told the order is at fault
+pub no_order_is : (words : List Text) (m : ArgMatches) (e : Error) → IsTold words m ⊎ IsUntold words m → None ≡ told_in (subcommand_rows_of m) → kind_of e ≡ InvalidValue → HasKind (fault_in words) e
+no_order_is words m e (inl told) is kind = let bad : None ≡ Some told.told = is ∙ told.by_matches in cc
+no_order_is words m e (inr untold) is kind = inr (subst (IsAmong (kind_of e)) (sym untold.fault) (inl kind))
+
+among_either : (kind : ErrorKind) (first next : Kinds) → IsAmong kind first → IsAmong kind (or_else first next)
+among_either kind [] next among = absurd among
+among_either kind (k ∷ ks) next among = among
+
+-- a fault of clap's is one of the words
+pub clap_faults : (app : App) (words : List Text) (e : Error) → app ≡ bpool_app → HasKind (fault_of app words) e → HasKind (fault_in words) e
+clap_faults app words e same (inl memory) = inl memory
+clap_faults app words e same (inr among) =
+    inr (among_either (kind_of e) (fault_of bpool_app words) (order_fault (subcommand_of bpool_app words)) (subst (λ (a : App). IsAmong (kind_of e) (fault_of a words)) same among))

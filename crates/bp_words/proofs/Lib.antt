@@ -1,0 +1,10 @@
+pub mod Accepted
+pub mod Building
+pub mod Entering
+pub mod Fits
+pub mod Level
+pub mod Messages
+pub mod OneLine
+pub mod Reading
+pub mod Refusals
+pub mod Walking

@@ -1,0 +1,31 @@
+use Rattle.std.proofs.Common.{refl}
+use Rattle.clap.proofs.OnLiterals.{clap_on_literals}
+use Rattle.bp_words.proofs.laws.words_by_example.Goals as goal
+
+pub returns-clause-none : goal.returns-clause-none
+unfolding clap_on_literals
+returns-clause-none c = refl
+
+pub returns-clause-defaults : goal.returns-clause-defaults
+unfolding clap_on_literals
+returns-clause-defaults c = refl
+
+pub returns-clause-all : goal.returns-clause-all
+unfolding clap_on_literals
+returns-clause-all c = refl
+
+pub returns-clause-out_of_range : goal.returns-clause-out_of_range
+unfolding clap_on_literals
+returns-clause-out_of_range c = refl
+
+pub returns-clause-unknown : goal.returns-clause-unknown
+unfolding clap_on_literals
+returns-clause-unknown c = refl
+
+pub returns-clause-no_order : goal.returns-clause-no_order
+unfolding clap_on_literals
+returns-clause-no_order c = refl
+
+pub returns-clause-help : goal.returns-clause-help
+unfolding clap_on_literals
+returns-clause-help c = refl

@@ -1,0 +1,6 @@
+-- What the words of a command line name, and what is said where they make no run.
+pub mod Command
+pub mod Words
+pub mod Line
+pub mod Ending
+pub mod Decision

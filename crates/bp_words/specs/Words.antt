@@ -1,0 +1,118 @@
+-- What the words of a command line name, in clap's own words.
+use Rattle.std.specs.Prelude.{ℕ, ◌^◌, ◌&&◌, ◌≤◌, nat_lt, if◌then◌else◌, List, [], ◌∷◌, codes, Option, Some, None, is_some}
+use Rattle.std.specs.Str.{bytes_eq}
+use Rattle.std.specs.Str.Parse.{digits_value, without_leading_plus}
+use Rattle.clap.specs.Walk.{is_empty}
+use Rattle.clap.specs.ValueTests.{is_numeral}
+use Rattle.clap.specs.Kinds.{or_else}
+use Rattle.clap.specs.Words.{Kinds, Row, Text, fault_of, first_of, one_of, subcommand_of}
+use Rattle.clap.specs.declared.error.kind.ErrorKind.TheVariants.{InvalidValue}
+use Rattle.bp_lruk.specs.Limits.{IsWithinLimits}
+use Rattle.bp_words.specs.Command.{bpool_app}
+use Rattle.bp_words.specs.declared.words.Order.{Order}
+use Rattle.bp_words.specs.declared.words.Order.TheVariants as order
+use Rattle.bp_words.specs.declared.words.TraceSource.{TraceSource}
+use Rattle.bp_words.specs.declared.words.TraceSource.TheVariants as trace_source
+use Rattle.bp_words.specs.declared.words.RunWords.{RunWords}
+
+-- where a run reads its trace
+pub data TraceAt : Type 0 where
+  from_stdin : TraceAt
+  at_path : Text → TraceAt
+
+-- what a run is told
+pub record Told : Type 0 where
+  pub trace : TraceAt
+  pub page_file : Text
+  pub frames : ℕ
+  pub k : ℕ
+  pub correlated : ℕ
+  pub retained : ℕ
+  pub size : ℕ
+  pub order : Order
+
+-- ---- one word
+
+abbrev pub trace_of : Text → TraceAt
+trace_of word = if bytes_eq word (codes "stdin") then from_stdin else at_path word
+
+-- the order that a word names
+abbrev pub order_of : Text → Option Order
+order_of word = if bytes_eq word (codes "trace") then Some order.Trace else if bytes_eq word (codes "free") then Some order.Free else None
+
+-- the number that `u64` reads from a text: digits, where a plus may stand before them
+abbrev pub unsigned_of : Text → Option ℕ
+unsigned_of text =
+    let digits = without_leading_plus text in
+    if is_numeral digits && nat_lt (digits_value 10 digits) (2 ^ 64) then Some (digits_value 10 digits) else None
+
+-- ---- all of them
+
+infixl 10 ◌>>=◌
+abbrev pub ◌>>=◌ : {A B : Type 0} → Option A → (A → Option B) → Option B
+None >>= f = None
+(Some x) >>= f = f x
+
+-- the number of an option
+abbrev pub number_at : Text → List Row → Option ℕ
+number_at id rows = one_of id rows >>= unsigned_of
+
+-- the order that a run's own rows name
+abbrev pub order_at : List Row → Option Order
+order_at rows = first_of (codes "order") rows >>= order_of
+
+-- what a run's own rows tell it
+abbrev pub told_by_rows : List Row → Option Told
+told_by_rows rows = do
+  trace ← first_of (codes "trace") rows
+  page_file ← first_of (codes "page-file") rows
+  frames ← number_at (codes "frames") rows
+  k ← number_at (codes "k") rows
+  correlated ← number_at (codes "correlated") rows
+  retained ← number_at (codes "retained") rows
+  size ← number_at (codes "page-size") rows
+  order ← order_at rows
+  Some (record { trace = trace_of trace; page_file = page_file; frames = frames; k = k; correlated = correlated; retained = retained; size = size; order = order })
+
+-- what the subcommand that was met is told, where it is `run`
+abbrev pub told_in : Option (Text × List Row) → Option Told
+told_in None = None
+told_in (Some met) = if bytes_eq met.0 (codes "run") then told_by_rows met.1 else None
+
+-- a run's own rows name no order
+abbrev pub order_fault : Option (Text × List Row) → Kinds
+order_fault None = []
+order_fault (Some met) = if is_some (order_at met.1) then [] else InvalidValue ∷ []
+
+-- the first fault of the words: clap's, and else that of an option whose word is no order
+abbrev pub fault_in : List Text → Kinds
+fault_in words = or_else (fault_of bpool_app words) (order_fault (subcommand_of bpool_app words))
+
+-- what the words tell a run, where they have no fault
+abbrev pub told_by : List Text → Option Told
+told_by words = if is_empty (fault_in words) then told_in (subcommand_of bpool_app words) else None
+
+-- the numbers are in the limits of the options
+pub record IsInLimits (told : Told) : Type 0 where
+  pub some_frames : 1 ≤ told.frames
+  pub few_frames : told.frames ≤ 65536
+  pub settings : IsWithinLimits told.k told.correlated told.retained
+  pub some_bytes : 16 ≤ told.size
+  pub few_bytes : told.size ≤ 65536
+
+-- no words at all act as these
+abbrev pub default_words : List Text
+default_words = codes "run" ∷ codes "stdin" ∷ codes "mem:16" ∷ codes "--frames" ∷ codes "2" ∷ codes "--k" ∷ codes "1" ∷ []
+
+abbrev pub words_or_default : List Text → List Text
+words_or_default [] = default_words
+words_or_default (word ∷ words) = word ∷ words
+
+-- ---- the values of the code
+
+abbrev pub trace_told : TraceSource → TraceAt
+trace_told trace_source.Stdin = from_stdin
+trace_told (trace_source.Path path) = at_path path.now
+
+abbrev pub told_of : RunWords → Told
+told_of w = record { trace = trace_told w.trace; page_file = w.page_file.now; frames = w.frames; k = w.k; correlated = w.correlated; retained = w.retained; size = w.page_size; order = w.order }

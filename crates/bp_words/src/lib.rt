@@ -1,0 +1,15 @@
+//! The command line of the program: its words, their defaults and limits, its help, and how the program ends where it makes no
+//! report.
+#![tactic(auto)]
+
+mod command;
+mod decision;
+mod ending;
+pub mod laws;
+mod line;
+mod words;
+
+pub use decision::decide;
+pub use ending::Ending;
+pub use line::Line;
+pub use words::{Order, RunWords, TraceSource};

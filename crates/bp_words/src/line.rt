@@ -1,0 +1,56 @@
+//! A text as one line.
+ghost use Rattle.std.specs.Prelude.{◌≡◌, IfOk, string_bytes, true, map};
+ghost use Rattle.bp_words.specs.Line.{is_line};
+ghost use Rattle.bp_words.specs.Line as spec;
+
+use std::alloc::{AllocError, Global};
+
+/// A line without the white space at its start.
+fn unindented(line: &str) -> &str
+    ensures { result.now ≡ spec.unindented line.now }
+{
+    line.trim_ascii_start()
+}
+
+/// The lines of a text before the first blank one.
+fn first_lines<'a>(alloc: Global, text: &'a str) -> Result<Vec<&'a str>, AllocError>
+    ensures { IfOk result (λ lines. map (λ line. line.now) lines.items ≡ spec.first_lines text.entry.now) }
+{
+    text.lines()
+        .map(unindented)
+        .take_while(|line| !line.is_empty())
+        .collect(alloc)
+}
+
+/// The first paragraph of a text, as one line.
+fn first_paragraph(alloc: Global, text: &str) -> Result<String, AllocError>
+    ensures { IfOk result (λ line. string_bytes line ≡ spec.first_paragraph text.now) }
+{
+    let lines = first_lines(alloc, text)?;
+    let line = lines.as_slice().join(alloc, " ")?;
+    Ok(line)
+}
+
+/// A text without a line end.
+#[derive(Debug, Drop)]
+pub struct Line {
+    text: String,
+    pub ghost unbroken: { is_line (string_bytes text) ≡ true },
+}
+
+impl Line {
+    /// The first paragraph of a text: its lines before the first blank one, with a space between two.
+    pub fn of(alloc: Global, text: &str) -> Result<Line, AllocError>
+        ensures { IfOk result (λ line. string_bytes line.text ≡ spec.first_paragraph text.now) }
+    {
+        let text = first_paragraph(alloc, text)?;
+        Ok(Line { text })
+    }
+
+    /// The text of the line.
+    pub fn as_str(&self) -> &str
+        ensures { result.now ≡ string_bytes self.now.text }
+    {
+        self.text.as_str()
+    }
+}

@@ -1,0 +1,76 @@
+//! A pool with one owner: a page is changed, goes out once the log is durable so far, and the trail of it is let go.
+#![tactic(auto)]
+
+ghost use Rattle.std.specs.Prelude.{◌≡◌, ◌<◌, ◌+◌, ◌≤◌, length};
+
+use bp_core::Core;
+use bp_device::{MemDevice, MemPort, Port, drive_fix, drive_flush};
+use bp_lruk::Settings;
+use bp_page::{Bytes, Geometry, Lsn, PageNo, Refusal};
+use std::alloc::Global;
+use std::rt::Runtime;
+use std::sync::Wait;
+
+/// Changes a page under a log record, and gives its pass back. No flush comes before the log is durable as far as `lsn`.
+fn change(
+    rt: &impl Wait,
+    core: &mut Core,
+    port: &mut MemPort,
+    page: PageNo,
+    bytes: &Bytes,
+    lsn: Lsn,
+) -> Result<(), Refusal>
+    requires size { port.old.device.size ≡ core.old.parameters.size }
+    requires client { 0 < core.old.parameters.clients }
+    requires page_in { page < core.old.parameters.pages }
+    requires fits { 0 + length bytes.now ≤ core.old.parameters.size }
+    ensures same { core.new.parameters ≡ core.old.parameters }
+{
+    let pass = drive_fix(rt, core, port, 0, page)?;
+    let written = core.write(&pass, 0, bytes, lsn);
+    match core.unfix(pass) {
+        Ok(()) => written,
+        Err(pass) => {
+            pass.note();
+            Err(Refusal::UnknownPass)
+        }
+    }
+}
+
+/// A pool over these pages: a page is changed and flushed, the clock moves, and the trail of all that is cut off. Returns how many
+/// entries it had.
+fn use_pages(rt: &impl Wait, alloc: Global, geometry: Geometry) -> Result<usize, Refusal>
+    requires room { 7 < geometry.pages }
+    requires long_enough { 5 ≤ geometry.size }
+{
+    let settings = Settings::new(2, 0, 1000)?;
+    let mut core = Core::new(alloc, geometry, settings, 64, 1, 10_000)?;
+    let device = MemDevice::new(alloc, geometry)?;
+    let mut port = device.port()?;
+    let Ok(bytes) = Bytes::of(alloc, b"hello".as_slice()) else {
+        return Err(Refusal::OutOfMemory);
+    };
+    let page = PageNo::new(7);
+    change(rt, &mut core, &mut port, page, &bytes, Lsn::new(1))?;
+    core.mark(0, Lsn::new(1))?;
+    drive_flush(rt, &mut core, &mut port, 0, page)?;
+    core.tick(0, 1)?;
+    let trail = core.cut()?;
+    Ok(trail.len())
+}
+
+fn use_pool(rt: &(impl Runtime<A = Global> + Wait)) -> Result<usize, Refusal> {
+    let geometry = Geometry::new(16, 64)?;
+    use_pages(rt, rt.alloc(), geometry)
+}
+
+fn main(rt: HostRuntime) {
+    match use_pool(&rt) {
+        Ok(entries) => {
+            let _ = println!(&rt; "{entries} entries");
+        }
+        Err(refusal) => {
+            let _ = println!(&rt; "refused {}", refusal.number());
+        }
+    }
+}

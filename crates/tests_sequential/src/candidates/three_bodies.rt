@@ -1,0 +1,165 @@
+//! All three bodies of the candidates over the same calls.
+ghost use Rattle.std.specs.Prelude.{◌≡◌, ℕ, ◌+◌, ◌<◌, ◌≤◌};
+ghost use Rattle.tests_sequential.specs.Pool.{AreOwn, IsPool};
+
+use bp_lruk::{Candidates, Histories, Settings, scan, seats};
+use bp_page::{PageNo, Refusal};
+use std::alloc::{AllocError, Global};
+use std::process::Abort;
+use std::test::Fail;
+
+const PAGES: usize = 64;
+
+const FRAMES: usize = 48;
+
+// The third body, in which each page has a seat of its own.
+#[derive(Drop)]
+struct Seats {
+    candidates: seats::Candidates,
+    ghost own: { AreOwn candidates },
+}
+
+impl Seats {
+    fn new(alloc: Global, settings: Settings) -> Result<Seats, AllocError> {
+        let candidates = seats::Candidates::new(alloc, PAGES, settings)?;
+        Ok(Seats { candidates })
+    }
+
+    // Enters a page, also where it is entered.
+    #[tactic(auto, using(crate::proofs::Seats::set_own))]
+    fn enter(&mut self, page: PageNo, hist_k: u64, last: u64)
+        requires { page < 64 }
+    {
+        let seat = page.number() as usize;
+        self.candidates.leave(seat);
+        self.candidates.enter(seat, page, hist_k, last);
+    }
+
+    #[tactic(auto, using(crate::proofs::Seats::set_own))]
+    fn leave(&mut self, page: PageNo)
+        requires { page < 64 }
+    {
+        self.candidates.leave(page.number() as usize);
+    }
+
+    #[tactic(auto, using(crate::proofs::Seats::once))]
+    fn victim(&mut self, t: u64) -> Option<PageNo> {
+        self.candidates.victim(t)
+    }
+}
+
+// A pool without frames: histories, and the three bodies of the candidates, which are to agree.
+#[derive(Drop)]
+struct Pool {
+    histories: Histories,
+    list: scan::Candidates,
+    index: Candidates,
+    seats: Seats,
+    now: u64,
+    ghost sound: { IsPool histories list index now },
+}
+
+impl Pool {
+    // References a page, which is loaded if it is away. There is room for it.
+    fn refer(&mut self, rt: &impl Abort, page: PageNo, k: usize) -> Result<(), Refusal>
+        requires page { page < 64 }
+        requires started { 0 < self.old.now }
+        ensures { self.new.now ≡ self.old.now }
+    {
+        if self.list.contains(page) {
+            self.list.leave(page);
+            self.index.leave(page);
+            self.histories.hit(page, self.now);
+        } else {
+            self.histories.prepare(page)?;
+            self.histories.fault(page, self.now);
+        }
+        let (hist_k, last) = self.histories.rank(page, k);
+        assert!(rt; !self.list.is_full());
+        self.list.enter(page, hist_k, last);
+        assert!(rt; !self.index.is_full());
+        self.index.enter(page, hist_k, last);
+        self.seats.enter(page, hist_k, last);
+        Ok(())
+    }
+
+    // Replaces a page, if one may be.
+    fn replace(&mut self, rt: &impl Abort) -> bool
+        ensures { self.new.now ≡ self.old.now }
+    {
+        let victim = self.list.victim(self.now);
+        assert_eq!(rt; self.index.victim(self.now), victim);
+        assert_eq!(rt; self.seats.victim(self.now), victim);
+        let Some(page) = victim else {
+            return false;
+        };
+        self.list.leave(page);
+        self.index.leave(page);
+        assert!(rt; page.number() < 64);
+        self.seats.leave(page);
+        self.histories.unprepare(page);
+        true
+    }
+
+    // All bodies have the same victim at a time.
+    fn compare(&mut self, rt: &impl Abort, t: u64)
+        ensures { self.new.now ≡ self.old.now }
+    {
+        let victim = self.list.victim(t);
+        assert_eq!(rt; self.index.victim(t), victim);
+        assert_eq!(rt; self.seats.victim(t), victim);
+    }
+}
+
+// References 64 pages at random in 48 frames, and counts the pages that were replaced. Some looks are for an earlier
+// time than the look before.
+fn run(rt: &impl Abort, pool: &mut Pool, k: usize) -> Result<u64, Refusal>
+    requires { pool.old.now ≡ 1 }
+{
+    let mut state = 1u64;
+    let mut replaced = 0;
+    for call in 0..10_000u64 {
+        state = state
+            .wrapping_mul(6364136223846793005)
+            .wrapping_add(1442695040888963407);
+        pool.now += (state >> 50) % 3;
+        let page = PageNo::new((state >> 33) % 64);
+        if !pool.list.contains(page) && pool.list.is_full() && pool.replace(rt) {
+            replaced += 1;
+        }
+        if pool.list.contains(page) || !pool.list.is_full() {
+            pool.refer(rt, page, k)?;
+        }
+        assert_eq!(rt;
+            pool.index.contains(page),
+            pool.list.contains(page),
+            "call {call}, k {k}"
+        );
+        let back = if call % 16 == 15 { 5 } else { 0 };
+        pool.compare(rt, pool.now.saturating_sub(back));
+    }
+    Ok(replaced)
+}
+
+#[test]
+fn three_bodies_agree(rt: HostRuntime) -> Result<(), Fail> {
+    for k in [1, 2, 16] {
+        for correlated in [0, 3] {
+            let settings = Settings::new(k, correlated, 1000)?;
+            let mut pool = Pool {
+                histories: Histories::new(rt.alloc(), settings),
+                list: scan::Candidates::new(rt.alloc(), FRAMES, settings)?,
+                index: Candidates::new(rt.alloc(), FRAMES, settings)?,
+                seats: Seats::new(rt.alloc(), settings)?,
+                now: 1,
+            };
+            // a page is away at every fourth call or so
+            let replaced = run(&rt, &mut pool, k)?;
+            assert!(rt;
+                replaced > 1000,
+                "k {k}, correlated {correlated}: {replaced} replaced"
+            );
+        }
+    }
+    Ok(())
+}

@@ -1,0 +1,80 @@
+//! The answers of marks, in one thread and in two.
+ghost use Rattle.std.specs.Prelude.{◌≡◌};
+
+use bp_mark::{LogEnd, Mark, Reader};
+use bp_page::Lsn;
+use std::process::Abort;
+use std::test::Fail;
+use std::thread;
+
+#[test]
+fn views_of_the_mark(rt: HostRuntime) -> Result<(), Fail> {
+    let (mark, mut end, mut first) = Mark::new(rt.alloc())?;
+    end.raise(&mark, Lsn::new(5));
+    assert_eq!(rt; first.look(&mark), Lsn::new(5));
+    end.raise(&mark, Lsn::new(3));
+    assert_eq!(rt; end.frontier(), Lsn::new(5));
+    assert_eq!(rt; first.look(&mark), Lsn::new(5));
+    let (first, mut second) = first.split(&mark);
+    end.raise(&mark, Lsn::new(9));
+    assert_eq!(rt; second.look(&mark), Lsn::new(9));
+    let reader = first.join(&mark, second);
+    assert_eq!(rt; mark.close(end, reader), Lsn::new(9));
+    Ok(())
+}
+
+#[test]
+fn mark_at_its_end(rt: HostRuntime) -> Result<(), Fail> {
+    let greatest = Lsn::new(18446744073709551615);
+    let (mark, mut end, mut reader) = Mark::new(rt.alloc())?;
+    assert_eq!(rt; reader.look(&mark), Lsn::new(0));
+    end.raise(&mark, greatest);
+    assert_eq!(rt; reader.look(&mark), greatest);
+    assert_eq!(rt; mark.close(end, reader), greatest);
+    Ok(())
+}
+
+// Raises 1 to 1,000 in order.
+fn raise_a_thousand(mark: &Mark, mut end: LogEnd) -> LogEnd
+    requires { end.mark ≡ mark.now }
+    ensures { result.mark ≡ end.mark }
+{
+    for lsn in 1..=1000 {
+        end.raise(mark, Lsn::new(lsn));
+    }
+    end
+}
+
+// Looks 1,000 times. What is seen never falls.
+fn look_a_thousand_times(rt: &impl Abort, mark: &Mark, mut reader: Reader) -> Reader
+    requires { reader.mark ≡ mark.now }
+    ensures { result.mark ≡ reader.mark }
+{
+    let mut before = Lsn::new(0);
+    for _ in 0..1000 {
+        let seen = reader.look(mark);
+        assert!(rt; before <= seen, "{seen} after {before}");
+        before = seen;
+    }
+    reader
+}
+
+#[test]
+fn what_is_seen_never_falls(rt: HostRuntime) -> Result<(), Fail> {
+    let (mark, end, reader) = Mark::new(rt.alloc())?;
+    let shared = &mark;
+    let (end, mut reader) = thread::join(
+        &rt,
+        move || -> LogEnd
+            requires { end.mark ≡ shared.now }
+            ensures { result.mark ≡ shared.entry.now }
+        { raise_a_thousand(shared, end) },
+        || -> Reader
+            requires { reader.mark ≡ shared.now }
+            ensures { result.mark ≡ shared.entry.now }
+        { look_a_thousand_times(&rt, shared, reader) },
+    );
+    assert_eq!(rt; reader.look(&mark), Lsn::new(1000));
+    assert_eq!(rt; mark.close(end, reader), Lsn::new(1000));
+    Ok(())
+}

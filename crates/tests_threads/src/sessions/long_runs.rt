@@ -1,0 +1,216 @@
+//! A long run in little room: the trail and the lists are cut while threads use the pool.
+ghost use Rattle.std.specs.Prelude.{◌≡◌, ◌<◌};
+
+use super::making::{Client, Made, Opened, client_of, make, open};
+use super::threads::{page_for, run_once};
+use bp_core::Entry;
+use bp_page::{Geometry, PageNo, Refusal};
+use bp_shared::{PoolName, Session, SharedPool, Taker};
+use std::alloc::Global;
+use std::marker::Brand;
+use std::process::Abort;
+use std::sync::{Mutex, Wait};
+use std::test::Fail;
+use std::thread::Threads;
+use std::{mem, thread};
+
+const ROUNDS: usize = 12500;
+
+/// The rounds of a thread between two of its cuts. Two threads then stay within a room of 4,096 entries.
+const ROUNDS_A_CUT: usize = 250;
+
+/// What is taken of the trail, by whichever thread comes to it.
+#[derive(Drop)]
+struct Takings<N: PoolName> {
+    taker: Taker<N>,
+    /// The piece that was taken last: the trail goes on in its memory.
+    spare: Vec<Entry>,
+    entries: usize,
+}
+
+/// What one thread does: it uses a page again and again, and cuts as it goes.
+#[derive(Drop)]
+struct Runner<N: PoolName> {
+    client: Client<N>,
+    page: PageNo,
+    passes: usize,
+    /// The list that was cut last: the session's goes on in its memory.
+    spare: Vec<Entry>,
+    entries: usize,
+    ghost page_in: { page < N.parameters.pages },
+}
+
+// Drops the last piece of the trail, and takes the next.
+fn cut_trail<N: PoolName, R: Wait>(
+    rt: &R,
+    alloc: Global,
+    pool: &SharedPool<N>,
+    takings: &Mutex<Takings<N>>,
+) -> Result<(), Refusal> {
+    let mut takings = takings.lock(rt);
+    let spare = mem::replace(&mut takings.spare, Vec::new(alloc));
+    let piece = pool.cut_into(rt, &mut takings.taker, spare)?;
+    takings.entries = takings.entries.saturating_add(piece.len());
+    takings.spare = piece;
+    Ok(())
+}
+
+impl<N: PoolName> Runner<N> {
+    // Drops the last piece of the list, and cuts the next.
+    fn cut_list(&mut self) -> Result<(), Refusal> {
+        let spare = mem::replace(&mut self.spare, Vec::new(self.client.port.alloc));
+        let list = self.client.session.cut_into(spare)?;
+        self.entries = self.entries.saturating_add(list.len());
+        self.spare = list;
+        Ok(())
+    }
+
+    // A round of four entries: a fix, a read, an unfix and a tick.
+    fn run_round<R: Wait>(&mut self, rt: &R, pool: &SharedPool<N>) {
+        if run_once(rt, pool, &mut self.client, self.page) {
+            self.passes = self.passes.saturating_add(1);
+        }
+        let _ = pool.tick(rt, &mut self.client.session, 1);
+    }
+
+    fn run<R: Wait>(&mut self, rt: &R, pool: &SharedPool<N>, takings: &Mutex<Takings<N>>) {
+        for round in 0..ROUNDS {
+            self.run_round(rt, pool);
+            if round % ROUNDS_A_CUT == 0 {
+                let _ = cut_trail(rt, self.client.port.alloc, pool, takings);
+                let _ = self.cut_list();
+            }
+        }
+    }
+}
+
+/// A runner for each session, on a page of its own.
+fn make_runners<N: PoolName>(
+    alloc: Global,
+    geometry: Geometry,
+    sessions: Vec<Session<N>>,
+) -> Option<Vec<Runner<N>>>
+    requires pages { N.parameters.pages ≡ 4 }
+    requires size { geometry.size ≡ N.parameters.size }
+{
+    let mut runners = Vec::new(alloc);
+    for session in sessions {
+        let page = PageNo::new(page_for(session.client(), true));
+        let runner = Runner {
+            client: client_of(alloc, geometry, session),
+            page,
+            passes: 0,
+            spare: Vec::new(alloc),
+            entries: 0,
+        };
+        let Ok(()) = runners.push(runner) else {
+            return None;
+        };
+    }
+    Some(runners)
+}
+
+/// One thread for each runner. All have ended at the return.
+fn run_all<N: PoolName + Send + Sync, R: Threads + Wait + Sync>(
+    rt: &R,
+    pool: &SharedPool<N>,
+    takings: &Mutex<Takings<N>>,
+    runners: &mut [Runner<N>],
+) {
+    let count = runners.len();
+    if count > 0 {
+        thread::for_each_mut(
+            rt,
+            runners,
+            count,
+            &|_, runner| runner.run(rt, pool, takings),
+        );
+    }
+}
+
+/// What came of a run, with what was not cut at its end.
+#[derive(Drop)]
+struct Tally {
+    passes: usize,
+    /// The entries of the trail, and of all lists.
+    entries: usize,
+    told: usize,
+    /// The most entries for which a piece had memory.
+    capacity: usize,
+}
+
+fn count_runner<N: PoolName>(tally: &mut Tally, runner: &Runner<N>) {
+    tally.passes = tally.passes.saturating_add(runner.passes);
+    let left = runner.client.session.said().len();
+    tally.told = tally
+        .told
+        .saturating_add(runner.entries)
+        .saturating_add(left);
+    tally.capacity = tally.capacity.max(runner.spare.capacity());
+}
+
+// Threads use the pool, and cut as they go.
+fn run_long<N: PoolName + Send + Sync, R: Threads + Wait + Sync>(
+    rt: &R,
+    alloc: Global,
+    opened: Opened<N>,
+) -> Option<Tally>
+    requires pages { N.parameters.pages ≡ 4 }
+{
+    let Opened {
+        pool,
+        taker,
+        sessions,
+        end: _,
+        geometry,
+    } = opened;
+    let mut runners = make_runners(alloc, geometry, sessions)?;
+    let takings = Mutex::new(Takings {
+        taker,
+        spare: Vec::new(alloc),
+        entries: 0,
+    });
+    run_all(rt, &pool, &takings, &mut runners);
+    let Takings {
+        taker,
+        spare,
+        entries,
+    } = takings.into_inner();
+    let (core, _, _) = pool.finish(taker);
+    let mut tally = Tally {
+        passes: 0,
+        entries: entries.saturating_add(core.trail().len()),
+        told: 0,
+        capacity: spare.capacity(),
+    };
+    for runner in &runners {
+        count_runner(&mut tally, runner);
+    }
+    Some(tally)
+}
+
+fn see_long<N: PoolName + Send + Sync, R: Threads + Wait + Abort + Sync>(
+    rt: &R,
+    alloc: Global,
+    made: Made,
+) -> Result<(), Fail>
+    requires mark { made.mark ≡ N.mark }
+    requires parameters { made.core.parameters ≡ N.parameters }
+    requires before { made.core.before ≡ N.before }
+    requires ring { made.ring ≡ N.ring }
+    requires pages { N.parameters.pages ≡ 4 }
+{
+    let opened = open::<N>(alloc, made)?;
+    let tally = run_long(rt, alloc, opened).ok_or(Refusal::OutOfMemory)?;
+    assert_eq!(rt; tally.passes, 25000);
+    // Each round has four entries, and a client's first fix has one more.
+    assert_eq!(rt; (tally.entries, tally.told), (100002, 100002));
+    assert_eq!(rt; tally.capacity, 4096);
+    Ok(())
+}
+
+#[test]
+fn a_hundred_thousand_entries_in_little_room(rt: HostRuntime) -> Result<(), Fail> {
+    let made = make(rt.alloc(), 2, 2)?;
+    see_long::<Brand, _>(&rt, rt.alloc(), made)
+}

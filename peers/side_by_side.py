@@ -1,0 +1,81 @@
+#!/usr/bin/env python3
+"""Runs bench_pool and Berkeley DB's memory pool in turn, over the same pages in the same order, and prints the ratios.
+
+    apt-get install libdb5.3-dev        (a C compiler is needed too)
+    (cd crates/bench_pool && rt run)    builds the bench; with no argument it does nothing
+    peers/side_by_side.py ROUNDS [ROOM ..]
+
+For each ROOM the trail has that room and is cut when half full; ROOM 0 is a trail that is never cut. Each number is in fixes
+and unfixes a second of processor time; a ratio is of one round, above 1 where the proved pool is faster. The median of the
+rounds comes first, and then the least and the greatest.
+"""
+import os
+import re
+import statistics
+import subprocess
+import sys
+import tempfile
+
+TOP = os.path.dirname(os.path.dirname(os.path.realpath(__file__)))
+BENCH = f"{TOP}/crates/bench_pool/out/bench_pool"
+FILE_BYTES = 268435456
+# For each column of bench_pool: pages of the file, frames such that the hit rate is the same, hot pages.
+COLUMNS = [
+    ("hits, 256 frames", 256, 256, 256),
+    ("evictions, 256 frames", 1024, 177, 1024),
+    ("hits, 4,096 frames", 4096, 4096, 4096),
+    ("evictions, 4,096 frames", 16384, 2890, 16384),
+    ("hits, 65,536 frames", 65536, 65536, 65536),
+    ("evictions, 65,536 frames", 262144, 46200, 262144),
+]
+
+
+def said(words, folder):
+    return subprocess.run(words, cwd=folder, check=True, capture_output=True, text=True).stdout
+
+
+def ours(pages, room, folder):
+    words = [BENCH, pages] + ([str(room)] if room else [])
+    return [int(it) for it in re.findall(r"pages: (\d+) fixes", said(words, folder))]
+
+
+def theirs(mpool, folder):
+    found = []
+    for _, pages, frames, hot in COLUMNS:
+        line = said([mpool, "1", "1", str(pages), str(frames), "1024", str(hot)], folder)
+        found.append(int(line.split()[0]))
+    return found
+
+
+def spread(values, digits=2):
+    return f"{statistics.median(values):.{digits}f} ({min(values):.{digits}f} to {max(values):.{digits}f})"
+
+
+def thousands(values):
+    return f"{statistics.median(values) / 1000:,.0f}"
+
+
+def main():
+    rounds, rooms = int(sys.argv[1]), [int(it) for it in sys.argv[2:]] or [0]
+    with tempfile.TemporaryDirectory(prefix="side-by-side-") as folder:
+        mpool, pages = f"{folder}/mpool", f"{folder}/pages.bin"
+        subprocess.run(["cc", "-O2", f"{TOP}/peers/mpool.c", "-ldb", "-lpthread", "-o", mpool], check=True)
+        with open(pages, "wb") as it:
+            it.write(bytes(FILE_BYTES))
+        runs = {room: [] for room in rooms}
+        peer = []
+        for _ in range(rounds):
+            peer.append(theirs(mpool, folder))
+            for room in rooms:
+                runs[room].append(ours(pages, room, folder))
+    for room in rooms:
+        print(f"room {room}, cut when half full" if room else "never cut")
+        print("| | This pool, thousands a second | Berkeley DB | Ratio |\n|---|---|---|---|")
+        for at, (name, *_) in enumerate(COLUMNS):
+            mine, other = [it[at] for it in runs[room]], [it[at] for it in peer]
+            ratios = [a / b for a, b in zip(mine, other)]
+            print(f"| {name} | {thousands(mine)} | {thousands(other)} | {spread(ratios)} |")
+
+
+if __name__ == "__main__":
+    main()
