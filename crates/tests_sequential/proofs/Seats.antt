@@ -6,7 +6,6 @@ use Rattle.std.proofs.lemmas.Option.{none-some}
 use Rattle.bp_lruk.specs.Candidates.{Candidate, NoPageTwice}
 use Rattle.bp_lruk.specs.Seats.{Seated, seated_in, seat_at}
 use Rattle.bp_lruk.proofs.EntryLaws.{find_nowhere}
-use Rattle.bp_lruk.proofs.SeatLaws.{get_or_empty}
 use Rattle.bp_lruk.proofs.SeatSteps.{in_seated}
 use Rattle.tests_sequential.specs.Pool.{AreOwn}
 
@@ -21,11 +20,14 @@ once-from (Some e ∷ seats) own = (
 pub once : (seats : List (Option Candidate)) → ((page : ℕ) (e : Candidate) → seat_at seats page ≡ Some e → e.2 ≡ page) → NoPageTwice (seated_in seats)
 once seats own = once-from seats (λ i j a b x y same. omega (arith, own i a x, own j b y, same))
 
--- no page at all
+-- nobody stands at a seat where nobody stands at all
+empty_at : (n seat : ℕ) → seat_at (replicate n None) seat ≡ None
+empty_at zero seat = refl
+empty_at (suc n) zero = refl
+empty_at (suc n) (suc seat) = empty_at n seat
+
 none_own : (n seat : ℕ) (e : Candidate) → seat_at (replicate n None) seat ≡ Some e → e.2 ≡ seat
-none_own zero seat e is = absurd (none-some e is)
-none_own (suc n) zero e is = absurd (none-some e is)
-none_own (suc n) (suc seat) e is = absurd (none-some e (sym (get_or_empty n seat) ∙ is))
+none_own n seat e is = absurd (none-some e (sym (empty_at n seat) ∙ is))
 
 -- one seat changed
 pub set_own : (seats : List (Option Candidate)) (k : ℕ) (v : Option Candidate) → k < length seats → ((seat : ℕ) (e : Candidate) → seat_at seats seat ≡ Some e → e.2 ≡ seat) → ((e : Candidate) → v ≡ Some e → e.2 ≡ k) → (seat : ℕ) (e : Candidate) → seat_at (set seats k v) seat ≡ Some e → e.2 ≡ seat
