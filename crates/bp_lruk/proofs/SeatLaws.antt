@@ -5,7 +5,7 @@ use Rattle.std.proofs.lemmas.Bool.Decides.{nat_tests}
 use Rattle.std.proofs.lemmas.Option.{none-some, same_Some}
 use Rattle.std.proofs.lemmas.List.{get_or-set_same, get_or-set_other, get_or_past, length-set}
 use Rattle.bp_lruk.specs.Candidates.{Candidate, is_before}
-use Rattle.bp_lruk.specs.Seats.{winner, seat_at, is_aged, aged_first, older_of, both, alone, node, IsWon, IsTournament, IsWonBut, IsFirst, above, IsBelow, IsFirstBelow}
+use Rattle.bp_lruk.specs.Seats.{winner, seat_at, is_aged, aged_first, older_of, both, alone, node, IsWon, IsTournament, IsWonBut, IsFirst, above, IsBelow, IsFirstBelow, Outruns}
 use Rattle.bp_lruk.specs.declared.tournament.Winners.{Winners}
 use Rattle.bp_lruk.proofs.VictimLaws.{not_before_itself, not_before_earlier, not_both}
 
@@ -426,3 +426,80 @@ module _ (nodes : List Winners) (seats : List (Option Candidate)) (t : IsTournam
                 let first = first_of_both seats (λ x. x.1 < e.1) i _ _ inner (known_left e.1 knows.0) (known_right e.1 knows.1) in
                 first_of_fewer seats (λ x. x.1 < e.1) (λ x. x.1 < time) i (node nodes seats i).older (λ x before. omega (arith, late.2, before)) (aged_some time (node nodes seats i).older aged) (subst (IsFirstBelow seats i (λ x. x.1 < e.1)) (sym (older ∙ older_both a b e knows.0 knows.1)) first)
           ]
+
+-- ---- a seat that changes nothing
+
+-- one who was not last referenced before the time does not count
+aged_none : (a : Option Candidate) (e : Candidate) → Outruns (Some e) a → aged_first e.1 (alone a) ≡ None
+unfolding aged_first
+aged_none None e outrun = refl
+aged_none (Some a) e outrun = (let young : nat_lt a.1 e.1 ≡ false = grind (arith, outrun.1, nat_tests) in rw young refl)
+
+older_alike : (a b other : Winners) (e : Candidate) → aged_first e.1 a ≡ aged_first e.1 b → older_of a other (Some e) ≡ older_of b other (Some e)
+unfolding older_of
+older_alike a b other e alike = rw alike refl
+
+-- who outruns one seat stands at the other
+other_first : (a b : Option Candidate) (e : Candidate) → winner a b ≡ Some e → Outruns (Some e) a → b ≡ Some e
+other_first None b e is outrun = is
+other_first (Some a) b e is outrun = elim (winner_is (Some a) b) [
+  | inr other ↦ sym other ∙ is
+  | inl own ↦
+      let same : a ≡ e = same_Some a e (sym own ∙ is) in
+      absurd (true≢false (sym outrun.0 ∙ subst (λ x. is_before e x ≡ false) (sym same) (not_before_itself e)))
+]
+
+outrun_loses : (a : Option Candidate) (e : Candidate) → Outruns (Some e) a → winner a (Some e) ≡ Some e
+outrun_loses None e outrun = refl
+outrun_loses (Some a) e outrun = (let before = outrun.0 in rw before refl)
+
+both_outrun : (a b : Option Candidate) (other w : Winners) → w ≡ both (alone a) other → Outruns w.first a → Outruns w.first b → w ≡ both (alone b) other
+unfolding both
+both_outrun a b other w won = go w.first refl
+  where
+    go : (first : Option Candidate) → w.first ≡ first → Outruns first a → Outruns first b → w ≡ both (alone b) other
+    go None is before after = absurd before
+    go (Some e) is before after =
+        let first_was : winner a other.first ≡ Some e = sym (ap (λ (x : Winners). x.first) won) ∙ is in
+        let first_other = other_first a other.first e first_was before in
+        let first_now : winner b other.first ≡ Some e = ap (winner b) first_other ∙ outrun_loses b e after in
+        let none = aged_none a e before ∙ sym (aged_none b e after) in
+        let older_was : w.older ≡ older_of (alone a) other (Some e) = ap (λ (x : Winners). x.older) won ∙ ap (older_of (alone a) other) first_was in
+        let older_now : w.older ≡ older_of (alone b) other (winner b other.first) = older_was ∙ older_alike (alone a) (alone b) other e none ∙ sym (ap (older_of (alone b) other) first_now) in
+        let first : w.first ≡ winner b other.first = is ∙ sym first_now in
+        λ i. record { first = first i; older = older_now i }
+
+-- a seat is changed, and was outrun before and after
+pub won_outrun : (nodes : List Winners) (seats : List (Option Candidate)) (seat : ℕ) (e : Option Candidate) → IsTournament nodes seats → seat < length seats → Outruns (get_or nodes ((length seats + seat) / 2) (alone None)).first (seat_at seats seat) → Outruns (get_or nodes ((length seats + seat) / 2) (alone None)).first e → IsTournament nodes (set seats seat e)
+won_outrun nodes seats seat e t lt before after = elim (cases_lt at 2) [
+  | inl root ↦ won_at_root nodes changed at root but
+  | inr inner ↦
+      let kept_up = seat_kept nodes seats seat e up (omega (arith, t.length_is)) in
+      let kept_other = seat_kept nodes seats seat e other (omega (arith, t.length_is)) in
+      let here : node nodes seats up ≡ get_or nodes up (alone None) = node_inner nodes seats up (omega (arith, t.length_is)) in
+      let was : node nodes seats at ≡ alone (seat_at seats seat) = node_seat nodes seats at (omega arith) ∙ ap (λ k. alone (seat_at seats k)) (omega arith) in
+      let now : node nodes changed at ≡ alone e = node_seat nodes changed at (omega arith) ∙ ap (λ k. alone (seat_at changed k)) (omega arith) ∙ ap alone (get_or-set_same seats seat e None lt) in
+      let won : node nodes seats up ≡ both (alone (seat_at seats seat)) (node nodes seats other) =
+      t.won up (omega arith) (omega (arith, t.length_is)) ∙ sym (both_beside nodes seats at other (omega arith)) ∙ (λ j. both (was j) (node nodes seats other)) in
+      let place : (length seats + seat) / 2 ≡ up = ap (λ n. (n + seat) / 2) (sym t.length_is) in
+      let first : (get_or nodes ((length seats + seat) / 2) (alone None)).first ≡ (node nodes seats up).first = ap (λ k. (get_or nodes k (alone None)).first) place ∙ ap (λ (w : Winners). w.first) (sym here) in
+      let same = both_outrun (seat_at seats seat) e (node nodes seats other) (node nodes seats up) won (subst (λ f. Outruns f (seat_at seats seat)) first before) (subst (λ f. Outruns f e) first after) in
+      let won_now : IsWon nodes changed up =
+      kept_up ∙ same ∙ (λ j. both (sym now j) (sym kept_other j)) ∙ both_beside nodes changed at other (omega arith) in
+      won_above nodes changed at but won_now
+]
+  where
+    at : ℕ
+    at = length nodes + seat
+
+    up : ℕ
+    up = at / 2
+
+    other : ℕ
+    other = 4 * up + 1 - at
+
+    changed : List (Option Candidate)
+    changed = set seats seat e
+
+    but : IsWonBut nodes changed at
+    but = won_put nodes seats seat e t

@@ -94,6 +94,12 @@ pub record IsTournament (nodes : List Winners) (seats : List (Option Candidate))
   pub length_is : length nodes ≡ length seats
   pub won : (i : ℕ) → 1 ≤ i → i < length nodes → IsWon nodes seats i
 
+-- the first comes before the other, and was not last referenced after it
+abbrev pub Outruns : Option Candidate → Option Candidate → Type 0
+Outruns None e = ⊥
+Outruns (Some first) None = Unit {0}
+Outruns (Some first) (Some e) = (is_before first e ≡ true) × (first.1 ≤ e.1)
+
 -- and so has each node but the one above this one
 pub record IsWonBut (nodes : List Winners) (seats : List (Option Candidate)) (at : ℕ) : Type 0 where
   pub length_is : length nodes ≡ length seats

@@ -1,7 +1,7 @@
 //! A tree of winners over a number of seats.
 ghost use Rattle.std.specs.Prelude.{◌≡◌, ℕ, ◌*◌, ◌+◌, ◌-◌, ◌/◌, ◌^◌, ◌<◌, ◌≤◌, [], IsTrue, IsFalse, Some, None, IfOk, IsSome, length, replicate, set, slice_index_or, ◌↔◌};
 ghost use Rattle.bp_lruk.specs.Candidates.{Candidate};
-ghost use Rattle.bp_lruk.specs.Seats.{winner, is_aged, aged_first, older_of, both, node, IsFirst, IsFirstBelow, IsTournament, IsWon, IsWonBut};
+ghost use Rattle.bp_lruk.specs.Seats.{winner, is_aged, aged_first, older_of, both, node, IsFirst, IsFirstBelow, IsTournament, IsWon, IsWonBut, Outruns};
 
 use crate::candidates::precedes;
 use bp_page::PageNo;
@@ -21,7 +21,8 @@ struct Winners {
 
 /// Seats, and a tree over them that knows at each node who comes first of the seats below it.
 ///
-/// `put` goes up from its seat as far as it changes what a node knows, at most to the root: O(log seats).
+/// `put` goes up from its seat as far as it changes what a node knows, at most to the root: O(log seats). It ends at once
+/// where the seat comes after its neighbour before and after the change.
 /// `first_before` asks the root, and then looks below those nodes that do not know. Below each of them stand two who
 /// were not last referenced before the time that is asked for, nor at the same time. So the root knows where nobody was
 /// referenced after that time, and else it looks at O(log seats) nodes for each who was not last referenced before it,
@@ -138,6 +139,28 @@ fn beside(at: usize) -> usize
     if at % 2 == 0 { at + 1 } else { at - 1 }
 }
 
+// Whether who comes first of the seats below a node comes before this one, and was not last referenced after it. Such a
+// seat changes nothing of what a node right above it knows.
+fn is_outrun(winners: &Winners, seat: &Seat) -> bool
+    ensures { IsTrue result → Outruns winners.now.first seat.now }
+{
+    match (winners.first, *seat) {
+        (None, _) => false,
+        (Some(_), None) => true,
+        (Some(first), Some(entry)) => precedes(&first, &entry) && first.1 <= entry.1,
+    }
+}
+
+// Whether the nodes surely know the same once a seat is changed: it comes after its neighbour before and after that.
+fn is_changed_unseen(nodes: &[Winners], seats: &[Seat], seat: usize, entry: &Seat) -> bool
+    requires won { IsTournament nodes.now seats.now }
+    requires in_range { seat < length seats.now }
+    ensures { IsTrue result → IsTournament nodes.now (set seats.now seat entry.now) }
+{
+    let above = &nodes[(seats.len() + seat) / 2];
+    is_outrun(above, &seats[seat]) && is_outrun(above, entry)
+}
+
 // Puts what is known into a node, and tells whether that is another than before.
 fn renew(nodes: &mut [Winners], at: usize, winners: &Winners) -> bool
     requires { at < length nodes.old }
@@ -215,7 +238,10 @@ impl Tournament {
         requires { seat < length self.old }
         ensures { self.new ≡ set self.old seat entry }
     {
+        let is_unseen = is_changed_unseen(&self.nodes, &self.seats, seat, &entry);
         self.seats[seat] = entry;
-        replay(&mut self.nodes, &self.seats, seat);
+        if !is_unseen {
+            replay(&mut self.nodes, &self.seats, seat);
+        }
     }
 }
