@@ -1,7 +1,7 @@
 -- A core stays one with each entry: here those that touch no page. What a caller sees of each entry.
 use Rattle.std.proofs.Common.{◌≡◌, ℕ, suc, ◌+◌, ◌*◌, ◌^◌, ◌<◌, ◌≤◌, max, true, false, [], ◌∷◌, length, sym, ◌∙◌, ap, subst, arith, refl}
 use Rattle.std.proofs.lemmas.Bool.{lt-ltb}
-use Rattle.bp_lruk.specs.Histories.{Blocks, is_held, last_of, HasStampsOf, SameAt, SameSettings, forgets, count_below}
+use Rattle.bp_lruk.specs.Histories.{Blocks, is_held, place_of, last_of, HasStampsOf, SameAt, SameSettings, KeepsPlaces, forgets, count_below}
 use Rattle.bp_trail.specs.declared.entries.Entry.{Entry}
 use Rattle.bp_trail.specs.declared.entries.Call.{Call}
 use Rattle.bp_trail.specs.declared.entries.Call.TheVariants.{Tick, Mark, Purge}
@@ -20,6 +20,7 @@ use Rattle.bp_core.specs.Outcomes.{IsQuiet, Adds}
 use Rattle.bp_core.specs.Outcomes.IsQuiet.{fix_busy, fix_none, fix_log, flush_busy, flush_absent, flush_clean, flush_log, page_read}
 use Rattle.bp_core.specs.Agreement.{parts_of, HasCandidates, HasTrailRoom, IsCore, view_of}
 use Rattle.bp_core.proofs.Steps.{agrees-quiet, agrees-tick, agrees-mark}
+use Rattle.bp_core.proofs.Placed.{place-kept, placed-after, held-here, rehoused}
 use Rattle.bp_core.proofs.CandidateSteps.{stay, stay-purge}
 use Rattle.bp_core.proofs.PurgeSteps.{agrees-purge, count-same, nothing-beyond}
 
@@ -56,6 +57,7 @@ module _ (c : Parameters) (trail : Kept) (x : State) (core : IsCore c trail x) (
     candidates = same call reply quiet;
     trail_room = roomy call reply quiet;
     opening = core.opening;
+    placed = core.placed;
     pass_room = core.pass_room;
     read_room = core.read_room;
     frame_room = core.frame_room;
@@ -88,6 +90,7 @@ module _ (c : Parameters) (trail : Kept) (x : State) (core : IsCore c trail x) (
     candidates = stay c trail.past x.frames.candidates core.candidates _ (λ q. refl);
     trail_room = longer c _ core.trail_room _ (omega (arith, at-room 1 room)) (omega arith) (omega arith);
     opening = core.opening;
+    placed = core.placed;
     pass_room = core.pass_room;
     read_room = core.read_room;
     frame_room = core.frame_room;
@@ -99,20 +102,25 @@ module _ (c : Parameters) (trail : Kept) (x : State) (core : IsCore c trail x) (
     candidates = stay c trail.past x.frames.candidates core.candidates _ (λ q. refl);
     trail_room = longer c _ core.trail_room _ (omega (arith, at-room 1 room)) (omega arith) (omega arith);
     opening = core.opening;
+    placed = core.placed;
     pass_room = core.pass_room;
     read_room = core.read_room;
     frame_room = core.frame_room;
   }
 
   pub keeps-purge : (who n : ℕ) (h : Blocks) → who < v.parameters.clients → HasRoomFor 1 v → ((bound : ℕ) → ((page : ℕ) → bound ≤ page → last_of x.histories page ≡ 0) → n ≡ count_below (forgets x.histories x.clock) bound) → SameSettings x.histories h
-      → ((p : ℕ) → forgets x.histories x.clock p ≡ true → HasStampsOf h p []) → ((p : ℕ) → forgets x.histories x.clock p ≡ false → SameAt x.histories h p) → ((p : ℕ) → is_held h p ≡ is_held x.histories p)
+      → ((p : ℕ) → forgets x.histories x.clock p ≡ true → HasStampsOf h p []) → ((p : ℕ) → forgets x.histories x.clock p ≡ false → SameAt x.histories h p) → ((p : ℕ) → is_held h p ≡ is_held x.histories p) → KeepsPlaces x.histories h
       → IsCore c (with_next trail who Purge (Forgot n)) (record x { histories = h })
-  keeps-purge who n h client room counted settings gone kept held = record {
-    agrees = agrees-purge c trail.past (parts_of x) core.agrees who n h (lt-ltb who c.clients (at-parameters (λ q. who < q.clients) client)) (counted c.pages (nothing-beyond c trail.past (parts_of x) core.agrees) ∙ count-same c trail.past (parts_of x) core.agrees) settings gone kept held;
-    candidates = stay-purge c trail.past x.frames.candidates core.candidates who n;
-    trail_room = longer c _ core.trail_room _ (omega (arith, at-room 1 room)) (omega arith) (omega arith);
-    opening = core.opening;
-    pass_room = core.pass_room;
-    read_room = core.read_room;
-    frame_room = core.frame_room;
-  }
+  keeps-purge who n h client room counted settings gone kept held places =
+      let a = core.agrees in
+      let next = agrees-purge c trail.past (parts_of x) a who n h (lt-ltb who c.clients (at-parameters (λ q. who < q.clients) client)) (counted c.pages (nothing-beyond c trail.past (parts_of x) a) ∙ count-same c trail.past (parts_of x) a) settings gone kept held in
+      record {
+        agrees = rehoused c _ _ next (place_of h) (λ q here. place-kept x.histories h places q (held-here c trail.past (parts_of x) a q here) (held-here c _ _ next q here));
+        candidates = stay-purge c trail.past x.frames.candidates core.candidates who n;
+        trail_room = longer c _ core.trail_room _ (omega (arith, at-room 1 room)) (omega arith) (omega arith);
+        opening = core.opening;
+        placed = placed-after x.histories h places core.placed (λ q holds. sym (held q) ∙ holds);
+        pass_room = core.pass_room;
+        read_room = core.read_room;
+        frame_room = core.frame_room;
+      }

@@ -1,4 +1,5 @@
 -- A core stays one as a read of a page begins and ends.
+use Rattle.std.specs.Prelude.{IsSome}
 use Rattle.std.proofs.Common.{◌≡◌, ◌≢◌, ℕ, ◌+◌, ◌<◌, ◌≤◌, true, false, List, ◌∷◌, length, filter, Some, None, refl, sym, ◌∙◌, ap, subst, arith}
 use Rattle.std.specs.Prelude.{not, ◌==◌, ◌||◌}
 use Rattle.std.specs.List.Sorted.{IsPermutation}
@@ -7,7 +8,7 @@ use Rattle.bp_lruk.specs.Burst.{Reference}
 use Rattle.bp_lruk.specs.Burst.Reference.{fault}
 use Rattle.bp_lruk.specs.Stamp.{IsTimed}
 use Rattle.bp_lruk.specs.Candidates.{Entered, entry_of, NoPageTwice, SameLimits}
-use Rattle.bp_lruk.specs.Histories.{Blocks, is_held, HasStampsOf, SameAt, SameStampsAt, SameSettings}
+use Rattle.bp_lruk.specs.Histories.{Blocks, is_held, place_of, HasStampsOf, SameAt, SameStampsAt, SameSettings, KeepsPlaces}
 use Rattle.bp_trail.specs.declared.entries.Call.TheVariants.{Fix, ReadEnd}
 use Rattle.bp_trail.specs.declared.entries.Reply.TheVariants.{Load, Fixed, ReadFailed}
 use Rattle.bp_trail.specs.Passes.{reads_out}
@@ -27,6 +28,7 @@ use Rattle.bp_trail.proofs.Victim.{victim-is, candidate-resident}
 use Rattle.bp_core.proofs.Seen.{count-le, resident_seen, occupied_is, within_frames}
 use Rattle.bp_trail.proofs.Residents.{reads-rest}
 use Rattle.bp_trail.proofs.Timed.{references-timed}
+use Rattle.bp_core.proofs.Placed.{place-kept, placed-after, placed-prepared, held-before, stayed-here, held-here, rehoused}
 use Rattle.bp_core.proofs.CandidateSteps.{stay, stay-end_load, move-evict}
 use Rattle.bp_core.proofs.StampsKept.{unprepared, same-after, settings-after}
 use Rattle.bp_core.proofs.ReadSteps.{agrees-load, agrees-evict, agrees-failed, agrees-fixed}
@@ -79,17 +81,19 @@ module _ (c : Parameters) (trail : Kept) (x : State) (core : IsCore c trail x) (
   -- ---- a read begins
   module _ (client : who < v.parameters.clients) (page : p < v.parameters.pages) (idle : EachPast v (λ past. loading past p ≡ false)) (away : EachPast v (λ past. resident past p ≡ false)) (room : HasRoomFor 3 v) (ps : Given) (same : ps.out ≡ x.passes.out) (capacity : length x.passes.out + length x.reads.out + 1 ≤ ps.capacity) where
     pub keeps-load : EachPast v (λ past. has_free_frame v.parameters past ≡ true) → (fs : Table) → fs.frames ≡ x.frames.frames → fs.size ≡ x.frames.size → fs.limit ≡ x.frames.limit → fs.pages ≡ x.frames.pages → fs.candidates ≡ x.frames.candidates → length x.reads.out < fs.spare
-        → (h : Blocks) → SameSettings x.histories h → SameStampsAt x.histories h p → ((q : ℕ) → q ≢ p → SameAt x.histories h q) → is_held h p ≡ true
+        → (h : Blocks) → SameSettings x.histories h → SameStampsAt x.histories h p → ((q : ℕ) → q ≢ p → SameAt x.histories h q) → is_held h p ≡ true → KeepsPlaces x.histories h → IsSome (place_of h p)
         → IsCore c (with_next trail who (Fix p) (Load x.tickets_given None)) (record x { tickets_given = x.tickets_given + 1; reads = with_grant x.reads who p x.tickets_given; passes = ps; frames = fs; histories = h })
-    keeps-load frame fs frames size limit in_file same_candidates spare h settings stamps others kept =
+    keeps-load frame fs frames size limit in_file same_candidates spare h settings stamps others kept places place =
         let next = agrees-load c trail.past (parts_of x) core.agrees who p (lt-ltb who c.clients (given (λ q. who < q.clients) client)) (lt-ltb p c.pages (given (λ q. p < q.pages) page))
         (at (λ q past. loading past p ≡ false) idle) (at (λ q past. resident past p ≡ false) away) h settings (unprepared x.histories h p stamps others)
         (at (λ q past. has_free_frame q past ≡ true) frame) kept (λ q n. (others q n).held) in
+        let moved = rehoused c _ _ next (place_of h) (λ q here. place-kept x.histories h places q (held-here c trail.past (parts_of x) core.agrees q here) (held-here c _ _ next q here)) in
         record {
-          agrees = rw (same, frames) next;
+          agrees = rw (same, frames) moved;
           candidates = subst (HasCandidates c (with_next trail who (Fix p) (Load x.tickets_given None)).past) (sym same_candidates) (stay c trail.past x.frames.candidates core.candidates _ (λ q. refl));
           trail_room = longer c _ core.trail_room _ (omega (arith, at-room c trail x core v is 3 room)) (omega arith) (omega arith);
           opening = core.opening;
+          placed = placed-prepared x.histories h p others places core.placed place;
           pass_room = record { reserved = omega (arith, capacity, ap length same) };
           read_room = core.read_room;
           frame_room = record { reserved = omega (arith, spare); size_is = omega (arith, size, core.frame_room.size_is); limit_is = omega (arith, limit, core.frame_room.limit_is); pages_is = omega (arith, in_file, core.frame_room.pages_is) };
@@ -97,11 +101,11 @@ module _ (c : Parameters) (trail : Kept) (x : State) (core : IsCore c trail x) (
 
     pub keeps-replace : (gone : ℕ) → EachPast v (λ past. has_free_frame v.parameters past ≡ false) → EachPast v (λ past. victim v.parameters past ≡ Some gone) → EachPast v (λ past. unsaved past gone ≡ false)
         → (e : Entered) → SameLimits x.frames.candidates e → (NoPageTwice x.frames.candidates.entries → NoPageTwice e.entries) → ((q : ℕ) → q ≢ gone → entry_of e q ≡ entry_of x.frames.candidates q) → entry_of e gone ≡ None
-        → (g h : Blocks) → SameSettings x.histories g → SameStampsAt x.histories g p → ((q : ℕ) → q ≢ p → SameAt x.histories g q) → is_held g p ≡ true
-        → SameSettings g h → SameStampsAt g h gone → ((q : ℕ) → q ≢ gone → SameAt g h q) → is_held h gone ≡ false
+        → (g h : Blocks) → SameSettings x.histories g → SameStampsAt x.histories g p → ((q : ℕ) → q ≢ p → SameAt x.histories g q) → is_held g p ≡ true → KeepsPlaces x.histories g → IsSome (place_of g p)
+        → SameSettings g h → SameStampsAt g h gone → ((q : ℕ) → q ≢ gone → SameAt g h q) → is_held h gone ≡ false → KeepsPlaces g h
         → IsCore c (with_next trail who (Fix p) (Load x.tickets_given (Some gone)))
         (record x { tickets_given = x.tickets_given + 1; reads = with_grant x.reads who p x.tickets_given; passes = ps; frames = record x.frames { frames = without_page gone x.frames.frames; spare = x.frames.spare + 1; candidates = e }; histories = h })
-    keeps-replace gone full chosen saved e limits pages leaves out g h g_settings g_stamps g_others g_kept h_settings h_stamps h_others h_gone =
+    keeps-replace gone full chosen saved e limits pages leaves out g h g_settings g_stamps g_others g_kept g_places g_place h_settings h_stamps h_others h_gone h_places =
         let apart = victim-apart gone chosen away in
         let first = unprepared x.histories g p g_stamps g_others in
         let second = unprepared g h gone h_stamps h_others in
@@ -109,11 +113,17 @@ module _ (c : Parameters) (trail : Kept) (x : State) (core : IsCore c trail x) (
         (at (λ q past. loading past p ≡ false) idle) (at (λ q past. resident past p ≡ false) away) h (settings-after x.histories g h g_settings h_settings) (λ q. same-after x.histories g h q (first q) (second q))
         gone (at (λ q past. has_free_frame q past ≡ false) full) (at (λ q past. victim q past ≡ Some gone) chosen) (at (λ q past. unsaved past gone ≡ false) saved)
         ((h_others p (λ e. apart (sym e))).held ∙ g_kept) h_gone (λ q n m. (h_others q m).held ∙ (g_others q n).held) in
+        let was = held-here c trail.past (parts_of x) core.agrees in
+        let still : (q : ℕ) → resident trail.past q ≡ true → is_held g q ≡ true = λ q here. (g_others q (λ e. true≢false (sym here ∙ ap (resident trail.past) e ∙ at (λ q past. resident past p ≡ false) away))).held ∙ was q here in
+        let moved = rehoused c _ _ next (place_of h) (λ q here.
+        let before = stayed-here trail.past gone q here in
+        place-kept g h h_places q (still q before) (held-here c _ _ next q here) ∙ place-kept x.histories g g_places q (was q before) (still q before)) in
         record {
-          agrees = rw same next;
+          agrees = rw same moved;
           candidates = move-evict c trail.past x.frames.candidates core.candidates e limits pages gone leaves who p x.tickets_given out;
           trail_room = longer c _ core.trail_room _ (omega (arith, at-room c trail x core v is 3 room)) (omega arith) (omega arith);
           opening = core.opening;
+          placed = placed-after g h h_places (placed-prepared x.histories g p g_others g_places core.placed g_place) (held-before g h gone h_others ((g_others gone apart).held ∙ victim-held gone chosen));
           pass_room = record { reserved = omega (arith, capacity, ap length same) };
           read_room = core.read_room;
           frame_room = record { reserved = omega (arith, core.frame_room.reserved); size_is = core.frame_room.size_is; limit_is = core.frame_room.limit_is; pages_is = core.frame_room.pages_is };
@@ -143,31 +153,37 @@ module _ (c : Parameters) (trail : Kept) (x : State) (core : IsCore c trail x) (
     fewer-kept : length x.reads.out ≡ length (filter (λ g. not (g.serial == t)) x.reads.out) + 1
     fewer-kept = subst (λ gs. length gs ≡ length (filter (λ g. not (g.serial == t)) gs) + 1) (sym core.agrees.observed.reads_is) fewer
 
-    pub keeps-fail_load : (h : Blocks) → SameSettings x.histories h → SameStampsAt x.histories h p → ((q : ℕ) → q ≢ p → SameAt x.histories h q) → is_held h p ≡ false
+    pub keeps-fail_load : (h : Blocks) → SameSettings x.histories h → SameStampsAt x.histories h p → ((q : ℕ) → q ≢ p → SameAt x.histories h q) → is_held h p ≡ false → KeepsPlaces x.histories h
         → IsCore c (with_next trail who (ReadEnd t p None) ReadFailed) (record x { reads = record x.reads { out = filter (λ g. not (g.serial == t)) x.reads.out }; histories = h })
-    keeps-fail_load h settings stamps others gone = record {
-      agrees = agrees-failed c trail.past (parts_of x) core.agrees who p t out-now h settings (unprepared x.histories h p stamps others) gone (λ q n. (others q n).held);
-      candidates = stay c trail.past x.frames.candidates core.candidates _ (λ q. refl);
-      trail_room = longer c _ core.trail_room _ (omega (arith, core.trail_room.owed, fewer)) (omega arith) (omega arith);
-      opening = core.opening;
-      pass_room = record { reserved = omega (arith, core.pass_room.reserved, fewer-kept) };
-      read_room = core.read_room;
-      frame_room = record { reserved = omega (arith, core.frame_room.reserved, fewer-kept); size_is = core.frame_room.size_is; limit_is = core.frame_room.limit_is; pages_is = core.frame_room.pages_is };
-    }
+    keeps-fail_load h settings stamps others gone places =
+        let next = agrees-failed c trail.past (parts_of x) core.agrees who p t out-now h settings (unprepared x.histories h p stamps others) gone (λ q n. (others q n).held) in
+        record {
+          agrees = rehoused c _ _ next (place_of h) (λ q here. place-kept x.histories h places q (held-here c trail.past (parts_of x) core.agrees q here) (held-here c _ _ next q here));
+          candidates = stay c trail.past x.frames.candidates core.candidates _ (λ q. refl);
+          trail_room = longer c _ core.trail_room _ (omega (arith, core.trail_room.owed, fewer)) (omega arith) (omega arith);
+          opening = core.opening;
+          placed = placed-after x.histories h places core.placed (held-before x.histories h p others held-now);
+          pass_room = record { reserved = omega (arith, core.pass_room.reserved, fewer-kept) };
+          read_room = core.read_room;
+          frame_room = record { reserved = omega (arith, core.frame_room.reserved, fewer-kept); size_is = core.frame_room.size_is; limit_is = core.frame_room.limit_is; pages_is = core.frame_room.pages_is };
+        }
 
-    pub keeps-end_load : (image : List ℕ) → length image ≡ v.parameters.size → (fs : Table) → IsPermutation (loaded_with p image ∷ x.frames.frames) fs.frames → fs.spare + 1 ≡ x.frames.spare → fs.size ≡ x.frames.size → fs.limit ≡ x.frames.limit → fs.pages ≡ x.frames.pages → fs.candidates ≡ x.frames.candidates
-        → (h : Blocks) → SameSettings x.histories h → ((refs : List Reference) → IsTimed refs → HasStampsOf x.histories p refs → HasStampsOf h p (fault x.clock ∷ refs)) → ((q : ℕ) → q ≢ p → SameAt x.histories h q) → is_held h p ≡ true
+    pub keeps-end_load : (block : ℕ) → place_of x.histories p ≡ Some block → (image : List ℕ) → length image ≡ v.parameters.size → (fs : Table) → IsPermutation (loaded_with p block image ∷ x.frames.frames) fs.frames → fs.spare + 1 ≡ x.frames.spare → fs.size ≡ x.frames.size → fs.limit ≡ x.frames.limit → fs.pages ≡ x.frames.pages → fs.candidates ≡ x.frames.candidates
+        → (h : Blocks) → SameSettings x.histories h → ((refs : List Reference) → IsTimed refs → HasStampsOf x.histories p refs → HasStampsOf h p (fault x.clock ∷ refs)) → ((q : ℕ) → q ≢ p → SameAt x.histories h q) → is_held h p ≡ true → KeepsPlaces x.histories h
         → IsCore c (with_next trail who (ReadEnd t p (Some image)) (Fixed x.passes_given))
         (record x { passes_given = x.passes_given + 1; passes = with_grant x.passes who p x.passes_given; reads = record x.reads { out = filter (λ g. not (g.serial == t)) x.reads.out }; frames = fs; histories = h })
-    keeps-end_load image fits fs moved spare size limit in_file same_candidates h settings stamps others kept =
+    keeps-end_load block place image fits fs moved spare size limit in_file same_candidates h settings stamps others kept places =
         let a = core.agrees in
         let refs = references c trail.past p in
         let stamped = subst (λ u. HasStampsOf h p (fault u ∷ refs)) a.observed.clock_is (stamps refs (references-timed c trail.past p).timed (a.observed.stamps_are p)) in
+        let next = agrees-fixed c trail.past (parts_of x) a who p t out-now h settings block place image (given (λ q. length image ≡ q.size) fits) fs.frames moved stamped others kept in
+        let was = held-before x.histories h p others held-now in
         record {
-          agrees = agrees-fixed c trail.past (parts_of x) a who p t out-now h settings image (given (λ q. length image ≡ q.size) fits) fs.frames moved stamped others kept;
+          agrees = rehoused c _ _ next (place_of h) (λ q here. let holds = held-here c _ _ next q here in place-kept x.histories h places q (was q holds) holds);
           candidates = subst (HasCandidates c (with_next trail who (ReadEnd t p (Some image)) (Fixed x.passes_given)).past) (sym same_candidates) (stay-end_load c trail.past x.frames.candidates core.candidates who t p x.passes_given image absent);
           trail_room = longer c _ core.trail_room _ (omega (arith, core.trail_room.owed, fewer)) (omega arith) (omega arith);
           opening = core.opening;
+          placed = placed-after x.histories h places core.placed was;
           pass_room = record { reserved = omega (arith, core.pass_room.reserved, fewer-kept) };
           read_room = core.read_room;
           frame_room = record { reserved = omega (arith, core.frame_room.reserved, fewer-kept, spare); size_is = omega (arith, size, core.frame_room.size_is); limit_is = omega (arith, limit, core.frame_room.limit_is); pages_is = omega (arith, in_file, core.frame_room.pages_is) };

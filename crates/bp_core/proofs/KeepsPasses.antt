@@ -6,7 +6,7 @@ use Rattle.bp_lruk.specs.Burst.{Reference}
 use Rattle.bp_lruk.specs.Burst.Reference.{hit}
 use Rattle.bp_lruk.specs.Stamp.{IsTimed}
 use Rattle.bp_lruk.specs.Candidates.{Entered, entry_of, NoPageTwice, SameLimits}
-use Rattle.bp_lruk.specs.Histories.{Blocks, is_held, stamp_of, last_of, HasStampsOf, SameAt, SameSettings}
+use Rattle.bp_lruk.specs.Histories.{Blocks, is_held, place_of, stamp_of, last_of, HasStampsOf, SameAt, SameSettings, KeepsPlaces}
 use Rattle.bp_trail.specs.declared.entries.Call.TheVariants.{Fix, Write, Unfix}
 use Rattle.bp_trail.specs.declared.entries.Reply.TheVariants.{Done, Hit}
 use Rattle.bp_trail.specs.Passes.{passes_out, is_of, pins}
@@ -21,6 +21,7 @@ use Rattle.bp_trail.proofs.Places.{places, out-of_page}
 use Rattle.bp_core.proofs.Seen.{ranked, resident_seen}
 use Rattle.bp_frames.specs.Frames.{is_frame_of}
 use Rattle.bp_trail.specs.Lists.{some}
+use Rattle.bp_core.proofs.Placed.{place-kept, placed-after, held-before, held-here, rehoused}
 use Rattle.bp_core.proofs.CandidateSteps.{no-entry, stay, move-hit, move-unfix}
 use Rattle.bp_trail.proofs.Residents.{reads-rest}
 use Rattle.bp_trail.proofs.Timed.{references-timed}
@@ -67,6 +68,7 @@ module _ (c : Parameters) (trail : Kept) (x : State) (core : IsCore c trail x) (
             (entered ∙ ap (λ t. if unused_now then Some t else entry_of x.frames.candidates p) (ranked c trail.past (parts_of x) core.agrees p));
         trail_room = longer c _ core.trail_room _ (omega (arith, fewer, core.trail_room.owed)) (omega arith) (omega arith);
         opening = core.opening;
+        placed = core.placed;
         pass_room = record { reserved = omega (arith, core.pass_room.reserved, length-split (λ g. g.serial == n) x.passes.out) };
         read_room = core.read_room;
         frame_room = core.frame_room;
@@ -81,6 +83,7 @@ module _ (c : Parameters) (trail : Kept) (x : State) (core : IsCore c trail x) (
         candidates = stay c trail.past x.frames.candidates core.candidates _ (λ q. refl);
         trail_room = longer c _ core.trail_room _ (omega (arith, at-room c trail x core v is 1 room)) (omega arith) (omega arith);
         opening = core.opening;
+        placed = core.placed;
         pass_room = core.pass_room;
         read_room = core.read_room;
         frame_room = core.frame_room;
@@ -88,19 +91,22 @@ module _ (c : Parameters) (trail : Kept) (x : State) (core : IsCore c trail x) (
 
   pub keeps-hit : (who p : ℕ) → who < v.parameters.clients → p < v.parameters.pages → EachPast v (λ past. resident past p ≡ true) → HasRoomFor 3 v
       → (ps : Given) → ps.out ≡ x.passes.out → length x.passes.out + (length x.reads.out + 1) ≤ ps.capacity
-      → (h : Blocks) → SameSettings x.histories h → ((refs : List Reference) → IsTimed refs → HasStampsOf x.histories p refs → HasStampsOf h p (hit x.clock ∷ refs)) → ((q : ℕ) → q ≢ p → SameAt x.histories h q) → is_held h p ≡ true
+      → (h : Blocks) → SameSettings x.histories h → ((refs : List Reference) → IsTimed refs → HasStampsOf x.histories p refs → HasStampsOf h p (hit x.clock ∷ refs)) → ((q : ℕ) → q ≢ p → SameAt x.histories h q) → is_held h p ≡ true → KeepsPlaces x.histories h
       → (e : Entered) → SameLimits x.frames.candidates e → (NoPageTwice x.frames.candidates.entries → NoPageTwice e.entries) → ((q : ℕ) → q ≢ p → entry_of e q ≡ entry_of x.frames.candidates q) → entry_of e p ≡ None
       → IsCore c (with_next trail who (Fix p) (Hit x.passes_given)) (record x { passes_given = x.passes_given + 1; passes = with_grant ps who p x.passes_given; frames = record (with_changed x.frames p pinned) { candidates = e }; histories = h })
-  keeps-hit who p client page here room ps same capacity h settings stamps others kept e limits pages leaves gone =
+  keeps-hit who p client page here room ps same capacity h settings stamps others kept places e limits pages leaves gone =
       let a = core.agrees in
       let refs = references c trail.past p in
       let stamped = subst (λ t. HasStampsOf h p (hit t ∷ refs)) a.observed.clock_is (stamps refs (references-timed c trail.past p).timed (a.observed.stamps_are p)) in
       let next = agrees-hit c trail.past (parts_of x) a who p h (lt-ltb who c.clients (given (λ q. who < q.clients) client)) (lt-ltb p c.pages (given (λ q. p < q.pages) page)) (at (λ q past. resident past p ≡ true) here) settings stamped others kept in
+      let was = held-here c trail.past (parts_of x) a in
+      let moved = rehoused c _ _ next (place_of h) (λ q here. place-kept x.histories h places q (was q here) (held-here c _ _ next q here)) in
       record {
-        agrees = rw same next;
+        agrees = rw same moved;
         candidates = move-hit c trail.past x.frames.candidates core.candidates e limits pages p leaves who x.passes_given gone;
         trail_room = longer c _ core.trail_room _ (omega (arith, at-room c trail x core v is 3 room)) (omega arith) (omega arith);
         opening = core.opening;
+        placed = placed-after x.histories h places core.placed (held-before x.histories h p others (was p (at (λ q past. resident past p ≡ true) here)));
         pass_room = record { reserved = omega (arith, capacity, ap length same) };
         read_room = core.read_room;
         frame_room = core.frame_room;

@@ -57,6 +57,7 @@ module _ (c : Parameters) (trail : Kept) (x : State) (core : IsCore c trail x) (
         candidates = move-begin c trail.past x.frames.candidates core.candidates e limits pages p leaves who call x.tickets_given (held trail.past p) begins gone;
         trail_room = roomy call begins;
         opening = core.opening;
+        placed = core.placed;
         pass_room = core.pass_room;
         read_room = core.read_room;
         frame_room = core.frame_room;
@@ -108,6 +109,7 @@ module _ (c : Parameters) (trail : Kept) (x : State) (core : IsCore c trail x) (
         candidates = ended _ (λ q. refl) (λ q. refl) (λ q. refl) refl (λ q. refl);
         trail_room = longer c _ core.trail_room _ (omega (arith, core.trail_room.owed, fewer)) (omega arith) (omega arith);
         opening = core.opening;
+        placed = core.placed;
         pass_room = core.pass_room;
         read_room = core.read_room;
         frame_room = core.frame_room;
@@ -120,6 +122,7 @@ module _ (c : Parameters) (trail : Kept) (x : State) (core : IsCore c trail x) (
         candidates = ended _ (λ q. refl) (λ q. refl) (λ q. refl) refl (λ q. refl);
         trail_room = longer c _ core.trail_room _ (omega (arith, core.trail_room.owed, fewer)) (omega arith) (omega arith);
         opening = core.opening;
+        placed = core.placed;
         pass_room = core.pass_room;
         read_room = core.read_room;
         frame_room = core.frame_room;
@@ -131,6 +134,7 @@ module _ (c : Parameters) (trail : Kept) (x : State) (core : IsCore c trail x) (
         candidates = ended _ (λ q. refl) (λ q. refl) (λ q. refl) refl (λ q. refl);
         trail_room = longer c _ core.trail_room _ (omega (arith, core.trail_room.owed, fewer)) (omega arith) (omega arith);
         opening = core.opening;
+        placed = core.placed;
         pass_room = core.pass_room;
         read_room = core.read_room;
         frame_room = core.frame_room;

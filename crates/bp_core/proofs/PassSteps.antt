@@ -45,13 +45,13 @@ others-stay who p t q gs once out e =
 
 module _ (c : Parameters) (past : Trail) (x : Parts) (a : Agrees c past x) where
   -- a change of one page's frame
-  pub frames-changed : (p : ℕ) (change : Frame → Frame) (later : Trail) → ((q : ℕ) → frame_of later q ≡ (if q == p then change (frame_of past q) else frame_of past q))
-      → (test : Frame → Bool) → count test (changed_at p change x.frames) ≡ count (λ q. test (frame_of later q)) (residents past)
+  pub frames-changed : (p : ℕ) (change : Frame → Frame) (later : Trail) → ((q : ℕ) → frame_of later q (x.places q) ≡ (if q == p then change (frame_of past q (x.places q)) else frame_of past q (x.places q)))
+      → (test : Frame → Bool) → count test (changed_at p change x.frames) ≡ count (λ q. test (frame_of later q (x.places q))) (residents past)
   unfolding changed_at
   frames-changed p change later at test =
       count-map (λ f. if is_frame_of p f then change f else f) test x.frames
       ∙ a.observed.frames_is (λ f. test (if is_frame_of p f then change f else f))
-      ∙ count-agree (λ q. test (if q == p then change (frame_of past q) else frame_of past q)) (λ q. test (frame_of later q)) (λ q. ap test (sym (at q))) (residents past)
+      ∙ count-agree (λ q. test (if q == p then change (frame_of past q (x.places q)) else frame_of past q (x.places q))) (λ q. test (frame_of later q (x.places q))) (λ q. ap test (sym (at q))) (residents past)
 
   module _ (who p : ℕ) where
     -- ---- a pass is given back
@@ -80,16 +80,16 @@ module _ (c : Parameters) (past : Trail) (x : Parts) (a : Agrees c past x) where
           in_time = a.in_time;
         }
       where
-        one : (q : ℕ) (b : Bool) → (q == p) ≡ b → frame_of (by who (Unfix n p) Done ∷ past) q ≡ (if b then unpinned (frame_of past q) else frame_of past q)
+        one : (q : ℕ) (b : Bool) → (q == p) ≡ b → frame_of (by who (Unfix n p) Done ∷ past) q (x.places q) ≡ (if b then unpinned (frame_of past q (x.places q)) else frame_of past q (x.places q))
         one q true e =
             let k = subst (λ b. pins past q ≡ (if b then suc (pins (by who (Unfix n p) Done ∷ past) q) else pins (by who (Unfix n p) Done ∷ past) q)) (eqb-sym p q ∙ e) (pins-unfix past who c n p q a.legal out) in
             let less : pins (by who (Unfix n p) Done ∷ past) q ≡ pins past q - 1 = omega (arith, k) in
-            ap (λ m. record (frame_of past q) { pins = m }) less
+            ap (λ m. record (frame_of past q (x.places q)) { pins = m }) less
         one q false e =
             let k = subst (λ b. pins past q ≡ (if b then suc (pins (by who (Unfix n p) Done ∷ past) q) else pins (by who (Unfix n p) Done ∷ past) q)) (eqb-sym p q ∙ e) (pins-unfix past who c n p q a.legal out) in
-            ap (λ m. record (frame_of past q) { pins = m }) (sym k)
+            ap (λ m. record (frame_of past q (x.places q)) { pins = m }) (sym k)
 
-        at : (q : ℕ) → frame_of (by who (Unfix n p) Done ∷ past) q ≡ (if q == p then unpinned (frame_of past q) else frame_of past q)
+        at : (q : ℕ) → frame_of (by who (Unfix n p) Done ∷ past) q (x.places q) ≡ (if q == p then unpinned (frame_of past q (x.places q)) else frame_of past q (x.places q))
         at q = one q (q == p) refl
 
     -- ---- a write
@@ -121,12 +121,12 @@ module _ (c : Parameters) (past : Trail) (x : Parts) (a : Agrees c past x) where
         later = by who (Write n p offset bytes lsn) Done ∷ past
 
         put : (q : ℕ) (b : Bool) (t : ℕ) → t ≡ (if b then max lsn (top past q) else top past q)
-            → (let f : Frame = record { page = q; pins = pins past q; is_unsaved = b || unsaved past q; is_rewritten = b || rewritten past q; is_writing = writing past q; top = t; image = if b then patched offset bytes (held past q) else held past q } in f) ≡ (if b then written_on offset bytes lsn (frame_of past q) else frame_of past q)
-        put q true t e = ap (λ m. record (written_on offset bytes lsn (frame_of past q)) { top = m }) e
-        put q false t e = ap (λ m. record (frame_of past q) { top = m }) e
+            → (let f : Frame = record { page = q; block = x.places q; pins = pins past q; is_unsaved = b || unsaved past q; is_rewritten = b || rewritten past q; is_writing = writing past q; top = t; image = if b then patched offset bytes (held past q) else held past q } in f) ≡ (if b then written_on offset bytes lsn (frame_of past q (x.places q)) else frame_of past q (x.places q))
+        put q true t e = ap (λ m. record (written_on offset bytes lsn (frame_of past q (x.places q))) { top = m }) e
+        put q false t e = ap (λ m. record (frame_of past q (x.places q)) { top = m }) e
 
-        at : (q : ℕ) → frame_of (by who (Write n p offset bytes lsn) Done ∷ past) q ≡ (if q == p then written_on offset bytes lsn (frame_of past q) else frame_of past q)
-        at q = put q (p == q) (top (by who (Write n p offset bytes lsn) Done ∷ past) q) (top-write past who n p q offset bytes lsn) ∙ ap (λ b. if b then written_on offset bytes lsn (frame_of past q) else frame_of past q) (eqb-sym p q)
+        at : (q : ℕ) → frame_of (by who (Write n p offset bytes lsn) Done ∷ past) q (x.places q) ≡ (if q == p then written_on offset bytes lsn (frame_of past q (x.places q)) else frame_of past q (x.places q))
+        at q = put q (p == q) (top (by who (Write n p offset bytes lsn) Done ∷ past) q) (top-write past who n p q offset bytes lsn) ∙ ap (λ b. if b then written_on offset bytes lsn (frame_of past q (x.places q)) else frame_of past q (x.places q)) (eqb-sym p q)
 
     -- ---- a hit
     pub reply-hit : loading past p ≡ false → resident past p ≡ true → fix_reply c past p ≡ Hit (passes past)
@@ -155,16 +155,16 @@ module _ (c : Parameters) (past : Trail) (x : Parts) (a : Agrees c past x) where
       in_time = a.in_time;
     }
       where
-        one : (q : ℕ) (b : Bool) → (q == p) ≡ b → frame_of (by who (Fix p) (Hit x.given) ∷ past) q ≡ (if b then pinned (frame_of past q) else frame_of past q)
+        one : (q : ℕ) (b : Bool) → (q == p) ≡ b → frame_of (by who (Fix p) (Hit x.given) ∷ past) q (x.places q) ≡ (if b then pinned (frame_of past q (x.places q)) else frame_of past q (x.places q))
         one q true e =
             let k = subst (λ b. pins (by who (Fix p) (Hit x.given) ∷ past) q ≡ (if b then suc (pins past q) else pins past q)) (eqb-sym p q ∙ e) (pins-hit past who p x.given q) in
             let more : pins (by who (Fix p) (Hit x.given) ∷ past) q ≡ pins past q + 1 = omega (arith, k) in
-            ap (λ m. record (frame_of past q) { pins = m }) more
+            ap (λ m. record (frame_of past q (x.places q)) { pins = m }) more
         one q false e =
             let k = subst (λ b. pins (by who (Fix p) (Hit x.given) ∷ past) q ≡ (if b then suc (pins past q) else pins past q)) (eqb-sym p q ∙ e) (pins-hit past who p x.given q) in
-            ap (λ m. record (frame_of past q) { pins = m }) k
+            ap (λ m. record (frame_of past q (x.places q)) { pins = m }) k
 
-        at : (q : ℕ) → frame_of (by who (Fix p) (Hit x.given) ∷ past) q ≡ (if q == p then pinned (frame_of past q) else frame_of past q)
+        at : (q : ℕ) → frame_of (by who (Fix p) (Hit x.given) ∷ past) q (x.places q) ≡ (if q == p then pinned (frame_of past q (x.places q)) else frame_of past q (x.places q))
         at q = one q (q == p) refl
 
         stamped : (q : ℕ) (b : Bool) → (p == q) ≡ b → HasStampsOf h q (if b then hit (clock past) ∷ references c past q else references c past q)

@@ -93,7 +93,7 @@ module _ (c : Parameters) (past : Trail) (x : Parts) (a : Agrees c past x) (who 
         out_is = a.observed.out_is;
         reads_is = ap (λ gs. grant who p x.begun ∷ gs) a.observed.reads_is;
         writes_is = a.observed.writes_is;
-        frames_is = λ test. count-filter test (λ f. not (is_frame_of v f)) x.frames ∙ a.observed.frames_is (λ f. not (is_frame_of v f) && test f) ∙ sym (count-filter (λ q. test (frame_of past q)) (λ q. not (q == v)) (residents past));
+        frames_is = λ test. count-filter test (λ f. not (is_frame_of v f)) x.frames ∙ a.observed.frames_is (λ f. not (is_frame_of v f) && test f) ∙ sym (count-filter (λ q. test (frame_of past q (x.places q))) (λ q. not (q == v)) (residents past));
         stamps_are = λ q. stamps-kept x.blocks h q (references c past q) settings (stamps q) (a.observed.stamps_are q);
         held_is = λ q. holds q (p == q) refl (q == v) refl;
       };
@@ -163,10 +163,10 @@ module _ (c : Parameters) (past : Trail) (x : Parts) (a : Agrees c past x) (who 
         holds q true e = subst (λ y. is_held h y ≡ (resident past y || some (is_of y) (rest t (reads_out past)))) (eqb-true p q e) (gone ∙ sym (ap (λ b. b || some (is_of p) (rest t (reads_out past))) absent ∙ idle-after))
         holds q false e = others q (λ i. other p q e (sym i)) ∙ a.observed.held_is q ∙ ap (λ b. resident past q || b) (sym (idle-other q e))
 
-    pub agrees-fixed : (image : List ℕ) → length image ≡ c.size → (fs : List Frame) → IsPermutation (loaded_with p image ∷ x.frames) fs → HasStampsOf h p (fault (clock past) ∷ references c past p) → ((q : ℕ) → q ≢ p → SameAt x.blocks h q) → is_held h p ≡ true
+    pub agrees-fixed : (block : ℕ) → x.places p ≡ Some block → (image : List ℕ) → length image ≡ c.size → (fs : List Frame) → IsPermutation (loaded_with p block image ∷ x.frames) fs → HasStampsOf h p (fault (clock past) ∷ references c past p) → ((q : ℕ) → q ≢ p → SameAt x.blocks h q) → is_held h p ≡ true
         → Agrees c (by who (ReadEnd t p (Some image)) (Fixed x.given) ∷ past)
         (record x { given = x.given + 1; out = grant who p x.given ∷ x.out; reads = filter (λ g. not (g.serial == t)) x.reads; frames = fs; blocks = h })
-    agrees-fixed image size fs moved stamps others kept = record {
+    agrees-fixed block place image size fs moved stamps others kept = record {
       legal = record { here = record { client = clients; allowed = and_from _ _ out (eq-eqb (length image) c.size size); reply = ap Fixed a.observed.passes_is }; before = a.legal };
       observed = record {
         clock_is = a.observed.clock_is;
@@ -213,27 +213,27 @@ module _ (c : Parameters) (past : Trail) (x : Parts) (a : Agrees c past x) (who 
         own-image : held (by who (ReadEnd t p (Some image)) (Fixed x.given) ∷ past) p ≡ image
         own-image = ap (λ b. if b then image else held past p) (eq-eqb p p refl)
 
-        own : frame_of (by who (ReadEnd t p (Some image)) (Fixed x.given) ∷ past) p ≡ loaded_with p image
-        own = λ i. record { page = p; pins = own-pins i; is_unsaved = saved-now i; is_rewritten = settled-now i; is_writing = idle-now i; top = own-top i; image = own-image i }
+        own : frame_of (by who (ReadEnd t p (Some image)) (Fixed x.given) ∷ past) p (x.places p) ≡ loaded_with p block image
+        own = λ i. record { page = p; block = place i; pins = own-pins i; is_unsaved = saved-now i; is_rewritten = settled-now i; is_writing = idle-now i; top = own-top i; image = own-image i }
 
-        others-frame : (q : ℕ) → (q == p) ≡ false → frame_of past q ≡ frame_of (by who (ReadEnd t p (Some image)) (Fixed x.given) ∷ past) q
+        others-frame : (q : ℕ) → (q == p) ≡ false → frame_of past q (x.places q) ≡ frame_of (by who (ReadEnd t p (Some image)) (Fixed x.given) ∷ past) q (x.places q)
         others-frame q e =
             let n : (p == q) ≡ false = eqb-sym p q ∙ e in
             let pins-same : pins past q ≡ pins (by who (ReadEnd t p (Some image)) (Fixed x.given) ∷ past) q = omega (arith, count-cons (is_of q) (grant who p x.given) (passes_out past), ap {B = ℕ} (λ b. cond b 1 0) n) in
             let top-same : top past q ≡ top (by who (ReadEnd t p (Some image)) (Fixed x.given) ∷ past) q = sym (top-load past who t p q x.given image ∙ ap (λ b. if b then 0 else top past q) n) in
             let image-same : held past q ≡ held (by who (ReadEnd t p (Some image)) (Fixed x.given) ∷ past) q = sym (ap (λ b. if b then image else held past q) n) in
-            λ i. record { page = q; pins = pins-same i; is_unsaved = unsaved past q; is_rewritten = rewritten past q; is_writing = writing past q; top = top-same i; image = image-same i }
+            λ i. record { page = q; block = x.places q; pins = pins-same i; is_unsaved = unsaved past q; is_rewritten = rewritten past q; is_writing = writing past q; top = top-same i; image = image-same i }
 
-        counts : (test : Frame → Bool) → count test fs ≡ count (λ q. test (frame_of (by who (ReadEnd t p (Some image)) (Fixed x.given) ∷ past) q)) (p ∷ residents past)
+        counts : (test : Frame → Bool) → count test fs ≡ count (λ q. test (frame_of (by who (ReadEnd t p (Some image)) (Fixed x.given) ∷ past) q (x.places q))) (p ∷ residents past)
         counts test =
             omega (
               arith,
-              count-permutation test (loaded_with p image ∷ x.frames) fs moved,
-              count-cons test (loaded_with p image) x.frames,
-              count-cons (λ q. test (frame_of (by who (ReadEnd t p (Some image)) (Fixed x.given) ∷ past) q)) p (residents past),
+              count-permutation test (loaded_with p block image ∷ x.frames) fs moved,
+              count-cons test (loaded_with p block image) x.frames,
+              count-cons (λ q. test (frame_of (by who (ReadEnd t p (Some image)) (Fixed x.given) ∷ past) q (x.places q))) p (residents past),
               ap {B = ℕ} (λ g. cond (test g) 1 0) own,
               a.observed.frames_is test,
-              count-agree_but (λ q. test (frame_of past q)) (λ q. test (frame_of (by who (ReadEnd t p (Some image)) (Fixed x.given) ∷ past) q)) (λ q. q == p) (λ q e. ap test (others-frame q e)) (residents past) absent,
+              count-agree_but (λ q. test (frame_of past q (x.places q))) (λ q. test (frame_of (by who (ReadEnd t p (Some image)) (Fixed x.given) ∷ past) q (x.places q))) (λ q. q == p) (λ q e. ap test (others-frame q e)) (residents past) absent,
             )
 
         stamped : (q : ℕ) (b : Bool) → (p == q) ≡ b → HasStampsOf h q (if b then fault (clock past) ∷ references c past q else references c past q)

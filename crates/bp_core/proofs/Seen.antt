@@ -33,8 +33,14 @@ abbrev pub same_bool : Bool → Bool → Bool
 same_bool true b = b
 same_bool false b = not b
 
+abbrev pub same_number : Option ℕ → Option ℕ → Bool
+same_number None None = true
+same_number None (Some n) = false
+same_number (Some m) None = false
+same_number (Some m) (Some n) = m == n
+
 abbrev pub same_frame : Frame → Frame → Bool
-same_frame f g = (f.page == g.page) && ((f.pins == g.pins) && (same_bool f.is_unsaved g.is_unsaved && (same_bool f.is_rewritten g.is_rewritten && (same_bool f.is_writing g.is_writing && ((f.top == g.top) && bytes_eq f.image g.image)))))
+same_frame f g = (f.page == g.page) && (same_number f.block g.block && ((f.pins == g.pins) && (same_bool f.is_unsaved g.is_unsaved && (same_bool f.is_rewritten g.is_rewritten && (same_bool f.is_writing g.is_writing && ((f.top == g.top) && bytes_eq f.image g.image))))))
 
 same_bool-is : (a b : Bool) → same_bool a b ≡ true → a ≡ b
 same_bool-is true true e = refl
@@ -46,27 +52,39 @@ same_bool-itself : (a : Bool) → same_bool a a ≡ true
 same_bool-itself true = refl
 same_bool-itself false = refl
 
+pub same_number-is : (a b : Option ℕ) → same_number a b ≡ true → a ≡ b
+same_number-is None None e = refl
+same_number-is None (Some n) e = absurd (true≢false (sym e))
+same_number-is (Some m) None e = absurd (true≢false (sym e))
+same_number-is (Some m) (Some n) e = ap Some (eqb-true m n e)
+
+pub same_number-itself : (a : Option ℕ) → same_number a a ≡ true
+same_number-itself None = refl
+same_number-itself (Some n) = eq-eqb n n refl
+
 same-is : (f g : Frame) → same_frame f g ≡ true → f ≡ g
 same-is f g e =
     let page = and_parts (f.page == g.page) _ e in
-    let pins = and_parts (f.pins == g.pins) _ page.1 in
+    let block = and_parts (same_number f.block g.block) _ page.1 in
+    let pins = and_parts (f.pins == g.pins) _ block.1 in
     let unsaved = and_parts (same_bool f.is_unsaved g.is_unsaved) _ pins.1 in
     let rewritten = and_parts (same_bool f.is_rewritten g.is_rewritten) _ unsaved.1 in
     let writing = and_parts (same_bool f.is_writing g.is_writing) _ rewritten.1 in
     let top = and_parts (f.top == g.top) _ writing.1 in
     let at_page = eqb-true f.page g.page page.0 in
+    let at_block = same_number-is f.block g.block block.0 in
     let at_pins = eqb-true f.pins g.pins pins.0 in
     let at_unsaved = same_bool-is f.is_unsaved g.is_unsaved unsaved.0 in
     let at_rewritten = same_bool-is f.is_rewritten g.is_rewritten rewritten.0 in
     let at_writing = same_bool-is f.is_writing g.is_writing writing.0 in
     let at_top = eqb-true f.top g.top top.0 in
     let at_image = (bytes_eq-Decides f.image g.image).0 top.1 in
-    λ i. record { page = at_page i; pins = at_pins i; is_unsaved = at_unsaved i; is_rewritten = at_rewritten i; is_writing = at_writing i; top = at_top i; image = at_image i }
+    λ i. record { page = at_page i; block = at_block i; pins = at_pins i; is_unsaved = at_unsaved i; is_rewritten = at_rewritten i; is_writing = at_writing i; top = at_top i; image = at_image i }
 
 same-itself : (f : Frame) → same_frame f f ≡ true
 same-itself f =
-    and_from _ _ (eq-eqb f.page f.page refl) (and_from _ _ (eq-eqb f.pins f.pins refl) (and_from _ _ (same_bool-itself f.is_unsaved) (and_from _ _ (same_bool-itself f.is_rewritten)
-    (and_from _ _ (same_bool-itself f.is_writing) (and_from _ _ (eq-eqb f.top f.top refl) ((bytes_eq-Decides f.image f.image).1 refl))))))
+    and_from _ _ (eq-eqb f.page f.page refl) (and_from _ _ (same_number-itself f.block) (and_from _ _ (eq-eqb f.pins f.pins refl) (and_from _ _ (same_bool-itself f.is_unsaved) (and_from _ _ (same_bool-itself f.is_rewritten)
+    (and_from _ _ (same_bool-itself f.is_writing) (and_from _ _ (eq-eqb f.top f.top refl) ((bytes_eq-Decides f.image f.image).1 refl)))))))
 
 -- ---- counts of none
 
@@ -91,15 +109,15 @@ module _ (c : Parameters) (past : Trail) (x : Parts) (a : Agrees c past x) where
   resident_seen p = some-from_counts (is_frame_of p) (λ q. q == p) x.frames (residents past) (a.observed.frames_is (is_frame_of p))
 
   -- a test that each frame of a resident page passes, each frame passes
-  pub none_fails : (test : Frame → Bool) → ((q : ℕ) → resident past q ≡ true → test (frame_of past q) ≡ true) → some (λ f. not (test f)) x.frames ≡ false
+  pub none_fails : (test : Frame → Bool) → ((q : ℕ) → resident past q ≡ true → test (frame_of past q (x.places q)) ≡ true) → some (λ f. not (test f)) x.frames ≡ false
   none_fails test shows =
-      some-from_counts (λ f. not (test f)) (λ q. not (test (frame_of past q))) x.frames (residents past) (a.observed.frames_is (λ f. not (test f)))
-      ∙ false_from_ne_true (some (λ q. not (test (frame_of past q))) (residents past)) (λ t.
-      let one = some-count (λ q. not (test (frame_of past q))) (residents past) t in
-      let none = none-passes (λ q. not (test (frame_of past q))) (residents past) (λ q m. ap not (shows q m)) in
+      some-from_counts (λ f. not (test f)) (λ q. not (test (frame_of past q (x.places q)))) x.frames (residents past) (a.observed.frames_is (λ f. not (test f)))
+      ∙ false_from_ne_true (some (λ q. not (test (frame_of past q (x.places q)))) (residents past)) (λ t.
+      let one = some-count (λ q. not (test (frame_of past q (x.places q)))) (residents past) t in
+      let none = none-passes (λ q. not (test (frame_of past q (x.places q)))) (residents past) (λ q m. ap not (shows q m)) in
       absurd (omega (arith, one, none)))
 
-  pub all_frames : (P : Frame → Type 0) (test : Frame → Bool) → ((f : Frame) → test f ≡ true → P f) → ((q : ℕ) → resident past q ≡ true → test (frame_of past q) ≡ true) → All P x.frames
+  pub all_frames : (P : Frame → Type 0) (test : Frame → Bool) → ((f : Frame) → test f ≡ true → P f) → ((q : ℕ) → resident past q ≡ true → test (frame_of past q (x.places q)) ≡ true) → All P x.frames
   all_frames P test tells shows i d lt = tells (get_or x.frames i d) (elim (cases_Bool (test (get_or x.frames i d))) [
     | inl t ↦ t
     | inr n ↦ absurd (true≢false (sym (some-at (λ f. not (test f)) x.frames i d lt (not_from_false (test (get_or x.frames i d)) n)) ∙ none_fails test shows))
@@ -107,20 +125,20 @@ module _ (c : Parameters) (past : Trail) (x : Parts) (a : Agrees c past x) where
 
   -- the frame of a page
   shape : ℕ → Frame → Bool
-  shape p f = not (f.page == p) || same_frame (frame_of past p) f
+  shape p f = not (f.page == p) || same_frame (frame_of past p (x.places p)) f
 
-  shaped : (p q : ℕ) → (not (q == p) || same_frame (frame_of past p) (frame_of past q)) ≡ true
+  shaped : (p q : ℕ) → (not (q == p) || same_frame (frame_of past p (x.places p)) (frame_of past q (x.places q))) ≡ true
   shaped p q = go (q == p) refl
     where
-      go : (b : Bool) → (q == p) ≡ b → (not b || same_frame (frame_of past p) (frame_of past q)) ≡ true
-      go true e = subst (λ y. same_frame (frame_of past p) (frame_of past y) ≡ true) (sym (eqb-true q p e)) (same-itself (frame_of past p))
+      go : (b : Bool) → (q == p) ≡ b → (not b || same_frame (frame_of past p (x.places p)) (frame_of past q (x.places q))) ≡ true
+      go true e = subst (λ y. same_frame (frame_of past p (x.places p)) (frame_of past y (x.places y)) ≡ true) (sym (eqb-true q p e)) (same-itself (frame_of past p (x.places p)))
       go false e = refl
 
-  pub frame_in : (p : ℕ) (f : Frame) → Contains x.frames f → f.page ≡ p → f ≡ frame_of past p
+  pub frame_in : (p : ℕ) (f : Frame) → Contains x.frames f → f.page ≡ p → f ≡ frame_of past p (x.places p)
   frame_in p f in_list page =
-      let bad : Frame → Bool = λ g. not (not (g.page == p) || same_frame (frame_of past p) g) in
-      let good : bad f ≡ false = false_from_ne_true (bad f) (λ t. true≢false (sym (some-at bad x.frames in_list.0 f in_list.1 (subst (λ g. bad g ≡ true) (sym in_list.2) t)) ∙ none_fails (λ g. not (g.page == p) || same_frame (frame_of past p) g) (λ q m. shaped p q))) in
-      sym (same-is (frame_of past p) f (passed (f.page == p) (same_frame (frame_of past p) f) (eq-eqb f.page p page) good))
+      let bad : Frame → Bool = λ g. not (not (g.page == p) || same_frame (frame_of past p (x.places p)) g) in
+      let good : bad f ≡ false = false_from_ne_true (bad f) (λ t. true≢false (sym (some-at bad x.frames in_list.0 f in_list.1 (subst (λ g. bad g ≡ true) (sym in_list.2) t)) ∙ none_fails (λ g. not (g.page == p) || same_frame (frame_of past p (x.places p)) g) (λ q m. shaped p q))) in
+      sym (same-is (frame_of past p (x.places p)) f (passed (f.page == p) (same_frame (frame_of past p (x.places p)) f) (eq-eqb f.page p page) good))
     where
       passed : (b d : Bool) → b ≡ true → not (not b || d) ≡ false → d ≡ true
       passed true true h k = refl

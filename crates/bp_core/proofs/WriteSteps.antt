@@ -82,17 +82,17 @@ module _ (c : Parameters) (past : Trail) (x : Parts) (a : Agrees c past x) (who 
       unsaved-same : (q : ℕ) → unsaved (by who (Fix p) (WriteFirst x.begun v (held past v)) ∷ past) q ≡ unsaved past q
       unsaved-same q = ap (λ b. not b && unsaved past q) (ap (λ b. (v == q) && b) none ∙ and-false (v == q))
 
-      one : (q : ℕ) (b : Bool) → (q == v) ≡ b → frame_of (by who (Fix p) (WriteFirst x.begun v (held past v)) ∷ past) q ≡ (if b then saving (frame_of past q) else frame_of past q)
+      one : (q : ℕ) (b : Bool) → (q == v) ≡ b → frame_of (by who (Fix p) (WriteFirst x.begun v (held past v)) ∷ past) q (x.places q) ≡ (if b then saving (frame_of past q (x.places q)) else frame_of past q (x.places q))
       one q true e =
           let w : rewritten (by who (Fix p) (WriteFirst x.begun v (held past v)) ∷ past) q ≡ false = ap (λ b. not b && rewritten past q) (eqb-sym v q ∙ e) in
           let u = unsaved-same q in
           let o : writing (by who (Fix p) (WriteFirst x.begun v (held past v)) ∷ past) q ≡ true = ap (λ b. b || writing past q) (eqb-sym v q ∙ e) in
-          λ i. record { page = q; pins = pins past q; is_unsaved = u i; is_rewritten = w i; is_writing = o i; top = top past q; image = held past q }
+          λ i. record { page = q; block = x.places q; pins = pins past q; is_unsaved = u i; is_rewritten = w i; is_writing = o i; top = top past q; image = held past q }
       one q false e =
           let w : rewritten (by who (Fix p) (WriteFirst x.begun v (held past v)) ∷ past) q ≡ rewritten past q = ap (λ b. not b && rewritten past q) (eqb-sym v q ∙ e) in
           let u = unsaved-same q in
           let o : writing (by who (Fix p) (WriteFirst x.begun v (held past v)) ∷ past) q ≡ writing past q = ap (λ b. b || writing past q) (eqb-sym v q ∙ e) in
-          λ i. record { page = q; pins = pins past q; is_unsaved = u i; is_rewritten = w i; is_writing = o i; top = top past q; image = held past q }
+          λ i. record { page = q; block = x.places q; pins = pins past q; is_unsaved = u i; is_rewritten = w i; is_writing = o i; top = top past q; image = held past q }
 
   pub agrees-begin-flush : (p v : ℕ) → nat_lt who c.clients ≡ true → allowed c past who (Flush p) ≡ true → WriteFirst (tickets past) v (held past v) ≡ reply_of c past (Flush p)
       → Agrees c (by who (Flush p) (WriteFirst x.begun v (held past v)) ∷ past) (record x { begun = x.begun + 1; writes = grant who v x.begun ∷ x.writes; frames = changed_at v saving x.frames })
@@ -125,17 +125,17 @@ module _ (c : Parameters) (past : Trail) (x : Parts) (a : Agrees c past x) (who 
       unsaved-same : (q : ℕ) → unsaved (by who (Flush p) (WriteFirst x.begun v (held past v)) ∷ past) q ≡ unsaved past q
       unsaved-same q = ap (λ b. not b && unsaved past q) (ap (λ b. (v == q) && b) none ∙ and-false (v == q))
 
-      one : (q : ℕ) (b : Bool) → (q == v) ≡ b → frame_of (by who (Flush p) (WriteFirst x.begun v (held past v)) ∷ past) q ≡ (if b then saving (frame_of past q) else frame_of past q)
+      one : (q : ℕ) (b : Bool) → (q == v) ≡ b → frame_of (by who (Flush p) (WriteFirst x.begun v (held past v)) ∷ past) q (x.places q) ≡ (if b then saving (frame_of past q (x.places q)) else frame_of past q (x.places q))
       one q true e =
           let w : rewritten (by who (Flush p) (WriteFirst x.begun v (held past v)) ∷ past) q ≡ false = ap (λ b. not b && rewritten past q) (eqb-sym v q ∙ e) in
           let u = unsaved-same q in
           let o : writing (by who (Flush p) (WriteFirst x.begun v (held past v)) ∷ past) q ≡ true = ap (λ b. b || writing past q) (eqb-sym v q ∙ e) in
-          λ i. record { page = q; pins = pins past q; is_unsaved = u i; is_rewritten = w i; is_writing = o i; top = top past q; image = held past q }
+          λ i. record { page = q; block = x.places q; pins = pins past q; is_unsaved = u i; is_rewritten = w i; is_writing = o i; top = top past q; image = held past q }
       one q false e =
           let w : rewritten (by who (Flush p) (WriteFirst x.begun v (held past v)) ∷ past) q ≡ rewritten past q = ap (λ b. not b && rewritten past q) (eqb-sym v q ∙ e) in
           let u = unsaved-same q in
           let o : writing (by who (Flush p) (WriteFirst x.begun v (held past v)) ∷ past) q ≡ writing past q = ap (λ b. b || writing past q) (eqb-sym v q ∙ e) in
-          λ i. record { page = q; pins = pins past q; is_unsaved = u i; is_rewritten = w i; is_writing = o i; top = top past q; image = held past q }
+          λ i. record { page = q; block = x.places q; pins = pins past q; is_unsaved = u i; is_rewritten = w i; is_writing = o i; top = top past q; image = held past q }
 
   module _ (t p : ℕ) (out : is_out (grant who p t) (writes_out past) ≡ true) where
     flies : in_flight t p past ≡ true
@@ -178,9 +178,9 @@ module _ (c : Parameters) (past : Trail) (x : Parts) (a : Agrees c past x) (who 
       in_time = a.in_time;
     }
       where
-        one : (q : ℕ) (b : Bool) → (q == p) ≡ b → frame_of (by who (WriteEnd t p false) WriteFailed ∷ past) q ≡ (if b then not_saved (frame_of past q) else frame_of past q)
-        one q true e = ap (λ o. record (frame_of past q) { is_writing = o }) (landed q e)
-        one q false e = ap (λ o. record (frame_of past q) { is_writing = o }) (still q e)
+        one : (q : ℕ) (b : Bool) → (q == p) ≡ b → frame_of (by who (WriteEnd t p false) WriteFailed ∷ past) q (x.places q) ≡ (if b then not_saved (frame_of past q (x.places q)) else frame_of past q (x.places q))
+        one q true e = ap (λ o. record (frame_of past q (x.places q)) { is_writing = o }) (landed q e)
+        one q false e = ap (λ o. record (frame_of past q (x.places q)) { is_writing = o }) (still q e)
 
     pub agrees-cleaned : written_since past t p ≡ false → Agrees c (by who (WriteEnd t p true) Cleaned ∷ past) (record x { writes = filter (λ g. not (g.serial == t)) x.writes; frames = changed_at p saved x.frames })
     agrees-cleaned since = record {
@@ -206,15 +206,15 @@ module _ (c : Parameters) (past : Trail) (x : Parts) (a : Agrees c past x) (who 
         own : unsaved (by who (WriteEnd t p true) Cleaned ∷ past) p ≡ rewritten past p
         own = unsaved-ended-well c past who t p Cleaned a.legal out ∙ sym written-seen
 
-        one : (q : ℕ) (b : Bool) → (q == p) ≡ b → frame_of (by who (WriteEnd t p true) Cleaned ∷ past) q ≡ (if b then saved (frame_of past q) else frame_of past q)
+        one : (q : ℕ) (b : Bool) → (q == p) ≡ b → frame_of (by who (WriteEnd t p true) Cleaned ∷ past) q (x.places q) ≡ (if b then saved (frame_of past q (x.places q)) else frame_of past q (x.places q))
         one q true e =
             let u : unsaved (by who (WriteEnd t p true) Cleaned ∷ past) q ≡ rewritten past q = subst (λ y. unsaved (by who (WriteEnd t p true) Cleaned ∷ past) y ≡ rewritten past y) (sym (eqb-true q p e)) own in
             let o = landed q e in
-            λ i. record { page = q; pins = pins past q; is_unsaved = u i; is_rewritten = rewritten past q; is_writing = o i; top = top past q; image = held past q }
+            λ i. record { page = q; block = x.places q; pins = pins past q; is_unsaved = u i; is_rewritten = rewritten past q; is_writing = o i; top = top past q; image = held past q }
         one q false e =
             let u : unsaved (by who (WriteEnd t p true) Cleaned ∷ past) q ≡ unsaved past q = since-other c t p q past (eqb-sym p q ∙ e) past who Cleaned flies in
             let o = still q e in
-            λ i. record { page = q; pins = pins past q; is_unsaved = u i; is_rewritten = rewritten past q; is_writing = o i; top = top past q; image = held past q }
+            λ i. record { page = q; block = x.places q; pins = pins past q; is_unsaved = u i; is_rewritten = rewritten past q; is_writing = o i; top = top past q; image = held past q }
 
     pub agrees-still_dirty : written_since past t p ≡ true → Agrees c (by who (WriteEnd t p true) StillDirty ∷ past) (record x { writes = filter (λ g. not (g.serial == t)) x.writes; frames = changed_at p saved x.frames })
     agrees-still_dirty since = record {
@@ -240,15 +240,15 @@ module _ (c : Parameters) (past : Trail) (x : Parts) (a : Agrees c past x) (who 
         own : unsaved (by who (WriteEnd t p true) StillDirty ∷ past) p ≡ rewritten past p
         own = unsaved-ended-well c past who t p StillDirty a.legal out ∙ sym written-seen
 
-        one : (q : ℕ) (b : Bool) → (q == p) ≡ b → frame_of (by who (WriteEnd t p true) StillDirty ∷ past) q ≡ (if b then saved (frame_of past q) else frame_of past q)
+        one : (q : ℕ) (b : Bool) → (q == p) ≡ b → frame_of (by who (WriteEnd t p true) StillDirty ∷ past) q (x.places q) ≡ (if b then saved (frame_of past q (x.places q)) else frame_of past q (x.places q))
         one q true e =
             let u : unsaved (by who (WriteEnd t p true) StillDirty ∷ past) q ≡ rewritten past q = subst (λ y. unsaved (by who (WriteEnd t p true) StillDirty ∷ past) y ≡ rewritten past y) (sym (eqb-true q p e)) own in
             let o = landed q e in
-            λ i. record { page = q; pins = pins past q; is_unsaved = u i; is_rewritten = rewritten past q; is_writing = o i; top = top past q; image = held past q }
+            λ i. record { page = q; block = x.places q; pins = pins past q; is_unsaved = u i; is_rewritten = rewritten past q; is_writing = o i; top = top past q; image = held past q }
         one q false e =
             let u : unsaved (by who (WriteEnd t p true) StillDirty ∷ past) q ≡ unsaved past q = since-other c t p q past (eqb-sym p q ∙ e) past who StillDirty flies in
             let o = still q e in
-            λ i. record { page = q; pins = pins past q; is_unsaved = u i; is_rewritten = rewritten past q; is_writing = o i; top = top past q; image = held past q }
+            λ i. record { page = q; block = x.places q; pins = pins past q; is_unsaved = u i; is_rewritten = rewritten past q; is_writing = o i; top = top past q; image = held past q }
 
 module _ (c : Parameters) (past : Trail) (x : Parts) (a : Agrees c past x) (who v : ℕ) (client : nat_lt who c.clients ≡ true) where
   pub agrees-begin : (call : Call) → IsBegin call → allowed c past who call ≡ true → WriteFirst (tickets past) v (held past v) ≡ reply_of c past call

@@ -1,6 +1,6 @@
 -- What a core keeps, and that it agrees with the trail.
-use Rattle.std.specs.Prelude.{◌≡◌, ℕ, Decides, ◌+◌, ◌*◌, ◌^◌, ◌≤◌, ◌==◌, Bool, not, ◌&&◌, ◌||◌, false, List, [], length, Option, Some, None, if◌then◌else◌}
-use Rattle.bp_lruk.specs.Histories.{Blocks, HasStampsOf, is_held}
+use Rattle.std.specs.Prelude.{◌≡◌, ℕ, Decides, ◌+◌, ◌*◌, ◌^◌, ◌≤◌, ◌==◌, Bool, not, ◌&&◌, ◌||◌, true, false, List, [], length, All, Option, Some, None, IsSome, if◌then◌else◌}
+use Rattle.bp_lruk.specs.Histories.{Blocks, HasStampsOf, is_held, place_of}
 use Rattle.bp_lruk.specs.Candidates.{Entered, entry_of, NoPageTwice}
 use Rattle.bp_core.specs.declared.config.Config.{Config}
 use Rattle.bp_frames.specs.declared.frame.Frame.{Frame}
@@ -36,9 +36,9 @@ parameters_of c = record {
 abbrev pub rewritten : Trail → ℕ → Bool
 rewritten past p = since (writes p) (λ e. begins_of p e.reply) past
 
--- what the frame of a page holds
-abbrev pub frame_of : Trail → ℕ → Frame
-frame_of past p = record { page = p; pins = pins past p; is_unsaved = unsaved past p; is_rewritten = rewritten past p; is_writing = writing past p; top = top past p; image = held past p }
+-- what the frame of a page holds, whose references have this block
+abbrev pub frame_of : Trail → ℕ → Option ℕ → Frame
+frame_of past p block = record { page = p; block = block; pins = pins past p; is_unsaved = unsaved past p; is_rewritten = rewritten past p; is_writing = writing past p; top = top past p; image = held past p }
 
 -- what a core keeps beside its trail, but for the room of its lists; passes and tickets newest first
 pub record Parts : Type 0 where
@@ -51,6 +51,8 @@ pub record Parts : Type 0 where
   pub writes : List Grant
   pub frames : List Frame
   pub blocks : Blocks
+  -- where each page has its block
+  pub places : ℕ → Option ℕ
 
 abbrev pub parts_of : State → Parts
 parts_of x = record {
@@ -63,6 +65,7 @@ parts_of x = record {
   writes = x.writes.out;
   frames = x.frames.frames;
   blocks = x.histories;
+  places = place_of x.histories;
 }
 
 -- each part is what the trail says
@@ -76,7 +79,7 @@ Observed c past x = record {
   reads_is : x.reads ≡ reads_out past;
   writes_is : x.writes ≡ writes_out past;
   -- in any order: each test passes as many frames as it passes of those that the resident pages have
-  frames_is : (test : Frame → Bool) → count test x.frames ≡ count (λ p. test (frame_of past p)) (residents past);
+  frames_is : (test : Frame → Bool) → count test x.frames ≡ count (λ p. test (frame_of past p (x.places p))) (residents past);
   stamps_are : (p : ℕ) → HasStampsOf x.blocks p (references c past p);
   held_is : (p : ℕ) → is_held x.blocks p ≡ (resident past p || loading past p);
 }
@@ -97,6 +100,14 @@ pub record HasTrailRoom (c : Parameters) (trail : Kept) : Type 0 where
   pub owed : trail.len + length (passes_out trail.past) + length (writes_out trail.past) + 2 * length (reads_out trail.past) ≤ c.room
   pub passes_fit : passes trail.past ≤ 2 ^ 62 + trail.len
   pub tickets_fit : tickets trail.past ≤ 2 ^ 62 + trail.len
+
+-- each held page has its block somewhere,
+abbrev pub ArePlaced : Blocks → Type 0
+ArePlaced h = (p : ℕ) → is_held h p ≡ true → IsSome (place_of h p)
+
+-- and each frame tells where that of its page is
+abbrev pub TellBlocks : Blocks → List Frame → Type 0
+TellBlocks h frames = All (λ (f : Frame). IsSome f.block × (f.block ≡ place_of h f.page)) frames
 
 -- whether the trail opens where no entries lead
 abbrev pub OpensFresh : Parameters → Kept → Type 0
@@ -136,6 +147,7 @@ pub record IsCore (c : Parameters) (trail : Kept) (x : State) : Type 0 where
   pub candidates : HasCandidates c trail.past x.frames.candidates
   pub trail_room : HasTrailRoom c trail
   pub opening : OpensFresh c trail
+  pub placed : ArePlaced x.histories
   pub pass_room : HasPassRoom (length x.passes.out) (length x.reads.out) x.passes.capacity
   pub read_room : HasReadRoom c x.reads.capacity
   pub frame_room : HasFrameRoom c (length x.reads.out) x.frames.spare x.frames.size x.frames.limit x.frames.pages

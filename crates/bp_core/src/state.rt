@@ -1,6 +1,6 @@
 //! What a core keeps beside its trail.
 ghost use Rattle.std.specs.Prelude.{◌≡◌, ◌≢◌, ℕ, ◌+◌, ◌^◌, ◌<◌, ◌≤◌, true, All, Some, None, if◌then◌else◌, IfOk, length};
-ghost use Rattle.bp_lruk.specs.Histories.{stamp_of, last_of};
+ghost use Rattle.bp_lruk.specs.Histories.{place_of, stamp_of, last_of};
 ghost use Rattle.bp_lruk.specs.Candidates.{entry_of, NoPageTwice, SameLimits};
 ghost use Rattle.bp_trail.specs.Lists.{some};
 ghost use Rattle.bp_frames.specs.Frames.{is_frame_of};
@@ -8,7 +8,7 @@ ghost use Rattle.bp_frames.specs.Frames.{is_frame_of};
 use crate::config::Config;
 use crate::passes::{Pass, ReadTicket};
 use bp_frames::{FrameTable, GrantList};
-use bp_lruk::Histories;
+use bp_lruk::{BlockNo, Histories};
 use bp_page::{Lsn, PageNo};
 use std::alloc::{AllocError, Global};
 
@@ -31,7 +31,7 @@ pub(crate) struct State {
 
 impl State {
     ghost use Rattle.bp_frames.specs.GrantLists.{with_grant};
-    ghost use Rattle.bp_core.specs.Agreement.{parameters_of, IsFirst};
+    ghost use Rattle.bp_core.specs.Agreement.{parameters_of, IsFirst, TellBlocks};
 
     /// What no entries come to, with the room that it will ever need but for passes, histories and images.
     pub(crate) fn new(alloc: Global, config: &Config) -> Result<State, AllocError>
@@ -54,6 +54,18 @@ impl State {
             )?,
             histories: Histories::new(alloc, config.settings),
         })
+    }
+
+    /// The block of a page that has a frame, which the frame tells.
+    pub(crate) fn block(&self, page: PageNo) -> BlockNo
+        requires here { some (is_frame_of page) self.now.frames.frames ≡ true }
+        requires told { TellBlocks self.now.histories self.now.frames.frames }
+        ensures { place_of self.now.histories page ≡ Some result }
+    {
+        let Some(frame) = self.frames.find(page) else {
+            unreachable!()
+        };
+        frame.block.unwrap()
     }
 
     /// Gives the next pass, which takes no memory.
@@ -107,14 +119,16 @@ impl State {
     }
 }
 
-/// Enters a page that has a frame among the candidates for replacement, if nobody uses it.
+/// Enters a page that has a frame, and this block, among the candidates for replacement, if nobody uses it.
 pub(crate) fn offer(
     frames: &mut FrameTable,
     histories: &Histories,
     page: PageNo,
+    block: BlockNo,
     k: usize,
     is_unused: bool,
 )
+    requires place { place_of histories.now page ≡ Some block }
     requires here { is_unused ≡ true → some (is_frame_of page) frames.old.frames ≡ true }
     requires apart { is_unused ≡ true → entry_of frames.old.candidates page ≡ None }
     ensures same { frames.new ≡ record frames.old { candidates = frames.new.candidates } }
@@ -124,7 +138,7 @@ pub(crate) fn offer(
     ensures limits { SameLimits frames.old.candidates frames.new.candidates }
 {
     if is_unused {
-        let rank = histories.rank(page, k);
+        let rank = histories.rank_at(page, block, k);
         frames.enter(page, rank.0, rank.1);
     }
 }

@@ -1,14 +1,14 @@
 -- Lists of frames.
-use Rattle.std.specs.Prelude.{ℕ, ◌+◌, ◌-◌, max, Bool, true, false, not, ◌==◌, List, filter, map, if◌then◌else◌}
+use Rattle.std.specs.Prelude.{ℕ, ◌+◌, ◌-◌, max, Bool, true, false, not, ◌==◌, List, filter, map, Some, if◌then◌else◌}
 use Rattle.bp_trail.specs.Event.{patched}
 use Rattle.bp_frames.specs.declared.frame.Frame.{Frame}
 
 abbrev pub is_frame_of : ℕ → Frame → Bool
 is_frame_of page frame = frame.page == page
 
--- what a good read leaves, with the pass that it gives
-abbrev pub loaded_with : ℕ → List ℕ → Frame
-loaded_with page image = record { page = page; pins = 1; is_unsaved = false; is_rewritten = false; is_writing = false; top = 0; image = image }
+-- what a good read leaves, with the block of the page's references and the pass that it gives
+abbrev pub loaded_with : ℕ → ℕ → List ℕ → Frame
+loaded_with page block image = record { page = page; block = Some block; pins = 1; is_unsaved = false; is_rewritten = false; is_writing = false; top = 0; image = image }
 
 -- one more pass, and one fewer
 abbrev pub pinned : Frame → Frame

@@ -36,7 +36,7 @@ abbrev pub with_changed : Table → ℕ → (Frame → Frame) → Table
 with_changed table page change = record table { frames = changed_at page change table.frames }
 
 abbrev pub no_frame : Frame
-no_frame = record { page = 0; pins = 0; is_unsaved = false; is_rewritten = false; is_writing = false; top = 0; image = [] }
+no_frame = record { page = 0; block = None; pins = 0; is_unsaved = false; is_rewritten = false; is_writing = false; top = 0; image = [] }
 
 abbrev pub frame_at : List Frame → Place → Frame
 frame_at slots place = slice_index_or slots place.slot no_frame

@@ -1,6 +1,7 @@
 //! One frame: a page in memory, and how it is used.
 ghost use Rattle.std.specs.Prelude.{max, not, ◌≡◌, ◌==◌, ◌&&◌, ◌+◌, ◌^◌, ◌<◌, ◌≤◌, length};
 
+use bp_lruk::BlockNo;
 use bp_page::{Image, Lsn, PageNo};
 
 /// A frame with the page that it holds. A [`FrameTable`](crate::FrameTable) makes and changes it; others read it.
@@ -8,6 +9,8 @@ use bp_page::{Image, Lsn, PageNo};
 pub struct Frame {
     /// The page that it holds.
     pub page: PageNo,
+    /// The block of the page's references, as it was given with the page. None where it waits for its first page.
+    pub block: Option<BlockNo>,
     /// How many passes of the page are out.
     pub pins: u64,
     /// Whether some write is not yet saved.
@@ -38,6 +41,7 @@ impl Frame {
     {
         Frame {
             page: PageNo::new(0),
+            block: None,
             pins: 0,
             is_unsaved: false,
             is_rewritten: false,
@@ -47,12 +51,13 @@ impl Frame {
         }
     }
 
-    /// Takes a page that was read, with one pass out.
-    pub(crate) fn load(&mut self, page: PageNo, image: &Image)
+    /// Takes a page that was read, whose references are in this block, with one pass out.
+    pub(crate) fn load(&mut self, page: PageNo, block: BlockNo, image: &Image)
         requires { length self.old.image ≡ length image.now }
-        ensures { self.new ≡ loaded_with page image.now }
+        ensures { self.new ≡ loaded_with page block image.now }
     {
         self.page = page;
+        self.block = Some(block);
         self.pins = 1;
         self.is_unsaved = false;
         self.is_rewritten = false;

@@ -7,8 +7,8 @@ ghost use Rattle.bp_frames.specs.Frames.{is_frame_of, loaded_with, pinned, unpin
 ghost use Rattle.bp_frames.specs.Tables.{IsSlotOf};
 
 use crate::frame::Frame;
-use bp_lruk::Settings;
 use bp_lruk::seats::Candidates;
+use bp_lruk::{BlockNo, Settings};
 use bp_page::{Geometry, Image, Lsn, PageNo};
 use std::alloc::{AllocError, Global};
 use std::marker::Model;
@@ -180,14 +180,14 @@ impl FrameTable {
         Ok(())
     }
 
-    /// Puts a page of the file that was read, and has no frame, into a frame that waits, with one pass out. It takes
-    /// no memory, but copies the image.
-    pub fn fill(&mut self, page: PageNo, image: &Image)
+    /// Puts a page of the file that was read, and has no frame, into a frame that waits, with the number of the block
+    /// of its references, and with one pass out. It takes no memory, but copies the image.
+    pub fn fill(&mut self, page: PageNo, block: BlockNo, image: &Image)
         requires absent { some (is_frame_of page) self.old.frames ≡ false }
         requires in_range { page < self.old.pages }
         requires spare { 0 < self.old.spare }
         requires size { length image.now ≡ self.old.size }
-        ensures frames { IsPermutation (loaded_with page image.now ∷ self.old.frames) self.new.frames }
+        ensures frames { IsPermutation (loaded_with page block image.now ∷ self.old.frames) self.new.frames }
         ensures spare { self.new.spare + 1 ≡ self.old.spare }
         ensures size { self.new.size ≡ self.old.size }
         ensures limit { self.new.limit ≡ self.old.limit }
@@ -195,7 +195,7 @@ impl FrameTable {
         ensures candidates { self.new.candidates ≡ self.old.candidates }
     {
         let slot = self.spare.pop().unwrap();
-        self.slots[slot].load(page, image);
+        self.slots[slot].load(page, block, image);
         self.places[page.number() as usize] = slot as u32 + 1;
     }
 

@@ -51,9 +51,10 @@ impl Core {
         let Ok(()) = self.state.passes.reserve(pending) else {
             return Err(Refusal::OutOfMemory);
         };
+        let block = self.state.block(page);
         self.state.frames.withdraw(page);
         self.state.frames.pin(page);
-        self.state.histories.hit(page, self.state.clock);
+        self.state.histories.hit_at(page, block, self.state.clock);
         let pass = self.state.give_pass(client, page);
         self.trail
             .record(client, Call::Fix(page), Reply::Hit(pass.serial));

@@ -1,6 +1,6 @@
 //! Bringing a page into a frame.
-ghost use Rattle.std.specs.Prelude.{◌≡◌, ℕ, ◌+◌, ◌^◌, ◌<◌, ◌≤◌, true, false, Some, None, length, IfOk, OnOk, OnErr, ◌≢◌};
-ghost use Rattle.bp_lruk.specs.Histories.{is_held, SameStampsAt, SameAt, SameSettings};
+ghost use Rattle.std.specs.Prelude.{◌≡◌, ℕ, ◌+◌, ◌^◌, ◌<◌, ◌≤◌, true, false, Some, None, IsSome, length, IfOk, OnOk, OnErr, ◌≢◌};
+ghost use Rattle.bp_lruk.specs.Histories.{is_held, place_of, SameStampsAt, SameAt, SameSettings, KeepsPlaces};
 ghost use Rattle.bp_trail.specs.Event.{grant};
 ghost use Rattle.bp_trail.specs.Legal.{is_out};
 ghost use Rattle.bp_trail.specs.Passes.{reads_out};
@@ -63,6 +63,7 @@ impl Core {
         requires room { HasRoomFor 3 self.old }
         ensures outcome { FixOutcome self.old client page result self.new }
     {
+        let block = self.state.block(gone);
         let reads = self.state.reads.len();
         let Ok(()) = make_ready(
             &mut self.state.passes,
@@ -74,7 +75,7 @@ impl Core {
         };
         self.state.frames.withdraw(gone);
         self.state.frames.vacate(gone);
-        self.state.histories.unprepare(gone);
+        self.state.histories.unprepare_at(gone, block);
         let ticket = self.state.give_read(client, page);
         let reply = Reply::Load {
             ticket: ticket.serial,
@@ -125,8 +126,9 @@ impl Core {
         ensures entry { Adds self.old client (Call.ReadEnd serial page (Some image)) (Reply.Fixed result.serial) self.new }
     {
         self.state.reads.take_back(serial);
-        self.state.frames.fill(page, &image);
-        self.state.histories.fault(page, self.state.clock);
+        let block = self.state.histories.place(page).unwrap();
+        self.state.frames.fill(page, block, &image);
+        self.state.histories.fault_at(page, block, self.state.clock);
         let pass = self.state.give_pass(client, page);
         let call = Call::ReadEnd {
             ticket: serial,
@@ -155,6 +157,7 @@ impl Core {
 
 /// Takes the memory that the end of a page's read will need, but for its frame: room for its pass beside those of the reads that are
 /// out, and its history's block. Where that is refused no page is held more than before.
+#[tactic(auto, unfolding(bp_lruk::specs::Histories::KeepsPlaces))]
 fn make_ready(
     passes: &mut GrantList,
     reads: usize,
@@ -171,10 +174,12 @@ fn make_ready(
     ensures others { (q : ℕ) → q ≢ page → SameAt histories.old histories.new q }
     ensures settings { SameSettings histories.old histories.new }
     ensures unchanged { OnErr result (histories.new ≡ histories.old) }
+    ensures places { KeepsPlaces histories.old histories.new }
+    ensures place { OnOk result (IsSome (place_of histories.new page)) }
 {
     passes.reserve(reads + 1)?;
-    match histories.prepare(page) {
-        Ok(()) => Ok(()),
+    match histories.prepare_block(page) {
+        Ok(_) => Ok(()),
         Err(_) => Err(AllocError),
     }
 }

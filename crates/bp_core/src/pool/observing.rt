@@ -48,7 +48,7 @@ impl Core {
 
     /// The frame of a resident page.
     pub(super) fn frame(&self, page: PageNo) -> Option<&Frame>
-        ensures found { IfSome result (λ f. EachPast self.now (λ past. f.now ≡ frame_of past page)) }
+        ensures found { IfSome result (λ f. EachPast self.now (λ past. f.now ≡ frame_of past page f.now.block)) }
         ensures here { IfSome result (λ f. EachPast self.now (λ past. resident past page ≡ true)) }
         ensures away { IfNone result (EachPast self.now (λ past. resident past page ≡ false)) }
     {

@@ -93,6 +93,7 @@ impl Core {
             unreachable!()
         };
         let is_unused = frame.is_last_use();
+        let block = self.state.block(page);
         self.state.frames.unpin(page);
         self.state.passes.take_back(serial);
         let k = self.config.settings.k;
@@ -100,6 +101,7 @@ impl Core {
             &mut self.state.frames,
             &self.state.histories,
             page,
+            block,
             k,
             is_unused,
         );

@@ -145,6 +145,7 @@ impl Core {
         };
         let is_rewritten = frame.is_rewritten;
         let is_unused = frame.pins == 0;
+        let block = self.state.block(page);
         self.state.writes.take_back(serial);
         self.state.frames.end_write_out(page);
         let k = self.config.settings.k;
@@ -152,6 +153,7 @@ impl Core {
             &mut self.state.frames,
             &self.state.histories,
             page,
+            block,
             k,
             is_unused,
         );
@@ -177,6 +179,7 @@ impl Core {
             unreachable!()
         };
         let is_unused = frame.pins == 0;
+        let block = self.state.block(page);
         self.state.writes.take_back(serial);
         self.state.frames.fail_write_out(page);
         let k = self.config.settings.k;
@@ -184,6 +187,7 @@ impl Core {
             &mut self.state.frames,
             &self.state.histories,
             page,
+            block,
             k,
             is_unused,
         );

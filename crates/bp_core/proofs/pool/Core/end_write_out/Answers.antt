@@ -7,11 +7,18 @@ use Rattle.bp_frames.proofs.Tables.{some-changed}
 use Rattle.bp_trail.specs.declared.entries.Call.TheVariants.{WriteEnd}
 use Rattle.bp_trail.specs.declared.entries.Reply.TheVariants.{Cleaned, StillDirty}
 use Rattle.bp_core.proofs.Keeps.{adds}
+use Rattle.bp_core.proofs.Placed.{tell-blocks}
 use Rattle.bp_core.proofs.KeepsWriteOuts.{here-now, no-candidate, frame-here, keeps-cleaned, keeps-still_dirty}
 use Rattle.bp_core.proofs.pool.Core.end_write_out.Goals as goal
 
 pub unreachable-requires : goal.unreachable-requires
 unreachable-requires c = here-now _ _ _ c.self.invariant _ c.self.view_is c.args.client c.args.page c.args.serial c.requires c.in_default.ensures.away
+
+pub block-block-requires-clause-here : goal.block-block-requires-clause-here
+block-block-requires-clause-here c = frame-here _ _ _ c.self.invariant _ c.self.view_is c.args.client c.args.page c.args.serial c.requires
+
+pub block-block-requires-clause-told : goal.block-block-requires-clause-told
+block-block-requires-clause-told c = tell-blocks _ _ _ c.self.invariant
 
 pub offer-requires-clause-here : goal.offer-requires-clause-here
 offer-requires-clause-here c =

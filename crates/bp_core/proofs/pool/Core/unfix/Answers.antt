@@ -14,6 +14,7 @@ use Rattle.bp_trail.specs.Places.{resident}
 use Rattle.bp_trail.specs.Legal.{is_out}
 use Rattle.bp_core.proofs.Seen.{some_pins}
 use Rattle.bp_core.proofs.Keeps.{at-past, adds}
+use Rattle.bp_core.proofs.Placed.{tell-blocks}
 use Rattle.bp_core.proofs.KeepsPasses.{pinned-page, no-candidate, frame-here, keeps-unfix}
 use Rattle.bp_core.proofs.pool.Core.unfix.Goals as goal
 
@@ -26,6 +27,14 @@ pub unreachable-requires : goal.unreachable-requires
 unreachable-requires c =
     let p = c.args.pass in
     true≢false (sym (pinned-page _ _ _ c.self.invariant _ c.self.view_is p.client p.page p.serial (sym c.knows.ensures ∙ c.if-not-knows.false)) ∙ at-past _ _ _ c.self.invariant _ c.self.view_is (λ q past. resident past p.page ≡ false) c.in_default.ensures.away)
+
+pub block-block-requires-clause-here : goal.block-block-requires-clause-here
+block-block-requires-clause-here c =
+    let p = c.args.pass in
+    frame-here _ _ _ c.self.invariant _ c.self.view_is p.client p.page p.serial (sym c.knows.ensures ∙ c.if-not-knows.false)
+
+pub block-block-requires-clause-told : goal.block-block-requires-clause-told
+block-block-requires-clause-told c = tell-blocks _ _ _ c.self.invariant
 
 pub offer-requires-clause-here : goal.offer-requires-clause-here
 offer-requires-clause-here c =

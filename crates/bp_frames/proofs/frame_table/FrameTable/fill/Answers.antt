@@ -43,7 +43,7 @@ returns-clause-frames c =
     let t = c.self.invariant.0 in
     let last : i.spare.items ≡ c.pop.new.self.items ++ c.unwrap-slot.result ∷ [] = rw c.unwrap-slot.ensures at c.pop.ensures.items in
     let slots = set i.slots.items c.unwrap-slot.result c.load.new.self in
-    let loaded = loaded_with c.args.page c.args.image.now in
+    let loaded = loaded_with c.args.page c.args.block c.args.image.now in
     let at = rank i.places.items c.args.page in
     let is = ap (frames_of slots) (one-more c) ∙ frames-filled _ _ _ _ _ t c.args.page c.unwrap-slot.result at (slot-within _ _ _ _ _ t c.pop.new.self.items c.unwrap-slot.result last) (slot-free _ _ _ _ _ t c.pop.new.self.items c.unwrap-slot.result last) (own-place i.places.items c.args.page) c.load.new.self (place_at c.args.page c.unwrap-slot.result) refl ∙ ap (insert (frames_of i.slots.items (places_from 0 i.places.items)) at) c.load.ensures in
     subst (λ xs. IsPermutation (loaded ∷ xs) (frames_of slots (places_from 0 (set i.places.items c.number.result (c.unwrap-slot.result + 1))))) (ap (λ (v : Table). v.frames) c.self.view_is)
