@@ -1,10 +1,8 @@
 //! The reference stamps of each page.
-ghost use Rattle.std.specs.Prelude.{◌≡◌, ◌≢◌, ℕ, ◌+◌, ◌-◌, ◌^◌, ◌<◌, ◌≤◌, ◌∷◌, [], List, IsTrue, IsFalse, true, false, is_some, IsSome, IfOk, OnOk, OnErr, slice_index};
+ghost use Rattle.std.specs.Prelude.{◌≡◌, ◌≢◌, ℕ, ◌+◌, ◌-◌, ◌^◌, ◌<◌, ◌≤◌, [], IsTrue, IsFalse, true, false, is_some, IsSome, IfOk, OnOk, OnErr, slice_index};
 ghost use Rattle.bp_lruk.specs.Shift.{IsShifted};
-ghost use Rattle.bp_lruk.specs.Burst.{Reference};
 ghost use Rattle.bp_lruk.specs.Burst.Reference.{hit, fault};
-ghost use Rattle.bp_lruk.specs.Stamp.{IsTimed};
-ghost use Rattle.bp_lruk.specs.Histories.{is_held, has_block, place_of, last_of, stamp_of, IsNow, HasStampsOf, SameAt, SameStampsAt, SameSettings, KeepsPlaces, forgets, count_below};
+ghost use Rattle.bp_lruk.specs.Histories.{is_held, has_block, place_of, last_of, stamp_of, IsNow, HasStampsOf, SameAt, SameStampsAt, SameSettings, KeepsPlaces, AddsReference, forgets, count_below};
 
 use crate::queue::Queue;
 use crate::settings::{MAX_STAMPS, Settings};
@@ -282,12 +280,7 @@ impl Histories {
     pub fn fault(&mut self, page: PageNo, t: u64)
         requires held { is_held self.old page ≡ true }
         requires now { IsNow self.old t }
-        ensures stamps { (refs : List Reference) → IsTimed refs → HasStampsOf self.old page refs → HasStampsOf self.new page (fault t ∷ refs) }
-        ensures last { last_of self.new page ≡ t }
-        ensures held { is_held self.new page ≡ true }
-        ensures others { (q : ℕ) → q ≢ page → SameAt self.old self.new q }
-        ensures settings { SameSettings self.old self.new }
-        ensures places { KeepsPlaces self.old self.new }
+        ensures { AddsReference fault t page self.old self.new }
     {
         let block = self.place(page).unwrap();
         self.fault_at(page, block, t);
@@ -298,13 +291,7 @@ impl Histories {
         requires held { is_held self.old page ≡ true }
         requires place { place_of self.old page ≡ Some block }
         requires now { IsNow self.old t }
-        ensures stamps { (refs : List Reference) → IsTimed refs → HasStampsOf self.old page refs →
-            HasStampsOf self.new page (fault t ∷ refs) }
-        ensures last { last_of self.new page ≡ t }
-        ensures held { is_held self.new page ≡ true }
-        ensures others { (q : ℕ) → q ≢ page → SameAt self.old self.new q }
-        ensures settings { SameSettings self.old self.new }
-        ensures places { KeepsPlaces self.old self.new }
+        ensures { AddsReference fault t page self.old self.new }
     {
         let k = self.settings.k;
         let kept = self.blocks.get_mut(block.slot()).unwrap();
@@ -319,12 +306,7 @@ impl Histories {
         requires held { is_held self.old page ≡ true }
         requires known { 0 < last_of self.old page }
         requires now { IsNow self.old t }
-        ensures stamps { (refs : List Reference) → IsTimed refs → HasStampsOf self.old page refs → HasStampsOf self.new page (hit t ∷ refs) }
-        ensures last { last_of self.new page ≡ t }
-        ensures held { is_held self.new page ≡ true }
-        ensures others { (q : ℕ) → q ≢ page → SameAt self.old self.new q }
-        ensures settings { SameSettings self.old self.new }
-        ensures places { KeepsPlaces self.old self.new }
+        ensures { AddsReference hit t page self.old self.new }
     {
         let block = self.place(page).unwrap();
         self.hit_at(page, block, t);
@@ -336,13 +318,7 @@ impl Histories {
         requires known { 0 < last_of self.old page }
         requires place { place_of self.old page ≡ Some block }
         requires now { IsNow self.old t }
-        ensures stamps { (refs : List Reference) → IsTimed refs → HasStampsOf self.old page refs →
-            HasStampsOf self.new page (hit t ∷ refs) }
-        ensures last { last_of self.new page ≡ t }
-        ensures held { is_held self.new page ≡ true }
-        ensures others { (q : ℕ) → q ≢ page → SameAt self.old self.new q }
-        ensures settings { SameSettings self.old self.new }
-        ensures places { KeepsPlaces self.old self.new }
+        ensures { AddsReference hit t page self.old self.new }
     {
         let k = self.settings.k;
         let correlated = self.settings.correlated;

@@ -58,27 +58,21 @@ invariant_of-self c =
       keeps_queue c.self.inside _ c.self.view_is c.self.invariant.0 _ _ _ c.requires.place c.slot.ensures _ c.get_mut.ensures.value _ c.unwrap-kept.ensures _ c.self.invariant.1 waits (omega arith),
     )
 
-pub returns-clause-stamps : goal.returns-clause-stamps
-returns-clause-stamps c = λ refs timed has.
-    elim c.if-t-kept.branch [
-      | then-t-kept w ↦ after_late_hit c.self.inside _ c.self.view_is c.self.invariant.0 _ _ _ c.requires.place c.slot.ensures _ c.get_mut.ensures.value _ c.unwrap-kept.ensures _ _ (omega (arith, c.self.inside.settings.in_limits)) refl refs timed has c.requires.known (omega (arith, w.if-t-kept)) (rw (ap (λ (b : Block). b.stamps) w.kept-is) w.shift.ensures)
-      | else-t-kept w ↦ after_soon_hit c.self.inside _ c.self.view_is c.self.invariant.0 _ _ _ c.requires.place c.slot.ensures _ c.get_mut.ensures.value _ c.unwrap-kept.ensures _ _ (omega (arith, c.self.inside.settings.in_limits)) refl refs timed has c.requires.known (omega (arith, w.if-t-kept)) (ap (λ (b : Block). b.stamps) w.kept-is)
-    ]
-
-pub returns-clause-last : goal.returns-clause-last
-returns-clause-last c = ap (λ (b : Block). b.last) (is c.self.inside _ c.self.view_is c.self.invariant.0 _ _ _ c.requires.place c.slot.ensures _ c.get_mut.ensures.value _ c.unwrap-kept.ensures _)
-
-pub returns-clause-held : goal.returns-clause-held
-returns-clause-held c =
+pub returns : goal.returns
+returns c =
     let was = lends_block c.self.inside _ c.self.view_is c.self.invariant.0 _ _ _ c.requires.place c.slot.ensures _ c.get_mut.ensures.value _ c.unwrap-kept.ensures in
     let same : c.if-t-kept.kept.held ≡ c.unwrap-kept.result.now.held = elim c.if-t-kept.branch [
       | then-t-kept w ↦ ap (λ (b : Block). b.held) w.kept-is
       | else-t-kept w ↦ ap (λ (b : Block). b.held) w.kept-is
     ] in
-    ap (λ (b : Block). b.held) (is c.self.inside _ c.self.view_is c.self.invariant.0 _ _ _ c.requires.place c.slot.ensures _ c.get_mut.ensures.value _ c.unwrap-kept.ensures _) ∙ same ∙ sym (ap (λ (b : Block). b.held) was) ∙ c.requires.held
-
-pub returns-clause-others : goal.returns-clause-others
-returns-clause-others c = others c.self.inside _ c.self.view_is c.self.invariant.0 _ _ _ c.requires.place c.slot.ensures _ c.get_mut.ensures.value _ c.unwrap-kept.ensures _
-
-pub returns-clause-places : goal.returns-clause-places
-returns-clause-places c = same_places _ _ (ap (λ (h : Blocks). h.places) c.self.view_is)
+    record {
+      stamps = λ refs timed has. elim c.if-t-kept.branch [
+        | then-t-kept w ↦ after_late_hit c.self.inside _ c.self.view_is c.self.invariant.0 _ _ _ c.requires.place c.slot.ensures _ c.get_mut.ensures.value _ c.unwrap-kept.ensures _ _ (omega (arith, c.self.inside.settings.in_limits)) refl refs timed has c.requires.known (omega (arith, w.if-t-kept)) (rw (ap (λ (b : Block). b.stamps) w.kept-is) w.shift.ensures)
+        | else-t-kept w ↦ after_soon_hit c.self.inside _ c.self.view_is c.self.invariant.0 _ _ _ c.requires.place c.slot.ensures _ c.get_mut.ensures.value _ c.unwrap-kept.ensures _ _ (omega (arith, c.self.inside.settings.in_limits)) refl refs timed has c.requires.known (omega (arith, w.if-t-kept)) (ap (λ (b : Block). b.stamps) w.kept-is)
+      ];
+      last = ap (λ (b : Block). b.last) (is c.self.inside _ c.self.view_is c.self.invariant.0 _ _ _ c.requires.place c.slot.ensures _ c.get_mut.ensures.value _ c.unwrap-kept.ensures _);
+      held = ap (λ (b : Block). b.held) (is c.self.inside _ c.self.view_is c.self.invariant.0 _ _ _ c.requires.place c.slot.ensures _ c.get_mut.ensures.value _ c.unwrap-kept.ensures _) ∙ same ∙ sym (ap (λ (b : Block). b.held) was) ∙ c.requires.held;
+      others = others c.self.inside _ c.self.view_is c.self.invariant.0 _ _ _ c.requires.place c.slot.ensures _ c.get_mut.ensures.value _ c.unwrap-kept.ensures _;
+      settings = record { k = ap (λ (h : Blocks). h.k) c.self.view_is; correlated = ap (λ (h : Blocks). h.correlated) c.self.view_is; retained = ap (λ (h : Blocks). h.retained) c.self.view_is };
+      places = same_places _ _ (ap (λ (h : Blocks). h.places) c.self.view_is);
+    }
