@@ -9,7 +9,7 @@ use Rattle.bp_trail.specs.Lists.{every}
 use Rattle.bp_trail.specs.Event.{Grant}
 use Rattle.bp_trail.specs.Script.{first_to_go_back}
 
-list_all-from_All : (n : ℕ) (gs : List Grant) → All (λ g. n ≤ g.client) gs → list_all (λ g. nat_le n g.client) gs ≡ true
+pub list_all-from_All : (n : ℕ) (gs : List Grant) → All (λ g. n ≤ g.client) gs → list_all (λ g. nat_le n g.client) gs ≡ true
 list_all-from_All n [] all = refl
 list_all-from_All n (g ∷ gs) all = and_from _ _ (le-leb n g.client (all 0 g (omega arith))) (list_all-from_All n gs (All-tail (λ g. n ≤ g.client) g gs all))
 
@@ -53,8 +53,11 @@ module _ (lowest : ℕ) (held : List Grant) (least : list_all (λ g. nat_le lowe
   same-find (g ∷ gs) all = ap (λ b. cond b (Some g) (find (λ g. g.client == lowest) gs)) (same-test g (and_parts _ _ all).0)
       ∙ ap (λ o. cond (every (λ h. nat_le g.client h.client) held) (Some g) o) (same-find gs (and_parts _ _ all).1)
 
-any-test : (lowest : ℕ) (held : List Grant) → Any (λ g. g.client ≡ lowest) held → list_any (λ g. g.client == lowest) held ≡ true
+pub any-test : (lowest : ℕ) (held : List Grant) → Any (λ g. g.client ≡ lowest) held → list_any (λ g. g.client == lowest) held ≡ true
 any-test lowest held any = list_any-from_Any (λ g. g.client == lowest) held (any.0, any.1, any.2, any.3, eq-eqb any.1.client lowest any.4)
+
+pub lowest-first : (lowest : ℕ) (held : List Grant) → list_all (λ g. nat_le lowest g.client) held ≡ true → list_any (λ g. g.client == lowest) held ≡ true → find (λ g. g.client == lowest) held ≡ first_to_go_back held
+lowest-first lowest held least taken = same-find lowest held least taken held least
 
 pub first-of_lowest : (lowest : ℕ) (held : List Grant) → All (λ g. lowest ≤ g.client) held → Any (λ g. g.client ≡ lowest) held → find (λ g. g.client == lowest) held ≡ first_to_go_back held
 first-of_lowest lowest held least taken = same-find lowest held (list_all-from_All lowest held least) (any-test lowest held taken) held (list_all-from_All lowest held least)

@@ -20,7 +20,7 @@ use Rattle.bp_trail.specs.Script.GivesBack.{none_held, next as gives_next}
 use Rattle.bp_trail.proofs.Lists.{some-append, some-mono}
 use Rattle.bp_trail.proofs.Counting.{reverse-push, filter-reverse}
 use Rattle.bp_device.specs.Drivers.{with_piece}
-use Rattle.bp_device.specs.Rows.{AreHeld, EndsIn, DrivesRow, DrivesRows, GaveBack, AddsScript}
+use Rattle.bp_device.specs.Rows.{AreHeld, EndsIn, DrivesRow, DrivesRows, GoingBack, GaveBack, AddsScript}
 use Rattle.bp_device.proofs.GivingBack.{fewer-without}
 use Rattle.bp_device.proofs.PieceSteps.{find-there, known-there}
 
@@ -53,13 +53,6 @@ rows-end old now rows refused held h = record { said = h.said; start = old.past;
 pub rows-parameters : (old now : CoreView) (rows : List Row) (refused : List Refused) (held : List Grant) → DrivesRows old rows refused held now → now.parameters ≡ old.parameters
 rows-parameters old now rows refused held h = ap (λ v. v.parameters) h.is
 
--- some passes went back, and the others are held
-pub record GoingBack (old : CoreView) (held left : List Grant) (now : CoreView) : Type 0 where
-  pub back : Trail
-  pub is : now ≡ with_piece old back
-  pub are_held : (said : Trail) → AreHeld held said → AreHeld left (back ++ said)
-  pub onwards : (said : Trail) → AreHeld held said → (after : Trail) → GivesBack (back ++ said) after → GivesBack said after
-
 pub going-none : (core : CoreView) (held : List Grant) → GoingBack core held held core
 going-none core held = record { back = []; is = refl; are_held = λ said are. are; onwards = λ said are after gives. gives }
 
@@ -73,14 +66,32 @@ some-reverse : (p : Grant → Bool) (gs : List Grant) → some p (reverse gs) �
 some-reverse p [] = refl
 some-reverse p (g ∷ gs) = ap (some p) (reverse-append (g ∷ []) gs) ∙ some-append p (reverse gs) (g ∷ []) ∙ ap (λ b. b || (p g || false)) (some-reverse p gs) ∙ or-swap (some p gs) (p g)
 
+pub going-ends : (old now : CoreView) (held left : List Grant) → EndsIn old held → GoingBack old held left now → EndsIn now left
+going-ends old now held left ends going = record {
+  said = going.back ++ ends.said;
+  start = ends.start;
+  joined = ap (λ v. v.past) going.is ∙ ap (λ past. going.back ++ past) ends.joined ∙ sym (append_assoc going.back ends.said ends.start);
+  are_held = going.are_held ends.said ends.are_held;
+}
+
 pub going-known : (old now : CoreView) (held left : List Grant) (g : Grant) → EndsIn old held → GoingBack old held left now → first_to_go_back left ≡ Some g → is_out g (passes_out now.past) ≡ true
-going-known old now held left g ends going found = known-there now left left_there g (sym (some-reverse (same_grant g) (passes_out (going.back ++ ends.said))) ∙ subst (λ gs. is_out g gs ≡ true) (left_there.are_held) there)
+unfolding going-ends
+going-known old now held left g ends going found = known-there now left left_there g (sym (some-reverse (same_grant g) (passes_out (going.back ++ ends.said))) ∙ subst (λ gs. is_out g gs ≡ true) left_there.are_held there)
   where
     there : is_out g left ≡ true
     there = (find-there (λ g. every (λ h. nat_le g.client h.client) left) g left found).is_there
 
     left_there : EndsIn now left
-    left_there = record { said = going.back ++ ends.said; start = ends.start; joined = ap (λ v. v.past) going.is ∙ ap (λ past. going.back ++ past) ends.joined ∙ sym (append_assoc going.back ends.said ends.start); are_held = going.are_held ends.said ends.are_held }
+    left_there = going-ends old now held left ends going
+
+-- some went back, and then some of those that were left
+pub going-join : (old mid new : CoreView) (held left fewer : List Grant) → GoingBack old held left mid → GoingBack mid left fewer new → GoingBack old held fewer new
+going-join old mid new held left fewer first second = record {
+  back = second.back ++ first.back;
+  is = two-pieces old mid new first.back second.back first.is second.is;
+  are_held = λ said are. subst (AreHeld fewer) (sym (append_assoc second.back first.back said)) (second.are_held (first.back ++ said) (first.are_held said are));
+  onwards = λ said are after gives. first.onwards said are after (second.onwards (first.back ++ said) (first.are_held said are) after (subst (λ past. GivesBack past after) (append_assoc second.back first.back said) gives));
+}
 
 pub going-next : (old mid new : CoreView) (held left fewer : List Grant) (g : Grant) → GoingBack old held left mid → first_to_go_back left ≡ Some g → new ≡ with_entry mid g.client (Unfix g.serial g.page) Done
     → fewer ≡ filter (λ h. not (h.serial == g.serial)) left → GoingBack old held fewer new

@@ -1,12 +1,13 @@
 //! The passes that a script's clients hold, as notes in the order taken.
-ghost use Rattle.std.specs.Prelude.{IfNone, IfSome, All, Any, true, not, ◌==◌, find, filter, reverse, ◌≡◌, ◌≤◌, [], vec_len, vec_capacity};
+ghost use Rattle.std.specs.Prelude.{IfNone, IfSome, All, Any, true, not, ◌==◌, find, filter, reverse, slice_index_or, length, ◌≡◌, ◌<◌, ◌≤◌, [], vec_len, vec_capacity};
 ghost use Rattle.bp_trail.specs.declared.entries.Call.TheVariants as Call;
 ghost use Rattle.bp_trail.specs.declared.entries.Reply.TheVariants as Reply;
+ghost use Rattle.bp_trail.specs.Event.{Grant};
 ghost use Rattle.bp_trail.specs.Passes.{passes_out};
 ghost use Rattle.bp_trail.specs.Legal.{is_out};
 ghost use Rattle.bp_core.specs.CoreView.{EachPast, with_entry};
 ghost use Rattle.bp_trail.specs.Script.{is_pass_of, first_to_go_back};
-ghost use Rattle.bp_device.specs.Rows.{EndsIn, GaveBack};
+ghost use Rattle.bp_device.specs.Rows.{EndsIn, SerialsDiffer, GoingBack, GaveBack};
 
 use bp_core::{Core, PassNote};
 use bp_page::PageNo;
@@ -16,13 +17,6 @@ fn is_of(note: &PassNote, client: u8, page: PageNo) -> bool
     ensures { result ≡ is_pass_of client page note.now }
 {
     note.client() == client && note.page().number() == page.number()
-}
-
-/// Whether the note's pass has another serial number.
-fn differs(note: &PassNote, serial: u64) -> bool
-    ensures { result ≡ not (note.now.serial == serial) }
-{
-    note.serial() != serial
 }
 
 /// Whether the note is of a pass that this client took.
@@ -42,20 +36,66 @@ pub fn latest_pass(held: &[PassNote], client: u8, page: PageNo) -> Option<PassNo
         .copied()
 }
 
+/// Gives the pass back. Its note stays.
+fn give(core: &mut Core, note: PassNote)
+    requires known { EachPast core.old (λ past. is_out note (passes_out past) ≡ true) }
+    ensures entry { core.new ≡ with_entry core.old note.client (Call.Unfix note.serial note.page) Reply.Done }
+{
+    match core.unfix(note.pass()) {
+        Ok(()) => {}
+        Err(_pass) => unreachable!(),
+    }
+}
+
+/// That no two of the passes held have one serial number. It does nothing.
+fn serials_differ(core: &Core, held: &[PassNote])
+    requires ends_in { EndsIn core.now held.now }
+    ensures { SerialsDiffer held.now }
+{
+    // A core's trail is legal, and a legal trail gives no number twice.
+    let _ = core.trail();
+}
+
+/// Where the note with this serial number stands. The one taken latest is looked at first.
+fn place_of(held: &[PassNote], serial: u64) -> Option<usize>
+    ensures within { IfSome result (λ place. place < length held.now) }
+    ensures found { IfSome result (λ place. (d : Grant) → (slice_index_or held.now place d).serial ≡ serial) }
+    ensures none { IfNone result (filter (λ g. not (g.serial == serial)) held.now ≡ held.now) }
+{
+    let mut place = held.len();
+    while place > 0 {
+        place -= 1;
+        if held[place].serial() == serial {
+            return Some(place);
+        }
+    }
+    None
+}
+
+/// Strikes the note with this serial number. Only those taken later move.
+fn strike(held: &mut Vec<PassNote>, serial: u64)
+    requires differ { SerialsDiffer held.old.items }
+    ensures held { held.new.items ≡ filter (λ g. not (g.serial == serial)) held.old.items }
+    ensures fewer { vec_len held.new ≤ vec_len held.old }
+    ensures capacity { vec_capacity held.new ≡ vec_capacity held.old }
+{
+    if let Some(place) = place_of(held, serial) {
+        held.remove(place);
+    }
+}
+
 /// Gives the pass back, and strikes its note.
-pub(crate) fn give(core: &mut Core, held: &mut Vec<PassNote>, note: PassNote)
+pub(crate) fn give_one(core: &mut Core, held: &mut Vec<PassNote>, note: PassNote)
+    requires ends_in { EndsIn core.old held.old.items }
     requires known { EachPast core.old (λ past. is_out note (passes_out past) ≡ true) }
     ensures entry { core.new ≡ with_entry core.old note.client (Call.Unfix note.serial note.page) Reply.Done }
     ensures held { held.new.items ≡ filter (λ g. not (g.serial == note.serial)) held.old.items }
     ensures fewer { vec_len held.new ≤ vec_len held.old }
     ensures capacity { vec_capacity held.new ≡ vec_capacity held.old }
 {
-    match core.unfix(note.pass()) {
-        Ok(()) => {}
-        Err(_pass) => unreachable!(),
-    }
-    let serial = note.serial();
-    held.retain(|other| differs(other, serial));
+    serials_differ(core, held);
+    give(core, note);
+    strike(held, note.serial());
 }
 
 /// The lowest client that holds a pass.
@@ -77,12 +117,27 @@ pub fn next_to_go_back(held: &[PassNote]) -> Option<PassNote>
     held.iter().find(|note| is_taken_by(note, lowest)).copied()
 }
 
+/// Gives back the passes that this client holds, in the order taken, where no lower client holds any. Their notes stay.
+fn give_back_of(core: &mut Core, held: &[PassNote], client: u8)
+    requires ends_in { EndsIn core.old held.now }
+    requires least { All (λ g. client ≤ g.client) held.now }
+    ensures outcome { GoingBack core.old held.now (filter (λ g. not (g.client == client)) held.now) core.new }
+{
+    serials_differ(core, held);
+    for note in held {
+        if is_taken_by(note, client) {
+            give(core, *note);
+        }
+    }
+}
+
 /// Gives back all passes that are held: client by client, from the lowest, in the order taken.
 pub(crate) fn give_back_all(core: &mut Core, held: &mut Vec<PassNote>)
     requires ends_in { EndsIn core.old held.old.items }
     ensures outcome { GaveBack core.old held.old.items core.new }
 {
-    while let Some(note) = next_to_go_back(held) {
-        give(core, held, note);
+    while let Some(client) = lowest_client(held) {
+        give_back_of(core, held, client);
+        held.retain(|note| !is_taken_by(note, client));
     }
 }

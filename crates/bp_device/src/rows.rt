@@ -6,7 +6,7 @@ ghost use Rattle.bp_trail.specs.Pieces.{outcome_of};
 ghost use Rattle.bp_device.specs.Rows.{EndsIn, DrivesRow};
 
 use crate::drivers::{drive_fix, drive_flush};
-use crate::held_passes::{give, latest_pass};
+use crate::held_passes::{give_one, latest_pass};
 use crate::port::Port;
 use bp_core::{Core, PassNote, Row, Step};
 use bp_page::{Bytes, Lsn, PageNo, Refusal};
@@ -71,7 +71,7 @@ fn unfix_row(
     let Some(note) = latest_pass(held, client, page) else {
         return Err(Refusal::UnknownPass);
     };
-    give(core, held, note);
+    give_one(core, held, note);
     Ok(())
 }
 

@@ -1,22 +1,28 @@
--- Each turn gives back the pass that goes back next.
-use Rattle.std.proofs.Common.{sym, ◌∙◌, ap, arith}
-use Rattle.bp_trail.specs.Script.{first_to_go_back}
-use Rattle.bp_device.proofs.ScriptSteps.{going-none, going-known, going-next, going-done, going-fewer}
+-- Each turn gives back the passes of the lowest client that holds any.
+use Rattle.std.proofs.Common.{◌≡◌, rules, sym, ◌∙◌, ap, subst, arith, eqb, ◌==◌, List, length}
+use Rattle.std.specs.Prelude.{not, filter, Any}
+use Rattle.std.proofs.lemmas.Fn.{filter_same}
+use Rattle.bp_trail.specs.Event.{Grant}
+use Rattle.bp_device.specs.Rows.{GoingBack}
+use Rattle.bp_device.proofs.ScriptSteps.{going-none, going-join, going-done}
+use Rattle.bp_device.proofs.ClientPasses.{fewer-clients}
 use Rattle.bp_device.proofs.held_passes.give_back_all.Goals as goal
 
-pub loop-note-init : goal.loop-note-init
-loop-note-init c = going-none _ _
+pub loop-client-init : goal.loop-client-init
+loop-client-init c = going-none _ _
 
-pub give-requires : goal.give-requires
-give-requires c = record { known = going-known _ _ _ _ c.in-Some.note c.requires.ends_in c.loop-note.invariant (ap first_to_go_back (sym c.deref.ensures.value) ∙ sym c.next_to_go_back.ensures.first ∙ c.in-Some.is) }
+pub loop-client-smaller : goal.loop-client-smaller
+loop-client-smaller c =
+    let kept : c.retain.new.self.items ≡ filter (λ (g : Grant). not (g.client == c.in-Some.client)) c.loop-client.held.items = filter_same _ (λ g. not (eqb g.client c.in-Some.client)) _ (λ x b f' k. search rules) _ _ c.retain.ensures.filtered in
+    let fewer = fewer-clients c.in-Some.client c.loop-client.held.items (subst (λ (gs : List Grant). Any (λ g. g.client ≡ c.in-Some.client) gs) c.deref.ensures.value c.in-Some.ensures.taken) in
+    omega (arith, fewer, ap length kept, c.retain.new.self.ok, c.loop-client.held.ok)
 
-pub loop-note-smaller : goal.loop-note-smaller
-loop-note-smaller c =
-    let fewer = going-fewer c.loop-note.held.items c.give.new.held.items c.in-Some.note (ap first_to_go_back (sym c.deref.ensures.value) ∙ sym c.next_to_go_back.ensures.first ∙ c.in-Some.is) c.give.ensures.held in
-    omega (arith, fewer, c.give.new.held.ok, c.loop-note.held.ok)
-
-pub loop-note-preserved : goal.loop-note-preserved
-loop-note-preserved c = going-next _ c.loop-note.core _ _ _ _ c.in-Some.note c.loop-note.invariant (ap first_to_go_back (sym c.deref.ensures.value) ∙ sym c.next_to_go_back.ensures.first ∙ c.in-Some.is) c.give.ensures.entry c.give.ensures.held
+pub loop-client-preserved : goal.loop-client-preserved
+loop-client-preserved c =
+    let kept : c.retain.new.self.items ≡ filter (λ (g : Grant). not (g.client == c.in-Some.client)) c.loop-client.held.items = filter_same _ (λ g. not (eqb g.client c.in-Some.client)) _ (λ x b f' k. search rules) _ _ c.retain.ensures.filtered in
+    let back = subst (λ (gs : List Grant). GoingBack c.loop-client.core gs (filter (λ (g : Grant). not (g.client == c.in-Some.client)) gs) c.give_back_of.new.core) c.deref-in-Some.ensures.value c.give_back_of.ensures.outcome in
+    going-join c.args.core.now c.loop-client.core c.give_back_of.new.core c.args.held.now.items c.loop-client.held.items c.retain.new.self.items c.loop-client.invariant
+    (subst (λ (gs : List Grant). GoingBack c.loop-client.core c.loop-client.held.items gs c.give_back_of.new.core) (sym kept) back)
 
 pub returns : goal.returns
-returns c = record { outcome = going-done _ _ _ c.loop-note.held.items c.loop-note.invariant (sym c.deref.ensures.value ∙ c.in_default.ensures.none) }
+returns c = record { outcome = going-done _ _ _ c.loop-client.held.items c.loop-client.invariant (sym c.deref.ensures.value ∙ c.in_default.ensures.none) }

@@ -1,9 +1,9 @@
 use Rattle.std.proofs.Common.{vec_len}
-use Rattle.bp_device.proofs.ScriptSteps.{GoingBack}
+use Rattle.bp_device.specs.Rows.{GoingBack}
 use Rattle.bp_device.proofs.held_passes.give_back_all.Given as goal
 
-abbrev pub invariant-loop-note : goal.invariant-loop-note
-invariant-loop-note l = GoingBack l.initial.core l.initial.held.items l.held.items l.core
+abbrev pub invariant-loop-client : goal.invariant-loop-client
+invariant-loop-client l = GoingBack l.initial.core l.initial.held.items l.held.items l.core
 
-abbrev pub decreases-loop-note : goal.decreases-loop-note
-decreases-loop-note l = vec_len l.held
+abbrev pub decreases-loop-client : goal.decreases-loop-client
+decreases-loop-client l = vec_len l.held
