@@ -2,7 +2,7 @@
 use Rattle.std.proofs.Common.{Vec, ◌≡◌, refl, sym, ap, subst, ◌∙◌, ℕ, ◌+◌, ◌≤◌, ◌<◌, List, [], ◌∷◌, ◌++◌, length, map, take, drop, set, get_or, reverse, append_assoc, add-one, arith, inl, inr}
 use Rattle.std.proofs.Math.ListN.{get_or-map}
 use Rattle.std.proofs.Math.Seq.{take-suc, take-suc-set}
-use Rattle.std.proofs.lemmas.List.{append-nil, reverse-append, length-map, map-set, drop_more, drop-set-lt, with_items_is}
+use Rattle.std.proofs.lemmas.List.{append-nil, nil_from_length, reverse-append, length-map, map-set, drop_more, drop-set-lt, with_items_is}
 use Rattle.std.specs.Vec.{with_items}
 use Rattle.rtrb.specs.declared.consumer.Consumer.{Consumer}
 use Rattle.bp_trail.specs.Event.{Grant}
@@ -40,6 +40,10 @@ drains_most n most ring after start past strays strayed t is = record { taken = 
 pub drains_all : (n most : ℕ) (received : List Grant) (ring after : RingView) (start past : Trail) (strays strayed : ℕ) → Takes n ring.received received start strays past strayed → n ≤ most
     → after.received ≡ received → after.waiting ≡ [] → DrainsRing most ring after start strays past strayed
 drains_all n most received ring after start past strays strayed t few same empty = record { taken = t.taken; few = omega (arith, t.count, few); gave = same ∙ t.gave; emptied = λ fewer. empty; go_back = t.go_back }
+
+-- a ring that shows no pass, and gives none
+pub drains_none : (most : ℕ) (ring : RingView) (past : Trail) (strays : ℕ) → length ring.waiting ≡ 0 → DrainsRing most ring ring past strays past strays
+drains_none most ring past strays none = record { taken = []; few = omega arith; gave = sym (append-nil ring.received); emptied = λ fewer. nil_from_length ring.waiting none; go_back = none_taken }
 
 -- one ring more
 pub rings_more : (most : ℕ) (firsts firsts_after : List RingView) (last last_after : RingView) (begin end after : Trail) (strays now_strayed then_strayed : ℕ) → DrainsRings most firsts firsts_after begin strays end now_strayed

@@ -7,6 +7,7 @@
 mod book;
 pub mod names;
 pub mod pool;
+mod posted;
 mod said;
 mod session;
 mod state;

@@ -3,6 +3,7 @@ ghost use Rattle.std.specs.Prelude.{◌≡◌};
 ghost use Rattle.bp_shared.specs.Turns.{is_busy};
 
 use crate::names::PoolName;
+use crate::posted::Posted;
 use crate::session::Session;
 use crate::state::{RING, State};
 use crate::taker::Taker;
@@ -29,6 +30,14 @@ fn is_busy(refusal: &Refusal) -> bool
     }
 }
 
+/// Whether an event found its page in flight.
+fn found_busy<T>(answer: &Result<T, Refusal>) -> bool {
+    match answer {
+        Ok(_) => false,
+        Err(refusal) => is_busy(refusal),
+    }
+}
+
 /// A buffer pool that many clients share, each through its own session.
 ///
 /// A call takes a session of this pool, and a page and a port of the core's geometry.
@@ -39,6 +48,8 @@ pub struct SharedPool<N: PoolName> {
     state: Mutex<State<N>>,
     /// Where sessions wait for the end of device work.
     ended: Condvar,
+    /// Whose rings have passes that no section asked for.
+    posted: Posted,
     /// How many entries the trail may have.
     room: usize,
 }
@@ -96,6 +107,7 @@ impl<N: PoolName> SharedPool<N> {
             };
         }
         let room = core.room();
+        let posted = Posted::nothing(core.clients());
         let TrailRing { pieces, taken } = ring;
         let pool = SharedPool {
             alloc,
@@ -103,6 +115,7 @@ impl<N: PoolName> SharedPool<N> {
             room,
             state: Mutex::new(State::new(core, reader, consumers, pieces)),
             ended: Condvar::new(),
+            posted,
         };
         Ok((pool, sessions, Taker::new(taken)))
     }
@@ -124,7 +137,12 @@ impl<N: PoolName> SharedPool<N> {
         ensures before { session.new.before ≡ session.old.before }
         ensures outcome { UnfixSaid session.old.client pass result session.old.said session.new.said }
     {
-        session.post(pass)
+        let client = session.client();
+        let posted = session.post(pass);
+        if posted.is_ok() {
+            self.posted.tell(client);
+        }
+        posted
     }
 
     /// Hands the trail to its taker, the oldest entry first, and goes on with an empty one: the rings are drained before.
@@ -185,6 +203,7 @@ impl<N: PoolName> SharedPool<N> {
             mark,
             state,
             ended: _,
+            posted: _,
             room: _,
         } = self;
         let mut state = state.into_inner();

@@ -15,8 +15,8 @@ use bp_mark::{Mark, Reader};
 use bp_page::{Bytes, Image, Lsn, PageNo, Refusal};
 
 impl Book {
-    /// Looks at the mark once, and marks what it sees where that is above what the core was told. `TrailFull` where the trail has no
-    /// room for the mark.
+    /// Looks at the mark once, and marks what it sees where that is above what the core was told. `TrailFull`, where the trail has no
+    /// room for the mark, changes nothing.
     pub(crate) fn look(
         &mut self,
         core: &mut Core,
@@ -50,33 +50,6 @@ impl Book {
             Err(Refusal::TrailFull) => Err(Refusal::TrailFull),
             Err(_) => unreachable!(),
         }
-    }
-
-    /// Takes the memory for one more event, and then looks at the mark once. `OutOfMemory` and `TrailFull` change nothing.
-    pub(crate) fn ready(
-        &mut self,
-        core: &mut Core,
-        reader: &mut Reader,
-        mark: &Mark,
-    ) -> Result<(), Refusal>
-        requires mark { reader.old.mark ≡ mark.now }
-        requires client_in { self.old.client < core.old.parameters.clients }
-        requires seen { durable core.old.past ≤ reader.old.seen }
-        ensures mark { reader.new.mark ≡ reader.old.mark }
-        ensures seen { durable core.new.past ≤ reader.new.seen }
-        ensures parameters { core.new.parameters ≡ core.old.parameters }
-        ensures before { core.new.before ≡ core.old.before }
-        ensures owner { SameOwner self.old self.new }
-        ensures entries { OnOk result (3 ≤ self.new.entries) }
-        ensures passes { OnOk result (1 ≤ self.new.passes) }
-        ensures copies { OnOk result (2 ≤ self.new.copies) }
-        ensures outcome { LookOutcome self.old.client result self.old.said self.new.said }
-        ensures alike { Alike core.old self.old.said core.new self.new.said }
-    {
-        let Ok(()) = self.prepare() else {
-            return Err(Refusal::OutOfMemory);
-        };
-        self.look(core, reader, mark)
     }
 
     /// Asks the core for a page.

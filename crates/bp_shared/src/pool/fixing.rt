@@ -1,7 +1,7 @@
 //! Fixes of shared pages, with their device work.
 ghost use Rattle.std.specs.Prelude.{◌≡◌, ◌<◌};
 
-use super::{SharedPool, is_busy};
+use super::{SharedPool, found_busy, is_busy};
 use crate::names::PoolName;
 use crate::session::Session;
 use bp_core::{Ended, Fix, Pass, ReadTicket, WriteTicket};
@@ -12,7 +12,7 @@ use std::sync::Wait;
 impl<N: PoolName> SharedPool<N> {
     ghost use Rattle.std.specs.Prelude.{◌≡◌, ◌<◌};
     ghost use Rattle.bp_shared.specs.Books.{OwesRead, OwesWrite};
-    ghost use Rattle.bp_shared.specs.Turns.{LoadOutcome, WriteOutOutcome};
+    ghost use Rattle.bp_shared.specs.Turns.{FixTurn, LoadOutcome, WriteOutOutcome};
     ghost use Rattle.bp_shared.specs.Sessions.{FixSaid};
 
     /// Reads a page with no lock held, ends the read, and wakes all that wait.
@@ -31,7 +31,10 @@ impl<N: PoolName> SharedPool<N> {
         ensures outcome { LoadOutcome ticket result session.old.said session.new.said }
     {
         let read = port.read(rt, ticket.page());
-        let ended = self.state.lock(rt).end_read(session, ticket, read);
+        let mut state = self.state.lock(rt);
+        let asked = self.posted.take();
+        let ended = state.end_read(session, ticket, read, asked);
+        drop(state);
         self.ended.notify_all();
         ended
     }
@@ -51,9 +54,41 @@ impl<N: PoolName> SharedPool<N> {
         ensures outcome { WriteOutOutcome ticket result session.old.said session.new.said }
     {
         let written = port.write(rt, ticket.page(), ticket.image());
-        let ended = self.state.lock(rt).end_write(session, ticket, written);
+        let mut state = self.state.lock(rt);
+        let asked = self.posted.take();
+        let ended = state.end_write(session, ticket, written, asked);
+        drop(state);
         self.ended.notify_all();
         ended
+    }
+
+    /// Takes the memory for one more event, and asks for a page in one critical section. Where another client has the page in flight,
+    /// which is `Busy`, some device work has ended at the return. `OutOfMemory` comes before the lock is taken.
+    fn ask_fix<R: Wait>(
+        &self,
+        rt: &R,
+        session: &mut Session<N>,
+        page: PageNo,
+    ) -> Result<Fix, Refusal>
+        requires page_in { page < N.parameters.pages }
+        ensures client { session.new.client ≡ session.old.client }
+        ensures before { session.new.before ≡ session.old.before }
+        ensures turn { FixTurn session.old.client page result session.old.said session.new.said }
+    {
+        let Ok(()) = session.book.prepare() else {
+            return Err(Refusal::OutOfMemory);
+        };
+        let mut state = self.state.lock(rt);
+        let asked = self.posted.take();
+        let answer = state.fix(&self.mark, &mut session.book, page, asked);
+        if found_busy(&answer) {
+            let seen = state.ends();
+            drop(
+                self.ended
+                    .wait_while(rt, state, |state| state.ends() == seen),
+            );
+        }
+        answer
     }
 
     /// Fixes a page: gives a pass of it, once it is in a frame. The page is read, and an unsaved victim written out first, through the
@@ -78,29 +113,17 @@ impl<N: PoolName> SharedPool<N> {
         ensures outcome { FixSaid session.old.client page result session.old.said session.new.said }
     {
         for _ in rt.forever() {
-            let mut state = self.state.lock(rt);
-            match state.fix(&self.mark, session, page) {
+            match self.ask_fix(rt, session, page) {
                 Ok(Fix::Hit(pass)) => return Ok(pass),
-                Ok(Fix::Load(ticket, _)) => {
-                    drop(state);
-                    return self.load(rt, session, port, ticket);
-                }
-                Ok(Fix::WriteFirst(ticket)) => {
-                    drop(state);
-                    match self.write_out(rt, session, port, ticket) {
-                        Ok(_) => {}
-                        Err(refusal) => return Err(refusal),
-                    }
-                }
+                Ok(Fix::Load(ticket, _)) => return self.load(rt, session, port, ticket),
+                Ok(Fix::WriteFirst(ticket)) => match self.write_out(rt, session, port, ticket) {
+                    Ok(_) => {}
+                    Err(refusal) => return Err(refusal),
+                },
                 Err(refusal) => {
                     if !is_busy(&refusal) {
                         return Err(refusal);
                     }
-                    let seen = state.ends();
-                    drop(
-                        self.ended
-                            .wait_while(rt, state, |state| state.ends() == seen),
-                    );
                 }
             }
         }

@@ -2,7 +2,7 @@
 ghost use Rattle.std.specs.Prelude.{◌≡◌};
 ghost use Rattle.bp_device.specs.Drivers.{ended_reply, flushed_reply};
 
-use super::{SharedPool, is_busy};
+use super::{SharedPool, found_busy, is_busy};
 use crate::names::PoolName;
 use crate::session::Session;
 use bp_core::{Ended, Flush};
@@ -22,7 +22,37 @@ fn flushed_by(ended: Ended) -> Flushed
 
 impl<N: PoolName> SharedPool<N> {
     ghost use Rattle.std.specs.Prelude.{◌≡◌, ◌<◌};
+    ghost use Rattle.bp_shared.specs.Turns.{FlushTurn};
     ghost use Rattle.bp_shared.specs.Sessions.{FlushSaid};
+
+    /// Takes the memory for one more event, and asks that a page be written out in one critical section. `Busy` and `OutOfMemory` as
+    /// from `ask_fix`.
+    fn ask_flush<R: Wait>(
+        &self,
+        rt: &R,
+        session: &mut Session<N>,
+        page: PageNo,
+    ) -> Result<Flush, Refusal>
+        requires page_in { page < N.parameters.pages }
+        ensures client { session.new.client ≡ session.old.client }
+        ensures before { session.new.before ≡ session.old.before }
+        ensures turn { FlushTurn session.old.client page result session.old.said session.new.said }
+    {
+        let Ok(()) = session.book.prepare() else {
+            return Err(Refusal::OutOfMemory);
+        };
+        let mut state = self.state.lock(rt);
+        let asked = self.posted.take();
+        let answer = state.flush(&self.mark, &mut session.book, page, asked);
+        if found_busy(&answer) {
+            let seen = state.ends();
+            drop(
+                self.ended
+                    .wait_while(rt, state, |state| state.ends() == seen),
+            );
+        }
+        answer
+    }
 
     /// Writes a page out if it is unsaved, through the port and with no lock held. Where the page is being read or written out, the call
     /// waits for the end of some device work and asks again. Before each event it looks at the mark once.
@@ -43,12 +73,10 @@ impl<N: PoolName> SharedPool<N> {
         ensures outcome { FlushSaid session.old.client page result session.old.said session.new.said }
     {
         for _ in rt.forever() {
-            let mut state = self.state.lock(rt);
-            match state.flush(&self.mark, session, page) {
+            match self.ask_flush(rt, session, page) {
                 Ok(Flush::Clean) => return Ok(Flushed::Clean),
                 Ok(Flush::Absent) => return Ok(Flushed::Absent),
                 Ok(Flush::WriteFirst(ticket)) => {
-                    drop(state);
                     match self.write_out(rt, session, port, ticket) {
                         Ok(ended) => return Ok(flushed_by(ended)),
                         Err(refusal) => return Err(refusal),
@@ -58,11 +86,6 @@ impl<N: PoolName> SharedPool<N> {
                     if !is_busy(&refusal) {
                         return Err(refusal);
                     }
-                    let seen = state.ends();
-                    drop(
-                        self.ended
-                            .wait_while(rt, state, |state| state.ends() == seen),
-                    );
                 }
             }
         }

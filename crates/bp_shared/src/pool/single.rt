@@ -18,7 +18,12 @@ impl<N: PoolName> SharedPool<N> {
         ensures before { session.new.before ≡ session.old.before }
         ensures outcome { TickSaid session.old.client n result session.old.said session.new.said }
     {
-        self.state.lock(rt).tick(session, n)
+        let Ok(()) = session.book.prepare() else {
+            return Err(Refusal::OutOfMemory);
+        };
+        let mut state = self.state.lock(rt);
+        let asked = self.posted.take();
+        state.tick(&mut session.book, n, asked)
     }
 
     /// Forgets old references, and counts their pages. `OutOfMemory` and `TrailFull` change nothing.
@@ -27,7 +32,12 @@ impl<N: PoolName> SharedPool<N> {
         ensures before { session.new.before ≡ session.old.before }
         ensures outcome { PurgeSaid session.old.client result session.old.said session.new.said }
     {
-        self.state.lock(rt).purge(session)
+        let Ok(()) = session.book.prepare() else {
+            return Err(Refusal::OutOfMemory);
+        };
+        let mut state = self.state.lock(rt);
+        let asked = self.posted.take();
+        state.purge(&mut session.book, asked)
     }
 
     /// A copy of the image of a pass's page. `UnknownPass`, before all else, where the pass is another client's, and where the pool
@@ -46,7 +56,12 @@ impl<N: PoolName> SharedPool<N> {
         if pass.client() != session.client() {
             return Err(Refusal::UnknownPass);
         }
-        self.state.lock(rt).read(session, pass)
+        let Ok(()) = session.book.prepare() else {
+            return Err(Refusal::OutOfMemory);
+        };
+        let mut state = self.state.lock(rt);
+        let asked = self.posted.take();
+        state.read(&mut session.book, pass, asked)
     }
 
     /// Puts bytes into a pass's page, from the offset on, and raises the page LSN to `lsn` if that is greater. Refusals as from `read`.
@@ -71,6 +86,11 @@ impl<N: PoolName> SharedPool<N> {
         let Ok(kept) = Bytes::of(self.alloc, bytes.bytes()) else {
             return Err(Refusal::OutOfMemory);
         };
-        self.state.lock(rt).write(session, pass, offset, kept, lsn)
+        let Ok(()) = session.book.prepare() else {
+            return Err(Refusal::OutOfMemory);
+        };
+        let mut state = self.state.lock(rt);
+        let asked = self.posted.take();
+        state.write(&mut session.book, pass, offset, kept, lsn, asked)
     }
 }

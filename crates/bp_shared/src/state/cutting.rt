@@ -5,7 +5,7 @@ ghost use Rattle.bp_shared.specs.Locked.{Settled};
 ghost use Rattle.bp_shared.specs.Taking.{HandsOut, ComesNext};
 
 use super::State;
-use super::draining::drain_all;
+use super::draining::{ALL, drain_all};
 use crate::names::PoolName;
 use crate::taker::Taker;
 use crate::trail_ring::pass_on;
@@ -27,7 +27,7 @@ impl<N: PoolName> State<N> {
         ensures settled { OnErr result (Settled self.old self.new) }
         ensures unchanged { OnErr result (taker.new ≡ taker.old) }
     {
-        drain_all(&mut self.core, &mut self.strays, &mut self.consumers);
+        drain_all(&mut self.core, &mut self.strays, &mut self.consumers, ALL);
         let entries = match self.core.cut_into(spare) {
             Ok(entries) => entries,
             Err(refusal) => return Err(refusal),

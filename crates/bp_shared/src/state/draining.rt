@@ -12,6 +12,9 @@ use rtrb::Consumer;
 /// The most passes that are taken from a ring at once, which is as many as it holds.
 pub(crate) const RING: usize = 32;
 
+/// The word by which each ring is asked.
+pub(crate) const ALL: u64 = u64::MAX;
+
 /// Gives a pass back. One that the core does not know is dropped, and counted as a stray; the count stays at 2^64 − 1.
 fn give_back(core: &mut Core, strays: &mut u64, note: PassNote)
     ensures parameters { core.new.parameters ≡ core.old.parameters }
@@ -41,15 +44,33 @@ fn drain(core: &mut Core, strays: &mut u64, consumer: &mut Consumer<PassNote>)
     }
 }
 
-/// Drains each ring, the first client's first.
-pub(crate) fn drain_all(core: &mut Core, strays: &mut u64, consumers: &mut [Consumer<PassNote>])
+/// Drains a ring that is to be asked, or in which a pass is known to wait.
+fn drain_asked(core: &mut Core, strays: &mut u64, consumer: &mut Consumer<PassNote>, is_asked: bool)
+    ensures parameters { core.new.parameters ≡ core.old.parameters }
+    ensures before { core.new.before ≡ core.old.before }
+    ensures drained { DrainsRing 32 (ring_view consumer.old) (ring_view consumer.new) core.old.past strays.old core.new.past strays.new }
+{
+    if is_asked || consumer.cached_slots() > 0 {
+        drain(core, strays, consumer);
+    }
+}
+
+/// Drains each ring that is to be asked, the first client's first. Bit c of the word stands for the ring of client c.
+pub(crate) fn drain_all(
+    core: &mut Core,
+    strays: &mut u64,
+    consumers: &mut [Consumer<PassNote>],
+    asked: u64,
+)
     ensures parameters { core.new.parameters ≡ core.old.parameters }
     ensures before { core.new.before ≡ core.old.before }
     ensures drained { DrainsRings 32 (map ring_view consumers.old) (map ring_view consumers.new) core.old.past strays.old core.new.past strays.new }
     ensures durable { durable core.new.past ≡ durable core.old.past }
 {
+    let mut word = asked;
     for consumer in consumers.iter_mut() {
-        drain(core, strays, consumer);
+        drain_asked(core, strays, consumer, word % 2 == 1);
+        word /= 2;
     }
 }
 
@@ -58,6 +79,6 @@ impl<N: PoolName> State<N> {
     pub(crate) fn settle(&mut self)
         ensures { Settled self.old self.new }
     {
-        drain_all(&mut self.core, &mut self.strays, &mut self.consumers);
+        drain_all(&mut self.core, &mut self.strays, &mut self.consumers, ALL);
     }
 }

@@ -1,13 +1,15 @@
-//! The critical sections of a session. Each drains the rings, and then makes one event, which the session's list gets too; a fix and
-//! a flush first look at the mark once.
+//! The critical sections of a session. Each drains the rings that it is to ask, bit c for that of client c, and then makes one event,
+//! which the session's list gets too; a fix and a flush first look at the mark once. None takes memory for the list: what an event
+//! wants there is taken before the lock.
 ghost use Rattle.std.specs.Prelude.{◌≡◌, ◌+◌, ◌<◌, ◌≤◌, length, IfOk};
-ghost use Rattle.bp_shared.specs.Books.{OwesRead, OwesWrite};
+ghost use Rattle.bp_shared.specs.Books.{SameOwner, OwesRead, OwesWrite};
 ghost use Rattle.bp_shared.specs.Turns.{FixTurn, FlushTurn, EndReadOutcome, EndWriteOutcome};
 ghost use Rattle.bp_shared.specs.Sessions.{TickSaid, PurgeSaid, ReadSaid, WriteSaid};
 ghost use Rattle.bp_shared.specs.Locked.{InStep};
 
 use super::State;
 use super::draining::drain_all;
+use crate::book::Book;
 use crate::names::PoolName;
 use crate::session::Session;
 use bp_core::{Ended, Fix, Flush, Pass, ReadTicket, WriteTicket};
@@ -27,44 +29,54 @@ impl<N: PoolName> State<N> {
     pub(crate) fn fix(
         &mut self,
         mark: &Mark,
-        session: &mut Session<N>,
+        book: &mut Book,
         page: PageNo,
+        asked: u64,
     ) -> Result<Fix, Refusal>
         requires mark { mark.now ≡ N.mark }
         requires page_in { page < N.parameters.pages }
-        ensures client { session.new.client ≡ session.old.client }
-        ensures before { session.new.before ≡ session.old.before }
-        ensures turn { FixTurn session.old.client page result session.old.said session.new.said }
-        ensures in_step { InStep self.old session.old.said self.new session.new.said }
+        requires client_in { book.old.client < N.parameters.clients }
+        requires size { book.old.size ≡ N.parameters.size }
+        requires entries { 4 ≤ book.old.entries }
+        requires passes { 1 ≤ book.old.passes }
+        requires copies { 2 ≤ book.old.copies }
+        ensures owner { SameOwner book.old book.new }
+        ensures turn { FixTurn book.old.client page result book.old.said book.new.said }
+        ensures in_step { InStep self.old book.old.said self.new book.new.said }
     {
-        drain_all(&mut self.core, &mut self.strays, &mut self.consumers);
-        match session.book.ready(&mut self.core, &mut self.reader, mark) {
+        drain_all(&mut self.core, &mut self.strays, &mut self.consumers, asked);
+        match book.look(&mut self.core, &mut self.reader, mark) {
             Ok(()) => {}
             Err(refusal) => return Err(refusal),
         }
-        session.book.ask_fix(&mut self.core, page)
+        book.ask_fix(&mut self.core, page)
     }
 
     /// Asks that a page be written out, after one look at the mark.
     pub(crate) fn flush(
         &mut self,
         mark: &Mark,
-        session: &mut Session<N>,
+        book: &mut Book,
         page: PageNo,
+        asked: u64,
     ) -> Result<Flush, Refusal>
         requires mark { mark.now ≡ N.mark }
         requires page_in { page < N.parameters.pages }
-        ensures client { session.new.client ≡ session.old.client }
-        ensures before { session.new.before ≡ session.old.before }
-        ensures turn { FlushTurn session.old.client page result session.old.said session.new.said }
-        ensures in_step { InStep self.old session.old.said self.new session.new.said }
+        requires client_in { book.old.client < N.parameters.clients }
+        requires size { book.old.size ≡ N.parameters.size }
+        requires entries { 4 ≤ book.old.entries }
+        requires passes { 1 ≤ book.old.passes }
+        requires copies { 2 ≤ book.old.copies }
+        ensures owner { SameOwner book.old book.new }
+        ensures turn { FlushTurn book.old.client page result book.old.said book.new.said }
+        ensures in_step { InStep self.old book.old.said self.new book.new.said }
     {
-        drain_all(&mut self.core, &mut self.strays, &mut self.consumers);
-        match session.book.ready(&mut self.core, &mut self.reader, mark) {
+        drain_all(&mut self.core, &mut self.strays, &mut self.consumers, asked);
+        match book.look(&mut self.core, &mut self.reader, mark) {
             Ok(()) => {}
             Err(refusal) => return Err(refusal),
         }
-        session.book.ask_flush(&mut self.core, page)
+        book.ask_flush(&mut self.core, page)
     }
 
     /// Ends a read. It takes no memory.
@@ -73,6 +85,7 @@ impl<N: PoolName> State<N> {
         session: &mut Session<N>,
         ticket: ReadTicket,
         read: Result<Image, PortFault>,
+        asked: u64,
     ) -> Result<Pass, Refusal>
         requires owes { OwesRead session.old.client ticket session.old.said }
         requires size { IfOk read (λ image. length image ≡ N.parameters.size) }
@@ -81,7 +94,7 @@ impl<N: PoolName> State<N> {
         ensures outcome { EndReadOutcome ticket read result session.old.said session.new.said }
         ensures in_step { InStep self.old session.old.said self.new session.new.said }
     {
-        drain_all(&mut self.core, &mut self.strays, &mut self.consumers);
+        drain_all(&mut self.core, &mut self.strays, &mut self.consumers, asked);
         let ended = session.book.end_read(&mut self.core, ticket, read);
         self.ends = counted(self.ends, &ended);
         ended
@@ -93,6 +106,7 @@ impl<N: PoolName> State<N> {
         session: &mut Session<N>,
         ticket: WriteTicket,
         written: Result<(), PortFault>,
+        asked: u64,
     ) -> Result<Ended, Refusal>
         requires owes { OwesWrite session.old.client ticket session.old.said }
         ensures client { session.new.client ≡ session.old.client }
@@ -100,77 +114,73 @@ impl<N: PoolName> State<N> {
         ensures outcome { EndWriteOutcome ticket written result session.old.said session.new.said }
         ensures in_step { InStep self.old session.old.said self.new session.new.said }
     {
-        drain_all(&mut self.core, &mut self.strays, &mut self.consumers);
+        drain_all(&mut self.core, &mut self.strays, &mut self.consumers, asked);
         let ended = session.book.end_write_out(&mut self.core, ticket, written);
         self.ends = counted(self.ends, &ended);
         ended
     }
 
     /// Moves the clock.
-    pub(crate) fn tick(&mut self, session: &mut Session<N>, n: u64) -> Result<(), Refusal>
-        ensures client { session.new.client ≡ session.old.client }
-        ensures before { session.new.before ≡ session.old.before }
-        ensures outcome { TickSaid session.old.client n result session.old.said session.new.said }
-        ensures in_step { InStep self.old session.old.said self.new session.new.said }
+    pub(crate) fn tick(&mut self, book: &mut Book, n: u64, asked: u64) -> Result<(), Refusal>
+        requires client_in { book.old.client < N.parameters.clients }
+        requires room { 0 < book.old.entries }
+        ensures owner { SameOwner book.old book.new }
+        ensures outcome { TickSaid book.old.client n result book.old.said book.new.said }
+        ensures in_step { InStep self.old book.old.said self.new book.new.said }
     {
-        drain_all(&mut self.core, &mut self.strays, &mut self.consumers);
-        let Ok(()) = session.book.prepare() else {
-            return Err(Refusal::OutOfMemory);
-        };
-        session.book.ask_tick(&mut self.core, n)
+        drain_all(&mut self.core, &mut self.strays, &mut self.consumers, asked);
+        book.ask_tick(&mut self.core, n)
     }
 
     /// Forgets old references, and counts their pages.
-    pub(crate) fn purge(&mut self, session: &mut Session<N>) -> Result<u64, Refusal>
-        ensures client { session.new.client ≡ session.old.client }
-        ensures before { session.new.before ≡ session.old.before }
-        ensures outcome { PurgeSaid session.old.client result session.old.said session.new.said }
-        ensures in_step { InStep self.old session.old.said self.new session.new.said }
+    pub(crate) fn purge(&mut self, book: &mut Book, asked: u64) -> Result<u64, Refusal>
+        requires client_in { book.old.client < N.parameters.clients }
+        requires room { 0 < book.old.entries }
+        ensures owner { SameOwner book.old book.new }
+        ensures outcome { PurgeSaid book.old.client result book.old.said book.new.said }
+        ensures in_step { InStep self.old book.old.said self.new book.new.said }
     {
-        drain_all(&mut self.core, &mut self.strays, &mut self.consumers);
-        let Ok(()) = session.book.prepare() else {
-            return Err(Refusal::OutOfMemory);
-        };
-        session.book.ask_purge(&mut self.core)
+        drain_all(&mut self.core, &mut self.strays, &mut self.consumers, asked);
+        book.ask_purge(&mut self.core)
     }
 
-    /// Reads the page of a pass of the session's client.
-    pub(crate) fn read(&mut self, session: &mut Session<N>, pass: &Pass) -> Result<Image, Refusal>
-        requires own { pass.now.client ≡ session.old.client }
-        ensures client { session.new.client ≡ session.old.client }
-        ensures before { session.new.before ≡ session.old.before }
-        ensures outcome { ReadSaid session.old.client pass.now result session.old.said session.new.said }
-        ensures in_step { InStep self.old session.old.said self.new session.new.said }
+    /// Reads the page of a pass of the list's client.
+    pub(crate) fn read(
+        &mut self,
+        book: &mut Book,
+        pass: &Pass,
+        asked: u64,
+    ) -> Result<Image, Refusal>
+        requires own { pass.now.client ≡ book.old.client }
+        requires size { book.old.size ≡ N.parameters.size }
+        requires room { 0 < book.old.entries }
+        requires copies { 0 < book.old.copies }
+        ensures owner { SameOwner book.old book.new }
+        ensures outcome { ReadSaid book.old.client pass.now result book.old.said book.new.said }
+        ensures in_step { InStep self.old book.old.said self.new book.new.said }
     {
-        drain_all(&mut self.core, &mut self.strays, &mut self.consumers);
-        let Ok(()) = session.book.prepare() else {
-            return Err(Refusal::OutOfMemory);
-        };
-        session.book.ask_read(&mut self.core, pass)
+        drain_all(&mut self.core, &mut self.strays, &mut self.consumers, asked);
+        book.ask_read(&mut self.core, pass)
     }
 
-    /// Writes to the page of a pass of the session's client.
+    /// Writes to the page of a pass of the list's client.
     pub(crate) fn write(
         &mut self,
-        session: &mut Session<N>,
+        book: &mut Book,
         pass: &Pass,
         offset: u32,
         bytes: Bytes,
         lsn: Lsn,
+        asked: u64,
     ) -> Result<(), Refusal>
-        requires own { pass.now.client ≡ session.old.client }
+        requires own { pass.now.client ≡ book.old.client }
         requires fits { offset + length bytes ≤ N.parameters.size }
-        ensures client { session.new.client ≡ session.old.client }
-        ensures before { session.new.before ≡ session.old.before }
-        ensures outcome { WriteSaid session.old.client pass.now offset bytes lsn result session.old.said session.new.said }
-        ensures in_step { InStep self.old session.old.said self.new session.new.said }
+        requires room { 0 < book.old.entries }
+        ensures owner { SameOwner book.old book.new }
+        ensures outcome { WriteSaid book.old.client pass.now offset bytes lsn result book.old.said book.new.said }
+        ensures in_step { InStep self.old book.old.said self.new book.new.said }
     {
-        drain_all(&mut self.core, &mut self.strays, &mut self.consumers);
-        let Ok(()) = session.book.prepare() else {
-            return Err(Refusal::OutOfMemory);
-        };
-        session
-            .book
-            .ask_write(&mut self.core, pass, offset, bytes, lsn)
+        drain_all(&mut self.core, &mut self.strays, &mut self.consumers, asked);
+        book.ask_write(&mut self.core, pass, offset, bytes, lsn)
     }
 }

@@ -23,8 +23,8 @@ loop-preserved-in-Ok g c =
     let i = c.loop.invariant in
     let t = rw (c.in-Ok-WriteFirst.field-0-is, i.client) at c.in-Ok-WriteFirst.ensures.turn in
     record {
-      client = c.write_out.ensures.client ∙ c.fix.ensures.client ∙ i.client;
-      before = c.write_out.ensures.before ∙ c.fix.ensures.before ∙ i.before;
+      client = c.write_out.ensures.client ∙ c.ask_fix.ensures.client ∙ i.client;
+      before = c.write_out.ensures.before ∙ c.ask_fix.ensures.before ∙ i.before;
       port = c.write_out.ensures.port ∙ i.port;
       waits = written_waits _ _ c.in-Ok-WriteFirst.ticket _ _ _ _ (turn_more _ _ _ _ _ _ i.waits t) c.in-Ok.ensures.outcome;
     }
@@ -39,10 +39,10 @@ pub loop-preserved : goal.loop-preserved
 loop-preserved g c =
     let i = c.loop.invariant in
     let t = rw i.client at c.in-Err.ensures.turn in
-    record { client = c.fix.ensures.client ∙ i.client; before = c.fix.ensures.before ∙ i.before; port = i.port; waits = busy_waits _ _ c.in-Err.refusal _ _ (search rules) (turn_more _ _ _ _ _ _ i.waits t) }
+    record { client = c.ask_fix.ensures.client ∙ i.client; before = c.ask_fix.ensures.before ∙ i.before; port = i.port; waits = busy_waits _ _ c.in-Err.refusal _ _ (search rules) (turn_more _ _ _ _ _ _ i.waits t) }
 
 pub returns-then-not-is_busy : goal.returns-then-not-is_busy
 returns-then-not-is_busy g c =
     let i = c.loop.invariant in
     let t = rw i.client at c.in-Err.ensures.turn in
-    record { client = c.fix.ensures.client ∙ i.client; before = c.fix.ensures.before ∙ i.before; port = i.port; outcome = refused_said _ _ c.in-Err.refusal _ _ (search rules) (turn_more _ _ _ _ _ _ i.waits t) }
+    record { client = c.ask_fix.ensures.client ∙ i.client; before = c.ask_fix.ensures.before ∙ i.before; port = i.port; outcome = refused_said _ _ c.in-Err.refusal _ _ (search rules) (turn_more _ _ _ _ _ _ i.waits t) }

@@ -36,10 +36,10 @@ pub loop-preserved : goal.loop-preserved
 loop-preserved g c =
     let i = c.loop.invariant in
     let t = rw i.client at c.in-Err.ensures.turn in
-    record { client = c.flush.ensures.client ∙ i.client; before = c.flush.ensures.before ∙ i.before; port = i.port; waits = flush_busy_waits _ _ c.in-Err.refusal _ _ (search rules) (flush_turn_more _ _ _ _ _ _ i.waits t) }
+    record { client = c.ask_flush.ensures.client ∙ i.client; before = c.ask_flush.ensures.before ∙ i.before; port = i.port; waits = flush_busy_waits _ _ c.in-Err.refusal _ _ (search rules) (flush_turn_more _ _ _ _ _ _ i.waits t) }
 
 pub returns-then-not-is_busy : goal.returns-then-not-is_busy
 returns-then-not-is_busy g c =
     let i = c.loop.invariant in
     let t = rw i.client at c.in-Err.ensures.turn in
-    record { client = c.flush.ensures.client ∙ i.client; before = c.flush.ensures.before ∙ i.before; port = i.port; outcome = flush_refused_said _ _ c.in-Err.refusal _ _ (search rules) (flush_turn_more _ _ _ _ _ _ i.waits t) }
+    record { client = c.ask_flush.ensures.client ∙ i.client; before = c.ask_flush.ensures.before ∙ i.before; port = i.port; outcome = flush_refused_said _ _ c.in-Err.refusal _ _ (search rules) (flush_turn_more _ _ _ _ _ _ i.waits t) }

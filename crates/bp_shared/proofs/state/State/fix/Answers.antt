@@ -5,14 +5,14 @@ use Rattle.bp_shared.proofs.Stepping.{step_one, step_two, fix_marked, fix_not_re
 use Rattle.bp_shared.proofs.state.State.fix.Goals as goal
 
 pub returns-in-Err-clause-turn : goal.returns-in-Err-clause-turn
-returns-in-Err-clause-turn g c = rw (← c.session.view_is) (fix_not_ready (Unit {0}) _ _ _ _ _ c.in-Err.ensures.outcome)
+returns-in-Err-clause-turn g c = fix_not_ready (Unit {0}) _ _ _ _ _ c.in-Err.ensures.outcome
 
 pub returns-in-Err-clause-in_step : goal.returns-in-Err-clause-in_step
-returns-in-Err-clause-in_step g c = rw (← c.self.view_is, ← c.session.view_is) (step_one _ _ _ _ _ _ (lent_rings _ c.self.inside.consumers _ _ _ _ _ _ c.deref_mut.ensures.value (omega arith) c.drain_all.ensures.drained) c.drain_all.ensures.parameters c.drain_all.ensures.before refl c.ready.ensures.alike)
+returns-in-Err-clause-in_step g c = rw (← c.self.view_is) (step_one _ _ _ _ _ _ (lent_rings _ c.self.inside.consumers _ _ _ _ _ _ c.deref_mut.ensures.value (omega arith) c.drain_all.ensures.drained) c.drain_all.ensures.parameters c.drain_all.ensures.before refl c.look.ensures.alike)
 
 pub returns-clause-turn : goal.returns-clause-turn
 returns-clause-turn g c =
-    rw (← c.session.view_is) (record { marked = c.ready.new.self.said; waits = fix_marked _ _ _ _ _ _ c.in-Ok.is c.ready.ensures.outcome; asks = rw (c.ready.ensures.owner.client) at c.ask_fix.ensures.outcome })
+    record { marked = c.look.new.self.said; waits = fix_marked _ _ _ _ _ _ c.in-Ok.is c.look.ensures.outcome; asks = rw (c.look.ensures.owner.client) at c.ask_fix.ensures.outcome }
 
 pub returns-clause-in_step : goal.returns-clause-in_step
-returns-clause-in_step g c = rw (← c.self.view_is, ← c.session.view_is) (step_two _ _ _ _ _ _ _ (lent_rings _ c.self.inside.consumers _ _ _ _ _ _ c.deref_mut.ensures.value (omega arith) c.drain_all.ensures.drained) c.drain_all.ensures.parameters c.drain_all.ensures.before c.ready.ensures.alike c.ask_fix.ensures.alike)
+returns-clause-in_step g c = rw (← c.self.view_is) (step_two _ _ _ _ _ _ _ (lent_rings _ c.self.inside.consumers _ _ _ _ _ _ c.deref_mut.ensures.value (omega arith) c.drain_all.ensures.drained) c.drain_all.ensures.parameters c.drain_all.ensures.before c.look.ensures.alike c.ask_fix.ensures.alike)

@@ -1,11 +1,8 @@
 -- Rings drained, and one event.
-use Rattle.std.proofs.Common.{arith}
+use Rattle.std.proofs.Common.{arith, refl}
 use Rattle.bp_shared.proofs.Draining.{lent_rings}
-use Rattle.bp_shared.proofs.Stepping.{step_none, step_one}
+use Rattle.bp_shared.proofs.Stepping.{step_one}
 use Rattle.bp_shared.proofs.state.State.purge.Goals as goal
 
-pub returns-in_default-clause-in_step : goal.returns-in_default-clause-in_step
-returns-in_default-clause-in_step g c = rw (← c.self.view_is, ← c.session.view_is) (step_none _ _ _ _ (lent_rings _ c.self.inside.consumers _ _ _ _ _ _ c.deref_mut.ensures.value (omega arith) c.drain_all.ensures.drained) c.drain_all.ensures.parameters c.drain_all.ensures.before c.prepare.ensures.same.said)
-
 pub returns-clause-in_step : goal.returns-clause-in_step
-returns-clause-in_step g c = rw (← c.self.view_is, ← c.session.view_is) (step_one _ _ _ _ _ _ (lent_rings _ c.self.inside.consumers _ _ _ _ _ _ c.deref_mut.ensures.value (omega arith) c.drain_all.ensures.drained) c.drain_all.ensures.parameters c.drain_all.ensures.before c.prepare.ensures.same.said c.ask_purge.ensures.alike)
+returns-clause-in_step g c = rw (← c.self.view_is) (step_one _ _ _ _ _ _ (lent_rings _ c.self.inside.consumers _ _ _ _ _ _ c.deref_mut.ensures.value (omega arith) c.drain_all.ensures.drained) c.drain_all.ensures.parameters c.drain_all.ensures.before refl c.ask_purge.ensures.alike)

@@ -11,8 +11,8 @@ loop-consumer-init c = record { parameters = refl; before = refl; drained = none
 pub loop-consumer-preserved : goal.loop-consumer-preserved
 loop-consumer-preserved c =
     let i = c.loop-consumer.invariant in
-    let next = rings_next ring_view 32 _ _ _ c.consumer-item.result _ _ _ _ _ _ _ (omega arith) (omega arith) i.drained i.left c.drain.ensures.drained in
-    record { parameters = c.drain.ensures.parameters ∙ i.parameters; before = c.drain.ensures.before ∙ i.before; drained = next.0; left = next.1 }
+    let next = rings_next ring_view 32 _ _ _ c.consumer-item.result _ _ _ _ _ _ _ (omega arith) (omega arith) i.drained i.left c.drain_asked.ensures.drained in
+    record { parameters = c.drain_asked.ensures.parameters ∙ i.parameters; before = c.drain_asked.ensures.before ∙ i.before; drained = next.0; left = next.1 }
 
 pub returns-clause-durable : goal.returns-clause-durable
 returns-clause-durable c = rings_durable _ _ _ _ _ _ _ c.loop-consumer.invariant.drained

@@ -1,0 +1,46 @@
+//! Which clients posted passes since the rings were last drained.
+use std::sync::atomic::{AtomicU64, Ordering};
+
+/// Up to so many rings are looked at one by one.
+const FEW: u8 = 16;
+
+/// A bit for each client that posted passes since the rings were last drained, where there are so many that one word is cheaper to
+/// look at than each ring.
+///
+/// A client tells after its pass is in the ring, and the word is taken under the lock. So a section asks each ring whose passes were
+/// told before it; a pass that is told later is drained by the next one, or by whatever drains all rings.
+#[derive(Drop)]
+pub(crate) struct Posted {
+    has_many: bool,
+    /// Bit c: client c told of a pass.
+    told: AtomicU64,
+}
+
+impl Posted {
+    /// Nobody posted. There are at most 64 clients.
+    pub(crate) fn nothing(clients: u8) -> Posted {
+        Posted {
+            has_many: clients > FEW,
+            told: AtomicU64::new(0),
+        }
+    }
+
+    /// The client's ring has one more pass.
+    pub(crate) fn tell(&self, client: u8) {
+        if self.has_many {
+            let bit = 1u64.wrapping_shl(u32::from(client));
+            self.told.fetch_or(bit, Ordering::SeqCst);
+        }
+    }
+
+    /// The rings that a section is to ask, bit c for client c: those told of since the last time, or all where there are few.
+    pub(crate) fn take(&self) -> u64 {
+        if !self.has_many {
+            return u64::MAX;
+        }
+        if self.told.load(Ordering::SeqCst) == 0 {
+            return 0;
+        }
+        self.told.swap(0, Ordering::SeqCst)
+    }
+}
