@@ -1,13 +1,16 @@
 #!/usr/bin/env python3
-"""Runs bench_pool and Berkeley DB's memory pool in turn, over the same pages in the same order, and prints the ratios.
+"""Runs bench_pool or bench_threads and Berkeley DB's memory pool in turn, over the same pages, and prints the ratios.
 
-    apt-get install libdb5.3-dev        (a C compiler is needed too)
-    (cd crates/bench_pool && rt run)    builds the bench; with no argument it does nothing
+    apt-get install libdb5.3-dev           (a C compiler is needed too)
+    (cd crates/bench_pool && rt run)       builds a bench; with no argument it does nothing
+    (cd crates/bench_threads && rt run)    the same; with no argument it does little
     peers/side_by_side.py ROUNDS [ROOM ..]
+    peers/side_by_side.py ROUNDS threads
 
 For each ROOM the trail has that room and is cut when half full; ROOM 0 is a trail that is never cut. Each number is in fixes
-and unfixes a second of processor time; a ratio is of one round, above 1 where the proved pool is faster. The median of the
-rounds comes first, and then the least and the greatest.
+and unfixes a second of processor time. With `threads` it is in those of all client threads together, a second of wall clock
+time. A ratio is of one round, above 1 where the proved pool is faster. The median of the rounds comes first, and then the
+least and the greatest.
 """
 import os
 import re
@@ -18,6 +21,7 @@ import tempfile
 
 TOP = os.path.dirname(os.path.dirname(os.path.realpath(__file__)))
 BENCH = f"{TOP}/crates/bench_pool/out/bench_pool"
+BENCH_THREADS = f"{TOP}/crates/bench_threads/out/bench_threads"
 FILE_BYTES = 268435456
 # For each column of bench_pool: pages of the file, frames such that the hit rate is the same, hot pages.
 COLUMNS = [
@@ -27,6 +31,12 @@ COLUMNS = [
     ("evictions, 4,096 frames", 16384, 2890, 16384),
     ("hits, 65,536 frames", 65536, 65536, 65536),
     ("evictions, 65,536 frames", 262144, 46200, 262144),
+]
+# For each line of bench_threads: threads, and then as above.
+THREAD_COLUMNS = [
+    (f"{name}, {threads} thread{'s' * (threads > 1)}", threads, pages, frames, hot)
+    for threads in (1, 2, 4)
+    for name, pages, frames, hot in [("64 hot pages of 4,096", 4096, 4096, 64), COLUMNS[3]]
 ]
 
 
@@ -39,11 +49,23 @@ def ours(pages, room, folder):
     return [int(it) for it in re.findall(r"pages: (\d+) fixes", said(words, folder))]
 
 
+def ours_in_threads(pages, folder):
+    return [int(it) for it in re.findall(r"pages: (\d+) fixes", said([BENCH_THREADS, pages], folder))]
+
+
+def mpool_said(mpool, threads, pages, frames, hot, folder):
+    return said([mpool, str(threads), "1", str(pages), str(frames), "1024", str(hot)], folder)
+
+
 def theirs(mpool, folder):
+    return [int(mpool_said(mpool, 1, pages, frames, hot, folder).split()[0]) for _, pages, frames, hot in COLUMNS]
+
+
+def theirs_in_threads(mpool, folder):
     found = []
-    for _, pages, frames, hot in COLUMNS:
-        line = said([mpool, "1", "1", str(pages), str(frames), "1024", str(hot)], folder)
-        found.append(int(line.split()[0]))
+    for _, *numbers in THREAD_COLUMNS:
+        line = mpool_said(mpool, *numbers, folder)
+        found.append(int(re.search(r"(\d+) a second", line)[1]))
     return found
 
 
@@ -55,26 +77,36 @@ def thousands(values):
     return f"{statistics.median(values) / 1000:,.0f}"
 
 
+def print_table(title, names, runs, peer):
+    print(title)
+    print("| | This pool, thousands a second | Berkeley DB | Ratio |\n|---|---|---|---|")
+    for at, name in enumerate(names):
+        mine, other = [it[at] for it in runs], [it[at] for it in peer]
+        ratios = [a / b for a, b in zip(mine, other)]
+        print(f"| {name} | {thousands(mine)} | {thousands(other)} | {spread(ratios)} |")
+
+
 def main():
-    rounds, rooms = int(sys.argv[1]), [int(it) for it in sys.argv[2:]] or [0]
+    rounds, in_threads = int(sys.argv[1]), sys.argv[2:] == ["threads"]
+    rooms = [] if in_threads else [int(it) for it in sys.argv[2:]] or [0]
     with tempfile.TemporaryDirectory(prefix="side-by-side-") as folder:
         mpool, pages = f"{folder}/mpool", f"{folder}/pages.bin"
         subprocess.run(["cc", "-O2", f"{TOP}/peers/mpool.c", "-ldb", "-lpthread", "-o", mpool], check=True)
         with open(pages, "wb") as it:
             it.write(bytes(FILE_BYTES))
         runs = {room: [] for room in rooms}
-        peer = []
+        peer, of_threads = [], []
         for _ in range(rounds):
-            peer.append(theirs(mpool, folder))
+            peer.append((theirs_in_threads if in_threads else theirs)(mpool, folder))
             for room in rooms:
                 runs[room].append(ours(pages, room, folder))
+            if in_threads:
+                of_threads.append(ours_in_threads(pages, folder))
     for room in rooms:
-        print(f"room {room}, cut when half full" if room else "never cut")
-        print("| | This pool, thousands a second | Berkeley DB | Ratio |\n|---|---|---|---|")
-        for at, (name, *_) in enumerate(COLUMNS):
-            mine, other = [it[at] for it in runs[room]], [it[at] for it in peer]
-            ratios = [a / b for a, b in zip(mine, other)]
-            print(f"| {name} | {thousands(mine)} | {thousands(other)} | {spread(ratios)} |")
+        title = f"room {room}, cut when half full" if room else "never cut"
+        print_table(title, [name for name, *_ in COLUMNS], runs[room], peer)
+    if in_threads:
+        print_table("client threads, cut as they go", [name for name, *_ in THREAD_COLUMNS], of_threads, peer)
 
 
 if __name__ == "__main__":

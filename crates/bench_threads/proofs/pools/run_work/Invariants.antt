@@ -1,0 +1,10 @@
+-- The pool that was just made.
+use Rattle.bench_threads.proofs.pools.run_work.Given as goal
+
+abbrev pub ghosts-time_work : goal.ghosts-time_work
+ghosts-time_work g a = record {
+  mark = a.made.mark;
+  parameters = a.made.core.parameters;
+  before = a.made.core.before;
+  ring = a.made.ring;
+}

@@ -1,0 +1,101 @@
+//! Times fix and unfix of client threads over one shared pool, where its argument is the path of a page file. With no argument
+//! four threads use a pool for a moment, over pages in memory. docs/BENCHMARKS.md has its numbers.
+#![tactic(auto)]
+
+ghost use Rattle.std.specs.Prelude.{◌≡◌, ◌<◌, ◌≤◌, []};
+
+mod jobs;
+mod pools;
+
+use crate::jobs::Work;
+use crate::pools::{Outcome, file_ports, memory_ports, run_work};
+use std::alloc::Global;
+use std::env;
+use std::fs::File;
+use std::rt::{Clock, Files, Runtime};
+use std::sync::Wait;
+use std::thread::Threads;
+
+const HOT_PAGES: u64 = 64;
+
+const FRAMES: usize = 4096;
+
+const FILE_PAGES: u64 = 16384;
+
+// How many calls a second these are, or 0 where they took no time.
+fn calls_a_second(nanos: u128, calls: u64) -> u128 {
+    if nanos == 0 {
+        return 0;
+    }
+    calls as u128 * 1000000000 / nanos
+}
+
+// Times threads over pages of a file.
+fn time_work<R: Runtime<A = Global> + Clock + Files<File = File> + Threads + Wait + Sync>(
+    rt: &R,
+    path: &str,
+    work: Work,
+) -> Result<(), anyhow::Error> {
+    let ports = file_ports(rt, path, work.threads)?;
+    let Outcome { nanos, done } = run_work(rt, ports, work)?;
+    let Work {
+        threads,
+        pages,
+        calls,
+    } = work;
+    let each = calls_a_second(nanos, done);
+    let all = u64::from(threads) * calls;
+    println!(rt;
+        "{threads} threads, {pages} pages: {each} fixes and unfixes a second; {done} of {all} were not refused"
+    )?;
+    Ok(())
+}
+
+// Times hits over few pages, and evictions over four times as many pages as there are frames.
+fn time_threads<R: Runtime<A = Global> + Clock + Files<File = File> + Threads + Wait + Sync>(
+    rt: &R,
+    path: &str,
+    threads: u8,
+) -> Result<(), anyhow::Error> {
+    let hits = Work {
+        threads,
+        pages: HOT_PAGES,
+        calls: 1000000,
+    };
+    time_work(rt, path, hits)?;
+    let evictions = Work {
+        threads,
+        pages: FILE_PAGES,
+        calls: 100000,
+    };
+    time_work(rt, path, evictions)
+}
+
+// Says how many fixes of four threads were not refused.
+fn try_threads<R: Runtime<A = Global> + Clock + Threads + Wait + Sync>(
+    rt: &R,
+) -> Result<(), anyhow::Error> {
+    let work = Work {
+        threads: 4,
+        pages: HOT_PAGES,
+        calls: 1000,
+    };
+    let ports = memory_ports(rt.alloc(), work.threads)?;
+    let outcome = run_work(rt, ports, work)?;
+    println!(rt;
+        "4 threads: {} of 4000 fixes were not refused",
+        outcome.done
+    )?;
+    Ok(())
+}
+
+fn main(rt: HostRuntime) -> Result<(), anyhow::Error> {
+    let mut words = env::args(&rt)?.skip(1);
+    let Some(path) = words.next() else {
+        return try_threads(&rt);
+    };
+    for threads in [1, 2, 4] {
+        time_threads(&rt, path.as_str(), threads)?;
+    }
+    Ok(())
+}

@@ -1,0 +1,171 @@
+//! Pools, their clients and their ports.
+ghost use Rattle.std.specs.Prelude.{◌≡◌, []};
+ghost use Rattle.bench_threads.specs.declared.TheConstants.{FILE_PAGES};
+ghost use Rattle.bench_threads.specs.declared.pools.TheConstants.{SIZE};
+
+use crate::jobs::{Job, Takings, Work, done_by, run_jobs};
+use crate::{FILE_PAGES, FRAMES};
+use bp_core::Core;
+use bp_device::{FilePort, MemDevice, MemPort, Port};
+use bp_lruk::Settings;
+use bp_lruk::settings::MAX_PERIOD;
+use bp_mark::{Mark, Reader};
+use bp_page::{Geometry, Refusal};
+use bp_shared::{PoolName, Session, SharedPool, TrailRing};
+use std::alloc::Global;
+use std::fs::File;
+use std::marker::Brand;
+use std::rt::{Clock, Files, Runtime};
+use std::sync::{Mutex, Wait};
+use std::thread::Threads;
+use std::time::Instant;
+
+const SIZE: usize = 1024;
+
+const ROOM: usize = 65536;
+
+/// What a pool is made of.
+struct Made {
+    core: Core,
+    mark: Mark,
+    reader: Reader,
+    ring: TrailRing,
+    ghost reader_is: { reader.mark ≡ mark },
+    ghost empty: { core.past ≡ [] },
+    ghost pages_are: { core.parameters.pages ≡ FILE_PAGES },
+    ghost size_is: { core.parameters.size ≡ SIZE },
+}
+
+// A core of K 2 and no periods for so many clients.
+fn make(alloc: Global, clients: u8) -> Result<Made, Refusal> {
+    let geometry = Geometry::new(FILE_PAGES, SIZE)?;
+    let settings = Settings::new(2, 0, MAX_PERIOD)?;
+    let core = Core::new(alloc, geometry, settings, FRAMES, clients, ROOM)?;
+    let (mark, _, reader) = Mark::new(alloc)?;
+    let ring = TrailRing::new(alloc)?;
+    Ok(Made {
+        core,
+        mark,
+        reader,
+        ring,
+    })
+}
+
+/// What threads came to.
+#[derive(Drop)]
+pub(crate) struct Outcome {
+    /// The time from the first one's start to the last one's end.
+    pub(crate) nanos: u128,
+    /// The fixes that were not refused.
+    pub(crate) done: u64,
+}
+
+// A job for each session. A port of pages of another size is refused.
+fn make_jobs<N: PoolName, P: Port>(
+    alloc: Global,
+    sessions: Vec<Session<N>>,
+    ports: Vec<P>,
+) -> Result<Vec<Job<N, P>>, Refusal>
+    requires size { N.parameters.size ≡ SIZE }
+{
+    let mut jobs = Vec::new(alloc);
+    let mut ports = ports.into_iter();
+    for session in sessions {
+        let port = ports.next().ok_or(Refusal::BadLength)?;
+        if port.geometry().size != SIZE {
+            return Err(Refusal::BadLength);
+        }
+        let state = u64::from(session.client())
+            .wrapping_mul(7919)
+            .wrapping_add(1);
+        let job = Job {
+            alloc,
+            session,
+            port,
+            state,
+            done: 0,
+            spare: Vec::new(alloc),
+        };
+        let Ok(()) = jobs.push(job) else {
+            return Err(Refusal::OutOfMemory);
+        };
+    }
+    Ok(jobs)
+}
+
+// Times threads over a new pool, whose frames are full at the start.
+fn time_work<
+    N: PoolName + Send + Sync,
+    P: Port + Send,
+    R: Runtime<A = Global> + Clock + Threads + Wait + Sync,
+>(rt: &R, made: Made, ports: Vec<P>, work: Work) -> Result<Outcome, anyhow::Error>
+    requires mark { made.mark ≡ N.mark }
+    requires parameters { made.core.parameters ≡ N.parameters }
+    requires before { made.core.before ≡ N.before }
+    requires ring { made.ring ≡ N.ring }
+{
+    let Made {
+        core,
+        mark,
+        reader,
+        ring,
+    } = made;
+    let (pool, sessions, taker) = SharedPool::<N>::new(rt.alloc(), core, mark, reader, ring)?;
+    let takings = Mutex::new(Takings {
+        taker,
+        spare: Vec::new(rt.alloc()),
+    });
+    let mut jobs = make_jobs(rt.alloc(), sessions, ports)?;
+    if let Some(job) = jobs.first_mut() {
+        job.fill(rt, &pool, &takings);
+    }
+    let start = Instant::now(rt)?;
+    run_jobs(rt, &pool, &takings, &mut jobs, work);
+    let nanos = start.elapsed(rt)?.as_nanos();
+    Ok(Outcome {
+        nanos,
+        done: done_by(&jobs),
+    })
+}
+
+/// Times threads over a pool of their own, each with one of the ports.
+pub(crate) fn run_work<P: Port + Send, R: Runtime<A = Global> + Clock + Threads + Wait + Sync>(
+    rt: &R,
+    ports: Vec<P>,
+    work: Work,
+) -> Result<Outcome, anyhow::Error> {
+    let made = make(rt.alloc(), work.threads)?;
+    time_work::<Brand, P, R>(rt, made, ports, work)
+}
+
+/// Ports of one device in memory.
+pub(crate) fn memory_ports(alloc: Global, count: u8) -> Result<Vec<MemPort>, Refusal> {
+    let geometry = Geometry::new(FILE_PAGES, SIZE)?;
+    let device = MemDevice::new(alloc, geometry)?;
+    let mut ports = Vec::new(alloc);
+    for _ in 0..count {
+        let port = device.port()?;
+        let Ok(()) = ports.push(port) else {
+            return Err(Refusal::OutOfMemory);
+        };
+    }
+    Ok(ports)
+}
+
+/// Ports of one page file.
+pub(crate) fn file_ports<R: Runtime<A = Global> + Files<File = File>>(
+    rt: &R,
+    path: &str,
+    count: u8,
+) -> Result<Vec<FilePort>, Refusal> {
+    let mut ports = Vec::new(rt.alloc());
+    for _ in 0..count {
+        let Ok(port) = FilePort::open(rt, rt.alloc(), path, SIZE) else {
+            return Err(Refusal::BadLength);
+        };
+        let Ok(()) = ports.push(port) else {
+            return Err(Refusal::OutOfMemory);
+        };
+    }
+    Ok(ports)
+}
