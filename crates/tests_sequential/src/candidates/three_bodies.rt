@@ -1,12 +1,11 @@
 //! All three bodies of the candidates over the same calls.
-ghost use Rattle.std.specs.Prelude.{◌≡◌, ℕ, ◌+◌, ◌<◌, ◌≤◌};
+ghost use Rattle.std.specs.Prelude.{◌≡◌, ℕ, ◌+◌, ◌<◌, ◌≤◌, IfOk};
 ghost use Rattle.tests_sequential.specs.Pool.{AreOwn, IsPool};
 
 use bp_lruk::{Candidates, Histories, Settings, scan, seats};
 use bp_page::{PageNo, Refusal};
 use std::alloc::{AllocError, Global};
 use std::process::Abort;
-use std::test::Fail;
 
 const PAGES: usize = 64;
 
@@ -141,24 +140,39 @@ fn run(rt: &impl Abort, pool: &mut Pool, k: usize) -> Result<u64, Refusal>
     Ok(replaced)
 }
 
+fn new_pool(alloc: Global, settings: Settings) -> Result<Pool, Refusal>
+    ensures { IfOk result (λ pool. pool.now ≡ 1) }
+{
+    let seats = match Seats::new(alloc, settings) {
+        Ok(seats) => seats,
+        Err(_) => return Err(Refusal::OutOfMemory),
+    };
+    Ok(Pool {
+        histories: Histories::new(alloc, settings),
+        list: scan::Candidates::new(alloc, FRAMES, settings)?,
+        index: Candidates::new(alloc, FRAMES, settings)?,
+        seats,
+        now: 1,
+    })
+}
+
+// A page is away at every fourth call or so.
+fn agree(rt: &(impl Abort + AllocGlobal), k: usize, correlated: u64) -> Result<(), Refusal> {
+    let settings = Settings::new(k, correlated, 1000)?;
+    let mut pool = new_pool(rt.alloc(), settings)?;
+    let replaced = run(rt, &mut pool, k)?;
+    assert!(rt;
+        replaced > 1000,
+        "k {k}, correlated {correlated}: {replaced} replaced"
+    );
+    Ok(())
+}
+
 #[test]
-fn three_bodies_agree(rt: HostRuntime) -> Result<(), Fail> {
+fn three_bodies_agree(rt: HostRuntime) -> Result<(), Refusal> {
     for k in [1, 2, 16] {
         for correlated in [0, 3] {
-            let settings = Settings::new(k, correlated, 1000)?;
-            let mut pool = Pool {
-                histories: Histories::new(rt.alloc(), settings),
-                list: scan::Candidates::new(rt.alloc(), FRAMES, settings)?,
-                index: Candidates::new(rt.alloc(), FRAMES, settings)?,
-                seats: Seats::new(rt.alloc(), settings)?,
-                now: 1,
-            };
-            // a page is away at every fourth call or so
-            let replaced = run(&rt, &mut pool, k)?;
-            assert!(rt;
-                replaced > 1000,
-                "k {k}, correlated {correlated}: {replaced} replaced"
-            );
+            agree(&rt, k, correlated)?;
         }
     }
     Ok(())
