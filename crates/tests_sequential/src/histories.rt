@@ -152,3 +152,70 @@ fn purge_past_the_retained_period(rt: HostRuntime) {
     has_stamps(&rt, &histories, away, [0, 0, 0], 0);
     has_stamps(&rt, &histories, resident, [1, 0, 0], 1);
 }
+
+#[test]
+#[tactic(auto, unfolding(bp_lruk::specs::Histories::KeepsPlaces))]
+fn references_by_block(rt: HostRuntime) -> Result<(), Fail> {
+    let page = PageNo::new(1);
+    let mut histories = Histories::new(rt.alloc(), Settings::new(2, 2, 1000)?);
+    let block = histories.prepare_block(page)?;
+    histories.fault_at(page, block, 1);
+    histories.hit_at(page, block, 2);
+    histories.hit_at(page, block, 5);
+    assert_eq!(rt; histories.stamp(page, 1), 5);
+    assert_eq!(rt; histories.stamp(page, 2), 2);
+    assert_eq!(rt; histories.last(page), 5);
+    assert_eq!(rt; histories.rank_at(page, block, 2), (2, 5));
+    Ok(())
+}
+
+#[test]
+#[tactic(auto, unfolding(bp_lruk::specs::Histories::KeepsPlaces))]
+fn block_stays_as_another_comes(rt: HostRuntime) -> Result<(), Fail> {
+    let (page, other) = (PageNo::new(1), PageNo::new(2));
+    let mut histories = Histories::new(rt.alloc(), Settings::new(2, 0, 1000)?);
+    let block = histories.prepare_block(page)?;
+    histories.fault_at(page, block, 1);
+    histories.prepare(other)?;
+    histories.fault(other, 2);
+    assert_eq!(rt; histories.place(page), Some(block));
+    histories.hit_at(page, block, 5);
+    assert_eq!(rt; histories.rank(page, 2), (1, 5));
+    assert_eq!(rt; histories.last(other), 2);
+    Ok(())
+}
+
+#[test]
+#[tactic(auto, unfolding(bp_lruk::specs::Histories::KeepsPlaces))]
+fn block_that_is_let_go(rt: HostRuntime) -> Result<(), Fail> {
+    let (known, unread) = (PageNo::new(1), PageNo::new(2));
+    let mut histories = Histories::new(rt.alloc(), Settings::new(2, 0, 1000)?);
+    let block = histories.prepare_block(known)?;
+    histories.fault_at(known, block, 3);
+    histories.unprepare_at(known, block);
+    let block = histories.prepare_block(unread)?;
+    histories.unprepare_at(unread, block);
+    assert!(rt; !histories.holds(known));
+    assert!(rt; histories.place(known).is_some());
+    assert_eq!(rt; histories.last(known), 3);
+    assert!(rt; histories.place(unread).is_none());
+    Ok(())
+}
+
+#[test]
+#[tactic(auto, unfolding(bp_lruk::specs::Histories::KeepsPlaces))]
+fn block_after_a_purge(rt: HostRuntime) -> Result<(), Fail> {
+    let (page, other) = (PageNo::new(1), PageNo::new(2));
+    let mut histories = Histories::new(rt.alloc(), Settings::new(2, 0, 10)?);
+    histories.prepare(page)?;
+    histories.fault(page, 1);
+    histories.unprepare(page);
+    assert_eq!(rt; histories.purge(12), 1);
+    assert!(rt; histories.place(page).is_none());
+    let taken = histories.prepare_block(other)?;
+    let block = histories.prepare_block(page)?;
+    assert!(rt; block != taken);
+    assert_eq!(rt; histories.place(page), Some(block));
+    assert_eq!(rt; histories.rank_at(page, block, 1), (0, 0));
+    Ok(())
+}
