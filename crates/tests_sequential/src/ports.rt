@@ -3,6 +3,7 @@ ghost use Rattle.std.specs.Prelude.{◌≡◌, ◌≤◌, All, IsTrue};
 ghost use Rattle.bp_trail.specs.Fits.{RowFits};
 
 mod gates;
+mod long_scripts;
 
 use bp_core::{Call, Core, PassNote, Refused, Reply, Row, Step};
 use bp_device::{
