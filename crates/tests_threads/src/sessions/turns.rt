@@ -158,7 +158,7 @@ fn run_a_posted_pass<N: PoolName, R: Wait + Abort>(
         mut first,
         mut second,
     } = open_pair::<N>(alloc, made)?;
-    let given = post_before_a_fix(rt, &pool, &mut first, &mut second);
+    let given = post_before_a_fix(rt, &pool, &mut second, &mut first);
     assert_eq!(rt; given, Ok(1));
     let (core, _, _) = pool.finish(taker);
     see_the_posted_pass(rt, &core);
@@ -168,5 +168,18 @@ fn run_a_posted_pass<N: PoolName, R: Wait + Abort>(
 #[test]
 fn posted_unfix_is_drained_first(rt: HostRuntime) -> Result<(), Fail> {
     let made = make(rt.alloc(), 1, 2)?;
+    run_a_posted_pass::<Brand, _>(&rt, rt.alloc(), made)
+}
+
+// From 17 clients on, rings are asked where a pass was told of.
+#[test]
+fn seventeenth_client_posts(rt: HostRuntime) -> Result<(), Fail> {
+    let made = make(rt.alloc(), 1, 17)?;
+    run_a_posted_pass::<Brand, _>(&rt, rt.alloc(), made)
+}
+
+#[test]
+fn sixty_fourth_client_posts(rt: HostRuntime) -> Result<(), Fail> {
+    let made = make(rt.alloc(), 1, 64)?;
     run_a_posted_pass::<Brand, _>(&rt, rt.alloc(), made)
 }
