@@ -1,9 +1,9 @@
 //! Trails that are cut.
+use super::runs::{Run, cut_after_each, have_the_same_entries, uncut};
 use super::steps::{
-    bring, core, ends, fail_write_out, flush_first, has_entries, has_stamps, hit, load, mark,
-    purge, read_zeros, reads, refused, tick, unfix, usual, write, write_first,
+    bring, core, has_entries, hit, load, purge, read_zeros, refused, tick, unfix, usual,
 };
-use bp_core::{Core, Ended, Entry};
+use bp_core::{Core, Ended};
 use bp_page::{PageNo, Refusal};
 use std::process::Abort;
 
@@ -57,90 +57,45 @@ fn fresh_until_something_is_given(rt: HostRuntime) {
     assert!(rt; !core.fresh());
 }
 
-// Keeps what a cut hands out, if cuts are made at all.
-fn keep(rt: &impl Abort, core: &mut Core, cuts: bool, kept: &mut Vec<Entry>) {
-    if cuts {
-        for entry in core.cut().expect(rt, "the cut") {
-            kept.push(entry).expect(rt, "the entry");
-        }
-    }
-}
-
 // A page is written while it is written out.
-fn write_while_it_goes_out(
-    rt: &(impl Abort + AllocGlobal),
-    core: &mut Core,
-    cuts: bool,
-    kept: &mut Vec<Entry>,
-) {
-    let ticket = load(rt, core, 1, 0, None);
-    keep(rt, core, cuts, kept);
-    let pass = read_zeros(rt, core, ticket, 0);
-    keep(rt, core, cuts, kept);
-    write(rt, core, &pass, 1, 1);
-    keep(rt, core, cuts, kept);
-    mark(rt, core, 1, 1);
-    keep(rt, core, cuts, kept);
-    let ticket = flush_first(rt, core, 1, 1, 1, 1);
-    keep(rt, core, cuts, kept);
-    write(rt, core, &pass, 2, 1);
-    keep(rt, core, cuts, kept);
-    ends(rt, core, ticket, Ended::StillDirty);
-    keep(rt, core, cuts, kept);
-    reads(rt, core, &pass, 2);
-    keep(rt, core, cuts, kept);
-    unfix(rt, core, pass);
-    keep(rt, core, cuts, kept);
-    tick(rt, core, 1, 2);
-    keep(rt, core, cuts, kept);
+fn write_while_it_goes_out(rt: &(impl Abort + AllocGlobal), run: &mut Run) {
+    let pass = run.bring(rt);
+    run.write(rt, &pass, 1, 1);
+    run.mark(rt, 1, 1);
+    let ticket = run.flush_first(rt, 1, 1, 1, 1);
+    run.write(rt, &pass, 2, 1);
+    run.ends(rt, ticket, Ended::StillDirty);
+    run.reads(rt, &pass, 2);
+    run.unfix(rt, pass);
+    run.tick(rt, 1, 2);
 }
 
 // The page fails to go out, goes out, makes way for another, and is purged.
-fn fail_and_purge(
-    rt: &(impl Abort + AllocGlobal),
-    core: &mut Core,
-    cuts: bool,
-    kept: &mut Vec<Entry>,
-) {
-    let ticket = write_first(rt, core, 2, 2, 1);
-    keep(rt, core, cuts, kept);
-    fail_write_out(rt, core, ticket);
-    keep(rt, core, cuts, kept);
-    let ticket = write_first(rt, core, 3, 2, 1);
-    keep(rt, core, cuts, kept);
-    ends(rt, core, ticket, Ended::Cleaned);
-    keep(rt, core, cuts, kept);
-    let ticket = load(rt, core, 2, 4, Some(PageNo::new(1)));
-    keep(rt, core, cuts, kept);
-    let pass = read_zeros(rt, core, ticket, 1);
-    keep(rt, core, cuts, kept);
-    unfix(rt, core, pass);
-    keep(rt, core, cuts, kept);
-    tick(rt, core, 10, 12);
-    keep(rt, core, cuts, kept);
-    has_stamps(rt, core, 1, (1, 0), 1);
-    purge(rt, core, 1);
-    keep(rt, core, cuts, kept);
-    has_stamps(rt, core, 1, (0, 0), 0);
+fn fail_and_purge(rt: &(impl Abort + AllocGlobal), run: &mut Run) {
+    let ticket = run.write_first(rt, 2, 2, 1);
+    run.fail_write_out(rt, ticket);
+    let ticket = run.write_first(rt, 3, 2, 1);
+    run.ends(rt, ticket, Ended::Cleaned);
+    let ticket = run.load(rt, 2, 4, Some(PageNo::new(1)));
+    let pass = run.read_zeros(rt, ticket, 1);
+    run.unfix(rt, pass);
+    run.tick(rt, 10, 12);
+    run.has_stamps(rt, 1, (1, 0), 1);
+    run.purge(rt, 1);
+    run.has_stamps(rt, 1, (0, 0), 0);
 }
 
-// A page that is written while it is written out, then fails to go out, and is purged at the end: all entries.
-fn all_entries(rt: &(impl Abort + AllocGlobal), cuts: bool) -> Vec<Entry> {
-    let mut kept = Vec::new(rt.alloc());
-    let mut core = core(rt, 2, 10, 1, 100);
-    write_while_it_goes_out(rt, &mut core, cuts, &mut kept);
-    fail_and_purge(rt, &mut core, cuts, &mut kept);
-    if !cuts {
-        return core.into_trail();
-    }
-    has_entries(rt, &core, 0);
-    kept
+// A page is written while it is written out, then fails to go out, and is purged at the end.
+fn use_in_all_ways(rt: &(impl Abort + AllocGlobal), run: &mut Run) {
+    write_while_it_goes_out(rt, run);
+    fail_and_purge(rt, run);
 }
 
 #[test]
 fn pieces_joined_are_the_uncut_trail(rt: HostRuntime) {
-    let whole = all_entries(&rt, false);
-    let joined = all_entries(&rt, true);
-    assert_eq!(rt; whole.len(), 19);
-    assert_eq!(rt; joined.as_slice(), whole.as_slice());
+    let mut one = uncut(&rt, core(&rt, 2, 10, 1, 100));
+    let mut other = cut_after_each(&rt, core(&rt, 2, 10, 1, 100));
+    use_in_all_ways(&rt, &mut one);
+    use_in_all_ways(&rt, &mut other);
+    have_the_same_entries(&rt, one, other, 19);
 }

@@ -10,6 +10,8 @@ mod limits;
 #[cfg(test)]
 mod reads;
 #[cfg(test)]
+mod runs;
+#[cfg(test)]
 mod steps;
 #[cfg(test)]
 mod strangers;

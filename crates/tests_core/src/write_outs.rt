@@ -1,59 +1,86 @@
 //! Pages that were written: their way to the device, and the log's.
+use super::runs::{Run, cut_after_each, have_the_same_entries, uncut};
 use super::steps::{
-    bring, core, ends, fail_write_out, flush_first, flush_refused, hit, image, load, mark,
-    nothing_to_flush, read_zeros, reads, refused, tick, unfix, usual, write, write_first,
+    bring, core, ends, flush_first, flush_refused, image, mark, nothing_to_flush, refused, tick,
+    unfix, usual, write, write_first,
 };
-use bp_core::{Call, Core, Ended, Entry, Reply};
+use bp_core::{Call, Ended, Entry, Reply};
 use bp_page::{Bytes, Lsn, PageNo, Refusal};
 use std::process::Abort;
 
+// Page 1 is written while it is written out, and has to be written out once more before it makes way.
+fn write_while_it_goes_out(rt: &(impl Abort + AllocGlobal), run: &mut Run) {
+    let pass = run.bring(rt);
+    run.write(rt, &pass, 1, 1);
+    run.mark(rt, 1, 1);
+    let ticket = run.flush_first(rt, 1, 1, 1, 1);
+    run.write(rt, &pass, 2, 1);
+    run.ends(rt, ticket, Ended::StillDirty);
+    run.unfix(rt, pass);
+    run.tick(rt, 1, 2);
+    let ticket = run.write_first(rt, 2, 2, 1);
+    run.ends(rt, ticket, Ended::Cleaned);
+    let ticket = run.load(rt, 2, 3, Some(PageNo::new(1)));
+    let pass = run.read_zeros(rt, ticket, 1);
+    run.unfix(rt, pass);
+}
+
 #[test]
 fn write_during_a_write_out(rt: HostRuntime) {
-    let mut core = usual(&rt, 1);
-    let pass = bring(&rt, &mut core);
-    write(&rt, &mut core, &pass, 1, 1);
-    mark(&rt, &mut core, 1, 1);
-    let ticket = flush_first(&rt, &mut core, 1, 1, 1, 1);
-    write(&rt, &mut core, &pass, 2, 1);
-    ends(&rt, &mut core, ticket, Ended::StillDirty);
-    unfix(&rt, &mut core, pass);
-    tick(&rt, &mut core, 1, 2);
-    let ticket = write_first(&rt, &mut core, 2, 2, 1);
-    ends(&rt, &mut core, ticket, Ended::Cleaned);
-    let ticket = load(&rt, &mut core, 2, 3, Some(PageNo::new(1)));
-    let pass = read_zeros(&rt, &mut core, ticket, 1);
-    unfix(&rt, &mut core, pass);
+    write_while_it_goes_out(&rt, &mut uncut(&rt, usual(&rt, 1)));
+}
+
+#[test]
+fn write_during_a_write_out_with_cuts(rt: HostRuntime) {
+    let mut one = uncut(&rt, usual(&rt, 1));
+    let mut other = cut_after_each(&rt, usual(&rt, 1));
+    write_while_it_goes_out(&rt, &mut one);
+    write_while_it_goes_out(&rt, &mut other);
+    have_the_same_entries(&rt, one, other, 14);
 }
 
 // Page 1 was written at an LSN that is durable, and its write-out for page 2 failed.
-fn fail_the_first_write_out(rt: &(impl Abort + AllocGlobal)) -> Core {
-    let mut core = usual(rt, 1);
-    let pass = bring(rt, &mut core);
-    write(rt, &mut core, &pass, 9, 1);
-    unfix(rt, &mut core, pass);
-    tick(rt, &mut core, 1, 2);
-    mark(rt, &mut core, 1, 1);
-    let ticket = write_first(rt, &mut core, 1, 9, 1);
-    fail_write_out(rt, &mut core, ticket);
-    core
+fn fail_the_first_write_out(rt: &(impl Abort + AllocGlobal), run: &mut Run) {
+    let pass = run.bring(rt);
+    run.write(rt, &pass, 9, 1);
+    run.unfix(rt, pass);
+    run.tick(rt, 1, 2);
+    run.mark(rt, 1, 1);
+    let ticket = run.write_first(rt, 1, 9, 1);
+    run.fail_write_out(rt, ticket);
+}
+
+// The page keeps what was written to it.
+fn read_after_a_failed_write_out(rt: &(impl Abort + AllocGlobal), run: &mut Run) {
+    fail_the_first_write_out(rt, run);
+    let pass = run.hit(rt, 0, 1, 1);
+    run.reads(rt, &pass, 9);
+    run.unfix(rt, pass);
 }
 
 #[test]
 fn failed_write_out_stays_unsaved(rt: HostRuntime) {
-    let mut core = fail_the_first_write_out(&rt);
-    let pass = hit(&rt, &mut core, 0, 1, 1);
-    reads(&rt, &mut core, &pass, 9);
-    unfix(&rt, &mut core, pass);
+    read_after_a_failed_write_out(&rt, &mut uncut(&rt, usual(&rt, 1)));
+}
+
+#[test]
+fn failed_write_out_stays_unsaved_with_cuts(rt: HostRuntime) {
+    let mut one = uncut(&rt, usual(&rt, 1));
+    let mut other = cut_after_each(&rt, usual(&rt, 1));
+    read_after_a_failed_write_out(&rt, &mut one);
+    read_after_a_failed_write_out(&rt, &mut other);
+    have_the_same_entries(&rt, one, other, 11);
 }
 
 #[test]
 fn flush_after_a_failed_write_out(rt: HostRuntime) {
-    let mut core = fail_the_first_write_out(&rt);
-    let pass = hit(&rt, &mut core, 0, 1, 1);
-    reads(&rt, &mut core, &pass, 9);
-    let ticket = flush_first(&rt, &mut core, 0, 2, 9, 1);
-    ends(&rt, &mut core, ticket, Ended::Cleaned);
-    unfix(&rt, &mut core, pass);
+    let mut run = uncut(&rt, usual(&rt, 1));
+    fail_the_first_write_out(&rt, &mut run);
+    let pass = run.hit(&rt, 0, 1, 1);
+    run.reads(&rt, &pass, 9);
+    let ticket = run.flush_first(&rt, 0, 2, 9, 1);
+    run.ends(&rt, ticket, Ended::Cleaned);
+    run.unfix(&rt, pass);
 }
 
 // The first page is read into a frame that nobody had.
