@@ -14,18 +14,52 @@ use std::test::Fail;
 use std::thread::Threads;
 use std::{mem, thread};
 
-const ROUNDS: usize = 12500;
+/// The rounds of a thread, each of four entries.
+const ROUNDS: usize = 125000;
 
 /// The rounds of a thread between two of its cuts. Two threads then stay within a room of 4,096 entries.
 const ROUNDS_A_CUT: usize = 250;
+
+/// What was cut so far.
+#[derive(Drop)]
+struct Pieces {
+    /// The piece that was cut last: what is cut goes on in its memory.
+    spare: Vec<Entry>,
+    cuts: usize,
+    entries: usize,
+    /// The most entries for which a piece had memory.
+    capacity: usize,
+}
+
+impl Pieces {
+    fn none(alloc: Global) -> Pieces {
+        Pieces {
+            spare: Vec::new(alloc),
+            cuts: 0,
+            entries: 0,
+            capacity: 0,
+        }
+    }
+
+    // The memory of the last piece.
+    fn lend(&mut self, alloc: Global) -> Vec<Entry> {
+        mem::replace(&mut self.spare, Vec::new(alloc))
+    }
+
+    // Counts a piece, and keeps it for its memory.
+    fn keep(&mut self, piece: Vec<Entry>) {
+        self.cuts = self.cuts.saturating_add(1);
+        self.entries = self.entries.saturating_add(piece.len());
+        self.capacity = self.capacity.max(piece.capacity());
+        self.spare = piece;
+    }
+}
 
 /// What is taken of the trail, by whichever thread comes to it.
 #[derive(Drop)]
 struct Takings<N: PoolName> {
     taker: Taker<N>,
-    /// The piece that was taken last: the trail goes on in its memory.
-    spare: Vec<Entry>,
-    entries: usize,
+    pieces: Pieces,
 }
 
 /// What one thread does: it uses a page again and again, and cuts as it goes.
@@ -34,9 +68,7 @@ struct Runner<N: PoolName> {
     client: Client<N>,
     page: PageNo,
     passes: usize,
-    /// The list that was cut last: the session's goes on in its memory.
-    spare: Vec<Entry>,
-    entries: usize,
+    pieces: Pieces,
     ghost page_in: { page < N.parameters.pages },
 }
 
@@ -48,20 +80,18 @@ fn cut_trail<N: PoolName, R: Wait>(
     takings: &Mutex<Takings<N>>,
 ) -> Result<(), Refusal> {
     let mut takings = takings.lock(rt);
-    let spare = mem::replace(&mut takings.spare, Vec::new(alloc));
+    let spare = takings.pieces.lend(alloc);
     let piece = pool.cut_into(rt, &mut takings.taker, spare)?;
-    takings.entries = takings.entries.saturating_add(piece.len());
-    takings.spare = piece;
+    takings.pieces.keep(piece);
     Ok(())
 }
 
 impl<N: PoolName> Runner<N> {
     // Drops the last piece of the list, and cuts the next.
     fn cut_list(&mut self) -> Result<(), Refusal> {
-        let spare = mem::replace(&mut self.spare, Vec::new(self.client.port.alloc));
+        let spare = self.pieces.lend(self.client.port.alloc);
         let list = self.client.session.cut_into(spare)?;
-        self.entries = self.entries.saturating_add(list.len());
-        self.spare = list;
+        self.pieces.keep(list);
         Ok(())
     }
 
@@ -100,8 +130,7 @@ fn make_runners<N: PoolName>(
             client: client_of(alloc, geometry, session),
             page,
             passes: 0,
-            spare: Vec::new(alloc),
-            entries: 0,
+            pieces: Pieces::none(alloc),
         };
         let Ok(()) = runners.push(runner) else {
             return None;
@@ -135,6 +164,9 @@ struct Tally {
     /// The entries of the trail, and of all lists.
     entries: usize,
     told: usize,
+    /// The cuts of the trail, and of all lists.
+    cuts: usize,
+    list_cuts: usize,
     /// The most entries for which a piece had memory.
     capacity: usize,
 }
@@ -142,11 +174,25 @@ struct Tally {
 fn count_runner<N: PoolName>(tally: &mut Tally, runner: &Runner<N>) {
     tally.passes = tally.passes.saturating_add(runner.passes);
     let left = runner.client.session.said().len();
+    let pieces = &runner.pieces;
     tally.told = tally
         .told
-        .saturating_add(runner.entries)
+        .saturating_add(pieces.entries)
         .saturating_add(left);
-    tally.capacity = tally.capacity.max(runner.spare.capacity());
+    tally.list_cuts = tally.list_cuts.saturating_add(pieces.cuts);
+    tally.capacity = tally.capacity.max(pieces.capacity);
+}
+
+// What came of the trail, of which so many entries were not cut.
+fn tally_of(pieces: &Pieces, left: usize) -> Tally {
+    Tally {
+        passes: 0,
+        entries: pieces.entries.saturating_add(left),
+        told: 0,
+        cuts: pieces.cuts,
+        list_cuts: 0,
+        capacity: pieces.capacity,
+    }
 }
 
 // Threads use the pool, and cut as they go.
@@ -167,22 +213,12 @@ fn run_long<N: PoolName + Send + Sync, R: Threads + Wait + Sync>(
     let mut runners = make_runners(alloc, geometry, sessions)?;
     let takings = Mutex::new(Takings {
         taker,
-        spare: Vec::new(alloc),
-        entries: 0,
+        pieces: Pieces::none(alloc),
     });
     run_all(rt, &pool, &takings, &mut runners);
-    let Takings {
-        taker,
-        spare,
-        entries,
-    } = takings.into_inner();
+    let Takings { taker, pieces } = takings.into_inner();
     let (core, _, _) = pool.finish(taker);
-    let mut tally = Tally {
-        passes: 0,
-        entries: entries.saturating_add(core.trail().len()),
-        told: 0,
-        capacity: spare.capacity(),
-    };
+    let mut tally = tally_of(&pieces, core.trail().len());
     for runner in &runners {
         count_runner(&mut tally, runner);
     }
@@ -202,15 +238,17 @@ fn see_long<N: PoolName + Send + Sync, R: Threads + Wait + Abort + Sync>(
 {
     let opened = open::<N>(alloc, made)?;
     let tally = run_long(rt, alloc, opened).ok_or(Refusal::OutOfMemory)?;
-    assert_eq!(rt; tally.passes, 25000);
+    assert_eq!(rt; tally.passes, 250000);
     // Each round has four entries, and a client's first fix has one more.
-    assert_eq!(rt; (tally.entries, tally.told), (100002, 100002));
+    assert_eq!(rt; (tally.entries, tally.told), (1000002, 1000002));
+    // Each thread cuts the trail and its list once in 250 rounds, and the memory of the first pieces serves to the end.
+    assert_eq!(rt; (tally.cuts, tally.list_cuts), (1000, 1000));
     assert_eq!(rt; tally.capacity, 4096);
     Ok(())
 }
 
 #[test]
-fn a_hundred_thousand_entries_in_little_room(rt: HostRuntime) -> Result<(), Fail> {
+fn a_million_entries_in_little_room(rt: HostRuntime) -> Result<(), Fail> {
     let made = make(rt.alloc(), 2, 2)?;
     see_long::<Brand, _>(&rt, rt.alloc(), made)
 }
