@@ -44,6 +44,19 @@ fn cut_keeps_reserved_places(rt: HostRuntime) {
     has_entries(&rt, &core, 5);
 }
 
+// A cut that always refused would meet its contract, which does not say when memory is there. Here it is, and no cut is refused.
+#[test]
+fn cut_always_refuses(rt: HostRuntime) {
+    let mut core = usual(&rt, 1);
+    cut(&rt, &mut core, 0);
+    let ticket = load(&rt, &mut core, 1, 0, None);
+    cut(&rt, &mut core, 1);
+    let pass = read_zeros(&rt, &mut core, ticket, 0);
+    cut(&rt, &mut core, 1);
+    unfix(&rt, &mut core, pass);
+    cut(&rt, &mut core, 1);
+}
+
 #[test]
 fn fresh_until_something_is_given(rt: HostRuntime) {
     let mut core = usual(&rt, 1);
