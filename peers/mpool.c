@@ -102,6 +102,7 @@ int main(int argc, char **argv)
     processor = seconds_of(CLOCK_PROCESS_CPUTIME_ID) - processor;
     env->memp_stat(env, &after, NULL, 0);
     double hits = after->st_cache_hit - before->st_cache_hit, misses = after->st_cache_miss - before->st_cache_miss;
-    printf("%.0f a processor second, %.0f a second, hit rate %.3f\n", total / processor, total / wall, hits / (hits + misses));
+    printf("%.0f a processor second, %.0f a second, hit rate %.3f\n",
+           total / processor, total / wall, hits / (hits + misses));
     return 0;
 }
