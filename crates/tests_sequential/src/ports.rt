@@ -7,11 +7,11 @@ mod long_scripts;
 
 use bp_core::{Call, Core, PassNote, Refused, Reply, Row, Step};
 use bp_device::{
-    FilePort, Flushed, FusePort, MemDevice, MemPort, OpenFault, Port, drive_all, drive_fix,
-    drive_flush,
+    FilePort, Flushed, FusePort, MemDevice, OpenFault, Port, drive_all, drive_fix, drive_flush,
 };
 use bp_lruk::Settings;
 use bp_page::{Bytes, Geometry, Image, Lsn, PageNo, PortFault, Refusal, slot, unslot};
+use std::alloc::{AllocError, Global};
 use std::fs::File;
 use std::path::PathBuf;
 use std::process::Abort;
@@ -69,69 +69,61 @@ fn row(row: u64, step: Step) -> Row {
     }
 }
 
-/// The row that writes the byte 9 to a page.
-fn write_nine(rt: &(impl Abort + AllocGlobal), page: PageNo) -> Step {
-    Step::Write {
-        page,
-        offset: 0,
-        bytes: bytes_of(rt, &[9]),
-        lsn: Lsn::new(0),
-    }
-}
-
 /// The rows: fix 1, write the byte 9 to it, unfix it, tick, fix 2, fix 1, read 1.
-fn two_pages_in_one_frame(rt: &(impl Abort + AllocGlobal)) -> [Row; 7] {
+fn two_pages_in_one_frame(alloc: Global) -> Result<Vec<Row>, AllocError> {
     let one = PageNo::new(1);
-    [
+    let write = Step::Write {
+        page: one,
+        offset: 0,
+        bytes: Bytes::of(alloc, &[9])?,
+        lsn: Lsn::new(0),
+    };
+    let rows = [
         row(1, Step::Fix(one)),
-        row(2, write_nine(rt, one)),
+        row(2, write),
         row(3, Step::Unfix(one)),
         row(4, Step::Tick(1)),
         row(5, Step::Fix(PageNo::new(2))),
         row(6, Step::Fix(one)),
         row(7, Step::Read(one)),
-    ]
+    ];
+    match Vec::from_array(alloc, rows) {
+        Ok(rows) => Ok(rows),
+        Err(_) => Err(AllocError),
+    }
 }
 
 /// A core of one frame for one client, with one stamp and no periods.
-fn one_frame(rt: &(impl Abort + AllocGlobal), geometry: Geometry) -> Core {
-    let settings = Settings::new(1, 0, 0).expect(rt, "the settings");
-    Core::new(rt.alloc(), geometry, settings, 1, 1, 100).expect(rt, "the core")
+fn one_frame(alloc: Global, geometry: Geometry) -> Result<Core, Refusal> {
+    Core::new(alloc, geometry, Settings::new(1, 0, 0)?, 1, 1, 100)
 }
 
-fn image_of(rt: &(impl Abort + AllocGlobal), bytes: &[u8]) -> Image {
-    Image::of(rt.alloc(), bytes).expect(rt, "the image")
-}
-
-fn bytes_of(rt: &(impl Abort + AllocGlobal), bytes: &[u8]) -> Bytes {
-    Bytes::of(rt.alloc(), bytes).expect(rt, "the bytes")
-}
-
-/// Drives the rows, which the core's parameters allow. Those are refused that have these numbers.
-fn drive<P: Port, R: Wait + Abort + AllocGlobal>(
+/// Drives the rows, which the core's parameters allow.
+fn drive<P: Port, R: Wait + Abort>(
     rt: &R,
+    alloc: Global,
     core: &mut Core,
     port: &mut P,
     rows: &[Row],
-    refused: &[Refused],
-) {
+) -> Result<Vec<Refused>, Refusal> {
     let same_size = port.geometry().size == core.geometry().size;
     assert!(rt; same_size);
     assert!(rt; all_fit(core, rows));
-    let found = drive_all(rt, rt.alloc(), core, port, rows).expect(rt, "the refused rows");
-    assert_eq!(rt; found.as_slice(), refused);
+    drive_all(rt, alloc, core, port, rows)
 }
 
-/// Drives the two pages over a new core.
-fn drive_two_pages<P: Port, R: Wait + Abort + AllocGlobal>(
+/// Drives the two pages over a new core, which comes back with the refused rows.
+fn drive_two_pages<P: Port, R: Wait + Abort>(
     rt: &R,
+    alloc: Global,
     port: &mut P,
-    refused: &[Refused],
-) -> Core {
-    let mut core = one_frame(rt, port.geometry());
-    let rows = two_pages_in_one_frame(rt);
-    drive(rt, &mut core, port, &rows, refused);
-    core
+) -> Result<(Core, Vec<Refused>), Refusal> {
+    let mut core = one_frame(alloc, port.geometry())?;
+    let Ok(rows) = two_pages_in_one_frame(alloc) else {
+        return Err(Refusal::OutOfMemory);
+    };
+    let refused = drive(rt, alloc, &mut core, port, &rows)?;
+    Ok((core, refused))
 }
 
 /// Fixes a page for client 0.
@@ -139,30 +131,28 @@ fn fix<P: Port, R: Wait + Abort>(
     rt: &R,
     core: &mut Core,
     port: &mut P,
-    page: u64,
+    page: PageNo,
 ) -> Result<PassNote, Refusal> {
     let same_size = port.geometry().size == core.geometry().size;
     assert!(rt; same_size);
     assert!(rt; core.clients() == 1);
-    assert!(rt; page < core.geometry().pages);
-    match drive_fix(rt, core, port, 0, PageNo::new(page)) {
+    assert!(rt; page.number() < core.geometry().pages);
+    match drive_fix(rt, core, port, 0, page) {
         Ok(pass) => Ok(pass.note()),
         Err(refusal) => Err(refusal),
     }
 }
 
-/// Asserts what a flush of a page for client 0 does.
-fn expect_flush<P: Port, R: Wait + Abort>(
+/// Flushes a page for client 0.
+fn flush<P: Port, R: Wait + Abort>(
     rt: &R,
     core: &mut Core,
     port: &mut P,
-    page: u64,
-    flushed: Flushed,
-) {
+    page: PageNo,
+) -> Result<Flushed, Refusal> {
     assert!(rt; core.clients() == 1);
-    assert!(rt; page < core.geometry().pages);
-    let found = drive_flush(rt, core, port, 0, PageNo::new(page));
-    assert_eq!(rt; found, Ok(flushed));
+    assert!(rt; page.number() < core.geometry().pages);
+    drive_flush(rt, core, port, 0, page)
 }
 
 /// Asserts the bytes of a page that a port reads.
@@ -174,26 +164,19 @@ fn expect_page<P: Port, R: Wait + Abort>(rt: &R, port: &mut P, page: PageNo, byt
 }
 
 /// A device in memory of four small pages.
-fn four_pages(rt: &(impl Abort + AllocGlobal)) -> MemDevice {
-    let geometry = Geometry::new(4, SIZE).expect(rt, "the geometry");
-    MemDevice::new(rt.alloc(), geometry).expect(rt, "the device")
+fn four_pages(alloc: Global) -> Result<MemDevice, Refusal> {
+    MemDevice::new(alloc, Geometry::new(4, SIZE)?)
 }
-
-fn port_of(rt: &impl Abort, device: &MemDevice) -> MemPort {
-    device.port().expect(rt, "the port")
-}
-
-/// Page 1 can't be fixed again, since page 2 is pinned in the one frame.
-const NO_VICTIM_AND_NO_PASS: [Refused; 2] = [
-    Refused { row: 6, number: 11 },
-    Refused { row: 7, number: 14 },
-];
 
 #[test]
-fn one_owner_refusals(rt: HostRuntime) {
-    let mut port = port_of(&rt, &four_pages(&rt));
-    drive_two_pages(&rt, &mut port, &NO_VICTIM_AND_NO_PASS);
+fn one_owner_refusals(rt: HostRuntime) -> Result<(), Fail> {
+    let mut port = four_pages(rt.alloc())?.port()?;
+    let (_core, refused) = drive_two_pages(&rt, rt.alloc(), &mut port)?;
+    let no_victim = Refused { row: 6, number: 11 };
+    let no_pass = Refused { row: 7, number: 14 };
+    assert_eq!(rt; refused.as_slice(), [no_victim, no_pass].as_slice());
     assert_eq!(rt; port.failures(), 0);
+    Ok(())
 }
 
 /// Asserts that an entry tells a content.
@@ -217,62 +200,48 @@ fn expect_read_end<R: Abort>(rt: &R, core: &Core, index: usize, bytes: &[u8]) {
     }
 }
 
-/// Writes a page through a port.
-fn put_page<P: Port, R: Wait + Abort + AllocGlobal>(
-    rt: &R,
-    port: &mut P,
-    page: PageNo,
-    bytes: &[u8],
-) {
-    let image = image_of(rt, bytes);
-    assert_eq!(rt; port.write(rt, page, &image), Ok(()));
-}
-
-/// Asserts the first bytes of the pages 0, 1 and 2.
-fn expect_pages<P: Port, R: Wait + Abort>(
-    rt: &R,
-    port: &mut P,
-    zero: &[u8],
-    one: &[u8],
-    two: &[u8],
-) {
-    expect_page(rt, port, PageNo::new(0), zero);
-    expect_page(rt, port, PageNo::new(1), one);
-    expect_page(rt, port, PageNo::new(2), two);
-}
-
 #[test]
-fn drivers_keep_to_their_tickets(rt: HostRuntime) {
-    let mut port = port_of(&rt, &four_pages(&rt));
-    put_page(&rt, &mut port, PageNo::new(1), &FIVE);
-    put_page(&rt, &mut port, PageNo::new(2), &NINE);
-    let core = drive_two_pages(&rt, &mut port, &NO_VICTIM_AND_NO_PASS);
+fn drivers_keep_to_their_tickets(rt: HostRuntime) -> Result<(), Fail> {
+    let (one, two) = (PageNo::new(1), PageNo::new(2));
+    let mut port = four_pages(rt.alloc())?.port()?;
+    let five = Image::of(rt.alloc(), &FIVE)?;
+    let nine = Image::of(rt.alloc(), &NINE)?;
+    assert_eq!(rt; port.write(&rt, one, &five), Ok(()));
+    assert_eq!(rt; port.write(&rt, two, &nine), Ok(()));
+    let (core, _) = drive_two_pages(&rt, rt.alloc(), &mut port)?;
     expect_read_end(&rt, &core, 1, &FIVE);
     expect_read_end(&rt, &core, 8, &NINE);
-    expect_pages(&rt, &mut port, &ZEROS, &NINE, &NINE);
-}
-
-/// A port whose second call fails.
-fn second_call_fails(rt: &(impl Abort + AllocGlobal), spoil: bool) -> FusePort<MemPort> {
-    let port = port_of(rt, &four_pages(rt));
-    FusePort::new(rt.alloc(), port, 2, spoil).expect(rt, "the port")
+    expect_page(&rt, &mut port, PageNo::new(0), &ZEROS);
+    expect_page(&rt, &mut port, one, &NINE);
+    expect_page(&rt, &mut port, two, &NINE);
+    Ok(())
 }
 
 /// Runs the two pages over a port whose second call fails, the write-out of page 1, and tells what is left of it on the
 /// device.
-fn write_out_fails<R: Wait + Abort + AllocGlobal>(rt: &R, spoil: bool, left: &[u8]) {
-    let mut port = second_call_fails(rt, spoil);
-    let core = drive_two_pages(rt, &mut port, &[Refused { row: 5, number: 18 }]);
+fn write_out_fails<R: Wait + Abort>(
+    rt: &R,
+    alloc: Global,
+    spoil: bool,
+    left: &[u8],
+) -> Result<(), Refusal> {
+    let device = four_pages(alloc)?;
+    let mut port = FusePort::new(alloc, device.port()?, 2, spoil)?;
+    let (core, refused) = drive_two_pages(rt, alloc, &mut port)?;
+    let failed = Refused { row: 5, number: 18 };
+    assert_eq!(rt; refused.as_slice(), [failed].as_slice());
     assert_eq!(rt; core.trail().len(), 10);
     expect_content(rt, &core, 8, &NINE);
     assert_eq!(rt; port.failures(), 1);
     expect_page(rt, &mut port, PageNo::new(1), left);
+    Ok(())
 }
 
 #[test]
-fn failing_second_call(rt: HostRuntime) {
-    write_out_fails(&rt, false, &ZEROS);
-    write_out_fails(&rt, true, &ONES);
+fn failing_second_call(rt: HostRuntime) -> Result<(), Fail> {
+    write_out_fails(&rt, rt.alloc(), false, &ZEROS)?;
+    write_out_fails(&rt, rt.alloc(), true, &ONES)?;
+    Ok(())
 }
 
 /// Writes the byte 5 to the start of a page.
@@ -292,70 +261,76 @@ fn give_back<R: Abort>(rt: &R, core: &mut Core, note: PassNote) {
     }
 }
 
-/// Flushes page 1, which was written, twice, and then another page.
-fn flush_pages<P: Port, R: Wait + Abort>(rt: &R, core: &mut Core, port: &mut P) {
-    expect_flush(rt, core, port, 1, Flushed::Cleaned);
-    expect_flush(rt, core, port, 1, Flushed::Clean);
-    expect_flush(rt, core, port, 2, Flushed::Absent);
-    assert!(rt; matches!(fix(rt, core, port, 2), Err(Refusal::NoVictim)));
+/// Fixes a page, writes to it, and flushes it twice, and then another page.
+fn flush_a_page<P: Port, R: Wait + Abort>(rt: &R, core: &mut Core, port: &mut P, five: &Bytes) {
+    let (one, two) = (PageNo::new(1), PageNo::new(2));
+    match fix(rt, core, port, one) {
+        Ok(note) => {
+            assert_eq!(rt; note.serial(), 0);
+            write_five(rt, core, note, five);
+            assert_eq!(rt; flush(rt, core, port, one), Ok(Flushed::Cleaned));
+            assert_eq!(rt; flush(rt, core, port, one), Ok(Flushed::Clean));
+            assert_eq!(rt; flush(rt, core, port, two), Ok(Flushed::Absent));
+            assert!(rt; matches!(fix(rt, core, port, two), Err(Refusal::NoVictim)));
+            give_back(rt, core, note);
+        }
+        Err(refusal) => panic!(rt; "{refusal}"),
+    }
 }
 
 #[test]
-fn drive_flush_answers(rt: HostRuntime) {
-    let mut port = port_of(&rt, &four_pages(&rt));
-    let mut core = one_frame(&rt, port.geometry());
-    let note = fix(&rt, &mut core, &mut port, 1).expect(&rt, "the pass");
-    assert_eq!(rt; note.serial(), 0);
-    write_five(&rt, &mut core, note, &bytes_of(&rt, &[5]));
-    flush_pages(&rt, &mut core, &mut port);
-    give_back(&rt, &mut core, note);
+fn drive_flush_answers(rt: HostRuntime) -> Result<(), Fail> {
+    let mut port = four_pages(rt.alloc())?.port()?;
+    let mut core = one_frame(rt.alloc(), port.geometry())?;
+    let five = Bytes::of(rt.alloc(), &[5])?;
+    flush_a_page(&rt, &mut core, &mut port, &five);
     expect_page(&rt, &mut port, PageNo::new(1), &FIVE);
+    Ok(())
 }
 
-/// Asserts that both ports read what one of them writes, and that no failure was counted.
-fn expect_same_pages<P: Port, R: Wait + Abort + AllocGlobal>(rt: &R, port: &mut P, other: &mut P) {
-    put_page(rt, port, PageNo::new(1), &NINE);
-    expect_pages(rt, port, &ZEROS, &NINE, &ZEROS);
-    expect_pages(rt, other, &ZEROS, &NINE, &ZEROS);
-    assert_eq!(rt; (port.failures(), other.failures()), (0, 0));
+/// Asserts that page 1 alone has the bytes that were written, and that no failure was counted.
+fn expect_pages<P: Port, R: Wait + Abort>(rt: &R, port: &mut P) {
+    expect_page(rt, port, PageNo::new(0), &ZEROS);
+    expect_page(rt, port, PageNo::new(1), &NINE);
+    expect_page(rt, port, PageNo::new(2), &ZEROS);
+    assert_eq!(rt; port.failures(), 0);
 }
 
-/// Asserts that a port fails to write an image to a page, and counts that.
-fn expect_no_write<P: Port, R: Wait + Abort + AllocGlobal>(
-    rt: &R,
-    port: &mut P,
-    page: u64,
-    bytes: &[u8],
-    failures: u64,
-) {
-    let image = image_of(rt, bytes);
-    let written = port.write(rt, PageNo::new(page), &image);
-    assert_eq!(rt; written, Err(PortFault::Device));
-    assert_eq!(rt; port.failures(), failures);
-}
-
-/// Asserts that a port fails to read a page, and counts that.
-fn expect_no_read<P: Port, R: Wait + Abort>(rt: &R, port: &mut P, page: u64, failures: u64) {
-    assert!(rt; matches!(port.read(rt, PageNo::new(page)), Err(PortFault::Device)));
-    assert_eq!(rt; port.failures(), failures);
+/// Asserts that both ports read what one of them writes.
+fn expect_same_pages<P: Port, R: Wait + Abort>(rt: &R, port: &mut P, other: &mut P, nine: &Image) {
+    assert_eq!(rt; port.write(rt, PageNo::new(1), nine), Ok(()));
+    expect_pages(rt, port);
+    expect_pages(rt, other);
 }
 
 /// Asserts that a port fails to read and to write page 4 of four, and to write a longer image to page 0, and counts each
 /// failure.
-fn expect_failures<P: Port, R: Wait + Abort + AllocGlobal>(rt: &R, port: &mut P) {
-    expect_no_read(rt, port, 4, 1);
-    expect_no_write(rt, port, 4, &NINE, 2);
-    expect_no_write(rt, port, 0, &[255; 32], 3);
+fn expect_failures<P: Port, R: Wait + Abort>(rt: &R, port: &mut P, page: &Image, longer: &Image) {
+    assert!(rt; matches!(port.read(rt, PageNo::new(4)), Err(PortFault::Device)));
+    assert_eq!(rt; port.failures(), 1);
+    assert_eq!(rt;
+        port.write(rt, PageNo::new(4), page),
+        Err(PortFault::Device)
+    );
+    assert_eq!(rt; port.failures(), 2);
+    assert_eq!(rt;
+        port.write(rt, PageNo::new(0), longer),
+        Err(PortFault::Device)
+    );
+    assert_eq!(rt; port.failures(), 3);
     expect_page(rt, port, PageNo::new(0), &ZEROS);
     assert_eq!(rt; port.failures(), 3);
 }
 
 #[test]
-fn pages_of_a_memory_are_read_again(rt: HostRuntime) {
-    let device = four_pages(&rt);
-    let (mut port, mut other) = (port_of(&rt, &device), port_of(&rt, &device));
-    expect_same_pages(&rt, &mut port, &mut other);
-    expect_failures(&rt, &mut port);
+fn pages_of_a_memory_are_read_again(rt: HostRuntime) -> Result<(), Fail> {
+    let device = four_pages(rt.alloc())?;
+    let (mut port, mut other) = (device.port()?, device.port()?);
+    let nine = Image::of(rt.alloc(), &NINE)?;
+    expect_same_pages(&rt, &mut port, &mut other, &nine);
+    let longer = Image::of(rt.alloc(), &[255; 32])?;
+    expect_failures(&rt, &mut port, &nine, &longer);
+    Ok(())
 }
 
 /// A path that no other test and no other run uses.
@@ -380,79 +355,62 @@ fn pages_of<R: Files<File = File> + AllocGlobal>(
     }
 }
 
-/// Asserts how many pages files of some lengths have.
-fn expect_lengths<R: Files<File = File> + AllocGlobal + Abort>(rt: &R, path: &str) {
-    assert_eq!(rt; pages_of(rt, path, 40).expect(rt, "the file"), None);
-    assert_eq!(rt; pages_of(rt, path, 0).expect(rt, "the file"), None);
-    assert_eq!(rt; pages_of(rt, path, 32).expect(rt, "the file"), Some(2));
-}
-
-/// Asserts that there is no such file.
-fn is_absent<R: Files<File = File> + AllocGlobal + Abort>(rt: &R, path: &str) {
-    let absent = FilePort::open(rt, rt.alloc(), path, SIZE);
-    assert!(rt; matches!(absent, Err(OpenFault::Port(PortFault::Device))));
-}
-
 #[test]
 fn file_lengths(rt: HostRuntime) -> Result<(), Fail> {
     let path = scratch(&rt, process::id(rt.process()), "file_lengths")?;
-    expect_lengths(&rt, path.as_path().as_str());
+    assert_eq!(rt; pages_of(&rt, path.as_path().as_str(), 40)?, None);
+    assert_eq!(rt; pages_of(&rt, path.as_path().as_str(), 0)?, None);
+    assert_eq!(rt; pages_of(&rt, path.as_path().as_str(), 32)?, Some(2));
     fs::remove_file(&rt, path.as_path())?;
-    is_absent(&rt, path.as_path().as_str());
+    let absent = FilePort::open(&rt, rt.alloc(), path.as_path(), SIZE);
+    assert!(rt; matches!(absent, Err(OpenFault::Port(PortFault::Device))));
     Ok(())
 }
 
-/// A port of a file.
-fn open<R: Files<File = File> + AllocGlobal + Abort>(rt: &R, path: &str) -> FilePort {
-    FilePort::open(rt, rt.alloc(), path, SIZE).expect(rt, "the port")
-}
-
-/// Asserts that these bytes are the slot of the image.
-fn is_slot(rt: &(impl AllocGlobal + Abort), bytes: &[u8], image: &Image) {
-    let found = unslot(rt.alloc(), bytes).expect(rt, "the image");
-    assert_eq!(rt; &found, image);
-    let slot = slot(rt.alloc(), image).expect(rt, "the slot");
-    assert_eq!(rt; bytes, slot.as_slice());
-}
-
-/// Asserts that page 1 of a file of four is the slot of the image.
-fn expect_slot<R: Files + AllocGlobal + Abort>(rt: &R, path: &str, image: &Image) {
-    let bytes = fs::read(rt, path).expect(rt, "the file");
+/// Asserts that page 1 of a file is the slot of the image.
+fn expect_slot<R: Files + AllocGlobal + Abort>(
+    rt: &R,
+    path: &str,
+    image: &Image,
+) -> io::Result<()> {
+    let bytes = fs::read(rt, path)?;
     assert_eq!(rt; bytes.len(), 64);
-    is_slot(rt, &bytes[16..32], image);
-}
-
-/// Writes and reads the pages of a file by two ports.
-fn use_file<R: Files<File = File> + AllocGlobal + Abort + Wait>(rt: &R, path: &str) {
-    let (mut port, mut other) = (open(rt, path), open(rt, path));
-    expect_same_pages(rt, &mut port, &mut other);
-    expect_slot(rt, path, &image_of(rt, &NINE));
-    expect_failures(rt, &mut port);
+    match unslot(rt.alloc(), &bytes[16..32]) {
+        Ok(found) => assert_eq!(rt; &found, image),
+        Err(fault) => panic!(rt; "{fault}"),
+    }
+    match slot(rt.alloc(), image) {
+        Ok(slot) => assert_eq!(rt; &bytes[16..32], slot.as_slice()),
+        Err(refusal) => panic!(rt; "{refusal}"),
+    }
+    Ok(())
 }
 
 #[test]
 fn pages_of_a_file_are_read_again(rt: HostRuntime) -> Result<(), Fail> {
     let path = scratch(&rt, process::id(rt.process()), "pages_of_a_file")?;
     fs::write(&rt, path.as_path(), [0u8; 64].as_slice())?;
-    use_file(&rt, path.as_path().as_str());
+    let mut port = FilePort::open(&rt, rt.alloc(), path.as_path(), SIZE)?;
+    let mut other = FilePort::open(&rt, rt.alloc(), path.as_path(), SIZE)?;
+    let nine = Image::of(rt.alloc(), &NINE)?;
+    expect_same_pages(&rt, &mut port, &mut other, &nine);
+    expect_slot(&rt, path.as_path().as_str(), &nine)?;
+    let longer = Image::of(rt.alloc(), &[255; 32])?;
+    expect_failures(&rt, &mut port, &nine, &longer);
     fs::remove_file(&rt, path.as_path())?;
     Ok(())
-}
-
-/// A read of page 1 fails where the file has lost its end, and page 0 can be read.
-fn read_a_short_file<R: Abort + Wait>(rt: &R, port: &mut FilePort) {
-    expect_no_read(rt, port, 1, 1);
-    expect_page(rt, port, PageNo::new(0), &[9; SIZE]);
-    assert_eq!(rt; port.failures(), 1);
 }
 
 #[test]
 fn short_read_is_counted(rt: HostRuntime) -> Result<(), Fail> {
     let path = scratch(&rt, process::id(rt.process()), "short_read")?;
     fs::write(&rt, path.as_path(), [9u8; 32].as_slice())?;
-    let mut port = open(&rt, path.as_path().as_str());
+    let mut port = FilePort::open(&rt, rt.alloc(), path.as_path(), SIZE)?;
     fs::write(&rt, path.as_path(), [9u8; 24].as_slice())?;
-    read_a_short_file(&rt, &mut port);
+    assert!(rt; matches!(port.read(&rt, PageNo::new(1)), Err(PortFault::Device)));
+    assert_eq!(rt; port.failures(), 1);
+    expect_page(&rt, &mut port, PageNo::new(0), &[9; SIZE]);
+    assert_eq!(rt; port.failures(), 1);
     fs::remove_file(&rt, path.as_path())?;
     Ok(())
 }

@@ -1,12 +1,10 @@
 //! Ports in pairs: two threads that meet, and calls that nobody meets.
-use super::{
-    NINE, ZEROS, expect_no_read, expect_no_write, expect_page, four_pages, image_of, port_of,
-    put_page,
-};
-use bp_device::{FusePort, GatePort, MemDevice, MemPort, Port};
+use super::{NINE, ZEROS, expect_page, four_pages};
+use bp_device::{FusePort, GatePort, MemPort, Port};
 use bp_page::{Image, PageNo, PortFault};
 use std::process::Abort;
 use std::sync::Wait;
+use std::test::Fail;
 use std::thread;
 use std::thread::Threads;
 
@@ -53,69 +51,66 @@ fn expect_done<R: Abort>(rt: &R, job: &Job, bytes: &[u8]) {
     assert_eq!(rt; job.port.failures(), 0);
 }
 
-/// Two jobs over one device, on the pages 0 and 1.
-fn two_jobs(rt: &(impl Abort + AllocGlobal), device: &MemDevice) -> [Job; 2] {
-    let (first, second) = (port_of(rt, device), port_of(rt, device));
-    let (a, b) = GatePort::pair(rt.alloc(), first, second, MANY).expect(rt, "the pair");
-    [job_of(a, 0), job_of(b, 1)]
-}
-
 #[test]
-fn calls_of_two_threads_meet(rt: HostRuntime) {
-    let device = four_pages(&rt);
-    let mut plain = port_of(&rt, &device);
-    put_page(&rt, &mut plain, PageNo::new(1), &NINE);
-    let mut jobs = two_jobs(&rt, &device);
-    run_together(&rt, &image_of(&rt, &NINE), &mut jobs);
+fn calls_of_two_threads_meet(rt: HostRuntime) -> Result<(), Fail> {
+    let device = four_pages(rt.alloc())?;
+    let mut plain = device.port()?;
+    let nine = Image::of(rt.alloc(), &NINE)?;
+    assert_eq!(rt; plain.write(&rt, PageNo::new(1), &nine), Ok(()));
+    let (a, b) = GatePort::pair(rt.alloc(), device.port()?, device.port()?, MANY)?;
+    let mut jobs = [job_of(a, 0), job_of(b, 1)];
+    run_together(&rt, &nine, &mut jobs);
     expect_done(&rt, &jobs[0], &ZEROS);
     expect_done(&rt, &jobs[1], &NINE);
     expect_page(&rt, &mut plain, PageNo::new(0), &NINE);
+    Ok(())
 }
 
 /// A pair in one thread whose first port fails at the first call that gets to it.
 type Alone = GatePort<FusePort<MemPort>>;
 
+/// Asserts that a read of page 0 fails, and how many failures are then counted.
+fn expect_failure<R: Wait + Abort>(rt: &R, port: &mut Alone, failures: u64) {
+    assert!(rt; matches!(port.read(rt, PageNo::new(0)), Err(PortFault::Device)));
+    assert_eq!(rt; port.failures(), failures);
+}
+
 /// A read that nobody meets does not get to the port below, whose first call is the next read.
 fn read_alone<R: Wait + Abort>(rt: &R, port: &mut Alone, other: &mut Alone) {
-    expect_no_read(rt, port, 0, 1);
+    expect_failure(rt, port, 1);
     expect_page(rt, other, PageNo::new(0), &ZEROS);
     assert_eq!(rt; other.failures(), 0);
-    expect_no_read(rt, port, 0, 2);
+    expect_failure(rt, port, 2);
     expect_page(rt, port, PageNo::new(0), &ZEROS);
     assert_eq!(rt; port.failures(), 2);
 }
 
-/// A port that fails at this call.
-fn fails_at(rt: &(impl Abort + AllocGlobal), device: &MemDevice, call: u64) -> FusePort<MemPort> {
-    let port = port_of(rt, device);
-    FusePort::new(rt.alloc(), port, call, false).expect(rt, "the port")
-}
-
 #[test]
-fn read_that_nobody_meets(rt: HostRuntime) {
-    let device = four_pages(&rt);
-    let (first, second) = (fails_at(&rt, &device, 1), fails_at(&rt, &device, 9));
-    let pair = GatePort::pair(rt.alloc(), first, second, 3);
-    let (mut port, mut other) = pair.expect(&rt, "the pair");
+fn read_that_nobody_meets(rt: HostRuntime) -> Result<(), Fail> {
+    let device = four_pages(rt.alloc())?;
+    let first = FusePort::new(rt.alloc(), device.port()?, 1, false)?;
+    let second = FusePort::new(rt.alloc(), device.port()?, 9, false)?;
+    let (mut port, mut other) = GatePort::pair(rt.alloc(), first, second, 3)?;
     read_alone(&rt, &mut port, &mut other);
+    Ok(())
 }
 
 /// A read of one port opens reads of the other one, and no writes; a write opens writes.
-fn read_then_write<P: Port, R: Wait + Abort + AllocGlobal>(rt: &R, port: &mut P, other: &mut P) {
+fn read_then_write<P: Port, R: Wait + Abort>(rt: &R, port: &mut P, other: &mut P, nine: &Image) {
     let page = PageNo::new(1);
-    expect_no_read(rt, port, 1, 1);
-    expect_no_write(rt, other, 1, &NINE, 1);
+    assert!(rt; matches!(port.read(rt, page), Err(PortFault::Device)));
+    assert_eq!(rt; other.write(rt, page, nine), Err(PortFault::Device));
     expect_page(rt, other, page, &ZEROS);
-    put_page(rt, port, page, &NINE);
+    assert_eq!(rt; port.write(rt, page, nine), Ok(()));
     expect_page(rt, port, page, &NINE);
     assert_eq!(rt; (port.failures(), other.failures()), (1, 1));
 }
 
 #[test]
-fn read_opens_no_write(rt: HostRuntime) {
-    let device = four_pages(&rt);
-    let (first, second) = (port_of(&rt, &device), port_of(&rt, &device));
-    let pair = GatePort::pair(rt.alloc(), first, second, 3);
-    let (mut port, mut other) = pair.expect(&rt, "the pair");
-    read_then_write(&rt, &mut port, &mut other);
+fn read_opens_no_write(rt: HostRuntime) -> Result<(), Fail> {
+    let device = four_pages(rt.alloc())?;
+    let nine = Image::of(rt.alloc(), &NINE)?;
+    let (mut port, mut other) = GatePort::pair(rt.alloc(), device.port()?, device.port()?, 3)?;
+    read_then_write(&rt, &mut port, &mut other, &nine);
+    Ok(())
 }
