@@ -160,6 +160,8 @@ fn time_round(
     ensures end { work.new.end ≡ work.old.end }
     ensures bytes { work.new.bytes ≡ work.old.bytes }
 {
+    // The pages of the round before may leave once the clock has moved.
+    tick_all(core, 1);
     let mut since = rt.thread_cpu_time()?.as_nanos();
     time_loads(rt, core, work, &mut since)?;
     time_uses(rt, core, work, &mut since)?;
