@@ -22,7 +22,7 @@ struct Winners {
 /// Seats, and a tree over them that knows at each node who comes first of the seats below it.
 ///
 /// `put` goes up from its seat as far as it changes what a node knows, at most to the root: O(log seats). It ends at once
-/// where the seat comes after its neighbour before and after the change.
+/// where the seat, before and after the change, comes after its neighbour and was not last referenced before that one.
 /// `first_before` asks the root, and then looks below those nodes that do not know. Below each of them stand two who
 /// were not last referenced before the time that is asked for, nor at the same time. So the root knows where nobody was
 /// referenced after that time, and else it looks at O(log seats) nodes for each who was not last referenced before it,
@@ -151,7 +151,7 @@ fn is_outrun(winners: &Winners, seat: &Seat) -> bool
     }
 }
 
-// Whether the nodes surely know the same once a seat is changed: it comes after its neighbour before and after that.
+// Whether the nodes surely know the same once a seat is changed: another outruns it before and after that.
 fn is_changed_unseen(nodes: &[Winners], seats: &[Seat], seat: usize, entry: &Seat) -> bool
     requires won { IsTournament nodes.now seats.now }
     requires in_range { seat < length seats.now }

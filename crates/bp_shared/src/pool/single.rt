@@ -41,7 +41,7 @@ impl<N: PoolName> SharedPool<N> {
     }
 
     /// A copy of the image of a pass's page. `UnknownPass`, before all else, where the pass is another client's, and where the pool
-    /// does not know it; `OutOfMemory` and `TrailFull`. All change nothing.
+    /// does not know it; `OutOfMemory`, which may come before the pool is asked, and `TrailFull`. All change nothing.
     pub fn read<R: Wait>(
         &self,
         rt: &R,

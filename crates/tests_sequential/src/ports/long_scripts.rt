@@ -1,4 +1,4 @@
-//! Scripts with many passes. Each has to run in about the time of its rows.
+//! Scripts with many passes, given back at the end and by rows.
 use super::{drive, four_pages};
 use bp_core::{Call, Core, Row, Step};
 use bp_device::Port;
