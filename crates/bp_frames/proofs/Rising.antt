@@ -1,11 +1,13 @@
 -- Lists in the order of a number of their elements: halving finds a place, and one element more or fewer keeps the order.
-use Rattle.std.proofs.Common.{◌≡◌, ◌≢◌, ℕ, zero, suc, ◌+◌, ◌-◌, ◌<◌, ◌≤◌, nat_lt, Bool, true, false, ◌||◌, cond, List, [], ◌∷◌, ◌++◌, length, length-append, get_or, filter, refl, sym, ap, ◌∙◌, subst, inl, inr, arith}
+use Rattle.std.proofs.Common.{◌≡◌, ◌≢◌, ℕ, zero, suc, ◌+◌, ◌-◌, ◌<◌, ◌≤◌, nat_lt, Bool, true, false, ◌||◌, cond, List, [], ◌∷◌, ◌++◌, length, length-append, get_or, set, filter, refl, sym, ap, ◌∙◌, subst, inl, inr, arith}
 use Rattle.std.specs.Prelude.{All}
 use Rattle.std.specs.List.{insert, remove}
 use Rattle.std.specs.List.Sorted.{IsPartitionedBy, IsPartitionPoint}
 use Rattle.std.proofs.lemmas.Bool.{cases_lt, cases_order, lt-ltb, ltb-true, ltb-false}
 use Rattle.std.proofs.lemmas.List.Edits.{length-insert, get_or-insert_below, get_or-insert_at, get_or-insert_above, length-remove, get_or-remove_below, get_or-remove_above}
-use Rattle.std.proofs.lemmas.List.{get_or_push, get_or_default}
+use Rattle.std.proofs.lemmas.List.{get_or_push, get_or_default, get_or-set_other, length-set}
+use Rattle.std.proofs.lemmas.List.Elements.{All-filter}
+use Rattle.std.proofs.lemmas.Grind.{get_or-set_at}
 use Rattle.bp_frames.specs.Rising.{IsRisingBy, IsPlaceFor, StandsAt, StandsNowhere}
 use Rattle.bp_trail.specs.Lists.{some}
 use Rattle.bp_trail.proofs.Counting.{get-left}
@@ -125,3 +127,42 @@ module _ {X : Type 0} (key : X → ℕ) (xs : List X) (rising : IsRisingBy key x
         let at_end : length xs ≡ j = omega arith in
         rw (get-left xs (x ∷ []) i d (omega arith), get_or_push xs x d j at_end) (above i d (omega arith))
   ]
+
+-- what is left of a list in order is in order
+module _ {X : Type 0} (key : X → ℕ) where
+  rising-tail : (x : X) (xs : List X) → IsRisingBy key (x ∷ xs) → IsRisingBy key xs
+  rising-tail x xs rising i j d less in_range = rising (suc i) (suc j) d (omega arith) (omega arith)
+
+  above-first : (x : X) (xs : List X) → IsRisingBy key (x ∷ xs) → All (λ y. key x < key y) xs
+  above-first x xs rising k d lt = rising 0 (suc k) d (omega arith) (omega arith)
+
+  rising-first : (x : X) (xs : List X) → All (λ y. key x < key y) xs → IsRisingBy key xs → IsRisingBy key (x ∷ xs)
+  rising-first x xs above rising zero zero d less in_range = absurd (omega arith)
+  rising-first x xs above rising zero (suc j) d less in_range = above j d (omega arith)
+  rising-first x xs above rising (suc i) zero d less in_range = absurd (omega arith)
+  rising-first x xs above rising (suc i) (suc j) d less in_range = rising i j d (omega arith) (omega arith)
+
+  pub rising-rest : (ys xs zs : List X) → zs ≡ ys ++ xs → IsRisingBy key zs → IsRisingBy key xs
+  rising-rest [] xs zs is rising = rw (sym is) rising
+  rising-rest (y ∷ ys) xs zs is rising = rising-rest ys xs (ys ++ xs) refl (rising-tail y (ys ++ xs) (rw is at rising))
+
+  pub rising-front : (xs ys zs : List X) → zs ≡ xs ++ ys → IsRisingBy key zs → IsRisingBy key xs
+  rising-front xs ys zs is rising i j d less in_range =
+      rw (sym (get-left xs ys i d (omega arith)), sym (get-left xs ys j d in_range)) ((rw is at rising) i j d less (omega (arith, length-append xs ys)))
+
+  pub rising-filter : (p : X → Bool) (xs : List X) → IsRisingBy key xs → IsRisingBy key (filter p xs)
+  rising-filter p [] rising = rising
+  rising-filter p (x ∷ xs) rising = go (p x) (rising-filter p xs (rising-tail x xs rising))
+    where
+      go : (b : Bool) → IsRisingBy key (filter p xs) → IsRisingBy key (cond b (x ∷ filter p xs) (filter p xs))
+      go true rest = rising-first x (filter p xs) (All-filter p (λ y. key x < key y) xs (above-first x xs rising)) rest
+      go false rest = rest
+
+  -- an element may change for one with the same number
+  pub rising-set : (xs : List X) (at : ℕ) (x : X) → at < length xs → ((d : X) → key (get_or xs at d) ≡ key x) → IsRisingBy key xs → IsRisingBy key (set xs at x)
+  rising-set xs at x lt same rising i j d less in_range =
+      let number : (k : ℕ) → k < length xs → key (get_or (set xs at x) k d) ≡ key (get_or xs k d) = λ k inside. elim (cases_order k at) [
+        | inl here ↦ ap key (get_or-set_at xs at k x d here lt) ∙ sym (same d) ∙ ap (λ n. key (get_or xs n d)) (sym here)
+        | inr apart ↦ ap key (get_or-set_other xs at k x d (λ e. elim apart [ inl less ↦ absurd (omega (arith, e, less)) | inr more ↦ absurd (omega (arith, e, more)) ]))
+      ] in
+      rw (number i (omega (arith, length-set xs at x)), number j (omega (arith, length-set xs at x))) (rising i j d less (omega (arith, length-set xs at x)))

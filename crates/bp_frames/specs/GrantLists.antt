@@ -1,11 +1,28 @@
--- What a list of passes or tickets is seen as: what stands in it, newest first, and how much may stand there with no memory taken.
-use Rattle.std.specs.Prelude.{ℕ, List, ◌∷◌}
+-- What a list of passes or tickets is seen as: those that are out, newest first, and which more may be given.
+use Rattle.std.specs.Prelude.{ℕ, ◌+◌, ◌-◌, ◌≤◌, max, List, [], ◌∷◌, if◌then◌else◌}
+use Rattle.bp_frames.specs.declared.grant_list.Slot.{Slot}
 use Rattle.bp_trail.specs.Event.{Grant, grant}
 
--- the passes or tickets that are out
+-- the passes or tickets that are out, how many more may be given with no memory taken, and from which serial number on
 pub record Given : Type 0 where
   pub out : List Grant
-  pub capacity : ℕ
+  pub room : ℕ
+  pub next : ℕ
 
 abbrev pub with_grant : Given → ℕ → ℕ → ℕ → Given
-with_grant given client page serial = record given { out = grant client page serial ∷ given.out }
+with_grant given client page serial = record given { out = grant client page serial ∷ given.out; room = given.room - 1; next = serial + 1 }
+
+-- what the one may give, the other may give
+pub record GivesAsMuch (one other : Given) : Type 0 where
+  pub room : one.room ≤ other.room
+  pub next : other.next ≤ one.next
+
+-- the grants that are out, of these slots
+abbrev pub grants_out : List Slot → List Grant
+grants_out [] = []
+grants_out (s ∷ ss) = if s.is_out then s.grant ∷ grants_out ss else grants_out ss
+
+-- the number above those of these slots
+abbrev pub above : List Slot → ℕ
+above [] = 0
+above (s ∷ ss) = max (s.grant.serial + 1) (above ss)

@@ -1,8 +1,9 @@
 //! The passes or tickets that are out.
-ghost use Rattle.std.specs.Prelude.{◌≡◌, ◌+◌, ◌<◌, ◌≤◌, ◌==◌, [], not, All, filter, length, IfOk, OnOk, OnErr};
+ghost use Rattle.std.specs.Prelude.{◌≡◌, ◌<◌, ◌≤◌, ◌==◌, [], not, All, filter, length, IfOk, OnOk};
 ghost use Rattle.bp_trail.specs.Event.{Grant, grant};
 ghost use Rattle.bp_trail.specs.Legal.{is_out};
 ghost use Rattle.bp_frames.specs.Rising.{IsRisingBy, IsPlaceFor, IsPlaceOf};
+ghost use Rattle.bp_frames.specs.declared.grant_list.Slot.{Slot};
 
 use bp_page::PageNo;
 use bp_trail::Grant;
@@ -10,42 +11,56 @@ use std::alloc::{AllocError, Global};
 use std::collections::VecDeque;
 use std::marker::Model;
 
-/// The passes or tickets of a kind that are out, in the order of their serial numbers. The one that is taken back is
-/// mostly the oldest or the newest, and nothing moves then; else those on the shorter side of it move.
+/// A grant, and whether it is out still.
+#[derive(Clone, Copy)]
+struct Slot {
+    grant: Grant,
+    is_out: bool,
+}
+
+/// The passes or tickets of a kind that are out, in the order of their serial numbers.
+///
+/// `has` and `take_back` take the logarithm of the number of slots, and `len` and `give` the same time always. None of them moves a
+/// grant or takes memory: one that is taken back leaves its slot, which keeps the order. A slot so left goes once it is the oldest
+/// or the newest, at most two of each at a call, so a list that is taken back from its ends alone has no other slots. `reserve`
+/// alone may move grants: where the room is wanted it closes the slots that are left, if those are half of all, and else the list
+/// grows to twice its size, so that it costs the same time on average.
 #[derive(Drop)]
 pub struct GrantList {
-    grants: VecDeque<Grant>,
+    slots: VecDeque<Slot>,
+    /// How many are out.
+    count: usize,
 }
 
 impl Model for GrantList {
-    ghost use Rattle.std.specs.Prelude.{reverse};
-    ghost use Rattle.std.specs.VecDeque.{deque_capacity};
-    ghost use Rattle.bp_trail.specs.Event.{Grant};
-    ghost use Rattle.bp_frames.specs.GrantLists.{Given};
+    ghost use Rattle.std.specs.Prelude.{◌≡◌, ◌-◌, length, reverse};
+    ghost use Rattle.std.specs.VecDeque.{deque_len, deque_capacity};
+    ghost use Rattle.bp_frames.specs.GrantLists.{Given, grants_out, above};
     ghost use Rattle.bp_frames.specs.Rising.{IsRisingBy};
+    ghost use Rattle.bp_frames.specs.declared.grant_list.Slot.{Slot};
 
     ghost Value = { Given };
 
-    ghost view = { λ g. record { out = reverse g.grants.items; capacity = deque_capacity g.grants } };
+    ghost view = { λ g. record { out = reverse (grants_out g.slots.items); room = deque_capacity g.slots - deque_len g.slots; next = above g.slots.items } };
 
-    ghost invariant = { λ g. IsRisingBy (λ (given : Grant). given.serial) g.grants.items };
+    ghost invariant = { λ g. IsRisingBy (λ (s : Slot). s.grant.serial) g.slots.items × (g.count ≡ length (grants_out g.slots.items)) };
 }
 
-/// Where the grant of this number stands or would stand, found by halving.
-fn place_for(grants: &VecDeque<Grant>, serial: u64) -> usize
-    requires { IsRisingBy (λ (g : Grant). g.serial) grants.now.items }
-    ensures { IsPlaceFor (λ (g : Grant). g.serial) grants.now.items serial result }
+/// Where the slot of this number stands or would stand, found by halving.
+fn place_for(slots: &VecDeque<Slot>, serial: u64) -> usize
+    requires { IsRisingBy (λ (s : Slot). s.grant.serial) slots.now.items }
+    ensures { IsPlaceFor (λ (s : Slot). s.grant.serial) slots.now.items serial result }
 {
-    grants.partition_point(|g| g.serial < serial)
+    slots.partition_point(|slot| slot.grant.serial < serial)
 }
 
-/// Where the grant of this number stands, if it is there.
-fn find(grants: &VecDeque<Grant>, serial: u64) -> Option<usize>
-    requires { IsRisingBy (λ (g : Grant). g.serial) grants.now.items }
-    ensures { IsPlaceOf (λ (g : Grant). g.serial) grants.now.items serial result }
+/// Where the slot of this number stands, if it is there.
+fn find(slots: &VecDeque<Slot>, serial: u64) -> Option<usize>
+    requires { IsRisingBy (λ (s : Slot). s.grant.serial) slots.now.items }
+    ensures { IsPlaceOf (λ (s : Slot). s.grant.serial) slots.now.items serial result }
 {
-    let place = place_for(grants, serial);
-    if place < grants.len() && grants[place].serial == serial {
+    let place = place_for(slots, serial);
+    if place < slots.len() && slots[place].grant.serial == serial {
         Some(place)
     } else {
         None
@@ -53,24 +68,28 @@ fn find(grants: &VecDeque<Grant>, serial: u64) -> Option<usize>
 }
 
 impl GrantList {
-    ghost use Rattle.bp_frames.specs.GrantLists.{with_grant};
+    ghost use Rattle.bp_frames.specs.GrantLists.{with_grant, GivesAsMuch};
 
     /// No grants, and no room. It takes no memory.
     pub fn new(alloc: Global) -> GrantList
-        ensures { result.out ≡ [] }
+        ensures empty { result.out ≡ [] }
+        ensures next { result.next ≡ 0 }
     {
         GrantList {
-            grants: VecDeque::new(alloc),
+            slots: VecDeque::new(alloc),
+            count: 0,
         }
     }
 
     /// Room for so many. It fails by want of memory alone.
     pub fn with_capacity(alloc: Global, room: usize) -> Result<GrantList, AllocError>
         ensures empty { IfOk result (λ g. g.out ≡ []) }
-        ensures room { IfOk result (λ g. room ≤ g.capacity) }
+        ensures room { IfOk result (λ g. room ≤ g.room) }
+        ensures next { IfOk result (λ g. g.next ≡ 0) }
     {
         Ok(GrantList {
-            grants: VecDeque::with_capacity(alloc, room)?,
+            slots: VecDeque::with_capacity(alloc, room)?,
+            count: 0,
         })
     }
 
@@ -78,48 +97,117 @@ impl GrantList {
     pub fn len(&self) -> usize
         ensures { result ≡ length self.now.out }
     {
-        self.grants.len()
+        self.count
     }
 
     /// Whether this grant, of all three numbers, is out. It is found by halving.
     pub fn has(&self, client: u8, page: PageNo, serial: u64) -> bool
         ensures { result ≡ is_out (grant client page serial) self.now.out }
     {
-        let Some(place) = find(&self.grants, serial) else {
+        let Some(place) = find(&self.slots, serial) else {
             return false;
         };
-        let given = &self.grants[place];
+        let slot = &self.slots[place];
+        if !slot.is_out {
+            return false;
+        }
+        let given = slot.grant;
         client == given.client && page.number() == given.page.number()
     }
 
-    /// Takes memory for so many more than are out. Where that is refused the grants stay as they are.
+    /// Takes memory for so many more. Where that is refused the grants stay as they are.
     pub fn reserve(&mut self, additional: usize) -> Result<(), AllocError>
         ensures out { self.new.out ≡ self.old.out }
-        ensures room { OnOk result (length self.old.out + additional ≤ self.new.capacity) }
-        ensures capacity { self.old.capacity ≤ self.new.capacity }
+        ensures room { OnOk result (additional ≤ self.new.room) }
+        ensures more { GivesAsMuch self.old self.new }
     {
-        self.grants.reserve(additional)
+        let free = self.slots.capacity() - self.slots.len();
+        if free < additional && self.count <= self.slots.len() / 2 {
+            self.squeeze();
+        }
+        self.slots.reserve(additional)
     }
 
-    /// Adds the newest grant, whose number must be above all others', which takes no memory.
+    /// Closes the slots of the grants that were taken back.
+    fn squeeze(&mut self)
+        ensures out { self.new.out ≡ self.old.out }
+        ensures more { GivesAsMuch self.old self.new }
+    {
+        self.slots.retain(|slot| slot.is_out);
+    }
+
+    /// Adds the newest grant, whose number must be above all that were given, which takes no memory.
     pub fn give(&mut self, client: u8, page: PageNo, serial: u64)
-        requires newest { All (λ g. g.serial < serial) self.old.out }
-        requires room { length self.old.out < self.old.capacity }
+        requires newest { self.old.next ≤ serial }
+        requires room { 0 < self.old.room }
         ensures { self.new ≡ with_grant self.old client page serial }
     {
-        self.grants.push_back_reserved(Grant {
+        let grant = Grant {
             client,
             page,
             serial,
+        };
+        self.slots.push_back_reserved(Slot {
+            grant,
+            is_out: true,
         });
+        self.count += 1;
     }
 
-    /// Takes the grant of this number out, if it is there. It is found by halving.
+    /// Takes the grant of this number out, if it is there, which leaves no less room. It is found by halving.
     pub fn take_back(&mut self, serial: u64)
-        ensures { self.new ≡ record self.old { out = filter (λ g. not (g.serial == serial)) self.old.out } }
+        ensures out { self.new.out ≡ filter (λ g. not (g.serial == serial)) self.old.out }
+        ensures more { GivesAsMuch self.old self.new }
     {
-        if let Some(place) = find(&self.grants, serial) {
-            self.grants.remove(place).unwrap();
+        self.mark(serial);
+        self.trim();
+        self.trim();
+    }
+
+    /// Marks the grant of this number as taken back, if it is out.
+    fn mark(&mut self, serial: u64)
+        ensures out { self.new.out ≡ filter (λ g. not (g.serial == serial)) self.old.out }
+        ensures more { GivesAsMuch self.old self.new }
+    {
+        let Some(place) = find(&self.slots, serial) else {
+            return;
+        };
+        if self.slots[place].is_out {
+            self.slots[place].is_out = false;
+            self.count -= 1;
+        }
+    }
+
+    /// Drops the oldest slot and the newest, if their grants were taken back.
+    fn trim(&mut self)
+        ensures out { self.new.out ≡ self.old.out }
+        ensures more { GivesAsMuch self.old self.new }
+    {
+        self.drop_oldest();
+        self.drop_newest();
+    }
+
+    fn drop_oldest(&mut self)
+        ensures out { self.new.out ≡ self.old.out }
+        ensures more { GivesAsMuch self.old self.new }
+    {
+        let Some(oldest) = self.slots.front() else {
+            return;
+        };
+        if !oldest.is_out {
+            self.slots.pop_front();
+        }
+    }
+
+    fn drop_newest(&mut self)
+        ensures out { self.new.out ≡ self.old.out }
+        ensures more { GivesAsMuch self.old self.new }
+    {
+        let Some(newest) = self.slots.back() else {
+            return;
+        };
+        if !newest.is_out {
+            self.slots.pop_back();
         }
     }
 }
