@@ -58,8 +58,8 @@ module _ (c : Parameters) (trail : Kept) (x : State) (core : IsCore c trail x) (
     trail_room = roomy call reply quiet;
     opening = core.opening;
     placed = core.placed;
+    numbers = core.numbers;
     pass_room = core.pass_room;
-    read_room = core.read_room;
     frame_room = core.frame_room;
   }
     where
@@ -91,8 +91,8 @@ module _ (c : Parameters) (trail : Kept) (x : State) (core : IsCore c trail x) (
     trail_room = longer c _ core.trail_room _ (omega (arith, at-room 1 room)) (omega arith) (omega arith);
     opening = core.opening;
     placed = core.placed;
+    numbers = core.numbers;
     pass_room = core.pass_room;
-    read_room = core.read_room;
     frame_room = core.frame_room;
   }
 
@@ -103,8 +103,8 @@ module _ (c : Parameters) (trail : Kept) (x : State) (core : IsCore c trail x) (
     trail_room = longer c _ core.trail_room _ (omega (arith, at-room 1 room)) (omega arith) (omega arith);
     opening = core.opening;
     placed = core.placed;
+    numbers = core.numbers;
     pass_room = core.pass_room;
-    read_room = core.read_room;
     frame_room = core.frame_room;
   }
 
@@ -120,7 +120,7 @@ module _ (c : Parameters) (trail : Kept) (x : State) (core : IsCore c trail x) (
         trail_room = longer c _ core.trail_room _ (omega (arith, at-room 1 room)) (omega arith) (omega arith);
         opening = core.opening;
         placed = placed-after x.histories h places core.placed (λ q holds. sym (held q) ∙ holds);
+        numbers = core.numbers;
         pass_room = core.pass_room;
-        read_room = core.read_room;
         frame_room = core.frame_room;
       }

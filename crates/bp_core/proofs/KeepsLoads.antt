@@ -21,11 +21,10 @@ use Rattle.bp_trail.specs.Legal.{is_out}
 use Rattle.bp_frames.specs.Frames.{is_frame_of, loaded_with, without_page}
 use Rattle.bp_trail.specs.Lists.{some}
 use Rattle.bp_frames.specs.Tables.{Table}
-use Rattle.bp_trail.proofs.Counting.{some-count}
 use Rattle.bp_trail.proofs.Serials.{numbered}
 use Rattle.bp_trail.proofs.Places.{places, out-of_page}
 use Rattle.bp_trail.proofs.Victim.{victim-is, candidate-resident}
-use Rattle.bp_core.proofs.Seen.{count-le, resident_seen, occupied_is, within_frames}
+use Rattle.bp_core.proofs.Seen.{resident_seen, occupied_is}
 use Rattle.bp_trail.proofs.Residents.{reads-rest}
 use Rattle.bp_trail.proofs.Timed.{references-timed}
 use Rattle.bp_core.proofs.Placed.{place-kept, placed-after, placed-prepared, held-before, stayed-here, held-here, rehoused}
@@ -38,7 +37,7 @@ use Rattle.bp_trail.specs.Event.{grant}
 use Rattle.bp_trail.specs.Trail.{Trail}
 use Rattle.bp_core.specs.CoreView.{CoreView, EachPast, HasRoomFor}
 use Rattle.bp_core.specs.Lodging.{Kept, with_next}
-use Rattle.bp_frames.specs.GrantLists.{Given, with_grant}
+use Rattle.bp_frames.specs.GrantLists.{Given, with_grant, GivesAsMuch}
 use Rattle.bp_core.specs.Agreement.{parts_of, HasCandidates, IsCore, view_of}
 use Rattle.bp_trail.proofs.Ranges.{ranges}
 use Rattle.bp_core.proofs.Keeps.{longer, at-past, at-parameters, at-room}
@@ -64,10 +63,6 @@ module _ (c : Parameters) (trail : Kept) (x : State) (core : IsCore c trail x) (
     pub victim-held : is_held x.histories gone ≡ true
     victim-held = core.agrees.observed.held_is gone ∙ or_left (resident trail.past gone) (loading trail.past gone) victim-resident
 
-    -- so a read fewer than there are frames is out
-    pub few-reads : length x.reads.out < c.frames
-    few-reads = omega (arith, some-count (is_frame_of gone) x.frames.frames victim-here, count-le (is_frame_of gone) x.frames.frames, within_frames c trail.past (parts_of x) core.agrees)
-
   -- ---- a page that is asked for while it is neither resident nor loading
   pub free-frame : EachPast v (λ past. has_free_frame v.parameters past ≡ true) → length x.frames.frames + length x.reads.out < c.frames
   free-frame frame = omega (arith, occupied_is c trail.past (parts_of x) core.agrees, ltb-true (length (residents trail.past) + length (reads_out trail.past)) c.frames (at (λ q past. has_free_frame q past ≡ true) frame))
@@ -79,24 +74,24 @@ module _ (c : Parameters) (trail : Kept) (x : State) (core : IsCore c trail x) (
       ∙ at (λ q past. loading past p ≡ false) idle
 
   -- ---- a read begins
-  module _ (client : who < v.parameters.clients) (page : p < v.parameters.pages) (idle : EachPast v (λ past. loading past p ≡ false)) (away : EachPast v (λ past. resident past p ≡ false)) (room : HasRoomFor 3 v) (ps : Given) (same : ps.out ≡ x.passes.out) (capacity : length x.passes.out + length x.reads.out + 1 ≤ ps.capacity) where
+  module _ (client : who < v.parameters.clients) (page : p < v.parameters.pages) (idle : EachPast v (λ past. loading past p ≡ false)) (away : EachPast v (λ past. resident past p ≡ false)) (room : HasRoomFor 3 v) (ps : Given) (same : ps.out ≡ x.passes.out) (more : GivesAsMuch x.passes ps) (ready : length x.reads.out + 1 ≤ ps.room) (rs : Given) (same_reads : rs.out ≡ x.reads.out) where
     pub keeps-load : EachPast v (λ past. has_free_frame v.parameters past ≡ true) → (fs : Table) → fs.frames ≡ x.frames.frames → fs.size ≡ x.frames.size → fs.limit ≡ x.frames.limit → fs.pages ≡ x.frames.pages → fs.candidates ≡ x.frames.candidates → length x.reads.out < fs.spare
         → (h : Blocks) → SameSettings x.histories h → SameStampsAt x.histories h p → ((q : ℕ) → q ≢ p → SameAt x.histories h q) → is_held h p ≡ true → KeepsPlaces x.histories h → IsSome (place_of h p)
-        → IsCore c (with_next trail who (Fix p) (Load x.tickets_given None)) (record x { tickets_given = x.tickets_given + 1; reads = with_grant x.reads who p x.tickets_given; passes = ps; frames = fs; histories = h })
+        → IsCore c (with_next trail who (Fix p) (Load x.tickets_given None)) (record x { tickets_given = x.tickets_given + 1; reads = with_grant rs who p x.tickets_given; passes = ps; frames = fs; histories = h })
     keeps-load frame fs frames size limit in_file same_candidates spare h settings stamps others kept places place =
         let next = agrees-load c trail.past (parts_of x) core.agrees who p (lt-ltb who c.clients (given (λ q. who < q.clients) client)) (lt-ltb p c.pages (given (λ q. p < q.pages) page))
         (at (λ q past. loading past p ≡ false) idle) (at (λ q past. resident past p ≡ false) away) h settings (unprepared x.histories h p stamps others)
         (at (λ q past. has_free_frame q past ≡ true) frame) kept (λ q n. (others q n).held) in
         let moved = rehoused c _ _ next (place_of h) (λ q here. place-kept x.histories h places q (held-here c trail.past (parts_of x) core.agrees q here) (held-here c _ _ next q here)) in
         record {
-          agrees = rw (same, frames) moved;
+          agrees = rw (same, same_reads, frames) moved;
           candidates = subst (HasCandidates c (with_next trail who (Fix p) (Load x.tickets_given None)).past) (sym same_candidates) (stay c trail.past x.frames.candidates core.candidates _ (λ q. refl));
           trail_room = longer c _ core.trail_room _ (omega (arith, at-room c trail x core v is 3 room)) (omega arith) (omega arith);
           opening = core.opening;
           placed = placed-prepared x.histories h p others places core.placed place;
-          pass_room = record { reserved = omega (arith, capacity, ap length same) };
-          read_room = core.read_room;
-          frame_room = record { reserved = omega (arith, spare); size_is = omega (arith, size, core.frame_room.size_is); limit_is = omega (arith, limit, core.frame_room.limit_is); pages_is = omega (arith, in_file, core.frame_room.pages_is) };
+          numbers = record { of_pass = omega (arith, more.next, core.numbers.of_pass); of_read = omega arith; of_write = omega (arith, core.numbers.of_write) };
+          pass_room = record { reserved = omega (arith, ready, ap length same_reads) };
+          frame_room = record { few = core.frame_room.few; reserved = omega (arith, spare, ap length same_reads); size_is = omega (arith, size, core.frame_room.size_is); limit_is = omega (arith, limit, core.frame_room.limit_is); pages_is = omega (arith, in_file, core.frame_room.pages_is) };
         }
 
     pub keeps-replace : (gone : ℕ) → EachPast v (λ past. has_free_frame v.parameters past ≡ false) → EachPast v (λ past. victim v.parameters past ≡ Some gone) → EachPast v (λ past. unsaved past gone ≡ false)
@@ -104,7 +99,7 @@ module _ (c : Parameters) (trail : Kept) (x : State) (core : IsCore c trail x) (
         → (g h : Blocks) → SameSettings x.histories g → SameStampsAt x.histories g p → ((q : ℕ) → q ≢ p → SameAt x.histories g q) → is_held g p ≡ true → KeepsPlaces x.histories g → IsSome (place_of g p)
         → SameSettings g h → SameStampsAt g h gone → ((q : ℕ) → q ≢ gone → SameAt g h q) → is_held h gone ≡ false → KeepsPlaces g h
         → IsCore c (with_next trail who (Fix p) (Load x.tickets_given (Some gone)))
-        (record x { tickets_given = x.tickets_given + 1; reads = with_grant x.reads who p x.tickets_given; passes = ps; frames = record x.frames { frames = without_page gone x.frames.frames; spare = x.frames.spare + 1; candidates = e }; histories = h })
+        (record x { tickets_given = x.tickets_given + 1; reads = with_grant rs who p x.tickets_given; passes = ps; frames = record x.frames { frames = without_page gone x.frames.frames; spare = x.frames.spare + 1; candidates = e }; histories = h })
     keeps-replace gone full chosen saved e limits pages leaves out g h g_settings g_stamps g_others g_kept g_places g_place h_settings h_stamps h_others h_gone h_places =
         let apart = victim-apart gone chosen away in
         let first = unprepared x.histories g p g_stamps g_others in
@@ -119,14 +114,14 @@ module _ (c : Parameters) (trail : Kept) (x : State) (core : IsCore c trail x) (
         let before = stayed-here trail.past gone q here in
         place-kept g h h_places q (still q before) (held-here c _ _ next q here) ∙ place-kept x.histories g g_places q (was q before) (still q before)) in
         record {
-          agrees = rw same moved;
+          agrees = rw (same, same_reads) moved;
           candidates = move-evict c trail.past x.frames.candidates core.candidates e limits pages gone leaves who p x.tickets_given out;
           trail_room = longer c _ core.trail_room _ (omega (arith, at-room c trail x core v is 3 room)) (omega arith) (omega arith);
           opening = core.opening;
           placed = placed-after g h h_places (placed-prepared x.histories g p g_others g_places core.placed g_place) (held-before g h gone h_others ((g_others gone apart).held ∙ victim-held gone chosen));
-          pass_room = record { reserved = omega (arith, capacity, ap length same) };
-          read_room = core.read_room;
-          frame_room = record { reserved = omega (arith, core.frame_room.reserved); size_is = core.frame_room.size_is; limit_is = core.frame_room.limit_is; pages_is = core.frame_room.pages_is };
+          numbers = record { of_pass = omega (arith, more.next, core.numbers.of_pass); of_read = omega arith; of_write = omega (arith, core.numbers.of_write) };
+          pass_room = record { reserved = omega (arith, ready, ap length same_reads) };
+          frame_room = record { few = core.frame_room.few; reserved = omega (arith, core.frame_room.reserved, ap length same_reads); size_is = core.frame_room.size_is; limit_is = core.frame_room.limit_is; pages_is = core.frame_room.pages_is };
         }
 
   -- ---- a read ends
@@ -153,38 +148,38 @@ module _ (c : Parameters) (trail : Kept) (x : State) (core : IsCore c trail x) (
     fewer-kept : length x.reads.out ≡ length (filter (λ g. not (g.serial == t)) x.reads.out) + 1
     fewer-kept = subst (λ gs. length gs ≡ length (filter (λ g. not (g.serial == t)) gs) + 1) (sym core.agrees.observed.reads_is) fewer
 
-    pub keeps-fail_load : (h : Blocks) → SameSettings x.histories h → SameStampsAt x.histories h p → ((q : ℕ) → q ≢ p → SameAt x.histories h q) → is_held h p ≡ false → KeepsPlaces x.histories h
-        → IsCore c (with_next trail who (ReadEnd t p None) ReadFailed) (record x { reads = record x.reads { out = filter (λ g. not (g.serial == t)) x.reads.out }; histories = h })
-    keeps-fail_load h settings stamps others gone places =
+    pub keeps-fail_load : (rs : Given) → rs.out ≡ filter (λ g. not (g.serial == t)) x.reads.out → GivesAsMuch x.reads rs → (h : Blocks) → SameSettings x.histories h → SameStampsAt x.histories h p → ((q : ℕ) → q ≢ p → SameAt x.histories h q) → is_held h p ≡ false → KeepsPlaces x.histories h
+        → IsCore c (with_next trail who (ReadEnd t p None) ReadFailed) (record x { reads = rs; histories = h })
+    keeps-fail_load rs left more h settings stamps others gone places =
         let next = agrees-failed c trail.past (parts_of x) core.agrees who p t out-now h settings (unprepared x.histories h p stamps others) gone (λ q n. (others q n).held) in
         record {
-          agrees = rehoused c _ _ next (place_of h) (λ q here. place-kept x.histories h places q (held-here c trail.past (parts_of x) core.agrees q here) (held-here c _ _ next q here));
+          agrees = rw left (rehoused c _ _ next (place_of h) (λ q here. place-kept x.histories h places q (held-here c trail.past (parts_of x) core.agrees q here) (held-here c _ _ next q here)));
           candidates = stay c trail.past x.frames.candidates core.candidates _ (λ q. refl);
           trail_room = longer c _ core.trail_room _ (omega (arith, core.trail_room.owed, fewer)) (omega arith) (omega arith);
           opening = core.opening;
           placed = placed-after x.histories h places core.placed (held-before x.histories h p others held-now);
-          pass_room = record { reserved = omega (arith, core.pass_room.reserved, fewer-kept) };
-          read_room = core.read_room;
-          frame_room = record { reserved = omega (arith, core.frame_room.reserved, fewer-kept); size_is = core.frame_room.size_is; limit_is = core.frame_room.limit_is; pages_is = core.frame_room.pages_is };
+          numbers = record { of_pass = core.numbers.of_pass; of_read = omega (arith, more.next, core.numbers.of_read); of_write = core.numbers.of_write };
+          pass_room = record { reserved = omega (arith, core.pass_room.reserved, fewer-kept, ap length left) };
+          frame_room = record { few = core.frame_room.few; reserved = omega (arith, core.frame_room.reserved, fewer-kept, ap length left); size_is = core.frame_room.size_is; limit_is = core.frame_room.limit_is; pages_is = core.frame_room.pages_is };
         }
 
-    pub keeps-end_load : (block : ℕ) → place_of x.histories p ≡ Some block → (image : List ℕ) → length image ≡ v.parameters.size → (fs : Table) → IsPermutation (loaded_with p block image ∷ x.frames.frames) fs.frames → fs.spare + 1 ≡ x.frames.spare → fs.size ≡ x.frames.size → fs.limit ≡ x.frames.limit → fs.pages ≡ x.frames.pages → fs.candidates ≡ x.frames.candidates
+    pub keeps-end_load : (rs : Given) → rs.out ≡ filter (λ g. not (g.serial == t)) x.reads.out → GivesAsMuch x.reads rs → (block : ℕ) → place_of x.histories p ≡ Some block → (image : List ℕ) → length image ≡ v.parameters.size → (fs : Table) → IsPermutation (loaded_with p block image ∷ x.frames.frames) fs.frames → fs.spare + 1 ≡ x.frames.spare → fs.size ≡ x.frames.size → fs.limit ≡ x.frames.limit → fs.pages ≡ x.frames.pages → fs.candidates ≡ x.frames.candidates
         → (h : Blocks) → SameSettings x.histories h → ((refs : List Reference) → IsTimed refs → HasStampsOf x.histories p refs → HasStampsOf h p (fault x.clock ∷ refs)) → ((q : ℕ) → q ≢ p → SameAt x.histories h q) → is_held h p ≡ true → KeepsPlaces x.histories h
         → IsCore c (with_next trail who (ReadEnd t p (Some image)) (Fixed x.passes_given))
-        (record x { passes_given = x.passes_given + 1; passes = with_grant x.passes who p x.passes_given; reads = record x.reads { out = filter (λ g. not (g.serial == t)) x.reads.out }; frames = fs; histories = h })
-    keeps-end_load block place image fits fs moved spare size limit in_file same_candidates h settings stamps others kept places =
+        (record x { passes_given = x.passes_given + 1; passes = with_grant x.passes who p x.passes_given; reads = rs; frames = fs; histories = h })
+    keeps-end_load rs left more block place image fits fs moved spare size limit in_file same_candidates h settings stamps others kept places =
         let a = core.agrees in
         let refs = references c trail.past p in
         let stamped = subst (λ u. HasStampsOf h p (fault u ∷ refs)) a.observed.clock_is (stamps refs (references-timed c trail.past p).timed (a.observed.stamps_are p)) in
         let next = agrees-fixed c trail.past (parts_of x) a who p t out-now h settings block place image (given (λ q. length image ≡ q.size) fits) fs.frames moved stamped others kept in
         let was = held-before x.histories h p others held-now in
         record {
-          agrees = rehoused c _ _ next (place_of h) (λ q here. let holds = held-here c _ _ next q here in place-kept x.histories h places q (was q holds) holds);
+          agrees = rw left (rehoused c _ _ next (place_of h) (λ q here. let holds = held-here c _ _ next q here in place-kept x.histories h places q (was q holds) holds));
           candidates = subst (HasCandidates c (with_next trail who (ReadEnd t p (Some image)) (Fixed x.passes_given)).past) (sym same_candidates) (stay-end_load c trail.past x.frames.candidates core.candidates who t p x.passes_given image absent);
           trail_room = longer c _ core.trail_room _ (omega (arith, core.trail_room.owed, fewer)) (omega arith) (omega arith);
           opening = core.opening;
           placed = placed-after x.histories h places core.placed was;
-          pass_room = record { reserved = omega (arith, core.pass_room.reserved, fewer-kept) };
-          read_room = core.read_room;
-          frame_room = record { reserved = omega (arith, core.frame_room.reserved, fewer-kept, spare); size_is = omega (arith, size, core.frame_room.size_is); limit_is = omega (arith, limit, core.frame_room.limit_is); pages_is = omega (arith, in_file, core.frame_room.pages_is) };
+          numbers = record { of_pass = omega arith; of_read = omega (arith, more.next, core.numbers.of_read); of_write = core.numbers.of_write };
+          pass_room = record { reserved = omega (arith, core.pass_room.reserved, fewer-kept, ap length left) };
+          frame_room = record { few = core.frame_room.few; reserved = omega (arith, core.frame_room.reserved, fewer-kept, spare, ap length left); size_is = omega (arith, size, core.frame_room.size_is); limit_is = omega (arith, limit, core.frame_room.limit_is); pages_is = omega (arith, in_file, core.frame_room.pages_is) };
         }

@@ -15,7 +15,7 @@ use Rattle.bp_trail.specs.References.{references}
 use Rattle.bp_trail.specs.Legal.{is_out}
 use Rattle.bp_frames.specs.Frames.{pinned, unpinned, written_on}
 use Rattle.bp_frames.specs.Tables.{with_changed}
-use Rattle.bp_trail.proofs.Counting.{some-count, length-split}
+use Rattle.bp_trail.proofs.Counting.{some-count}
 use Rattle.bp_trail.proofs.Serials.{numbered}
 use Rattle.bp_trail.proofs.Places.{places, out-of_page}
 use Rattle.bp_core.proofs.Seen.{ranked, resident_seen}
@@ -32,7 +32,7 @@ use Rattle.bp_trail.specs.Event.{grant}
 use Rattle.bp_trail.specs.Trail.{Trail}
 use Rattle.bp_core.specs.CoreView.{CoreView, EachPast, HasRoomFor}
 use Rattle.bp_core.specs.Lodging.{Kept, with_next}
-use Rattle.bp_frames.specs.GrantLists.{Given, with_grant}
+use Rattle.bp_frames.specs.GrantLists.{Given, with_grant, GivesAsMuch}
 use Rattle.bp_core.specs.Agreement.{parts_of, IsCore, view_of}
 use Rattle.bp_core.proofs.Keeps.{longer, at-past, at-parameters, at-room}
 
@@ -58,19 +58,20 @@ module _ (c : Parameters) (trail : Kept) (x : State) (core : IsCore c trail x) (
 
   pub keeps-unfix : (who p n : ℕ) → EachPast v (λ past. is_out (grant who p n) (passes_out past) ≡ true) → (unused_now : Bool) → EachPast v (λ past. unused_now ≡ ((pins past p == 1) && not (writing past p)))
       → (e : Entered) → SameLimits x.frames.candidates e → (NoPageTwice x.frames.candidates.entries → NoPageTwice e.entries) → ((q : ℕ) → q ≢ p → entry_of e q ≡ entry_of x.frames.candidates q) → entry_of e p ≡ (if unused_now then Some (stamp_of x.histories p c.k, last_of x.histories p) else entry_of x.frames.candidates p)
-      → IsCore c (with_next trail who (Unfix n p) Done) (record x { frames = record (with_changed x.frames p unpinned) { candidates = e }; passes = record x.passes { out = filter (λ g. not (g.serial == n)) x.passes.out } })
-  keeps-unfix who p n known unused_now last_one e limits pages others entered =
+      → (ps : Given) → ps.out ≡ filter (λ g. not (g.serial == n)) x.passes.out → GivesAsMuch x.passes ps
+      → IsCore c (with_next trail who (Unfix n p) Done) (record x { frames = record (with_changed x.frames p unpinned) { candidates = e }; passes = ps })
+  keeps-unfix who p n known unused_now last_one e limits pages others entered ps left more =
       let out = at (λ q past. is_out (grant who p n) (passes_out past) ≡ true) known in
       let fewer = reads-rest who p n (passes_out trail.past) (numbered c trail.past core.agrees.legal).passes_once out in
       record {
-        agrees = agrees-unfix c trail.past (parts_of x) core.agrees who p n out;
+        agrees = rw left (agrees-unfix c trail.past (parts_of x) core.agrees who p n out);
         candidates = move-unfix c trail.past x.frames.candidates core.candidates e limits pages p others who n unused_now (at (λ q past. unused_now ≡ ((pins past p == 1) && not (writing past p))) last_one) core.agrees.legal out (pinned-page who p n known)
             (entered ∙ ap (λ t. if unused_now then Some t else entry_of x.frames.candidates p) (ranked c trail.past (parts_of x) core.agrees p));
         trail_room = longer c _ core.trail_room _ (omega (arith, fewer, core.trail_room.owed)) (omega arith) (omega arith);
         opening = core.opening;
         placed = core.placed;
-        pass_room = record { reserved = omega (arith, core.pass_room.reserved, length-split (λ g. g.serial == n) x.passes.out) };
-        read_room = core.read_room;
+        numbers = record { of_pass = omega (arith, more.next, core.numbers.of_pass); of_read = core.numbers.of_read; of_write = core.numbers.of_write };
+        pass_room = record { reserved = omega (arith, core.pass_room.reserved, more.room) };
         frame_room = core.frame_room;
       }
 
@@ -84,17 +85,17 @@ module _ (c : Parameters) (trail : Kept) (x : State) (core : IsCore c trail x) (
         trail_room = longer c _ core.trail_room _ (omega (arith, at-room c trail x core v is 1 room)) (omega arith) (omega arith);
         opening = core.opening;
         placed = core.placed;
+        numbers = core.numbers;
         pass_room = core.pass_room;
-        read_room = core.read_room;
         frame_room = core.frame_room;
       }
 
   pub keeps-hit : (who p : ℕ) → who < v.parameters.clients → p < v.parameters.pages → EachPast v (λ past. resident past p ≡ true) → HasRoomFor 3 v
-      → (ps : Given) → ps.out ≡ x.passes.out → length x.passes.out + (length x.reads.out + 1) ≤ ps.capacity
+      → (ps : Given) → ps.out ≡ x.passes.out → length x.reads.out + 1 ≤ ps.room
       → (h : Blocks) → SameSettings x.histories h → ((refs : List Reference) → IsTimed refs → HasStampsOf x.histories p refs → HasStampsOf h p (hit x.clock ∷ refs)) → ((q : ℕ) → q ≢ p → SameAt x.histories h q) → is_held h p ≡ true → KeepsPlaces x.histories h
       → (e : Entered) → SameLimits x.frames.candidates e → (NoPageTwice x.frames.candidates.entries → NoPageTwice e.entries) → ((q : ℕ) → q ≢ p → entry_of e q ≡ entry_of x.frames.candidates q) → entry_of e p ≡ None
       → IsCore c (with_next trail who (Fix p) (Hit x.passes_given)) (record x { passes_given = x.passes_given + 1; passes = with_grant ps who p x.passes_given; frames = record (with_changed x.frames p pinned) { candidates = e }; histories = h })
-  keeps-hit who p client page here room ps same capacity h settings stamps others kept places e limits pages leaves gone =
+  keeps-hit who p client page here room ps same ready h settings stamps others kept places e limits pages leaves gone =
       let a = core.agrees in
       let refs = references c trail.past p in
       let stamped = subst (λ t. HasStampsOf h p (hit t ∷ refs)) a.observed.clock_is (stamps refs (references-timed c trail.past p).timed (a.observed.stamps_are p)) in
@@ -107,7 +108,7 @@ module _ (c : Parameters) (trail : Kept) (x : State) (core : IsCore c trail x) (
         trail_room = longer c _ core.trail_room _ (omega (arith, at-room c trail x core v is 3 room)) (omega arith) (omega arith);
         opening = core.opening;
         placed = placed-after x.histories h places core.placed (held-before x.histories h p others (was p (at (λ q past. resident past p ≡ true) here)));
-        pass_room = record { reserved = omega (arith, capacity, ap length same) };
-        read_room = core.read_room;
+        numbers = record { of_pass = omega arith; of_read = core.numbers.of_read; of_write = core.numbers.of_write };
+        pass_room = record { reserved = omega (arith, ready) };
         frame_room = core.frame_room;
       }

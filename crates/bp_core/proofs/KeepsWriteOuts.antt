@@ -34,7 +34,7 @@ use Rattle.bp_trail.specs.Event.{grant}
 use Rattle.bp_trail.specs.Trail.{Trail}
 use Rattle.bp_core.specs.CoreView.{CoreView, EachPast, HasRoomFor}
 use Rattle.bp_core.specs.Lodging.{Kept, with_next}
-use Rattle.bp_frames.specs.GrantLists.{Given, with_grant}
+use Rattle.bp_frames.specs.GrantLists.{Given, with_grant, GivesAsMuch}
 use Rattle.bp_core.specs.Agreement.{parts_of, IsCore, view_of}
 use Rattle.bp_core.proofs.Keeps.{longer, at-past, at-parameters, at-room}
 
@@ -58,8 +58,8 @@ module _ (c : Parameters) (trail : Kept) (x : State) (core : IsCore c trail x) (
         trail_room = roomy call begins;
         opening = core.opening;
         placed = core.placed;
+        numbers = record { of_pass = core.numbers.of_pass; of_read = omega (arith, core.numbers.of_read); of_write = omega arith };
         pass_room = core.pass_room;
-        read_room = core.read_room;
         frame_room = core.frame_room;
       }
     where
@@ -94,7 +94,7 @@ module _ (c : Parameters) (trail : Kept) (x : State) (core : IsCore c trail x) (
     since = written-seen c trail.past (parts_of x) core.agrees who t p out-now
 
     -- its page is entered among the candidates if no pass of it is out
-    module _ (unused_now : Bool) (idle : EachPast v (λ past. unused_now ≡ (pins past p == 0))) (e : Entered) (limits : SameLimits x.frames.candidates e) (pages : NoPageTwice x.frames.candidates.entries → NoPageTwice e.entries) (others : (q : ℕ) → q ≢ p → entry_of e q ≡ entry_of x.frames.candidates q)
+    module _ (ws : Given) (left : ws.out ≡ filter (λ g. not (g.serial == t)) x.writes.out) (more : GivesAsMuch x.writes ws) (unused_now : Bool) (idle : EachPast v (λ past. unused_now ≡ (pins past p == 0))) (e : Entered) (limits : SameLimits x.frames.candidates e) (pages : NoPageTwice x.frames.candidates.entries → NoPageTwice e.entries) (others : (q : ℕ) → q ≢ p → entry_of e q ≡ entry_of x.frames.candidates q)
         (entered : entry_of e p ≡ (if unused_now then Some (stamp_of x.histories p c.k, last_of x.histories p) else entry_of x.frames.candidates p)) where
       ended : (later : Trail) → ((q : ℕ) → resident later q ≡ resident trail.past q) → ((q : ℕ) → pins later q ≡ pins trail.past q) → ((q : ℕ) → references c later q ≡ references c trail.past q)
           → writing later p ≡ some (is_of p) (rest t (writes_out trail.past)) → ((q : ℕ) → writing later q ≡ some (is_of q) (rest t (writes_out trail.past))) → HasCandidates c later e
@@ -103,39 +103,39 @@ module _ (c : Parameters) (trail : Kept) (x : State) (core : IsCore c trail x) (
           (entered ∙ (λ i. if at (λ q past. unused_now ≡ (pins past p == 0)) idle i then Some (ranked c trail.past (parts_of x) core.agrees p i) else entry_of x.frames.candidates p))
 
       pub keeps-cleaned : EachPast v (λ past. rewritten past p ≡ false)
-          → IsCore c (with_next trail who (WriteEnd t p true) Cleaned) (record x { writes = record x.writes { out = filter (λ g. not (g.serial == t)) x.writes.out }; frames = record (with_changed x.frames p saved) { candidates = e } })
+          → IsCore c (with_next trail who (WriteEnd t p true) Cleaned) (record x { writes = ws; frames = record (with_changed x.frames p saved) { candidates = e } })
       keeps-cleaned none = record {
-        agrees = agrees-cleaned c trail.past (parts_of x) core.agrees who t p out-now (sym since ∙ at (λ q past. rewritten past p ≡ false) none);
+        agrees = rw left (agrees-cleaned c trail.past (parts_of x) core.agrees who t p out-now (sym since ∙ at (λ q past. rewritten past p ≡ false) none));
         candidates = ended _ (λ q. refl) (λ q. refl) (λ q. refl) refl (λ q. refl);
         trail_room = longer c _ core.trail_room _ (omega (arith, core.trail_room.owed, fewer)) (omega arith) (omega arith);
         opening = core.opening;
         placed = core.placed;
+        numbers = record { of_pass = core.numbers.of_pass; of_read = core.numbers.of_read; of_write = omega (arith, more.next, core.numbers.of_write) };
         pass_room = core.pass_room;
-        read_room = core.read_room;
         frame_room = core.frame_room;
       }
 
       pub keeps-still_dirty : EachPast v (λ past. rewritten past p ≡ true)
-          → IsCore c (with_next trail who (WriteEnd t p true) StillDirty) (record x { writes = record x.writes { out = filter (λ g. not (g.serial == t)) x.writes.out }; frames = record (with_changed x.frames p saved) { candidates = e } })
+          → IsCore c (with_next trail who (WriteEnd t p true) StillDirty) (record x { writes = ws; frames = record (with_changed x.frames p saved) { candidates = e } })
       keeps-still_dirty some = record {
-        agrees = agrees-still_dirty c trail.past (parts_of x) core.agrees who t p out-now (sym since ∙ at (λ q past. rewritten past p ≡ true) some);
+        agrees = rw left (agrees-still_dirty c trail.past (parts_of x) core.agrees who t p out-now (sym since ∙ at (λ q past. rewritten past p ≡ true) some));
         candidates = ended _ (λ q. refl) (λ q. refl) (λ q. refl) refl (λ q. refl);
         trail_room = longer c _ core.trail_room _ (omega (arith, core.trail_room.owed, fewer)) (omega arith) (omega arith);
         opening = core.opening;
         placed = core.placed;
+        numbers = record { of_pass = core.numbers.of_pass; of_read = core.numbers.of_read; of_write = omega (arith, more.next, core.numbers.of_write) };
         pass_room = core.pass_room;
-        read_room = core.read_room;
         frame_room = core.frame_room;
       }
 
-      pub keeps-fail_write_out : IsCore c (with_next trail who (WriteEnd t p false) WriteFailed) (record x { writes = record x.writes { out = filter (λ g. not (g.serial == t)) x.writes.out }; frames = record (with_changed x.frames p not_saved) { candidates = e } })
+      pub keeps-fail_write_out : IsCore c (with_next trail who (WriteEnd t p false) WriteFailed) (record x { writes = ws; frames = record (with_changed x.frames p not_saved) { candidates = e } })
       keeps-fail_write_out = record {
-        agrees = agrees-write_failed c trail.past (parts_of x) core.agrees who t p out-now;
+        agrees = rw left (agrees-write_failed c trail.past (parts_of x) core.agrees who t p out-now);
         candidates = ended _ (λ q. refl) (λ q. refl) (λ q. refl) refl (λ q. refl);
         trail_room = longer c _ core.trail_room _ (omega (arith, core.trail_room.owed, fewer)) (omega arith) (omega arith);
         opening = core.opening;
         placed = core.placed;
+        numbers = record { of_pass = core.numbers.of_pass; of_read = core.numbers.of_read; of_write = omega (arith, more.next, core.numbers.of_write) };
         pass_room = core.pass_room;
-        read_room = core.read_room;
         frame_room = core.frame_room;
       }

@@ -13,7 +13,7 @@ use Rattle.bp_trail.specs.Lists.{some, count}
 use Rattle.bp_trail.specs.Event.{Grant, grant, ticket_given}
 use Rattle.bp_trail.specs.declared.entries.Entry.{Entry}
 use Rattle.bp_trail.specs.Trail.{Trail}
-use Rattle.bp_trail.specs.Passes.{passes, tickets, pass_of, passes_out, reads_out, writes_out, is_of, pins}
+use Rattle.bp_trail.specs.Passes.{pass_of, passes_out, reads_out, is_of, pins}
 use Rattle.bp_trail.specs.Places.{residents, resident}
 use Rattle.bp_trail.specs.References.{references, hist, last, is_empty}
 use Rattle.bp_trail.specs.Legal.{is_out}
@@ -22,7 +22,6 @@ use Rattle.bp_core.specs.Agreement.{Parts, Agrees, frame_of}
 use Rattle.bp_trail.proofs.Lists.{member}
 use Rattle.bp_trail.proofs.Counting.{some-at, count-cons, some-count, count-all, some-from_counts, length-split}
 use Rattle.bp_trail.proofs.Residents.{frames}
-use Rattle.bp_trail.proofs.Serials.{AllBelow, numbered}
 use Rattle.bp_trail.proofs.Places.{out-of_page}
 use Rattle.bp_trail.proofs.Ranges.{referred}
 use Rattle.bp_trail.proofs.Timed.{references-timed}
@@ -95,11 +94,6 @@ none-passes p (x ∷ xs) h =
 
 pub count-le : {X : Type 0} (p : X → Bool) (xs : List X) → count p xs ≤ length xs
 count-le p xs = omega (arith, length-split p xs)
-
-all-below : (n : ℕ) (gs : List Grant) → AllBelow n gs → All (λ (g : Grant). g.serial < n) gs
-all-below n [] b k d lt = absurd (omega arith)
-all-below n (g ∷ gs) b zero d lt = omega (arith, b.0)
-all-below n (g ∷ gs) b (suc k) d lt = all-below n gs b.1 k d (omega arith)
 
 module _ (c : Parameters) (past : Trail) (x : Parts) (a : Agrees c past x) where
   pub frames_count : length x.frames ≡ length (residents past)
@@ -206,13 +200,3 @@ module _ (c : Parameters) (past : Trail) (x : Parts) (a : Agrees c past x) where
 
   pub some_frame : (p : ℕ) → resident past p ≡ true → 0 < length x.frames
   some_frame p m = omega (arith, some-count (is_frame_of p) x.frames (resident_seen p ∙ m), count-le (is_frame_of p) x.frames)
-
-  -- each serial number is below the next one to be given
-  pub newest_pass : All (λ g. g.serial < x.given) x.out
-  newest_pass = subst (All (λ g. g.serial < x.given)) (sym a.observed.out_is) (subst (λ n. All (λ g. g.serial < n) (passes_out past)) (sym a.observed.passes_is) (all-below (passes past) (passes_out past) (numbered c past a.legal).passes_below))
-
-  pub newest_read : All (λ g. g.serial < x.begun) x.reads
-  newest_read = subst (All (λ g. g.serial < x.begun)) (sym a.observed.reads_is) (subst (λ n. All (λ g. g.serial < n) (reads_out past)) (sym a.observed.tickets_is) (all-below (tickets past) (reads_out past) (numbered c past a.legal).reads_below))
-
-  pub newest_write : All (λ g. g.serial < x.begun) x.writes
-  newest_write = subst (All (λ g. g.serial < x.begun)) (sym a.observed.writes_is) (subst (λ n. All (λ g. g.serial < n) (writes_out past)) (sym a.observed.tickets_is) (all-below (tickets past) (writes_out past) (numbered c past a.legal).writes_below))

@@ -114,20 +114,22 @@ abbrev pub OpensFresh : Parameters → Kept → Type 0
 OpensFresh c trail = Decides trail.fresh (standing c trail.before ≡ standing c [])
 
 -- for a pass at the end of each read,
-pub record HasPassRoom (out reads capacity : ℕ) : Type 0 where
-  pub reserved : out + reads ≤ capacity
-
--- for as many reads as frames,
-pub record HasReadRoom (c : Parameters) (capacity : ℕ) : Type 0 where
-  pub few : c.frames ≤ 65536
-  pub reserved : c.frames ≤ capacity
+pub record HasPassRoom (reads room : ℕ) : Type 0 where
+  pub reserved : reads ≤ room
 
 -- and a frame for each read
 pub record HasFrameRoom (c : Parameters) (reads spare size limit pages : ℕ) : Type 0 where
+  pub few : c.frames ≤ 65536
   pub reserved : reads ≤ spare
   pub size_is : size ≡ c.size
   pub limit_is : limit ≡ c.frames
   pub pages_is : pages ≡ c.pages
+
+-- the next pass and the next ticket have numbers from which each list may give
+pub record HasNextNumbers (passes reads writes given begun : ℕ) : Type 0 where
+  pub of_pass : passes ≤ given
+  pub of_read : reads ≤ begun
+  pub of_write : writes ≤ begun
 
 -- the candidates for replacement: the pages that nobody uses, each with its K-th stamp and its last time
 abbrev pub unused : Trail → ℕ → Bool
@@ -148,8 +150,8 @@ pub record IsCore (c : Parameters) (trail : Kept) (x : State) : Type 0 where
   pub trail_room : HasTrailRoom c trail
   pub opening : OpensFresh c trail
   pub placed : ArePlaced x.histories
-  pub pass_room : HasPassRoom (length x.passes.out) (length x.reads.out) x.passes.capacity
-  pub read_room : HasReadRoom c x.reads.capacity
+  pub numbers : HasNextNumbers x.passes.next x.reads.next x.writes.next x.passes_given x.tickets_given
+  pub pass_room : HasPassRoom (length x.reads.out) x.passes.room
   pub frame_room : HasFrameRoom c (length x.reads.out) x.frames.spare x.frames.size x.frames.limit x.frames.pages
 
 abbrev pub view_of : Parameters → Kept → CoreView
@@ -163,8 +165,8 @@ pub record IsFirst (c : Parameters) (x : State) : Type 0 where
   pub tickets_given : x.tickets_given ≡ 0
   pub passes : x.passes.out ≡ []
   pub reads : x.reads.out ≡ []
-  pub reads_reserved : c.frames ≤ x.reads.capacity
   pub writes : x.writes.out ≡ []
+  pub numbers : HasNextNumbers x.passes.next x.reads.next x.writes.next x.passes_given x.tickets_given
   pub frames : x.frames ≡ record { frames = []; spare = 0; size = c.size; limit = c.frames; pages = c.pages; candidates = record { frames = c.frames; correlated = c.correlated; entries = [] } }
   pub k : x.histories.k ≡ c.k
   pub correlated : x.histories.correlated ≡ c.correlated

@@ -1,5 +1,5 @@
 //! What a core keeps beside its trail.
-ghost use Rattle.std.specs.Prelude.{◌≡◌, ◌≢◌, ℕ, ◌+◌, ◌^◌, ◌<◌, ◌≤◌, true, All, Some, None, if◌then◌else◌, IfOk, length};
+ghost use Rattle.std.specs.Prelude.{◌≡◌, ◌≢◌, ℕ, ◌+◌, ◌^◌, ◌<◌, ◌≤◌, true, Some, None, if◌then◌else◌, IfOk};
 ghost use Rattle.bp_lruk.specs.Histories.{place_of, stamp_of, last_of};
 ghost use Rattle.bp_lruk.specs.Candidates.{entry_of, NoPageTwice, SameLimits};
 ghost use Rattle.bp_trail.specs.Lists.{some};
@@ -33,7 +33,7 @@ impl State {
     ghost use Rattle.bp_frames.specs.GrantLists.{with_grant};
     ghost use Rattle.bp_core.specs.Agreement.{parameters_of, IsFirst, TellBlocks};
 
-    /// What no entries come to, with the room that it will ever need but for passes, histories and images.
+    /// What no entries come to, with the room for as many reads and frames as it may have.
     pub(crate) fn new(alloc: Global, config: &Config) -> Result<State, AllocError>
         requires { config.now.frames ≤ 65536 }
         ensures { IfOk result (IsFirst (parameters_of config.now)) }
@@ -71,8 +71,8 @@ impl State {
     /// Gives the next pass, which takes no memory.
     pub(crate) fn give_pass(&mut self, client: u8, page: PageNo) -> Pass
         requires few { self.old.passes_given < 2 ^ 63 }
-        requires newest { All (λ g. g.serial < self.old.passes_given) self.old.passes.out }
-        requires room { length self.old.passes.out < self.old.passes.capacity }
+        requires newest { self.old.passes.next ≤ self.old.passes_given }
+        requires room { 0 < self.old.passes.room }
         ensures pass { result ≡ record { client = client; page = page; serial = self.old.passes_given } }
         ensures after { self.new ≡ record self.old { passes_given = self.old.passes_given + 1; passes = with_grant self.old.passes client page self.old.passes_given } }
     {
@@ -89,8 +89,8 @@ impl State {
     /// Gives the next ticket, to read a page, which takes no memory.
     pub(crate) fn give_read(&mut self, client: u8, page: PageNo) -> ReadTicket
         requires few { self.old.tickets_given < 2 ^ 63 }
-        requires newest { All (λ g. g.serial < self.old.tickets_given) self.old.reads.out }
-        requires room { length self.old.reads.out < self.old.reads.capacity }
+        requires newest { self.old.reads.next ≤ self.old.tickets_given }
+        requires room { 0 < self.old.reads.room }
         ensures ticket { result ≡ record { client = client; page = page; serial = self.old.tickets_given } }
         ensures after { self.new ≡ record self.old { tickets_given = self.old.tickets_given + 1; reads = with_grant self.old.reads client page self.old.tickets_given } }
     {
@@ -107,8 +107,8 @@ impl State {
     /// Gives the next ticket, to write a page out, and returns its number. It takes no memory.
     pub(crate) fn give_write(&mut self, client: u8, page: PageNo) -> u64
         requires few { self.old.tickets_given < 2 ^ 63 }
-        requires newest { All (λ g. g.serial < self.old.tickets_given) self.old.writes.out }
-        requires room { length self.old.writes.out < self.old.writes.capacity }
+        requires newest { self.old.writes.next ≤ self.old.tickets_given }
+        requires room { 0 < self.old.writes.room }
         ensures serial { result ≡ self.old.tickets_given }
         ensures after { self.new ≡ record self.old { tickets_given = self.old.tickets_given + 1; writes = with_grant self.old.writes client page self.old.tickets_given } }
     {

@@ -8,6 +8,7 @@ ghost use Rattle.bp_trail.specs.Places.{loading, resident};
 ghost use Rattle.bp_trail.specs.Saved.{unsaved};
 ghost use Rattle.bp_trail.specs.Victim.{victim};
 ghost use Rattle.bp_trail.specs.PageMap.{has_free_frame};
+ghost use Rattle.bp_frames.specs.GrantLists.{GivesAsMuch};
 ghost use Rattle.bp_core.specs.CoreView.{EachPast, HasRoomFor};
 ghost use Rattle.bp_core.specs.Outcomes.{FixOutcome, ReadEndOutcome, Adds};
 
@@ -36,7 +37,7 @@ impl Core {
         };
         let Ok(()) = make_ready(
             &mut self.state.passes,
-            reads,
+            &mut self.state.reads,
             &mut self.state.histories,
             page,
         ) else {
@@ -64,10 +65,9 @@ impl Core {
         ensures outcome { FixOutcome self.old client page result self.new }
     {
         let block = self.state.block(gone);
-        let reads = self.state.reads.len();
         let Ok(()) = make_ready(
             &mut self.state.passes,
-            reads,
+            &mut self.state.reads,
             &mut self.state.histories,
             page,
         ) else {
@@ -155,20 +155,23 @@ impl Core {
     }
 }
 
-/// Takes the memory that the end of a page's read will need, but for its frame: room for its pass beside those of the reads that are
-/// out, and its history's block. Where that is refused no page is held more than before.
+/// Takes the memory that a page's read will need, but for its frame: room for its ticket, for its pass beside those of the reads
+/// that are out, and its history's block. Where that is refused no page is held more than before.
 #[tactic(auto, unfolding(bp_lruk::specs::Histories::KeepsPlaces))]
 fn make_ready(
     passes: &mut GrantList,
-    reads: usize,
+    reads: &mut GrantList,
     histories: &mut Histories,
     page: PageNo,
 ) -> Result<(), AllocError>
-    requires few { reads < 2 ^ 32 }
+    requires few { length reads.old.out < 2 ^ 32 }
     requires away { is_held histories.old page ≡ false }
     ensures passes { passes.new.out ≡ passes.old.out }
-    ensures capacity { passes.old.capacity ≤ passes.new.capacity }
-    ensures room { OnOk result (length passes.old.out + reads + 1 ≤ passes.new.capacity) }
+    ensures more_passes { GivesAsMuch passes.old passes.new }
+    ensures pass_room { OnOk result (length reads.old.out + 1 ≤ passes.new.room) }
+    ensures reads { reads.new.out ≡ reads.old.out }
+    ensures more_reads { GivesAsMuch reads.old reads.new }
+    ensures read_room { OnOk result (0 < reads.new.room) }
     ensures held { OnOk result (is_held histories.new page ≡ true) }
     ensures stamps { SameStampsAt histories.old histories.new page }
     ensures others { (q : ℕ) → q ≢ page → SameAt histories.old histories.new q }
@@ -177,7 +180,8 @@ fn make_ready(
     ensures places { KeepsPlaces histories.old histories.new }
     ensures place { OnOk result (IsSome (place_of histories.new page)) }
 {
-    passes.reserve(reads + 1)?;
+    passes.reserve(reads.len() + 1)?;
+    reads.reserve(1)?;
     match histories.prepare_block(page) {
         Ok(_) => Ok(()),
         Err(_) => Err(AllocError),

@@ -1,12 +1,7 @@
 use Rattle.std.proofs.Common.{◌≡◌, sym, ◌∙◌, ap}
 use Rattle.bp_trail.specs.Images.{held}
-use Rattle.bp_core.proofs.Seen.{newest_write}
 use Rattle.bp_core.proofs.KeepsWriteOuts.{keeps-begin}
 use Rattle.bp_core.proofs.pool.Core.begin.Goals as goal
-
-pub give_write-serial-requires-clause-newest : goal.give_write-serial-requires-clause-newest
-give_write-serial-requires-clause-newest c =
-    rw c.reserve.ensures.out (newest_write _ _ _ c.self.invariant.agrees)
 
 pub invariant_of-self-2 : goal.invariant_of-self-2
 invariant_of-self-2 c =

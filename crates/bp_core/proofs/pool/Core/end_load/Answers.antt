@@ -1,7 +1,7 @@
 use Rattle.std.proofs.Common.{Some, sym, ◌∙◌}
 use Rattle.bp_trail.specs.declared.entries.Call.TheVariants.{ReadEnd}
 use Rattle.bp_trail.specs.declared.entries.Reply.TheVariants.{Fixed}
-use Rattle.bp_core.proofs.Seen.{now_is, newest_pass}
+use Rattle.bp_core.proofs.Seen.{now_is}
 use Rattle.bp_core.proofs.Keeps.{adds}
 use Rattle.bp_core.proofs.KeepsLoads.{held-now, absent-now, in-file, keeps-end_load}
 use Rattle.bp_core.proofs.pool.Core.end_load.Goals as goal
@@ -21,15 +21,12 @@ fault_at-requires-clause-held c = held-now _ _ _ c.self.invariant _ c.self.view_
 pub fault_at-requires-clause-now : goal.fault_at-requires-clause-now
 fault_at-requires-clause-now c = now_is _ _ _ c.self.invariant.agrees
 
-pub give_pass-pass-requires-clause-newest : goal.give_pass-pass-requires-clause-newest
-give_pass-pass-requires-clause-newest c = newest_pass _ _ _ c.self.invariant.agrees
-
 pub invariant_of-self : goal.invariant_of-self
 invariant_of-self c =
     let f = c.fill.ensures in
     let h = c.fault_at.ensures in
-    rw (c.record.ensures, c.give_pass-pass.ensures.after, c.give_pass-pass.ensures.pass, c.take_back.ensures)
-    (keeps-end_load _ _ _ c.self.invariant _ c.self.view_is c.args.client c.args.page c.args.serial c.requires.out c.unwrap-block.result (sym c.place.ensures.place ∙ c.unwrap-block.ensures) c.args.image c.requires.size c.fill.new.self f.frames f.spare f.size f.limit f.pages f.candidates c.fault_at.new.self h.settings h.stamps h.others h.held h.places)
+    rw (c.record.ensures, c.give_pass-pass.ensures.after, c.give_pass-pass.ensures.pass)
+    (keeps-end_load _ _ _ c.self.invariant _ c.self.view_is c.args.client c.args.page c.args.serial c.requires.out c.take_back.new.self c.take_back.ensures.out c.take_back.ensures.more c.unwrap-block.result (sym c.place.ensures.place ∙ c.unwrap-block.ensures) c.args.image c.requires.size c.fill.new.self f.frames f.spare f.size f.limit f.pages f.candidates c.fault_at.new.self h.settings h.stamps h.others h.held h.places)
 
 pub returns-clause-entry : goal.returns-clause-entry
 returns-clause-entry c =

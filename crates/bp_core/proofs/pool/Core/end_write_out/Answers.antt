@@ -31,8 +31,8 @@ offer-requires-clause-apart c =
 pub invariant_of-self : goal.invariant_of-self
 invariant_of-self c =
     let o = rw c.end_write_out.ensures at c.offer.ensures in
-    rw (c.record.ensures, c.take_back.ensures, o.same)
-    (keeps-still_dirty _ _ _ c.self.invariant _ c.self.view_is c.args.client c.args.page c.args.serial c.requires (c.in-Some.frame.now.pins == 0) (ap (λ f. f.pins == 0) c.in-Some.ensures.found) c.offer.new.frames.candidates o.limits o.pages o.others o.entered (sym (ap (λ f. f.is_rewritten) c.in-Some.ensures.found) ∙ c.if-is_rewritten.true))
+    rw (c.record.ensures, o.same)
+    (keeps-still_dirty _ _ _ c.self.invariant _ c.self.view_is c.args.client c.args.page c.args.serial c.requires c.take_back.new.self c.take_back.ensures.out c.take_back.ensures.more (c.in-Some.frame.now.pins == 0) (ap (λ f. f.pins == 0) c.in-Some.ensures.found) c.offer.new.frames.candidates o.limits o.pages o.others o.entered (sym (ap (λ f. f.is_rewritten) c.in-Some.ensures.found) ∙ c.if-is_rewritten.true))
 
 pub returns-then-is_rewritten : goal.returns-then-is_rewritten
 returns-then-is_rewritten c =
@@ -41,8 +41,8 @@ returns-then-is_rewritten c =
 pub invariant_of-self-2 : goal.invariant_of-self-2
 invariant_of-self-2 c =
     let o = rw c.end_write_out.ensures at c.offer.ensures in
-    rw (c.record-2.ensures, c.take_back.ensures, o.same)
-    (keeps-cleaned _ _ _ c.self.invariant _ c.self.view_is c.args.client c.args.page c.args.serial c.requires (c.in-Some.frame.now.pins == 0) (ap (λ f. f.pins == 0) c.in-Some.ensures.found) c.offer.new.frames.candidates o.limits o.pages o.others o.entered (sym (ap (λ f. f.is_rewritten) c.in-Some.ensures.found) ∙ c.if-is_rewritten.false))
+    rw (c.record-2.ensures, o.same)
+    (keeps-cleaned _ _ _ c.self.invariant _ c.self.view_is c.args.client c.args.page c.args.serial c.requires c.take_back.new.self c.take_back.ensures.out c.take_back.ensures.more (c.in-Some.frame.now.pins == 0) (ap (λ f. f.pins == 0) c.in-Some.ensures.found) c.offer.new.frames.candidates o.limits o.pages o.others o.entered (sym (ap (λ f. f.is_rewritten) c.in-Some.ensures.found) ∙ c.if-is_rewritten.false))
 
 pub returns : goal.returns
 returns c =

@@ -11,7 +11,7 @@ unprepare-requires c = held-now _ _ _ c.self.invariant _ c.self.view_is c.args.c
 pub invariant_of-self : goal.invariant_of-self
 invariant_of-self c =
     let u = c.unprepare.ensures in
-    rw (c.record.ensures, c.take_back.ensures) (keeps-fail_load _ _ _ c.self.invariant _ c.self.view_is c.args.client c.args.page c.args.serial c.requires c.unprepare.new.self u.settings u.stamps u.others u.held u.places)
+    rw c.record.ensures (keeps-fail_load _ _ _ c.self.invariant _ c.self.view_is c.args.client c.args.page c.args.serial c.requires c.take_back.new.self c.take_back.ensures.out c.take_back.ensures.more c.unprepare.new.self u.settings u.stamps u.others u.held u.places)
 
 pub returns : goal.returns
 returns c =

@@ -31,7 +31,7 @@ offer-requires-clause-apart c =
 pub invariant_of-self : goal.invariant_of-self
 invariant_of-self c =
     let o = rw c.fail_write_out.ensures at c.offer.ensures in
-    rw (c.record.ensures, c.take_back.ensures, o.same) (keeps-fail_write_out _ _ _ c.self.invariant _ c.self.view_is c.args.client c.args.page c.args.serial c.requires (c.in-Some.frame.now.pins == 0) (ap (λ f. f.pins == 0) c.in-Some.ensures.found) c.offer.new.frames.candidates o.limits o.pages o.others o.entered)
+    rw (c.record.ensures, o.same) (keeps-fail_write_out _ _ _ c.self.invariant _ c.self.view_is c.args.client c.args.page c.args.serial c.requires c.take_back.new.self c.take_back.ensures.out c.take_back.ensures.more (c.in-Some.frame.now.pins == 0) (ap (λ f. f.pins == 0) c.in-Some.ensures.found) c.offer.new.frames.candidates o.limits o.pages o.others o.entered)
 
 pub returns : goal.returns
 returns c =

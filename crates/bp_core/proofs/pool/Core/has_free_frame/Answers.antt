@@ -4,7 +4,7 @@ use Rattle.bp_core.proofs.Seen.{occupied_is, within_frames}
 use Rattle.bp_core.proofs.pool.Core.has_free_frame.Goals as goal
 
 pub overflow_add-result : goal.overflow_add-result
-overflow_add-result c = omega (arith, within_frames _ _ _ c.self.invariant.agrees, c.len.ensures, c.len-2.ensures, c.self.invariant.read_room.few)
+overflow_add-result c = omega (arith, within_frames _ _ _ c.self.invariant.agrees, c.len.ensures, c.len-2.ensures, c.self.invariant.frame_room.few)
 
 pub returns : goal.returns
 returns c =

@@ -5,7 +5,7 @@ use Rattle.bp_frames.specs.Tables.{Table}
 use Rattle.bp_trail.specs.declared.entries.Call.TheVariants.{Fix}
 use Rattle.bp_trail.specs.declared.entries.Reply.TheVariants.{Hit}
 use Rattle.bp_trail.specs.Places.{resident}
-use Rattle.bp_core.proofs.Seen.{few_pins, now_is, known_is, newest_pass, resident_seen}
+use Rattle.bp_core.proofs.Seen.{few_pins, now_is, known_is, resident_seen}
 use Rattle.bp_core.proofs.Keeps.{at-past, adds}
 use Rattle.bp_core.proofs.Placed.{tell-blocks}
 use Rattle.bp_core.proofs.KeepsPasses.{keeps-hit}
@@ -29,10 +29,6 @@ hit_at-requires-clause-known c =
 
 pub hit_at-requires-clause-now : goal.hit_at-requires-clause-now
 hit_at-requires-clause-now c = now_is _ _ _ c.self.invariant.agrees
-
-pub give_pass-pass-requires-clause-newest : goal.give_pass-pass-requires-clause-newest
-give_pass-pass-requires-clause-newest c =
-    rw c.reserve.ensures.out (newest_pass _ _ _ c.self.invariant.agrees)
 
 pub invariant_of-self-2 : goal.invariant_of-self-2
 invariant_of-self-2 c =

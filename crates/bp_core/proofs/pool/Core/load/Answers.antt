@@ -1,5 +1,4 @@
 use Rattle.std.proofs.Common.{arith}
-use Rattle.bp_core.proofs.Seen.{newest_read}
 use Rattle.bp_core.proofs.KeepsLoads.{free-frame, keeps-load}
 use Rattle.bp_core.proofs.pool.Core.load.Goals as goal
 
@@ -7,13 +6,9 @@ pub provide-requires-clause-room : goal.provide-requires-clause-room
 provide-requires-clause-room c =
     omega (arith, free-frame _ _ _ c.self.invariant _ c.self.view_is c.args.client c.args.page c.requires.frame, c.len-reads.ensures, c.self.invariant.frame_room.limit_is)
 
-pub give_read-ticket-requires-clause-newest : goal.give_read-ticket-requires-clause-newest
-give_read-ticket-requires-clause-newest c =
-    newest_read _ _ _ c.self.invariant.agrees
-
 pub invariant_of-self-2 : goal.invariant_of-self-2
 invariant_of-self-2 c =
     let m = c.make_ready.ensures in
     let p = c.provide.ensures in
     rw (c.record.ensures, c.give_read-ticket.ensures.after, c.give_read-ticket.ensures.ticket)
-    (keeps-load _ _ _ c.self.invariant _ c.self.view_is c.args.client c.args.page c.requires.client_in c.requires.page_in c.requires.idle c.requires.away c.requires.room c.make_ready.new.passes m.passes (omega (arith, c.in-Ok-make_ready.ensures.room, c.len-reads.ensures)) c.requires.frame c.provide.new.self p.frames p.size p.limit p.pages p.candidates (omega (arith, c.in-Ok.ensures.enough, c.len-reads.ensures)) c.make_ready.new.histories m.settings m.stamps m.others c.in-Ok-make_ready.ensures.held m.places c.in-Ok-make_ready.ensures.place)
+    (keeps-load _ _ _ c.self.invariant _ c.self.view_is c.args.client c.args.page c.requires.client_in c.requires.page_in c.requires.idle c.requires.away c.requires.room c.make_ready.new.passes m.passes m.more_passes c.in-Ok-make_ready.ensures.pass_room c.make_ready.new.reads m.reads c.requires.frame c.provide.new.self p.frames p.size p.limit p.pages p.candidates (omega (arith, c.in-Ok.ensures.enough, c.len-reads.ensures)) c.make_ready.new.histories m.settings m.stamps m.others c.in-Ok-make_ready.ensures.held m.places c.in-Ok-make_ready.ensures.place)

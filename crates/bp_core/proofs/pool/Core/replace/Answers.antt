@@ -1,10 +1,9 @@
-use Rattle.std.proofs.Common.{◌∙◌, ap, arith}
+use Rattle.std.proofs.Common.{◌∙◌, ap}
 use Rattle.bp_trail.specs.Lists.{some}
 use Rattle.bp_frames.specs.Frames.{is_frame_of}
 use Rattle.bp_frames.specs.Tables.{Table}
-use Rattle.bp_core.proofs.Seen.{newest_read}
 use Rattle.bp_core.proofs.Placed.{place-kept, tell-blocks}
-use Rattle.bp_core.proofs.KeepsLoads.{victim-here, victim-apart, victim-held, few-reads, keeps-replace}
+use Rattle.bp_core.proofs.KeepsLoads.{victim-here, victim-apart, victim-held, keeps-replace}
 use Rattle.bp_core.proofs.pool.Core.replace.Goals as goal
 
 pub block-block-requires-clause-here : goal.block-block-requires-clause-here
@@ -27,18 +26,10 @@ unprepare_at-requires-clause-place c =
     place-kept _ _ c.make_ready.ensures.places c.args.gone (victim-held _ _ _ c.self.invariant _ c.self.view_is c.args.client c.args.page c.args.gone c.requires.chosen) (unprepare_at-requires-clause-held c)
     ∙ c.block-block.ensures
 
-pub give_read-ticket-requires-clause-newest : goal.give_read-ticket-requires-clause-newest
-give_read-ticket-requires-clause-newest c =
-    newest_read _ _ _ c.self.invariant.agrees
-
-pub give_read-ticket-requires-clause-room : goal.give_read-ticket-requires-clause-room
-give_read-ticket-requires-clause-room c =
-    omega (arith, few-reads _ _ _ c.self.invariant _ c.self.view_is c.args.client c.args.page c.args.gone c.requires.chosen, c.self.invariant.read_room.reserved)
-
 pub invariant_of-self-2 : goal.invariant_of-self-2
 invariant_of-self-2 c =
     let m = c.make_ready.ensures in
     let u = c.unprepare_at.ensures in
     let w = c.withdraw.ensures in
     rw (c.record.ensures, c.give_read-ticket.ensures.after, c.give_read-ticket.ensures.ticket, c.vacate.ensures, c.withdraw.ensures.same)
-    (keeps-replace _ _ _ c.self.invariant _ c.self.view_is c.args.client c.args.page c.requires.client_in c.requires.page_in c.requires.idle c.requires.away c.requires.room c.make_ready.new.passes m.passes (omega (arith, c.in-Ok.ensures.room, c.len-reads.ensures)) c.args.gone c.requires.full c.requires.chosen c.requires.saved c.withdraw.new.self.candidates w.limits w.pages w.others w.left c.make_ready.new.histories c.unprepare_at.new.self m.settings m.stamps m.others c.in-Ok.ensures.held m.places c.in-Ok.ensures.place u.settings u.stamps u.others u.held u.places)
+    (keeps-replace _ _ _ c.self.invariant _ c.self.view_is c.args.client c.args.page c.requires.client_in c.requires.page_in c.requires.idle c.requires.away c.requires.room c.make_ready.new.passes m.passes m.more_passes c.in-Ok.ensures.pass_room c.make_ready.new.reads m.reads c.args.gone c.requires.full c.requires.chosen c.requires.saved c.withdraw.new.self.candidates w.limits w.pages w.others w.left c.make_ready.new.histories c.unprepare_at.new.self m.settings m.stamps m.others c.in-Ok.ensures.held m.places c.in-Ok.ensures.place u.settings u.stamps u.others u.held u.places)

@@ -50,7 +50,7 @@ pub invariant_of-self : goal.invariant_of-self
 invariant_of-self c =
     let p = c.args.pass in
     let o = rw c.unpin.ensures at c.offer.ensures in
-    rw (c.record.ensures, c.take_back.ensures, o.same) (keeps-unfix _ _ _ c.self.invariant _ c.self.view_is p.client p.page p.serial (sym c.knows.ensures ∙ c.if-not-knows.false) c.is_last_use-is_unused.result (c.is_last_use-is_unused.ensures ∙ ap (λ f. (f.pins == 1) && not f.is_writing) c.in-Some.ensures.found) c.offer.new.frames.candidates o.limits o.pages o.others o.entered)
+    rw (c.record.ensures, o.same) (keeps-unfix _ _ _ c.self.invariant _ c.self.view_is p.client p.page p.serial (sym c.knows.ensures ∙ c.if-not-knows.false) c.is_last_use-is_unused.result (c.is_last_use-is_unused.ensures ∙ ap (λ f. (f.pins == 1) && not f.is_writing) c.in-Some.ensures.found) c.offer.new.frames.candidates o.limits o.pages o.others o.entered c.take_back.new.self c.take_back.ensures.out c.take_back.ensures.more)
 
 pub returns : goal.returns
 returns c =
