@@ -1,6 +1,7 @@
 -- What a list of passes or tickets is seen as: those that are out, newest first, and which more may be given.
-use Rattle.std.specs.Prelude.{ℕ, ◌+◌, ◌-◌, ◌≤◌, max, List, [], ◌∷◌, if◌then◌else◌}
+use Rattle.std.specs.Prelude.{◌≡◌, ℕ, ◌+◌, ◌-◌, ◌≤◌, max, List, [], ◌∷◌, length, reverse, if◌then◌else◌}
 use Rattle.bp_frames.specs.declared.grant_list.Slot.{Slot}
+use Rattle.bp_frames.specs.Rising.{IsRisingBy}
 use Rattle.bp_trail.specs.Event.{Grant, grant}
 
 -- the passes or tickets that are out, how many more may be given with no memory taken, and from which serial number on
@@ -26,3 +27,11 @@ grants_out (s ∷ ss) = if s.is_out then s.grant ∷ grants_out ss else grants_o
 abbrev pub above : List Slot → ℕ
 above [] = 0
 above (s ∷ ss) = max (s.grant.serial + 1) (above ss)
+
+-- what slots come to, beside so much room
+abbrev pub given_by : List Slot → ℕ → Given
+given_by slots room = record { out = reverse (grants_out slots); room = room; next = above slots }
+
+-- slots in the order of their numbers, so many of which have a grant that is out
+abbrev pub AreInOrder : List Slot → ℕ → Type 0
+AreInOrder slots count = IsRisingBy (λ (s : Slot). s.grant.serial) slots × (count ≡ length (grants_out slots))

@@ -20,11 +20,12 @@ struct Slot {
 
 /// The passes or tickets of a kind that are out, in the order of their serial numbers.
 ///
-/// `has` and `take_back` take the logarithm of the number of slots, and `len` and `give` the same time always. None of them moves a
-/// grant or takes memory: one that is taken back leaves its slot, which keeps the order. A slot so left goes once it is the oldest
-/// or the newest, at most two of each at a call, so a list that is taken back from its ends alone has no other slots. `reserve`
-/// alone may move grants: where the room is wanted it closes the slots that are left, if those are half of all, and else the list
-/// grows to twice its size, so that it costs the same time on average.
+/// `has` and `take_back` take O(log n) for n slots, `len` and `give` O(1). None of them moves a grant or takes memory:
+/// a grant that is taken back leaves its slot, which keeps the order. A slot that was left goes once it is the oldest or
+/// the newest, at most two of each at a call; so a list that is taken back from its ends alone has no such slots.
+///
+/// `reserve` alone may move grants, and takes O(1) on average. Where room is wanted it first closes the slots that were
+/// left, if they are half of all or more; where that is not enough, the list grows to at least twice its size.
 #[derive(Drop)]
 pub struct GrantList {
     slots: VecDeque<Slot>,
@@ -33,17 +34,15 @@ pub struct GrantList {
 }
 
 impl Model for GrantList {
-    ghost use Rattle.std.specs.Prelude.{◌≡◌, ◌-◌, length, reverse};
+    ghost use Rattle.std.specs.Prelude.{◌-◌};
     ghost use Rattle.std.specs.VecDeque.{deque_len, deque_capacity};
-    ghost use Rattle.bp_frames.specs.GrantLists.{Given, grants_out, above};
-    ghost use Rattle.bp_frames.specs.Rising.{IsRisingBy};
-    ghost use Rattle.bp_frames.specs.declared.grant_list.Slot.{Slot};
+    ghost use Rattle.bp_frames.specs.GrantLists.{Given, given_by, AreInOrder};
 
     ghost Value = { Given };
 
-    ghost view = { λ g. record { out = reverse (grants_out g.slots.items); room = deque_capacity g.slots - deque_len g.slots; next = above g.slots.items } };
+    ghost view = { λ g. given_by g.slots.items (deque_capacity g.slots - deque_len g.slots) };
 
-    ghost invariant = { λ g. IsRisingBy (λ (s : Slot). s.grant.serial) g.slots.items × (g.count ≡ length (grants_out g.slots.items)) };
+    ghost invariant = { λ g. AreInOrder g.slots.items g.count };
 }
 
 /// Where the slot of this number stands or would stand, found by halving.
@@ -121,11 +120,22 @@ impl GrantList {
         ensures room { OnOk result (additional ≤ self.new.room) }
         ensures more { GivesAsMuch self.old self.new }
     {
-        let free = self.slots.capacity() - self.slots.len();
-        if free < additional && self.count <= self.slots.len() / 2 {
+        if self.free() < additional && self.count <= self.slots.len() / 2 {
             self.squeeze();
         }
-        self.slots.reserve(additional)
+        if additional <= self.free() {
+            return Ok(());
+        }
+        // A deque grows in proportion to the slots in it, of which there may be few: so its capacity at least doubles.
+        let growth = additional.saturating_add(self.slots.capacity());
+        self.slots.reserve(growth)
+    }
+
+    /// How many more may be given with no memory taken.
+    fn free(&self) -> usize
+        ensures { result ≡ self.now.room }
+    {
+        self.slots.capacity() - self.slots.len()
     }
 
     /// Closes the slots of the grants that were taken back.
