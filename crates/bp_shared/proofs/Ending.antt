@@ -1,5 +1,5 @@
 -- The room that a list keeps, after the end of device work that its newest entry began.
-use Rattle.std.proofs.Common.{rules, ◌≡◌, refl, sym, ap, subst, ◌∙◌, eqb, eq-eqb, ℕ, ◌+◌, ◌-◌, ◌≤◌, Bool, true, false, All, List, [], ◌∷◌, ◌++◌, length, filter, reverse, length-append, arith, Some, None}
+use Rattle.std.proofs.Common.{rules, ◌≡◌, refl, sym, ap, subst, ◌∙◌, eqb, ℕ, ◌+◌, ◌-◌, ◌≤◌, Bool, true, false, All, List, [], ◌∷◌, ◌++◌, length, filter, reverse, length-append, arith, Some, None}
 use Rattle.std.proofs.lemmas.List.{reverse-append}
 use Rattle.std.proofs.lemmas.List.Elements.{All-append}
 use Rattle.std.specs.Prelude.{not, if◌then◌else◌}
@@ -8,12 +8,12 @@ use Rattle.bp_trail.specs.declared.entries.Reply.{Reply}
 use Rattle.bp_trail.specs.declared.entries.Reply.TheVariants.{Hit, Load, WriteFirst, Fixed, ReadFailed}
 use Rattle.bp_core.specs.declared.passes.ReadTicket.{ReadTicket}
 use Rattle.bp_core.specs.declared.passes.WriteTicket.{WriteTicket}
-use Rattle.bp_trail.specs.Lists.{without, and_given}
-use Rattle.bp_trail.specs.Event.{Grant, grant, pass_given, read_ticket_given, write_ticket_given, write_ticket_back}
+use Rattle.bp_trail.specs.Lists.{and_given}
+use Rattle.bp_trail.specs.Event.{Grant, grant, pass_given}
 use Rattle.bp_trail.specs.Trail.{Trail}
-use Rattle.bp_trail.specs.Passes.{passes_out, reads_out, writes_out}
+use Rattle.bp_trail.specs.Passes.{passes_out}
 use Rattle.bp_trail.specs.Pieces.{by}
-use Rattle.bp_shared.specs.Books.{KeepsRoom, plain_reply, OwesRead, OwesWrite, OwesWriteEnd}
+use Rattle.bp_shared.specs.Books.{KeepsRoom, plain_reply, tickets_given, open_tickets, OwesRead, OwesWrite, OwesWriteEnd}
 
 pub filter_le : {X : Type 0} (p : X → Bool) (xs : List X) → length (filter p xs) ≤ length xs
 filter_le p [] = omega arith
@@ -22,17 +22,12 @@ filter_le p (x ∷ xs) = elim (p x) as (λ b. length (if◌then◌else◌ b (x �
 abbrev pub others : ℕ → Grant → Bool
 others n g = not (eqb g.serial n)
 
-one_fewer : (g : Grant) (gs : List Grant) → length (filter (others g.serial) (g ∷ gs)) + 1 ≤ length (g ∷ gs)
-one_fewer g gs = rw (eq-eqb g.serial g.serial refl) (omega (arith, filter_le (others g.serial) gs))
+-- device work that the newest entry began has an open ticket
+pub read_owed : (client : ℕ) (ticket : ReadTicket) (said : Trail) → OwesRead client ticket said → 1 ≤ open_tickets said
+read_owed client ticket said o = subst (λ (es : Trail). 1 ≤ open_tickets es) (sym o.gave) (omega arith)
 
--- a read that the newest entry began is out, and no more so after its end
-pub read_owed : (client : ℕ) (ticket : ReadTicket) (said : Trail) → OwesRead client ticket said → length (filter (others ticket.serial) (reads_out said)) + 1 ≤ length (reads_out said)
-read_owed client ticket said o =
-    subst (λ (es : Trail). length (filter (others ticket.serial) (reads_out es)) + 1 ≤ length (reads_out es)) (sym o.gave) (one_fewer (grant client ticket.page ticket.serial) (reads_out o.before))
-
-pub write_owed : (client ticket : ℕ) (said : Trail) → OwesWriteEnd client ticket said → length (filter (others ticket) (writes_out said)) + 1 ≤ length (writes_out said)
-write_owed client ticket said o =
-    subst (λ (es : Trail). length (filter (others ticket) (writes_out es)) + 1 ≤ length (writes_out es)) (sym o.gave) (one_fewer (grant client o.page ticket) (without (λ g. g.serial) (write_ticket_back o.call) (writes_out o.before)))
+pub write_owed : (client ticket : ℕ) (said : Trail) → OwesWriteEnd client ticket said → 1 ≤ open_tickets said
+write_owed client ticket said o = subst (λ (es : Trail). 1 ≤ open_tickets es) (sym o.gave) (omega arith)
 
 pub owes_write_end : (client : ℕ) (ticket : WriteTicket) (said : Trail) → OwesWrite client ticket said → OwesWriteEnd client ticket.serial said
 owes_write_end client ticket said o = record { call = o.call; page = ticket.page; image = ticket.image; before = o.before; gave = o.gave }
@@ -49,10 +44,10 @@ keeps_loaded client size said after held held' tickets kept kept' blanks blanks'
     record {
       held_are = holds ∙ ap (λ gs. gs ++ g ∷ []) r.held_are ∙ sym (reverse-append (g ∷ []) (passes_out said)) ∙ ap (λ es. reverse (passes_out es)) (sym grows);
       own = subst (All (λ g. g.client ≡ client)) (sym holds) (All-append (λ (g : Grant). g.client ≡ client) held (g ∷ []) r.own (search rules));
-      few = subst (λ es. length (reads_out es) + length (writes_out es) ≤ tickets - 1) (sym grows) (omega (arith, fewer, r.few));
-      entries_fit = omega (arith, r.entries_fit, len, more, same_c, fewer, r.few);
-      passes_fit = omega (arith, r.passes_fit, len, same_h, fewer, r.few);
-      copies_fit = omega (arith, r.copies_fit, most, fewer, r.few);
+      tickets_are = subst (λ (es : Trail). tickets - 1 ≡ open_tickets es) (sym grows) (omega (arith, r.tickets_are));
+      entries_fit = omega (arith, r.entries_fit, len, more, same_c, fewer, r.tickets_are);
+      passes_fit = omega (arith, r.passes_fit, len, same_h, fewer, r.tickets_are);
+      copies_fit = omega (arith, r.copies_fit, most, fewer, r.tickets_are);
       sized = sized;
     }
 
@@ -65,8 +60,8 @@ keeps_not_loaded client size said after held tickets kept kept' blanks c c' h ti
     record {
       held_are = r.held_are ∙ ap (λ es. reverse (passes_out es)) (sym grows);
       own = r.own;
-      few = subst (λ es. length (reads_out es) + length (writes_out es) ≤ tickets - 1) (sym grows) (omega (arith, fewer, r.few));
-      entries_fit = omega (arith, r.entries_fit, more, same_c, fewer, r.few);
+      tickets_are = subst (λ (es : Trail). tickets - 1 ≡ open_tickets es) (sym grows) (omega (arith, r.tickets_are));
+      entries_fit = omega (arith, r.entries_fit, more, same_c, fewer, r.tickets_are);
       passes_fit = omega (arith, r.passes_fit);
       copies_fit = omega (arith, r.copies_fit);
       sized = r.sized;
@@ -82,17 +77,16 @@ keeps_written client size said after held tickets kept kept' blanks c c' h ticke
     record {
       held_are = r.held_are ∙ ap reverse (sym (ap (λ o. and_given o (passes_out said)) p.0)) ∙ ap (λ es. reverse (passes_out es)) (sym grows);
       own = r.own;
-      few = subst (λ es. length (reads_out es) + length (writes_out es) ≤ tickets - 1) (sym grows)
-          (rw (ap (λ o. and_given o (reads_out said)) p.1, ap (λ o. and_given o (filter (others ticket) (writes_out said))) p.2) (omega (arith, fewer, r.few)));
-      entries_fit = omega (arith, r.entries_fit, more, same_c, fewer, r.few);
+      tickets_are = subst (λ (es : Trail). tickets - 1 ≡ open_tickets es) (sym grows) (omega (arith, p.1, r.tickets_are));
+      entries_fit = omega (arith, r.entries_fit, more, same_c, fewer, r.tickets_are);
       passes_fit = omega (arith, r.passes_fit);
       copies_fit = omega (arith, r.copies_fit);
       sized = r.sized;
     }
   where
-    plain-with : (client page : ℕ) (reply : Reply) → plain_reply reply ≡ true → (pass_given client page reply ≡ None) × (read_ticket_given client page reply ≡ None) × (write_ticket_given client reply ≡ None)
+    plain-with : (client page : ℕ) (reply : Reply) → plain_reply reply ≡ true → (pass_given client page reply ≡ None) × (tickets_given reply ≡ 0)
     plain-with client page (Hit n) h = cc
     plain-with client page (Fixed n) h = cc
     plain-with client page (Load t v) h = cc
     plain-with client page (WriteFirst t p image) h = cc
-    plain-with client page _ h = (refl, refl, refl)
+    plain-with client page _ h = (refl, refl)

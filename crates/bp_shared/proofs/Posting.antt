@@ -8,11 +8,11 @@ use Rattle.bp_trail.specs.declared.entries.Call.TheVariants.{Unfix}
 use Rattle.bp_trail.specs.declared.entries.Reply.TheVariants.{Done}
 use Rattle.bp_trail.specs.Event.{Grant, same_grant}
 use Rattle.bp_trail.specs.Trail.{Trail}
-use Rattle.bp_trail.specs.Passes.{passes_out, reads_out, writes_out}
+use Rattle.bp_trail.specs.Passes.{passes_out}
 use Rattle.bp_trail.specs.Legal.{is_out}
 use Rattle.bp_trail.specs.Pieces.{by}
 use Rattle.bp_trail.proofs.Counting.{filter-reverse}
-use Rattle.bp_shared.specs.Books.{KeepsRoom}
+use Rattle.bp_shared.specs.Books.{KeepsRoom, open_tickets}
 use Rattle.bp_shared.proofs.Ending.{filter_le, others}
 
 out-reversed : (g : Grant) (gs : List Grant) → is_out g (reverse gs) ≡ true → is_out g gs ≡ true
@@ -52,7 +52,7 @@ keeps_unfixed client size said after held held' tickets kept kept' blanks c c' h
     record {
       held_are = holds ∙ ap (filter (others g.serial)) r.held_are ∙ sym (filter-reverse (others g.serial) (passes_out said)) ∙ ap (λ es. reverse (passes_out es)) (sym grows);
       own = subst (All (λ (x : Grant). x.client ≡ client)) (sym holds) (All-filter (others g.serial) (λ (x : Grant). x.client ≡ client) held r.own);
-      few = subst (λ es. length (reads_out es) + length (writes_out es) ≤ tickets) (sym grows) r.few;
+      tickets_are = subst (λ (es : Trail). tickets ≡ open_tickets es) (sym grows) (omega (arith, r.tickets_are));
       entries_fit = omega (arith, r.entries_fit, fewer, more, same_c);
       passes_fit = omega (arith, r.passes_fit, fewer, same_h);
       copies_fit = r.copies_fit;

@@ -1,5 +1,5 @@
 -- What a session keeps for itself, and the room in which it keeps what it owes.
-use Rattle.std.specs.Prelude.{◌≡◌, ℕ, ◌+◌, ◌*◌, ◌≤◌, Bool, true, false, List, ◌∷◌, length, All, Option}
+use Rattle.std.specs.Prelude.{◌≡◌, ℕ, ◌+◌, ◌-◌, ◌*◌, ◌≤◌, Bool, true, false, List, [], ◌∷◌, length, All, Option}
 use Rattle.bp_core.specs.declared.passes.ReadTicket.{ReadTicket}
 use Rattle.bp_core.specs.declared.passes.WriteTicket.{WriteTicket}
 use Rattle.bp_trail.specs.declared.entries.Call.{Call}
@@ -8,7 +8,6 @@ use Rattle.bp_trail.specs.declared.entries.Reply.{Reply}
 use Rattle.bp_trail.specs.declared.entries.Reply.TheVariants.{Hit, Load, WriteFirst, Fixed}
 use Rattle.bp_trail.specs.Event.{Grant}
 use Rattle.bp_trail.specs.Trail.{Trail}
-use Rattle.bp_trail.specs.Passes.{reads_out, writes_out}
 use Rattle.bp_trail.specs.Pieces.{by}
 use Rattle.bp_trail.specs.Script.{held_passes}
 use Rattle.bp_shared.specs.Rings.{unfixes}
@@ -51,12 +50,32 @@ pub record Tells (old : BookValue) (call : Call) (reply : Reply) (new : BookValu
   pub before : new.before ≡ old.before
   pub said : new.said ≡ by old.client call reply ∷ old.said
 
--- the passes held are those that the list leaves out, and there is room for what is owed: an unfix for each of them; for each ticket out an end,
--- an unfix and a copy of an image
+-- the tickets that an entry gives, and those that it ends
+abbrev pub tickets_given : Reply → ℕ
+tickets_given (Load t victim) = 1
+tickets_given (WriteFirst t p image) = 1
+tickets_given _ = 0
+
+abbrev pub tickets_ended : Call → ℕ
+tickets_ended (ReadEnd t p image) = 1
+tickets_ended (WriteEnd t p good) = 1
+tickets_ended _ = 0
+
+-- how many tickets a list, newest first, was given and did not end
+abbrev pub open_tickets : Trail → ℕ
+open_tickets [] = 0
+open_tickets (e ∷ before) = tickets_given e.reply + (open_tickets before - tickets_ended e.call)
+
+-- the entries that a list still owes: an unfix for each pass held, and an end and an unfix for each open ticket
+abbrev pub owed : Trail → ℕ
+owed said = length (held_passes said) + 2 * open_tickets said
+
+-- the passes held are those that the list leaves out, and there is room for what is owed: an unfix for each of them;
+-- for each open ticket an end, an unfix and a copy of an image
 pub record KeepsRoom (client size : ℕ) (said : Trail) (held : List Grant) (tickets kept : ℕ) (blanks : List (List ℕ)) (for_said for_held : ℕ) : Type 0 where
   pub held_are : held ≡ held_passes said
   pub own : All (λ g. g.client ≡ client) held
-  pub few : length (reads_out said) + length (writes_out said) ≤ tickets
+  pub tickets_are : tickets ≡ open_tickets said
   pub entries_fit : kept + (length held + 2 * tickets) ≤ for_said
   pub passes_fit : length held + tickets ≤ for_held
   pub copies_fit : tickets ≤ length blanks

@@ -1,12 +1,12 @@
 //! What a session keeps for itself: its own list of entries, with room for all that the list still owes.
-ghost use Rattle.std.specs.Prelude.{◌≡◌, ◌≤◌, ◌<◌, ◌+◌, ◌-◌, ◌*◌, ◌∷◌, ◌++◌, [], ◌==◌, true, not, filter, All, Some, None, length, reverse, IfOk, IfSome, OnOk, OnErr, vec_len, vec_capacity};
+ghost use Rattle.std.specs.Prelude.{◌≡◌, ◌≤◌, ◌<◌, ◌+◌, ◌-◌, ◌*◌, ◌∷◌, ◌++◌, [], ◌==◌, true, not, filter, All, Some, None, length, reverse, IsOk, IfOk, IfSome, OnOk, OnErr, vec_len, vec_capacity};
 ghost use Rattle.bp_trail.specs.declared.entries.Call.TheVariants as Call;
 ghost use Rattle.bp_trail.specs.declared.entries.Reply.TheVariants as Reply;
 ghost use Rattle.bp_trail.specs.Event.{grant, same_grant};
 ghost use Rattle.bp_trail.specs.Passes.{passes_out};
 ghost use Rattle.bp_trail.specs.Legal.{is_out};
 ghost use Rattle.bp_trail.specs.Script.{held_passes};
-ghost use Rattle.bp_shared.specs.Books.{BookValue, SameBook, Tells, plain_call, plain_reply, OwesRead, OwesWrite};
+ghost use Rattle.bp_shared.specs.Books.{BookValue, SameBook, Tells, plain_call, plain_reply, OwesRead, OwesWrite, owed};
 
 mod asking;
 mod ending;
@@ -152,6 +152,7 @@ impl Book {
         ensures before { OnOk result (self.new.before ≡ self.old.said) }
         ensures unchanged { OnErr result (self.new.before ≡ self.old.before) }
         ensures refused { OnErr result (result ≡ Err Refusal.OutOfMemory) }
+        ensures enough { owed self.old.said ≤ vec_capacity spare → IsOk result }
     {
         match self.said.cut(spare, self.held.len() + 2 * self.tickets) {
             Ok(entries) => Ok(entries),

@@ -33,10 +33,11 @@ impl<N: PoolName> Model for Session<N> {
 }
 
 impl<N: PoolName> Session<N> {
-    ghost use Rattle.std.specs.Prelude.{◌≡◌, ◌<◌, ◌++◌, [], reverse, IfOk, OnOk, OnErr};
+    ghost use Rattle.std.specs.Prelude.{◌≡◌, ◌<◌, ◌++◌, ◌≤◌, [], reverse, IsOk, IfOk, OnOk, OnErr, vec_capacity};
     ghost use Rattle.bp_page.specs.declared.refusals.Refusal.TheVariants as Refusal;
     ghost use Rattle.rtrb.specs.Ring.{sent};
     ghost use Rattle.bp_trail.specs.Script.{held_passes};
+    ghost use Rattle.bp_shared.specs.Books.{owed};
     ghost use Rattle.bp_shared.specs.Sessions.{UnfixSaid};
 
     /// A session that said nothing yet.
@@ -88,25 +89,28 @@ impl<N: PoolName> Session<N> {
         self.book.into_said()
     }
 
-    /// Hands out what earlier cuts left of the list, the oldest entry first. All else goes on: the passes held, and the room for what is
-    /// owed. It takes no lock, and may be called between any two calls of the session. Memory is wanted only where passes are held;
-    /// where it is refused, which is `OutOfMemory`, nothing changes.
+    /// Hands out what earlier cuts left of the list, the oldest entry first. All else goes on: the passes held, and the
+    /// room for what is owed. It takes no lock, and may be called between any two calls of the session. Memory is wanted
+    /// only where entries are owed; where it is refused, which is `OutOfMemory`, nothing changes.
     pub fn cut(&mut self) -> Result<Vec<Entry>, Refusal>
         ensures entries { IfOk result (λ entries. reverse entries.items ++ self.old.before ≡ self.old.said) }
         ensures after { OnOk result (self.new ≡ record self.old { before = self.old.said }) }
         ensures unchanged { OnErr result (self.new ≡ self.old) }
         ensures refused { OnErr result (result ≡ Err Refusal.OutOfMemory) }
+        ensures enough { owed self.old.said ≡ 0 → IsOk result }
     {
         self.cut_into(Vec::new(self.book.alloc))
     }
 
-    /// A cut that goes on in the memory of a spare list: more is taken only where that has not the room for what is owed.
-    /// What the spare has is dropped.
+    /// A cut that goes on in the memory of a spare list. It is not refused where that has room for the entries that are
+    /// owed: one for each pass held, and two for each ticket that the list was given and did not end. What the spare has
+    /// is dropped.
     pub fn cut_into(&mut self, spare: Vec<Entry>) -> Result<Vec<Entry>, Refusal>
         ensures entries { IfOk result (λ entries. reverse entries.items ++ self.old.before ≡ self.old.said) }
         ensures after { OnOk result (self.new ≡ record self.old { before = self.old.said }) }
         ensures unchanged { OnErr result (self.new ≡ self.old) }
         ensures refused { OnErr result (result ≡ Err Refusal.OutOfMemory) }
+        ensures enough { owed self.old.said ≤ vec_capacity spare → IsOk result }
     {
         self.book.cut(spare)
     }

@@ -28,7 +28,7 @@ invariant_of-self-in-Err-Unknown c =
     record {
       held_are = r.held_are;
       own = r.own;
-      few = r.few;
+      tickets_are = r.tickets_are;
       entries_fit = r.entries_fit;
       passes_fit = r.passes_fit;
       copies_fit = search rules;
