@@ -3,6 +3,7 @@ use Rattle.std.proofs.Common.{◌≡◌, refl, sym, ap, subst, ◌∙◌, ◌≤
 use Rattle.std.specs.declared.vec.Vec.{Vec}
 use Rattle.rtrb.specs.declared.producer.Producer.{Producer}
 use Rattle.rtrb.specs.Ring.{sent}
+use Rattle.bp_page.specs.declared.refusals.Refusal.TheVariants as refusal
 use Rattle.bp_trail.specs.declared.entries.Entry.{Entry}
 use Rattle.bp_trail.specs.Parameters.{Parameters}
 use Rattle.bp_trail.specs.Trail.{Trail}
@@ -11,10 +12,10 @@ use Rattle.bp_trail.specs.Cuts.{LeadsOn}
 use Rattle.bp_trail.specs.Legal.{Legal}
 use Rattle.bp_trail.specs.Standing.{standing}
 use Rattle.bp_core.specs.CoreView.{CoreView}
-use Rattle.bp_core.specs.Outcomes.{Cuts}
+use Rattle.bp_core.specs.Outcomes.{Cuts, CutRefused}
 use Rattle.bp_mark.specs.Marks.{MarkName, ReaderValue}
 use Rattle.bp_shared.specs.Locked.{IsLocked}
-use Rattle.bp_shared.specs.Taking.{RingName, ring_of, IsEmptied, TakerValue, after_pieces, IsHandedOut, ComesNext}
+use Rattle.bp_shared.specs.Taking.{RingName, ring_of, IsEmptied, TakerValue, after_pieces, IsHandedOut, ComesNext, GaveTooMany}
 
 pub one_more : {A : Type 0} (before : Trail) (sent : List (Vec Entry A)) (piece : Vec Entry A) → after_pieces before (sent ++ piece ∷ []) ≡ reverse piece.items ++ after_pieces before sent
 one_more before [] piece = refl
@@ -59,6 +60,20 @@ comes_next c had has mid new entries same is takes cut = record { joins = takes;
         (subst (λ p. LeadsOn c (standing c mid.before) (reverse entries) (standing p new.before)) same_new
         (subst (λ p. LeadsOn p (standing p mid.before) (reverse entries) (standing new.parameters new.before)) same
         cut.leads_on)))
+
+-- why a cut was refused, in the words of its taker
+pub gave_too_many : (c : Parameters) (had : TakerValue) (mid core : CoreView) (entries : List Entry) → mid.parameters ≡ c
+    → had.past ≡ mid.before → reverse entries ++ core.before ≡ core.past → Legal core.parameters core.past
+    → CutRefused mid refusal.ClockFull core → GaveTooMany c had
+gave_too_many c had mid core entries same is whole legal refused = record {
+  past = mid.past;
+  piece = reverse entries;
+  goes_on =
+      sym (subst (λ (n : CoreView). reverse entries ++ n.before ≡ n.past) refused.1 whole)
+      ∙ ap (λ b. reverse entries ++ b) (sym is);
+  legal = subst (λ p. Legal p mid.past) same (subst (λ (n : CoreView). Legal n.parameters n.past) refused.1 legal);
+  many = refused.0;
+}
 
 pub still_locked : (mark : MarkName) (c : Parameters) (old mid new : CoreView) (reader : ReaderValue) (entries : List Entry) → IsLocked mark c old reader → mid.parameters ≡ old.parameters → durable mid.past ≡ durable old.past → Cuts mid entries new
     → IsLocked mark c new reader

@@ -1,5 +1,5 @@
 -- The trail of a pool, as it is taken piece by piece.
-use Rattle.std.specs.Prelude.{◌≡◌, ℕ, List, [], ◌∷◌, ◌++◌, reverse}
+use Rattle.std.specs.Prelude.{◌≡◌, ◌⊎◌, ℕ, ◌<◌, ◌^◌, List, [], ◌∷◌, ◌++◌, reverse}
 use Rattle.std.specs.declared.vec.Vec.{Vec}
 use denote.RawPtr.{Ptr, null_ptr}
 use Rattle.rtrb.specs.declared.producer.Producer.{Producer}
@@ -8,6 +8,7 @@ use Rattle.rtrb.specs.Ring.{sent, known_free, producer_capacity}
 use Rattle.bp_trail.specs.declared.entries.Entry.{Entry}
 use Rattle.bp_trail.specs.Parameters.{Parameters}
 use Rattle.bp_trail.specs.Trail.{Trail}
+use Rattle.bp_trail.specs.Passes.{passes, tickets}
 use Rattle.bp_trail.specs.Cuts.{LeadsOn}
 use Rattle.bp_trail.specs.Legal.{Legal}
 use Rattle.bp_trail.specs.Standing.{standing}
@@ -56,6 +57,14 @@ pub record ComesNext (c : Parameters) (had : TakerValue) (entries : List Entry) 
   pub joins : has.past ≡ reverse entries ++ had.past
   pub leads_on : LeadsOn c (standing c had.past) (reverse entries) (standing c has.past)
   pub legal : Legal c has.past
+
+-- the core's entries, which go on lawfully from all that its taker had, gave more than 2^62 passes or tickets
+pub record GaveTooMany (c : Parameters) (had : TakerValue) : Type 0 where
+  pub past : Trail
+  pub piece : Trail
+  pub goes_on : past ≡ piece ++ had.past
+  pub legal : Legal c past
+  pub many : (2 ^ 62 < passes past) ⊎ (2 ^ 62 < tickets past)
 
 -- the rings were drained, then the core was cut; and its taker, which had all that was handed out, got exactly that piece
 pub record HandsOut (old : LockedValue) (had : TakerValue) (entries : List Entry) (new : LockedValue) (has : TakerValue) : Type 0 where

@@ -69,7 +69,7 @@ impl<N: PoolName> SharedPool<N> {
     ghost use Rattle.bp_page.specs.declared.refusals.Refusal.TheVariants as Refusal;
     ghost use Rattle.bp_trail.specs.Clock.{durable};
     ghost use Rattle.bp_shared.specs.Sessions.{new_sessions, UnfixSaid};
-    ghost use Rattle.bp_shared.specs.Taking.{ComesNext};
+    ghost use Rattle.bp_shared.specs.Taking.{ComesNext, GaveTooMany};
 
     /// A pool over a core, and one session for each client, in order. The reader is the mark's, and has seen what the core was told.
     ///
@@ -155,6 +155,7 @@ impl<N: PoolName> SharedPool<N> {
         ensures memory { IfOk result (λ entries. N.parameters.room ≤ vec_capacity entries) }
         ensures unchanged { OnErr result (taker.new ≡ taker.old) }
         ensures refused { OnErr result ((result ≡ Err Refusal.ClockFull) ⊎ (result ≡ Err Refusal.OutOfMemory)) }
+        ensures cause { result ≡ Err Refusal.ClockFull → GaveTooMany N.parameters taker.old }
     {
         self.cut_into(rt, taker, Vec::new(self.alloc))
     }
@@ -171,6 +172,7 @@ impl<N: PoolName> SharedPool<N> {
         ensures memory { IfOk result (λ entries. N.parameters.room ≤ vec_capacity entries) }
         ensures unchanged { OnErr result (taker.new ≡ taker.old) }
         ensures refused { OnErr result ((result ≡ Err Refusal.ClockFull) ⊎ (result ≡ Err Refusal.OutOfMemory)) }
+        ensures cause { result ≡ Err Refusal.ClockFull → GaveTooMany N.parameters taker.old }
         ensures enough { N.parameters.room ≤ vec_capacity spare → OnErr result (result ≡ Err Refusal.ClockFull) }
     {
         let mut empty = spare;

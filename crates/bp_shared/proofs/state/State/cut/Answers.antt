@@ -1,10 +1,13 @@
 -- The core is cut, and its taker gets the piece.
-use Rattle.std.proofs.Common.{rules, ◌≡◌, refl, sym, ap, ◌∙◌, length, map}
+use Rattle.std.proofs.Common.{rules, ◌≡◌, refl, sym, ap, subst, ◌∙◌, length, map}
 use Rattle.std.proofs.lemmas.List.{with_items_is}
+use Rattle.std.specs.Prelude.{IfErr}
 use Rattle.rtrb.specs.Ring.{received}
+use Rattle.bp_page.specs.declared.refusals.Refusal.TheVariants as refusal
+use Rattle.bp_core.specs.Outcomes.{CutRefused}
 use Rattle.bp_shared.specs.Rings.{ring_view}
 use Rattle.bp_shared.specs.Taking.{after_pieces}
-use Rattle.bp_shared.proofs.Taking.{one_more, handed_out, comes_next, still_locked}
+use Rattle.bp_shared.proofs.Taking.{one_more, handed_out, comes_next, gave_too_many, still_locked}
 use Rattle.bp_shared.proofs.state.State.cut.Goals as goal
 
 pub invariant_of-self-2 : goal.invariant_of-self-2
@@ -42,3 +45,16 @@ returns-clause-next g c =
     let entries = c.in-Ok.entries.items in
     rw (← c.taker.view_is) (rw passed.same
     (comes_next _ _ _ c.drain_all.new.core c.cut_into.new.self entries same had takes c.in-Ok.ensures.done))
+
+pub returns-in-Err-clause-cause : goal.returns-in-Err-clause-cause
+returns-in-Err-clause-cause g c =
+    let before = g.N.PoolName.before in
+    let drained = c.drain_all.ensures in
+    let mid = c.drain_all.new.core in
+    let core = c.cut_into.new.self in
+    let same = drained.parameters ∙ c.self.invariant.0.parameters_are in
+    let had = ap (after_pieces before) c.meet.ensures.all ∙ sym c.self.invariant.1.pieces_are ∙ sym drained.before in
+    let why = c.in-Err.ensures.enough (search rules) in
+    let full : CutRefused mid refusal.ClockFull core = subst (λ r. IfErr r (λ e. CutRefused mid e core)) why c.in-Err.ensures.refused in
+    rw (← c.taker.view_is)
+    (gave_too_many _ _ mid core c.trail.result.now same had c.trail.ensures.entries c.trail.ensures.legal full)
