@@ -22,7 +22,8 @@ use Rattle.bp_trail.specs.Script.{is_pass_of, latest_pass, WithPass, RowPiece, g
 use Rattle.bp_device.specs.declared.drivers.Flushed.{Flushed}
 use Rattle.bp_device.specs.Rows.{AreHeld}
 use Rattle.bp_device.proofs.PieceSteps.{find-there, at-first, at-second}
-use Rattle.bp_shared.specs.Sessions.{FixSaid, FlushSaid, ReadSaid, WriteSaid, TickSaid, PurgeSaid}
+use Rattle.bp_book.specs.Turns.{ReadSaid, WriteSaid, TickSaid, PurgeSaid}
+use Rattle.bp_shared.specs.Sessions.{FixSaid, FlushSaid}
 use Rattle.bp_clients.specs.Steps.{is_fault, as_fault, StepSaid}
 
 -- what a call without a result of its own answers

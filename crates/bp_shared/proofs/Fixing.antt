@@ -19,8 +19,8 @@ use Rattle.bp_trail.specs.Pieces.{by, FixGoesOn}
 use Rattle.bp_trail.specs.Pieces.Manner.{session}
 use Rattle.bp_trail.specs.Pieces.FixGoesOn.{begins, marked, waited, cleaned, still_dirty}
 use Rattle.bp_trail.specs.Pieces.FixPiece.{hit, fixed, no_victim, need_log, read_failed, write_failed, lost_read, lost_write, no_room, no_memory}
-use Rattle.bp_shared.specs.Books.{OwesRead, OwesWrite}
-use Rattle.bp_shared.specs.Turns.{is_busy, FixWaits, FixTurn, EndReadOutcome, EndWriteOutcome, LoadOutcome, WriteOutOutcome}
+use Rattle.bp_book.specs.Books.{OwesRead, OwesWrite}
+use Rattle.bp_book.specs.Turns.{is_busy, FixWaits, FixTurn, EndReadOutcome, EndWriteOutcome, LoadOutcome, WriteOutOutcome}
 use Rattle.bp_shared.specs.Sessions.{FixSaid}
 use Rattle.bp_device.specs.Drivers.{Gives}
 

@@ -18,7 +18,7 @@ use Rattle.bp_trail.specs.Pieces.FlushGoesOn.{begins, marked, waited}
 use Rattle.bp_trail.specs.Pieces.FlushPiece.{clean, absent, cleaned, still_dirty, need_log, write_failed, lost_write, no_room, no_memory}
 use Rattle.bp_device.specs.declared.drivers.Flushed.{Flushed}
 use Rattle.bp_device.specs.declared.drivers.Flushed.TheVariants as flushed
-use Rattle.bp_shared.specs.Turns.{is_busy, FlushWaits, FlushTurn, EndWriteOutcome, WriteOutOutcome}
+use Rattle.bp_book.specs.Turns.{is_busy, FlushWaits, FlushTurn, EndWriteOutcome, WriteOutOutcome}
 use Rattle.bp_shared.specs.Sessions.{FlushSaid}
 use Rattle.bp_device.specs.Drivers.{Gives, ended_reply, flushed_reply}
 use Rattle.bp_shared.proofs.Fixing.{is-busy}

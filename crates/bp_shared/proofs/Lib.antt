@@ -1,6 +1,3 @@
-pub mod Asking
-pub mod Ending
-pub mod Posting
 pub mod Draining
 pub mod Stepping
 pub mod Taking

@@ -10,8 +10,9 @@ use Rattle.bp_trail.specs.Pieces.{by}
 use Rattle.bp_trail.specs.Pieces.FixGoesOn.{begins as fix_begins, marked as fix_marked_by}
 use Rattle.bp_trail.specs.Pieces.FlushGoesOn.{begins as flush_begins, marked as flush_marked_by}
 use Rattle.bp_shared.specs.Rings.{DrainsRings}
-use Rattle.bp_shared.specs.Locked.{LockedValue, Alike, InStep}
-use Rattle.bp_shared.specs.Turns.{LookOutcome, AskFixOutcome, AskFlushOutcome, FixWaits, FlushWaits, FixTurn, FlushTurn}
+use Rattle.bp_book.specs.Books.{Alike}
+use Rattle.bp_shared.specs.Locked.{LockedValue, InStep}
+use Rattle.bp_book.specs.Turns.{LookOutcome, AskFixOutcome, AskFlushOutcome, FixWaits, FlushWaits, FixTurn, FlushTurn}
 
 -- rings drained, and no more so far
 pub step_none : (old new : LockedValue) (said after : Trail) → DrainsRings 32 old.rings new.rings old.core.past old.strays new.core.past new.strays → new.core.parameters ≡ old.core.parameters → new.core.before ≡ old.core.before → after ≡ said → InStep old said new after

@@ -1,6 +1,4 @@
--- What a session keeps and adds, and what the locked state does with it.
-pub mod Books
-pub mod Turns
+-- What a session's call adds to its list, and what the locked state does with it.
 pub mod Sessions
 pub mod Rings
 pub mod Locked

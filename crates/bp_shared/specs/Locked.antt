@@ -1,11 +1,10 @@
 -- What the locked state and a session's list have in common.
-use Rattle.std.specs.Prelude.{◌≡◌, ◌⊎◌, ℕ, ◌≤◌, List, ◌∷◌, ◌++◌}
+use Rattle.std.specs.Prelude.{◌≡◌, ℕ, ◌≤◌, List, ◌++◌}
 use Rattle.bp_mark.specs.Marks.{MarkName, ReaderValue}
-use Rattle.bp_trail.specs.declared.entries.Entry.{Entry}
 use Rattle.bp_trail.specs.Parameters.{Parameters}
 use Rattle.bp_trail.specs.Trail.{Trail}
 use Rattle.bp_trail.specs.Clock.{durable}
-use Rattle.bp_core.specs.CoreView.{CoreView, with_entry}
+use Rattle.bp_core.specs.CoreView.{CoreView}
 use Rattle.bp_shared.specs.Rings.{RingView, DrainsRings}
 
 -- no pool's parameters
@@ -23,10 +22,6 @@ pub record IsLocked (mark : MarkName) (parameters : Parameters) (core : CoreView
   pub reader_is : reader.mark ≡ mark
   pub parameters_are : core.parameters ≡ parameters
   pub seen : durable core.past ≤ reader.seen
-
--- the trail and the list get the same entry, or neither gets one
-abbrev pub Alike : CoreView → Trail → CoreView → Trail → Type 0
-Alike old said new after = ((new ≡ old) × (after ≡ said)) ⊎ ((e : Entry) × (new ≡ with_entry old e.client e.call e.reply) × (after ≡ e ∷ said))
 
 -- the rings were drained, and nothing else was done
 pub record Settled (old new : LockedValue) : Type 0 where

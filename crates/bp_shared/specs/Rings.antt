@@ -1,22 +1,12 @@
--- Passes that went back: those that a list of entries posted, and those that a locked core took from a ring.
-use Rattle.std.specs.Prelude.{◌≡◌, ◌⊎◌, ℕ, ◌+◌, min, ◌≤◌, ◌<◌, ◌^◌, ◌-◌, true, false, List, [], ◌∷◌, ◌++◌, length, reverse, filter_map, Option, Some, None}
+-- Passes that went back: those that a locked core took from a ring.
+use Rattle.std.specs.Prelude.{◌≡◌, ◌⊎◌, ℕ, ◌+◌, min, ◌≤◌, ◌<◌, ◌^◌, ◌-◌, true, false, List, [], ◌∷◌, ◌++◌, length, reverse}
 use Rattle.rtrb.specs.declared.consumer.Consumer.{Consumer}
 use Rattle.rtrb.specs.Ring.{received, known_items}
-use Rattle.bp_trail.specs.declared.entries.Call.{Call}
-use Rattle.bp_trail.specs.declared.entries.Call.TheVariants.{Unfix}
-use Rattle.bp_trail.specs.Event.{Grant, grant}
+use Rattle.bp_trail.specs.Event.{Grant}
 use Rattle.bp_trail.specs.Trail.{Trail}
 use Rattle.bp_trail.specs.Passes.{passes_out}
 use Rattle.bp_trail.specs.Legal.{is_out}
 use Rattle.bp_trail.specs.Script.{give_back}
-
-abbrev pub pass_unfixed : ℕ → Call → Option Grant
-pass_unfixed client (Unfix n p) = Some (grant client p n)
-pass_unfixed client _ = None
-
--- the passes that these entries gave back, newest first
-abbrev pub unfixes : Trail → List Grant
-unfixes past = filter_map (λ e. pass_unfixed e.client e.call) past
 
 -- one stray more, where the count still has room for it
 abbrev pub one_more : ℕ → ℕ

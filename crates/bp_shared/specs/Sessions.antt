@@ -4,8 +4,8 @@ use Rattle.bp_page.specs.declared.refusals.Refusal.{Refusal}
 use Rattle.bp_page.specs.Refusals.{number_of}
 use Rattle.bp_page.specs.declared.refusals.Refusal.TheVariants as refusal
 use Rattle.bp_core.specs.declared.passes.Pass.{Pass}
-use Rattle.bp_trail.specs.declared.entries.Call.TheVariants.{Tick, Read, Write, Unfix, Purge}
-use Rattle.bp_trail.specs.declared.entries.Reply.TheVariants.{Done, NeedLog, Content, Forgot}
+use Rattle.bp_trail.specs.declared.entries.Call.TheVariants.{Unfix}
+use Rattle.bp_trail.specs.declared.entries.Reply.TheVariants.{Done, NeedLog}
 use Rattle.bp_trail.specs.Event.{Grant, grant}
 use Rattle.bp_trail.specs.Trail.{Trail}
 use Rattle.bp_core.specs.Outcomes.{pass_is_out}
@@ -46,34 +46,6 @@ FixSaid client page (Err why) said after = Says (λ piece. FixPiece session clie
 abbrev pub FlushSaid : ℕ → ℕ → Result Flushed Refusal → Trail → Trail → Type 0
 FlushSaid client page (Ok how) said after = Says (λ piece. FlushPiece session client page piece accepted × Ends (flushed_reply how) piece) None said after
 FlushSaid client page (Err why) said after = Says (λ piece. FlushPiece session client page piece (refused (number_of why)) × Repeats why piece) None said after
-
--- calls of one event: the entry with the reply that the call answers, or a refusal and no entry; a pass is the client's own, or refused
-abbrev pub ReadSaid : ℕ → Pass → Result (List ℕ) Refusal → Trail → Trail → Type 0
-ReadSaid client pass (Ok image) said after = (pass.client ≡ client) × (after ≡ by client (Read pass.serial pass.page) (Content image) ∷ said)
-ReadSaid client pass (Err refusal.UnknownPass) said after = after ≡ said
-ReadSaid client pass (Err refusal.TrailFull) said after = (pass.client ≡ client) × (after ≡ said)
-ReadSaid client pass (Err refusal.OutOfMemory) said after = (pass.client ≡ client) × (after ≡ said)
-ReadSaid client pass (Err _) said after = ⊥
-
-abbrev pub WriteSaid : {A : Type 0} → ℕ → Pass → ℕ → List ℕ → ℕ → Result A Refusal → Trail → Trail → Type 0
-WriteSaid client pass offset bytes lsn (Ok done) said after = (pass.client ≡ client) × (after ≡ by client (Write pass.serial pass.page offset bytes lsn) Done ∷ said)
-WriteSaid client pass offset bytes lsn (Err refusal.UnknownPass) said after = after ≡ said
-WriteSaid client pass offset bytes lsn (Err refusal.TrailFull) said after = (pass.client ≡ client) × (after ≡ said)
-WriteSaid client pass offset bytes lsn (Err refusal.OutOfMemory) said after = (pass.client ≡ client) × (after ≡ said)
-WriteSaid client pass offset bytes lsn (Err _) said after = ⊥
-
-abbrev pub TickSaid : {A : Type 0} → ℕ → ℕ → Result A Refusal → Trail → Trail → Type 0
-TickSaid client n (Ok done) said after = after ≡ by client (Tick n) Done ∷ said
-TickSaid client n (Err refusal.TrailFull) said after = after ≡ said
-TickSaid client n (Err refusal.ClockFull) said after = after ≡ said
-TickSaid client n (Err refusal.OutOfMemory) said after = after ≡ said
-TickSaid client n (Err _) said after = ⊥
-
-abbrev pub PurgeSaid : ℕ → Result ℕ Refusal → Trail → Trail → Type 0
-PurgeSaid client (Ok n) said after = after ≡ by client Purge (Forgot n) ∷ said
-PurgeSaid client (Err refusal.TrailFull) said after = after ≡ said
-PurgeSaid client (Err refusal.OutOfMemory) said after = after ≡ said
-PurgeSaid client (Err _) said after = ⊥
 
 -- a pass that the list leaves out is posted, or finds the ring full; any other is unknown
 abbrev pub UnfixSaid : {A : Type 0} → ℕ → Pass → Result A (Pass × Refusal) → Trail → Trail → Type 0

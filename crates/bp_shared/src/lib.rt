@@ -4,11 +4,9 @@
 //! outside the lock (Gray and Reuter, chapter 13). A pass goes back through the session's own ring, with no lock.
 #![tactic(auto)]
 
-mod book;
 pub mod names;
 pub mod pool;
 mod posted;
-mod said;
 mod session;
 mod state;
 mod taker;

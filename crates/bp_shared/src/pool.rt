@@ -1,6 +1,6 @@
 //! The pool: a core behind a lock, and the mark that it looks at.
 ghost use Rattle.std.specs.Prelude.{◌≡◌};
-ghost use Rattle.bp_shared.specs.Turns.{is_busy};
+ghost use Rattle.bp_book.specs.Turns.{is_busy};
 
 use crate::names::PoolName;
 use crate::posted::Posted;

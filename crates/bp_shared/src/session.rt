@@ -1,6 +1,6 @@
 //! One client's end of a pool.
-use crate::book::Book;
 use crate::names::PoolName;
+use bp_book::Book;
 use bp_core::{Entry, Pass, PassNote};
 use bp_page::{Geometry, Refusal};
 use rtrb::{Producer, PushError};
@@ -21,8 +21,8 @@ pub struct Session<N: PoolName> {
 impl<N: PoolName> Model for Session<N> {
     ghost use Rattle.std.specs.Prelude.{◌≡◌, ◌<◌, reverse};
     ghost use Rattle.rtrb.specs.Ring.{sent};
+    ghost use Rattle.bp_book.specs.Books.{unfixes};
     ghost use Rattle.bp_shared.specs.Sessions.{SessionValue};
-    ghost use Rattle.bp_shared.specs.Rings.{unfixes};
 
     ghost Value = { SessionValue };
 
@@ -37,7 +37,7 @@ impl<N: PoolName> Session<N> {
     ghost use Rattle.bp_page.specs.declared.refusals.Refusal.TheVariants as Refusal;
     ghost use Rattle.rtrb.specs.Ring.{sent};
     ghost use Rattle.bp_trail.specs.Script.{held_passes};
-    ghost use Rattle.bp_shared.specs.Books.{owed};
+    ghost use Rattle.bp_book.specs.Books.{owed};
     ghost use Rattle.bp_shared.specs.Sessions.{UnfixSaid};
 
     /// A session that said nothing yet.
@@ -99,7 +99,8 @@ impl<N: PoolName> Session<N> {
         ensures refused { OnErr result (result ≡ Err Refusal.OutOfMemory) }
         ensures enough { owed self.old.said ≡ 0 → IsOk result }
     {
-        self.cut_into(Vec::new(self.book.alloc))
+        let alloc = self.book.alloc();
+        self.cut_into(Vec::new(alloc))
     }
 
     /// A cut that goes on in the memory of a spare list. It is not refused where that has room for the entries that are

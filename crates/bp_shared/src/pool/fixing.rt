@@ -11,8 +11,8 @@ use std::sync::Wait;
 
 impl<N: PoolName> SharedPool<N> {
     ghost use Rattle.std.specs.Prelude.{◌≡◌, ◌<◌};
-    ghost use Rattle.bp_shared.specs.Books.{OwesRead, OwesWrite};
-    ghost use Rattle.bp_shared.specs.Turns.{FixTurn, LoadOutcome, WriteOutOutcome};
+    ghost use Rattle.bp_book.specs.Books.{OwesRead, OwesWrite};
+    ghost use Rattle.bp_book.specs.Turns.{FixTurn, LoadOutcome, WriteOutOutcome};
     ghost use Rattle.bp_shared.specs.Sessions.{FixSaid};
 
     /// Reads a page with no lock held, ends the read, and wakes all that wait.

@@ -22,7 +22,7 @@ fn flushed_by(ended: Ended) -> Flushed
 
 impl<N: PoolName> SharedPool<N> {
     ghost use Rattle.std.specs.Prelude.{◌≡◌, ◌<◌};
-    ghost use Rattle.bp_shared.specs.Turns.{FlushTurn};
+    ghost use Rattle.bp_book.specs.Turns.{FlushTurn};
     ghost use Rattle.bp_shared.specs.Sessions.{FlushSaid};
 
     /// Takes the memory for one more event, and asks that a page be written out in one critical section. `Busy` and `OutOfMemory` as

@@ -10,7 +10,7 @@ use std::sync::Wait;
 
 impl<N: PoolName> SharedPool<N> {
     ghost use Rattle.std.specs.Prelude.{◌≡◌, ◌≢◌, ◌+◌, ◌≤◌, length};
-    ghost use Rattle.bp_shared.specs.Sessions.{TickSaid, PurgeSaid, ReadSaid, WriteSaid};
+    ghost use Rattle.bp_book.specs.Turns.{TickSaid, PurgeSaid, ReadSaid, WriteSaid};
 
     /// Moves the clock on. `OutOfMemory`, `TrailFull` and `ClockFull` change nothing.
     pub fn tick<R: Wait>(&self, rt: &R, session: &mut Session<N>, n: u64) -> Result<(), Refusal>

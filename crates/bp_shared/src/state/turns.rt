@@ -2,16 +2,16 @@
 //! which the session's list gets too; a fix and a flush first look at the mark once. None takes memory for the list: what an event
 //! wants there is taken before the lock.
 ghost use Rattle.std.specs.Prelude.{◌≡◌, ◌+◌, ◌<◌, ◌≤◌, length, IfOk};
-ghost use Rattle.bp_shared.specs.Books.{SameOwner, OwesRead, OwesWrite};
-ghost use Rattle.bp_shared.specs.Turns.{FixTurn, FlushTurn, EndReadOutcome, EndWriteOutcome};
-ghost use Rattle.bp_shared.specs.Sessions.{TickSaid, PurgeSaid, ReadSaid, WriteSaid};
+ghost use Rattle.bp_book.specs.Books.{SameOwner, OwesRead, OwesWrite};
+ghost use Rattle.bp_book.specs.Turns.{FixTurn, FlushTurn, EndReadOutcome, EndWriteOutcome};
+ghost use Rattle.bp_book.specs.Turns.{TickSaid, PurgeSaid, ReadSaid, WriteSaid};
 ghost use Rattle.bp_shared.specs.Locked.{InStep};
 
 use super::State;
 use super::draining::drain_all;
-use crate::book::Book;
 use crate::names::PoolName;
 use crate::session::Session;
+use bp_book::Book;
 use bp_core::{Ended, Fix, Flush, Pass, ReadTicket, WriteTicket};
 use bp_mark::Mark;
 use bp_page::{Bytes, Image, Lsn, PageNo, PortFault, Refusal};

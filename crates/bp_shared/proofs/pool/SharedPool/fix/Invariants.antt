@@ -1,6 +1,6 @@
 -- The turns so far.
 use Rattle.std.proofs.Common.{◌≡◌}
-use Rattle.bp_shared.specs.Turns.{FixWaits}
+use Rattle.bp_book.specs.Turns.{FixWaits}
 use Rattle.bp_shared.proofs.pool.SharedPool.fix.Given as goal
 
 abbrev pub invariant-loop : goal.invariant-loop

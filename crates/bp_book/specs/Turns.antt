@@ -1,0 +1,148 @@
+-- What each step of a session's call adds to its list.
+use Rattle.std.specs.Prelude.{◌≡◌, ◌⊎◌, ℕ, Bool, true, false, List, ◌∷◌, ◌++◌, Option, Some, None, Result, Ok, Err}
+use Rattle.bp_page.specs.declared.refusals.Refusal.{Refusal}
+use Rattle.bp_page.specs.declared.refusals.Refusal.TheVariants as refusal
+use Rattle.bp_page.specs.declared.refusals.PortFault.{PortFault}
+use Rattle.bp_core.specs.declared.passes.Pass.{Pass}
+use Rattle.bp_core.specs.declared.passes.ReadTicket.{ReadTicket}
+use Rattle.bp_core.specs.declared.passes.WriteTicket.{WriteTicket}
+use Rattle.bp_core.specs.declared.passes.Fix.{Fix as Fixing}
+use Rattle.bp_core.specs.declared.passes.Fix.TheVariants as fixing
+use Rattle.bp_core.specs.declared.passes.Flush.{Flush as Flushing}
+use Rattle.bp_core.specs.declared.passes.Flush.TheVariants as flushing
+use Rattle.bp_core.specs.declared.passes.Ended.{Ended}
+use Rattle.bp_trail.specs.declared.entries.Call.{Call}
+use Rattle.bp_trail.specs.declared.entries.Call.TheVariants.{Mark, Fix, ReadEnd, WriteEnd, Flush, Tick, Read, Write, Purge}
+use Rattle.bp_trail.specs.declared.entries.Reply.{Reply}
+use Rattle.bp_trail.specs.declared.entries.Reply.TheVariants.{Done, Hit, Load, WriteFirst, NoVictim, NeedLog, Busy, Fixed, ReadFailed, WriteFailed, Clean, Absent, Content, Forgot}
+use Rattle.bp_trail.specs.Trail.{Trail}
+use Rattle.bp_trail.specs.Pieces.{by, FixGoesOn, FlushGoesOn}
+use Rattle.bp_trail.specs.Pieces.Manner.{session}
+use Rattle.bp_device.specs.Drivers.{ended_reply}
+
+-- at most one mark, where memory was refused or the trail may have had no room for it
+abbrev pub look_refuses : Refusal → Bool
+look_refuses refusal.TrailFull = true
+look_refuses refusal.OutOfMemory = true
+look_refuses _ = false
+
+abbrev pub LookOutcome : {A : Type 0} → ℕ → Result A Refusal → Trail → Trail → Type 0
+LookOutcome client (Ok done) said after = (after ≡ said) ⊎ ((lsn : ℕ) × (after ≡ by client (Mark lsn) Done ∷ said))
+LookOutcome client (Err why) said after = (look_refuses why ≡ true) × (after ≡ said)
+
+-- a refusal that is an entry's reply
+abbrev pub refusal_reply : Refusal → Option Reply
+refusal_reply refusal.NoVictim = Some NoVictim
+refusal_reply (refusal.NeedLog lsn) = Some (NeedLog lsn)
+refusal_reply refusal.Busy = Some Busy
+refusal_reply _ = None
+
+abbrev pub and_told : ℕ → Call → Option Reply → Trail → Trail
+and_told client call None said = said
+and_told client call (Some reply) said = by client call reply ∷ said
+
+-- the refusals of one event
+abbrev pub flush_refuses : Refusal → Bool
+flush_refuses (refusal.NeedLog lsn) = true
+flush_refuses refusal.Busy = true
+flush_refuses refusal.TrailFull = true
+flush_refuses refusal.OutOfMemory = true
+flush_refuses _ = false
+
+abbrev pub fix_refuses : Refusal → Bool
+fix_refuses refusal.NoVictim = true
+fix_refuses why = flush_refuses why
+
+-- somebody else has the page in flight
+abbrev pub is_busy : Refusal → Bool
+is_busy refusal.Busy = true
+is_busy _ = false
+
+-- one fix event
+abbrev pub AskFixOutcome : ℕ → ℕ → Result Fixing Refusal → Trail → Trail → Type 0
+AskFixOutcome client page (Ok (fixing.Hit pass)) said after = (pass.client ≡ client) × (pass.page ≡ page) × (after ≡ by client (Fix page) (Hit pass.serial) ∷ said)
+AskFixOutcome client page (Ok (fixing.Load ticket evicted)) said after = (ticket.client ≡ client) × (ticket.page ≡ page) × (after ≡ by client (Fix page) (Load ticket.serial evicted) ∷ said)
+AskFixOutcome client page (Ok (fixing.WriteFirst ticket)) said after = (ticket.client ≡ client) × (after ≡ by client (Fix page) (WriteFirst ticket.serial ticket.page ticket.image) ∷ said)
+AskFixOutcome client page (Err why) said after = (fix_refuses why ≡ true) × (after ≡ and_told client (Fix page) (refusal_reply why) said)
+
+-- one flush event
+abbrev pub AskFlushOutcome : ℕ → ℕ → Result Flushing Refusal → Trail → Trail → Type 0
+AskFlushOutcome client page (Ok flushing.Clean) said after = after ≡ by client (Flush page) Clean ∷ said
+AskFlushOutcome client page (Ok flushing.Absent) said after = after ≡ by client (Flush page) Absent ∷ said
+AskFlushOutcome client page (Ok (flushing.WriteFirst ticket)) said after =
+    (ticket.client ≡ client) × (ticket.page ≡ page) × (after ≡ by client (Flush page) (WriteFirst ticket.serial ticket.page ticket.image) ∷ said)
+AskFlushOutcome client page (Err why) said after = (flush_refuses why ≡ true) × (after ≡ and_told client (Flush page) (refusal_reply why) said)
+
+-- calls of one event: the entry with the reply that the call answers, or a refusal and no entry; a pass is the client's own, or refused
+abbrev pub ReadSaid : ℕ → Pass → Result (List ℕ) Refusal → Trail → Trail → Type 0
+ReadSaid client pass (Ok image) said after = (pass.client ≡ client) × (after ≡ by client (Read pass.serial pass.page) (Content image) ∷ said)
+ReadSaid client pass (Err refusal.UnknownPass) said after = after ≡ said
+ReadSaid client pass (Err refusal.TrailFull) said after = (pass.client ≡ client) × (after ≡ said)
+ReadSaid client pass (Err refusal.OutOfMemory) said after = (pass.client ≡ client) × (after ≡ said)
+ReadSaid client pass (Err _) said after = ⊥
+
+abbrev pub WriteSaid : {A : Type 0} → ℕ → Pass → ℕ → List ℕ → ℕ → Result A Refusal → Trail → Trail → Type 0
+WriteSaid client pass offset bytes lsn (Ok done) said after = (pass.client ≡ client) × (after ≡ by client (Write pass.serial pass.page offset bytes lsn) Done ∷ said)
+WriteSaid client pass offset bytes lsn (Err refusal.UnknownPass) said after = after ≡ said
+WriteSaid client pass offset bytes lsn (Err refusal.TrailFull) said after = (pass.client ≡ client) × (after ≡ said)
+WriteSaid client pass offset bytes lsn (Err refusal.OutOfMemory) said after = (pass.client ≡ client) × (after ≡ said)
+WriteSaid client pass offset bytes lsn (Err _) said after = ⊥
+
+abbrev pub TickSaid : {A : Type 0} → ℕ → ℕ → Result A Refusal → Trail → Trail → Type 0
+TickSaid client n (Ok done) said after = after ≡ by client (Tick n) Done ∷ said
+TickSaid client n (Err refusal.TrailFull) said after = after ≡ said
+TickSaid client n (Err refusal.ClockFull) said after = after ≡ said
+TickSaid client n (Err refusal.OutOfMemory) said after = after ≡ said
+TickSaid client n (Err _) said after = ⊥
+
+abbrev pub PurgeSaid : ℕ → Result ℕ Refusal → Trail → Trail → Type 0
+PurgeSaid client (Ok n) said after = after ≡ by client Purge (Forgot n) ∷ said
+PurgeSaid client (Err refusal.TrailFull) said after = after ≡ said
+PurgeSaid client (Err refusal.OutOfMemory) said after = after ≡ said
+PurgeSaid client (Err _) said after = ⊥
+
+-- marks and waits so far, after which the fix or the flush goes on
+pub record FixWaits (client page : ℕ) (said after : Trail) : Type 0 where
+  pub piece : Trail
+  pub goes_on : FixGoesOn session client page piece
+  pub grows : after ≡ piece ++ said
+
+pub record FlushWaits (client page : ℕ) (said after : Trail) : Type 0 where
+  pub piece : Trail
+  pub goes_on : FlushGoesOn session client page piece
+  pub grows : after ≡ piece ++ said
+
+-- one turn of it: at most one mark, and then the event
+pub record FixTurn (client page : ℕ) (answer : Result Fixing Refusal) (said after : Trail) : Type 0 where
+  pub marked : Trail
+  pub waits : FixWaits client page said marked
+  pub asks : AskFixOutcome client page answer marked after
+
+pub record FlushTurn (client page : ℕ) (answer : Result Flushing Refusal) (said after : Trail) : Type 0 where
+  pub marked : Trail
+  pub waits : FlushWaits client page said marked
+  pub asks : AskFlushOutcome client page answer marked after
+
+-- the end of a read, by what was read; a ticket that the pool does not know leaves no entry
+abbrev pub EndReadOutcome : ReadTicket → Result (List ℕ) PortFault → Result Pass Refusal → Trail → Trail → Type 0
+EndReadOutcome ticket (Ok image) (Ok pass) said after =
+    (pass.client ≡ ticket.client) × (pass.page ≡ ticket.page) × (after ≡ by ticket.client (ReadEnd ticket.serial ticket.page (Some image)) (Fixed pass.serial) ∷ said)
+EndReadOutcome ticket (Err fault) (Err refusal.ReadFailed) said after = after ≡ by ticket.client (ReadEnd ticket.serial ticket.page None) ReadFailed ∷ said
+EndReadOutcome ticket read (Err refusal.UnknownTicket) said after = after ≡ said
+EndReadOutcome ticket _ _ said after = ⊥
+
+-- the end of a write-out, likewise
+abbrev pub EndWriteOutcome : {A : Type 0} → WriteTicket → Result A PortFault → Result Ended Refusal → Trail → Trail → Type 0
+EndWriteOutcome ticket (Ok done) (Ok how) said after = after ≡ by ticket.client (WriteEnd ticket.serial ticket.page true) (ended_reply how) ∷ said
+EndWriteOutcome ticket (Err fault) (Err refusal.WriteFailed) said after = after ≡ by ticket.client (WriteEnd ticket.serial ticket.page false) WriteFailed ∷ said
+EndWriteOutcome ticket write (Err refusal.UnknownTicket) said after = after ≡ said
+EndWriteOutcome ticket _ _ said after = ⊥
+
+-- device work was done, and it ended with this answer
+pub record LoadOutcome (ticket : ReadTicket) (answer : Result Pass Refusal) (said after : Trail) : Type 0 where
+  pub read : Result (List ℕ) PortFault
+  pub ended : EndReadOutcome ticket read answer said after
+
+pub record WriteOutOutcome (ticket : WriteTicket) (answer : Result Ended Refusal) (said after : Trail) : Type 0 where
+  pub written : Result (Unit {0}) PortFault
+  pub ended : EndWriteOutcome ticket written answer said after

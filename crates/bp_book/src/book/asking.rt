@@ -1,0 +1,244 @@
+//! One event of the core, which the list gets too.
+ghost use Rattle.std.specs.Prelude.{◌≡◌, ◌≤◌, ◌<◌, ◌+◌, ◌∷◌, true, length, OnOk, IfOk};
+ghost use Rattle.bp_mark.specs.Marks.{ReaderValue};
+ghost use Rattle.bp_trail.specs.declared.entries.Call.TheVariants as Call;
+ghost use Rattle.bp_trail.specs.declared.entries.Reply.TheVariants as Reply;
+ghost use Rattle.bp_trail.specs.Clock.{durable};
+ghost use Rattle.bp_book.specs.Books.{SameOwner, Alike};
+ghost use Rattle.bp_book.specs.Turns.{LookOutcome, AskFixOutcome, AskFlushOutcome};
+ghost use Rattle.bp_book.specs.Turns.{TickSaid, PurgeSaid, ReadSaid, WriteSaid};
+
+use super::Book;
+use bp_core::{Call, Core, Fix, Flush, Pass, Reply};
+use bp_mark::{Mark, Reader};
+use bp_page::{Bytes, Image, Lsn, PageNo, Refusal};
+
+impl Book {
+    /// Looks at the mark once, and marks what it sees where that is above what the core was told: the trail and the list
+    /// get the entry. `TrailFull`, where the trail has no room for the mark, adds none.
+    pub fn look(&mut self, core: &mut Core, reader: &mut Reader, mark: &Mark) -> Result<(), Refusal>
+        requires mark { reader.old.mark ≡ mark.now }
+        requires client_in { self.old.client < core.old.parameters.clients }
+        requires seen { durable core.old.past ≤ reader.old.seen }
+        requires room { 0 < self.old.entries }
+        ensures mark { reader.new.mark ≡ reader.old.mark }
+        ensures seen { durable core.new.past ≤ reader.new.seen }
+        ensures parameters { core.new.parameters ≡ core.old.parameters }
+        ensures before { core.new.before ≡ core.old.before }
+        ensures owner { SameOwner self.old self.new }
+        ensures entries { self.old.entries ≤ self.new.entries + 1 }
+        ensures passes { self.new.passes ≡ self.old.passes }
+        ensures copies { self.new.copies ≡ self.old.copies }
+        ensures outcome { LookOutcome self.old.client result self.old.said self.new.said }
+        ensures alike { Alike core.old self.old.said core.new self.new.said }
+    {
+        let seen = reader.look(mark);
+        if seen <= core.durable() {
+            return Ok(());
+        }
+        match core.mark(self.client, seen) {
+            Ok(()) => {
+                self.tell(Call::Mark(seen), Reply::Done);
+                Ok(())
+            }
+            Err(Refusal::TrailFull) => Err(Refusal::TrailFull),
+            Err(_) => unreachable!(),
+        }
+    }
+
+    /// Asks the core for a page. The trail and the list get the fix with its reply, and the client then owes the unfix of
+    /// a pass, or the end of a ticket and the unfix after it.
+    ///
+    /// `NoVictim`, `NeedLog` and `Busy` are the reply of the entry; `TrailFull` and `OutOfMemory` add none.
+    #[tactic(auto, using(crate::proofs::Asking::fix_refused, crate::proofs::Asking::write_first_sized))]
+    pub fn ask_fix(&mut self, core: &mut Core, page: PageNo) -> Result<Fix, Refusal>
+        requires client_in { self.old.client < core.old.parameters.clients }
+        requires page_in { page < core.old.parameters.pages }
+        requires size { self.old.size ≡ core.old.parameters.size }
+        requires entries { 3 ≤ self.old.entries }
+        requires passes { 1 ≤ self.old.passes }
+        requires copies { 2 ≤ self.old.copies }
+        ensures durable { durable core.new.past ≡ durable core.old.past }
+        ensures parameters { core.new.parameters ≡ core.old.parameters }
+        ensures before { core.new.before ≡ core.old.before }
+        ensures owner { SameOwner self.old self.new }
+        ensures outcome { AskFixOutcome self.old.client page result self.old.said self.new.said }
+        ensures alike { Alike core.old self.old.said core.new self.new.said }
+    {
+        match core.fix(self.client, page) {
+            Ok(Fix::Hit(pass)) => {
+                let pass = self.tell_hit(page, pass);
+                Ok(Fix::Hit(pass))
+            }
+            Ok(Fix::Load(ticket, evicted)) => {
+                let ticket = self.tell_load(ticket, evicted.as_ref().copied());
+                Ok(Fix::Load(ticket, evicted))
+            }
+            Ok(Fix::WriteFirst(ticket)) => {
+                let ticket = self.tell_write_first(Call::Fix(page), ticket);
+                Ok(Fix::WriteFirst(ticket))
+            }
+            Err(refusal) => {
+                self.tell_refused(Call::Fix(page), &refusal);
+                Err(refusal)
+            }
+        }
+    }
+
+    /// Asks the core that a page be written out. The trail and the list get the flush with its reply, and the client then
+    /// owes the end of a ticket that it was given.
+    ///
+    /// `NeedLog` and `Busy` are the reply of the entry; `TrailFull` and `OutOfMemory` add none.
+    #[tactic(auto, using(crate::proofs::Asking::flush_refused, crate::proofs::Asking::write_first_sized))]
+    pub fn ask_flush(&mut self, core: &mut Core, page: PageNo) -> Result<Flush, Refusal>
+        requires client_in { self.old.client < core.old.parameters.clients }
+        requires page_in { page < core.old.parameters.pages }
+        requires size { self.old.size ≡ core.old.parameters.size }
+        requires entries { 3 ≤ self.old.entries }
+        requires passes { 1 ≤ self.old.passes }
+        requires copies { 2 ≤ self.old.copies }
+        ensures durable { durable core.new.past ≡ durable core.old.past }
+        ensures parameters { core.new.parameters ≡ core.old.parameters }
+        ensures before { core.new.before ≡ core.old.before }
+        ensures owner { SameOwner self.old self.new }
+        ensures outcome { AskFlushOutcome self.old.client page result self.old.said self.new.said }
+        ensures alike { Alike core.old self.old.said core.new self.new.said }
+    {
+        match core.flush(self.client, page) {
+            Ok(Flush::Clean) => {
+                self.tell(Call::Flush(page), Reply::Clean);
+                Ok(Flush::Clean)
+            }
+            Ok(Flush::Absent) => {
+                self.tell(Call::Flush(page), Reply::Absent);
+                Ok(Flush::Absent)
+            }
+            Ok(Flush::WriteFirst(ticket)) => {
+                let ticket = self.tell_write_first(Call::Flush(page), ticket);
+                Ok(Flush::WriteFirst(ticket))
+            }
+            Err(refusal) => {
+                self.tell_refused(Call::Flush(page), &refusal);
+                Err(refusal)
+            }
+        }
+    }
+
+    /// Moves the clock on: the trail and the list get the tick. `TrailFull` and `ClockFull` add no entry.
+    pub fn ask_tick(&mut self, core: &mut Core, n: u64) -> Result<(), Refusal>
+        requires client_in { self.old.client < core.old.parameters.clients }
+        requires room { 0 < self.old.entries }
+        ensures durable { durable core.new.past ≡ durable core.old.past }
+        ensures parameters { core.new.parameters ≡ core.old.parameters }
+        ensures before { core.new.before ≡ core.old.before }
+        ensures owner { SameOwner self.old self.new }
+        ensures outcome { TickSaid self.old.client n result self.old.said self.new.said }
+        ensures alike { Alike core.old self.old.said core.new self.new.said }
+    {
+        match core.tick(self.client, n) {
+            Ok(()) => {
+                self.tell(Call::Tick(n), Reply::Done);
+                Ok(())
+            }
+            Err(Refusal::TrailFull) => Err(Refusal::TrailFull),
+            Err(Refusal::ClockFull) => Err(Refusal::ClockFull),
+            Err(_) => unreachable!(),
+        }
+    }
+
+    /// Forgets old references, and counts their pages: the trail and the list get the purge with its count. `TrailFull`
+    /// adds no entry.
+    pub fn ask_purge(&mut self, core: &mut Core) -> Result<u64, Refusal>
+        requires client_in { self.old.client < core.old.parameters.clients }
+        requires room { 0 < self.old.entries }
+        ensures durable { durable core.new.past ≡ durable core.old.past }
+        ensures parameters { core.new.parameters ≡ core.old.parameters }
+        ensures before { core.new.before ≡ core.old.before }
+        ensures owner { SameOwner self.old self.new }
+        ensures outcome { PurgeSaid self.old.client result self.old.said self.new.said }
+        ensures alike { Alike core.old self.old.said core.new self.new.said }
+    {
+        match core.purge(self.client) {
+            Ok(forgotten) => {
+                self.tell(Call::Purge, Reply::Forgot(forgotten));
+                Ok(forgotten)
+            }
+            Err(Refusal::TrailFull) => Err(Refusal::TrailFull),
+            Err(_) => unreachable!(),
+        }
+    }
+
+    /// Reads the page of a pass of the client's. The trail and the list get the read, each with an image of its own.
+    /// `TrailFull`, `UnknownPass` and `OutOfMemory` add no entry.
+    pub fn ask_read(&mut self, core: &mut Core, pass: &Pass) -> Result<Image, Refusal>
+        requires own { pass.now.client ≡ self.old.client }
+        requires size { self.old.size ≡ core.old.parameters.size }
+        requires room { 0 < self.old.entries }
+        requires copies { 0 < self.old.copies }
+        ensures durable { durable core.new.past ≡ durable core.old.past }
+        ensures parameters { core.new.parameters ≡ core.old.parameters }
+        ensures before { core.new.before ≡ core.old.before }
+        ensures owner { SameOwner self.old self.new }
+        ensures outcome { ReadSaid self.old.client pass.now result self.old.said self.new.said }
+        ensures alike { Alike core.old self.old.said core.new self.new.said }
+    {
+        match core.read(pass) {
+            Ok(image) => {
+                let copy = self.copy_of(&image);
+                self.tell(
+                    Call::Read {
+                        pass: pass.serial(),
+                        page: pass.page(),
+                    },
+                    Reply::Content(copy),
+                );
+                Ok(image)
+            }
+            Err(Refusal::TrailFull) => Err(Refusal::TrailFull),
+            Err(Refusal::UnknownPass) => Err(Refusal::UnknownPass),
+            Err(Refusal::OutOfMemory) => Err(Refusal::OutOfMemory),
+            Err(_) => unreachable!(),
+        }
+    }
+
+    /// Writes to the page of a pass of the client's. The trail and the list get the write, and the list keeps the bytes.
+    /// `TrailFull`, `UnknownPass` and `OutOfMemory` add no entry.
+    pub fn ask_write(
+        &mut self,
+        core: &mut Core,
+        pass: &Pass,
+        offset: u32,
+        bytes: Bytes,
+        lsn: Lsn,
+    ) -> Result<(), Refusal>
+        requires own { pass.now.client ≡ self.old.client }
+        requires fits { offset + length bytes ≤ core.old.parameters.size }
+        requires room { 0 < self.old.entries }
+        ensures durable { durable core.new.past ≡ durable core.old.past }
+        ensures parameters { core.new.parameters ≡ core.old.parameters }
+        ensures before { core.new.before ≡ core.old.before }
+        ensures owner { SameOwner self.old self.new }
+        ensures outcome { WriteSaid self.old.client pass.now offset bytes lsn result self.old.said self.new.said }
+        ensures alike { Alike core.old self.old.said core.new self.new.said }
+    {
+        match core.write(pass, offset, &bytes, lsn) {
+            Ok(()) => {
+                self.tell(
+                    Call::Write {
+                        pass: pass.serial(),
+                        page: pass.page(),
+                        offset,
+                        bytes,
+                        lsn,
+                    },
+                    Reply::Done,
+                );
+                Ok(())
+            }
+            Err(Refusal::TrailFull) => Err(Refusal::TrailFull),
+            Err(Refusal::UnknownPass) => Err(Refusal::UnknownPass),
+            Err(Refusal::OutOfMemory) => Err(Refusal::OutOfMemory),
+            Err(_) => unreachable!(),
+        }
+    }
+}

@@ -1,0 +1,164 @@
+//! The ends of device work. None of these takes memory.
+ghost use Rattle.std.specs.Prelude.{◌≡◌, ◌≤◌, ◌<◌, ◌+◌, ◌-◌, ◌*◌, ◌∷◌, length, reverse, vec_len, vec_capacity, IfOk, Ok, Err};
+ghost use Rattle.bp_trail.specs.Clock.{durable};
+ghost use Rattle.bp_book.specs.Books.{SameOwner, OwesRead, OwesWrite, Alike};
+ghost use Rattle.bp_book.specs.Turns.{EndReadOutcome, EndWriteOutcome};
+
+use super::{Book, copied};
+use bp_core::{Call, Core, EndRefusal, Ended, Entry, Pass, ReadTicket, Reply, WriteTicket};
+use bp_page::{Image, PortFault, Refusal};
+
+impl Book {
+    /// Ends a read that went well. The list keeps a copy of the image. A ticket that the core does not know is forfeited, which is
+    /// `UnknownTicket`, and nothing else changes.
+    fn end_load(
+        &mut self,
+        core: &mut Core,
+        ticket: ReadTicket,
+        image: Image,
+    ) -> Result<Pass, Refusal>
+        requires owes { OwesRead self.old.client ticket self.old.said }
+        requires size { length image ≡ self.old.size }
+        requires core_size { core.old.parameters.size ≡ self.old.size }
+        ensures durable { durable core.new.past ≡ durable core.old.past }
+        ensures parameters { core.new.parameters ≡ core.old.parameters }
+        ensures before { core.new.before ≡ core.old.before }
+        ensures owner { SameOwner self.old self.new }
+        ensures outcome { EndReadOutcome ticket (Ok image) result self.old.said self.new.said }
+        ensures alike { Alike core.old self.old.said core.new self.new.said }
+    {
+        let copy = copied(&mut self.blanks, &image);
+        let page = ticket.page();
+        let serial = ticket.serial();
+        match core.read_end(ticket, Ok(image)) {
+            Ok(pass) => {
+                let note = pass.note();
+                self.said.add(Entry {
+                    client: self.client,
+                    call: Call::ReadEnd {
+                        ticket: serial,
+                        page,
+                        image: Some(copy),
+                    },
+                    reply: Reply::Fixed(note.serial()),
+                });
+                self.held.push_reserved(note);
+                self.tickets -= 1;
+                Ok(note.pass())
+            }
+            Err(EndRefusal::Failed(_)) => unreachable!(),
+            Err(EndRefusal::Unknown(lost, _)) => {
+                lost.forfeit();
+                self.blanks.push_reserved(copy);
+                Err(Refusal::UnknownTicket)
+            }
+        }
+    }
+
+    /// Ends a read that failed, which is `ReadFailed`. A ticket that the core does not know is forfeited, as by `end_load`.
+    fn end_failed_load(
+        &mut self,
+        core: &mut Core,
+        ticket: ReadTicket,
+        fault: PortFault,
+    ) -> Result<Pass, Refusal>
+        requires owes { OwesRead self.old.client ticket self.old.said }
+        ensures durable { durable core.new.past ≡ durable core.old.past }
+        ensures parameters { core.new.parameters ≡ core.old.parameters }
+        ensures before { core.new.before ≡ core.old.before }
+        ensures owner { SameOwner self.old self.new }
+        ensures outcome { EndReadOutcome ticket (Err fault) result self.old.said self.new.said }
+        ensures alike { Alike core.old self.old.said core.new self.new.said }
+    {
+        let page = ticket.page();
+        let serial = ticket.serial();
+        match core.read_end(ticket, Err(fault)) {
+            Ok(_pass) => unreachable!(),
+            Err(EndRefusal::Failed(_)) => {
+                self.said.add(Entry {
+                    client: self.client,
+                    call: Call::ReadEnd {
+                        ticket: serial,
+                        page,
+                        image: None,
+                    },
+                    reply: Reply::ReadFailed,
+                });
+                self.tickets -= 1;
+                Err(Refusal::ReadFailed)
+            }
+            Err(EndRefusal::Unknown(lost, _)) => {
+                lost.forfeit();
+                Err(Refusal::UnknownTicket)
+            }
+        }
+    }
+
+    /// Ends a read that the list's newest entry began. The trail and the list get the end, and the client holds the pass.
+    /// It takes no memory for the list.
+    ///
+    /// Where the read failed, this is `ReadFailed`, the reply of the entry. A ticket that the core does not know is
+    /// forfeited, which is `UnknownTicket`, and nothing else changes.
+    pub fn end_read(
+        &mut self,
+        core: &mut Core,
+        ticket: ReadTicket,
+        read: Result<Image, PortFault>,
+    ) -> Result<Pass, Refusal>
+        requires owes { OwesRead self.old.client ticket self.old.said }
+        requires size { IfOk read (λ image. length image ≡ self.old.size) }
+        requires core_size { core.old.parameters.size ≡ self.old.size }
+        ensures durable { durable core.new.past ≡ durable core.old.past }
+        ensures parameters { core.new.parameters ≡ core.old.parameters }
+        ensures before { core.new.before ≡ core.old.before }
+        ensures owner { SameOwner self.old self.new }
+        ensures outcome { EndReadOutcome ticket read result self.old.said self.new.said }
+        ensures alike { Alike core.old self.old.said core.new self.new.said }
+    {
+        match read {
+            Ok(image) => self.end_load(core, ticket, image),
+            Err(fault) => self.end_failed_load(core, ticket, fault),
+        }
+    }
+
+    /// Ends a write-out that the list's newest entry began. The trail and the list get the end, and the answer tells
+    /// whether the page is clean now. It takes no memory for the list.
+    ///
+    /// Where the write failed, this is `WriteFailed`, the reply of the entry. A ticket that the core does not know is
+    /// forfeited, which is `UnknownTicket`, and nothing else changes.
+    pub fn end_write_out(
+        &mut self,
+        core: &mut Core,
+        ticket: WriteTicket,
+        written: Result<(), PortFault>,
+    ) -> Result<Ended, Refusal>
+        requires owes { OwesWrite self.old.client ticket self.old.said }
+        ensures durable { durable core.new.past ≡ durable core.old.past }
+        ensures parameters { core.new.parameters ≡ core.old.parameters }
+        ensures before { core.new.before ≡ core.old.before }
+        ensures owner { SameOwner self.old self.new }
+        ensures outcome { EndWriteOutcome ticket written result self.old.said self.new.said }
+        ensures alike { Alike core.old self.old.said core.new self.new.said }
+    {
+        let page = ticket.page();
+        let serial = ticket.serial();
+        match core.write_end(ticket, written) {
+            Ok(Ended::Cleaned) => {
+                self.tell_write_end(serial, page, true, Reply::Cleaned);
+                Ok(Ended::Cleaned)
+            }
+            Ok(Ended::StillDirty) => {
+                self.tell_write_end(serial, page, true, Reply::StillDirty);
+                Ok(Ended::StillDirty)
+            }
+            Err(EndRefusal::Failed(_)) => {
+                self.tell_write_end(serial, page, false, Reply::WriteFailed);
+                Err(Refusal::WriteFailed)
+            }
+            Err(EndRefusal::Unknown(lost, _)) => {
+                lost.forfeit();
+                Err(Refusal::UnknownTicket)
+            }
+        }
+    }
+}

@@ -1,0 +1,70 @@
+//! The passes that a list holds, and those that go back.
+ghost use Rattle.std.specs.Prelude.{◌≡◌, ◌==◌, true, not, filter, reverse, vec_capacity};
+ghost use Rattle.bp_trail.specs.declared.entries.Call.TheVariants as Call;
+ghost use Rattle.bp_trail.specs.declared.entries.Reply.TheVariants as Reply;
+ghost use Rattle.bp_trail.specs.Event.{grant, same_grant};
+ghost use Rattle.bp_trail.specs.Passes.{passes_out};
+ghost use Rattle.bp_trail.specs.Legal.{is_out};
+ghost use Rattle.bp_core.specs.Outcomes.{pass_is_out};
+ghost use Rattle.bp_book.specs.Books.{Tells};
+
+use super::Book;
+use bp_core::{Call, Entry, Pass, PassNote, Reply};
+
+/// Whether the note is of this pass.
+fn is_of(note: &PassNote, pass: &Pass) -> bool
+    ensures { result ≡ same_grant (grant pass.now.client pass.now.page pass.now.serial) note.now }
+{
+    pass.client() == note.client()
+        && pass.page().number() == note.page().number()
+        && pass.serial() == note.serial()
+}
+
+/// Whether the note's pass has another serial number.
+fn differs(note: &PassNote, serial: u64) -> bool
+    ensures { result ≡ not (note.now.serial == serial) }
+{
+    note.serial() != serial
+}
+
+/// Whether a pass is among those held. The one taken latest is looked at first.
+fn is_held(held: &[PassNote], pass: &Pass) -> bool
+    ensures { result ≡ is_out (grant pass.now.client pass.now.page pass.now.serial) (reverse held.now) }
+{
+    held.iter().rev().any(|note| is_of(note, pass))
+}
+
+/// Strikes the note with this serial number.
+fn strike(held: &mut Vec<PassNote>, serial: u64)
+    ensures held { held.new.items ≡ filter (λ g. not (g.serial == serial)) held.old.items }
+    ensures capacity { vec_capacity held.new ≡ vec_capacity held.old }
+{
+    held.retain(|note| differs(note, serial));
+}
+
+impl Book {
+    /// Whether the list gave this pass and did not give it back.
+    pub fn holds(&self, pass: &Pass) -> bool
+        ensures { result ≡ pass_is_out pass.now self.now.said }
+    {
+        is_held(&self.held, pass)
+    }
+
+    /// Adds the entry of a pass that goes back, which is held no more. It takes no memory. The core is not asked: whoever
+    /// calls this sees that the pass reaches it.
+    pub fn tell_unfix(&mut self, note: PassNote)
+        requires held { is_out note (passes_out self.old.said) ≡ true }
+        ensures whose { note.client ≡ self.old.client }
+        ensures told { Tells self.old (Call.Unfix note.serial note.page) Reply.Done self.new }
+    {
+        self.said.add(Entry {
+            client: self.client,
+            call: Call::Unfix {
+                pass: note.serial(),
+                page: note.page(),
+            },
+            reply: Reply::Done,
+        });
+        strike(&mut self.held, note.serial());
+    }
+}

@@ -1,0 +1,133 @@
+//! The entries that a list gets, each kept with what is owed after it. None of these takes memory.
+ghost use Rattle.std.specs.Prelude.{◌≡◌, ◌≤◌, ◌<◌, ◌+◌, ◌-◌, ◌*◌, ◌∷◌, true, IfSome, length, reverse, vec_len, vec_capacity};
+ghost use Rattle.bp_trail.specs.declared.entries.Call.TheVariants as Call;
+ghost use Rattle.bp_trail.specs.declared.entries.Reply.TheVariants as Reply;
+ghost use Rattle.bp_book.specs.Books.{OwesWriteEnd, SameOwner, Tells, plain_call, plain_reply};
+ghost use Rattle.bp_book.specs.Turns.{and_told, refusal_reply};
+
+use super::Book;
+use bp_core::{Call, Entry, Pass, ReadTicket, Reply, WriteTicket};
+use bp_page::{PageNo, Refusal};
+
+/// The reply that a refusal is, if there is an entry with it.
+fn reply_of(refusal: &Refusal) -> Option<Reply>
+    ensures reply { result ≡ refusal_reply refusal.now }
+    ensures plain { IfSome result (λ reply. plain_reply reply ≡ true) }
+{
+    match refusal {
+        Refusal::NoVictim => Some(Reply::NoVictim),
+        Refusal::NeedLog(lsn) => Some(Reply::NeedLog(*lsn)),
+        Refusal::Busy => Some(Reply::Busy),
+        _ => None,
+    }
+}
+
+impl Book {
+    /// Adds an entry by which no pass or ticket is given or given back.
+    pub(crate) fn tell(&mut self, call: Call, reply: Reply)
+        requires plain { plain_call call ≡ true }
+        requires gives_none { plain_reply reply ≡ true }
+        requires room { 0 < self.old.entries }
+        ensures told { Tells self.old call reply self.new }
+        ensures entries { self.new.entries + 1 ≡ self.old.entries }
+        ensures passes { self.new.passes ≡ self.old.passes }
+        ensures copies { self.new.copies ≡ self.old.copies }
+    {
+        self.said.add(Entry {
+            client: self.client,
+            call,
+            reply,
+        });
+    }
+
+    /// Adds the entry of a pass that a fix gave at once, and holds the pass.
+    pub(crate) fn tell_hit(&mut self, page: PageNo, pass: Pass) -> Pass
+        requires whose { pass.client ≡ self.old.client }
+        requires of_page { pass.page ≡ page }
+        requires entries { 2 ≤ self.old.entries }
+        requires passes { 1 ≤ self.old.passes }
+        ensures pass { result ≡ pass }
+        ensures told { Tells self.old (Call.Fix page) (Reply.Hit pass.serial) self.new }
+    {
+        let note = pass.note();
+        self.said.add(Entry {
+            client: self.client,
+            call: Call::Fix(page),
+            reply: Reply::Hit(note.serial()),
+        });
+        self.held.push_reserved(note);
+        note.pass()
+    }
+
+    /// Adds the entry of a ticket to read, with room for its end, the pass and the unfix.
+    pub(crate) fn tell_load(&mut self, ticket: ReadTicket, evicted: Option<PageNo>) -> ReadTicket
+        requires whose { ticket.client ≡ self.old.client }
+        requires entries { 3 ≤ self.old.entries }
+        requires passes { 1 ≤ self.old.passes }
+        requires copies { 1 ≤ self.old.copies }
+        ensures ticket { result ≡ ticket }
+        ensures told { Tells self.old (Call.Fix ticket.page) (Reply.Load ticket.serial evicted) self.new }
+    {
+        self.said.add(Entry {
+            client: self.client,
+            call: Call::Fix(ticket.page()),
+            reply: Reply::Load {
+                ticket: ticket.serial(),
+                evicted,
+            },
+        });
+        self.tickets += 1;
+        ticket
+    }
+
+    /// Adds the entry of a ticket to write, with room for its end.
+    pub(crate) fn tell_write_first(&mut self, call: Call, ticket: WriteTicket) -> WriteTicket
+        requires plain { plain_call call ≡ true }
+        requires whose { ticket.client ≡ self.old.client }
+        requires size { length ticket.image ≡ self.old.size }
+        requires entries { 3 ≤ self.old.entries }
+        requires passes { 1 ≤ self.old.passes }
+        requires copies { 2 ≤ self.old.copies }
+        ensures ticket { result ≡ ticket }
+        ensures told { Tells self.old call (Reply.WriteFirst ticket.serial ticket.page ticket.image) self.new }
+    {
+        let image = self.copy_of(ticket.image());
+        self.said.add(Entry {
+            client: self.client,
+            call,
+            reply: Reply::WriteFirst {
+                ticket: ticket.serial(),
+                page: ticket.page(),
+                image,
+            },
+        });
+        self.tickets += 1;
+        ticket
+    }
+
+    /// Adds the entry of an event that was refused, if the refusal is the reply of one.
+    pub(crate) fn tell_refused(&mut self, call: Call, refusal: &Refusal)
+        requires plain { plain_call call ≡ true }
+        requires room { 0 < self.old.entries }
+        ensures owner { SameOwner self.old self.new }
+        ensures said { self.new.said ≡ and_told self.old.client call (refusal_reply refusal.now) self.old.said }
+    {
+        if let Some(reply) = reply_of(refusal) {
+            self.tell(call, reply);
+        }
+    }
+
+    /// Adds the end of the write-out with this ticket, which the newest entry began.
+    pub(super) fn tell_write_end(&mut self, ticket: u64, page: PageNo, good: bool, reply: Reply)
+        requires gives_none { plain_reply reply ≡ true }
+        requires owes { OwesWriteEnd self.old.client ticket self.old.said }
+        ensures told { Tells self.old (Call.WriteEnd ticket page good) reply self.new }
+    {
+        self.said.add(Entry {
+            client: self.client,
+            call: Call::WriteEnd { ticket, page, good },
+            reply,
+        });
+        self.tickets -= 1;
+    }
+}
