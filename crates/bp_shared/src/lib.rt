@@ -4,6 +4,7 @@
 //! outside the lock (Gray and Reuter, chapter 13). A pass goes back through the session's own ring, with no lock.
 #![tactic(auto)]
 
+mod locking;
 pub mod names;
 pub mod pool;
 mod posted;

@@ -2,6 +2,7 @@
 ghost use Rattle.std.specs.Prelude.{◌≡◌};
 ghost use Rattle.bp_book.specs.Turns.{is_busy};
 
+use crate::locking::locked;
 use crate::names::PoolName;
 use crate::posted::Posted;
 use crate::session::Session;
@@ -180,7 +181,7 @@ impl<N: PoolName> SharedPool<N> {
         let Ok(()) = empty.reserve_exact(self.room) else {
             return Err(Refusal::OutOfMemory);
         };
-        self.state.lock(rt).cut(taker, empty)
+        locked(rt, &self.state).cut(taker, empty)
     }
 
     /// Drains the rings, and does nothing else. It takes no memory.
@@ -188,7 +189,7 @@ impl<N: PoolName> SharedPool<N> {
         ensures { session.new ≡ session.old }
     {
         let _ = session.client();
-        self.state.lock(rt).settle();
+        locked(rt, &self.state).settle();
     }
 
     /// Ends the pool: drains the rings once more, and gives back the core, the mark and its reader. It neither waits nor

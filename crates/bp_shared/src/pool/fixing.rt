@@ -2,6 +2,7 @@
 ghost use Rattle.std.specs.Prelude.{◌≡◌, ◌<◌};
 
 use super::{SharedPool, found_busy, is_busy};
+use crate::locking::locked;
 use crate::names::PoolName;
 use crate::session::Session;
 use bp_core::{Ended, Fix, Pass, ReadTicket, WriteTicket};
@@ -31,7 +32,7 @@ impl<N: PoolName> SharedPool<N> {
         ensures outcome { LoadOutcome ticket result session.old.said session.new.said }
     {
         let read = port.read(rt, ticket.page());
-        let mut state = self.state.lock(rt);
+        let mut state = locked(rt, &self.state);
         let asked = self.posted.take();
         let ended = state.end_read(session, ticket, read, asked);
         drop(state);
@@ -54,7 +55,7 @@ impl<N: PoolName> SharedPool<N> {
         ensures outcome { WriteOutOutcome ticket result session.old.said session.new.said }
     {
         let written = port.write(rt, ticket.page(), ticket.image());
-        let mut state = self.state.lock(rt);
+        let mut state = locked(rt, &self.state);
         let asked = self.posted.take();
         let ended = state.end_write(session, ticket, written, asked);
         drop(state);
@@ -78,7 +79,7 @@ impl<N: PoolName> SharedPool<N> {
         let Ok(()) = session.book.prepare() else {
             return Err(Refusal::OutOfMemory);
         };
-        let mut state = self.state.lock(rt);
+        let mut state = locked(rt, &self.state);
         let asked = self.posted.take();
         let answer = state.fix(&self.mark, &mut session.book, page, asked);
         if found_busy(&answer) {

@@ -3,6 +3,7 @@ ghost use Rattle.std.specs.Prelude.{◌≡◌};
 ghost use Rattle.bp_device.specs.Drivers.{ended_reply, flushed_reply};
 
 use super::{SharedPool, found_busy, is_busy};
+use crate::locking::locked;
 use crate::names::PoolName;
 use crate::session::Session;
 use bp_core::{Ended, Flush};
@@ -41,7 +42,7 @@ impl<N: PoolName> SharedPool<N> {
         let Ok(()) = session.book.prepare() else {
             return Err(Refusal::OutOfMemory);
         };
-        let mut state = self.state.lock(rt);
+        let mut state = locked(rt, &self.state);
         let asked = self.posted.take();
         let answer = state.flush(&self.mark, &mut session.book, page, asked);
         if found_busy(&answer) {

@@ -2,6 +2,7 @@
 ghost use Rattle.std.specs.Prelude.{◌≡◌};
 
 use super::SharedPool;
+use crate::locking::locked;
 use crate::names::PoolName;
 use crate::session::Session;
 use bp_core::Pass;
@@ -21,7 +22,7 @@ impl<N: PoolName> SharedPool<N> {
         let Ok(()) = session.book.prepare() else {
             return Err(Refusal::OutOfMemory);
         };
-        let mut state = self.state.lock(rt);
+        let mut state = locked(rt, &self.state);
         let asked = self.posted.take();
         state.tick(&mut session.book, n, asked)
     }
@@ -35,7 +36,7 @@ impl<N: PoolName> SharedPool<N> {
         let Ok(()) = session.book.prepare() else {
             return Err(Refusal::OutOfMemory);
         };
-        let mut state = self.state.lock(rt);
+        let mut state = locked(rt, &self.state);
         let asked = self.posted.take();
         state.purge(&mut session.book, asked)
     }
@@ -59,7 +60,7 @@ impl<N: PoolName> SharedPool<N> {
         let Ok(()) = session.book.prepare() else {
             return Err(Refusal::OutOfMemory);
         };
-        let mut state = self.state.lock(rt);
+        let mut state = locked(rt, &self.state);
         let asked = self.posted.take();
         state.read(&mut session.book, pass, asked)
     }
@@ -89,7 +90,7 @@ impl<N: PoolName> SharedPool<N> {
         let Ok(()) = session.book.prepare() else {
             return Err(Refusal::OutOfMemory);
         };
-        let mut state = self.state.lock(rt);
+        let mut state = locked(rt, &self.state);
         let asked = self.posted.take();
         state.write(&mut session.book, pass, offset, kept, lsn, asked)
     }
