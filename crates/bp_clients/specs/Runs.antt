@@ -1,5 +1,5 @@
 -- What holds after a run of client threads. A trail and a client's list are in the order of time here, and so are scripts and refused rows.
-use Rattle.std.specs.Prelude.{◌≡◌, ℕ, ◌<◌, List, [], ◌∷◌, ◌++◌, reverse, length, flat_map, Result, Ok, Err}
+use Rattle.std.specs.Prelude.{◌≡◌, ℕ, ◌<◌, List, [], ◌∷◌, ◌++◌, reverse, length, flat_map, Result, Ok, Err, IfOk}
 use Rattle.std.specs.List.Sorted.{IsPermutation, IsNonDecreasingBy}
 use Rattle.bp_page.specs.declared.refusals.Refusal.{Refusal}
 use Rattle.bp_page.specs.declared.refusals.Refusal.TheVariants as refusal
@@ -15,7 +15,8 @@ use Rattle.bp_core.specs.Outcomes.{IsFit}
 use Rattle.bp_audit.specs.Clients.{of_client}
 use Rattle.bp_audit.specs.Log.{IsWithinLog}
 use Rattle.bp_clients.specs.declared.run.Config.{Config}
-use Rattle.bp_clients.specs.Jobs.{list_of, NoneIsStrange, JobValue, Collected}
+use Rattle.bp_clients.specs.declared.run.Outcome.{Outcome}
+use Rattle.bp_clients.specs.Jobs.{list_of, lists, new_jobs, NoneIsStrange, JobValue, Collected}
 
 -- there is one list for each client, with the trail's entries of that client, in order, and no others
 pub record SaidIsTheirs (clients : ℕ) (trail : List Entry) (said : List (List Entry)) : Type 0 where
@@ -43,6 +44,12 @@ pub record IsRun (c : Parameters) (scripts : List (List Row)) (trail : List Entr
   pub follows : EachFollows scripts said refused
   pub known : NoneIsStrange refused
   pub within_log : MarksWithinLog scripts trail said refused
+
+-- whichever scripts the new jobs are of, the answer is a run of those, where it is one
+abbrev pub RunsJobs : Parameters → List JobValue → Result Outcome Refusal → Type 0
+RunsJobs c jobs answer =
+    (scripts : List (List Row)) → jobs ≡ new_jobs 0 scripts
+    → IfOk answer (λ run. IsRun c scripts run.trail.items (lists run.said.items) run.refused.items)
 
 -- what the jobs left, with the refused rows of all put in the order of their numbers
 pub record Joined (trail : List Entry) (jobs : List JobValue) (said : List (List Entry)) (refused : List Refused) : Type 0 where

@@ -89,7 +89,7 @@ fn run_rows<N: PoolName, P: Port, R: Wait>(
 }
 
 impl<N: PoolName, P: Port> Job<N, P> {
-    ghost use Rattle.std.specs.Prelude.{◌≡◌, IfOk, IfSome, IsTrue, [], reverse};
+    ghost use Rattle.std.specs.Prelude.{◌≡◌, IfOk, IfSome, IsTrue, [], length, reverse};
     ghost use Rattle.bp_clients.specs.Jobs.{ScriptFits, FollowsCut, new_job};
 
     /// The job of a script.
@@ -111,6 +111,13 @@ impl<N: PoolName, P: Port> Job<N, P> {
             refused,
             is_done: false,
         })
+    }
+
+    /// How many rows its script has.
+    pub(crate) fn rows(&self) -> usize
+        ensures { result ≡ length self.now.script }
+    {
+        self.script.len()
     }
 
     /// Whether nothing was run yet.

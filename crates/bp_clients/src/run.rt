@@ -2,7 +2,7 @@
 ghost use Rattle.std.specs.Prelude.{◌≡◌, ◌⊎◌, ◌≤◌, ◌<◌, ℕ, IfOk, OnErr, All, [], map, reverse, length, vec_len, slice_index_or};
 ghost use Rattle.bp_trail.specs.Legal.{Legal};
 ghost use Rattle.bp_clients.specs.Jobs.{EachScriptFits, NoneIsStrange, SameJob, sessions_from, new_jobs, lists};
-ghost use Rattle.bp_clients.specs.Runs.{run_parameters, RunAnswers, SaidIsTheirs, EachFollows, MarksWithinLog, Joined, IsRun};
+ghost use Rattle.bp_clients.specs.Runs.{run_parameters, RunAnswers, SaidIsTheirs, EachFollows, MarksWithinLog, Joined, IsRun, RunsJobs};
 
 use crate::collecting::collect;
 use crate::job::Job;
@@ -12,7 +12,7 @@ use bp_device::Port;
 use bp_lruk::Settings;
 use bp_mark::{LogEnd, Mark, Reader};
 use bp_page::{Geometry, Refusal};
-use bp_shared::{PoolName, Session, SharedPool, TrailRing};
+use bp_shared::{PoolName, Session, SharedPool, Taker, TrailRing};
 use std::alloc::Global;
 use std::marker::{Brand, Send, Sync};
 use std::sync::Wait;
@@ -40,11 +40,11 @@ pub struct Outcome {
     pub refused: Vec<Refused>,
 }
 
-/// How many rows there are.
-fn count_rows(scripts: &[Vec<Row>]) -> usize {
+/// How many rows the jobs have.
+fn count_rows<N: PoolName, P: Port>(jobs: &[Job<N, P>]) -> usize {
     let mut rows = 0usize;
-    for script in scripts {
-        rows = rows.saturating_add(script.len());
+    for job in jobs {
+        rows = rows.saturating_add(job.rows());
     }
     rows
 }
@@ -126,6 +126,49 @@ fn joined<N: PoolName, P: Port>(
     })
 }
 
+/// Empty lists for what a run leaves, with room for so many scripts and rows: what each client said, and the rows
+/// refused.
+fn empty_lists(
+    alloc: Global,
+    scripts: usize,
+    rows: usize,
+) -> Result<(Vec<Vec<Entry>>, Vec<Refused>), Refusal>
+    ensures empty { IfOk result (λ made. (made.0.items ≡ []) × (made.1.items ≡ [])) }
+    ensures refused { OnErr result (result ≡ Err Refusal.OutOfMemory) }
+{
+    let Ok(said) = Vec::with_capacity(alloc, scripts) else {
+        return Err(Refusal::OutOfMemory);
+    };
+    match Vec::with_capacity(alloc, rows) {
+        Ok(refused) => Ok((said, refused)),
+        Err(_) => Err(Refusal::OutOfMemory),
+    }
+}
+
+/// Runs the jobs, each in a thread of its own, ends the pool, and joins what they left. The memory for that is taken
+/// before any thread starts.
+fn run_pool<N: PoolName + Send + Sync, P: Port + Send, R: Threads + Wait + Sync>(
+    rt: &R,
+    alloc: Global,
+    pool: SharedPool<N>,
+    taker: Taker<N>,
+    jobs: Vec<Job<N, P>>,
+) -> Result<Outcome, Refusal>
+    requires some { 0 < vec_len jobs }
+    requires uncut { taker.past ≡ [] }
+    ensures run { RunsJobs N.parameters jobs.items result }
+    ensures refused { OnErr result ((result ≡ Err Refusal.OutOfMemory) ⊎ (result ≡ Err Refusal.Disagree)) }
+{
+    let (said, refused) = match empty_lists(alloc, jobs.len(), count_rows(&jobs)) {
+        Ok(empty) => empty,
+        Err(refusal) => return Err(refusal),
+    };
+    let mut jobs = jobs;
+    run_jobs(rt, &pool, jobs.as_mut_slice());
+    let (core, _, _) = pool.finish(taker);
+    joined(core, jobs, said, refused)
+}
+
 /// Runs the clients of a pool whose parts agree on N.
 fn run_named<N: PoolName + Send + Sync, P: Port + Send, R: Threads + Wait + Sync>(
     rt: &R,
@@ -149,24 +192,31 @@ fn run_named<N: PoolName + Send + Sync, P: Port + Send, R: Threads + Wait + Sync
     ensures run { IfOk result (λ run. IsRun N.parameters (lists scripts.items) run.trail.items (lists run.said.items) run.refused.items) }
     ensures refused { OnErr result ((result ≡ Err Refusal.OutOfMemory) ⊎ (result ≡ Err Refusal.Disagree)) }
 {
-    let Ok(said) = Vec::with_capacity(alloc, scripts.len()) else {
-        return Err(Refusal::OutOfMemory);
-    };
-    let Ok(refused) = Vec::with_capacity(alloc, count_rows(&scripts)) else {
-        return Err(Refusal::OutOfMemory);
-    };
     let (mark, end, reader) = parts;
     let (pool, sessions, taker) = match SharedPool::<N>::new(alloc, core, mark, reader, ring) {
         Ok(made) => made,
         Err(refusal) => return Err(refusal),
     };
-    let mut jobs = match make_jobs(alloc, sessions, scripts, ports, LogWriter::new(end)) {
-        Ok(jobs) => jobs,
+    match make_jobs(alloc, sessions, scripts, ports, LogWriter::new(end)) {
+        Ok(jobs) => run_pool(rt, alloc, pool, taker, jobs),
+        Err(refusal) => Err(refusal),
+    }
+}
+
+/// A mark at 0, with its log end and a reader, and a ring for a trail.
+fn new_parts(alloc: Global) -> Result<((Mark, LogEnd, Reader), TrailRing), Refusal>
+    ensures log_end { IfOk result (λ made. made.0.1 ≡ record { mark = made.0.0; frontier = 0 }) }
+    ensures reader { IfOk result (λ made. made.0.2 ≡ record { mark = made.0.0; seen = 0 }) }
+    ensures refused { OnErr result (result ≡ Err Refusal.OutOfMemory) }
+{
+    let parts = match Mark::new(alloc) {
+        Ok(parts) => parts,
         Err(refusal) => return Err(refusal),
     };
-    run_jobs(rt, &pool, jobs.as_mut_slice());
-    let (core, _, _) = pool.finish(taker);
-    joined(core, jobs, said, refused)
+    match TrailRing::new(alloc) {
+        Ok(ring) => Ok((parts, ring)),
+        Err(refusal) => Err(refusal),
+    }
 }
 
 /// Runs the clients of one pool, each in a thread of its own: client c runs `scripts[c]` over `ports[c]`, and gives back what it
@@ -209,12 +259,8 @@ pub fn run_clients<P: Port + Send, R: Threads + Wait + Sync>(
         Ok(core) => core,
         Err(refusal) => return Err(refusal),
     };
-    let parts = match Mark::new(alloc) {
-        Ok(parts) => parts,
-        Err(refusal) => return Err(refusal),
-    };
-    let ring = match TrailRing::new(alloc) {
-        Ok(ring) => ring,
+    let (parts, ring) = match new_parts(alloc) {
+        Ok(made) => made,
         Err(refusal) => return Err(refusal),
     };
     run_named::<Brand, P, R>(rt, alloc, core, parts, ring, scripts, ports)
