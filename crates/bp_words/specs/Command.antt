@@ -32,8 +32,12 @@ run_rules =
 abbrev pub run_shape : Shape
 run_shape = record (new_shape (codes "run")) { rules = run_rules }
 
--- the words leave out the program's name, and one of them must be `run` or `help`
-abbrev pub bpool_app : App
-bpool_app =
+-- the words leave out the program's name, and one of them must be a command
+abbrev pub program_app : App
+program_app =
     let plain = new_app (codes "bpool") in
-    with_subcommand (record plain { top = record plain.top { no_binary_name = true; subcommand_required = true } }) run_shape
+    record plain { top = record plain.top { no_binary_name = true; subcommand_required = true } }
+
+-- the program with its one command
+abbrev pub bpool_app : App
+bpool_app = with_subcommand program_app run_shape

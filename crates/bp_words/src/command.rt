@@ -2,7 +2,7 @@
 ghost use Rattle.std.specs.Prelude.{◌≡◌, map, false, IfOk, All};
 ghost use Rattle.clap.specs.Words.{app_of, rule_of, shape_of};
 ghost use Rattle.clap.specs.declared.builder.command.Command.TheViews.{out-Command as fields_of};
-ghost use Rattle.bp_words.specs.Command.{bpool_app, run_rules, run_shape};
+ghost use Rattle.bp_words.specs.Command.{bpool_app, program_app, run_rules, run_shape};
 ghost use Rattle.bp_words.specs.Command as spec;
 
 use clap::builder::ValueParser;
@@ -157,17 +157,23 @@ fn run_command<'a>(alloc: Global) -> Result<Command<'a>, AllocError>
     Ok(command)
 }
 
+/// The program without its commands. Its words leave out the program's name.
+fn program_command<'a>(alloc: Global) -> Result<Command<'a>, AllocError>
+    ensures { IfOk result (λ c. app_of c ≡ program_app) }
+{
+    let named = Command::new(alloc, "bpool").bin_name("bpool")?;
+    Ok(named
+        .about("A buffer pool with LRU-K replacement")
+        .after_help(SUMMARY)
+        .no_binary_name(true)
+        .subcommand_required(true))
+}
+
 /// The command line of the program, whose words leave out the program's name.
 pub fn bpool_command<'a>(alloc: Global) -> Result<Command<'a>, AllocError>
     ensures { IfOk result (λ c. app_of c ≡ bpool_app) }
 {
+    let program = program_command(alloc)?;
     let run = run_command(alloc)?;
-    let named = Command::new(alloc, "bpool").bin_name("bpool")?;
-    let command = named
-        .about("A buffer pool with LRU-K replacement")
-        .after_help(SUMMARY)
-        .no_binary_name(true)
-        .subcommand_required(true)
-        .subcommand(run)?;
-    Ok(command)
+    program.subcommand(run)
 }

@@ -1,22 +1,14 @@
-use Rattle.std.proofs.Common.{codes, ap, ap₂, ◌≡◌, ◌∙◌, true}
-use Rattle.clap.specs.Words.{App, app_of, new_app, shape_of, with_subcommand}
-use Rattle.clap.specs.Simple.{app_of_fields}
+use Rattle.std.proofs.Common.{ap₂, ◌≡◌, ◌∙◌, Result, Ok, Err, IfOk, false}
+use Rattle.std.specs.declared.alloc.AllocError.{AllocError}
+use Rattle.clap.specs.Words.{AddsSubcommand, app_of, shape_of, with_subcommand}
 use Rattle.clap.specs.declared.builder.command.Command.{Command}
 use Rattle.clap.specs.declared.builder.command.Command.TheViews.{out-Command}
-use Rattle.clap.specs.declared.builder.command.Command.TheOpen.{Command-F}
-use Rattle.bp_words.specs.Command.{run_shape}
+use Rattle.bp_words.specs.Command.{bpool_app, program_app, run_shape}
 use Rattle.bp_words.proofs.command.bpool_command.Goals as goal
 
--- the settings of the command, as clap reads them
-abbrev bare : App → App
-bare a = record a { top = record a.top { no_binary_name = true; subcommand_required = true } }
+with_run : (program run : Command) (r : Result Command AllocError) → app_of program ≡ program_app → shape_of run ≡ run_shape → (out-Command run).has_globals ≡ false → IfOk r (λ c. AddsSubcommand program run c) → IfOk r (λ c. app_of c ≡ bpool_app)
+with_run program run (Ok c) app shape local adds = adds.shape local ∙ ap₂ with_subcommand app shape
+with_run program run (Err e) app shape local adds = adds
 
 pub returns : goal.returns
-returns c =
-    let without_name : out-Command c.no_binary_name.result ≡ record (out-Command c.after_help.result) { no_binary_name = true } = c.no_binary_name.ensures in
-    let needs_one : out-Command c.subcommand_required.result ≡ record (out-Command c.no_binary_name.result) { subcommand_required = true } = c.subcommand_required.ensures in
-    let fields = needs_one ∙ ap (λ (f : Command-F Command). record f { subcommand_required = true }) without_name in
-    let start : app_of c.after_help.result ≡ new_app (codes "bpool") = ap app_of_fields c.after_help.ensures ∙ ap app_of_fields c.about.ensures ∙ ap app_of_fields c.in_ok-named.ensures.0 ∙ c.new.ensures.app in
-    let bare_is : app_of c.subcommand_required.result ≡ bare (new_app (codes "bpool")) = ap app_of_fields fields ∙ ap bare start in
-    let run_is : shape_of c.in_ok-run.run' ≡ run_shape = c.in_ok-run.ensures.shape in
-    c.in_ok-command.ensures.shape c.in_ok-run.ensures.local ∙ ap₂ with_subcommand bare_is run_is
+returns c = with_run _ _ c.subcommand.result c.in_ok-program.ensures c.in_ok-run.ensures.shape c.in_ok-run.ensures.local c.subcommand.ensures
