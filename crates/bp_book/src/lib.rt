@@ -2,11 +2,17 @@
 //!
 //! A [`Book`] asks a core for one event at a time, and puts the entry that the core's trail gets into the client's list
 //! too. The memory for an event, and for the ends and unfixes that are owed after it, is taken before the event, by
-//! `Book::prepare`; nothing else but a cut takes any for the list. A book knows of no lock: it works on a core that its
-//! caller holds.
+//! `Book::prepare`; nothing else but a cut takes any for the list.
+//!
+//! A pass goes back by a ring: its client posts it, and [`drain_all`] gives the passes of all rings back to the core.
+//! [`Posted`] tells which rings have any. Nothing here knows of a lock: the core is one that the caller holds.
 #![tactic(auto)]
 
 pub mod book;
+pub mod draining;
+mod posted;
 mod said;
 
 pub use book::Book;
+pub use draining::drain_all;
+pub use posted::Posted;

@@ -1,4 +1,3 @@
-pub mod Draining
 pub mod Stepping
 pub mod Taking
 pub mod Fixing

@@ -9,7 +9,7 @@ use Rattle.bp_core.specs.CoreView.{CoreView, with_entry}
 use Rattle.bp_trail.specs.Pieces.{by}
 use Rattle.bp_trail.specs.Pieces.FixGoesOn.{begins as fix_begins, marked as fix_marked_by}
 use Rattle.bp_trail.specs.Pieces.FlushGoesOn.{begins as flush_begins, marked as flush_marked_by}
-use Rattle.bp_shared.specs.Rings.{DrainsRings}
+use Rattle.bp_book.specs.Rings.{DrainsRings}
 use Rattle.bp_book.specs.Books.{Alike}
 use Rattle.bp_shared.specs.Locked.{LockedValue, InStep}
 use Rattle.bp_book.specs.Turns.{LookOutcome, AskFixOutcome, AskFlushOutcome, FixWaits, FlushWaits, FixTurn, FlushTurn}

@@ -1,5 +1,4 @@
 -- What a session's call adds to its list, and what the locked state does with it.
 pub mod Sessions
-pub mod Rings
 pub mod Locked
 pub mod Taking

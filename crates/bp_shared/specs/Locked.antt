@@ -5,7 +5,7 @@ use Rattle.bp_trail.specs.Parameters.{Parameters}
 use Rattle.bp_trail.specs.Trail.{Trail}
 use Rattle.bp_trail.specs.Clock.{durable}
 use Rattle.bp_core.specs.CoreView.{CoreView}
-use Rattle.bp_shared.specs.Rings.{RingView, DrainsRings}
+use Rattle.bp_book.specs.Rings.{RingView, DrainsRings}
 
 -- no pool's parameters
 abbrev pub no_parameters : Parameters

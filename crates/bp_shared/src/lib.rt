@@ -7,7 +7,6 @@
 mod locking;
 pub mod names;
 pub mod pool;
-mod posted;
 mod session;
 mod state;
 mod taker;

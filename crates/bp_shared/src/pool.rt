@@ -4,11 +4,12 @@ ghost use Rattle.bp_book.specs.Turns.{is_busy};
 
 use crate::locking::locked;
 use crate::names::PoolName;
-use crate::posted::Posted;
 use crate::session::Session;
-use crate::state::{RING, State};
+use crate::state::State;
 use crate::taker::Taker;
 use crate::trail_ring::TrailRing;
+use bp_book::Posted;
+use bp_book::draining::RING;
 use bp_core::{Core, Entry, Pass};
 use bp_mark::{Mark, Reader};
 use bp_page::Refusal;

@@ -2,16 +2,14 @@
 use crate::names::PoolName;
 use crate::taker::Taker;
 use crate::trail_ring::meet;
+use bp_book::draining::{ALL, drain_all};
 use bp_core::{Core, Entry, PassNote};
 use bp_mark::Reader;
 use rtrb::{Consumer, Producer};
 use std::marker::{Model, PhantomData};
 
 mod cutting;
-mod draining;
 mod turns;
-
-pub(crate) use draining::RING;
 
 /// What lies under the lock. Its trail is legal, by the core's own type; the reader is the mark's, and has seen every LSN that the
 /// core was told.
@@ -33,7 +31,7 @@ pub(crate) struct State<N: PoolName> {
 impl<N: PoolName> Model for State<N> {
     ghost use Rattle.std.specs.Prelude.{map};
     ghost use Rattle.bp_shared.specs.Locked.{LockedValue, IsLocked};
-    ghost use Rattle.bp_shared.specs.Rings.{ring_view};
+    ghost use Rattle.bp_book.specs.Rings.{ring_view};
     ghost use Rattle.bp_shared.specs.Taking.{IsHandedOut};
 
     ghost Value = { LockedValue };
@@ -47,7 +45,8 @@ impl<N: PoolName> State<N> {
     ghost use Rattle.std.specs.Prelude.{◌≡◌, ◌≤◌, [], map};
     ghost use Rattle.rtrb.specs.Ring.{sent};
     ghost use Rattle.bp_trail.specs.Clock.{durable};
-    ghost use Rattle.bp_shared.specs.Rings.{ring_view};
+    ghost use Rattle.bp_book.specs.Rings.{ring_view};
+    ghost use Rattle.bp_shared.specs.Locked.{Settled};
     ghost use Rattle.bp_shared.specs.Taking.{ring_of, IsEmptied};
 
     /// A core whose rings gave nothing yet.
@@ -81,6 +80,13 @@ impl<N: PoolName> State<N> {
     /// How often device work ended, modulo 2^64.
     pub(crate) fn ends(&self) -> u64 {
         self.ends
+    }
+
+    /// Drains each ring, the first client's first, at most 32 passes each.
+    pub(crate) fn settle(&mut self)
+        ensures { Settled self.old self.new }
+    {
+        drain_all(&mut self.core, &mut self.strays, &mut self.consumers, ALL);
     }
 
     /// The core and its reader. The taker has all that the core handed out.

@@ -5,10 +5,10 @@ ghost use Rattle.bp_shared.specs.Locked.{Settled};
 ghost use Rattle.bp_shared.specs.Taking.{HandsOut, ComesNext, GaveTooMany};
 
 use super::State;
-use super::draining::{ALL, drain_all};
 use crate::names::PoolName;
 use crate::taker::Taker;
 use crate::trail_ring::{meet, pass_on};
+use bp_book::draining::{ALL, drain_all};
 use bp_core::Entry;
 use bp_page::Refusal;
 

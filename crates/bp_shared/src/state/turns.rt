@@ -8,10 +8,9 @@ ghost use Rattle.bp_book.specs.Turns.{TickSaid, PurgeSaid, ReadSaid, WriteSaid};
 ghost use Rattle.bp_shared.specs.Locked.{InStep};
 
 use super::State;
-use super::draining::drain_all;
 use crate::names::PoolName;
 use crate::session::Session;
-use bp_book::Book;
+use bp_book::{Book, drain_all};
 use bp_core::{Ended, Fix, Flush, Pass, ReadTicket, WriteTicket};
 use bp_mark::Mark;
 use bp_page::{Bytes, Image, Lsn, PageNo, PortFault, Refusal};

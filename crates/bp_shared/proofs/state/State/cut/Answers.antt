@@ -5,7 +5,7 @@ use Rattle.std.specs.Prelude.{IfErr}
 use Rattle.rtrb.specs.Ring.{received}
 use Rattle.bp_page.specs.declared.refusals.Refusal.TheVariants as refusal
 use Rattle.bp_core.specs.Outcomes.{CutRefused}
-use Rattle.bp_shared.specs.Rings.{ring_view}
+use Rattle.bp_book.specs.Rings.{ring_view}
 use Rattle.bp_shared.specs.Taking.{after_pieces}
 use Rattle.bp_shared.proofs.Taking.{one_more, handed_out, comes_next, gave_too_many, still_locked}
 use Rattle.bp_shared.proofs.state.State.cut.Goals as goal

@@ -1,6 +1,6 @@
 -- Rings drained, at most one mark, one event.
 use Rattle.std.proofs.Common.{arith, refl}
-use Rattle.bp_shared.proofs.Draining.{lent_rings}
+use Rattle.bp_book.proofs.Drains.{lent_rings}
 use Rattle.bp_shared.proofs.Stepping.{step_one, step_two, fix_marked, fix_not_ready}
 use Rattle.bp_shared.proofs.state.State.fix.Goals as goal
 

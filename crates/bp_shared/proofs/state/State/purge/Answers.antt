@@ -1,6 +1,6 @@
 -- Rings drained, and one event.
 use Rattle.std.proofs.Common.{arith, refl}
-use Rattle.bp_shared.proofs.Draining.{lent_rings}
+use Rattle.bp_book.proofs.Drains.{lent_rings}
 use Rattle.bp_shared.proofs.Stepping.{step_one}
 use Rattle.bp_shared.proofs.state.State.purge.Goals as goal
 

@@ -1,9 +1,9 @@
 -- One ring after another.
 use Rattle.std.proofs.Common.{arith, refl, ◌∙◌}
-use Rattle.bp_shared.specs.Rings.{ring_view}
-use Rattle.bp_shared.specs.Rings.DrainsRings.{none_left}
-use Rattle.bp_shared.proofs.Draining.{rings_next, rings_durable}
-use Rattle.bp_shared.proofs.state.draining.drain_all.Goals as goal
+use Rattle.bp_book.specs.Rings.{ring_view}
+use Rattle.bp_book.specs.Rings.DrainsRings.{none_left}
+use Rattle.bp_book.proofs.Drains.{rings_next, rings_durable}
+use Rattle.bp_book.proofs.draining.drain_all.Goals as goal
 
 pub loop-consumer-init : goal.loop-consumer-init
 loop-consumer-init c = record { parameters = refl; before = refl; drained = none_left; left = refl }

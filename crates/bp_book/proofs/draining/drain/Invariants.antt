@@ -1,8 +1,8 @@
 -- What was taken so far went back.
 use Rattle.std.proofs.Common.{◌≡◌}
 use Rattle.rtrb.specs.Ring.{received}
-use Rattle.bp_shared.proofs.Draining.{Takes}
-use Rattle.bp_shared.proofs.state.draining.drain.Given as goal
+use Rattle.bp_book.proofs.Drains.{Takes}
+use Rattle.bp_book.proofs.draining.drain.Given as goal
 
 abbrev pub invariant-loop : goal.invariant-loop
 invariant-loop l =

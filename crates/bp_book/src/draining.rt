@@ -1,19 +1,16 @@
-//! The passes that sessions posted go back to the core.
+//! The passes that clients posted by their rings go back to a core.
 ghost use Rattle.std.specs.Prelude.{◌≡◌, map};
 ghost use Rattle.bp_trail.specs.Clock.{durable};
-ghost use Rattle.bp_shared.specs.Locked.{Settled};
-ghost use Rattle.bp_shared.specs.Rings.{OneBack, ring_view, DrainsRing, DrainsRings};
+ghost use Rattle.bp_book.specs.Rings.{OneBack, ring_view, DrainsRing, DrainsRings};
 
-use super::State;
-use crate::names::PoolName;
 use bp_core::{Core, PassNote};
 use rtrb::Consumer;
 
 /// The most passes that are taken from a ring at once, which is as many as it holds.
-pub(crate) const RING: usize = 32;
+pub const RING: usize = 32;
 
 /// The word by which each ring is asked.
-pub(crate) const ALL: u64 = u64::MAX;
+pub const ALL: u64 = u64::MAX;
 
 /// Gives a pass back. One that the core does not know is dropped, and counted as a stray; the count stays at 2^64 − 1.
 fn give_back(core: &mut Core, strays: &mut u64, note: PassNote)
@@ -55,8 +52,10 @@ fn drain_asked(core: &mut Core, strays: &mut u64, consumer: &mut Consumer<PassNo
     }
 }
 
-/// Drains each ring that is to be asked, the first client's first. Bit c of the word stands for the ring of client c.
-pub(crate) fn drain_all(
+/// Drains each ring that is to be asked, and each in which a pass is known to wait, the first client's first, at most 32
+/// passes each. Bit c of the word stands for the ring of client c. Each pass goes back to the core; one that the core does
+/// not know is dropped, and counted as a stray. It takes no memory.
+pub fn drain_all(
     core: &mut Core,
     strays: &mut u64,
     consumers: &mut [Consumer<PassNote>],
@@ -71,14 +70,5 @@ pub(crate) fn drain_all(
     for consumer in consumers.iter_mut() {
         drain_asked(core, strays, consumer, word % 2 == 1);
         word /= 2;
-    }
-}
-
-impl<N: PoolName> State<N> {
-    /// Drains each ring, the first client's first, at most 32 passes each.
-    pub(crate) fn settle(&mut self)
-        ensures { Settled self.old self.new }
-    {
-        drain_all(&mut self.core, &mut self.strays, &mut self.consumers, ALL);
     }
 }

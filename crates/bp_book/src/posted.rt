@@ -10,7 +10,7 @@ const FEW: u8 = 16;
 /// A client tells after its pass is in the ring, and the word is taken under the lock. So a section asks each ring whose passes were
 /// told before it; a pass that is told later is drained by the next one, or by whatever drains all rings.
 #[derive(Drop)]
-pub(crate) struct Posted {
+pub struct Posted {
     has_many: bool,
     /// Bit c: client c told of a pass.
     told: AtomicU64,
@@ -18,7 +18,7 @@ pub(crate) struct Posted {
 
 impl Posted {
     /// Nobody posted. There are at most 64 clients.
-    pub(crate) fn nothing(clients: u8) -> Posted {
+    pub fn nothing(clients: u8) -> Posted {
         Posted {
             has_many: clients > FEW,
             told: AtomicU64::new(0),
@@ -26,7 +26,7 @@ impl Posted {
     }
 
     /// The client's ring has one more pass.
-    pub(crate) fn tell(&self, client: u8) {
+    pub fn tell(&self, client: u8) {
         if self.has_many {
             let bit = 1u64.wrapping_shl(u32::from(client));
             self.told.fetch_or(bit, Ordering::SeqCst);
@@ -34,7 +34,7 @@ impl Posted {
     }
 
     /// The rings that a section is to ask, bit c for client c: those told of since the last time, or all where there are few.
-    pub(crate) fn take(&self) -> u64 {
+    pub fn take(&self) -> u64 {
         if !self.has_many {
             return u64::MAX;
         }

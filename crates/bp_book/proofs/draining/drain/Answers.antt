@@ -1,7 +1,7 @@
 -- One pass after another.
 use Rattle.std.proofs.Common.{arith, refl, ◌∙◌}
-use Rattle.bp_shared.proofs.Draining.{takes_none, takes_more, drains_most, drains_all}
-use Rattle.bp_shared.proofs.state.draining.drain.Goals as goal
+use Rattle.bp_book.proofs.Drains.{takes_none, takes_more, drains_most, drains_all}
+use Rattle.bp_book.proofs.draining.drain.Goals as goal
 
 pub loop-init : goal.loop-init
 loop-init c = record { parameters = refl; before = refl; takes = takes_none _ _ _ }

@@ -1,7 +1,7 @@
 -- The rings before this one were drained, and the others are as they were.
 use Rattle.std.proofs.Common.{◌≡◌, map, take, drop}
-use Rattle.bp_shared.specs.Rings.{ring_view, DrainsRings}
-use Rattle.bp_shared.proofs.state.draining.drain_all.Given as goal
+use Rattle.bp_book.specs.Rings.{ring_view, DrainsRings}
+use Rattle.bp_book.proofs.draining.drain_all.Given as goal
 
 abbrev pub invariant-loop-consumer : goal.invariant-loop-consumer
 invariant-loop-consumer l =

@@ -8,9 +8,9 @@ use Rattle.rtrb.specs.declared.consumer.Consumer.{Consumer}
 use Rattle.bp_trail.specs.Event.{Grant}
 use Rattle.bp_trail.specs.Trail.{Trail}
 use Rattle.bp_trail.specs.Clock.{durable}
-use Rattle.bp_shared.specs.Rings.{OneBack, GoBack, RingView, ring_view, DrainsRing, DrainsRings}
-use Rattle.bp_shared.specs.Rings.GoBack.{none_taken, next_taken}
-use Rattle.bp_shared.specs.Rings.DrainsRings.{none_left, next_ring}
+use Rattle.bp_book.specs.Rings.{OneBack, GoBack, RingView, ring_view, DrainsRing, DrainsRings}
+use Rattle.bp_book.specs.Rings.GoBack.{none_taken, next_taken}
+use Rattle.bp_book.specs.Rings.DrainsRings.{none_left, next_ring}
 
 -- just so many passes came out and went back
 pub record Takes (n : ℕ) (received received_after : List Grant) (start : Trail) (strays : ℕ) (past : Trail) (strayed : ℕ) : Type 0 where
