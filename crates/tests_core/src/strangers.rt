@@ -73,3 +73,19 @@ fn note_in_place_of_a_pass(rt: HostRuntime) {
     let _ = hands_back(&rt, &mut core, note.pass()).note();
     unfix(&rt, &mut core, first);
 }
+
+// The oldest pass and the newest stay out, while those between them go back.
+#[test]
+fn passes_from_the_middle(rt: HostRuntime) {
+    let mut core = usual(&rt, 1);
+    let first = bring(&rt, &mut core);
+    let mut before = hit(&rt, &mut core, 0, 1, 1).note();
+    for serial in 2..40 {
+        let after = hit(&rt, &mut core, 0, 1, serial).note();
+        unfix(&rt, &mut core, before.pass());
+        let _ = hands_back(&rt, &mut core, before.pass()).note();
+        before = after;
+    }
+    unfix(&rt, &mut core, before.pass());
+    unfix(&rt, &mut core, first);
+}
