@@ -2,6 +2,7 @@
 ghost use Rattle.std.specs.Prelude.{◌≡◌, ◌++◌, ◌<◌, ◌≤◌, All, IfErr, IfOk, OnOk, [], false, if◌then◌else◌, map, vec_len};
 ghost use Rattle.std.specs.Io.KnownBytes.{Appends};
 ghost use Rattle.clap.specs.Walk.{texts};
+ghost use Rattle.bp_trail.specs.Fits.{RowFits};
 ghost use Rattle.bp_trace.specs.InRange.{IsInRange};
 ghost use Rattle.bp_trace.specs.Report.{report_text, rows_text};
 ghost use Rattle.bp_words.specs.Decision.{AsksForHelp, IsRunnable};
@@ -92,6 +93,32 @@ fn new_core(
     core.map_err(Ending::RunRefused)
 }
 
+/// Runs the rows over a new core and the port, and writes the report and the refused rows. Answers whether all rows were
+/// accepted.
+fn drive_rows<P: Port, R: Wait, W: Write>(
+    rt: &R,
+    alloc: Global,
+    core: &mut Core,
+    port: &mut P,
+    rows: &[Row],
+    out: &mut W,
+) -> Result<bool, Ending>
+    requires new { (core.old.before ≡ []) × (core.old.past ≡ []) }
+    requires size { (P.geometry_of port.old).size ≡ core.old.parameters.size }
+    requires fits { All (RowFits core.old.parameters) rows.now }
+    ensures reported { IfOk result (λ ok. Reports core.old.parameters rows.now ok (W.contents out.old) (W.contents out.new)) }
+    ensures fault { IfErr result (λ ending. is_help ending ≡ false) }
+{
+    let refused = match drive_all(rt, alloc, core, port, rows) {
+        Ok(refused) => refused,
+        Err(refusal) => return Err(Ending::RunRefused(refusal)),
+    };
+    match print_run(core.trail(), &refused, out) {
+        Ok(()) => Ok(refused.is_empty()),
+        Err(fault) => Err(fault),
+    }
+}
+
 /// Runs the rows in the order of the trace over a new core and the port, and writes the report and the refused rows. Answers
 /// whether all rows were accepted.
 fn run_rows<P: Port, R: Wait, W: Write>(
@@ -111,14 +138,7 @@ fn run_rows<P: Port, R: Wait, W: Write>(
         Ok(core) => core,
         Err(ending) => return Err(ending),
     };
-    let refused = match drive_all(rt, alloc, &mut core, port, rows) {
-        Ok(refused) => refused,
-        Err(refusal) => return Err(Ending::RunRefused(refusal)),
-    };
-    match print_run(core.trail(), &refused, out) {
-        Ok(()) => Ok(refused.is_empty()),
-        Err(fault) => Err(fault),
-    }
+    drive_rows(rt, alloc, &mut core, port, rows, out)
 }
 
 /// The rows of a trace over pages of this geometry.

@@ -2,6 +2,6 @@ use Rattle.bp_words.specs.Words.{told_of}
 use Rattle.bp_run.proofs.Opened.{rows_fit}
 use Rattle.bp_run.proofs.run.run_rows.Goals as goal
 
-pub drive_all-requires-clause-fits : goal.drive_all-requires-clause-fits
-drive_all-requires-clause-fits g c =
+pub drive_rows-requires-clause-fits : goal.drive_rows-requires-clause-fits
+drive_rows-requires-clause-fits g c =
     rows_fit (told_of c.args.run.now) (g.P.Port.geometry_of c.args.port.now) c.geometry.result c.args.rows.now c.in-Ok.core.parameters c.requires.fits c.geometry.ensures c.in-Ok.ensures.made.0
