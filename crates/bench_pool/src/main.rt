@@ -1,5 +1,6 @@
 //! Times fix and unfix over a page file where its argument is the path of one; else it does nothing. A second argument is the
-//! trail's room: the trail is then cut, and let go, each time it is half full. docs/BENCHMARKS.md has its numbers.
+//! trail's room: the trail is then cut each time it is half full, into the memory of the piece before. docs/BENCHMARKS.md has the
+//! numbers.
 #![tactic(auto)]
 
 ghost use Rattle.std.specs.Prelude.{◌≡◌, ◌*◌, ◌<◌, ◌≤◌, IfOk};
@@ -12,7 +13,7 @@ use bp_page::{Geometry, PageNo, Refusal};
 use std::alloc::Global;
 use std::env;
 use std::fs::File;
-use std::mem::size_of;
+use std::mem::{self, size_of};
 use std::rt::{Files, Runtime};
 use std::sync::Wait;
 use std::time::{CpuClock, Duration};
@@ -84,31 +85,50 @@ fn use_any(rt: &impl Wait, core: &mut Core, port: &mut FilePort, page: PageNo) -
     }
 }
 
-// Hands out the trail, and lets it go.
-fn cut(core: &mut Core)
+/// How a long trail is cut.
+#[derive(Drop)]
+struct Cuts {
+    alloc: Global,
+    at: usize,
+    /// The piece that was cut last: the trail goes on in its memory.
+    spare: Vec<Entry>,
+}
+
+// No piece yet.
+fn cuts_at(alloc: Global, at: usize) -> Cuts {
+    Cuts {
+        alloc,
+        at,
+        spare: Vec::new(alloc),
+    }
+}
+
+// Hands out the trail, and drops the piece before.
+fn cut(core: &mut Core, cuts: &mut Cuts)
     ensures same { core.new.parameters ≡ core.old.parameters }
 {
-    match core.cut() {
-        Ok(_entries) => (),
+    let spare = mem::replace(&mut cuts.spare, Vec::new(cuts.alloc));
+    match core.cut_into(spare) {
+        Ok(entries) => cuts.spare = entries,
         Err(_) => (),
     }
 }
 
 // Moves the clock where it is due, and cuts a long trail.
-fn tick(core: &mut Core, call: u64, cut_at: usize)
+fn tick(core: &mut Core, call: u64, cuts: &mut Cuts)
     requires client { 0 < core.old.parameters.clients }
     ensures same { core.new.parameters ≡ core.old.parameters }
 {
     if call % FIXES_A_TICK == 0 {
         let _ = core.tick(0, 1);
-        if core.trail().len() >= cut_at {
-            cut(core);
+        if core.trail().len() >= cuts.at {
+            cut(core, cuts);
         }
     }
 }
 
 // Brings in as many pages, in turn.
-fn fill(rt: &impl Wait, core: &mut Core, port: &mut FilePort, pages: u64, cut_at: usize)
+fn fill(rt: &impl Wait, core: &mut Core, port: &mut FilePort, pages: u64, cuts: &mut Cuts)
     requires size { port.old.device.size ≡ core.old.parameters.size }
     requires client { 0 < core.old.parameters.clients }
     requires pages_in { pages ≤ core.old.parameters.pages }
@@ -116,13 +136,13 @@ fn fill(rt: &impl Wait, core: &mut Core, port: &mut FilePort, pages: u64, cut_at
     ensures device { port.new.device ≡ port.old.device }
 {
     for page in 0..pages {
-        tick(core, page, cut_at);
+        tick(core, page, cuts);
         use_any(rt, core, port, PageNo::new(page));
     }
 }
 
 // Fixes pages at random. Counts those that were resident.
-fn hit_at_random(core: &mut Core, pages: u64, calls: u64, cut_at: usize) -> u64
+fn hit_at_random(core: &mut Core, pages: u64, calls: u64, cuts: &mut Cuts) -> u64
     requires some { 0 < pages }
     requires client { 0 < core.old.parameters.clients }
     requires pages_in { pages ≤ core.old.parameters.pages }
@@ -131,7 +151,7 @@ fn hit_at_random(core: &mut Core, pages: u64, calls: u64, cut_at: usize) -> u64
     let mut hits = 0;
     for call in 0..calls {
         state = next(state);
-        tick(core, call, cut_at);
+        tick(core, call, cuts);
         hits += use_resident(core, PageNo::new((state >> 33) % pages));
     }
     hits
@@ -144,7 +164,7 @@ fn fix_at_random(
     port: &mut FilePort,
     pages: u64,
     calls: u64,
-    cut_at: usize,
+    cuts: &mut Cuts,
 ) -> u64
     requires some { 0 < pages }
     requires size { port.old.device.size ≡ core.old.parameters.size }
@@ -156,7 +176,7 @@ fn fix_at_random(
     let mut fixes = 0;
     for call in 0..calls {
         state = next(state);
-        tick(core, call, cut_at);
+        tick(core, call, cuts);
         fixes += use_any(rt, core, port, PageNo::new((state >> 33) % pages));
     }
     fixes
@@ -210,14 +230,14 @@ fn time_hits(
     core: &mut Core,
     pages: u64,
     calls: u64,
-    cut_at: usize,
+    cuts: &mut Cuts,
 ) -> Result<(), anyhow::Error>
     requires some { 0 < pages }
     requires client { 0 < core.old.parameters.clients }
     requires pages_in { pages ≤ core.old.parameters.pages }
 {
     let start = rt.thread_cpu_time()?;
-    let hits = hit_at_random(core, pages, calls, cut_at);
+    let hits = hit_at_random(core, pages, calls, cuts);
     let end = rt.thread_cpu_time()?;
     let each = calls_a_second(start, end, calls);
     println!(rt; "{pages} pages: {each} fixes and unfixes a second; {hits} of {calls} were hits")?;
@@ -231,7 +251,7 @@ fn time_evictions(
     port: &mut FilePort,
     pages: u64,
     calls: u64,
-    cut_at: usize,
+    cuts: &mut Cuts,
 ) -> Result<(), anyhow::Error>
     requires some { 0 < pages }
     requires size { port.old.device.size ≡ core.old.parameters.size }
@@ -239,7 +259,7 @@ fn time_evictions(
     requires pages_in { pages ≤ core.old.parameters.pages }
 {
     let start = rt.thread_cpu_time()?;
-    let fixes = fix_at_random(rt, core, port, pages, calls, cut_at);
+    let fixes = fix_at_random(rt, core, port, pages, calls, cuts);
     let end = rt.thread_cpu_time()?;
     let each = calls_a_second(start, end, calls);
     println!(rt;
@@ -255,7 +275,7 @@ fn full_core(
     port: &mut FilePort,
     frames: usize,
     room: usize,
-    cut_at: usize,
+    cuts: &mut Cuts,
 ) -> Result<Core, Refusal>
     requires pages_in { frames ≤ port.old.device.pages }
     ensures device { port.new.device ≡ port.old.device }
@@ -265,7 +285,7 @@ fn full_core(
 {
     match new_core(alloc, port.geometry(), frames, room) {
         Ok(mut core) => {
-            fill(rt, &mut core, port, frames as u64, cut_at);
+            fill(rt, &mut core, port, frames as u64, cuts);
             Ok(core)
         }
         Err(refusal) => Err(refusal),
@@ -285,8 +305,9 @@ fn time_resident(
     requires pages_in { frames ≤ port.old.device.pages }
     ensures device { port.new.device ≡ port.old.device }
 {
-    let mut core = full_core(rt, rt.alloc(), port, frames, room, cut_at)?;
-    time_hits(rt, &mut core, frames as u64, calls, cut_at)
+    let mut cuts = cuts_at(rt.alloc(), cut_at);
+    let mut core = full_core(rt, rt.alloc(), port, frames, room, &mut cuts)?;
+    time_hits(rt, &mut core, frames as u64, calls, &mut cuts)
 }
 
 // Times fixes with evictions over a new core.
@@ -302,14 +323,15 @@ fn time_away(
     requires few { frames ≤ 65536 }
     requires pages_in { frames * PAGES_A_FRAME ≤ port.old.device.pages }
 {
-    let mut core = full_core(rt, rt.alloc(), port, frames, room, cut_at)?;
+    let mut cuts = cuts_at(rt.alloc(), cut_at);
+    let mut core = full_core(rt, rt.alloc(), port, frames, room, &mut cuts)?;
     time_evictions(
         rt,
         &mut core,
         port,
         frames as u64 * PAGES_A_FRAME,
         calls,
-        cut_at,
+        &mut cuts,
     )
 }
 
