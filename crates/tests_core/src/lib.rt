@@ -1,8 +1,10 @@
-//! The core's answers to whole lists of calls, reckoned by hand.
+//! The core's answers to whole tables of calls, reckoned by hand.
 //!
 //! They stand apart from `bp_core`, so that it is not proved a second time with its tests.
 #![tactic(auto)]
 
+#[cfg(test)]
+mod calls;
 #[cfg(test)]
 mod cuts;
 #[cfg(test)]
@@ -10,9 +12,7 @@ mod limits;
 #[cfg(test)]
 mod reads;
 #[cfg(test)]
-mod runs;
-#[cfg(test)]
-mod steps;
+mod rows;
 #[cfg(test)]
 mod strangers;
 #[cfg(test)]

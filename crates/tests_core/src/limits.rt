@@ -1,85 +1,89 @@
-//! What a core is made with, and where its room and its clock end.
-use super::steps::{bring, core, has_entries, has_stamps, refused, tick, unfix, usual};
+//! Where a core's parameters, its room and its clock end, and the numbers of refusals.
+use super::calls::{Do, Gives};
+use super::rows::{answers, core, usual};
 use bp_core::Core;
 use bp_lruk::Settings;
 use bp_page::{Geometry, Lsn, Refusal};
-use std::process::Abort;
-use std::test::Fail;
+use std::alloc::Global;
 
-// A core that nobody called.
-fn is_new(rt: &impl Abort, core: &Core) {
-    assert_eq!(rt; (core.clock(), core.durable()), (1, Lsn::new(0)));
-    has_stamps(rt, core, 0, (0, 0), 0);
-    has_entries(rt, core, 0);
-}
-
-#[test]
-fn tells_what_it_was_made_with(rt: HostRuntime) -> Result<(), Fail> {
-    let geometry = Geometry::new(5, 32)?;
-    let settings = Settings::new(3, 4, 500)?;
-    let core = Core::new(rt.alloc(), geometry, settings, 7, 9, 11)?;
-    let geometry = core.geometry();
-    let settings = core.settings();
-    assert_eq!(rt; (geometry.pages, geometry.size), (5, 32));
-    assert_eq!(rt;
-        (settings.k, settings.correlated, settings.retained),
-        (3, 4, 500)
-    );
-    assert_eq!(rt; (core.frames(), core.clients(), core.room()), (7, 9, 11));
-    is_new(&rt, &core);
-    Ok(())
-}
-
-#[test]
-fn keeps_the_limits_of_a_core(rt: HostRuntime) -> Result<(), Fail> {
+/// A core with these frames, clients and room.
+fn made(alloc: Global, frames: usize, clients: u8, room: usize) -> Result<Core, Refusal> {
     let geometry = Geometry::new(1, 16)?;
     let settings = Settings::new(1, 0, 0)?;
-    for (frames, clients, room) in [(1, 1, 1), (65_536, 64, 1)] {
-        let core = Core::new(rt.alloc(), geometry, settings, frames, clients, room);
-        assert!(rt;
-            core.is_ok(),
-            "{frames} frames, {clients} clients, room {room}"
-        );
+    Core::new(alloc, geometry, settings, frames, clients, room)
+}
+
+/// The number of the refusal of such a core, where it is refused.
+fn refused(alloc: Global, frames: usize, clients: u8, room: usize) -> Option<u16> {
+    match made(alloc, frames, clients, room).err() {
+        Some(refusal) => Some(refusal.number()),
+        None => None,
     }
-    for (frames, clients, room) in [
-        (0, 1, 1),
-        (65_537, 1, 1),
-        (1, 0, 1),
-        (1, 65, 1),
-        (1, 1, 0),
-        (1, 1, 16_777_217),
+}
+
+#[test]
+fn keeps_the_limits_of_a_core(rt: HostRuntime) {
+    for (frames, clients, room, number) in [
+        (1, 1, 1, None),
+        (65_536, 64, 1, None),
+        (0, 1, 1, Some(2)),
+        (65_537, 1, 1, Some(2)),
+        (1, 0, 1, Some(2)),
+        (1, 65, 1, Some(2)),
+        (1, 1, 0, Some(2)),
+        (1, 1, 16_777_217, Some(2)),
     ] {
-        let core = Core::new(rt.alloc(), geometry, settings, frames, clients, room);
-        let is_refused = matches!(core, Err(Refusal::BadSettings));
-        assert!(rt;
-            is_refused,
+        let found = refused(rt.alloc(), frames, clients, room);
+        assert_eq!(rt;
+            found,
+            number,
             "{frames} frames, {clients} clients, room {room}"
         );
     }
-    assert_eq!(rt; Refusal::BadSettings.number(), 2);
-    Ok(())
+}
+
+#[test]
+fn numbers_of_refusals(rt: HostRuntime) {
+    for (refusal, number) in [
+        (Refusal::BadSettings, 2),
+        (Refusal::NoVictim, 11),
+        (Refusal::NeedLog(Lsn::new(3)), 12),
+        (Refusal::Busy, 13),
+        (Refusal::ReadFailed, 17),
+        (Refusal::WriteFailed, 18),
+        (Refusal::TrailFull, 20),
+        (Refusal::ClockFull, 21),
+    ] {
+        assert_eq!(rt; refusal.number(), number);
+    }
 }
 
 #[test]
 fn full_trail(rt: HostRuntime) {
-    let mut small = core(&rt, 2, 1000, 1, 2);
-    refused(&rt, &mut small, 0, 1, Refusal::TrailFull, 20);
-    has_entries(&rt, &small, 0);
-    let mut core = core(&rt, 2, 1000, 1, 3);
-    let pass = bring(&rt, &mut core);
-    unfix(&rt, &mut core, pass);
-    refused(&rt, &mut core, 0, 1, Refusal::TrailFull, 20);
-    has_entries(&rt, &core, 3);
+    let rows = [
+        (Do::Fix(0, 1), Gives::Refused(Refusal::TrailFull)),
+        (Do::Length, Gives::Number(0)),
+    ];
+    answers(&rt, core(&rt, 2, 1000, 1, 2), &rows);
+    let rows = [
+        (Do::Fix(0, 1), Gives::Load(1, 0, None)),
+        (Do::ReadEnd(0), Gives::Pass(0, 1, 0)),
+        (Do::Unfix(0), Gives::Done),
+        (Do::Fix(0, 1), Gives::Refused(Refusal::TrailFull)),
+        (Do::Length, Gives::Number(3)),
+    ];
+    answers(&rt, core(&rt, 2, 1000, 1, 3), &rows);
 }
 
 #[test]
 fn clock_at_its_end(rt: HostRuntime) {
-    let mut core = usual(&rt, 1);
-    assert_eq!(rt; core.clock(), 1);
-    tick(&rt, &mut core, 4611686018427387903, 4611686018427387904);
-    assert!(rt; 0 < core.clients());
-    assert_eq!(rt; core.tick(0, 1), Err(Refusal::ClockFull));
-    assert_eq!(rt; Refusal::ClockFull.number(), 21);
-    tick(&rt, &mut core, 0, 4611686018427387904);
-    has_entries(&rt, &core, 2);
+    let end = 4611686018427387904;
+    let rows = [
+        (Do::Tick(0), Gives::Number(1)),
+        (Do::Tick(4611686018427387903), Gives::Number(end)),
+        (Do::Tick(1), Gives::Refused(Refusal::ClockFull)),
+        (Do::Tick(0), Gives::Number(end)),
+        (Do::Length, Gives::Number(3)),
+    ];
+    answers(&rt, usual(&rt, 1), &rows);
 }

@@ -1,77 +1,61 @@
 //! Passes and tickets of another core, and passes as notes.
-use super::steps::{
-    bring, has_entries, hit, image, is_pass, load, read_zeros, reads, starts, unfix, usual,
-};
-use bp_core::{Core, EndRefusal, Pass, ReadTicket};
-use bp_page::PageNo;
-use std::process::Abort;
+use super::calls::{Do, Gives};
+use super::rows::{answers, follow, usual};
 
-// Gives a pass back in vain.
-fn hands_back(rt: &impl Abort, core: &mut Core, pass: Pass) -> Pass {
-    match core.unfix(pass) {
-        Err(pass) => pass,
-        Ok(()) => panic!(rt; "the core took the pass"),
-    }
-}
+const BRINGS: [(Do, Gives); 2] = [
+    (Do::Fix(0, 1), Gives::Load(1, 0, None)),
+    (Do::ReadEnd(0), Gives::Pass(0, 1, 0)),
+];
 
 #[test]
 fn pass_of_another_core(rt: HostRuntime) {
     let mut own = usual(&rt, 1);
     let mut other = usual(&rt, 1);
-    let pass = bring(&rt, &mut own);
-    let pass = hands_back(&rt, &mut other, pass);
-    is_pass(&rt, &pass, 0, 1, 0);
-    has_entries(&rt, &other, 0);
-    unfix(&rt, &mut own, pass);
-    has_entries(&rt, &own, 3);
+    follow(&rt, &mut own, &BRINGS);
+    other.take_note(own.note(0).expect(&rt, "the pass"));
+    let refused = [
+        (Do::Unfix(0), Gives::PassBack(0, 1, 0)),
+        (Do::Length, Gives::Number(0)),
+    ];
+    answers(&rt, other, &refused);
+    let goes_back = [(Do::Unfix(0), Gives::Done), (Do::Length, Gives::Number(3))];
+    answers(&rt, own, &goes_back);
 }
 
-// Ends a read in vain, with an image that starts with a 6.
-fn hands_read_back(
-    rt: &(impl Abort + AllocGlobal),
-    core: &mut Core,
-    ticket: ReadTicket,
-) -> ReadTicket {
-    let read = image(rt, 6);
-    assert_eq!(rt; core.geometry().size, read.bytes().len());
-    match core.read_end(ticket, Ok(read)) {
-        Err(EndRefusal::Unknown(ticket, read)) => {
-            starts(rt, &read.expect(rt, "the image"), 6);
-            assert_eq!(rt; ticket.client(), 0);
-            assert_eq!(rt; ticket.page(), PageNo::new(1));
-            assert_eq!(rt; ticket.serial(), 0);
-            ticket
-        }
-        Err(EndRefusal::Failed(refusal)) => panic!(rt; "the read: {refusal}"),
-        Ok(_pass) => panic!(rt; "the core took the ticket"),
-    }
-}
-
+// The ticket comes back with its image, which starts with a 6, and is good for its own core.
 #[test]
 fn ticket_of_another_core(rt: HostRuntime) {
     let mut own = usual(&rt, 1);
     let mut other = usual(&rt, 1);
-    let ticket = load(&rt, &mut own, 1, 0, None);
-    let ticket = hands_read_back(&rt, &mut other, ticket);
-    has_entries(&rt, &other, 0);
-    let pass = read_zeros(&rt, &mut own, ticket, 0);
-    unfix(&rt, &mut own, pass);
+    follow(&rt, &mut own, &[(Do::Fix(0, 1), Gives::Load(1, 0, None))]);
+    other.take_read(own.lend_read());
+    let refused = [
+        (Do::ReadEnd(6), Gives::TicketBack(1, 0, Some(6))),
+        (Do::Length, Gives::Number(0)),
+    ];
+    follow(&rt, &mut other, &refused);
+    own.take_read(other.lend_read());
+    other.into_entries();
+    let goes_on = [
+        (Do::ReadEnd(0), Gives::Pass(0, 1, 0)),
+        (Do::Unfix(0), Gives::Done),
+    ];
+    answers(&rt, own, &goes_on);
 }
 
+// A pass that became a note reads, and goes back once.
 #[test]
 fn note_in_place_of_a_pass(rt: HostRuntime) {
-    let mut core = usual(&rt, 1);
-    let first = bring(&rt, &mut core);
-    let note = hit(&rt, &mut core, 1, 1, 1).note();
-    assert_eq!(rt;
-        (note.client(), note.page(), note.serial()),
-        (1, PageNo::new(1), 1)
-    );
-    let pass = note.pass();
-    reads(&rt, &mut core, &pass, 0);
-    unfix(&rt, &mut core, pass);
-    let _ = hands_back(&rt, &mut core, note.pass()).note();
-    unfix(&rt, &mut core, first);
+    let mut run = usual(&rt, 1);
+    follow(&rt, &mut run, &BRINGS);
+    let rows = [
+        (Do::Fix(1, 1), Gives::Pass(1, 1, 1)),
+        (Do::Read(1), Gives::Page(Some(0))),
+        (Do::Unfix(1), Gives::Done),
+        (Do::Unfix(1), Gives::PassBack(1, 1, 1)),
+        (Do::Unfix(0), Gives::Done),
+    ];
+    answers(&rt, run, &rows);
 }
 
 // The oldest pass and the newest stay out, while those between them go back.

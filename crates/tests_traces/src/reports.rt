@@ -52,6 +52,10 @@ fn load(ticket: u64, evicted: Option<PageNo>) -> Reply {
     Reply::Load { ticket, evicted }
 }
 
+fn flush(page: u64, reply: Reply) -> Entry {
+    entry(0, Call::Flush(PageNo::new(page)), reply)
+}
+
 fn tick(steps: u64) -> Entry {
     entry(0, Call::Tick(steps), Reply::Done)
 }
@@ -117,46 +121,75 @@ fn goes_out(alloc: Global, ticket: u64, page: u64) -> Result<Reply, AllocError> 
     })
 }
 
-/// Every kind of call and of reply, though no core would give this trail.
-fn every_kind(alloc: Global) -> Result<Vec<Entry>, AllocError> {
-    let one = PageNo::new(1);
+// Reads, a write and a hit.
+fn uses(alloc: Global) -> Result<Vec<Entry>, AllocError> {
+    let loaded = first_image(alloc)?;
+    let first = first_image(alloc)?;
+    let second = second_image(alloc)?;
     let write = write_of_letters(alloc)?;
-    let first_out = goes_out(alloc, 1, 1)?;
-    let second_out = goes_out(alloc, 3, 1_048_575)?;
     let entries = [
         fix(1, load(0, None)),
-        read_end(0, 1, Some(first_image(alloc)?), Reply::Fixed(0)),
-        read(3, 1, first_image(alloc)?),
+        read_end(0, 1, Some(loaded), Reply::Fixed(0)),
+        read(3, 1, first),
         entry(0, write, Reply::Done),
         tick(9),
-        read(63, 1, second_image(alloc)?),
+        read(63, 1, second),
         fix(1, Reply::Hit(1)),
-        entry(0, Call::Unfix { pass: 1, page: one }, Reply::Done),
+        unfix(1, 1),
+    ];
+    Ok(Vec::from_array(alloc, entries)?)
+}
+
+// Page 1 makes way for page 2, whose read then fails.
+fn makes_way(alloc: Global) -> Result<Vec<Entry>, AllocError> {
+    let out = goes_out(alloc, 1, 1)?;
+    let entries = [
         fix(2, Reply::NoVictim),
         fix(2, Reply::NeedLog(Lsn::new(7))),
-        entry(0, Call::Mark(Lsn::new(7)), Reply::Done),
-        fix(2, first_out),
+        mark(7),
+        fix(2, out),
         fix(1, Reply::Busy),
         write_end(1, 1, true, Reply::Cleaned),
         tick(0),
-        fix(2, load(2, Some(one))),
+        fix(2, load(2, Some(PageNo::new(1)))),
         read_end(2, 2, None, Reply::ReadFailed),
-        entry(
-            0,
-            Call::Flush(PageNo::new(1_048_575)),
-            goes_out(alloc, 3, 1_048_575)?,
-        ),
+    ];
+    Ok(Vec::from_array(alloc, entries)?)
+}
+
+// Flushes, a purge, and the latest time of all.
+fn flushes(alloc: Global) -> Result<Vec<Entry>, AllocError> {
+    let out = goes_out(alloc, 3, 1_048_575)?;
+    let entries = [
+        flush(1_048_575, out),
         tick(1),
         write_end(3, 1_048_575, true, Reply::StillDirty),
         write_end(4, 5, false, Reply::WriteFailed),
-        entry(0, Call::Flush(PageNo::new(5)), Reply::Clean),
-        entry(0, Call::Flush(PageNo::new(6)), Reply::Absent),
+        flush(5, Reply::Clean),
+        flush(6, Reply::Absent),
         entry(0, Call::Purge, Reply::Forgot(3)),
         tick(u64::MAX),
         tick(u64::MAX),
         fix(7, load(5, Some(PageNo::new(0)))),
     ];
     Ok(Vec::from_array(alloc, entries)?)
+}
+
+/// Every kind of call and of reply, though no core would give this trail.
+fn every_kind(alloc: Global) -> Result<Vec<Entry>, AllocError> {
+    let mut entries = uses(alloc)?;
+    add_all(&mut entries, makes_way(alloc)?)?;
+    add_all(&mut entries, flushes(alloc)?)?;
+    Ok(entries)
+}
+
+fn add_all(entries: &mut Vec<Entry>, more: Vec<Entry>) -> Result<(), AllocError> {
+    for entry in more {
+        let Ok(()) = entries.push(entry) else {
+            return Err(AllocError);
+        };
+    }
+    Ok(())
 }
 
 // The last time is 11 plus twice 2^64 - 1.
@@ -279,25 +312,17 @@ fn mark(lsn: u64) -> Entry {
     entry(0, Call::Mark(Lsn::new(lsn)), Reply::Done)
 }
 
-// One frame: a page that was written with LSN 7 may leave it only once the log is durable up to 7.
-fn waiting_for_the_log(alloc: Global) -> Result<Vec<Entry>, AllocError> {
-    let one = PageNo::new(1);
+// One frame: a page that was written with LSN 7 is to leave it.
+fn written_ahead(alloc: Global) -> Result<Vec<Entry>, AllocError> {
+    let first = loaded(alloc, 0, 1, 0)?;
+    let bytes = Bytes::of(alloc, &[0xff])?;
     let write = Call::Write {
         pass: 0,
-        page: one,
+        page: PageNo::new(1),
         offset: 0,
-        bytes: Bytes::of(alloc, &[0xff])?,
+        bytes,
         lsn: Lsn::new(7),
     };
-    let out = Reply::WriteFirst {
-        ticket: 1,
-        page: one,
-        image: image_of(alloc, 0xff)?,
-    };
-    let first = loaded(alloc, 0, 1, 0)?;
-    let second = loaded(alloc, 2, 2, 0)?;
-    let again = loaded(alloc, 3, 1, 0xff)?;
-    let seen = read(0, 1, image_of(alloc, 0xff)?);
     let entries = [
         fix(1, load(0, None)),
         first,
@@ -307,18 +332,52 @@ fn waiting_for_the_log(alloc: Global) -> Result<Vec<Entry>, AllocError> {
         tick(1),
         fix(2, Reply::NeedLog(Lsn::new(7))),
         mark(7),
-        fix(2, out),
+    ];
+    Ok(Vec::from_array(alloc, entries)?)
+}
+
+// It leaves once the log is durable up to 7.
+fn leaves(alloc: Global) -> Result<Vec<Entry>, AllocError> {
+    let image = image_of(alloc, 0xff)?;
+    let second = loaded(alloc, 2, 2, 0)?;
+    let page = PageNo::new(1);
+    let entries = [
+        fix(
+            2,
+            Reply::WriteFirst {
+                ticket: 1,
+                page,
+                image,
+            },
+        ),
         write_end(1, 1, true, Reply::Cleaned),
-        fix(2, load(2, Some(one))),
+        fix(2, load(2, Some(page))),
         second,
         unfix(2, 2),
+    ];
+    Ok(Vec::from_array(alloc, entries)?)
+}
+
+// It comes back, and is read.
+fn comes_back(alloc: Global) -> Result<Vec<Entry>, AllocError> {
+    let again = loaded(alloc, 3, 1, 0xff)?;
+    let seen = image_of(alloc, 0xff)?;
+    let entries = [
         tick(1),
         fix(1, load(3, Some(PageNo::new(2)))),
         again,
-        seen,
+        read(0, 1, seen),
         unfix(3, 1),
     ];
     Ok(Vec::from_array(alloc, entries)?)
+}
+
+// One frame: a page that was written with LSN 7 may leave it only once the log is durable up to 7.
+fn waiting_for_the_log(alloc: Global) -> Result<Vec<Entry>, AllocError> {
+    let mut entries = written_ahead(alloc)?;
+    add_all(&mut entries, leaves(alloc)?)?;
+    add_all(&mut entries, comes_back(alloc)?)?;
+    Ok(entries)
 }
 
 // But for the line of the refused row.

@@ -1,0 +1,82 @@
+//! Tables of calls, and the cores that they are made of.
+use super::calls::{Do, Gives, Run};
+use bp_core::{Core, Entry};
+use bp_lruk::Settings;
+use bp_page::{Geometry, Refusal};
+use std::alloc::Global;
+use std::process::Abort;
+
+/// A core over 16 pages of 16 bytes, with two clients and no correlated period.
+fn new_core(
+    alloc: Global,
+    k: usize,
+    retained: u64,
+    frames: usize,
+    room: usize,
+) -> Result<Core, Refusal> {
+    let geometry = Geometry::new(16, 16)?;
+    let settings = Settings::new(k, 0, retained)?;
+    Core::new(alloc, geometry, settings, frames, 2, room)
+}
+
+/// A run over such a core.
+pub(super) fn core(
+    rt: &(impl Abort + AllocGlobal),
+    k: usize,
+    retained: u64,
+    frames: usize,
+    room: usize,
+) -> Run {
+    let core = new_core(rt.alloc(), k, retained, frames, room);
+    Run::of(rt.alloc(), core.expect(rt, "the core"))
+}
+
+/// A run over a core with two stamps and room enough.
+pub(super) fn usual(rt: &(impl Abort + AllocGlobal), frames: usize) -> Run {
+    core(rt, 2, 1000, frames, 100)
+}
+
+/// Makes the calls in turn. Each gives what stands beside it.
+pub(super) fn follow(rt: &impl Abort, run: &mut Run, rows: &[(Do, Gives)]) {
+    for (what, gives) in rows {
+        let given = run.call(*what);
+        assert_eq!(rt; given, *gives, "{what:?}");
+    }
+}
+
+/// Makes the calls over a run that ends with them.
+pub(super) fn answers(rt: &impl Abort, mut run: Run, rows: &[(Do, Gives)]) {
+    follow(rt, &mut run, rows);
+    run.into_entries();
+}
+
+/// Makes the calls, and cuts the trail after each.
+fn follow_with_cuts(rt: &impl Abort, run: &mut Run, rows: &[(Do, Gives)]) {
+    for (what, gives) in rows {
+        let given = run.call(*what);
+        assert_eq!(rt; given, *gives, "{what:?}, with cuts");
+        run.call(Do::Cut);
+        assert_eq!(rt; run.call(Do::Length), Gives::Number(0));
+    }
+}
+
+fn entries_with_cuts(rt: &impl Abort, mut run: Run, rows: &[(Do, Gives)]) -> Vec<Entry> {
+    follow_with_cuts(rt, &mut run, rows);
+    run.into_entries()
+}
+
+/// Makes the calls over one run, and over another whose trail is cut after each: the pieces joined are the trail without cuts,
+/// which has so many entries.
+pub(super) fn answers_with_cuts(
+    rt: &impl Abort,
+    mut run: Run,
+    other: Run,
+    rows: &[(Do, Gives)],
+    entries: usize,
+) {
+    follow(rt, &mut run, rows);
+    let whole = run.into_entries();
+    let joined = entries_with_cuts(rt, other, rows);
+    assert_eq!(rt; whole.len(), entries);
+    assert_eq!(rt; joined.as_slice(), whole.as_slice());
+}
