@@ -1,7 +1,6 @@
 -- What the timed loops keep.
 use Rattle.std.specs.Prelude.{◌≡◌, ℕ, ◌<◌, ◌≤◌, true, false, List, length, Some, slice_index}
 use Rattle.bp_lruk.specs.Histories.{Blocks, is_held, last_of, place_of}
-use Rattle.bp_lruk.specs.Candidates.{Entered, is_entered}
 
 -- the pages below `pages` are held and have a reference, and no reference is after t
 pub record IsLoaded (h : Blocks) (pages t : ℕ) : Type 0 where
@@ -13,23 +12,10 @@ pub record IsLoaded (h : Blocks) (pages t : ℕ) : Type 0 where
 abbrev pub IsTable : Blocks → List ℕ → Type 0
 IsTable h blocks = (page : ℕ) → page < length blocks → place_of h page ≡ Some (slice_index blocks page)
 
--- the pages below `frames` are entered, and no other
-pub record IsFull (c : Entered) (frames : ℕ) : Type 0 where
-  pub all : (page : ℕ) → page < frames → is_entered c page ≡ true
-  pub room : c.frames ≡ frames
-  pub count : length c.entries ≡ frames
-
 -- the pages below `so_far` are loaded at time 1, and no other is held or has a reference
 pub record LoadsBelow (h : Blocks) (so_far : ℕ) : Type 0 where
   pub loaded : IsLoaded h so_far 1
   pub not_held : (page : ℕ) → so_far ≤ page → is_held h page ≡ false
-
--- as many pages are entered as are below `so_far`, and these are they
-pub record FillsBelow (c : Entered) (frames so_far : ℕ) : Type 0 where
-  pub entered : (page : ℕ) → page < so_far → is_entered c page ≡ true
-  pub not_entered : (page : ℕ) → so_far ≤ page → is_entered c page ≡ false
-  pub room : c.frames ≡ frames
-  pub count : length c.entries ≡ so_far
 
 -- the table has the blocks of the pages so far
 pub record TablesBelow (h : Blocks) (blocks : List ℕ) (so_far : ℕ) : Type 0 where

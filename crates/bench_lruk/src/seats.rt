@@ -2,7 +2,7 @@
 ghost use Rattle.std.specs.Prelude.{◌≡◌, ◌+◌, ◌^◌, ◌<◌, ◌≤◌};
 ghost use Rattle.bench_lruk.specs.Seats.{IsSeated};
 
-use crate::{HOT, each, next};
+use crate::{CALLS, HOT, next, tell};
 use bp_lruk::Settings;
 use bp_lruk::seats::Candidates;
 use bp_page::PageNo;
@@ -31,61 +31,69 @@ fn fill(candidates: &mut Candidates, frames: usize)
     }
 }
 
-// Renews the last pages in turn, each with the latest stamp.
-fn renew_hot(candidates: &mut Candidates, frames: usize, calls: u64)
+// Which pages are renewed, and with what stamps.
+#[derive(Clone, Copy)]
+enum Pattern {
+    // The last pages in turn, each with the latest stamp.
+    Hot,
+    // Pages at random, with stamps at random.
+    Random,
+    // Pages at random, each a tick after the one before: its earlier reference is its K-th stamp for K 2.
+    Hits,
+}
+
+// A page's seat, its K-th stamp and its newest reference.
+struct Renewal {
+    seat: usize,
+    hist_k: u64,
+    last: u64,
+}
+
+fn pick(pattern: Pattern, frames: usize, call: u64, state: u64) -> Renewal
+    requires some { HOT ≤ frames }
+    requires few { frames + call < 2 ^ 62 }
+    ensures { result.seat < frames }
+{
+    let now = frames as u64 + call;
+    let drawn = (state >> 20) % frames as u64;
+    let (seat, hist_k, last) = match pattern {
+        Pattern::Hot => (frames as u64 - 1 - call % HOT, now, now),
+        Pattern::Random => {
+            let stamp = (state >> 40) % frames as u64;
+            (drawn, stamp, stamp)
+        }
+        Pattern::Hits => (drawn, (state >> 40) % (call + 1), now),
+    };
+    Renewal {
+        seat: seat as usize,
+        hist_k,
+        last,
+    }
+}
+
+// Renews one page after another.
+fn renew_all(candidates: &mut Candidates, frames: usize, pattern: Pattern)
     requires seated { IsSeated candidates.old frames }
     requires some { HOT ≤ frames }
-    requires few { frames + calls < 2 ^ 62 }
-    ensures { IsSeated candidates.new frames }
-{
-    for call in 0..calls {
-        let seat = frames - 1 - (call % HOT) as usize;
-        let stamp = frames as u64 + call;
-        renew(candidates, frames, seat, stamp, stamp);
-    }
-}
-
-// Renews pages at random, with stamps at random.
-fn renew_at_random(candidates: &mut Candidates, frames: usize, calls: u64)
-    requires seated { IsSeated candidates.old frames }
-    requires some { 0 < frames }
+    requires few { frames < 2 ^ 32 }
     ensures { IsSeated candidates.new frames }
 {
     let mut state = 1;
-    for call in 0..calls {
+    for call in 0..CALLS {
         state = next(state);
-        let seat = (state >> 20) % frames as u64;
-        let stamp = (state >> 40) % frames as u64;
-        renew(candidates, frames, seat as usize, stamp, stamp);
-    }
-}
-
-// Hits pages at random, each a tick after the one before: its earlier reference is its K-th stamp for K 2.
-fn hit_at_random(candidates: &mut Candidates, frames: usize, calls: u64)
-    requires seated { IsSeated candidates.old frames }
-    requires some { 0 < frames }
-    requires few { frames + calls < 2 ^ 62 }
-    ensures { IsSeated candidates.new frames }
-{
-    let mut state = 1;
-    for call in 0..calls {
-        state = next(state);
-        let seat = (state >> 20) % frames as u64;
-        let before = (state >> 40) % (call + 1);
-        let now = frames as u64 + call;
-        renew(candidates, frames, seat as usize, before, now);
+        let Renewal { seat, hist_k, last } = pick(pattern, frames, call, state);
+        renew(candidates, frames, seat, hist_k, last);
     }
 }
 
 // Replaces one page after another, a tick apart, with a hit of a page at random after each.
-fn replace(candidates: &mut Candidates, frames: usize, calls: u64)
+fn replace(candidates: &mut Candidates, frames: usize)
     requires seated { IsSeated candidates.old frames }
-    requires some { 0 < frames }
-    requires few { frames + calls < 2 ^ 62 }
-    ensures { IsSeated candidates.new frames }
+    requires some { HOT ≤ frames }
+    requires few { frames < 2 ^ 32 }
 {
     let mut state = 1;
-    for call in 0..calls {
+    for call in 0..CALLS {
         let now = frames as u64 + call;
         if let Some(page) = candidates.victim(now) {
             let victim = page.number() % frames as u64;
@@ -97,35 +105,38 @@ fn replace(candidates: &mut Candidates, frames: usize, calls: u64)
     }
 }
 
+// Times each pattern, and replacements.
+fn time_patterns(
+    rt: &(impl Runtime<A = Global> + CpuClock),
+    candidates: &mut Candidates,
+    frames: usize,
+) -> Result<(), anyhow::Error>
+    requires seated { IsSeated candidates.old frames }
+    requires some { HOT ≤ frames }
+    requires few { frames < 2 ^ 32 }
+{
+    let mut since = rt.thread_cpu_time()?.as_nanos();
+    renew_all(candidates, frames, Pattern::Hot);
+    tell(rt, "hot in turn", &mut since, CALLS)?;
+    renew_all(candidates, frames, Pattern::Random);
+    tell(rt, "random stamps", &mut since, CALLS)?;
+    renew_all(candidates, frames, Pattern::Hits);
+    tell(rt, "hits at random", &mut since, CALLS)?;
+    replace(candidates, frames);
+    tell(rt, "a victim and two pages", &mut since, CALLS)
+}
+
 pub(crate) fn time_seats(
     rt: &(impl Runtime<A = Global> + CpuClock),
     frames: usize,
-    calls: u64,
+    correlated: u64,
 ) -> Result<(), anyhow::Error>
     requires some { HOT ≤ frames }
-    requires few { frames + calls < 2 ^ 62 }
-    requires called { 0 < calls }
+    requires few { frames < 2 ^ 32 }
 {
-    for correlated in [0, 64] {
-        let settings = Settings::new(2, correlated, 0)?;
-        let mut candidates = Candidates::new(rt.alloc(), frames, settings)?;
-        fill(&mut candidates, frames);
-        let start = rt.thread_cpu_time()?;
-        renew_hot(&mut candidates, frames, calls);
-        let hot = rt.thread_cpu_time()?;
-        renew_at_random(&mut candidates, frames, calls);
-        let random = rt.thread_cpu_time()?;
-        hit_at_random(&mut candidates, frames, calls);
-        let hit = rt.thread_cpu_time()?;
-        replace(&mut candidates, frames, calls);
-        let replaced = rt.thread_cpu_time()?;
-        println!(rt;
-            "{frames} seats, C {correlated}: hot {} ns, random {} ns, hit {} ns, a victim and two pages {} ns",
-            each(start, hot, calls),
-            each(hot, random, calls),
-            each(random, hit, calls),
-            each(hit, replaced, calls)
-        )?;
-    }
-    Ok(())
+    println!(rt; "{frames} seats, C {correlated}")?;
+    let settings = Settings::new(2, correlated, 0)?;
+    let mut candidates = Candidates::new(rt.alloc(), frames, settings)?;
+    fill(&mut candidates, frames);
+    time_patterns(rt, &mut candidates, frames)
 }

@@ -48,14 +48,16 @@ pub(super) enum Gives {
     Clean,
     Absent,
     Done,
-    /// The clock after a tick, the durable LSN after a mark, how many pages a purge forgot, or how many entries there are.
+    /// The clock after a tick, the durable LSN after a mark, how many pages a purge forgot, or how many entries there
+    /// are.
     Number(u64),
     Stamps(u64, u64, u64),
     Is(bool),
     Refused(Refusal),
     /// A pass that comes back: its client, page and serial number.
     PassBack(u8, u64, u64),
-    /// A ticket to read that comes back: its page and serial number, and the first byte of the image that comes with it.
+    /// A ticket to read that comes back: its page and serial number, and the first byte of the image that comes with
+    /// it.
     TicketBack(u64, u64, Option<u8>),
     /// There was no memory for the call, no such pass or ticket, or an argument is out of range.
     NotCalled,

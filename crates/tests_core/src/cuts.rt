@@ -40,7 +40,8 @@ fn cut_keeps_reserved_places(rt: HostRuntime) {
     answers(&rt, core(&rt, 2, 1000, 1, 5), &rows);
 }
 
-// A cut that always refused would meet its contract, which does not say when memory is there. Here it is, and no cut is refused.
+// A cut that always refused would meet its contract, which does not say when memory is there. Here it is, and no cut is
+// refused.
 #[test]
 fn cut_always_refuses(rt: HostRuntime) {
     let rows = [

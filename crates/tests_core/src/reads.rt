@@ -61,7 +61,8 @@ fn purge_past_the_retained_period(rt: HostRuntime) {
     answers_with_cuts(&rt, one, other, &rows, 11);
 }
 
-// Pages 1, 2 and 3 are referenced at the times 1, 2 and 3. While page 1 is pinned, page 2 makes way, and afterwards page 1.
+// Pages 1, 2 and 3 are referenced at the times 1, 2 and 3. While page 1 is pinned, page 2 makes way, and afterwards
+// page 1.
 #[test]
 fn pinned_page_stays_at_k_one(rt: HostRuntime) {
     let rows = [

@@ -65,8 +65,8 @@ fn entries_with_cuts(rt: &impl Abort, mut run: Run, rows: &[(Do, Gives)]) -> Vec
     run.into_entries()
 }
 
-/// Makes the calls over one run, and over another whose trail is cut after each: the pieces joined are the trail without cuts,
-/// which has so many entries.
+/// Makes the calls over one run, and over another whose trail is cut after each. The pieces joined are the trail
+/// without cuts, which has so many entries.
 pub(super) fn answers_with_cuts(
     rt: &impl Abort,
     mut run: Run,

@@ -252,8 +252,8 @@ fn refused_rows_in_order(rt: HostRuntime) -> Result<(), Fail> {
     Ok(())
 }
 
-/// Whether the writer failed with its own fault exactly where it could not hold the whole text, and holds the text up to
-/// there.
+/// Whether the writer failed with its own fault exactly where it could not hold the whole text, and holds the text up
+/// to there.
 fn stops_at_its_limit(outcome: io::Result<()>, writer: &Limited, text: &str) -> bool {
     let whole = text.as_bytes();
     let held = writer.held.as_slice();
