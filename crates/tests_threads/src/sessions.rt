@@ -2,6 +2,7 @@
 mod cuts;
 mod long_runs;
 mod making;
+mod pairs;
 mod rings;
 mod strangers;
 mod threads;

@@ -1,16 +1,15 @@
 //! A ring that is full.
 ghost use Rattle.std.specs.Prelude.{◌≡◌, ◌<◌};
 
-use super::making::{Client, Made, Pair, make, open_pair};
+use super::making::Client;
+use super::pairs::{Turn, play};
 use crate::counting::unfixes_in;
-use bp_core::PassNote;
+use bp_core::{Core, PassNote};
 use bp_page::{PageNo, Refusal};
 use bp_shared::{PoolName, SharedPool};
 use std::alloc::Global;
-use std::marker::Brand;
 use std::process::Abort;
 use std::sync::Wait;
-use std::test::Fail;
 
 // Fixes page 1 so often.
 fn fix_often<N: PoolName, R: Wait>(
@@ -47,53 +46,45 @@ fn post_all<N: PoolName>(
 }
 
 // A client posts 33 passes and makes no other call: the ring takes the last when it was drained.
-fn fill_a_ring<N: PoolName, R: Wait + Abort>(
+fn post_into_a_ring<N: PoolName, R: Wait + Abort>(
     rt: &R,
     pool: &SharedPool<N>,
     client: &mut Client<N>,
     early: &[PassNote],
     last: PassNote,
 ) {
-    assert_eq!(rt; early.len(), 32);
     let taken = post_all(pool, client, early);
-    assert_eq!(rt; taken, 32);
+    assert_eq!(rt; (early.len(), taken), (32, 32));
     let full = client.post(pool, last);
-    assert_eq!(rt; full, Err((Refusal::RingFull, 32)));
+    assert!(rt; full == Err((Refusal::RingFull, 32)));
     pool.settle(rt, &mut client.session);
     let drained = client.post(pool, last);
-    assert_eq!(rt; drained, Ok(()));
+    assert!(rt; drained.is_ok());
 }
 
-fn run_a_full_ring<N: PoolName, R: Wait + Abort>(
+/// A client fixes a page 33 times, and then gives it back as often.
+pub(super) fn fill_a_ring<N: PoolName, R: Wait + Abort>(
     rt: &R,
     alloc: Global,
-    made: Made,
-) -> Result<(), Fail>
-    requires mark { made.mark ≡ N.mark }
-    requires parameters { made.core.parameters ≡ N.parameters }
-    requires before { made.core.before ≡ N.before }
-    requires ring { made.ring ≡ N.ring }
+    pool: &SharedPool<N>,
+    client: &mut Client<N>,
+) -> Result<(), Refusal>
     requires pages { N.parameters.pages ≡ 4 }
 {
-    let Pair {
-        pool,
-        taker,
-        end: _,
-        mut first,
-        second: _,
-    } = open_pair::<N>(alloc, made)?;
     let mut early = Vec::new(alloc);
-    fix_often(rt, &pool, &mut first, 32, &mut early)?;
-    let last = first.fix(rt, &pool, PageNo::new(1))?;
-    fill_a_ring(rt, &pool, &mut first, &early, last);
-    let (core, _, _) = pool.finish(taker);
-    assert_eq!(rt; core.trail().len(), 67);
-    assert_eq!(rt; unfixes_in(core.trail()), 33);
+    fix_often(rt, pool, client, 32, &mut early)?;
+    let last = client.fix(rt, pool, PageNo::new(1))?;
+    post_into_a_ring(rt, pool, client, &early, last);
     Ok(())
 }
 
+/// All passes are back.
+pub(super) fn see_a_full_ring<R: Abort>(rt: &R, core: &Core) {
+    let trail = core.trail();
+    assert_eq!(rt; (trail.len(), unfixes_in(trail)), (67, 33));
+}
+
 #[test]
-fn full_ring(rt: HostRuntime) -> Result<(), Fail> {
-    let made = make(rt.alloc(), 1, 2)?;
-    run_a_full_ring::<Brand, _>(&rt, rt.alloc(), made)
+fn full_ring(rt: HostRuntime) -> Result<(), Refusal> {
+    play(&rt, rt.alloc(), 1, 2, Turn::FullRing)
 }

@@ -204,32 +204,31 @@ fn see_together<N: PoolName + Send + Sync, R: Threads + Wait + Abort + Sync>(
     Ok(tally.faults)
 }
 
+// Threads over a new pool, one for each client.
+fn see_threads<R: Threads + Wait + Abort + Sync>(
+    rt: &R,
+    alloc: Global,
+    frames: usize,
+    clients: u8,
+    spread: bool,
+) -> Result<usize, Fail> {
+    let made = make(alloc, frames, clients)?;
+    see_together::<Brand, R>(rt, alloc, made, spread)
+}
+
 #[test]
-fn two_threads_on_one_page(rt: HostRuntime) -> Result<(), Fail> {
-    let made = make(rt.alloc(), 1, 2)?;
-    let faults = see_together::<Brand, _>(&rt, rt.alloc(), made, false)?;
-    assert_eq!(rt; faults, 1);
+fn threads_on_one_page(rt: HostRuntime) -> Result<(), Fail> {
+    for clients in [2, 4] {
+        let faults = see_threads(&rt, rt.alloc(), 1, clients, false)?;
+        assert!(rt; faults == 1, "{clients} clients");
+    }
     Ok(())
 }
 
 #[test]
-fn four_threads_on_one_page(rt: HostRuntime) -> Result<(), Fail> {
-    let made = make(rt.alloc(), 1, 4)?;
-    let faults = see_together::<Brand, _>(&rt, rt.alloc(), made, false)?;
-    assert_eq!(rt; faults, 1);
-    Ok(())
-}
-
-#[test]
-fn two_threads_over_few_frames(rt: HostRuntime) -> Result<(), Fail> {
-    let made = make(rt.alloc(), 2, 2)?;
-    see_together::<Brand, _>(&rt, rt.alloc(), made, true)?;
-    Ok(())
-}
-
-#[test]
-fn four_threads_over_few_frames(rt: HostRuntime) -> Result<(), Fail> {
-    let made = make(rt.alloc(), 2, 4)?;
-    see_together::<Brand, _>(&rt, rt.alloc(), made, true)?;
+fn threads_over_few_frames(rt: HostRuntime) -> Result<(), Fail> {
+    for clients in [2, 4] {
+        see_threads(&rt, rt.alloc(), 2, clients, true)?;
+    }
     Ok(())
 }

@@ -1,17 +1,16 @@
 //! Two sessions in turn over one frame.
 ghost use Rattle.std.specs.Prelude.{◌≡◌, ◌<◌};
 
-use super::making::{Client, Made, Pair, make, open_pair, serial_of};
+use super::making::{Client, serial_of};
+use super::pairs::{Turn, play};
 use crate::counting::{marks_of, unfixes_in};
 use bp_core::{Call, Core, Reply};
 use bp_mark::LogEnd;
 use bp_page::{Lsn, PageNo, Refusal};
 use bp_shared::{Flushed, PoolName, SharedPool};
 use std::alloc::Global;
-use std::marker::Brand;
 use std::process::Abort;
 use std::sync::Wait;
-use std::test::Fail;
 
 // A client changes page 1 at LSN 3 and gives it back, and the clock moves on.
 fn change_a_page<N: PoolName, R: Wait>(
@@ -44,8 +43,8 @@ fn take_the_frame<N: PoolName, R: Wait>(
     Ok((flushed, forgot))
 }
 
-// One client changes a page, and another needs its frame: not before the log is durable so far.
-fn share_one_frame<N: PoolName, R: Wait + Abort>(
+/// One client changes a page, and another needs its frame: not before the log is durable so far.
+pub(super) fn share_one_frame<N: PoolName, R: Wait + Abort>(
     rt: &R,
     alloc: Global,
     pool: &SharedPool<N>,
@@ -67,69 +66,43 @@ fn share_one_frame<N: PoolName, R: Wait + Abort>(
     pool.settle(rt, &mut second.session);
 }
 
-// What the shared frame leaves: one mark of client 1, at LSN 3, and each entry in its client's list.
-fn see_the_shared_frame<N: PoolName, R: Abort>(
+/// What the shared frame leaves: one mark of client 1, at LSN 3, and each entry in its client's list.
+pub(super) fn see_the_shared_frame<N: PoolName, R: Abort>(
     rt: &R,
     core: &Core,
     first: &Client<N>,
     second: &Client<N>,
 ) {
-    assert_eq!(rt; core.durable(), Lsn::new(3));
-    assert_eq!(rt; core.trail().len(), 14);
-    assert_eq!(rt; marks_of(core.trail(), 1), 1);
-    assert_eq!(rt; first.session.said().len(), 5);
-    assert_eq!(rt; second.session.said().len(), 9);
-}
-
-fn run_one_frame<N: PoolName, R: Wait + Abort>(
-    rt: &R,
-    alloc: Global,
-    made: Made,
-) -> Result<(), Fail>
-    requires mark { made.mark ≡ N.mark }
-    requires parameters { made.core.parameters ≡ N.parameters }
-    requires before { made.core.before ≡ N.before }
-    requires ring { made.ring ≡ N.ring }
-    requires pages { N.parameters.pages ≡ 4 }
-    requires size { N.parameters.size ≡ 16 }
-{
-    let Pair {
-        pool,
-        taker,
-        mut end,
-        mut first,
-        mut second,
-    } = open_pair::<N>(alloc, made)?;
-    share_one_frame(rt, alloc, &pool, &mut end, &mut first, &mut second);
-    let (core, _, _) = pool.finish(taker);
-    see_the_shared_frame(rt, &core, &first, &second);
-    Ok(())
+    let trail = core.trail();
+    let told = (first.session.said().len(), second.session.said().len());
+    assert!(rt; core.durable() == Lsn::new(3));
+    assert_eq!(rt; (trail.len(), marks_of(trail, 1), told), (14, 1, (5, 9)));
 }
 
 #[test]
-fn two_sessions_and_the_log(rt: HostRuntime) -> Result<(), Fail> {
-    let made = make(rt.alloc(), 1, 2)?;
-    run_one_frame::<Brand, _>(&rt, rt.alloc(), made)
+fn two_sessions_and_the_log(rt: HostRuntime) -> Result<(), Refusal> {
+    play(&rt, rt.alloc(), 1, 2, Turn::OneFrame)
 }
 
-// A client fixes page 1, ticks and posts; the other fixes page 2, and has this pass.
-fn post_before_a_fix<N: PoolName, R: Wait>(
+/// A client fixes page 1, ticks and posts; the other fixes page 2, and has pass 1.
+pub(super) fn post_before_a_fix<N: PoolName, R: Wait + Abort>(
     rt: &R,
     pool: &SharedPool<N>,
     first: &mut Client<N>,
     second: &mut Client<N>,
-) -> Result<u64, Refusal>
+) -> Result<(), Refusal>
     requires pages { N.parameters.pages ≡ 4 }
 {
     let note = first.fix(rt, pool, PageNo::new(1))?;
     pool.tick(rt, &mut first.session, 1)?;
     first.unfix(pool, note)?;
     let note = second.fix(rt, pool, PageNo::new(2))?;
-    Ok(note.serial())
+    assert!(rt; note.serial() == 1);
+    Ok(())
 }
 
-// The posted pass is back in the core before the next event, whose victim is its page.
-fn see_the_posted_pass<R: Abort>(rt: &R, core: &Core) {
+/// The posted pass is back in the core before the next event, whose victim is its page.
+pub(super) fn see_the_posted_pass<R: Abort>(rt: &R, core: &Core) {
     let trail = core.trail();
     assert_eq!(rt; (trail.len(), unfixes_in(trail)), (6, 1));
     if let [_, _, _, back, load, _] = trail {
@@ -140,46 +113,18 @@ fn see_the_posted_pass<R: Abort>(rt: &R, core: &Core) {
     }
 }
 
-fn run_a_posted_pass<N: PoolName, R: Wait + Abort>(
-    rt: &R,
-    alloc: Global,
-    made: Made,
-) -> Result<(), Fail>
-    requires mark { made.mark ≡ N.mark }
-    requires parameters { made.core.parameters ≡ N.parameters }
-    requires before { made.core.before ≡ N.before }
-    requires ring { made.ring ≡ N.ring }
-    requires pages { N.parameters.pages ≡ 4 }
-{
-    let Pair {
-        pool,
-        taker,
-        end: _,
-        mut first,
-        mut second,
-    } = open_pair::<N>(alloc, made)?;
-    let given = post_before_a_fix(rt, &pool, &mut second, &mut first);
-    assert_eq!(rt; given, Ok(1));
-    let (core, _, _) = pool.finish(taker);
-    see_the_posted_pass(rt, &core);
-    Ok(())
-}
-
 #[test]
-fn posted_unfix_is_drained_first(rt: HostRuntime) -> Result<(), Fail> {
-    let made = make(rt.alloc(), 1, 2)?;
-    run_a_posted_pass::<Brand, _>(&rt, rt.alloc(), made)
+fn posted_unfix_is_drained_first(rt: HostRuntime) -> Result<(), Refusal> {
+    play(&rt, rt.alloc(), 1, 2, Turn::PostedPass)
 }
 
 // From 17 clients on, rings are asked where a pass was told of.
 #[test]
-fn seventeenth_client_posts(rt: HostRuntime) -> Result<(), Fail> {
-    let made = make(rt.alloc(), 1, 17)?;
-    run_a_posted_pass::<Brand, _>(&rt, rt.alloc(), made)
+fn seventeenth_client_posts(rt: HostRuntime) -> Result<(), Refusal> {
+    play(&rt, rt.alloc(), 1, 17, Turn::PostedPass)
 }
 
 #[test]
-fn sixty_fourth_client_posts(rt: HostRuntime) -> Result<(), Fail> {
-    let made = make(rt.alloc(), 1, 64)?;
-    run_a_posted_pass::<Brand, _>(&rt, rt.alloc(), made)
+fn sixty_fourth_client_posts(rt: HostRuntime) -> Result<(), Refusal> {
+    play(&rt, rt.alloc(), 1, 64, Turn::PostedPass)
 }

@@ -1,0 +1,10 @@
+-- The pool that was just made.
+use Rattle.tests_threads.proofs.sessions.strangers.pass_of_another_pool.Given as goal
+
+abbrev pub ghosts-stranger : goal.ghosts-stranger
+ghosts-stranger g a = record {
+  mark = a.made.mark;
+  parameters = a.made.core.parameters;
+  before = a.made.core.before;
+  ring = a.made.ring;
+}

@@ -1,0 +1,118 @@
+//! Two clients of a pool of their own, in turn.
+ghost use Rattle.std.specs.Prelude.{◌≡◌};
+
+use super::making::{Client, Made, Pair, make, open_pair};
+use super::{cuts, rings, strangers, turns};
+use bp_core::{Core, PassNote};
+use bp_mark::LogEnd;
+use bp_page::Refusal;
+use bp_shared::{PoolName, SharedPool, Taker};
+use std::alloc::Global;
+use std::marker::Brand;
+use std::process::Abort;
+use std::sync::Wait;
+
+/// What the two clients do.
+#[derive(Clone, Copy)]
+pub(super) enum Turn {
+    Cuts,
+    FullRing,
+    AnotherClientsPass,
+    AnotherPoolsPass(PassNote),
+    OneFrame,
+    PostedPass,
+}
+
+fn act<N: PoolName, R: Wait + Abort>(
+    rt: &R,
+    alloc: Global,
+    pool: &SharedPool<N>,
+    taker: &mut Taker<N>,
+    end: &mut LogEnd,
+    first: &mut Client<N>,
+    second: &mut Client<N>,
+    turn: &Turn,
+) -> Result<(), Refusal>
+    requires end { end.old.mark ≡ N.mark }
+    requires pages { N.parameters.pages ≡ 4 }
+    requires size { N.parameters.size ≡ 16 }
+{
+    match turn {
+        Turn::Cuts => cuts::cut_thrice(rt, pool, taker, first, second),
+        Turn::FullRing => rings::fill_a_ring(rt, alloc, pool, first),
+        Turn::AnotherClientsPass => { strangers::use_another_clients_pass(rt, pool, first, second) }
+        Turn::AnotherPoolsPass(stranger) => {
+            strangers::use_another_pools_pass(rt, pool, first, second, *stranger);
+            Ok(())
+        }
+        Turn::OneFrame => {
+            turns::share_one_frame(rt, alloc, pool, end, first, second);
+            Ok(())
+        }
+        Turn::PostedPass => turns::post_before_a_fix(rt, pool, second, first),
+    }
+}
+
+/// What stands in the trail at the end.
+fn see<N: PoolName, R: Abort>(
+    rt: &R,
+    core: &Core,
+    first: &Client<N>,
+    second: &Client<N>,
+    turn: &Turn,
+) {
+    match turn {
+        Turn::Cuts | Turn::AnotherPoolsPass(_) => assert!(rt; core.trail().is_empty()),
+        Turn::FullRing => rings::see_a_full_ring(rt, core),
+        Turn::AnotherClientsPass => assert!(rt; core.trail().len() == 3),
+        Turn::OneFrame => turns::see_the_shared_frame(rt, core, first, second),
+        Turn::PostedPass => turns::see_the_posted_pass(rt, core),
+    }
+}
+
+fn play_over<N: PoolName, R: Wait + Abort>(
+    rt: &R,
+    alloc: Global,
+    made: Made,
+    turn: &Turn,
+) -> Result<(), Refusal>
+    requires mark { made.mark ≡ N.mark }
+    requires parameters { made.core.parameters ≡ N.parameters }
+    requires before { made.core.before ≡ N.before }
+    requires ring { made.ring ≡ N.ring }
+    requires pages { N.parameters.pages ≡ 4 }
+    requires size { N.parameters.size ≡ 16 }
+{
+    let Pair {
+        pool,
+        mut taker,
+        mut end,
+        mut first,
+        mut second,
+    } = open_pair::<N>(alloc, made)?;
+    act(
+        rt,
+        alloc,
+        &pool,
+        &mut taker,
+        &mut end,
+        &mut first,
+        &mut second,
+        turn,
+    )?;
+    let (core, _, _) = pool.finish(taker);
+    see(rt, &core, &first, &second, turn);
+    Ok(())
+}
+
+/// A turn of the last two clients of a new pool.
+pub(super) fn play<R: Wait + Abort>(
+    rt: &R,
+    alloc: Global,
+    frames: usize,
+    clients: u8,
+    turn: Turn,
+) -> Result<(), Refusal> {
+    let made = make(alloc, frames, clients)?;
+    play_over::<Brand, R>(rt, alloc, made, &turn)
+}
