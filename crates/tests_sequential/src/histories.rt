@@ -6,7 +6,6 @@ use bp_lruk::{Histories, Settings};
 use bp_page::{PageNo, Refusal};
 use std::alloc::Global;
 use std::process::Abort;
-use std::test::Fail;
 
 /// Histories, and the time of the last call.
 #[derive(Drop)]
@@ -66,9 +65,9 @@ fn has_stamps(rt: &impl Abort, timed: &Timed, page: PageNo, stamps: [u64; 3], la
 }
 
 #[test]
-fn settings_keep_their_limits(rt: HostRuntime) -> Result<(), Fail> {
+fn settings_keep_their_limits(rt: HostRuntime) {
     let longest = 4611686018427387904;
-    let settings = Settings::new(16, longest, longest)?;
+    let settings = Settings::new(16, longest, longest).expect(&rt, "the settings");
     let kept = (settings.k, settings.correlated, settings.retained);
     assert_eq!(rt; kept, (16, longest, longest));
     assert!(rt; Settings::new(1, 0, 0).is_ok());
@@ -80,7 +79,6 @@ fn settings_keep_their_limits(rt: HostRuntime) -> Result<(), Fail> {
     ] {
         is_refused(&rt, k, correlated, retained);
     }
-    Ok(())
 }
 
 fn is_refused(rt: &impl Abort, k: usize, correlated: u64, retained: u64) {
@@ -91,9 +89,13 @@ fn is_refused(rt: &impl Abort, k: usize, correlated: u64, retained: u64) {
     );
 }
 
+fn settings_of(rt: &impl Abort, k: usize, correlated: u64, retained: u64) -> Settings {
+    Settings::new(k, correlated, retained).expect(rt, "the settings")
+}
+
 // Histories with a correlated period of 2.
 fn made(rt: &(impl Abort + AllocGlobal), k: usize) -> Timed {
-    let settings = Settings::new(k, 2, 1000).expect(rt, "the settings");
+    let settings = settings_of(rt, k, 2, 1000);
     Timed::new(rt.alloc(), settings)
 }
 
@@ -141,7 +143,7 @@ fn has_no_stamp(rt: &impl Abort, timed: &Timed, page: PageNo, i: usize) {
 #[test]
 fn purge_past_the_retained_period(rt: HostRuntime) {
     let (away, resident) = (PageNo::new(1), PageNo::new(2));
-    let settings = Settings::new(2, 0, 10).expect(&rt, "the settings");
+    let settings = settings_of(&rt, 2, 0, 10);
     let mut histories = Timed::new(rt.alloc(), settings);
     histories.fault(&rt, away, 1);
     histories.fault(&rt, resident, 1);
@@ -155,10 +157,11 @@ fn purge_past_the_retained_period(rt: HostRuntime) {
 
 #[test]
 #[tactic(auto, unfolding(bp_lruk::specs::Histories::KeepsPlaces))]
-fn references_by_block(rt: HostRuntime) -> Result<(), Fail> {
+fn references_by_block(rt: HostRuntime) {
     let page = PageNo::new(1);
-    let mut histories = Histories::new(rt.alloc(), Settings::new(2, 2, 1000)?);
-    let block = histories.prepare_block(page)?;
+    let settings = settings_of(&rt, 2, 2, 1000);
+    let mut histories = Histories::new(rt.alloc(), settings);
+    let block = histories.prepare_block(page).expect(&rt, "the block");
     histories.fault_at(page, block, 1);
     histories.hit_at(page, block, 2);
     histories.hit_at(page, block, 5);
@@ -166,56 +169,4 @@ fn references_by_block(rt: HostRuntime) -> Result<(), Fail> {
     assert_eq!(rt; histories.stamp(page, 2), 2);
     assert_eq!(rt; histories.last(page), 5);
     assert_eq!(rt; histories.rank_at(page, block, 2), (2, 5));
-    Ok(())
-}
-
-#[test]
-#[tactic(auto, unfolding(bp_lruk::specs::Histories::KeepsPlaces))]
-fn block_stays_as_another_comes(rt: HostRuntime) -> Result<(), Fail> {
-    let (page, other) = (PageNo::new(1), PageNo::new(2));
-    let mut histories = Histories::new(rt.alloc(), Settings::new(2, 0, 1000)?);
-    let block = histories.prepare_block(page)?;
-    histories.fault_at(page, block, 1);
-    histories.prepare(other)?;
-    histories.fault(other, 2);
-    assert_eq!(rt; histories.place(page), Some(block));
-    histories.hit_at(page, block, 5);
-    assert_eq!(rt; histories.rank(page, 2), (1, 5));
-    assert_eq!(rt; histories.last(other), 2);
-    Ok(())
-}
-
-#[test]
-#[tactic(auto, unfolding(bp_lruk::specs::Histories::KeepsPlaces))]
-fn block_that_is_let_go(rt: HostRuntime) -> Result<(), Fail> {
-    let (known, unread) = (PageNo::new(1), PageNo::new(2));
-    let mut histories = Histories::new(rt.alloc(), Settings::new(2, 0, 1000)?);
-    let block = histories.prepare_block(known)?;
-    histories.fault_at(known, block, 3);
-    histories.unprepare_at(known, block);
-    let block = histories.prepare_block(unread)?;
-    histories.unprepare_at(unread, block);
-    assert!(rt; !histories.holds(known));
-    assert!(rt; histories.place(known).is_some());
-    assert_eq!(rt; histories.last(known), 3);
-    assert!(rt; histories.place(unread).is_none());
-    Ok(())
-}
-
-#[test]
-#[tactic(auto, unfolding(bp_lruk::specs::Histories::KeepsPlaces))]
-fn block_after_a_purge(rt: HostRuntime) -> Result<(), Fail> {
-    let (page, other) = (PageNo::new(1), PageNo::new(2));
-    let mut histories = Histories::new(rt.alloc(), Settings::new(2, 0, 10)?);
-    histories.prepare(page)?;
-    histories.fault(page, 1);
-    histories.unprepare(page);
-    assert_eq!(rt; histories.purge(12), 1);
-    assert!(rt; histories.place(page).is_none());
-    let taken = histories.prepare_block(other)?;
-    let block = histories.prepare_block(page)?;
-    assert!(rt; block != taken);
-    assert_eq!(rt; histories.place(page), Some(block));
-    assert_eq!(rt; histories.rank_at(page, block, 1), (0, 0));
-    Ok(())
 }

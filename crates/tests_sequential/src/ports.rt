@@ -7,7 +7,8 @@ mod long_scripts;
 
 use bp_core::{Call, Core, PassNote, Refused, Reply, Row, Step};
 use bp_device::{
-    FilePort, Flushed, FusePort, MemDevice, OpenFault, Port, drive_all, drive_fix, drive_flush,
+    FilePort, Flushed, FusePort, MemDevice, MemPort, OpenFault, Port, drive_all, drive_fix,
+    drive_flush,
 };
 use bp_lruk::Settings;
 use bp_page::{Bytes, Geometry, Image, Lsn, PageNo, PortFault, Refusal, slot, unslot};
@@ -17,7 +18,6 @@ use std::path::PathBuf;
 use std::process::Abort;
 use std::rt::{Env, Files};
 use std::sync::Wait;
-use std::test::Fail;
 use std::{env, fs, io, process};
 
 const SIZE: usize = 16;
@@ -164,19 +164,32 @@ fn expect_page<P: Port, R: Wait + Abort>(rt: &R, port: &mut P, page: PageNo, byt
 }
 
 /// A device in memory of four small pages.
-fn four_pages(alloc: Global) -> Result<MemDevice, Refusal> {
-    MemDevice::new(alloc, Geometry::new(4, SIZE)?)
+fn four_pages<R: Abort + AllocGlobal>(rt: &R) -> MemDevice {
+    let geometry = Geometry::new(4, SIZE).expect(rt, "the geometry");
+    MemDevice::new(rt.alloc(), geometry).expect(rt, "the device")
+}
+
+/// A port to a device in memory.
+fn port_of<R: Abort>(rt: &R, device: &MemDevice) -> MemPort {
+    device.port().expect(rt, "the port")
+}
+
+/// An image of these bytes.
+fn image<R: Abort + AllocGlobal>(rt: &R, bytes: &[u8]) -> Image {
+    Image::of(rt.alloc(), bytes).expect(rt, "the image")
 }
 
 #[test]
-fn one_owner_refusals(rt: HostRuntime) -> Result<(), Fail> {
-    let mut port = four_pages(rt.alloc())?.port()?;
-    let (_core, refused) = drive_two_pages(&rt, rt.alloc(), &mut port)?;
+fn one_owner_refusals(rt: HostRuntime) {
+    let mut port = port_of(&rt, &four_pages(&rt));
+    let (_core, refused) = drive_two_pages(&rt, rt.alloc(), &mut port).expect(
+        &rt,
+        "the rows are driven",
+    );
     let no_victim = Refused { row: 6, number: 11 };
     let no_pass = Refused { row: 7, number: 14 };
     assert_eq!(rt; refused.as_slice(), [no_victim, no_pass].as_slice());
     assert_eq!(rt; port.failures(), 0);
-    Ok(())
 }
 
 /// Asserts that an entry tells a content.
@@ -201,47 +214,39 @@ fn expect_read_end<R: Abort>(rt: &R, core: &Core, index: usize, bytes: &[u8]) {
 }
 
 #[test]
-fn drivers_keep_to_their_tickets(rt: HostRuntime) -> Result<(), Fail> {
+fn drivers_keep_to_their_tickets(rt: HostRuntime) {
     let (one, two) = (PageNo::new(1), PageNo::new(2));
-    let mut port = four_pages(rt.alloc())?.port()?;
-    let five = Image::of(rt.alloc(), &FIVE)?;
-    let nine = Image::of(rt.alloc(), &NINE)?;
+    let mut port = port_of(&rt, &four_pages(&rt));
+    let five = image(&rt, &FIVE);
+    let nine = image(&rt, &NINE);
     assert_eq!(rt; port.write(&rt, one, &five), Ok(()));
     assert_eq!(rt; port.write(&rt, two, &nine), Ok(()));
-    let (core, _) = drive_two_pages(&rt, rt.alloc(), &mut port)?;
+    let (core, _) = drive_two_pages(&rt, rt.alloc(), &mut port).expect(&rt, "the rows are driven");
     expect_read_end(&rt, &core, 1, &FIVE);
     expect_read_end(&rt, &core, 8, &NINE);
     expect_page(&rt, &mut port, PageNo::new(0), &ZEROS);
     expect_page(&rt, &mut port, one, &NINE);
     expect_page(&rt, &mut port, two, &NINE);
-    Ok(())
 }
 
 /// Runs the two pages over a port whose second call fails, the write-out of page 1, and tells what is left of it on the
 /// device.
-fn write_out_fails<R: Wait + Abort>(
-    rt: &R,
-    alloc: Global,
-    spoil: bool,
-    left: &[u8],
-) -> Result<(), Refusal> {
-    let device = four_pages(alloc)?;
-    let mut port = FusePort::new(alloc, device.port()?, 2, spoil)?;
-    let (core, refused) = drive_two_pages(rt, alloc, &mut port)?;
+fn write_out_fails<R: Wait + Abort + AllocGlobal>(rt: &R, spoil: bool, left: &[u8]) {
+    let port = port_of(rt, &four_pages(rt));
+    let mut port = FusePort::new(rt.alloc(), port, 2, spoil).expect(rt, "the port");
+    let (core, refused) = drive_two_pages(rt, rt.alloc(), &mut port).expect(rt, "the core");
     let failed = Refused { row: 5, number: 18 };
-    assert_eq!(rt; refused.as_slice(), [failed].as_slice());
-    assert_eq!(rt; core.trail().len(), 10);
+    assert!(rt; refused.as_slice() == [failed].as_slice());
+    assert!(rt; core.trail().len() == 10);
     expect_content(rt, &core, 8, &NINE);
-    assert_eq!(rt; port.failures(), 1);
+    assert!(rt; port.failures() == 1);
     expect_page(rt, &mut port, PageNo::new(1), left);
-    Ok(())
 }
 
 #[test]
-fn failing_second_call(rt: HostRuntime) -> Result<(), Fail> {
-    write_out_fails(&rt, rt.alloc(), false, &ZEROS)?;
-    write_out_fails(&rt, rt.alloc(), true, &ONES)?;
-    Ok(())
+fn failing_second_call(rt: HostRuntime) {
+    write_out_fails(&rt, false, &ZEROS);
+    write_out_fails(&rt, true, &ONES);
 }
 
 /// Writes the byte 5 to the start of a page.
@@ -279,13 +284,12 @@ fn flush_a_page<P: Port, R: Wait + Abort>(rt: &R, core: &mut Core, port: &mut P,
 }
 
 #[test]
-fn drive_flush_answers(rt: HostRuntime) -> Result<(), Fail> {
-    let mut port = four_pages(rt.alloc())?.port()?;
-    let mut core = one_frame(rt.alloc(), port.geometry())?;
-    let five = Bytes::of(rt.alloc(), &[5])?;
+fn drive_flush_answers(rt: HostRuntime) {
+    let mut port = port_of(&rt, &four_pages(&rt));
+    let mut core = one_frame(rt.alloc(), port.geometry()).expect(&rt, "the core");
+    let five = Bytes::of(rt.alloc(), &[5]).expect(&rt, "the bytes");
     flush_a_page(&rt, &mut core, &mut port, &five);
     expect_page(&rt, &mut port, PageNo::new(1), &FIVE);
-    Ok(())
 }
 
 /// Asserts that page 1 alone has the bytes that were written, and that no failure was counted.
@@ -303,8 +307,8 @@ fn expect_same_pages<P: Port, R: Wait + Abort>(rt: &R, port: &mut P, other: &mut
     expect_pages(rt, other);
 }
 
-/// Asserts that a port fails to read and to write page 4 of four, and to write a longer image to page 0, and counts each
-/// failure.
+/// Asserts that a port fails to read and to write page 4 of four, and to write a longer image to page 0, and counts
+/// each failure.
 fn expect_failures<P: Port, R: Wait + Abort>(rt: &R, port: &mut P, page: &Image, longer: &Image) {
     assert!(rt; matches!(port.read(rt, PageNo::new(4)), Err(PortFault::Device)));
     assert_eq!(rt; port.failures(), 1);
@@ -323,14 +327,13 @@ fn expect_failures<P: Port, R: Wait + Abort>(rt: &R, port: &mut P, page: &Image,
 }
 
 #[test]
-fn pages_of_a_memory_are_read_again(rt: HostRuntime) -> Result<(), Fail> {
-    let device = four_pages(rt.alloc())?;
-    let (mut port, mut other) = (device.port()?, device.port()?);
-    let nine = Image::of(rt.alloc(), &NINE)?;
+fn pages_of_a_memory_are_read_again(rt: HostRuntime) {
+    let device = four_pages(&rt);
+    let (mut port, mut other) = (port_of(&rt, &device), port_of(&rt, &device));
+    let nine = image(&rt, &NINE);
     expect_same_pages(&rt, &mut port, &mut other, &nine);
-    let longer = Image::of(rt.alloc(), &[255; 32])?;
+    let longer = image(&rt, &[255; 32]);
     expect_failures(&rt, &mut port, &nine, &longer);
-    Ok(())
 }
 
 /// A path that no other test and no other run uses.
@@ -356,15 +359,23 @@ fn pages_of<R: Files<File = File> + AllocGlobal>(
 }
 
 #[test]
-fn file_lengths(rt: HostRuntime) -> Result<(), Fail> {
-    let path = scratch(&rt, process::id(rt.process()), "file_lengths")?;
-    assert_eq!(rt; pages_of(&rt, path.as_path().as_str(), 40)?, None);
-    assert_eq!(rt; pages_of(&rt, path.as_path().as_str(), 0)?, None);
-    assert_eq!(rt; pages_of(&rt, path.as_path().as_str(), 32)?, Some(2));
-    fs::remove_file(&rt, path.as_path())?;
+fn file_lengths(rt: HostRuntime) {
+    let path = scratch(&rt, process::id(rt.process()), "file_lengths").expect(&rt, "the path");
+    assert_eq!(rt;
+        pages_of(&rt, path.as_path().as_str(), 40).expect(&rt, "the length"),
+        None
+    );
+    assert_eq!(rt;
+        pages_of(&rt, path.as_path().as_str(), 0).expect(&rt, "the length"),
+        None
+    );
+    assert_eq!(rt;
+        pages_of(&rt, path.as_path().as_str(), 32).expect(&rt, "the length"),
+        Some(2)
+    );
+    fs::remove_file(&rt, path.as_path()).expect(&rt, "the file is removed");
     let absent = FilePort::open(&rt, rt.alloc(), path.as_path(), SIZE);
     assert!(rt; matches!(absent, Err(OpenFault::Port(PortFault::Device))));
-    Ok(())
 }
 
 /// Asserts that page 1 of a file is the slot of the image.
@@ -387,30 +398,37 @@ fn expect_slot<R: Files + AllocGlobal + Abort>(
 }
 
 #[test]
-fn pages_of_a_file_are_read_again(rt: HostRuntime) -> Result<(), Fail> {
-    let path = scratch(&rt, process::id(rt.process()), "pages_of_a_file")?;
-    fs::write(&rt, path.as_path(), [0u8; 64].as_slice())?;
-    let mut port = FilePort::open(&rt, rt.alloc(), path.as_path(), SIZE)?;
-    let mut other = FilePort::open(&rt, rt.alloc(), path.as_path(), SIZE)?;
-    let nine = Image::of(rt.alloc(), &NINE)?;
+fn pages_of_a_file_are_read_again(rt: HostRuntime) {
+    let path = scratch(&rt, process::id(rt.process()), "pages_of_a_file").expect(&rt, "the path");
+    fs::write(&rt, path.as_path(), [0u8; 64].as_slice()).expect(&rt, "the file");
+    let mut port = FilePort::open(&rt, rt.alloc(), path.as_path(), SIZE).expect(
+        &rt,
+        "the page file",
+    );
+    let mut other = FilePort::open(&rt, rt.alloc(), path.as_path(), SIZE).expect(
+        &rt,
+        "the page file",
+    );
+    let nine = image(&rt, &NINE);
     expect_same_pages(&rt, &mut port, &mut other, &nine);
-    expect_slot(&rt, path.as_path().as_str(), &nine)?;
-    let longer = Image::of(rt.alloc(), &[255; 32])?;
+    expect_slot(&rt, path.as_path().as_str(), &nine).expect(&rt, "the file is read");
+    let longer = image(&rt, &[255; 32]);
     expect_failures(&rt, &mut port, &nine, &longer);
-    fs::remove_file(&rt, path.as_path())?;
-    Ok(())
+    fs::remove_file(&rt, path.as_path()).expect(&rt, "the file is removed");
 }
 
 #[test]
-fn short_read_is_counted(rt: HostRuntime) -> Result<(), Fail> {
-    let path = scratch(&rt, process::id(rt.process()), "short_read")?;
-    fs::write(&rt, path.as_path(), [9u8; 32].as_slice())?;
-    let mut port = FilePort::open(&rt, rt.alloc(), path.as_path(), SIZE)?;
-    fs::write(&rt, path.as_path(), [9u8; 24].as_slice())?;
+fn short_read_is_counted(rt: HostRuntime) {
+    let path = scratch(&rt, process::id(rt.process()), "short_read").expect(&rt, "the path");
+    fs::write(&rt, path.as_path(), [9u8; 32].as_slice()).expect(&rt, "the file");
+    let mut port = FilePort::open(&rt, rt.alloc(), path.as_path(), SIZE).expect(
+        &rt,
+        "the page file",
+    );
+    fs::write(&rt, path.as_path(), [9u8; 24].as_slice()).expect(&rt, "the file");
     assert!(rt; matches!(port.read(&rt, PageNo::new(1)), Err(PortFault::Device)));
     assert_eq!(rt; port.failures(), 1);
     expect_page(&rt, &mut port, PageNo::new(0), &[9; SIZE]);
     assert_eq!(rt; port.failures(), 1);
-    fs::remove_file(&rt, path.as_path())?;
-    Ok(())
+    fs::remove_file(&rt, path.as_path()).expect(&rt, "the file is removed");
 }

@@ -1,10 +1,9 @@
 //! Ports in pairs: two threads that meet, and calls that nobody meets.
-use super::{NINE, ZEROS, expect_page, four_pages};
+use super::{NINE, ZEROS, expect_page, four_pages, image, port_of};
 use bp_device::{FusePort, GatePort, MemPort, Port};
 use bp_page::{Image, PageNo, PortFault};
 use std::process::Abort;
 use std::sync::Wait;
-use std::test::Fail;
 use std::thread;
 use std::thread::Threads;
 
@@ -52,18 +51,23 @@ fn expect_done<R: Abort>(rt: &R, job: &Job, bytes: &[u8]) {
 }
 
 #[test]
-fn calls_of_two_threads_meet(rt: HostRuntime) -> Result<(), Fail> {
-    let device = four_pages(rt.alloc())?;
-    let mut plain = device.port()?;
-    let nine = Image::of(rt.alloc(), &NINE)?;
+fn calls_of_two_threads_meet(rt: HostRuntime) {
+    let device = four_pages(&rt);
+    let mut plain = port_of(&rt, &device);
+    let nine = image(&rt, &NINE);
     assert_eq!(rt; plain.write(&rt, PageNo::new(1), &nine), Ok(()));
-    let (a, b) = GatePort::pair(rt.alloc(), device.port()?, device.port()?, MANY)?;
+    let (a, b) = GatePort::pair(
+        rt.alloc(),
+        port_of(&rt, &device),
+        port_of(&rt, &device),
+        MANY,
+    )
+    .expect(&rt, "the ports");
     let mut jobs = [job_of(a, 0), job_of(b, 1)];
     run_together(&rt, &nine, &mut jobs);
     expect_done(&rt, &jobs[0], &ZEROS);
     expect_done(&rt, &jobs[1], &NINE);
     expect_page(&rt, &mut plain, PageNo::new(0), &NINE);
-    Ok(())
 }
 
 /// A pair in one thread whose first port fails at the first call that gets to it.
@@ -86,13 +90,15 @@ fn read_alone<R: Wait + Abort>(rt: &R, port: &mut Alone, other: &mut Alone) {
 }
 
 #[test]
-fn read_that_nobody_meets(rt: HostRuntime) -> Result<(), Fail> {
-    let device = four_pages(rt.alloc())?;
-    let first = FusePort::new(rt.alloc(), device.port()?, 1, false)?;
-    let second = FusePort::new(rt.alloc(), device.port()?, 9, false)?;
-    let (mut port, mut other) = GatePort::pair(rt.alloc(), first, second, 3)?;
+fn read_that_nobody_meets(rt: HostRuntime) {
+    let device = four_pages(&rt);
+    let first = FusePort::new(rt.alloc(), port_of(&rt, &device), 1, false).expect(&rt, "the port");
+    let second = FusePort::new(rt.alloc(), port_of(&rt, &device), 9, false).expect(&rt, "the port");
+    let (mut port, mut other) = GatePort::pair(rt.alloc(), first, second, 3).expect(
+        &rt,
+        "the ports",
+    );
     read_alone(&rt, &mut port, &mut other);
-    Ok(())
 }
 
 /// A read of one port opens reads of the other one, and no writes; a write opens writes.
@@ -107,10 +113,14 @@ fn read_then_write<P: Port, R: Wait + Abort>(rt: &R, port: &mut P, other: &mut P
 }
 
 #[test]
-fn read_opens_no_write(rt: HostRuntime) -> Result<(), Fail> {
-    let device = four_pages(rt.alloc())?;
-    let nine = Image::of(rt.alloc(), &NINE)?;
-    let (mut port, mut other) = GatePort::pair(rt.alloc(), device.port()?, device.port()?, 3)?;
+fn read_opens_no_write(rt: HostRuntime) {
+    let device = four_pages(&rt);
+    let nine = image(&rt, &NINE);
+    let (mut port, mut other) = GatePort::pair(
+        rt.alloc(),
+        port_of(&rt, &device),
+        port_of(&rt, &device),
+        3,
+    ).expect(&rt, "the ports");
     read_then_write(&rt, &mut port, &mut other, &nine);
-    Ok(())
 }

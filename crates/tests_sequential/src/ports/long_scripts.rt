@@ -1,5 +1,5 @@
 //! Scripts with many passes, given back at the end and by rows.
-use super::{drive, four_pages};
+use super::{drive, four_pages, port_of};
 use bp_core::{Call, Core, Row, Step};
 use bp_device::Port;
 use bp_lruk::Settings;
@@ -7,7 +7,6 @@ use bp_page::{Geometry, PageNo, Refusal};
 use std::alloc::{AllocError, Global};
 use std::process::Abort;
 use std::sync::Wait;
-use std::test::Fail;
 
 /// How many passes are held at a time.
 const HELD: u64 = 100_000;
@@ -54,32 +53,30 @@ fn expect_unfix<R: Abort>(rt: &R, core: &Core, index: usize, serial: u64) {
     }
 }
 
-// The first fix adds two entries, a load and its read end, and each other fix one. So the entries 0 to 100,000 are the fixes, and
-// the 100,000 after them give the passes back.
+// The first fix adds two entries, a load and its read end, and each other fix one. So the entries 0 to 100,000 are the
+// fixes, and the 100,000 after them give the passes back.
 
 #[test]
-fn passes_held_at_the_end_go_back_as_taken(rt: HostRuntime) -> Result<(), Fail> {
-    let mut port = four_pages(rt.alloc())?.port()?;
+fn passes_held_at_the_end_go_back_as_taken(rt: HostRuntime) {
+    let mut port = port_of(&rt, &four_pages(&rt));
     let mut rows = Vec::new(rt.alloc());
-    add_fixes(&mut rows)?;
-    let core = core_after(&rt, rt.alloc(), &mut port, &rows)?;
+    add_fixes(&mut rows).expect(&rt, "the rows");
+    let core = core_after(&rt, rt.alloc(), &mut port, &rows).expect(&rt, "the core");
     assert_eq!(rt; core.trail().len(), 200_001);
     expect_unfix(&rt, &core, 100_001, 0);
     expect_unfix(&rt, &core, 100_002, 1);
     expect_unfix(&rt, &core, 200_000, 99_999);
-    Ok(())
 }
 
 #[test]
-fn unfix_rows_give_back_the_latest(rt: HostRuntime) -> Result<(), Fail> {
-    let mut port = four_pages(rt.alloc())?.port()?;
+fn unfix_rows_give_back_the_latest(rt: HostRuntime) {
+    let mut port = port_of(&rt, &four_pages(&rt));
     let mut rows = Vec::new(rt.alloc());
-    add_fixes(&mut rows)?;
-    add_unfixes(&mut rows)?;
-    let core = core_after(&rt, rt.alloc(), &mut port, &rows)?;
+    add_fixes(&mut rows).expect(&rt, "the rows");
+    add_unfixes(&mut rows).expect(&rt, "the rows");
+    let core = core_after(&rt, rt.alloc(), &mut port, &rows).expect(&rt, "the core");
     assert_eq!(rt; core.trail().len(), 200_001);
     expect_unfix(&rt, &core, 100_001, 99_999);
     expect_unfix(&rt, &core, 100_002, 99_998);
     expect_unfix(&rt, &core, 200_000, 0);
-    Ok(())
 }
