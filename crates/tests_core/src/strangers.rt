@@ -58,18 +58,20 @@ fn note_in_place_of_a_pass(rt: HostRuntime) {
     answers(&rt, run, &rows);
 }
 
-// The oldest pass and the newest stay out, while those between them go back.
+// The oldest pass and the newest stay out, while those between them go back, each once.
 #[test]
 fn passes_from_the_middle(rt: HostRuntime) {
-    let mut core = usual(&rt, 1);
-    let first = bring(&rt, &mut core);
-    let mut before = hit(&rt, &mut core, 0, 1, 1).note();
-    for serial in 2..40 {
-        let after = hit(&rt, &mut core, 0, 1, serial).note();
-        unfix(&rt, &mut core, before.pass());
-        let _ = hands_back(&rt, &mut core, before.pass()).note();
-        before = after;
+    let mut run = usual(&rt, 1);
+    follow(&rt, &mut run, &BRINGS);
+    follow(&rt, &mut run, &[(Do::Fix(0, 1), Gives::Pass(0, 1, 1))]);
+    for before in 1..39u64 {
+        let rows = [
+            (Do::Fix(0, 1), Gives::Pass(0, 1, before + 1)),
+            (Do::Unfix(before as usize), Gives::Done),
+            (Do::Unfix(before as usize), Gives::PassBack(0, 1, before)),
+        ];
+        follow(&rt, &mut run, &rows);
     }
-    unfix(&rt, &mut core, before.pass());
-    unfix(&rt, &mut core, first);
+    let rest = [(Do::Unfix(39), Gives::Done), (Do::Unfix(0), Gives::Done)];
+    answers(&rt, run, &rest);
 }
