@@ -162,11 +162,13 @@ fn program_command<'a>(alloc: Global) -> Result<Command<'a>, AllocError>
     ensures { IfOk result (λ c. app_of c ≡ program_app) }
 {
     let named = Command::new(alloc, "bpool").bin_name("bpool")?;
-    Ok(named
-        .about("A buffer pool with LRU-K replacement")
-        .after_help(SUMMARY)
-        .no_binary_name(true)
-        .subcommand_required(true))
+    Ok(
+        named
+            .about("A buffer pool with LRU-K replacement")
+            .after_help(SUMMARY)
+            .no_binary_name(true)
+            .subcommand_required(true),
+    )
 }
 
 /// The command line of the program, whose words leave out the program's name.
