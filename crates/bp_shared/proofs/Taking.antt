@@ -1,5 +1,6 @@
 -- What a cut hands out goes on from what was handed out before.
-use Rattle.std.proofs.Common.{◌≡◌, refl, sym, ap, subst, ◌∙◌, ◌≤◌, List, [], ◌∷◌, ◌++◌, reverse}
+use Rattle.std.proofs.Common.{◌≡◌, refl, sym, ap, subst, ◌∙◌, ◌≤◌, List, [], ◌∷◌, ◌++◌, length, reverse}
+use Rattle.std.proofs.lemmas.List.{length-reverse}
 use Rattle.std.specs.declared.vec.Vec.{Vec}
 use Rattle.rtrb.specs.declared.producer.Producer.{Producer}
 use Rattle.rtrb.specs.Ring.{sent}
@@ -63,14 +64,15 @@ comes_next c had has mid new entries same is takes cut = record { joins = takes;
 
 -- why a cut was refused, in the words of its taker
 pub gave_too_many : (c : Parameters) (had : TakerValue) (mid core : CoreView) (entries : List Entry) → mid.parameters ≡ c
-    → had.past ≡ mid.before → reverse entries ++ core.before ≡ core.past → Legal core.parameters core.past
+    → had.past ≡ mid.before → length entries ≤ core.parameters.room → reverse entries ++ core.before ≡ core.past → Legal core.parameters core.past
     → CutRefused mid refusal.ClockFull core → GaveTooMany c had
-gave_too_many c had mid core entries same is whole legal refused = record {
+gave_too_many c had mid core entries same is fits whole legal refused = record {
   past = mid.past;
   piece = reverse entries;
   goes_on =
       sym (subst (λ (n : CoreView). reverse entries ++ n.before ≡ n.past) refused.1 whole)
       ∙ ap (λ b. reverse entries ++ b) (sym is);
+  fits = subst (λ n. n ≤ c.room) (sym (length-reverse entries)) (subst (λ p. length entries ≤ p.room) same (subst (λ (n : CoreView). length entries ≤ n.parameters.room) refused.1 fits));
   legal = subst (λ p. Legal p mid.past) same (subst (λ (n : CoreView). Legal n.parameters n.past) refused.1 legal);
   many = refused.0;
 }

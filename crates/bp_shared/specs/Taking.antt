@@ -1,5 +1,5 @@
 -- The trail of a pool, as it is taken piece by piece.
-use Rattle.std.specs.Prelude.{◌≡◌, ◌⊎◌, ℕ, ◌<◌, ◌^◌, List, [], ◌∷◌, ◌++◌, reverse}
+use Rattle.std.specs.Prelude.{◌≡◌, ◌⊎◌, ℕ, ◌<◌, ◌^◌, ◌≤◌, List, [], ◌∷◌, ◌++◌, length, reverse}
 use Rattle.std.specs.declared.vec.Vec.{Vec}
 use denote.RawPtr.{Ptr, null_ptr}
 use Rattle.rtrb.specs.declared.producer.Producer.{Producer}
@@ -58,11 +58,12 @@ pub record ComesNext (c : Parameters) (had : TakerValue) (entries : List Entry) 
   pub leads_on : LeadsOn c (standing c had.past) (reverse entries) (standing c has.past)
   pub legal : Legal c has.past
 
--- the core's entries, which go on lawfully from all that its taker had, gave more than 2^62 passes or tickets
+-- the core's entries, which fit its room and go on lawfully from all that its taker had, gave more than 2^62 passes or tickets
 pub record GaveTooMany (c : Parameters) (had : TakerValue) : Type 0 where
   pub past : Trail
   pub piece : Trail
   pub goes_on : past ≡ piece ++ had.past
+  pub fits : length piece ≤ c.room
   pub legal : Legal c past
   pub many : (2 ^ 62 < passes past) ⊎ (2 ^ 62 < tickets past)
 

@@ -1,5 +1,7 @@
 //! The pool: a core behind a lock, and the mark that it looks at.
-ghost use Rattle.std.specs.Prelude.{◌≡◌};
+ghost use Rattle.std.specs.Prelude.{◌≡◌, IfOk, OnErr};
+ghost use Rattle.bp_page.specs.declared.refusals.Refusal.TheVariants as Refusal;
+ghost use Rattle.bp_shared.specs.Sessions.{new_sessions};
 ghost use Rattle.bp_book.specs.Turns.{is_busy};
 
 use crate::locking::locked;
@@ -10,10 +12,10 @@ use crate::taker::Taker;
 use crate::trail_ring::TrailRing;
 use bp_book::Posted;
 use bp_book::draining::RING;
-use bp_core::{Core, Entry, Pass};
+use bp_core::{Core, Entry, Pass, PassNote};
 use bp_mark::{Mark, Reader};
-use bp_page::Refusal;
-use rtrb::RingBuffer;
+use bp_page::{Geometry, Refusal};
+use rtrb::{Consumer, RingBuffer};
 use std::alloc::Global;
 use std::marker::Model;
 use std::sync::{Condvar, Mutex, Wait};
@@ -38,6 +40,34 @@ fn found_busy<T>(answer: &Result<T, Refusal>) -> bool {
         Ok(_) => false,
         Err(refusal) => is_busy(refusal),
     }
+}
+
+/// A session for each client, and the taking end of its ring, in order.
+fn new_clients<N: PoolName>(
+    alloc: Global,
+    geometry: Geometry,
+    clients: u8,
+) -> Result<(Vec<Session<N>>, Vec<Consumer<PassNote>>), Refusal>
+    requires clients { clients ≡ N.parameters.clients }
+    requires size { geometry.size ≡ N.parameters.size }
+    ensures sessions { IfOk result (λ made. made.0.items ≡ new_sessions N.parameters.clients) }
+    ensures refused { OnErr result (result ≡ Err Refusal.OutOfMemory) }
+{
+    let mut sessions = Vec::new(alloc);
+    let mut consumers = Vec::new(alloc);
+    for client in 0..clients {
+        let Ok((producer, consumer)) = RingBuffer::new(alloc, RING) else {
+            return Err(Refusal::OutOfMemory);
+        };
+        let session = Session::new(alloc, geometry, client, producer);
+        let Ok(()) = sessions.push(session) else {
+            return Err(Refusal::OutOfMemory);
+        };
+        let Ok(()) = consumers.push(consumer) else {
+            return Err(Refusal::OutOfMemory);
+        };
+    }
+    Ok((sessions, consumers))
 }
 
 /// A buffer pool that many clients share, each through its own session.
@@ -93,21 +123,10 @@ impl<N: PoolName> SharedPool<N> {
         ensures sessions { IfOk result (λ made. made.1.items ≡ new_sessions N.parameters.clients) }
         ensures refused { OnErr result (result ≡ Err Refusal.OutOfMemory) }
     {
-        let geometry = core.geometry();
-        let mut sessions = Vec::new(alloc);
-        let mut consumers = Vec::new(alloc);
-        for client in 0..core.clients() {
-            let Ok((producer, consumer)) = RingBuffer::new(alloc, RING) else {
-                return Err(Refusal::OutOfMemory);
-            };
-            let session = Session::new(alloc, geometry, client, producer);
-            let Ok(()) = sessions.push(session) else {
-                return Err(Refusal::OutOfMemory);
-            };
-            let Ok(()) = consumers.push(consumer) else {
-                return Err(Refusal::OutOfMemory);
-            };
-        }
+        let (sessions, consumers) = match new_clients(alloc, core.geometry(), core.clients()) {
+            Ok(made) => made,
+            Err(refusal) => return Err(refusal),
+        };
         let room = core.room();
         let posted = Posted::nothing(core.clients());
         let TrailRing { pieces, taken } = ring;
@@ -182,7 +201,7 @@ impl<N: PoolName> SharedPool<N> {
         let Ok(()) = empty.reserve_exact(self.room) else {
             return Err(Refusal::OutOfMemory);
         };
-        locked(rt, &self.state).cut(taker, empty)
+        self.state.lock(rt).cut(taker, empty)
     }
 
     /// Drains the rings, and does nothing else. It takes no memory.

@@ -1,5 +1,5 @@
 //! What a core tells.
-ghost use Rattle.std.specs.Prelude.{◌≡◌, ◌++◌, reverse};
+ghost use Rattle.std.specs.Prelude.{◌≡◌, ◌++◌, reverse, ◌≤◌, length};
 ghost use Rattle.bp_trail.specs.Clock.{clock, durable};
 ghost use Rattle.bp_trail.specs.References.{last, hist};
 ghost use Rattle.bp_trail.specs.Legal.{Legal};
@@ -18,6 +18,7 @@ impl Core {
     /// The entries since the last cut, the oldest first, or all where no cut was made.
     pub fn trail(&self) -> &[Entry]
         ensures entries { reverse result.now ++ self.now.before ≡ self.now.past }
+        ensures room { length result.now ≤ self.now.parameters.room }
         ensures legal { EachPast self.now (Legal self.now.parameters) }
         ensures safe { EachPast self.now (Safe self.now.parameters) }
         ensures before { Legal self.now.parameters self.now.before }

@@ -57,4 +57,4 @@ returns-in-Err-clause-cause g c =
     let why = c.in-Err.ensures.enough (search rules) in
     let full : CutRefused mid refusal.ClockFull core = subst (λ r. IfErr r (λ e. CutRefused mid e core)) why c.in-Err.ensures.refused in
     rw (← c.taker.view_is)
-    (gave_too_many _ _ mid core c.trail.result.now same had c.trail.ensures.entries c.trail.ensures.legal full)
+    (gave_too_many _ _ mid core c.trail.result.now same had c.trail.ensures.room c.trail.ensures.entries c.trail.ensures.legal full)

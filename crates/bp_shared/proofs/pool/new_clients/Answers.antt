@@ -1,15 +1,13 @@
 -- One session after another.
 use Rattle.std.proofs.Common.{rules, arith, ◌≡◌, ap, ◌∙◌, add-one}
-use Rattle.bp_trail.specs.Parameters.{Parameters}
 use Rattle.bp_shared.specs.Sessions.{new_sessions}
 use Rattle.bp_shared.proofs.Making.{sessions_more}
-use Rattle.bp_shared.proofs.pool.SharedPool.new.Goals as goal
+use Rattle.bp_shared.proofs.pool.new_clients.Goals as goal
 
 pub loop-client-preserved : goal.loop-client-preserved
 loop-client-preserved g c = sessions_more c.loop-client.client _ _ _ c.new-session.result c.loop-client.invariant (search rules) c.new-session.ensures.client c.new-session.ensures.before c.new-session.ensures.said (add-one c.loop-client.client)
 
 pub returns-clause-sessions : goal.returns-clause-sessions
 returns-clause-sessions g c =
-    let all : c.loop-client.client ≡ c.clients-client-end.result = omega (arith, c.loop-client-test.false, c.loop-client.auto.client-end) in
-    let is : c.loop-client.client ≡ g.N.PoolName.parameters.clients = all ∙ c.clients-client-end.ensures ∙ ap (λ (p : Parameters). p.clients) c.requires.parameters in
-    c.loop-client.invariant ∙ ap new_sessions is
+    let all : c.loop-client.client ≡ c.args.clients = omega (arith, c.loop-client-test.false, c.loop-client.auto.client-end) in
+    c.loop-client.invariant ∙ ap new_sessions (all ∙ c.requires.clients)
