@@ -17,8 +17,8 @@ ghost use Rattle.bp_trail.specs.Claims.{AnswersPlain};
 ghost use Rattle.bp_trail.specs.Pieces.Manner.{session};
 ghost use Rattle.bp_audit.specs.Log.{is_unfix};
 ghost use Rattle.bp_audit.specs.Cut.{BoundedByItsRow};
-ghost use Rattle.bp_clients.specs.Jobs.{list_of};
-ghost use Rattle.bp_clients.specs.Runs.{MarksWithinLog, SaidIsTheirs, after_lists, joined_lists, PiecesAreTheirs};
+ghost use Rattle.bp_clients.specs.Jobs.{list_of, NoneIsStrange};
+ghost use Rattle.bp_clients.specs.Runs.{MarksWithinLog, SaidIsTheirs, IsRun, after_lists, joined_lists, PiecesAreTheirs};
 
 /// In the trail of every run each reply is what the page map answers there from the calls before it; each page that leaves has no
 /// pins and is not unsaved, and is the eligible page that comes first, so that none is farther by its backward K-distance; no image
@@ -42,9 +42,10 @@ pub fn marks_keep_to_the_log_rows()
 
 /// A trail that is taken in pieces, and lists that are cut in pieces, are a run's when they are joined: what each cut says of its piece
 /// adds up to the joined pieces; so these are legal where the whole is; and the lists are the trail's entries of each client where that
-/// is so piece by piece.
+/// is so piece by piece. Where by these lists the clients follow their scripts too, and no mark is ahead of the log rows, it is a run.
 pub fn pieces_are_a_run()
     ensures whole { (pieces : List (List AnEntry)) → after_lists [] pieces ≡ reverse (joined_lists pieces) }
     ensures legal { (c : Parameters) (pieces : List (List AnEntry)) → Legal c (after_lists [] pieces) → Legal c (reverse (joined_lists pieces)) }
+    ensures run { (c : Parameters) (scripts : List (List ARow)) (trail : List (List AnEntry)) (said : List (List (List AnEntry))) (refused : List ARefused) → Legal c (after_lists [] trail) → PiecesAreTheirs (length scripts) trail said → NoneIsStrange refused → MarksWithinLog scripts (joined_lists trail) (map joined_lists said) refused → IsRun c scripts (joined_lists trail) (map joined_lists said) refused }
     ensures theirs { (clients : ℕ) (trail : List (List AnEntry)) (said : List (List (List AnEntry))) → PiecesAreTheirs clients trail said → SaidIsTheirs clients (joined_lists trail) (map joined_lists said) }
 {}

@@ -1,5 +1,5 @@
 -- Piece after piece.
-use Rattle.std.proofs.Common.{subst}
+use Rattle.std.proofs.Common.{subst, length}
 use Rattle.bp_trail.specs.Legal.{Legal}
 use Rattle.bp_clients.proofs.Pieces.{whole, theirs}
 use Rattle.bp_clients.proofs.laws.pieces_are_a_run.Goals as goal
@@ -12,3 +12,12 @@ returns-clause-legal a c pieces legal = subst (Legal c) (whole pieces) legal
 
 pub returns-clause-theirs : goal.returns-clause-theirs
 returns-clause-theirs a clients trail said are = theirs clients trail said are
+
+pub returns-clause-run : goal.returns-clause-run
+returns-clause-run a c scripts trail said refused legal are known log = record {
+  legal = subst (Legal c) (whole trail) legal;
+  theirs = theirs (length scripts) trail said are;
+  follows = log.follows;
+  known = known;
+  within_log = log;
+}
