@@ -3,6 +3,7 @@ ghost use Rattle.std.specs.Prelude.{◌≡◌};
 
 use super::making::Client;
 use super::pairs::{Turn, play};
+use bp_audit::agrees;
 use bp_core::PassNote;
 use bp_page::{PageNo, Refusal};
 use bp_shared::{PoolName, SharedPool, Taker};
@@ -24,8 +25,9 @@ fn fix_for_both<N: PoolName, R: Wait>(
     Ok(held)
 }
 
-// Takes the trail since the last cut, and the two lists: how many entries each has.
-fn cut_all<N: PoolName, R: Wait>(
+// Takes the trail since the last cut, and the two lists, which are the trail's entries of either client: how many
+// entries each has.
+fn cut_all<N: PoolName, R: Wait + Abort>(
     rt: &R,
     pool: &SharedPool<N>,
     taker: &mut Taker<N>,
@@ -35,6 +37,7 @@ fn cut_all<N: PoolName, R: Wait>(
     let trail = pool.cut(rt, taker)?;
     let one = first.session.cut()?;
     let two = second.session.cut()?;
+    assert!(rt; agrees(&trail, &one, 0) && agrees(&trail, &two, 1));
     Ok((trail.len(), one.len(), two.len()))
 }
 
