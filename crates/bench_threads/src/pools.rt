@@ -40,9 +40,9 @@ struct Made {
 fn make(alloc: Global, clients: u8) -> Result<Made, Refusal> {
     let geometry = Geometry::new(FILE_PAGES, SIZE)?;
     let settings = Settings::new(2, 0, MAX_PERIOD)?;
-    let core = Core::new(alloc, geometry, settings, FRAMES, clients, ROOM)?;
     let (mark, _, reader) = Mark::new(alloc)?;
     let ring = TrailRing::new(alloc)?;
+    let core = Core::new(alloc, geometry, settings, FRAMES, clients, ROOM)?;
     Ok(Made {
         core,
         mark,
@@ -93,7 +93,33 @@ fn make_jobs<N: PoolName, P: Port>(
     Ok(jobs)
 }
 
-// Times threads over a new pool, whose frames are full at the start.
+// Times the jobs, from when the frames are full.
+fn time_jobs<
+    N: PoolName + Send + Sync,
+    P: Port + Send,
+    R: Runtime<A = Global> + Clock + Threads + Wait + Sync,
+>(
+    rt: &R,
+    pool: &SharedPool<N>,
+    takings: &Mutex<Takings<N>>,
+    jobs: &mut [Job<N, P>],
+    work: Work,
+) -> Result<Outcome, anyhow::Error>
+    requires pages { N.parameters.pages ≡ FILE_PAGES }
+{
+    if let Some(job) = jobs.first_mut() {
+        job.fill(rt, pool, takings);
+    }
+    let start = Instant::now(rt)?;
+    run_jobs(rt, pool, takings, jobs, work);
+    let nanos = start.elapsed(rt)?.as_nanos();
+    Ok(Outcome {
+        nanos,
+        done: done_by(jobs),
+    })
+}
+
+// Times threads over a new pool.
 fn time_work<
     N: PoolName + Send + Sync,
     P: Port + Send,
@@ -111,21 +137,12 @@ fn time_work<
         ring,
     } = made;
     let (pool, sessions, taker) = SharedPool::<N>::new(rt.alloc(), core, mark, reader, ring)?;
+    let mut jobs = make_jobs(rt.alloc(), sessions, ports)?;
     let takings = Mutex::new(Takings {
         taker,
         spare: Vec::new(rt.alloc()),
     });
-    let mut jobs = make_jobs(rt.alloc(), sessions, ports)?;
-    if let Some(job) = jobs.first_mut() {
-        job.fill(rt, &pool, &takings);
-    }
-    let start = Instant::now(rt)?;
-    run_jobs(rt, &pool, &takings, &mut jobs, work);
-    let nanos = start.elapsed(rt)?.as_nanos();
-    Ok(Outcome {
-        nanos,
-        done: done_by(&jobs),
-    })
+    time_jobs(rt, &pool, &takings, &mut jobs, work)
 }
 
 /// Times threads over a pool of their own, each with one of the ports.

@@ -37,35 +37,43 @@ fn change(
     }
 }
 
-/// A pool over these pages: a page is changed and flushed, the clock moves, and the trail of all that is cut off. Returns how many
-/// entries it had.
-fn use_pages(rt: &impl Wait, alloc: Global, geometry: Geometry) -> Result<usize, Refusal>
-    requires room { 7 < geometry.pages }
-    requires long_enough { 5 ≤ geometry.size }
+/// A page is changed and flushed, the clock moves, and the trail of all that is cut off. Returns how many entries it had.
+fn use_pool(
+    rt: &impl Wait,
+    core: &mut Core,
+    port: &mut MemPort,
+    page: PageNo,
+    bytes: &Bytes,
+) -> Result<usize, Refusal>
+    requires size { port.old.device.size ≡ core.old.parameters.size }
+    requires client { 0 < core.old.parameters.clients }
+    requires page_in { page < core.old.parameters.pages }
+    requires fits { 0 + length bytes.now ≤ core.old.parameters.size }
 {
-    let settings = Settings::new(2, 0, 1000)?;
-    let mut core = Core::new(alloc, geometry, settings, 64, 1, 10_000)?;
-    let device = MemDevice::new(alloc, geometry)?;
-    let mut port = device.port()?;
-    let Ok(bytes) = Bytes::of(alloc, b"hello".as_slice()) else {
-        return Err(Refusal::OutOfMemory);
-    };
-    let page = PageNo::new(7);
-    change(rt, &mut core, &mut port, page, &bytes, Lsn::new(1))?;
+    change(rt, core, port, page, bytes, Lsn::new(1))?;
     core.mark(0, Lsn::new(1))?;
-    drive_flush(rt, &mut core, &mut port, 0, page)?;
+    drive_flush(rt, core, port, 0, page)?;
     core.tick(0, 1)?;
     let trail = core.cut()?;
     Ok(trail.len())
 }
 
-fn use_pool(rt: &(impl Runtime<A = Global> + Wait)) -> Result<usize, Refusal> {
+/// A device of sixteen pages in memory, a port to it, and a core over them with one client.
+fn make_pool(rt: &(impl Runtime<A = Global> + Wait)) -> Result<usize, Refusal> {
+    let alloc = rt.alloc();
     let geometry = Geometry::new(16, 64)?;
-    use_pages(rt, rt.alloc(), geometry)
+    let settings = Settings::new(2, 0, 1000)?;
+    let Ok(bytes) = Bytes::of(alloc, b"hello".as_slice()) else {
+        return Err(Refusal::OutOfMemory);
+    };
+    let device = MemDevice::new(alloc, geometry)?;
+    let mut port = device.port()?;
+    let mut core = Core::new(alloc, geometry, settings, 64, 1, 10_000)?;
+    use_pool(rt, &mut core, &mut port, PageNo::new(7), &bytes)
 }
 
 fn main(rt: HostRuntime) {
-    match use_pool(&rt) {
+    match make_pool(&rt) {
         Ok(entries) => {
             let _ = println!(&rt; "{entries} entries");
         }

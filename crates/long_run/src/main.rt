@@ -9,6 +9,7 @@ use bp_lruk::Settings;
 use bp_page::{Geometry, Image, Lsn, PageNo, Refusal};
 use std::alloc::Global;
 use std::mem;
+use std::rt::Runtime;
 
 const ROOM: usize = 4096;
 
@@ -21,11 +22,9 @@ const ROUNDS: u64 = 1000000;
 // The rounds between two cuts: 4,000 entries, and twelve more before the first cut.
 const ROUNDS_A_CUT: u64 = 400;
 
-// What was cut so far.
-#[derive(Drop)]
-struct Tally {
-    // The piece that was cut last, in whose memory the trail goes on after the next cut.
-    spare: Vec<Entry>,
+// What the pieces have that were cut so far.
+#[derive(Clone, Copy)]
+struct Counts {
     pieces: u64,
     // The pieces that had more or less memory than the room needs.
     odd_pieces: u64,
@@ -40,9 +39,16 @@ struct Tally {
     next_pass: u64,
 }
 
-fn nothing(alloc: Global) -> Tally {
-    Tally {
-        spare: Vec::new(alloc),
+// What was cut so far.
+#[derive(Drop)]
+struct Tally {
+    // The piece that was cut last, in whose memory the trail goes on after the next cut.
+    spare: Vec<Entry>,
+    counts: Counts,
+}
+
+fn nothing() -> Counts {
+    Counts {
         pieces: 0,
         odd_pieces: 0,
         entries: 0,
@@ -60,7 +66,7 @@ fn add_one(count: &mut u64) {
     *count = count.saturating_add(1);
 }
 
-impl Tally {
+impl Counts {
     fn count(&mut self, entry: &Entry) {
         add_one(&mut self.entries);
         match &entry.reply {
@@ -92,14 +98,16 @@ impl Tally {
             self.count(entry);
         }
     }
+}
 
+impl Tally {
     // Cuts the trail into the memory of the piece before.
     fn cut(&mut self, alloc: Global, core: &mut Core)
         ensures same { core.new.parameters ≡ core.old.parameters }
     {
         let spare = mem::replace(&mut self.spare, Vec::new(alloc));
         if let Ok(piece) = core.cut_into(spare) {
-            self.count_piece(&piece);
+            self.counts.count_piece(&piece);
             self.spare = piece;
         }
     }
@@ -165,11 +173,14 @@ fn run_round(alloc: Global, core: &mut Core, round: u64)
 }
 
 // Reads the pages, and runs all rounds.
-fn run(alloc: Global, core: &mut Core) -> Tally
+fn run(alloc: Global, core: &mut Core) -> Counts
     requires client { 0 < core.old.parameters.clients }
     requires pages_in { PAGES ≤ core.old.parameters.pages }
 {
-    let mut tally = nothing(alloc);
+    let mut tally = Tally {
+        spare: Vec::new(alloc),
+        counts: nothing(),
+    };
     use_pages(alloc, core);
     for round in 1..=ROUNDS {
         run_round(alloc, core, round);
@@ -177,7 +188,7 @@ fn run(alloc: Global, core: &mut Core) -> Tally
             tally.cut(alloc, core);
         }
     }
-    tally
+    tally.counts
 }
 
 // A core of K 2 and no periods, with a frame for each page.
@@ -190,23 +201,45 @@ fn new_core(alloc: Global) -> Result<Core, Refusal>
     Core::new(alloc, geometry, settings, PAGES as usize, 1, ROOM)
 }
 
-fn main(rt: HostRuntime) -> Result<(), anyhow::Error> {
-    let mut core = new_core(rt.alloc())?;
-    let tally = run(rt.alloc(), &mut core);
-    let (clock, durable, left) = (core.clock(), core.durable().number(), core.trail().len());
+// How a core ends.
+#[derive(Clone, Copy)]
+struct End {
+    clock: u64,
+    durable: u64,
+    // The entries that were not cut.
+    left: usize,
+}
+
+fn run_all(alloc: Global) -> Result<(Counts, End), Refusal> {
+    let mut core = new_core(alloc)?;
+    let counts = run(alloc, &mut core);
+    let end = End {
+        clock: core.clock(),
+        durable: core.durable().number(),
+        left: core.trail().len(),
+    };
+    Ok((counts, end))
+}
+
+fn print(rt: &impl Runtime<A = Global>, counts: Counts, end: End) -> Result<(), anyhow::Error> {
     println!(rt;
-        "{} entries in {} pieces, {} of them in more or less memory than the room needs; {left} left",
-        tally.entries, tally.pieces, tally.odd_pieces
+        "{} entries in {} pieces, {} of them in more or less memory than the room needs; {} left",
+        counts.entries, counts.pieces, counts.odd_pieces, end.left
     )?;
     println!(rt;
         "{} loads, {} faults, {} hits",
-        tally.loads, tally.faults, tally.hits
+        counts.loads, counts.faults, counts.hits
     )?;
     println!(rt;
         "{} hits have the pass after the one before",
-        tally.hits_in_turn
+        counts.hits_in_turn
     )?;
-    println!(rt; "{} done, {} other replies", tally.done, tally.others)?;
-    println!(rt; "clock {clock}, durable log {durable}")?;
+    println!(rt; "{} done, {} other replies", counts.done, counts.others)?;
+    println!(rt; "clock {}, durable log {}", end.clock, end.durable)?;
     Ok(())
+}
+
+fn main(rt: HostRuntime) -> Result<(), anyhow::Error> {
+    let (counts, end) = run_all(rt.alloc())?;
+    print(&rt, counts, end)
 }
