@@ -58,8 +58,8 @@ fn use_pool(
     Ok(trail.len())
 }
 
-/// A device of sixteen pages in memory, a port to it, and a core over them with one client.
-fn make_pool(rt: &(impl Runtime<A = Global> + Wait)) -> Result<usize, Refusal> {
+/// Makes a core with one client over sixteen pages in memory, and uses it. Returns how many entries its trail had.
+fn run(rt: &(impl Runtime<A = Global> + Wait)) -> Result<usize, Refusal> {
     let alloc = rt.alloc();
     let geometry = Geometry::new(16, 64)?;
     let settings = Settings::new(2, 0, 1000)?;
@@ -73,7 +73,7 @@ fn make_pool(rt: &(impl Runtime<A = Global> + Wait)) -> Result<usize, Refusal> {
 }
 
 fn main(rt: HostRuntime) {
-    match make_pool(&rt) {
+    match run(&rt) {
         Ok(entries) => {
             let _ = println!(&rt; "{entries} entries");
         }
