@@ -1,11 +1,9 @@
-//! Tests of histories and candidates, and of ports and drivers.
+//! Tests of ports and drivers, and of the durable mark.
 //!
 //! They stand apart from the crates that they call, so that none of these is proved a second time with its tests.
 #![tactic(auto)]
 
 #[cfg(test)]
-mod candidates;
-#[cfg(test)]
-mod histories;
+mod marks;
 #[cfg(test)]
 mod ports;

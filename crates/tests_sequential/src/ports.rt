@@ -69,13 +69,19 @@ fn row(row: u64, step: Step) -> Row {
     }
 }
 
+/// Row 6 finds no victim, so that row 7 has no pass.
+const NO_VICTIM_NO_PASS: [Refused; 2] = [
+    Refused { row: 6, number: 11 },
+    Refused { row: 7, number: 14 },
+];
+
 /// The rows: fix 1, write the byte 9 to it, unfix it, tick, fix 2, fix 1, read 1.
-fn two_pages_in_one_frame(alloc: Global) -> Result<Vec<Row>, AllocError> {
+fn two_pages_in_one_frame<R: Abort + AllocGlobal>(rt: &R) -> Vec<Row> {
     let one = PageNo::new(1);
     let write = Step::Write {
         page: one,
         offset: 0,
-        bytes: Bytes::of(alloc, &[9])?,
+        bytes: Bytes::of(rt.alloc(), &[9]).expect(rt, "the bytes"),
         lsn: Lsn::new(0),
     };
     let rows = [
@@ -87,43 +93,38 @@ fn two_pages_in_one_frame(alloc: Global) -> Result<Vec<Row>, AllocError> {
         row(6, Step::Fix(one)),
         row(7, Step::Read(one)),
     ];
-    match Vec::from_array(alloc, rows) {
-        Ok(rows) => Ok(rows),
-        Err(_) => Err(AllocError),
-    }
+    Vec::from_array(rt.alloc(), rows).expect(rt, "the rows")
 }
 
-/// A core of one frame for one client, with one stamp and no periods.
-fn one_frame(alloc: Global, geometry: Geometry) -> Result<Core, Refusal> {
-    Core::new(alloc, geometry, Settings::new(1, 0, 0)?, 1, 1, 100)
+/// A core of one frame for one client, with one stamp, no periods and room for so many entries.
+fn one_frame<R: Abort + AllocGlobal>(rt: &R, geometry: Geometry, room: usize) -> Core {
+    let settings = Settings::new(1, 0, 0).expect(rt, "the settings");
+    Core::new(rt.alloc(), geometry, settings, 1, 1, room).expect(rt, "the core")
 }
 
 /// Drives the rows, which the core's parameters allow.
-fn drive<P: Port, R: Wait + Abort>(
+fn drive<P: Port, R: Wait + Abort + AllocGlobal>(
     rt: &R,
-    alloc: Global,
     core: &mut Core,
     port: &mut P,
     rows: &[Row],
-) -> Result<Vec<Refused>, Refusal> {
+) -> Vec<Refused> {
     let same_size = port.geometry().size == core.geometry().size;
     assert!(rt; same_size);
     assert!(rt; all_fit(core, rows));
-    drive_all(rt, alloc, core, port, rows)
+    drive_all(rt, rt.alloc(), core, port, rows).expect(rt, "the rows are driven")
 }
 
-/// Drives the two pages over a new core, which comes back with the refused rows.
-fn drive_two_pages<P: Port, R: Wait + Abort>(
+/// Drives the two pages over a new core, which refuses these rows.
+fn drive_two_pages<P: Port, R: Wait + Abort + AllocGlobal>(
     rt: &R,
-    alloc: Global,
     port: &mut P,
-) -> Result<(Core, Vec<Refused>), Refusal> {
-    let mut core = one_frame(alloc, port.geometry())?;
-    let Ok(rows) = two_pages_in_one_frame(alloc) else {
-        return Err(Refusal::OutOfMemory);
-    };
-    let refused = drive(rt, alloc, &mut core, port, &rows)?;
-    Ok((core, refused))
+    refused: &[Refused],
+) -> Core {
+    let mut core = one_frame(rt, port.geometry(), 100);
+    let rows = two_pages_in_one_frame(rt);
+    assert!(rt; drive(rt, &mut core, port, &rows).as_slice() == refused);
+    core
 }
 
 /// Fixes a page for client 0.
@@ -182,13 +183,7 @@ fn image<R: Abort + AllocGlobal>(rt: &R, bytes: &[u8]) -> Image {
 #[test]
 fn one_owner_refusals(rt: HostRuntime) {
     let mut port = port_of(&rt, &four_pages(&rt));
-    let (_core, refused) = drive_two_pages(&rt, rt.alloc(), &mut port).expect(
-        &rt,
-        "the rows are driven",
-    );
-    let no_victim = Refused { row: 6, number: 11 };
-    let no_pass = Refused { row: 7, number: 14 };
-    assert_eq!(rt; refused.as_slice(), [no_victim, no_pass].as_slice());
+    drive_two_pages(&rt, &mut port, &NO_VICTIM_NO_PASS);
     assert_eq!(rt; port.failures(), 0);
 }
 
@@ -217,16 +212,24 @@ fn expect_read_end<R: Abort>(rt: &R, core: &Core, index: usize, bytes: &[u8]) {
 fn drivers_keep_to_their_tickets(rt: HostRuntime) {
     let (one, two) = (PageNo::new(1), PageNo::new(2));
     let mut port = port_of(&rt, &four_pages(&rt));
-    let five = image(&rt, &FIVE);
-    let nine = image(&rt, &NINE);
-    assert_eq!(rt; port.write(&rt, one, &five), Ok(()));
-    assert_eq!(rt; port.write(&rt, two, &nine), Ok(()));
-    let (core, _) = drive_two_pages(&rt, rt.alloc(), &mut port).expect(&rt, "the rows are driven");
-    expect_read_end(&rt, &core, 1, &FIVE);
-    expect_read_end(&rt, &core, 8, &NINE);
+    put(&rt, &mut port, one, &FIVE);
+    put(&rt, &mut port, two, &NINE);
+    expect_read_ends(&rt, &mut port);
     expect_page(&rt, &mut port, PageNo::new(0), &ZEROS);
     expect_page(&rt, &mut port, one, &NINE);
     expect_page(&rt, &mut port, two, &NINE);
+}
+
+/// Writes a page by its port.
+fn put<P: Port, R: Wait + Abort + AllocGlobal>(rt: &R, port: &mut P, page: PageNo, bytes: &[u8]) {
+    assert!(rt; port.write(rt, page, &image(rt, bytes)).is_ok());
+}
+
+/// Drives the two pages, and asserts what their reads brought from the device.
+fn expect_read_ends<P: Port, R: Wait + Abort + AllocGlobal>(rt: &R, port: &mut P) {
+    let core = drive_two_pages(rt, port, &NO_VICTIM_NO_PASS);
+    expect_read_end(rt, &core, 1, &FIVE);
+    expect_read_end(rt, &core, 8, &NINE);
 }
 
 /// Runs the two pages over a port whose second call fails, the write-out of page 1, and tells what is left of it on the
@@ -234,13 +237,16 @@ fn drivers_keep_to_their_tickets(rt: HostRuntime) {
 fn write_out_fails<R: Wait + Abort + AllocGlobal>(rt: &R, spoil: bool, left: &[u8]) {
     let port = port_of(rt, &four_pages(rt));
     let mut port = FusePort::new(rt.alloc(), port, 2, spoil).expect(rt, "the port");
-    let (core, refused) = drive_two_pages(rt, rt.alloc(), &mut port).expect(rt, "the core");
-    let failed = Refused { row: 5, number: 18 };
-    assert!(rt; refused.as_slice() == [failed].as_slice());
-    assert!(rt; core.trail().len() == 10);
-    expect_content(rt, &core, 8, &NINE);
+    expect_failed_write_out(rt, &mut port);
     assert!(rt; port.failures() == 1);
     expect_page(rt, &mut port, PageNo::new(1), left);
+}
+
+/// Drives the two pages, of which the write-out in row 5 fails. Row 7 still reads what row 2 wrote.
+fn expect_failed_write_out<P: Port, R: Wait + Abort + AllocGlobal>(rt: &R, port: &mut P) {
+    let core = drive_two_pages(rt, port, &[Refused { row: 5, number: 18 }]);
+    assert!(rt; core.trail().len() == 10);
+    expect_content(rt, &core, 8, &NINE);
 }
 
 #[test]
@@ -250,12 +256,13 @@ fn failing_second_call(rt: HostRuntime) {
 }
 
 /// Writes the byte 5 to the start of a page.
-fn write_five<R: Abort>(rt: &R, core: &mut Core, note: PassNote, five: &Bytes) {
+fn write_five<R: Abort + AllocGlobal>(rt: &R, core: &mut Core, note: PassNote) {
+    let five = Bytes::of(rt.alloc(), &[5]).expect(rt, "the bytes");
     assert!(rt; core.geometry().fits(0, five.bytes().len()));
     let pass = note.pass();
-    let written = core.write(&pass, 0, five, Lsn::new(0));
+    let written = core.write(&pass, 0, &five, Lsn::new(0));
     pass.note();
-    assert_eq!(rt; written, Ok(()));
+    assert!(rt; written.is_ok());
 }
 
 /// Gives a pass back.
@@ -267,28 +274,23 @@ fn give_back<R: Abort>(rt: &R, core: &mut Core, note: PassNote) {
 }
 
 /// Fixes a page, writes to it, and flushes it twice, and then another page.
-fn flush_a_page<P: Port, R: Wait + Abort>(rt: &R, core: &mut Core, port: &mut P, five: &Bytes) {
+fn flush_a_page<P: Port, R: Wait + Abort + AllocGlobal>(rt: &R, core: &mut Core, port: &mut P) {
     let (one, two) = (PageNo::new(1), PageNo::new(2));
-    match fix(rt, core, port, one) {
-        Ok(note) => {
-            assert_eq!(rt; note.serial(), 0);
-            write_five(rt, core, note, five);
-            assert_eq!(rt; flush(rt, core, port, one), Ok(Flushed::Cleaned));
-            assert_eq!(rt; flush(rt, core, port, one), Ok(Flushed::Clean));
-            assert_eq!(rt; flush(rt, core, port, two), Ok(Flushed::Absent));
-            assert!(rt; matches!(fix(rt, core, port, two), Err(Refusal::NoVictim)));
-            give_back(rt, core, note);
-        }
-        Err(refusal) => panic!(rt; "{refusal}"),
-    }
+    let note = fix(rt, core, port, one).expect(rt, "the pass");
+    assert!(rt; note.serial() == 0);
+    write_five(rt, core, note);
+    assert!(rt; matches!(flush(rt, core, port, one), Ok(Flushed::Cleaned)));
+    assert!(rt; matches!(flush(rt, core, port, one), Ok(Flushed::Clean)));
+    assert!(rt; matches!(flush(rt, core, port, two), Ok(Flushed::Absent)));
+    assert!(rt; matches!(fix(rt, core, port, two), Err(Refusal::NoVictim)));
+    give_back(rt, core, note);
 }
 
 #[test]
 fn drive_flush_answers(rt: HostRuntime) {
     let mut port = port_of(&rt, &four_pages(&rt));
-    let mut core = one_frame(rt.alloc(), port.geometry()).expect(&rt, "the core");
-    let five = Bytes::of(rt.alloc(), &[5]).expect(&rt, "the bytes");
-    flush_a_page(&rt, &mut core, &mut port, &five);
+    let mut core = one_frame(&rt, port.geometry(), 100);
+    flush_a_page(&rt, &mut core, &mut port);
     expect_page(&rt, &mut port, PageNo::new(1), &FIVE);
 }
 
@@ -307,23 +309,32 @@ fn expect_same_pages<P: Port, R: Wait + Abort>(rt: &R, port: &mut P, other: &mut
     expect_pages(rt, other);
 }
 
+/// Asserts that a port does not write an image, and has then counted so many failures.
+fn expect_no_write<P: Port, R: Wait + Abort>(
+    rt: &R,
+    port: &mut P,
+    page: u64,
+    image: &Image,
+    failures: u64,
+) {
+    assert!(rt;
+        matches!(
+            port.write(rt, PageNo::new(page), image),
+            Err(PortFault::Device)
+        )
+    );
+    assert!(rt; port.failures() == failures);
+}
+
 /// Asserts that a port fails to read and to write page 4 of four, and to write a longer image to page 0, and counts
 /// each failure.
-fn expect_failures<P: Port, R: Wait + Abort>(rt: &R, port: &mut P, page: &Image, longer: &Image) {
+fn expect_failures<P: Port, R: Wait + Abort + AllocGlobal>(rt: &R, port: &mut P, page: &Image) {
     assert!(rt; matches!(port.read(rt, PageNo::new(4)), Err(PortFault::Device)));
-    assert_eq!(rt; port.failures(), 1);
-    assert_eq!(rt;
-        port.write(rt, PageNo::new(4), page),
-        Err(PortFault::Device)
-    );
-    assert_eq!(rt; port.failures(), 2);
-    assert_eq!(rt;
-        port.write(rt, PageNo::new(0), longer),
-        Err(PortFault::Device)
-    );
-    assert_eq!(rt; port.failures(), 3);
+    assert!(rt; port.failures() == 1);
+    expect_no_write(rt, port, 4, page, 2);
+    expect_no_write(rt, port, 0, &image(rt, &[255; 32]), 3);
     expect_page(rt, port, PageNo::new(0), &ZEROS);
-    assert_eq!(rt; port.failures(), 3);
+    assert!(rt; port.failures() == 3);
 }
 
 #[test]
@@ -332,8 +343,7 @@ fn pages_of_a_memory_are_read_again(rt: HostRuntime) {
     let (mut port, mut other) = (port_of(&rt, &device), port_of(&rt, &device));
     let nine = image(&rt, &NINE);
     expect_same_pages(&rt, &mut port, &mut other, &nine);
-    let longer = image(&rt, &[255; 32]);
-    expect_failures(&rt, &mut port, &nine, &longer);
+    expect_failures(&rt, &mut port, &nine);
 }
 
 /// A path that no other test and no other run uses.
@@ -412,8 +422,7 @@ fn pages_of_a_file_are_read_again(rt: HostRuntime) {
     let nine = image(&rt, &NINE);
     expect_same_pages(&rt, &mut port, &mut other, &nine);
     expect_slot(&rt, path.as_path().as_str(), &nine).expect(&rt, "the file is read");
-    let longer = image(&rt, &[255; 32]);
-    expect_failures(&rt, &mut port, &nine, &longer);
+    expect_failures(&rt, &mut port, &nine);
     fs::remove_file(&rt, path.as_path()).expect(&rt, "the file is removed");
 }
 

@@ -1,41 +1,37 @@
 //! What a trail counts up to.
 use bp_core::{Call, Entry, Reply};
 
-fn is_hit(entry: &Entry) -> bool {
-    matches!(entry.reply, Reply::Hit(_))
+/// How many entries of a trail are of some kinds.
+#[derive(Clone, Copy, Drop)]
+pub(crate) struct Counts {
+    /// Fixes that found their page in a frame.
+    pub(crate) hits: usize,
+    /// Fixes that read their page.
+    pub(crate) faults: usize,
+    /// Passes that went back.
+    pub(crate) unfixes: usize,
+    /// Marks of client 1.
+    pub(crate) marks: usize,
 }
 
-/// How many fixes found their page in a frame.
-pub(crate) fn hits_in(trail: &[Entry]) -> usize {
-    trail.iter().filter(|entry| is_hit(entry)).count()
-}
-
-fn is_fault(entry: &Entry) -> bool {
-    matches!(entry.reply, Reply::Fixed(_))
-}
-
-/// How many fixes read their page.
-pub(crate) fn faults_in(trail: &[Entry]) -> usize {
-    trail.iter().filter(|entry| is_fault(entry)).count()
-}
-
-fn is_unfix(entry: &Entry) -> bool {
-    matches!(entry.call, Call::Unfix { .. })
-}
-
-/// How many passes went back.
-pub(crate) fn unfixes_in(trail: &[Entry]) -> usize {
-    trail.iter().filter(|entry| is_unfix(entry)).count()
-}
-
-fn is_mark_of(entry: &Entry, client: u8) -> bool {
-    entry.client == client && matches!(entry.call, Call::Mark(_))
-}
-
-/// How many marks the client made.
-pub(crate) fn marks_of(trail: &[Entry], client: u8) -> usize {
-    trail
-        .iter()
-        .filter(|entry| is_mark_of(entry, client))
-        .count()
+pub(crate) fn count(trail: &[Entry]) -> Counts {
+    let mut counts = Counts {
+        hits: 0,
+        faults: 0,
+        unfixes: 0,
+        marks: 0,
+    };
+    for entry in trail {
+        match entry.reply {
+            Reply::Hit(_) => counts.hits = counts.hits.saturating_add(1),
+            Reply::Fixed(_) => counts.faults = counts.faults.saturating_add(1),
+            _ => {}
+        }
+        match entry.call {
+            Call::Unfix { .. } => counts.unfixes = counts.unfixes.saturating_add(1),
+            Call::Mark(_) if entry.client == 1 => counts.marks = counts.marks.saturating_add(1),
+            _ => {}
+        }
+    }
+    counts
 }

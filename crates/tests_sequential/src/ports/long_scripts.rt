@@ -1,10 +1,9 @@
 //! Scripts with many passes, given back at the end and by rows.
-use super::{drive, four_pages, port_of};
+use super::{drive, four_pages, one_frame, port_of};
 use bp_core::{Call, Core, Row, Step};
 use bp_device::Port;
-use bp_lruk::Settings;
-use bp_page::{Geometry, PageNo, Refusal};
-use std::alloc::{AllocError, Global};
+use bp_page::PageNo;
+use std::alloc::AllocError;
 use std::process::Abort;
 use std::sync::Wait;
 
@@ -27,28 +26,23 @@ fn add_unfixes(rows: &mut Vec<Row>) -> Result<(), AllocError> {
     Ok(())
 }
 
-/// A core of one frame for one client, with room for all entries.
-fn roomy_core(alloc: Global, geometry: Geometry) -> Result<Core, Refusal> {
-    Core::new(alloc, geometry, Settings::new(1, 0, 0)?, 1, 1, 300_000)
-}
-
-/// Drives the rows over a new core, which comes back. None of them is refused.
-fn core_after<P: Port, R: Wait + Abort>(
-    rt: &R,
-    alloc: Global,
-    port: &mut P,
-    rows: &[Row],
-) -> Result<Core, Refusal> {
-    let mut core = roomy_core(alloc, port.geometry())?;
-    let refused = drive(rt, alloc, &mut core, port, rows)?;
-    assert!(rt; refused.is_empty());
-    Ok(core)
+/// Drives the rows over a new core with room for all entries. None of them is refused. The first two
+/// passes that went back and the last one have these serial numbers.
+fn expect_unfixes<R: Wait + Abort + AllocGlobal>(rt: &R, rows: &[Row], serials: [u64; 3]) {
+    let mut port = port_of(rt, &four_pages(rt));
+    let mut core = one_frame(rt, port.geometry(), 300_000);
+    assert!(rt; drive(rt, &mut core, &mut port, rows).is_empty());
+    assert!(rt; core.trail().len() == 200_001);
+    let [first, second, last] = serials;
+    expect_unfix(rt, &core, 100_001, first);
+    expect_unfix(rt, &core, 100_002, second);
+    expect_unfix(rt, &core, 200_000, last);
 }
 
 /// Asserts that an entry gives back this pass.
 fn expect_unfix<R: Abort>(rt: &R, core: &Core, index: usize, serial: u64) {
     match core.trail().get(index).map(|entry| &entry.call) {
-        Some(Call::Unfix { pass, .. }) => assert_eq!(rt; *pass, serial),
+        Some(Call::Unfix { pass, .. }) => assert!(rt; *pass == serial),
         _ => panic!(rt; "entry {index} is no unfix"),
     }
 }
@@ -58,25 +52,15 @@ fn expect_unfix<R: Abort>(rt: &R, core: &Core, index: usize, serial: u64) {
 
 #[test]
 fn passes_held_at_the_end_go_back_as_taken(rt: HostRuntime) {
-    let mut port = port_of(&rt, &four_pages(&rt));
     let mut rows = Vec::new(rt.alloc());
     add_fixes(&mut rows).expect(&rt, "the rows");
-    let core = core_after(&rt, rt.alloc(), &mut port, &rows).expect(&rt, "the core");
-    assert_eq!(rt; core.trail().len(), 200_001);
-    expect_unfix(&rt, &core, 100_001, 0);
-    expect_unfix(&rt, &core, 100_002, 1);
-    expect_unfix(&rt, &core, 200_000, 99_999);
+    expect_unfixes(&rt, &rows, [0, 1, 99_999]);
 }
 
 #[test]
 fn unfix_rows_give_back_the_latest(rt: HostRuntime) {
-    let mut port = port_of(&rt, &four_pages(&rt));
     let mut rows = Vec::new(rt.alloc());
     add_fixes(&mut rows).expect(&rt, "the rows");
     add_unfixes(&mut rows).expect(&rt, "the rows");
-    let core = core_after(&rt, rt.alloc(), &mut port, &rows).expect(&rt, "the core");
-    assert_eq!(rt; core.trail().len(), 200_001);
-    expect_unfix(&rt, &core, 100_001, 99_999);
-    expect_unfix(&rt, &core, 100_002, 99_998);
-    expect_unfix(&rt, &core, 200_000, 0);
+    expect_unfixes(&rt, &rows, [99_999, 99_998, 0]);
 }

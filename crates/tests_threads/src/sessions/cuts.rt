@@ -67,6 +67,6 @@ pub(super) fn cut_thrice<N: PoolName, R: Wait + Abort>(
 }
 
 #[test]
-fn trail_and_lists_are_cut(rt: HostRuntime) -> Result<(), Refusal> {
-    play(&rt, rt.alloc(), 2, 2, Turn::Cuts)
+fn trail_and_lists_are_cut(rt: HostRuntime) {
+    play(&rt, 2, 2, Turn::Cuts);
 }

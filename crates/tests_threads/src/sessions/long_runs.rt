@@ -4,13 +4,12 @@ ghost use Rattle.std.specs.Prelude.{◌≡◌, ◌<◌};
 use super::making::{Client, Made, Opened, client_of, make, open};
 use super::threads::{page_for, run_once};
 use bp_core::Entry;
-use bp_page::{Geometry, PageNo, Refusal};
+use bp_page::{Geometry, PageNo};
 use bp_shared::{PoolName, Session, SharedPool, Taker};
 use std::alloc::Global;
 use std::marker::Brand;
 use std::process::Abort;
 use std::sync::{Mutex, Wait};
-use std::test::Fail;
 use std::thread::Threads;
 use std::{mem, thread};
 
@@ -78,51 +77,48 @@ fn cut_trail<N: PoolName, R: Wait>(
     alloc: Global,
     pool: &SharedPool<N>,
     takings: &Mutex<Takings<N>>,
-) -> Result<(), Refusal> {
+) {
     let mut takings = takings.lock(rt);
     let spare = takings.pieces.lend(alloc);
-    let piece = pool.cut_into(rt, &mut takings.taker, spare)?;
-    takings.pieces.keep(piece);
-    Ok(())
+    if let Ok(piece) = pool.cut_into(rt, &mut takings.taker, spare) {
+        takings.pieces.keep(piece);
+    }
 }
 
 impl<N: PoolName> Runner<N> {
     // Drops the last piece of the list, and cuts the next.
-    fn cut_list(&mut self) -> Result<(), Refusal> {
+    fn cut_list(&mut self) {
         let spare = self.pieces.lend(self.client.port.alloc);
-        let list = self.client.session.cut_into(spare)?;
-        self.pieces.keep(list);
-        Ok(())
-    }
-
-    // A round of four entries: a fix, a read, an unfix and a tick.
-    fn run_round<R: Wait>(&mut self, rt: &R, pool: &SharedPool<N>) {
-        if run_once(rt, pool, &mut self.client, self.page) {
-            self.passes = self.passes.saturating_add(1);
+        if let Ok(list) = self.client.session.cut_into(spare) {
+            self.pieces.keep(list);
         }
-        let _ = pool.tick(rt, &mut self.client.session, 1);
     }
 
+    // A round has four entries: a fix, a read, an unfix and a tick.
     fn run<R: Wait>(&mut self, rt: &R, pool: &SharedPool<N>, takings: &Mutex<Takings<N>>) {
         for round in 0..ROUNDS {
-            self.run_round(rt, pool);
+            if run_once(rt, pool, &mut self.client, self.page) {
+                self.passes = self.passes.saturating_add(1);
+            }
+            let _ = pool.tick(rt, &mut self.client.session, 1);
             if round % ROUNDS_A_CUT == 0 {
-                let _ = cut_trail(rt, self.client.port.alloc, pool, takings);
-                let _ = self.cut_list();
+                cut_trail(rt, self.client.port.alloc, pool, takings);
+                self.cut_list();
             }
         }
     }
 }
 
 /// A runner for each session, on a page of its own.
-fn make_runners<N: PoolName>(
-    alloc: Global,
+fn make_runners<N: PoolName, R: Abort + AllocGlobal>(
+    rt: &R,
     geometry: Geometry,
     sessions: Vec<Session<N>>,
-) -> Option<Vec<Runner<N>>>
+) -> Vec<Runner<N>>
     requires pages { N.parameters.pages ≡ 4 }
     requires size { geometry.size ≡ N.parameters.size }
 {
+    let alloc = rt.alloc();
     let mut runners = Vec::new(alloc);
     for session in sessions {
         let page = PageNo::new(page_for(session.client(), true));
@@ -132,11 +128,9 @@ fn make_runners<N: PoolName>(
             passes: 0,
             pieces: Pieces::none(alloc),
         };
-        let Ok(()) = runners.push(runner) else {
-            return None;
-        };
+        runners.push(runner).expect(rt, "the runner");
     }
-    Some(runners)
+    runners
 }
 
 /// One thread for each runner. All have ended at the return.
@@ -183,24 +177,27 @@ fn count_runner<N: PoolName>(tally: &mut Tally, runner: &Runner<N>) {
     tally.capacity = tally.capacity.max(pieces.capacity);
 }
 
-// What came of the trail, of which so many entries were not cut.
-fn tally_of(pieces: &Pieces, left: usize) -> Tally {
-    Tally {
+// What came of the trail, of which so many entries were not cut, and of all runners.
+fn tally_of<N: PoolName>(pieces: &Pieces, left: usize, runners: &[Runner<N>]) -> Tally {
+    let mut tally = Tally {
         passes: 0,
         entries: pieces.entries.saturating_add(left),
         told: 0,
         cuts: pieces.cuts,
         list_cuts: 0,
         capacity: pieces.capacity,
+    };
+    for runner in runners {
+        count_runner(&mut tally, runner);
     }
+    tally
 }
 
 // Threads use the pool, and cut as they go.
-fn run_long<N: PoolName + Send + Sync, R: Threads + Wait + Sync>(
+fn run_long<N: PoolName + Send + Sync, R: Threads + Wait + Abort + Sync + AllocGlobal>(
     rt: &R,
-    alloc: Global,
     opened: Opened<N>,
-) -> Option<Tally>
+) -> Tally
     requires pages { N.parameters.pages ≡ 4 }
 {
     let Opened {
@@ -210,45 +207,38 @@ fn run_long<N: PoolName + Send + Sync, R: Threads + Wait + Sync>(
         end: _,
         geometry,
     } = opened;
-    let mut runners = make_runners(alloc, geometry, sessions)?;
+    let mut runners = make_runners(rt, geometry, sessions);
     let takings = Mutex::new(Takings {
         taker,
-        pieces: Pieces::none(alloc),
+        pieces: Pieces::none(rt.alloc()),
     });
     run_all(rt, &pool, &takings, &mut runners);
     let Takings { taker, pieces } = takings.into_inner();
     let (core, _, _) = pool.finish(taker);
-    let mut tally = tally_of(&pieces, core.trail().len());
-    for runner in &runners {
-        count_runner(&mut tally, runner);
-    }
-    Some(tally)
+    tally_of(&pieces, core.trail().len(), &runners)
 }
 
-fn see_long<N: PoolName + Send + Sync, R: Threads + Wait + Abort + Sync>(
+fn see_long<N: PoolName + Send + Sync, R: Threads + Wait + Abort + Sync + AllocGlobal>(
     rt: &R,
-    alloc: Global,
     made: Made,
-) -> Result<(), Fail>
+)
     requires mark { made.mark ≡ N.mark }
     requires parameters { made.core.parameters ≡ N.parameters }
     requires before { made.core.before ≡ N.before }
     requires ring { made.ring ≡ N.ring }
     requires pages { N.parameters.pages ≡ 4 }
 {
-    let opened = open::<N>(alloc, made)?;
-    let tally = run_long(rt, alloc, opened).ok_or(Refusal::OutOfMemory)?;
+    let tally = run_long(rt, open::<N, R>(rt, made));
     assert_eq!(rt; tally.passes, 250000);
     // Each round has four entries, and a client's first fix has one more.
     assert_eq!(rt; (tally.entries, tally.told), (1000002, 1000002));
     // Each thread cuts the trail and its list once in 250 rounds, and the memory of the first pieces serves to the end.
     assert_eq!(rt; (tally.cuts, tally.list_cuts), (1000, 1000));
     assert_eq!(rt; tally.capacity, 4096);
-    Ok(())
 }
 
 #[test]
-fn a_million_entries_in_little_room(rt: HostRuntime) -> Result<(), Fail> {
-    let made = make(rt.alloc(), 2, 2)?;
-    see_long::<Brand, _>(&rt, rt.alloc(), made)
+fn a_million_entries_in_little_room(rt: HostRuntime) {
+    let made = make(&rt, 2, 2);
+    see_long::<Brand, _>(&rt, made);
 }

@@ -9,6 +9,7 @@ use bp_mark::{LogEnd, Mark, Reader};
 use bp_page::{Bytes, Geometry, Image, Lsn, PageNo, PortFault, Refusal};
 use bp_shared::{PoolName, Session, SharedPool, Taker, TrailRing};
 use std::alloc::Global;
+use std::process::Abort;
 use std::sync::Wait;
 
 /// A device of zeros, which forgets what is written.
@@ -60,19 +61,20 @@ pub(super) struct Made {
     ghost size_is: { core.parameters.size ≡ 16 },
 }
 
-pub(super) fn make(alloc: Global, frames: usize, clients: u8) -> Result<Made, Refusal> {
-    let geometry = Geometry::new(4, 16)?;
-    let settings = Settings::new(2, 0, 1000)?;
-    let core = Core::new(alloc, geometry, settings, frames, clients, 4096)?;
-    let (mark, end, reader) = Mark::new(alloc)?;
-    let ring = TrailRing::new(alloc)?;
-    Ok(Made {
+pub(super) fn make(rt: &(impl Abort + AllocGlobal), frames: usize, clients: u8) -> Made {
+    let alloc = rt.alloc();
+    let geometry = Geometry::new(4, 16).expect(rt, "the geometry");
+    let settings = Settings::new(2, 0, 1000).expect(rt, "the settings");
+    let core = Core::new(alloc, geometry, settings, frames, clients, 4096).expect(rt, "the core");
+    let (mark, end, reader) = Mark::new(alloc).expect(rt, "the mark");
+    let ring = TrailRing::new(alloc).expect(rt, "the ring");
+    Made {
         core,
         mark,
         end,
         reader,
         ring,
-    })
+    }
 }
 
 /// A pool over what was made, with a session for each client.
@@ -87,7 +89,7 @@ pub(super) struct Opened<N: PoolName> {
     ghost size_is: { geometry.size ≡ N.parameters.size },
 }
 
-pub(super) fn open<N: PoolName>(alloc: Global, made: Made) -> Result<Opened<N>, Refusal>
+pub(super) fn open<N: PoolName, R: Abort + AllocGlobal>(rt: &R, made: Made) -> Opened<N>
     requires mark { made.mark ≡ N.mark }
     requires parameters { made.core.parameters ≡ N.parameters }
     requires before { made.core.before ≡ N.before }
@@ -101,15 +103,14 @@ pub(super) fn open<N: PoolName>(alloc: Global, made: Made) -> Result<Opened<N>, 
         ring,
     } = made;
     let geometry = core.geometry();
-    match SharedPool::new(alloc, core, mark, reader, ring) {
-        Ok((pool, sessions, taker)) => Ok(Opened {
-            pool,
-            sessions,
-            taker,
-            end,
-            geometry,
-        }),
-        Err(refusal) => Err(refusal),
+    let opened = SharedPool::new(rt.alloc(), core, mark, reader, ring);
+    let (pool, sessions, taker) = opened.expect(rt, "the pool");
+    Opened {
+        pool,
+        sessions,
+        taker,
+        end,
+        geometry,
     }
 }
 
@@ -217,45 +218,27 @@ pub(super) struct Pair<N: PoolName> {
     ghost end_is: { end.mark ≡ N.mark },
 }
 
-/// The pool with its last two clients.
-pub(super) fn last_two<N: PoolName>(alloc: Global, opened: Opened<N>) -> Option<Pair<N>> {
+/// A pool over what was made, with its last two clients.
+pub(super) fn open_pair<N: PoolName, R: Abort + AllocGlobal>(rt: &R, made: Made) -> Pair<N>
+    requires mark { made.mark ≡ N.mark }
+    requires parameters { made.core.parameters ≡ N.parameters }
+    requires before { made.core.before ≡ N.before }
+    requires ring { made.ring ≡ N.ring }
+{
     let Opened {
         pool,
         mut sessions,
         taker,
         end,
         geometry,
-    } = opened;
-    let Some(second) = sessions.pop() else {
-        return None;
-    };
-    let Some(first) = sessions.pop() else {
-        return None;
-    };
-    Some(Pair {
+    } = open::<N, R>(rt, made);
+    let second = sessions.pop().expect(rt, "the second client");
+    let first = sessions.pop().expect(rt, "the first client");
+    Pair {
         pool,
         taker,
         end,
-        first: client_of(alloc, geometry, first),
-        second: client_of(alloc, geometry, second),
-    })
-}
-
-/// A pool over what was made, with its last two clients. A pool of fewer is refused as out of memory.
-pub(super) fn open_pair<N: PoolName>(alloc: Global, made: Made) -> Result<Pair<N>, Refusal>
-    requires mark { made.mark ≡ N.mark }
-    requires parameters { made.core.parameters ≡ N.parameters }
-    requires before { made.core.before ≡ N.before }
-    requires ring { made.ring ≡ N.ring }
-{
-    let opened = open::<N>(alloc, made)?;
-    last_two(alloc, opened).ok_or(Refusal::OutOfMemory)
-}
-
-/// The serial number of a pass that was given.
-pub(super) fn serial_of(given: Result<PassNote, Refusal>) -> Result<u64, Refusal> {
-    match given {
-        Ok(note) => Ok(note.serial()),
-        Err(refusal) => Err(refusal),
+        first: client_of(rt.alloc(), geometry, first),
+        second: client_of(rt.alloc(), geometry, second),
     }
 }

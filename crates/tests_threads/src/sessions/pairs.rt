@@ -70,12 +70,7 @@ fn see<N: PoolName, R: Abort>(
     }
 }
 
-fn play_over<N: PoolName, R: Wait + Abort>(
-    rt: &R,
-    alloc: Global,
-    made: Made,
-    turn: &Turn,
-) -> Result<(), Refusal>
+fn play_over<N: PoolName, R: Wait + Abort + AllocGlobal>(rt: &R, made: Made, turn: &Turn)
     requires mark { made.mark ≡ N.mark }
     requires parameters { made.core.parameters ≡ N.parameters }
     requires before { made.core.before ≡ N.before }
@@ -89,30 +84,24 @@ fn play_over<N: PoolName, R: Wait + Abort>(
         mut end,
         mut first,
         mut second,
-    } = open_pair::<N>(alloc, made)?;
-    act(
+    } = open_pair::<N, R>(rt, made);
+    let acted = act(
         rt,
-        alloc,
+        rt.alloc(),
         &pool,
         &mut taker,
         &mut end,
         &mut first,
         &mut second,
         turn,
-    )?;
+    );
+    acted.expect(rt, "the turn");
     let (core, _, _) = pool.finish(taker);
     see(rt, &core, &first, &second, turn);
-    Ok(())
 }
 
 /// A turn of the last two clients of a new pool.
-pub(super) fn play<R: Wait + Abort>(
-    rt: &R,
-    alloc: Global,
-    frames: usize,
-    clients: u8,
-    turn: Turn,
-) -> Result<(), Refusal> {
-    let made = make(alloc, frames, clients)?;
-    play_over::<Brand, R>(rt, alloc, made, &turn)
+pub(super) fn play<R: Wait + Abort + AllocGlobal>(rt: &R, frames: usize, clients: u8, turn: Turn) {
+    let made = make(rt, frames, clients);
+    play_over::<Brand, R>(rt, made, &turn);
 }

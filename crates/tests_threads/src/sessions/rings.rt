@@ -3,7 +3,7 @@ ghost use Rattle.std.specs.Prelude.{◌≡◌, ◌<◌};
 
 use super::making::Client;
 use super::pairs::{Turn, play};
-use crate::counting::unfixes_in;
+use crate::counting::count;
 use bp_core::{Core, PassNote};
 use bp_page::{PageNo, Refusal};
 use bp_shared::{PoolName, SharedPool};
@@ -81,10 +81,10 @@ pub(super) fn fill_a_ring<N: PoolName, R: Wait + Abort>(
 /// All passes are back.
 pub(super) fn see_a_full_ring<R: Abort>(rt: &R, core: &Core) {
     let trail = core.trail();
-    assert_eq!(rt; (trail.len(), unfixes_in(trail)), (67, 33));
+    assert_eq!(rt; (trail.len(), count(trail).unfixes), (67, 33));
 }
 
 #[test]
-fn full_ring(rt: HostRuntime) -> Result<(), Refusal> {
-    play(&rt, rt.alloc(), 1, 2, Turn::FullRing)
+fn full_ring(rt: HostRuntime) {
+    play(&rt, 1, 2, Turn::FullRing);
 }

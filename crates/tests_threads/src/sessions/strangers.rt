@@ -6,7 +6,6 @@ use super::pairs::{Turn, play};
 use bp_core::PassNote;
 use bp_page::{PageNo, Refusal};
 use bp_shared::{PoolName, SharedPool};
-use std::alloc::Global;
 use std::marker::Brand;
 use std::process::Abort;
 use std::sync::Wait;
@@ -33,8 +32,8 @@ pub(super) fn use_another_clients_pass<N: PoolName, R: Wait + Abort>(
 }
 
 #[test]
-fn ring_refuses_another_clients_pass(rt: HostRuntime) -> Result<(), Refusal> {
-    play(&rt, rt.alloc(), 1, 2, Turn::AnotherClientsPass)
+fn ring_refuses_another_clients_pass(rt: HostRuntime) {
+    play(&rt, 1, 2, Turn::AnotherClientsPass);
 }
 
 /// A client gives back, and both read by, a pass of client 0 of another pool. Neither was given one here.
@@ -55,7 +54,7 @@ pub(super) fn use_another_pools_pass<N: PoolName, R: Wait + Abort>(
 }
 
 // A pass of client 0 on page 1, of a pool of its own.
-fn stranger<N: PoolName, R: Wait>(rt: &R, alloc: Global, made: Made) -> Result<PassNote, Refusal>
+fn stranger<N: PoolName, R: Wait + Abort + AllocGlobal>(rt: &R, made: Made) -> PassNote
     requires mark { made.mark ≡ N.mark }
     requires parameters { made.core.parameters ≡ N.parameters }
     requires before { made.core.before ≡ N.before }
@@ -68,13 +67,13 @@ fn stranger<N: PoolName, R: Wait>(rt: &R, alloc: Global, made: Made) -> Result<P
         end: _,
         mut first,
         second: _,
-    } = open_pair::<N>(alloc, made)?;
-    first.fix(rt, &pool, PageNo::new(1))
+    } = open_pair::<N, R>(rt, made);
+    first.fix(rt, &pool, PageNo::new(1)).expect(rt, "the pass")
 }
 
 #[test]
-fn pass_of_another_pool(rt: HostRuntime) -> Result<(), Refusal> {
-    let other = make(rt.alloc(), 1, 2)?;
-    let note = stranger::<Brand, _>(&rt, rt.alloc(), other)?;
-    play(&rt, rt.alloc(), 1, 2, Turn::AnotherPoolsPass(note))
+fn pass_of_another_pool(rt: HostRuntime) {
+    let other = make(&rt, 1, 2);
+    let note = stranger::<Brand, _>(&rt, other);
+    play(&rt, 1, 2, Turn::AnotherPoolsPass(note));
 }

@@ -2,16 +2,14 @@
 ghost use Rattle.std.specs.Prelude.{◌≡◌, ◌<◌};
 
 use super::making::{Client, Made, Opened, client_of, make, open};
-use crate::counting::{faults_in, hits_in, unfixes_in};
+use crate::counting::{Counts, count};
 use bp_audit::agrees;
 use bp_core::{Entry, Pass};
-use bp_page::{Geometry, PageNo, Refusal};
+use bp_page::{Geometry, PageNo};
 use bp_shared::{PoolName, Session, SharedPool};
-use std::alloc::Global;
 use std::marker::Brand;
 use std::process::Abort;
 use std::sync::Wait;
-use std::test::Fail;
 use std::thread;
 use std::thread::Threads;
 
@@ -80,28 +78,26 @@ pub(super) fn page_for(client: u8, spread: bool) -> u64
 }
 
 /// A job for each session: all on page 1, or each on a page of its own.
-fn make_jobs<N: PoolName>(
-    alloc: Global,
+fn make_jobs<N: PoolName, R: Abort + AllocGlobal>(
+    rt: &R,
     geometry: Geometry,
     sessions: Vec<Session<N>>,
     spread: bool,
-) -> Option<Vec<Job<N>>>
+) -> Vec<Job<N>>
     requires pages { N.parameters.pages ≡ 4 }
     requires size { geometry.size ≡ N.parameters.size }
 {
-    let mut jobs = Vec::new(alloc);
+    let mut jobs = Vec::new(rt.alloc());
     for session in sessions {
         let page = PageNo::new(page_for(session.client(), spread));
         let job = Job {
-            client: client_of(alloc, geometry, session),
+            client: client_of(rt.alloc(), geometry, session),
             page,
             passes: 0,
         };
-        let Ok(()) = jobs.push(job) else {
-            return None;
-        };
+        jobs.push(job).expect(rt, "the job");
     }
-    Some(jobs)
+    jobs
 }
 
 /// One thread for each job. All have ended at the return.
@@ -121,51 +117,36 @@ fn run_jobs<N: PoolName + Send + Sync, R: Threads + Wait + Sync>(
 struct Tally {
     /// The passes that the threads were given.
     taken: usize,
-    hits: usize,
-    faults: usize,
-    unfixes: usize,
+    /// What the trail has.
+    counts: Counts,
     /// Whether each client's list is its part of the trail.
     agree: bool,
 }
 
-fn all_agree<N: PoolName>(trail: &[Entry], jobs: &[Job<N>]) -> bool {
-    for job in jobs {
-        if !agrees(
-            trail,
-            job.client.session.said(),
-            job.client.session.client(),
-        ) {
-            return false;
-        }
-    }
-    true
+fn see_job<N: PoolName>(tally: &mut Tally, trail: &[Entry], job: &Job<N>) {
+    let session = &job.client.session;
+    tally.taken = tally.taken.saturating_add(job.passes);
+    tally.agree = tally.agree && agrees(trail, session.said(), session.client());
 }
 
-fn passes_of<N: PoolName>(jobs: &[Job<N>]) -> usize {
-    let mut passes: usize = 0;
+fn tally_of<N: PoolName>(trail: &[Entry], jobs: &[Job<N>]) -> Tally {
+    let mut tally = Tally {
+        taken: 0,
+        counts: count(trail),
+        agree: true,
+    };
     for job in jobs {
-        passes = passes.saturating_add(job.passes);
+        see_job(&mut tally, trail, job);
     }
-    passes
-}
-
-fn count<N: PoolName>(trail: &[Entry], jobs: &[Job<N>]) -> Tally {
-    Tally {
-        taken: passes_of(jobs),
-        hits: hits_in(trail),
-        faults: faults_in(trail),
-        unfixes: unfixes_in(trail),
-        agree: all_agree(trail, jobs),
-    }
+    tally
 }
 
 // Threads take passes and post them back.
-fn run_together<N: PoolName + Send + Sync, R: Threads + Wait + Sync>(
+fn run_together<N: PoolName + Send + Sync, R: Threads + Wait + Abort + Sync + AllocGlobal>(
     rt: &R,
-    alloc: Global,
     opened: Opened<N>,
     spread: bool,
-) -> Option<Tally>
+) -> Tally
     requires pages { N.parameters.pages ≡ 4 }
 {
     let Opened {
@@ -175,60 +156,54 @@ fn run_together<N: PoolName + Send + Sync, R: Threads + Wait + Sync>(
         end: _,
         geometry,
     } = opened;
-    let Some(mut jobs) = make_jobs(alloc, geometry, sessions, spread) else {
-        return None;
-    };
+    let mut jobs = make_jobs(rt, geometry, sessions, spread);
     run_jobs(rt, &pool, &mut jobs);
     let (core, _, _) = pool.finish(taker);
-    Some(count(core.trail(), &jobs))
+    tally_of(core.trail(), &jobs)
 }
 
 // Each pass went back once, and each list is its client's part of the trail. It answers the number of faults.
-fn see_together<N: PoolName + Send + Sync, R: Threads + Wait + Abort + Sync>(
+fn see_together<N: PoolName + Send + Sync, R: Threads + Wait + Abort + Sync + AllocGlobal>(
     rt: &R,
-    alloc: Global,
     made: Made,
     spread: bool,
-) -> Result<usize, Fail>
+) -> usize
     requires mark { made.mark ≡ N.mark }
     requires parameters { made.core.parameters ≡ N.parameters }
     requires before { made.core.before ≡ N.before }
     requires ring { made.ring ≡ N.ring }
     requires pages { N.parameters.pages ≡ 4 }
 {
-    let opened = open::<N>(alloc, made)?;
-    let tally = run_together(rt, alloc, opened, spread).ok_or(Refusal::OutOfMemory)?;
-    let given = tally.hits.checked_add(tally.faults);
-    assert_eq!(rt; (given, tally.unfixes), (Some(tally.taken), tally.taken));
+    let tally = run_together(rt, open::<N, R>(rt, made), spread);
+    let counts = tally.counts;
+    let given = counts.hits.checked_add(counts.faults);
+    assert_eq!(rt; (given, counts.unfixes), (Some(tally.taken), tally.taken));
     assert!(rt; tally.agree);
-    Ok(tally.faults)
+    counts.faults
 }
 
 // Threads over a new pool, one for each client.
-fn see_threads<R: Threads + Wait + Abort + Sync>(
+fn see_threads<R: Threads + Wait + Abort + Sync + AllocGlobal>(
     rt: &R,
-    alloc: Global,
     frames: usize,
     clients: u8,
     spread: bool,
-) -> Result<usize, Fail> {
-    let made = make(alloc, frames, clients)?;
-    see_together::<Brand, R>(rt, alloc, made, spread)
+) -> usize {
+    let made = make(rt, frames, clients);
+    see_together::<Brand, R>(rt, made, spread)
 }
 
 #[test]
-fn threads_on_one_page(rt: HostRuntime) -> Result<(), Fail> {
+fn threads_on_one_page(rt: HostRuntime) {
     for clients in [2, 4] {
-        let faults = see_threads(&rt, rt.alloc(), 1, clients, false)?;
+        let faults = see_threads(&rt, 1, clients, false);
         assert!(rt; faults == 1, "{clients} clients");
     }
-    Ok(())
 }
 
 #[test]
-fn threads_over_few_frames(rt: HostRuntime) -> Result<(), Fail> {
+fn threads_over_few_frames(rt: HostRuntime) {
     for clients in [2, 4] {
-        see_threads(&rt, rt.alloc(), 2, clients, true)?;
+        see_threads(&rt, 2, clients, true);
     }
-    Ok(())
 }

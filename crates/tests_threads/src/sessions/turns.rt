@@ -1,9 +1,9 @@
 //! Two sessions in turn over one frame.
 ghost use Rattle.std.specs.Prelude.{◌≡◌, ◌<◌};
 
-use super::making::{Client, serial_of};
+use super::making::Client;
 use super::pairs::{Turn, play};
-use crate::counting::{marks_of, unfixes_in};
+use crate::counting::count;
 use bp_core::{Call, Core, Reply};
 use bp_mark::LogEnd;
 use bp_page::{Lsn, PageNo, Refusal};
@@ -59,7 +59,7 @@ pub(super) fn share_one_frame<N: PoolName, R: Wait + Abort>(
     let changed = change_a_page(rt, alloc, pool, first);
     assert_eq!(rt; changed, Ok(()));
     let early = second.fix(rt, pool, PageNo::new(2));
-    assert_eq!(rt; serial_of(early), Err(Refusal::NeedLog(Lsn::new(3))));
+    assert!(rt; early.err() == Some(Refusal::NeedLog(Lsn::new(3))));
     end.raise(pool.mark(), Lsn::new(3));
     let taken = take_the_frame(rt, pool, second);
     assert_eq!(rt; taken, Ok((Flushed::Absent, 0)));
@@ -76,12 +76,12 @@ pub(super) fn see_the_shared_frame<N: PoolName, R: Abort>(
     let trail = core.trail();
     let told = (first.session.said().len(), second.session.said().len());
     assert!(rt; core.durable() == Lsn::new(3));
-    assert_eq!(rt; (trail.len(), marks_of(trail, 1), told), (14, 1, (5, 9)));
+    assert_eq!(rt; (trail.len(), count(trail).marks, told), (14, 1, (5, 9)));
 }
 
 #[test]
-fn two_sessions_and_the_log(rt: HostRuntime) -> Result<(), Refusal> {
-    play(&rt, rt.alloc(), 1, 2, Turn::OneFrame)
+fn two_sessions_and_the_log(rt: HostRuntime) {
+    play(&rt, 1, 2, Turn::OneFrame);
 }
 
 /// A client fixes page 1, ticks and posts; the other fixes page 2, and has pass 1.
@@ -104,7 +104,7 @@ pub(super) fn post_before_a_fix<N: PoolName, R: Wait + Abort>(
 /// The posted pass is back in the core before the next event, whose victim is its page.
 pub(super) fn see_the_posted_pass<R: Abort>(rt: &R, core: &Core) {
     let trail = core.trail();
-    assert_eq!(rt; (trail.len(), unfixes_in(trail)), (6, 1));
+    assert_eq!(rt; (trail.len(), count(trail).unfixes), (6, 1));
     if let [_, _, _, back, load, _] = trail {
         let page = PageNo::new(1);
         assert_eq!(rt; back.call, Call::Unfix { pass: 0, page });
@@ -114,17 +114,17 @@ pub(super) fn see_the_posted_pass<R: Abort>(rt: &R, core: &Core) {
 }
 
 #[test]
-fn posted_unfix_is_drained_first(rt: HostRuntime) -> Result<(), Refusal> {
-    play(&rt, rt.alloc(), 1, 2, Turn::PostedPass)
+fn posted_unfix_is_drained_first(rt: HostRuntime) {
+    play(&rt, 1, 2, Turn::PostedPass);
 }
 
 // From 17 clients on, rings are asked where a pass was told of.
 #[test]
-fn seventeenth_client_posts(rt: HostRuntime) -> Result<(), Refusal> {
-    play(&rt, rt.alloc(), 1, 17, Turn::PostedPass)
+fn seventeenth_client_posts(rt: HostRuntime) {
+    play(&rt, 1, 17, Turn::PostedPass);
 }
 
 #[test]
-fn sixty_fourth_client_posts(rt: HostRuntime) -> Result<(), Refusal> {
-    play(&rt, rt.alloc(), 1, 64, Turn::PostedPass)
+fn sixty_fourth_client_posts(rt: HostRuntime) {
+    play(&rt, 1, 64, Turn::PostedPass);
 }

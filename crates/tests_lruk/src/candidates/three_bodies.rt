@@ -1,6 +1,6 @@
 //! All three bodies of the candidates over the same calls.
-ghost use Rattle.std.specs.Prelude.{◌≡◌, ℕ, ◌+◌, ◌<◌, ◌≤◌, IfOk};
-ghost use Rattle.tests_sequential.specs.Pool.{AreOwn, IsPool};
+ghost use Rattle.std.specs.Prelude.{◌≡◌, ℕ, ◌+◌, ◌<◌, ◌≤◌};
+ghost use Rattle.tests_lruk.specs.Pool.{AreOwn, IsPool};
 
 use bp_lruk::{Candidates, Histories, Settings, scan, seats};
 use bp_page::{PageNo, Refusal};
@@ -112,7 +112,7 @@ impl Pool {
 
 // References 64 pages at random in 48 frames, and counts the pages that were replaced. Some looks are for an earlier
 // time than the look before.
-fn run(rt: &impl Abort, pool: &mut Pool, k: usize) -> Result<u64, Refusal>
+fn run(rt: &impl Abort, pool: &mut Pool, k: usize) -> u64
     requires { pool.old.now ≡ 1 }
 {
     let mut state = 1u64;
@@ -127,53 +127,44 @@ fn run(rt: &impl Abort, pool: &mut Pool, k: usize) -> Result<u64, Refusal>
             replaced += 1;
         }
         if pool.list.contains(page) || !pool.list.is_full() {
-            pool.refer(rt, page, k)?;
+            pool.refer(rt, page, k).expect(rt, "the reference");
         }
-        assert_eq!(rt;
-            pool.index.contains(page),
-            pool.list.contains(page),
-            "call {call}, k {k}"
-        );
+        let is_same = pool.index.contains(page) == pool.list.contains(page);
+        assert!(rt; is_same, "call {call}, k {k}");
         let back = if call % 16 == 15 { 5 } else { 0 };
         pool.compare(rt, pool.now.saturating_sub(back));
     }
-    Ok(replaced)
+    replaced
 }
 
-fn new_pool(alloc: Global, settings: Settings) -> Result<Pool, Refusal>
-    ensures { IfOk result (λ pool. pool.now ≡ 1) }
+fn new_pool(rt: &(impl Abort + AllocGlobal), settings: Settings) -> Pool
+    ensures { result.now ≡ 1 }
 {
-    let seats = match Seats::new(alloc, settings) {
-        Ok(seats) => seats,
-        Err(_) => return Err(Refusal::OutOfMemory),
-    };
-    Ok(Pool {
+    let alloc = rt.alloc();
+    Pool {
         histories: Histories::new(alloc, settings),
-        list: scan::Candidates::new(alloc, FRAMES, settings)?,
-        index: Candidates::new(alloc, FRAMES, settings)?,
-        seats,
+        list: scan::Candidates::new(alloc, FRAMES, settings).expect(rt, "the list"),
+        index: Candidates::new(alloc, FRAMES, settings).expect(rt, "the index"),
+        seats: Seats::new(alloc, settings).expect(rt, "the seats"),
         now: 1,
-    })
+    }
 }
 
 // A page is away at every fourth call or so.
-fn agree(rt: &(impl Abort + AllocGlobal), k: usize, correlated: u64) -> Result<(), Refusal> {
-    let settings = Settings::new(k, correlated, 1000)?;
-    let mut pool = new_pool(rt.alloc(), settings)?;
-    let replaced = run(rt, &mut pool, k)?;
+fn agree(rt: &(impl Abort + AllocGlobal), k: usize, correlated: u64) {
+    let settings = Settings::new(k, correlated, 1000).expect(rt, "the settings");
+    let mut pool = new_pool(rt, settings);
+    let replaced = run(rt, &mut pool, k);
     assert!(rt;
         replaced > 1000,
         "k {k}, correlated {correlated}: {replaced} replaced"
     );
-    Ok(())
 }
 
 #[test]
-fn three_bodies_agree(rt: HostRuntime) -> Result<(), Refusal> {
+fn three_bodies_agree(rt: HostRuntime) {
     for k in [1, 2, 16] {
-        for correlated in [0, 3] {
-            agree(&rt, k, correlated)?;
-        }
+        agree(&rt, k, 0);
+        agree(&rt, k, 3);
     }
-    Ok(())
 }

@@ -1,7 +1,7 @@
 use Rattle.std.proofs.Common.{ap}
 use Rattle.bp_lruk.specs.Seats.{Seated}
-use Rattle.tests_sequential.proofs.Seats.{empty_own}
-use Rattle.tests_sequential.proofs.candidates.three_bodies.Seats.new.Goals as goal
+use Rattle.tests_lruk.proofs.Seats.{empty_own}
+use Rattle.tests_lruk.proofs.candidates.three_bodies.Seats.new.Goals as goal
 
 pub invariant_of-result : goal.invariant_of-result
 invariant_of-result c = record {

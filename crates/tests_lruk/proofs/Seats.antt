@@ -7,7 +7,7 @@ use Rattle.bp_lruk.specs.Candidates.{Candidate, NoPageTwice}
 use Rattle.bp_lruk.specs.Seats.{Seated, seated_in, seat_at}
 use Rattle.bp_lruk.proofs.EntryLaws.{find_nowhere}
 use Rattle.bp_lruk.proofs.SeatSteps.{in_seated}
-use Rattle.tests_sequential.specs.Pool.{AreOwn}
+use Rattle.tests_lruk.specs.Pool.{AreOwn}
 
 once-from : (seats : List (Option Candidate)) → ((i j : ℕ) (a b : Candidate) → seat_at seats i ≡ Some a → seat_at seats j ≡ Some b → a.2 ≡ b.2 → i ≡ j) → NoPageTwice (seated_in seats)
 once-from [] own = tt
