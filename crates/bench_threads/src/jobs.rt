@@ -5,7 +5,7 @@ ghost use Rattle.bench_threads.specs.declared.TheConstants.{FILE_PAGES};
 use crate::{FILE_PAGES, FRAMES};
 use bp_core::{Entry, Pass};
 use bp_device::Port;
-use bp_page::{PageNo, Refusal};
+use bp_page::PageNo;
 use bp_shared::{PoolName, Session, SharedPool, Taker};
 use std::alloc::Global;
 use std::sync::{Mutex, Wait};
@@ -65,11 +65,12 @@ fn cut_trail<N: PoolName, R: Wait>(
     alloc: Global,
     pool: &SharedPool<N>,
     takings: &Mutex<Takings<N>>,
-) -> Result<(), Refusal> {
+) {
     let mut takings = takings.lock(rt);
     let spare = mem::replace(&mut takings.spare, Vec::new(alloc));
-    takings.spare = pool.cut_into(rt, &mut takings.taker, spare)?;
-    Ok(())
+    if let Ok(piece) = pool.cut_into(rt, &mut takings.taker, spare) {
+        takings.spare = piece;
+    }
 }
 
 // Gives a pass back, by way of an emptied ring if need be.
@@ -91,10 +92,11 @@ impl<N: PoolName, P: Port> Job<N, P> {
     ghost use Rattle.std.specs.Prelude.{◌≡◌, ◌<◌, ◌≤◌};
 
     // Drops the last piece of the list, and cuts the next.
-    fn cut_list(&mut self) -> Result<(), Refusal> {
+    fn cut_list(&mut self) {
         let spare = mem::replace(&mut self.spare, Vec::new(self.alloc));
-        self.spare = self.session.cut_into(spare)?;
-        Ok(())
+        if let Ok(list) = self.session.cut_into(spare) {
+            self.spare = list;
+        }
     }
 
     // Moves the clock and cuts, where these are due.
@@ -109,8 +111,8 @@ impl<N: PoolName, P: Port> Job<N, P> {
             let _ = pool.tick(rt, &mut self.session, 1);
         }
         if call % FIXES_A_CUT == 0 {
-            let _ = cut_trail(rt, self.alloc, pool, takings);
-            let _ = self.cut_list();
+            cut_trail(rt, self.alloc, pool, takings);
+            self.cut_list();
         }
     }
 

@@ -60,7 +60,24 @@ pub(crate) struct Outcome {
     pub(crate) done: u64,
 }
 
-// A job for each session. A port of pages of another size is refused.
+// A job of this session, whose port has pages of the pool's size.
+fn job_of<N: PoolName, P: Port>(alloc: Global, session: Session<N>, port: P) -> Job<N, P>
+    requires size { (P.geometry_of port).size ≡ N.parameters.size }
+{
+    let state = u64::from(session.client())
+        .wrapping_mul(7919)
+        .wrapping_add(1);
+    Job {
+        alloc,
+        session,
+        port,
+        state,
+        done: 0,
+        spare: Vec::new(alloc),
+    }
+}
+
+// A job for each session. `BadLength` where there are fewer, since a port lacks or has pages of another size.
 fn make_jobs<N: PoolName, P: Port>(
     alloc: Global,
     sessions: Vec<Session<N>>,
@@ -68,29 +85,21 @@ fn make_jobs<N: PoolName, P: Port>(
 ) -> Result<Vec<Job<N, P>>, Refusal>
     requires size { N.parameters.size ≡ SIZE }
 {
+    let count = sessions.len();
     let mut jobs = Vec::new(alloc);
     let mut ports = ports.into_iter();
     for session in sessions {
-        let port = ports.next().ok_or(Refusal::BadLength)?;
-        if port.geometry().size != SIZE {
-            return Err(Refusal::BadLength);
+        if let Some(port) = ports.next()
+            && port.geometry().size == SIZE
+        {
+            let _ = jobs.push(job_of(alloc, session, port));
         }
-        let state = u64::from(session.client())
-            .wrapping_mul(7919)
-            .wrapping_add(1);
-        let job = Job {
-            alloc,
-            session,
-            port,
-            state,
-            done: 0,
-            spare: Vec::new(alloc),
-        };
-        let Ok(()) = jobs.push(job) else {
-            return Err(Refusal::OutOfMemory);
-        };
     }
-    Ok(jobs)
+    if jobs.len() == count {
+        Ok(jobs)
+    } else {
+        Err(Refusal::BadLength)
+    }
 }
 
 // Times the jobs, from when the frames are full.

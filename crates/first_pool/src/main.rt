@@ -37,6 +37,22 @@ fn change(
     }
 }
 
+/// The log is durable as far as `lsn`, the page goes out, and the clock moves.
+fn save(
+    rt: &impl Wait,
+    core: &mut Core,
+    port: &mut MemPort,
+    page: PageNo,
+    lsn: Lsn,
+) -> Result<(), Refusal>
+    requires client { 0 < core.old.parameters.clients }
+    requires page_in { page < core.old.parameters.pages }
+{
+    core.mark(0, lsn)?;
+    drive_flush(rt, core, port, 0, page)?;
+    core.tick(0, 1)
+}
+
 /// A page is changed and flushed, the clock moves, and the trail of all that is cut off. Returns how many entries it had.
 fn use_pool(
     rt: &impl Wait,
@@ -51,9 +67,7 @@ fn use_pool(
     requires fits { 0 + length bytes.now ≤ core.old.parameters.size }
 {
     change(rt, core, port, page, bytes, Lsn::new(1))?;
-    core.mark(0, Lsn::new(1))?;
-    drive_flush(rt, core, port, 0, page)?;
-    core.tick(0, 1)?;
+    save(rt, core, port, page, Lsn::new(1))?;
     let trail = core.cut()?;
     Ok(trail.len())
 }
