@@ -9,7 +9,6 @@ use std::marker::Sync;
 use std::process::Abort;
 use std::rt::{Files, Runtime};
 use std::sync::Wait;
-use std::test::*;
 use std::thread::Threads;
 use std::{fs, io};
 
@@ -22,12 +21,15 @@ struct Ran {
 }
 
 fn run(
-    rt: &(impl Runtime<A = Global> + Files<File = File> + Threads + Wait + Sync),
+    rt: &(impl Runtime<A = Global> + Files<File = File> + Threads + Wait + Sync + Abort),
     line: &str,
     trace: &[u8],
-) -> Result<Ran, Fail> {
+) -> Ran {
     let alloc = rt.alloc();
-    let words: Vec<&str> = line.split_ascii_whitespace().collect(alloc)?;
+    let words: Vec<&str> = line
+        .split_ascii_whitespace()
+        .collect(alloc)
+        .expect(rt, "the words");
     let mut reader = trace;
     let mut out = Vec::new(alloc);
     let mut err = Vec::new(alloc);
@@ -41,7 +43,11 @@ fn run(
         &mut out,
         &mut err,
     );
-    Ok(Ran { status, out, err })
+    Ran { status, out, err }
+}
+
+fn text_of(rt: &impl Abort, bytes: Vec<u8>) -> String {
+    String::from_utf8(bytes).expect(rt, "the text")
 }
 
 /// Asserts the status, the report and what is said of faults.
@@ -52,12 +58,11 @@ fn expect_run(
     status: u8,
     out: &str,
     err: &str,
-) -> Result<(), Fail> {
-    let ran = run(rt, line, trace)?;
+) {
+    let ran = run(rt, line, trace);
     assert_eq!(rt; ran.status, status, "{line}");
-    assert_eq!(rt; String::from_utf8(ran.out)?.as_str(), out, "{line}");
-    assert_eq!(rt; String::from_utf8(ran.err)?.as_str(), err, "{line}");
-    Ok(())
+    assert_eq!(rt; text_of(rt, ran.out).as_str(), out, "{line}");
+    assert_eq!(rt; text_of(rt, ran.err).as_str(), err, "{line}");
 }
 
 /// Holds at most so many bytes, and then fails.
@@ -104,22 +109,21 @@ const CLASSICAL: &[u8] =
 const NO_EVENTS: &str = "hits 0\nfaults 0\nevictions 0\nwrites 0\nfailed 0\nrefused 0\n";
 
 #[test]
-fn lru_one_is_classical_lru(rt: HostRuntime) -> Result<(), Fail> {
+fn lru_one_is_classical_lru(rt: HostRuntime) {
     let report = "evict 4 1\nhits 1\nfaults 3\nevictions 1\nwrites 0\nfailed 0\nrefused 0\n";
     for line in ["", "run stdin mem:16 --frames 2 --k 1"] {
-        expect_run(&rt, line, CLASSICAL, 0, report, "")?;
+        expect_run(&rt, line, CLASSICAL, 0, report, "");
     }
-    Ok(())
 }
 
 #[test]
-fn two_references_outlive_one(rt: HostRuntime) -> Result<(), Fail> {
+fn two_references_outlive_one(rt: HostRuntime) {
     let report = "evict 4 2\nhits 1\nfaults 3\nevictions 1\nwrites 0\nfailed 0\nrefused 0\n";
-    expect_run(&rt, "run stdin mem:16 --frames 2", CLASSICAL, 0, report, "")
+    expect_run(&rt, "run stdin mem:16 --frames 2", CLASSICAL, 0, report, "");
 }
 
 #[test]
-fn too_young_to_leave(rt: HostRuntime) -> Result<(), Fail> {
+fn too_young_to_leave(rt: HostRuntime) {
     let trace =
         b"0,fix,1,,,\n0,unfix,1,,,\n0,tick,5,,,\n0,fix,2,,,\n0,tick,1,,,\n0,fix,2,,,\n0,unfix,2,,,\n";
     let report =
@@ -131,24 +135,23 @@ fn too_young_to_leave(rt: HostRuntime) -> Result<(), Fail> {
         1,
         report,
         "",
-    )
+    );
 }
 
 #[test]
-fn pinned_page_stays(rt: HostRuntime) -> Result<(), Fail> {
+fn pinned_page_stays(rt: HostRuntime) {
     let trace = b"0,fix,1,,,\n0,tick,10,,,\n0,fix,2,,,\n";
     let report = "hits 0\nfaults 1\nevictions 0\nwrites 0\nfailed 0\nrefused 1\nrow 3 refused 11\n";
     for line in [
         "run stdin mem:16 --frames 1",
         "run stdin mem:16 --frames 1 --k 1",
     ] {
-        expect_run(&rt, line, trace.as_slice(), 1, report, "")?;
+        expect_run(&rt, line, trace.as_slice(), 1, report, "");
     }
-    Ok(())
 }
 
 #[test]
-fn ties_go_to_the_lower_page(rt: HostRuntime) -> Result<(), Fail> {
+fn ties_go_to_the_lower_page(rt: HostRuntime) {
     let trace =
         b"0,fix,5,,,\n0,unfix,5,,,\n0,fix,3,,,\n0,unfix,3,,,\n0,tick,1,,,\n0,fix,9,,,\n0,unfix,9,,,\n";
     let report = "evict 2 3\nhits 0\nfaults 3\nevictions 1\nwrites 0\nfailed 0\nrefused 0\n";
@@ -159,7 +162,7 @@ fn ties_go_to_the_lower_page(rt: HostRuntime) -> Result<(), Fail> {
         0,
         report,
         "",
-    )
+    );
 }
 
 /// Page 1 is written with LSN 7, and has to leave before the log is durable that far.
@@ -167,20 +170,19 @@ const AHEAD: &[u8] =
     b"0,fix,1,,,\n0,write,1,0,ff,7\n0,unfix,1,,,\n0,log,5,,,\n0,tick,1,,,\n0,fix,2,,,\n0,log,7,,,\n0,fix,2,,,\n0,unfix,2,,,\n0,tick,1,,,\n0,fix,1,,,\n0,read,1,,,\n0,unfix,1,,,\n";
 
 #[test]
-fn write_ahead_rule(rt: HostRuntime) -> Result<(), Fail> {
+fn write_ahead_rule(rt: HostRuntime) {
     let report =
         "out 2 1\nevict 2 1\nevict 3 2\nread 0 1 ff000000000000000000000000000000\nhits 0\nfaults 3\nevictions 2\nwrites 1\nfailed 0\nrefused 1\nrow 6 refused 12\n";
     for line in [
         "run stdin mem:16 --page-size 16 --frames 1 --k 1",
         "run stdin mem:16 --page-size 16 --frames 1 --k 1 --order free",
     ] {
-        expect_run(&rt, line, AHEAD, 1, report, "")?;
+        expect_run(&rt, line, AHEAD, 1, report, "");
     }
-    Ok(())
 }
 
 #[test]
-fn flush_from_a_trace(rt: HostRuntime) -> Result<(), Fail> {
+fn flush_from_a_trace(rt: HostRuntime) {
     let trace =
         b"0,fix,1,,,\n0,write,1,0,07,0\n0,flush,1,,,\n0,flush,1,,,\n0,unfix,1,,,\n0,purge,,,,\n";
     let report = "out 1 1\nhits 0\nfaults 1\nevictions 0\nwrites 1\nfailed 0\nrefused 0\n";
@@ -188,49 +190,47 @@ fn flush_from_a_trace(rt: HostRuntime) -> Result<(), Fail> {
         "run stdin mem:16 --page-size 16",
         "run stdin mem:16 --page-size 16 --order free",
     ] {
-        expect_run(&rt, line, trace.as_slice(), 0, report, "")?;
+        expect_run(&rt, line, trace.as_slice(), 0, report, "");
     }
-    Ok(())
 }
 
 /// The client that flushes holds a pass, and the log is durable as far as it changed the page.
 #[test]
-fn flush_under_a_pass_after_the_log(rt: HostRuntime) -> Result<(), Fail> {
+fn flush_under_a_pass_after_the_log(rt: HostRuntime) {
     let trace = b"0,fix,1,,,\n0,write,1,0,ff,7\n0,log,7,,,\n0,flush,1,,,\n0,unfix,1,,,\n";
     let report = "out 1 1\nhits 0\nfaults 1\nevictions 0\nwrites 1\nfailed 0\nrefused 0\n";
     for line in ["run stdin mem:16", "run stdin mem:16 --order free"] {
-        expect_run(&rt, line, trace.as_slice(), 0, report, "")?;
+        expect_run(&rt, line, trace.as_slice(), 0, report, "");
     }
-    Ok(())
 }
 
 #[test]
-fn two_clients_in_free_order(rt: HostRuntime) -> Result<(), Fail> {
+fn two_clients_in_free_order(rt: HostRuntime) {
     // Each has a page and a frame of its own, so no schedule shows.
     let trace = b"0,fix,0,,,\n1,fix,1,,,\n1,unfix,0,,,\n0,unfix,0,,,\n1,unfix,1,,,\n";
     let report = "hits 0\nfaults 2\nevictions 0\nwrites 0\nfailed 0\nrefused 0\nrow 3 refused 14\n";
     let line = "run stdin mem:16 --order free";
-    expect_run(&rt, line, trace.as_slice(), 1, report, "")
+    expect_run(&rt, line, trace.as_slice(), 1, report, "");
 }
 
 #[test]
-fn fewest_and_most_clients_in_free_order(rt: HostRuntime) -> Result<(), Fail> {
+fn fewest_and_most_clients_in_free_order(rt: HostRuntime) {
     let line = "run stdin mem:16 --order free";
-    expect_run(&rt, line, b"".as_slice(), 0, NO_EVENTS, "")?;
+    expect_run(&rt, line, b"".as_slice(), 0, NO_EVENTS, "");
     let one_fault = "hits 0\nfaults 1\nevictions 0\nwrites 0\nfailed 0\nrefused 0\n";
-    expect_run(&rt, line, b"63,fix,1,,,\n".as_slice(), 0, one_fault, "")
+    expect_run(&rt, line, b"63,fix,1,,,\n".as_slice(), 0, one_fault, "");
 }
 
 #[test]
-fn empty_and_malformed_traces(rt: HostRuntime) -> Result<(), Fail> {
+fn empty_and_malformed_traces(rt: HostRuntime) {
     let line = "run stdin mem:16 --page-size 16";
-    expect_run(&rt, line, b"".as_slice(), 0, NO_EVENTS, "")?;
+    expect_run(&rt, line, b"".as_slice(), 0, NO_EVENTS, "");
     let cut = b"0,fix,1,,,\n0,unfix,1,,,\n0,fi";
-    expect_run(&rt, line, cut.as_slice(), 2, "", "trace row 3 refused 40\n")
+    expect_run(&rt, line, cut.as_slice(), 2, "", "trace row 3 refused 40\n");
 }
 
 #[test]
-fn log_row_of_another_client(rt: HostRuntime) -> Result<(), Fail> {
+fn log_row_of_another_client(rt: HostRuntime) {
     let said = "trace row 1 refused 41\n";
     expect_run(
         &rt,
@@ -239,11 +239,11 @@ fn log_row_of_another_client(rt: HostRuntime) -> Result<(), Fail> {
         2,
         "",
         said,
-    )
+    );
 }
 
 #[test]
-fn trace_refusals(rt: HostRuntime) -> Result<(), Fail> {
+fn trace_refusals(rt: HostRuntime) {
     let one_fault = "hits 0\nfaults 1\nevictions 0\nwrites 0\nfailed 0\nrefused 0\n";
     let clock_full =
         "hits 0\nfaults 0\nevictions 0\nwrites 0\nfailed 0\nrefused 0\nrow 1 refused 21\n";
@@ -275,21 +275,20 @@ fn trace_refusals(rt: HostRuntime) -> Result<(), Fail> {
             status,
             out,
             err,
-        )?;
+        );
     }
-    Ok(())
 }
 
 #[test]
-fn passes_go_back_by_client(rt: HostRuntime) -> Result<(), Fail> {
+fn passes_go_back_by_client(rt: HostRuntime) {
     // Client 63 holds page 1 twice, client 2 page 2; a client unfixes the pass that it took latest.
     let trace = b"63,fix,1,,,\n2,fix,2,,,\n63,fix,1,,,\n63,unfix,1,,,\n1,unfix,1,,,\n";
     let report = "hits 1\nfaults 2\nevictions 0\nwrites 0\nfailed 0\nrefused 0\nrow 5 refused 14\n";
-    expect_run(&rt, "run stdin mem:16", trace.as_slice(), 1, report, "")
+    expect_run(&rt, "run stdin mem:16", trace.as_slice(), 1, report, "");
 }
 
 #[test]
-fn words_that_open_nothing(rt: HostRuntime) -> Result<(), Fail> {
+fn words_that_open_nothing(rt: HostRuntime) {
     let rows = [
         ("run no/such/trace.csv mem:16", "trace not opened\n"),
         ("run STDIN mem:16", "trace not opened\n"),
@@ -319,18 +318,19 @@ fn words_that_open_nothing(rt: HostRuntime) -> Result<(), Fail> {
         ),
     ];
     for (line, said) in rows {
-        expect_run(&rt, line, b"0,fix,1,,,\n".as_slice(), 2, "", said)?;
+        expect_run(&rt, line, b"0,fix,1,,,\n".as_slice(), 2, "", said);
     }
-    Ok(())
 }
 
 #[test]
-fn page_file_of_wrong_length(rt: HostRuntime) -> Result<(), Fail> {
+fn page_file_of_wrong_length(rt: HostRuntime) {
     let zeros = [0u8; 40];
-    fs::write(&rt, "bpool_length_40.pages", zeros.as_slice())?;
-    fs::write(&rt, "bpool_length_0.pages", b"".as_slice())?;
+    fs::write(&rt, "bpool_length_40.pages", zeros.as_slice()).expect(&rt, "the file is written");
+    fs::write(&rt, "bpool_length_0.pages", b"".as_slice()).expect(&rt, "the file is written");
     for path in ["bpool_length_40.pages", "bpool_length_0.pages"] {
-        let line = format!(in rt.alloc(); "run stdin {path} --page-size 16")?;
+        let line = format!(in rt.alloc(); "run stdin {path} --page-size 16").expect(
+            &rt, "the line",
+        );
         expect_run(
             &rt,
             line.as_str(),
@@ -338,92 +338,90 @@ fn page_file_of_wrong_length(rt: HostRuntime) -> Result<(), Fail> {
             2,
             "",
             "page file refused 3\n",
-        )?;
-        fs::remove_file(&rt, path)?;
+        );
+        fs::remove_file(&rt, path).expect(&rt, "the file is removed");
     }
-    Ok(())
 }
 
 #[test]
-fn page_file_keeps_what_was_flushed(rt: HostRuntime) -> Result<(), Fail> {
+fn page_file_keeps_what_was_flushed(rt: HostRuntime) {
     let path = "bpool_flushed.pages";
     let zeros = [0u8; 48];
-    fs::write(&rt, path, zeros.as_slice())?;
+    fs::write(&rt, path, zeros.as_slice()).expect(&rt, "the file is written");
     let writes =
         b"0,fix,1,,,\n0,write,1,3,aB07,4\n0,log,4,,,\n0,flush,1,,,\n0,write,1,0,ee,4\n0,unfix,1,,,\n";
     let report = "out 1 1\nhits 0\nfaults 1\nevictions 0\nwrites 1\nfailed 0\nrefused 0\n";
     let line = "run stdin bpool_flushed.pages --page-size 16";
-    expect_run(&rt, line, writes.as_slice(), 0, report, "")?;
+    expect_run(&rt, line, writes.as_slice(), 0, report, "");
     // The write after the flush never went out.
     let mut expected = [0u8; 48];
     expected[19] = 0xab;
     expected[20] = 0x07;
-    assert_eq!(rt; fs::read(&rt, path)?.as_slice(), expected.as_slice());
+    assert_eq!(rt;
+        fs::read(&rt, path).expect(&rt, "the file").as_slice(),
+        expected.as_slice()
+    );
     let reads = b"5,fix,1,,,\n5,read,1,,,\n";
     let found =
         "read 5 1 000000ab070000000000000000000000\nhits 0\nfaults 1\nevictions 0\nwrites 0\nfailed 0\nrefused 0\n";
-    expect_run(&rt, line, reads.as_slice(), 0, found, "")?;
-    fs::remove_file(&rt, path)?;
-    Ok(())
+    expect_run(&rt, line, reads.as_slice(), 0, found, "");
+    fs::remove_file(&rt, path).expect(&rt, "the file is removed");
 }
 
 /// Two clients flush different pages of one file, and then the second reads its own.
 #[test]
-fn page_file_in_free_order(rt: HostRuntime) -> Result<(), Fail> {
+fn page_file_in_free_order(rt: HostRuntime) {
     let path = "bpool_free.pages";
     let zeros = [0u8; 48];
-    fs::write(&rt, path, zeros.as_slice())?;
+    fs::write(&rt, path, zeros.as_slice()).expect(&rt, "the file is written");
     let trace =
         b"0,fix,1,,,\n0,write,1,3,ab,0\n0,flush,1,,,\n1,fix,2,,,\n1,write,2,15,cd,0\n1,flush,2,,,\n";
     let line = "run stdin bpool_free.pages --page-size 16 --order free";
-    let ran = run(&rt, line, trace.as_slice())?;
+    let ran = run(&rt, line, trace.as_slice());
     assert_eq!(rt; ran.status, 0);
     assert!(rt; ran.err.is_empty());
     let mut expected = [0u8; 48];
     expected[19] = 0xab;
     expected[47] = 0xcd;
-    assert_eq!(rt; fs::read(&rt, path)?.as_slice(), expected.as_slice());
+    assert_eq!(rt;
+        fs::read(&rt, path).expect(&rt, "the file").as_slice(),
+        expected.as_slice()
+    );
     let reads = b"1,fix,2,,,\n1,read,2,,,\n";
     let found =
         "read 1 2 000000000000000000000000000000cd\nhits 0\nfaults 1\nevictions 0\nwrites 0\nfailed 0\nrefused 0\n";
-    expect_run(&rt, line, reads.as_slice(), 0, found, "")?;
-    fs::remove_file(&rt, path)?;
-    Ok(())
+    expect_run(&rt, line, reads.as_slice(), 0, found, "");
+    fs::remove_file(&rt, path).expect(&rt, "the file is removed");
 }
 
 /// Asserts that what the first of two ports to a page file writes is what the second reads.
 fn expect_one_device(
     rt: &(impl Runtime<A = Global> + Files<File = File> + Wait + Abort),
     word: &str,
-) -> Result<(), Fail> {
+) {
     let alloc = rt.alloc();
-    let Ok(mut ports) = PageFiles::new(alloc).open(rt, word, 16, 2) else {
-        return Err(Fail::from("the page file is not opened"));
-    };
+    let opened = PageFiles::new(alloc).open(rt, word, 16, 2);
+    let mut ports = opened.expect(rt, "the page file");
     assert_eq!(rt; ports.len(), 2);
-    let written = Image::of(alloc, b"written by first".as_slice())?;
+    let written = Image::of(alloc, b"written by first".as_slice()).expect(rt, "the image");
     assert!(rt; ports[0].write(rt, PageNo::new(1), &written).is_ok());
-    let Ok(found) = ports[1].read(rt, PageNo::new(1)) else {
-        return Err(Fail::from("the page is not read"));
-    };
-    assert!(rt; found == written);
-    Ok(())
+    let found = ports[1].read(rt, PageNo::new(1));
+    assert!(rt; found.expect(rt, "the page") == written);
 }
 
 #[test]
-fn ports_of_one_device(rt: HostRuntime) -> Result<(), Fail> {
-    expect_one_device(&rt, "mem:4")?;
+fn ports_of_one_device(rt: HostRuntime) {
+    expect_one_device(&rt, "mem:4");
     let path = "bpool_ports.pages";
-    fs::write(&rt, path, [0u8; 48].as_slice())?;
-    expect_one_device(&rt, path)?;
-    fs::remove_file(&rt, path)?;
-    Ok(())
+    fs::write(&rt, path, [0u8; 48].as_slice()).expect(&rt, "the file is written");
+    expect_one_device(&rt, path);
+    fs::remove_file(&rt, path).expect(&rt, "the file is removed");
 }
 
 #[test]
-fn trace_from_a_file(rt: HostRuntime) -> Result<(), Fail> {
+fn trace_from_a_file(rt: HostRuntime) {
     let path = "bpool_trace.csv";
-    fs::write(&rt, path, CLASSICAL)?;
+    fs::write(&rt, path, CLASSICAL).expect(&rt, "the file is written");
     let report = "evict 4 2\nhits 1\nfaults 3\nevictions 1\nwrites 0\nfailed 0\nrefused 0\n";
     // Standard input is not read then.
     let other = b"0,fi".as_slice();
@@ -434,22 +432,21 @@ fn trace_from_a_file(rt: HostRuntime) -> Result<(), Fail> {
         0,
         report,
         "",
-    )?;
-    fs::remove_file(&rt, path)?;
-    Ok(())
+    );
+    fs::remove_file(&rt, path).expect(&rt, "the file is removed");
 }
 
 #[test]
-fn refusals_of_rows(rt: HostRuntime) -> Result<(), Fail> {
+fn refusals_of_rows(rt: HostRuntime) {
     let trace =
         b"0,unfix,1,,,\n0,fix,1,,,\n0,unfix,1,,,\n0,unfix,1,,,\n0,tick,4611686018427387904,,,\n0,tick,4611686018427387903,,,\n0,tick,0,,,\n";
     let report =
         "hits 0\nfaults 1\nevictions 0\nwrites 0\nfailed 0\nrefused 0\nrow 1 refused 14\nrow 4 refused 14\nrow 5 refused 21\n";
-    expect_run(&rt, "run stdin mem:16", trace.as_slice(), 1, report, "")
+    expect_run(&rt, "run stdin mem:16", trace.as_slice(), 1, report, "");
 }
 
 #[test]
-fn faults_of_the_command_line(rt: HostRuntime) -> Result<(), Fail> {
+fn faults_of_the_command_line(rt: HostRuntime) {
     for line in [
         "run stdin",
         "run stdin mem:16 --k 17",
@@ -460,7 +457,7 @@ fn faults_of_the_command_line(rt: HostRuntime) -> Result<(), Fail> {
         "run stdin mem:16 --order",
         "walk",
     ] {
-        let ran = run(&rt, line, b"0,fix,1,,,\n".as_slice())?;
+        let ran = run(&rt, line, b"0,fix,1,,,\n".as_slice());
         assert_eq!(rt; ran.status, 2, "{line}");
         assert!(rt; ran.out.is_empty(), "{line}");
         let line_ends = ran.err.iter().filter(|byte| **byte == b'\n').count();
@@ -471,20 +468,18 @@ fn faults_of_the_command_line(rt: HostRuntime) -> Result<(), Fail> {
             "{line}"
         );
     }
-    Ok(())
 }
 
 #[test]
-fn help_is_no_run(rt: HostRuntime) -> Result<(), Fail> {
+fn help_is_no_run(rt: HostRuntime) {
     for line in ["--help", "help", "run --help"] {
-        let ran = run(&rt, line, b"0,fi".as_slice())?;
+        let ran = run(&rt, line, b"0,fi".as_slice());
         assert_eq!(rt; ran.status, 0, "{line}");
         assert!(rt; ran.err.is_empty(), "{line}");
-        let text = String::from_utf8(ran.out)?;
+        let text = text_of(&rt, ran.out);
         assert!(rt; text.as_str().contains("Usage: bpool"), "{line}");
         assert!(rt; !text.as_str().contains("hits"), "{line}");
     }
-    Ok(())
 }
 
 /// Asserts that the output failed in the run of no words over the classical trace, with this much of it written.
@@ -492,7 +487,7 @@ fn expect_output_failed(
     rt: &(impl Runtime<A = Global> + Files<File = File> + Threads + Wait + Sync + Abort),
     out: &mut Full,
     written: &[u8],
-) -> Result<(), Fail> {
+) {
     let alloc = rt.alloc();
     let words: Vec<&str> = Vec::new(alloc);
     let mut err = Vec::new(alloc);
@@ -509,28 +504,27 @@ fn expect_output_failed(
     assert_eq!(rt; status, 2);
     assert_eq!(rt; err.as_slice(), b"output failed\n".as_slice());
     assert_eq!(rt; out.held.as_slice(), written);
-    Ok(())
 }
 
 #[test]
-fn outputs_that_fail(rt: HostRuntime) -> Result<(), Fail> {
+fn outputs_that_fail(rt: HostRuntime) {
     let mut ten_bytes = Full {
         held: Vec::new(rt.alloc()),
         limit: 10,
         can_flush: true,
     };
-    expect_output_failed(&rt, &mut ten_bytes, b"evict 4 1\n".as_slice())?;
+    expect_output_failed(&rt, &mut ten_bytes, b"evict 4 1\n".as_slice());
     let report = b"evict 4 1\nhits 1\nfaults 3\nevictions 1\nwrites 0\nfailed 0\nrefused 0\n";
     let mut no_flush = Full {
         held: Vec::new(rt.alloc()),
         limit: 1000,
         can_flush: false,
     };
-    expect_output_failed(&rt, &mut no_flush, report.as_slice())
+    expect_output_failed(&rt, &mut no_flush, report.as_slice());
 }
 
 #[test]
-fn trace_that_cannot_be_read(rt: HostRuntime) -> Result<(), Fail> {
+fn trace_that_cannot_be_read(rt: HostRuntime) {
     let alloc = rt.alloc();
     let words: Vec<&str> = Vec::new(alloc);
     let mut out = Vec::new(alloc);
@@ -547,5 +541,4 @@ fn trace_that_cannot_be_read(rt: HostRuntime) -> Result<(), Fail> {
     assert_eq!(rt; status, 2);
     assert!(rt; out.is_empty());
     assert_eq!(rt; err.as_slice(), b"trace row 0 refused 47\n".as_slice());
-    Ok(())
 }

@@ -2,41 +2,47 @@
 use bp_page::Refusal;
 use bp_trace::TraceFault;
 use bp_words::{Ending, Order, TraceSource, decide};
-use std::alloc::Global;
 use std::process::Abort;
-use std::test::Fail;
 
 /// What the program says of a line that it does not run.
-fn ending_of(alloc: Global, line: &str) -> Result<Ending, Fail> {
-    let words: Vec<&str> = line.split_ascii_whitespace().collect(alloc)?;
-    match decide(alloc, words.as_slice()) {
-        Ok(_) => Err(Fail::from("the words are run")),
-        Err(ending) => Ok(ending),
+fn ending_of(rt: &(impl AllocGlobal + Abort), line: &str) -> Ending {
+    let words = words_of(rt, line);
+    match decide(rt.alloc(), words.as_slice()) {
+        Ok(_) => panic!(rt; "{line} is run"),
+        Err(ending) => ending,
     }
 }
 
+fn words_of<'a>(rt: &(impl AllocGlobal + Abort), line: &'a str) -> Vec<&'a str> {
+    line.split_ascii_whitespace()
+        .collect(rt.alloc())
+        .expect(rt, "the words")
+}
+
+fn text_of(rt: &impl Abort, bytes: Vec<u8>) -> String {
+    String::from_utf8(bytes).expect(rt, "the text")
+}
+
 /// The status, the output and the error output at a line that is not run.
-fn ended(alloc: Global, line: &str) -> Result<(u8, String, String), Fail> {
-    let ending = ending_of(alloc, line)?;
-    let mut out = Vec::new(alloc);
-    let mut err = Vec::new(alloc);
-    let status = ending.finish(&mut out, &mut err);
-    Ok((status, String::from_utf8(out)?, String::from_utf8(err)?))
+fn ended(rt: &(impl AllocGlobal + Abort), line: &str) -> (u8, String, String) {
+    let mut out = Vec::new(rt.alloc());
+    let mut err = Vec::new(rt.alloc());
+    let status = ending_of(rt, line).finish(&mut out, &mut err);
+    (status, text_of(rt, out), text_of(rt, err))
 }
 
 /// Asserts that the words are run over the page file in this order, with these frames, K, correlated and retained period, and
 /// page size.
-fn expect_run<R: Abort>(
+fn expect_run<R: Abort + AllocGlobal>(
     rt: &R,
-    alloc: Global,
     line: &str,
     page_file: &str,
     numbers: [u64; 5],
     order: Order,
-) -> Result<(), Fail> {
-    let words: Vec<&str> = line.split_ascii_whitespace().collect(alloc)?;
-    let Ok(run) = decide(alloc, words.as_slice()) else {
-        return Err(Fail::from("the words are refused"));
+) {
+    let words = words_of(rt, line);
+    let Ok(run) = decide(rt.alloc(), words.as_slice()) else {
+        panic!(rt; "{line} is refused")
     };
     let got = [
         run.frames as u64,
@@ -49,11 +55,10 @@ fn expect_run<R: Abort>(
     assert_eq!(rt; run.page_file, page_file, "{line}");
     assert!(rt; run.trace == TraceSource::Stdin, "{line}");
     assert!(rt; run.order == order, "{line}");
-    Ok(())
 }
 
 #[test]
-fn words_that_are_run(rt: HostRuntime) -> Result<(), Fail> {
+fn words_that_are_run(rt: HostRuntime) {
     let rows = [
         ("", "mem:16", [2, 1, 0, 1000, 64], Order::Trace),
         (
@@ -81,32 +86,37 @@ fn words_that_are_run(rt: HostRuntime) -> Result<(), Fail> {
             Order::Free,
         ),
     ];
-    let alloc = rt.alloc();
     for (line, page_file, numbers, order) in rows {
-        expect_run(&rt, alloc, line, page_file, numbers, order)?;
+        expect_run(&rt, line, page_file, numbers, order);
     }
     let words = ["run", "trace.csv", "pages"];
-    let Ok(run) = decide(alloc, words.as_slice()) else {
-        return Err(Fail::from("the words are refused"));
+    let Ok(run) = decide(rt.alloc(), words.as_slice()) else {
+        panic!(rt; "the words are refused")
     };
     assert!(rt; run.trace == TraceSource::Path("trace.csv"));
-    Ok(())
 }
 
 /// Asserts that each line is a fault of the words, which is said in a line of its own, with where to find help.
-fn expect_faults<R: Abort>(rt: &R, alloc: Global, rows: &[(&str, &str)]) -> Result<(), Fail> {
+fn expect_faults<R: Abort + AllocGlobal>(rt: &R, rows: &[(&str, &str)]) {
     for (line, fault) in rows {
-        let (status, text, said) = ended(alloc, line)?;
-        assert_eq!(rt; status, 2, "{line}");
-        assert!(rt; text.is_empty(), "{line}");
-        let expected = format!(in alloc; "error: {fault}; try 'bpool --help'\n")?;
-        assert_eq!(rt; said.as_str(), expected.as_str(), "{line}");
+        expect_fault(rt, line, fault);
     }
-    Ok(())
+}
+
+fn expect_fault<R: Abort + AllocGlobal>(rt: &R, line: &str, fault: &str) {
+    let (status, text, said) = ended(rt, line);
+    assert_eq!(rt; status, 2, "{line}");
+    assert!(rt; text.is_empty(), "{line}");
+    let expected = format!(in rt.alloc(); "error: {fault}; try 'bpool --help'\n");
+    assert_eq!(rt;
+        said.as_str(),
+        expected.expect(rt, "the line").as_str(),
+        "{line}"
+    );
 }
 
 #[test]
-fn words_at_fault(rt: HostRuntime) -> Result<(), Fail> {
+fn words_at_fault(rt: HostRuntime) {
     let rows = [
         (
             "run",
@@ -128,11 +138,11 @@ fn words_at_fault(rt: HostRuntime) -> Result<(), Fail> {
         ("walk", "unrecognized subcommand 'walk'"),
         ("--frames 2", "unexpected argument '--frames' found"),
     ];
-    expect_faults(&rt, rt.alloc(), rows.as_slice())
+    expect_faults(&rt, rows.as_slice());
 }
 
 #[test]
-fn options_at_fault(rt: HostRuntime) -> Result<(), Fail> {
+fn options_at_fault(rt: HostRuntime) {
     let rows = [
         (
             "run stdin mem:16 --k",
@@ -155,11 +165,11 @@ fn options_at_fault(rt: HostRuntime) -> Result<(), Fail> {
             "invalid value 'both' for '--order <ORDER>' [possible values: trace, free]",
         ),
     ];
-    expect_faults(&rt, rt.alloc(), rows.as_slice())
+    expect_faults(&rt, rows.as_slice());
 }
 
 #[test]
-fn numbers_out_of_their_limits(rt: HostRuntime) -> Result<(), Fail> {
+fn numbers_out_of_their_limits(rt: HostRuntime) {
     // the option, the number, and what is said of it
     let rows = [
         ("k", "two", "invalid digit found in string"),
@@ -180,34 +190,31 @@ fn numbers_out_of_their_limits(rt: HostRuntime) -> Result<(), Fail> {
         ("page-size", "15", "15 is not in 16..=65536"),
         ("page-size", "65537", "65537 is not in 16..=65536"),
     ];
-    let alloc = rt.alloc();
     for (option, number, why) in rows {
-        let line = format!(in alloc; "run t.csv mem:0 --{option} {number}")?;
-        let fault = format!(in alloc; "invalid value '{number}' for '--{option} <N>': {why}")?;
-        expect_faults(&rt, alloc, &[(line.as_str(), fault.as_str())])?;
+        expect_out_of_limits(&rt, option, number, why);
     }
-    Ok(())
+}
+
+fn expect_out_of_limits<R: Abort + AllocGlobal>(rt: &R, option: &str, number: &str, why: &str) {
+    let line = format!(in rt.alloc(); "run t.csv mem:0 --{option} {number}").expect(rt, "the line");
+    let fault = format!(in rt.alloc(); "invalid value '{number}' for '--{option} <N>': {why}");
+    expect_fault(rt, line.as_str(), fault.expect(rt, "the fault").as_str());
 }
 
 /// Asserts that each line asks for help, which has these parts.
-fn expect_help(
-    rt: &(impl AllocGlobal + Abort),
-    lines: &[&str],
-    parts: &[&str],
-) -> Result<(), Fail> {
+fn expect_help(rt: &(impl AllocGlobal + Abort), lines: &[&str], parts: &[&str]) {
     for line in lines {
-        let (status, text, said) = ended(rt.alloc(), line)?;
+        let (status, text, said) = ended(rt, line);
         assert_eq!(rt; status, 0, "{line}");
         assert!(rt; said.is_empty(), "{line}");
         for part in parts {
             assert!(rt; text.as_str().contains(part), "{line}: {part}");
         }
     }
-    Ok(())
 }
 
 #[test]
-fn help_of_the_program(rt: HostRuntime) -> Result<(), Fail> {
+fn help_of_the_program(rt: HostRuntime) {
     let parts = [
         "Usage: bpool <COMMAND>\n",
         "\n  run   Runs a trace over a buffer pool ",
@@ -223,11 +230,11 @@ fn help_of_the_program(rt: HostRuntime) -> Result<(), Fail> {
         "\nNo words at all: run stdin mem:16 --frames 2 --k 1\n",
         "\nStatus 0: all rows were accepted, or help was asked for. Status 1: some row was refused. Status 2: ",
     ];
-    expect_help(&rt, &["help", "--help", "-h"], parts.as_slice())
+    expect_help(&rt, &["help", "--help", "-h"], parts.as_slice());
 }
 
 #[test]
-fn help_of_a_run(rt: HostRuntime) -> Result<(), Fail> {
+fn help_of_a_run(rt: HostRuntime) {
     let parts = [
         "Usage: bpool run [OPTIONS] <TRACE> <PAGEFILE>\n",
         "  <TRACE>     The trace: a path, or stdin for the standard input\n",
@@ -241,29 +248,28 @@ fn help_of_a_run(rt: HostRuntime) -> Result<(), Fail> {
         "Status 0: all rows were accepted. Status 1: some row was refused; ",
     ];
     let lines = ["help run", "run --help", "run stdin mem:0 --k 16 --help"];
-    expect_help(&rt, lines.as_slice(), parts.as_slice())
+    expect_help(&rt, lines.as_slice(), parts.as_slice());
 }
 
 #[test]
-fn a_writer_that_fails_hides_no_status(rt: HostRuntime) -> Result<(), Fail> {
+fn a_writer_that_fails_hides_no_status(rt: HostRuntime) {
     let alloc = rt.alloc();
     let mut few = [0u8; 10];
     let mut full = few.as_mut_slice();
     let mut out = Vec::new(alloc);
-    let refused = ending_of(alloc, "run stdin mem:16 --page-size 24")?;
+    let refused = ending_of(&rt, "run stdin mem:16 --page-size 24");
     assert_eq!(rt; refused.finish(&mut out, &mut full), 2);
     assert!(rt; out.is_empty());
     let mut few = [0u8; 10];
     let mut full = few.as_mut_slice();
     let mut err = Vec::new(alloc);
-    let help = ending_of(alloc, "run --help")?;
+    let help = ending_of(&rt, "run --help");
     assert_eq!(rt; help.finish(&mut full, &mut err), 2);
     assert_eq!(rt; err.as_slice(), b"output failed\n".as_slice());
-    Ok(())
 }
 
 #[test]
-fn refusals_that_come_later(rt: HostRuntime) -> Result<(), Fail> {
+fn refusals_that_come_later(rt: HostRuntime) {
     let rows = [
         (
             Ending::TraceRefused(TraceFault::new(3, Refusal::BadShape)),
@@ -284,5 +290,4 @@ fn refusals_that_come_later(rt: HostRuntime) -> Result<(), Fail> {
         assert!(rt; out.is_empty());
         assert_eq!(rt; err.as_slice(), message.as_bytes());
     }
-    Ok(())
 }
