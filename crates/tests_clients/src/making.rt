@@ -1,5 +1,5 @@
 //! What the tests share: scripts over four pages of 16 bytes and ports to them.
-ghost use Rattle.std.specs.Prelude.{◌≡◌, All, IfOk, vec_len};
+ghost use Rattle.std.specs.Prelude.{◌≡◌, All, vec_len};
 ghost use Rattle.bp_page.specs.declared.limits.Geometry.{Geometry as AGeometry};
 
 use bp_clients::{Config, Outcome, run_clients, scripts_fit};
@@ -7,8 +7,8 @@ use bp_core::{Row, Step};
 use bp_device::{GatePort, MemDevice, MemPort, Port};
 use bp_lruk::Settings;
 use bp_page::{Bytes, Geometry, Lsn, PageNo, Refusal};
-use std::alloc::Global;
 use std::marker::{Send, Sync};
+use std::process::Abort;
 use std::sync::Wait;
 use std::thread::Threads;
 
@@ -26,110 +26,94 @@ pub(crate) enum Do {
     Log(u64),
 }
 
-fn step_of(alloc: Global, what: Do) -> Result<Step, Refusal> {
+fn step_of<R: Abort + AllocGlobal>(rt: &R, what: Do) -> Step {
     match what {
-        Do::Fix(page) => Ok(Step::Fix(PageNo::new(page))),
-        Do::Unfix(page) => Ok(Step::Unfix(PageNo::new(page))),
-        Do::Read(page) => Ok(Step::Read(PageNo::new(page))),
-        Do::Write(page, lsn) => match Bytes::of(alloc, &[0xaa]) {
-            Ok(bytes) => Ok(Step::Write {
-                page: PageNo::new(page),
-                offset: 0,
-                bytes,
-                lsn: Lsn::new(lsn),
-            }),
-            Err(_) => Err(Refusal::OutOfMemory),
+        Do::Fix(page) => Step::Fix(PageNo::new(page)),
+        Do::Unfix(page) => Step::Unfix(PageNo::new(page)),
+        Do::Read(page) => Step::Read(PageNo::new(page)),
+        Do::Write(page, lsn) => Step::Write {
+            page: PageNo::new(page),
+            offset: 0,
+            bytes: Bytes::of(rt.alloc(), &[0xaa]).expect(rt, "the bytes"),
+            lsn: Lsn::new(lsn),
         },
-        Do::Flush(page) => Ok(Step::Flush(PageNo::new(page))),
-        Do::Tick(n) => Ok(Step::Tick(n)),
-        Do::Log(lsn) => Ok(Step::Log(Lsn::new(lsn))),
+        Do::Flush(page) => Step::Flush(PageNo::new(page)),
+        Do::Tick(n) => Step::Tick(n),
+        Do::Log(lsn) => Step::Log(Lsn::new(lsn)),
     }
 }
 
 /// A script of this client, whose rows are numbered on from one.
-pub(crate) fn script(
-    alloc: Global,
+pub(crate) fn script<R: Abort + AllocGlobal>(
+    rt: &R,
     client: u8,
     first: u64,
     steps: &[Do],
-) -> Result<Vec<Row>, Refusal> {
-    let mut rows = Vec::new(alloc);
+) -> Vec<Row> {
+    let mut rows = Vec::new(rt.alloc());
     let mut number = first;
     for what in steps {
+        let step = step_of(rt, *what);
         let row = Row {
             row: number,
             client,
-            step: step_of(alloc, *what)?,
+            step,
         };
-        let Ok(()) = rows.push(row) else {
-            return Err(Refusal::OutOfMemory);
-        };
+        rows.push(row).expect(rt, "the row");
         number = number.saturating_add(1);
     }
-    Ok(rows)
+    rows
 }
 
 /// These two scripts.
-pub(crate) fn both(
-    alloc: Global,
+pub(crate) fn both<R: Abort + AllocGlobal>(
+    rt: &R,
     first: Vec<Row>,
     second: Vec<Row>,
-) -> Result<Vec<Vec<Row>>, Refusal> {
-    match vec![in alloc; first, second] {
-        Ok(both) => Ok(both),
-        Err(_) => Err(Refusal::OutOfMemory),
-    }
+) -> Vec<Vec<Row>> {
+    vec![in rt.alloc(); first, second].expect(rt, "the scripts")
 }
 
-pub(crate) fn geometry() -> Result<Geometry, Refusal> {
-    Geometry::new(4, 16)
+pub(crate) fn geometry<R: Abort>(rt: &R) -> Geometry {
+    Geometry::new(4, 16).expect(rt, "the geometry")
 }
 
 /// Ports of their own for so many clients, to one device in memory.
-pub(crate) fn ports(
-    alloc: Global,
+pub(crate) fn ports<R: Abort + AllocGlobal>(
+    rt: &R,
     geometry: Geometry,
     clients: usize,
-) -> Result<Vec<MemPort>, Refusal>
-    ensures geometry { IfOk result (λ ports. All (λ p. p.device ≡ geometry) ports.items) }
-    ensures count { IfOk result (λ ports. vec_len ports ≡ clients) }
+) -> Vec<MemPort>
+    ensures geometry { All (λ p. p.device ≡ geometry) result.items }
+    ensures count { vec_len result ≡ clients }
 {
-    let device = MemDevice::new(alloc, geometry)?;
-    let mut ports = Vec::new(alloc);
+    let device = MemDevice::new(rt.alloc(), geometry).expect(rt, "the device");
+    let mut ports = Vec::new(rt.alloc());
     for _ in 0..clients {
-        let port = match device.port() {
-            Ok(port) => port,
-            Err(refusal) => return Err(refusal),
-        };
-        let Ok(()) = ports.push(port) else {
-            return Err(Refusal::OutOfMemory);
-        };
+        let port = device.port().expect(rt, "the port");
+        ports.push(port).expect(rt, "the ports");
     }
-    Ok(ports)
+    ports
 }
 
 /// Two ports to one device that wait for one another.
-pub(crate) fn gates(alloc: Global, geometry: Geometry) -> Result<Vec<GatePort<MemPort>>, Refusal>
-    ensures geometry { IfOk result (λ ports. All (λ p. p.inner.device ≡ geometry) ports.items) }
-    ensures count { IfOk result (λ ports. vec_len ports ≡ 2) }
+pub(crate) fn gates<R: Abort + AllocGlobal>(rt: &R, geometry: Geometry) -> Vec<GatePort<MemPort>>
+    ensures geometry { All (λ p. p.inner.device ≡ geometry) result.items }
+    ensures count { vec_len result ≡ 2 }
 {
-    let device = MemDevice::new(alloc, geometry)?;
-    let a = device.port()?;
-    let b = device.port()?;
-    let (a, b) = GatePort::pair(alloc, a, b, TURNS)?;
-    let Ok(mut ports) = Vec::with_capacity(alloc, 2) else {
-        return Err(Refusal::OutOfMemory);
-    };
+    let device = MemDevice::new(rt.alloc(), geometry).expect(rt, "the device");
+    let a = device.port().expect(rt, "the port");
+    let b = device.port().expect(rt, "the port");
+    let (a, b) = GatePort::pair(rt.alloc(), a, b, TURNS).expect(rt, "the pair");
+    let mut ports = Vec::with_capacity(rt.alloc(), 2).expect(rt, "the ports");
     ports.push_reserved(a);
     ports.push_reserved(b);
-    Ok(ports)
+    ports
 }
 
-/// A run of these scripts with K 2, no correlated period and a retained one of 1000. Scripts that may not be run are
-/// refused with 40.
-pub(crate) fn run<P: Port + Send, R: Threads + Wait + Sync>(
+/// A run of these scripts with K 2, no correlated period and a retained one of 1000. They may be run.
+pub(crate) fn run<P: Port + Send, R: Threads + Wait + Sync + Abort + AllocGlobal>(
     rt: &R,
-    alloc: Global,
     frames: usize,
     room: usize,
     scripts: Vec<Vec<Row>>,
@@ -138,15 +122,13 @@ pub(crate) fn run<P: Port + Send, R: Threads + Wait + Sync>(
 ) -> Result<Outcome, Refusal>
     requires geometry { All (λ p. P.geometry_of p ≡ geometry) ports.items }
 {
-    let settings = Settings::new(2, 0, 1000)?;
+    let settings = Settings::new(2, 0, 1000).expect(rt, "the settings");
     let config = Config {
         geometry,
         settings,
         frames,
         room,
     };
-    if ports.len() != scripts.len() || !scripts_fit(&config, &scripts) {
-        return Err(Refusal::BadShape);
-    }
-    run_clients(rt, alloc, config, scripts, ports)
+    assert!(rt; ports.len() == scripts.len() && scripts_fit(&config, &scripts));
+    run_clients(rt, rt.alloc(), config, scripts, ports)
 }

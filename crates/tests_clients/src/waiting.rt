@@ -2,18 +2,17 @@
 //!
 //! Client 0's device work is slow, and client 1 asks for the same page meanwhile. Should it come late after all, the
 //! asserted outcome is the same. A client that is not woken never ends.
-ghost use Rattle.std.specs.Prelude.{◌≡◌, All, IfOk, vec_len};
+ghost use Rattle.std.specs.Prelude.{◌≡◌, All, vec_len};
 
 use crate::counting::counts;
 use crate::making::{Do, both, geometry, run, script};
 use bp_clients::Outcome;
 use bp_core::{Refused, Row};
 use bp_device::{FusePort, GatePort, MemDevice, MemPort, Port};
-use bp_page::{Geometry, Image, PageNo, PortFault, Refusal};
-use std::alloc::Global;
+use bp_page::{Geometry, Image, PageNo, PortFault};
 use std::marker::Sync;
+use std::process::Abort;
 use std::sync::Wait;
-use std::test::Fail;
 use std::thread;
 use std::thread::Threads;
 
@@ -60,44 +59,51 @@ impl<P: Port> Port for SlowPort<P> {
 }
 
 /// Ports to one device that wait for one another. Then client 0's calls are slow, and its n-th one fails; no other.
-fn slow_ports(
-    alloc: Global,
+fn slow_ports<R: Abort + AllocGlobal>(
+    rt: &R,
     geometry: Geometry,
     n: u64,
-) -> Result<Vec<GatePort<SlowPort<FusePort<MemPort>>>>, Refusal>
-    ensures geometry { IfOk result (λ ports. All (λ p. p.inner.inner.inner.device ≡ geometry) ports.items) }
-    ensures count { IfOk result (λ ports. vec_len ports ≡ 2) }
+) -> Vec<GatePort<SlowPort<FusePort<MemPort>>>>
+    ensures geometry { All (λ p. p.inner.inner.inner.device ≡ geometry) result.items }
+    ensures count { vec_len result ≡ 2 }
 {
-    let device = MemDevice::new(alloc, geometry)?;
-    let slow = SlowPort {
-        inner: FusePort::new(alloc, device.port()?, n, false)?,
-        turns: SLOW,
-    };
-    let quick = SlowPort {
-        inner: FusePort::new(alloc, device.port()?, 0, false)?,
-        turns: 0,
-    };
-    let (slow, quick) = GatePort::pair(alloc, slow, quick, TURNS)?;
-    let Ok(mut ports) = Vec::with_capacity(alloc, 2) else {
-        return Err(Refusal::OutOfMemory);
-    };
+    let device = MemDevice::new(rt.alloc(), geometry).expect(rt, "the device");
+    let slow = slow_port(rt, &device, n, SLOW);
+    let quick = slow_port(rt, &device, 0, 0);
+    let (slow, quick) = GatePort::pair(rt.alloc(), slow, quick, TURNS).expect(rt, "the pair");
+    let mut ports = Vec::with_capacity(rt.alloc(), 2).expect(rt, "the ports");
     ports.push_reserved(slow);
     ports.push_reserved(quick);
-    Ok(ports)
+    ports
+}
+
+/// A port whose calls are slow by so many turns, and whose n-th call fails.
+fn slow_port<R: Abort + AllocGlobal>(
+    rt: &R,
+    device: &MemDevice,
+    n: u64,
+    turns: u64,
+) -> SlowPort<FusePort<MemPort>>
+    ensures { result.inner.inner.device ≡ device.now }
+{
+    let port = device.port().expect(rt, "the port");
+    SlowPort {
+        inner: FusePort::new(rt.alloc(), port, n, false).expect(rt, "the port"),
+        turns,
+    }
 }
 
 /// A run of two scripts over two frames. Client 0's device work is slow, and the n-th call of it fails.
-fn run_slowly<R: Threads + Wait + Sync>(
+fn run_slowly<R: Threads + Wait + Sync + Abort + AllocGlobal>(
     rt: &R,
-    alloc: Global,
     n: u64,
     first: Vec<Row>,
     second: Vec<Row>,
-) -> Result<Outcome, Refusal> {
-    let geometry = geometry()?;
-    let ports = slow_ports(alloc, geometry, n)?;
-    let scripts = both(alloc, first, second)?;
-    run(rt, alloc, 2, 4096, scripts, geometry, ports)
+) -> Outcome {
+    let geometry = geometry(rt);
+    let ports = slow_ports(rt, geometry, n);
+    let scripts = both(rt, first, second);
+    run(rt, 2, 4096, scripts, geometry, ports).expect(rt, "the run")
 }
 
 /// Whether it found the page in flight at most once.
@@ -107,16 +113,15 @@ fn waited_once_at_most(refusals: usize) -> bool {
 
 /// Client 1 begins its own read once client 0's has begun, and then asks for client 0's page.
 #[test]
-fn waits_for_a_read(rt: HostRuntime) -> Result<(), Fail> {
-    let alloc = rt.alloc();
-    let first = script(alloc, 0, 1, &[Do::Fix(0), Do::Unfix(0)])?;
+fn waits_for_a_read(rt: HostRuntime) {
+    let first = script(&rt, 0, 1, &[Do::Fix(0), Do::Unfix(0)]);
     let second = script(
-        alloc,
+        &rt,
         1,
         3,
         &[Do::Fix(1), Do::Fix(0), Do::Unfix(0), Do::Unfix(1)],
-    )?;
-    let done = run_slowly(&rt, alloc, 0, first, second)?;
+    );
+    let done = run_slowly(&rt, 0, first, second);
     let [hits, faults, evictions, write_outs, failures, busy] = counts(&done.trail);
     assert_eq!(rt;
         [hits, faults, evictions, write_outs, failures],
@@ -124,21 +129,19 @@ fn waits_for_a_read(rt: HostRuntime) -> Result<(), Fail> {
     );
     assert!(rt; waited_once_at_most(busy));
     assert!(rt; done.refused.is_empty());
-    Ok(())
 }
 
 /// Client 0's read fails, and client 1 then reads the page itself.
 #[test]
-fn waits_for_a_failing_read(rt: HostRuntime) -> Result<(), Fail> {
-    let alloc = rt.alloc();
-    let first = script(alloc, 0, 1, &[Do::Fix(0), Do::Unfix(0)])?;
+fn waits_for_a_failing_read(rt: HostRuntime) {
+    let first = script(&rt, 0, 1, &[Do::Fix(0), Do::Unfix(0)]);
     let second = script(
-        alloc,
+        &rt,
         1,
         3,
         &[Do::Fix(1), Do::Fix(0), Do::Unfix(0), Do::Unfix(1)],
-    )?;
-    let done = run_slowly(&rt, alloc, 1, first, second)?;
+    );
+    let done = run_slowly(&rt, 1, first, second);
     let [hits, faults, evictions, write_outs, failures, busy] = counts(&done.trail);
     assert_eq!(rt;
         [hits, faults, evictions, write_outs, failures],
@@ -148,21 +151,19 @@ fn waits_for_a_failing_read(rt: HostRuntime) -> Result<(), Fail> {
     let not_read = Refused { row: 1, number: 17 };
     let no_pass = Refused { row: 2, number: 14 };
     assert_eq!(rt; done.refused.as_slice(), [not_read, no_pass].as_slice());
-    Ok(())
 }
 
 /// Client 1 begins its own write-out once client 0's has begun, and then flushes client 0's page.
 #[test]
-fn waits_for_a_write_out(rt: HostRuntime) -> Result<(), Fail> {
-    let alloc = rt.alloc();
+fn waits_for_a_write_out(rt: HostRuntime) {
     let first = script(
-        alloc,
+        &rt,
         0,
         1,
         &[Do::Fix(0), Do::Write(0, 0), Do::Flush(0), Do::Unfix(0)],
-    )?;
+    );
     let second = script(
-        alloc,
+        &rt,
         1,
         5,
         &[
@@ -172,8 +173,8 @@ fn waits_for_a_write_out(rt: HostRuntime) -> Result<(), Fail> {
             Do::Flush(0),
             Do::Unfix(1),
         ],
-    )?;
-    let done = run_slowly(&rt, alloc, 0, first, second)?;
+    );
+    let done = run_slowly(&rt, 0, first, second);
     let [hits, faults, evictions, write_outs, failures, busy] = counts(&done.trail);
     assert_eq!(rt;
         [hits, faults, evictions, write_outs, failures],
@@ -181,5 +182,4 @@ fn waits_for_a_write_out(rt: HostRuntime) -> Result<(), Fail> {
     );
     assert!(rt; waited_once_at_most(busy));
     assert!(rt; done.refused.is_empty());
-    Ok(())
 }
