@@ -1,0 +1,9 @@
+-- Lemmas.
+pub mod Reversed
+pub mod SpanLemmas
+pub mod References
+pub mod Noted
+pub mod Choosing
+pub mod Next
+pub mod Rooms
+pub mod Judging

@@ -1,0 +1,16 @@
+use Rattle.std.proofs.Common.{ap, arith}
+use Rattle.bp_trail.specs.Event as event
+use Rattle.bp_check.specs.Setups.{parameters_of}
+use Rattle.bp_check.proofs.Noted.{noted-purge}
+use Rattle.bp_check.proofs.past.next.note_references.Goals as goal
+
+pub refer_at-requires : goal.refer_at-requires
+refer_at-requires c =
+    omega (arith, c.page_of-page.ensures, c.requires.in_file (event.grant c.args.e.now.client (event.page_of c.args.e.now.call) c.in-Hit.field-0) (ap (event.pass_given c.args.e.now.client (event.page_of c.args.e.now.call)) c.in-Hit.is))
+
+pub refer_at-requires-in-Fixed : goal.refer_at-requires-in-Fixed
+refer_at-requires-in-Fixed c =
+    omega (arith, c.page_of-page.ensures, c.requires.in_file (event.grant c.args.e.now.client (event.page_of c.args.e.now.call) c.in-Fixed.field-0) (ap (event.pass_given c.args.e.now.client (event.page_of c.args.e.now.call)) c.in-Fixed.is))
+
+pub returns-in-Forgot-clause-noted : goal.returns-in-Forgot-clause-noted
+returns-in-Forgot-clause-noted c past = noted-purge (parameters_of c.args.setup.now 0) past c.args.e.now c.args.clock c.args.residents.now c.args.reads_out.now c.args.spans.now c.forget.new.table c.in-Forgot.field-0 c.in-Forgot.is c.forget.ensures.each

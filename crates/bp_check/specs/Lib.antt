@@ -1,0 +1,6 @@
+-- What a judge of trails answers, and what it keeps of the entries so far.
+pub mod Setups
+pub mod Verdict
+pub mod Spans
+pub mod Told
+pub mod Ranks

@@ -1,0 +1,143 @@
+//! One lawful entry more.
+ghost use Rattle.std.specs.Prelude.{◌≡◌, ◌∷◌, ◌<◌, ◌+◌, ℕ, true, length, reverse, vec_len, is_some, if◌then◌else◌, Some, IfOk, OnOk};
+ghost use Rattle.bp_trail.specs.Trail.{Trail};
+ghost use Rattle.bp_trail.specs.Event as event;
+ghost use Rattle.bp_trail.specs.Lists.{and_given, without};
+ghost use Rattle.bp_trail.specs.Passes as passes;
+ghost use Rattle.bp_trail.specs.Legal.{IsLawful};
+ghost use Rattle.bp_check.specs.Setups.{parameters_of};
+ghost use Rattle.bp_check.specs.Told.{AreEnded, KeepsSpans};
+
+use crate::events::{
+    evicted, loaded, marked, page_of, pass_back, pass_of, read_ticket_back, read_ticket_of,
+    ticket_given, ticks, well_ended, write_ticket_back, write_ticket_of,
+};
+use crate::grants::Grants;
+use crate::past::Past;
+use crate::residents::Residents;
+use crate::scans::at_least;
+use crate::setup::Setup;
+use crate::spans::{Span, forget, refer_at};
+use bp_trail::{Entry, Reply};
+use std::alloc::AllocError;
+
+/// Notes the reference that an entry makes, or forgets those that a purge does.
+fn note_references(
+    setup: &Setup,
+    clock: u64,
+    residents: &Residents,
+    reads_out: &Grants,
+    spans: &mut [Vec<Span>],
+    e: &Entry,
+) -> Result<(), AllocError>
+    requires in_file { (g : event.Grant) → passes.pass_of e.now ≡ Some g → event.page_of e.now.call < length spans.old }
+    ensures count { length spans.new ≡ length spans.old }
+    ensures noted { OnOk result ((past : Trail) → KeepsSpans (parameters_of setup.now 0) past e.now clock residents.now reads_out.now spans.old spans.new) }
+{
+    let page = page_of(&e.call);
+    let correlated = setup.settings.correlated;
+    match &e.reply {
+        Reply::Hit(_) => {
+            refer_at(spans, page, correlated, true, clock)?;
+            Ok(())
+        }
+        Reply::Fixed(_) => {
+            refer_at(spans, page, correlated, false, clock)?;
+            Ok(())
+        }
+        Reply::Forgot(_) => {
+            let retained = setup.settings.retained;
+            forget(spans, retained, clock, residents, reads_out);
+            Ok(())
+        }
+        _ => Ok(()),
+    }
+}
+
+/// Notes the ticket that an entry gives, or the write-out that ends well.
+fn note_tickets(ended: &mut Vec<bool>, e: &Entry) -> Result<(), AllocError>
+    requires given { (t : ℕ) → event.ends_well t e.now.call ≡ true → t < vec_len ended.old }
+    ensures count { OnOk result (vec_len ended.new ≡ vec_len ended.old + (if is_some (event.ticket_given e.now.reply) then 1 else 0)) }
+    ensures noted { OnOk result ((past : Trail) → AreEnded past ended.old.items → AreEnded (e.now ∷ past) ended.new.items) }
+{
+    if let Some(ticket) = well_ended(&e.call) {
+        ended[ticket as usize] = true;
+    }
+    if let Some(_) = ticket_given(&e.reply) {
+        ended.push(false)?;
+    }
+    Ok(())
+}
+
+/// Passes and tickets go back and are given, and pages leave and come, by one entry.
+fn pass_on(
+    passes_out: &mut Grants,
+    reads_out: &mut Grants,
+    writes_out: &mut Grants,
+    residents: &mut Residents,
+    e: &Entry,
+) -> Result<(), AllocError>
+    ensures passes { OnOk result (passes_out.new ≡ and_given (passes.pass_of e.now) (without (λ (g : event.Grant). g.serial) (event.pass_back e.now.call) passes_out.old)) }
+    ensures reads { OnOk result (reads_out.new ≡ and_given (passes.read_ticket_of e.now) (without (λ (g : event.Grant). g.serial) (event.read_ticket_back e.now.call) reads_out.old)) }
+    ensures writes { OnOk result (writes_out.new ≡ and_given (passes.write_ticket_of e.now) (without (λ (g : event.Grant). g.serial) (event.write_ticket_back e.now.call) writes_out.old)) }
+    ensures residents { OnOk result (residents.new ≡ and_given (event.loaded (event.page_of e.now.call) e.now.reply) (without (λ (q : ℕ). q) (event.evicted e.now.reply) residents.old)) }
+{
+    passes_out.pass_on(pass_back(&e.call), pass_of(e))?;
+    reads_out.pass_on(read_ticket_back(&e.call), read_ticket_of(e))?;
+    writes_out.pass_on(write_ticket_back(&e.call), write_ticket_of(e))?;
+    residents.pass_on(evicted(&e.reply), loaded(e))
+}
+
+/// 1 or 0.
+fn one_if(given: bool) -> u64
+    ensures { result ≡ (if given then 1 else 0) }
+{
+    if given { 1 } else { 0 }
+}
+
+impl<'a> Past<'a> {
+    /// The entries so far with this one, which is lawful after them. `entries` are all of these in the order of time.
+    pub(crate) fn with(self, e: &Entry, entries: &'a [Entry]) -> Result<Past<'a>, AllocError>
+        requires lawful { IsLawful self.parameters self.past e.now }
+        requires all { reverse entries.now ≡ e.now ∷ self.past }
+        ensures { IfOk result (λ past. past ≡ record self.entry { past = e.now ∷ self.entry.past }) }
+    {
+        let Past {
+            setup,
+            clock,
+            durable,
+            passes,
+            mut passes_out,
+            mut reads_out,
+            mut writes_out,
+            mut residents,
+            mut ended,
+            mut spans,
+            ..
+        } = self;
+        note_references(&setup, clock, &residents, &reads_out, &mut spans, e)?;
+        note_tickets(&mut ended, e)?;
+        pass_on(
+            &mut passes_out,
+            &mut reads_out,
+            &mut writes_out,
+            &mut residents,
+            e,
+        )?;
+        let tickets = ended.len() as u64;
+        Ok(Past {
+            setup,
+            entries,
+            clock: clock + ticks(&e.call).unwrap_or(0),
+            durable: at_least(marked(&e.call), durable),
+            passes: passes + one_if(pass_of(e).is_some()),
+            tickets,
+            passes_out,
+            reads_out,
+            writes_out,
+            residents,
+            ended,
+            spans,
+        })
+    }
+}

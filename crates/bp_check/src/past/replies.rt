@@ -1,0 +1,121 @@
+//! The one lawful reply to a call. Each function has the name of its definition.
+ghost use Rattle.std.specs.Prelude.{◌≡◌, IfOk};
+ghost use Rattle.bp_trail.specs.PageMap as of;
+
+use crate::past::Past;
+use bp_page::{Image, PageNo};
+use bp_trail::{Call, Reply};
+use std::alloc::{AllocError, Global};
+
+impl<'a> Past<'a> {
+    fn has_free_frame(&self) -> bool
+        ensures { result ≡ of.has_free_frame self.now.parameters self.now.past }
+    {
+        let taken = self.residents.len() as u128 + self.reads_out.len() as u128;
+        taken < self.setup.frames as u128
+    }
+
+    /// A write-out of the page, once the log is durable as far as its writes.
+    fn write_out_reply(&self, alloc: Global, page: PageNo) -> Result<Reply, AllocError>
+        ensures { IfOk result (λ reply. reply ≡ of.write_out_reply self.now.past page) }
+    {
+        let top = self.top(page);
+        if self.durable < top {
+            return Ok(Reply::NeedLog(top));
+        }
+        Ok(Reply::WriteFirst {
+            ticket: self.tickets,
+            page,
+            image: self.held(alloc, page)?,
+        })
+    }
+
+    fn replace_reply(&self, alloc: Global, victim: Option<PageNo>) -> Result<Reply, AllocError>
+        ensures { IfOk result (λ reply. reply ≡ of.replace_reply self.now.past victim) }
+    {
+        match victim {
+            None => Ok(Reply::NoVictim),
+            Some(page) => {
+                if self.unsaved(page) {
+                    self.write_out_reply(alloc, page)
+                } else {
+                    Ok(Reply::Load {
+                        ticket: self.tickets,
+                        evicted: Some(page),
+                    })
+                }
+            }
+        }
+    }
+
+    fn fix_reply(&self, alloc: Global, page: PageNo) -> Result<Reply, AllocError>
+        ensures { IfOk result (λ reply. reply ≡ of.fix_reply self.now.parameters self.now.past page) }
+    {
+        if self.loading(page) {
+            Ok(Reply::Busy)
+        } else if self.resident(page) {
+            Ok(Reply::Hit(self.passes))
+        } else if self.has_free_frame() {
+            Ok(Reply::Load {
+                ticket: self.tickets,
+                evicted: None,
+            })
+        } else {
+            self.replace_reply(alloc, self.victim())
+        }
+    }
+
+    fn flush_reply(&self, alloc: Global, page: PageNo) -> Result<Reply, AllocError>
+        ensures { IfOk result (λ reply. reply ≡ of.flush_reply self.now.past page) }
+    {
+        if self.loading(page) {
+            Ok(Reply::Busy)
+        } else if !self.resident(page) {
+            Ok(Reply::Absent)
+        } else if self.writing(page) {
+            Ok(Reply::Busy)
+        } else if self.unsaved(page) {
+            self.write_out_reply(alloc, page)
+        } else {
+            Ok(Reply::Clean)
+        }
+    }
+
+    fn write_end_reply(&self, ticket: u64, page: PageNo, good: bool) -> Reply
+        ensures { result ≡ of.write_end_reply self.now.past ticket page good }
+    {
+        if !good {
+            Reply::WriteFailed
+        } else if self.written_since(ticket, page) {
+            Reply::StillDirty
+        } else {
+            Reply::Cleaned
+        }
+    }
+
+    fn read_end_reply(&self, image: &Option<Image>) -> Reply
+        ensures { result ≡ of.read_end_reply self.now.past image.now }
+    {
+        match image {
+            Some(_) => Reply::Fixed(self.passes),
+            None => Reply::ReadFailed,
+        }
+    }
+
+    /// The one lawful reply to a call. It fails by want of memory alone.
+    pub(super) fn reply_of(&self, alloc: Global, call: &Call) -> Result<Reply, AllocError>
+        ensures { IfOk result (λ reply. reply ≡ of.reply_of self.now.parameters self.now.past call.now) }
+    {
+        match call {
+            Call::Fix(page) => self.fix_reply(alloc, *page),
+            Call::Flush(page) => self.flush_reply(alloc, *page),
+            Call::ReadEnd { image, .. } => Ok(self.read_end_reply(image)),
+            Call::WriteEnd { ticket, page, good } => Ok(self.write_end_reply(
+                *ticket, *page, *good,
+            )),
+            Call::Read { page, .. } => Ok(Reply::Content(self.held(alloc, *page)?)),
+            Call::Purge => Ok(Reply::Forgot(self.forgotten())),
+            _ => Ok(Reply::Done),
+        }
+    }
+}

@@ -1,0 +1,146 @@
+//! What is asked of one page, looked for in the entries so far. These are in the order of time.
+ghost use Rattle.std.specs.Prelude.{◌≡◌, max, unwrap_or, false, reverse, slice_index_or, OnOk, IfOk};
+ghost use Rattle.bp_trail.specs.Trail.{Trail};
+ghost use Rattle.bp_trail.specs.Event as event;
+ghost use Rattle.bp_trail.specs.Saved as saved;
+ghost use Rattle.bp_trail.specs.Images as images;
+ghost use Rattle.bp_check.specs.Told.{AreEnded};
+
+use crate::events::{begins, loads, lsn_written, writes};
+use bp_page::{Lsn, PageNo};
+use bp_trail::{Call, Entry, Reply};
+use std::alloc::{AllocError, Global};
+
+/// Whether the write-out with this ticket ended well, by a list with a place for each ticket.
+fn has_ended(ended: &[bool], ticket: u64) -> bool
+    ensures { result ≡ slice_index_or ended.now ticket false }
+{
+    let at = ticket as usize;
+    at < ended.len() && ended[at]
+}
+
+/// Whether a write-out of the page begins that has ended well.
+fn began_saving(ended: &[bool], page: PageNo, reply: &Reply) -> bool
+    ensures { (past : Trail) → AreEnded past ended.now → result ≡ saved.began_saving past page reply.now }
+{
+    match reply {
+        Reply::WriteFirst {
+            ticket,
+            page: of,
+            ..
+        } => *of == page && has_ended(ended, *ticket),
+        _ => false,
+    }
+}
+
+/// Whether some write of the page has no good write-out of it that began after it.
+pub(crate) fn unsaved(past: &[Entry], ended: &[bool], page: PageNo) -> bool
+    requires { AreEnded (reverse past.now) ended.now }
+    ensures { result ≡ saved.unsaved (reverse past.now) page }
+{
+    let mut is_unsaved = false;
+    for e in past {
+        let is_saved = began_saving(ended, page, &e.reply);
+        is_unsaved = writes(page, e) || (!is_saved && is_unsaved);
+    }
+    is_unsaved
+}
+
+/// Whether a write of the page stands after the begin of the write-out with this ticket.
+pub(crate) fn written_since(past: &[Entry], ticket: u64, page: PageNo) -> bool
+    ensures { result ≡ saved.written_since (reverse past.now) ticket page }
+{
+    let mut is_written = false;
+    for e in past {
+        let is_later = writes(page, e) || is_written;
+        is_written = !begins(ticket, &e.reply) && is_later;
+    }
+    is_written
+}
+
+/// The greater of an LSN and of one that may be there.
+pub(crate) fn at_least(lsn: Option<Lsn>, reached: Lsn) -> Lsn
+    ensures { result ≡ max (unwrap_or lsn 0) reached }
+{
+    match lsn {
+        Some(lsn) => { if reached < lsn { lsn } else { reached } }
+        None => reached,
+    }
+}
+
+/// The greatest LSN of the writes of the page since it was loaded, or 0.
+pub(crate) fn top(past: &[Entry], page: PageNo) -> Lsn
+    ensures { result ≡ saved.top (reverse past.now) page }
+{
+    let mut top = Lsn::new(0);
+    for e in past {
+        top = if loads(page, e) {
+            Lsn::new(0)
+        } else {
+            at_least(lsn_written(page, e), top)
+        };
+    }
+    top
+}
+
+/// Puts the image that a read brought in, or none, in place of this one.
+fn read_into(image: &mut Vec<u8>, call: &Call) -> Result<(), AllocError>
+    ensures { OnOk result (image.new.items ≡ event.image_read call.now) }
+{
+    image.clear();
+    if let Call::ReadEnd {
+        image: Some(read),
+        ..
+    } = call
+    {
+        image.extend_from_slice(read.bytes())?;
+    }
+    Ok(())
+}
+
+/// Puts the bytes in place of as many from the offset on, and those past the end of the image after it.
+fn patch(image: &mut Vec<u8>, offset: usize, bytes: &[u8]) -> Result<(), AllocError>
+    ensures { OnOk result (image.new.items ≡ event.patched offset bytes.now image.old.items) }
+{
+    if offset <= image.len() && bytes.len() <= image.len() - offset {
+        let end = offset + bytes.len();
+        image[offset..end].copy_from_slice(bytes);
+    } else {
+        image.truncate(offset);
+        image.extend_from_slice(bytes)?;
+    }
+    Ok(())
+}
+
+/// Makes of the image of the page before an entry the one after it.
+fn write_into(image: &mut Vec<u8>, page: PageNo, e: &Entry) -> Result<(), AllocError>
+    ensures { OnOk result (image.new.items ≡ event.written page e.now image.old.items) }
+{
+    if let Call::Write {
+        page: of,
+        offset,
+        bytes,
+        ..
+    } = &e.call
+    {
+        if *of == page {
+            patch(image, *offset as usize, bytes.bytes())?;
+        }
+    }
+    Ok(())
+}
+
+/// The image of the page that was loaded, with the writes since. It fails by want of memory alone.
+pub(crate) fn held(alloc: Global, past: &[Entry], page: PageNo) -> Result<Vec<u8>, AllocError>
+    ensures { IfOk result (λ image. image.items ≡ images.held (reverse past.now) page) }
+{
+    let mut image = Vec::new(alloc);
+    for e in past {
+        if loads(page, e) {
+            read_into(&mut image, &e.call)?;
+        } else {
+            write_into(&mut image, page, e)?;
+        }
+    }
+    Ok(image)
+}

@@ -1,0 +1,35 @@
+//! Whether a list of entries is a legal trail.
+ghost use Rattle.std.specs.Prelude.{◌≡◌, ◌↔◌, ℕ, None, reverse, IfOk, IfSome};
+ghost use Rattle.bp_trail.specs.Legal.{Legal};
+ghost use Rattle.bp_check.specs.Setups.{parameters_of};
+ghost use Rattle.bp_check.specs.Verdict.{IsFirstUnlawful};
+
+use crate::past::Past;
+use crate::setup::Setup;
+use bp_trail::Entry;
+use std::alloc::{AllocError, Global};
+
+/// The place of the first entry that is not lawful after those before it, or `None` where the entries are a legal trail.
+/// They are in the order of time, from the first on that a pool made.
+///
+/// It fails by want of memory alone: it takes memory for a list of each page of the file, for the references of the pages,
+/// for what is out, and for one image at a time. Its time is at most in proportion to the square of the number of
+/// entries.
+pub fn first_unlawful(
+    alloc: Global,
+    setup: &Setup,
+    trail: &[Entry],
+) -> Result<Option<usize>, AllocError>
+    ensures legal { IfOk result (λ place. (room : ℕ) → ((place ≡ None) ↔ Legal (parameters_of setup.now room) (reverse trail.now))) }
+    ensures first { IfOk result (λ place. (room : ℕ) → IfSome place (IsFirstUnlawful (parameters_of setup.now room) trail.now)) }
+{
+    let mut past = Past::new(alloc, setup, &trail[..0])?;
+    for place in 0..trail.len() {
+        let e = &trail[place];
+        if !past.is_lawful(alloc, e)? {
+            return Ok(Some(place));
+        }
+        past = past.with(e, &trail[..place + 1])?;
+    }
+    Ok(None)
+}
