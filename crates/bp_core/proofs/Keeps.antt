@@ -15,7 +15,7 @@ use Rattle.bp_trail.specs.Room.{free_keeping}
 use Rattle.bp_trail.specs.PageMap.{reply_of}
 use Rattle.bp_trail.specs.Legal.{allowed}
 use Rattle.bp_core.specs.CoreView.{CoreView, EachPast, with_entry, HasRoomFor}
-use Rattle.bp_core.specs.Lodging.{Kept, with_next}
+use Rattle.bp_keeper.specs.Kept.{Kept, with_next}
 use Rattle.bp_core.specs.Outcomes.{IsQuiet, Adds}
 use Rattle.bp_core.specs.Outcomes.IsQuiet.{fix_busy, fix_none, fix_log, flush_busy, flush_absent, flush_clean, flush_log, page_read}
 use Rattle.bp_core.specs.Agreement.{parts_of, HasCandidates, HasTrailRoom, IsCore, view_of}

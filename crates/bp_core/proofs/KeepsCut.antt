@@ -13,7 +13,7 @@ use Rattle.bp_trail.specs.Cuts.{Precedes}
 use Rattle.bp_trail.proofs.Cuts.{leads-on}
 use Rattle.bp_trail.proofs.Fresh.{standing-of-empty}
 use Rattle.bp_core.specs.CoreView.{CoreView}
-use Rattle.bp_core.specs.Lodging.{Kept}
+use Rattle.bp_keeper.specs.Kept.{Kept}
 use Rattle.bp_core.specs.Outcomes.{Cuts}
 use Rattle.bp_core.specs.Agreement.{IsCore, view_of}
 

@@ -36,7 +36,7 @@ use Rattle.bp_trail.specs.Parameters.{Parameters}
 use Rattle.bp_trail.specs.Event.{grant}
 use Rattle.bp_trail.specs.Trail.{Trail}
 use Rattle.bp_core.specs.CoreView.{CoreView, EachPast, HasRoomFor}
-use Rattle.bp_core.specs.Lodging.{Kept, with_next}
+use Rattle.bp_keeper.specs.Kept.{Kept, with_next}
 use Rattle.bp_frames.specs.GrantLists.{Given, with_grant, GivesAsMuch}
 use Rattle.bp_core.specs.Agreement.{parts_of, HasCandidates, IsCore, view_of}
 use Rattle.bp_trail.proofs.Ranges.{ranges}

@@ -11,7 +11,7 @@ use Rattle.bp_trail.proofs.Lists.{member}
 use Rattle.bp_trail.proofs.Counting.{count-cons}
 use Rattle.bp_trail.proofs.Residents.{left-none, left-other}
 use Rattle.bp_core.specs.declared.state.State.{State}
-use Rattle.bp_core.specs.Lodging.{Kept}
+use Rattle.bp_keeper.specs.Kept.{Kept}
 use Rattle.bp_core.specs.Agreement.{Parts, parts_of, Agrees, frame_of, ArePlaced, TellBlocks, IsCore}
 use Rattle.bp_core.proofs.Seen.{same_number, same_number-is, same_number-itself, all_frames}
 

@@ -18,7 +18,7 @@ use Rattle.bp_trail.specs.References.{references, hist, last}
 use Rattle.bp_trail.specs.Legal.{Legal}
 use Rattle.bp_trail.specs.Standing.{standing}
 use Rattle.bp_core.specs.CoreView.{CoreView}
-use Rattle.bp_core.specs.Lodging.{Kept}
+use Rattle.bp_keeper.specs.Kept.{Kept}
 
 abbrev pub parameters_of : Config → Parameters
 parameters_of c = record {
@@ -94,7 +94,7 @@ pub record Agrees (c : Parameters) (past : Trail) (x : Parts) : Type 0 where
 
 -- the room that later calls rely on, list by list: for the entries that are owed, of which so many are kept already,
 pub record HasTrailRoom (c : Parameters) (trail : Kept) : Type 0 where
-  pub small : c.room ≤ 16777216
+  pub small : c.room ≤ 2 ^ 61
   pub reserved : c.room ≤ trail.capacity
   pub counted : trail.len + length trail.before ≡ length trail.past
   pub owed : trail.len + length (passes_out trail.past) + length (writes_out trail.past) + 2 * length (reads_out trail.past) ≤ c.room

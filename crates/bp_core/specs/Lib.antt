@@ -2,5 +2,4 @@
 pub mod CoreView
 pub mod Outcomes
 pub mod EndRefusals
-pub mod Lodging
 pub mod Agreement

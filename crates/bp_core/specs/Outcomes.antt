@@ -91,20 +91,24 @@ abbrev pub EndedOutcome : CoreView → ℕ → ℕ → ℕ → Ended → CoreVie
 EndedOutcome old client page serial ended.Cleaned new = Adds old client (WriteEnd serial page true) Cleaned new
 EndedOutcome old client page serial ended.StillDirty new = Adds old client (WriteEnd serial page true) StillDirty new
 
--- what a core may be made with
-pub record IsFit (c : Parameters) : Type 0 where
+-- what a core may be made with, whose keeper has room for so many entries at most
+pub record IsFitUpTo (most_room : ℕ) (c : Parameters) : Type 0 where
   pub frames : 1 ≤ c.frames
   pub few_frames : c.frames ≤ 65536
   pub clients : 1 ≤ c.clients
   pub few_clients : c.clients ≤ 64
   pub room : 1 ≤ c.room
-  pub small_room : c.room ≤ 16777216
+  pub small_room : c.room ≤ most_room
 
-abbrev pub NewOutcome : Parameters → Result CoreView Refusal → Type 0
-NewOutcome c (Ok core) = IsFit c × (core ≡ record { parameters = c; before = []; past = [] })
-NewOutcome c (Err refusal.BadSettings) = ¬ IsFit c
-NewOutcome c (Err refusal.OutOfMemory) = IsFit c
-NewOutcome c (Err _) = ⊥
+-- and one whose keeper has the entries in memory
+abbrev pub IsFit : Parameters → Type 0
+IsFit c = IsFitUpTo 16777216 c
+
+abbrev pub NewOutcome : ℕ → Parameters → Result CoreView Refusal → Type 0
+NewOutcome most_room c (Ok core) = IsFitUpTo most_room c × (core ≡ record { parameters = c; before = []; past = [] })
+NewOutcome most_room c (Err refusal.BadSettings) = ¬ IsFitUpTo most_room c
+NewOutcome most_room c (Err refusal.OutOfMemory) = IsFitUpTo most_room c
+NewOutcome most_room c (Err _) = ⊥
 
 -- the trail is handed out, and the next one opens where it led
 pub record Cuts (old : CoreView) (entries : List Entry) (new : CoreView) : Type 0 where

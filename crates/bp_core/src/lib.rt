@@ -4,14 +4,18 @@
 //! replacement by LRU-K (O'Neil, O'Neil and Weikum, SIGMOD 1993, figure 2.1).
 #![tactic(auto)]
 
-pub mod before;
 pub mod config;
 pub mod passes;
 pub mod pool;
 mod state;
-mod trail;
 
-pub use before::Before;
+pub use bp_keeper::{GhostTrail as Before, Keeper, RecordingKeeper, SilentKeeper};
 pub use bp_trail::{Call, Entry, Refused, Reply, Row, Step};
 pub use passes::{EndRefusal, Ended, Fix, Flush, Pass, PassNote, ReadTicket, WriteTicket};
-pub use pool::Core;
+pub use pool::PoolCore;
+
+/// A core whose trail can be read, compared and cut.
+pub type Core = PoolCore<RecordingKeeper>;
+
+/// A core that only counts its entries. It has no bytes of them, and no memory of its own for an image that it hands out.
+pub type SilentCore = PoolCore<SilentKeeper>;

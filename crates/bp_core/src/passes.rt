@@ -3,6 +3,7 @@ ghost use Rattle.std.specs.Prelude.{◌≡◌};
 ghost use Rattle.bp_trail.specs.Event.{grant};
 
 use bp_page::{Image, Lsn, PageNo, Refusal};
+use bp_trail::Grant;
 use std::marker::Model;
 
 /// The right to use a page that is in a frame. Its serial number is the number of passes given before it, from 0.
@@ -119,6 +120,17 @@ impl Pass {
 }
 
 impl Pass {
+    /// What it was given as.
+    pub(crate) fn grant(&self) -> Grant
+        ensures { result ≡ grant self.now.client self.now.page self.now.serial }
+    {
+        Grant {
+            client: self.client,
+            page: self.page,
+            serial: self.serial,
+        }
+    }
+
     /// A note of the pass, in its place. No core is asked.
     pub fn note(self) -> PassNote
         ensures { result ≡ grant self.client self.page self.serial }

@@ -13,7 +13,7 @@ mod write_outs;
 
 use crate::config::Config;
 use crate::state::State;
-use crate::trail::TrailBuffer;
+use bp_keeper::Keeper;
 use bp_lruk::Settings;
 use bp_page::{Geometry, Refusal};
 use std::alloc::Global;
@@ -21,27 +21,27 @@ use std::marker::Model;
 
 /// A buffer pool without its device: frames, passes, tickets and the trail of all that was done. Each call is one step.
 #[derive(Drop)]
-pub struct Core {
+pub struct PoolCore<K: Keeper> {
     alloc: Global,
     config: Config,
     state: State,
-    trail: TrailBuffer,
+    trail: K,
 }
 
-impl Model for Core {
+impl<K: Keeper> Model for PoolCore<K> {
     ghost use Rattle.bp_core.specs.CoreView.{CoreView};
     ghost use Rattle.bp_core.specs.Agreement.{parameters_of, view_of, IsCore};
 
     ghost Value = { CoreView };
 
-    ghost view = { λ c. view_of (parameters_of c.config) c.trail };
+    ghost view = { λ c. view_of (parameters_of c.config) (K.kept c.trail) };
 
-    ghost invariant = { λ c. IsCore (parameters_of c.config) c.trail c.state };
+    ghost invariant = { λ c. IsCore (parameters_of c.config) (K.kept c.trail) c.state };
 }
 
-impl Core {
+impl<K: Keeper> PoolCore<K> {
     /// A core with empty frames, the clock at 1 and nothing durable. `BadSettings` where the frames are not 1 to 65,536,
-    /// the clients not 1 to 64 or the room not 1 to 16,777,216 entries; `OutOfMemory` where the lists can't be reserved.
+    /// the clients not 1 to 64 or the room not 1 to the most that its keeper has; `OutOfMemory` where the lists can't be reserved.
     pub fn new(
         alloc: Global,
         geometry: Geometry,
@@ -49,17 +49,17 @@ impl Core {
         frames: usize,
         clients: u8,
         room: usize,
-    ) -> Result<Core, Refusal>
-        ensures outcome { NewOutcome (parameters_of (record { geometry = geometry; settings = settings; frames = frames; clients = clients; room = room })) result }
+    ) -> Result<PoolCore<K>, Refusal>
+        ensures outcome { NewOutcome K.MOST_ROOM (parameters_of (record { geometry = geometry; settings = settings; frames = frames; clients = clients; room = room })) result }
     {
-        let config = Config::new(geometry, settings, frames, clients, room)?;
-        let Ok(trail) = TrailBuffer::with_capacity(alloc, room) else {
+        let config = Config::new(geometry, settings, frames, clients, room, K::MOST_ROOM)?;
+        let Ok(trail) = K::with_capacity(alloc, room) else {
             return Err(Refusal::OutOfMemory);
         };
         let Ok(state) = State::new(alloc, &config) else {
             return Err(Refusal::OutOfMemory);
         };
-        Ok(Core {
+        Ok(PoolCore {
             alloc,
             config,
             state,

@@ -2,7 +2,8 @@
 ghost use Rattle.std.specs.Prelude.{◌≡◌, IfOk, length};
 
 use bp_core::{
-    Core, EndRefusal, Ended, Entry, Fix, Flush, Pass, PassNote, ReadTicket, WriteTicket,
+    EndRefusal, Ended, Entry, Fix, Flush, Keeper, Pass, PassNote, PoolCore, ReadTicket,
+    RecordingKeeper, WriteTicket,
 };
 use bp_page::{Bytes, Image, Lsn, PageNo, PortFault, Refusal};
 use std::alloc::Global;
@@ -64,9 +65,9 @@ pub(super) enum Gives {
 }
 
 /// A core that is called by rows.
-pub(super) struct Run {
+pub(super) struct Run<K: Keeper> {
     alloc: Global,
-    core: Core,
+    core: PoolCore<K>,
     /// The passes that were given, by their serial numbers.
     passes: Vec<PassNote>,
     read: Option<ReadTicket>,
@@ -87,8 +88,8 @@ fn number(count: usize) -> Gives {
     Gives::Number(count as u64)
 }
 
-impl Run {
-    pub(super) fn of(alloc: Global, core: Core) -> Run {
+impl<K: Keeper> Run<K> {
+    pub(super) fn of(alloc: Global, core: PoolCore<K>) -> Run<K> {
         Run {
             alloc,
             core,
@@ -99,21 +100,22 @@ impl Run {
         }
     }
 
-    /// All entries, the oldest first. What is out stays out.
-    pub(super) fn into_entries(self) -> Vec<Entry> {
+    /// Ends it. What is out stays out.
+    pub(super) fn end(self) {
         let Run {
             alloc: _,
-            core,
+            core: _,
             passes: _,
             read,
             write,
-            mut pieces,
+            pieces: _,
         } = self;
         forfeit(read, write);
-        for entry in core.into_trail() {
-            let _ = pieces.push(entry);
-        }
-        pieces
+    }
+
+    /// The core that is called.
+    pub(super) fn core(&self) -> &PoolCore<K> {
+        &self.core
     }
 
     /// The pass of this serial number, which stays out here.
@@ -301,27 +303,14 @@ impl Run {
         }
     }
 
-    fn cut(&mut self) -> Gives {
-        match self.core.cut() {
-            Ok(piece) => {
-                let count = piece.len();
-                for entry in piece {
-                    let _ = self.pieces.push(entry);
-                }
-                number(count)
-            }
-            Err(refusal) => Gives::Refused(refusal),
-        }
-    }
-
     fn stamps(&self, page: u64) -> Gives {
         let page = PageNo::new(page);
         let (first, second) = (self.core.stamp(page, 1), self.core.stamp(page, 2));
         Gives::Stamps(first, second, self.core.last(page))
     }
 
-    /// Makes a call.
-    pub(super) fn call(&mut self, what: Do) -> Gives {
+    /// Makes a call that every core has.
+    pub(super) fn call_any(&mut self, what: Do) -> Gives {
         match what {
             Do::Fix(client, page) => self.fix(client, page),
             Do::ReadEnd(first) => self.end_read_with(first),
@@ -335,10 +324,50 @@ impl Run {
             Do::Tick(n) => self.tick(n),
             Do::Mark(lsn) => self.mark(lsn),
             Do::Purge => self.purge(),
-            Do::Cut => self.cut(),
             Do::Stamps(page) => self.stamps(page),
+            Do::Cut | Do::Length | Do::Fresh => Gives::NotCalled,
+        }
+    }
+}
+
+impl Run<RecordingKeeper> {
+    /// All entries, the oldest first. What is out stays out.
+    pub(super) fn into_entries(self) -> Vec<Entry> {
+        let Run {
+            alloc: _,
+            core,
+            passes: _,
+            read,
+            write,
+            mut pieces,
+        } = self;
+        forfeit(read, write);
+        for entry in core.into_trail() {
+            let _ = pieces.push(entry);
+        }
+        pieces
+    }
+
+    fn cut(&mut self) -> Gives {
+        match self.core.cut() {
+            Ok(piece) => {
+                let count = piece.len();
+                for entry in piece {
+                    let _ = self.pieces.push(entry);
+                }
+                number(count)
+            }
+            Err(refusal) => Gives::Refused(refusal),
+        }
+    }
+
+    /// Makes a call.
+    pub(super) fn call(&mut self, what: Do) -> Gives {
+        match what {
+            Do::Cut => self.cut(),
             Do::Length => number(self.core.trail().len()),
             Do::Fresh => Gives::Is(self.core.fresh()),
+            other => self.call_any(other),
         }
     }
 }

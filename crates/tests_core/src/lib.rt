@@ -8,6 +8,8 @@ mod calls;
 #[cfg(test)]
 mod cuts;
 #[cfg(test)]
+mod kinds;
+#[cfg(test)]
 mod limits;
 #[cfg(test)]
 mod reads;

@@ -1,7 +1,7 @@
 //! Where a core's parameters, its room and its clock end, and the numbers of refusals.
 use super::calls::{Do, Gives};
 use super::rows::{answers, core, usual};
-use bp_core::Core;
+use bp_core::{Core, SilentCore};
 use bp_lruk::Settings;
 use bp_page::{Geometry, Lsn, Refusal};
 use std::alloc::Global;
@@ -39,6 +39,30 @@ fn keeps_the_limits_of_a_core(rt: HostRuntime) {
             number,
             "{frames} frames, {clients} clients, room {room}"
         );
+    }
+}
+
+/// The number of the refusal of a core that only counts its entries, with this room, where it is refused.
+fn refused_silent(alloc: Global, room: usize) -> Result<Option<u16>, Refusal> {
+    let geometry = Geometry::new(1, 16)?;
+    let settings = Settings::new(1, 0, 0)?;
+    match SilentCore::new(alloc, geometry, settings, 1, 1, room).err() {
+        Some(refusal) => Ok(Some(refusal.number())),
+        None => Ok(None),
+    }
+}
+
+#[test]
+fn keeps_the_room_of_a_silent_core(rt: HostRuntime) {
+    for (room, number) in [
+        (0, Some(2)),
+        (1, None),
+        (16_777_217, None),
+        (2_305_843_009_213_693_952, None),
+        (2_305_843_009_213_693_953, Some(2)),
+    ] {
+        let found = refused_silent(rt.alloc(), room);
+        assert_eq!(rt; found, Ok(number), "room {room}");
     }
 }
 

@@ -1,22 +1,28 @@
 //! Tables of calls, and the cores that they are made of.
 use super::calls::{Do, Gives, Run};
-use bp_core::{Core, Entry};
+use bp_core::{Entry, Keeper, PoolCore, RecordingKeeper, SilentKeeper};
 use bp_lruk::Settings;
 use bp_page::{Geometry, Refusal};
 use std::alloc::Global;
 use std::process::Abort;
 
+/// A run whose trail can be read.
+pub(super) type Recorded = Run<RecordingKeeper>;
+
+/// A run over a core that only counts its entries.
+pub(super) type Silent = Run<SilentKeeper>;
+
 /// A core over 16 pages of 16 bytes, with two clients and no correlated period.
-fn new_core(
+fn new_core<K: Keeper>(
     alloc: Global,
     k: usize,
     retained: u64,
     frames: usize,
     room: usize,
-) -> Result<Core, Refusal> {
+) -> Result<PoolCore<K>, Refusal> {
     let geometry = Geometry::new(16, 16)?;
     let settings = Settings::new(k, 0, retained)?;
-    Core::new(alloc, geometry, settings, frames, 2, room)
+    PoolCore::new(alloc, geometry, settings, frames, 2, room)
 }
 
 /// A run over such a core.
@@ -26,18 +32,30 @@ pub(super) fn core(
     retained: u64,
     frames: usize,
     room: usize,
-) -> Run {
+) -> Recorded {
+    let core = new_core(rt.alloc(), k, retained, frames, room);
+    Run::of(rt.alloc(), core.expect(rt, "the core"))
+}
+
+/// Such a run, of a core that only counts its entries.
+pub(super) fn silent(
+    rt: &(impl Abort + AllocGlobal),
+    k: usize,
+    retained: u64,
+    frames: usize,
+    room: usize,
+) -> Silent {
     let core = new_core(rt.alloc(), k, retained, frames, room);
     Run::of(rt.alloc(), core.expect(rt, "the core"))
 }
 
 /// A run over a core with two stamps and room enough.
-pub(super) fn usual(rt: &(impl Abort + AllocGlobal), frames: usize) -> Run {
+pub(super) fn usual(rt: &(impl Abort + AllocGlobal), frames: usize) -> Recorded {
     core(rt, 2, 1000, frames, 100)
 }
 
 /// Makes the calls in turn. Each gives what stands beside it.
-pub(super) fn follow(rt: &impl Abort, run: &mut Run, rows: &[(Do, Gives)]) {
+pub(super) fn follow(rt: &impl Abort, run: &mut Recorded, rows: &[(Do, Gives)]) {
     for (what, gives) in rows {
         let given = run.call(*what);
         assert_eq!(rt; given, *gives, "{what:?}");
@@ -45,13 +63,13 @@ pub(super) fn follow(rt: &impl Abort, run: &mut Run, rows: &[(Do, Gives)]) {
 }
 
 /// Makes the calls over a run that ends with them.
-pub(super) fn answers(rt: &impl Abort, mut run: Run, rows: &[(Do, Gives)]) {
+pub(super) fn answers(rt: &impl Abort, mut run: Recorded, rows: &[(Do, Gives)]) {
     follow(rt, &mut run, rows);
     run.into_entries();
 }
 
 /// Makes the calls, and cuts the trail after each.
-fn follow_with_cuts(rt: &impl Abort, run: &mut Run, rows: &[(Do, Gives)]) {
+fn follow_with_cuts(rt: &impl Abort, run: &mut Recorded, rows: &[(Do, Gives)]) {
     for (what, gives) in rows {
         let given = run.call(*what);
         assert_eq!(rt; given, *gives, "{what:?}, with cuts");
@@ -60,20 +78,33 @@ fn follow_with_cuts(rt: &impl Abort, run: &mut Run, rows: &[(Do, Gives)]) {
     }
 }
 
-fn entries_with_cuts(rt: &impl Abort, mut run: Run, rows: &[(Do, Gives)]) -> Vec<Entry> {
+fn entries_with_cuts(rt: &impl Abort, mut run: Recorded, rows: &[(Do, Gives)]) -> Vec<Entry> {
     follow_with_cuts(rt, &mut run, rows);
     run.into_entries()
 }
 
-/// Makes the calls over one run, and over another whose trail is cut after each. The pieces joined are the trail
-/// without cuts, which has so many entries.
+/// Makes the calls over a core with the same frames, room and settings that only counts its entries.
+fn follow_silently(rt: &(impl Abort + AllocGlobal), run: &Recorded, rows: &[(Do, Gives)]) {
+    let settings = run.core().settings();
+    let (frames, room) = (run.core().frames(), run.core().room());
+    let mut other = silent(rt, settings.k, settings.retained, frames, room);
+    for (what, gives) in rows {
+        let given = other.call_any(*what);
+        assert_eq!(rt; given, *gives, "{what:?}, silently");
+    }
+    other.end();
+}
+
+/// Makes the calls over one run, over another whose trail is cut after each, and over one that only counts its entries.
+/// The pieces joined are the trail without cuts, which has so many entries.
 pub(super) fn answers_with_cuts(
-    rt: &impl Abort,
-    mut run: Run,
-    other: Run,
+    rt: &(impl Abort + AllocGlobal),
+    mut run: Recorded,
+    other: Recorded,
     rows: &[(Do, Gives)],
     entries: usize,
 ) {
+    follow_silently(rt, &run, rows);
     follow(rt, &mut run, rows);
     let whole = run.into_entries();
     let joined = entries_with_cuts(rt, other, rows);

@@ -5,14 +5,15 @@ ghost use Rattle.bp_trail.specs.Standing.{standing};
 ghost use Rattle.bp_core.specs.CoreView.{EachPast, opening};
 ghost use Rattle.bp_core.specs.Outcomes.{Cuts, CutRefused};
 
-use crate::pool::Core;
+use crate::pool::PoolCore;
+use bp_keeper::RecordingKeeper;
 use bp_page::Refusal;
 use bp_trail::Entry;
 
 /// The most serial numbers of a kind that may have been given at a cut, so that none overflows afterwards.
 const SERIALS_END: u64 = 4611686018427387904;
 
-impl Core {
+impl PoolCore<RecordingKeeper> {
     /// Hands out the trail, the oldest entry first, and leaves an empty one of the same room. All else goes on: the clock, the durable
     /// mark, histories, frames, passes and tickets that are out, and serial numbers. It may be called at any time.
     ///

@@ -7,11 +7,12 @@ ghost use Rattle.bp_core.specs.CoreView.{EachPast, HasRoomFor};
 ghost use Rattle.bp_core.specs.Outcomes.{FixOutcome};
 
 use crate::passes::Fix;
-use crate::pool::Core;
+use crate::pool::PoolCore;
+use bp_keeper::Keeper;
 use bp_page::{PageNo, Refusal};
 use bp_trail::{Call, Reply};
 
-impl Core {
+impl<K: Keeper> PoolCore<K> {
     /// Asks for a page (Gray and Reuter, chapter 13): a pass where it is resident; else a ticket to read it into a free frame or
     /// into that of the victim; else, where the victim is unsaved, a ticket to write the victim out first.
     ///

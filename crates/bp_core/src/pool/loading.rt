@@ -13,14 +13,15 @@ ghost use Rattle.bp_core.specs.CoreView.{EachPast, HasRoomFor};
 ghost use Rattle.bp_core.specs.Outcomes.{FixOutcome, ReadEndOutcome, Adds};
 
 use crate::passes::{EndRefusal, Fix, Pass, ReadTicket};
-use crate::pool::Core;
+use crate::pool::PoolCore;
 use bp_frames::GrantList;
+use bp_keeper::Keeper;
 use bp_lruk::Histories;
 use bp_page::{Image, PageNo, PortFault, Refusal};
 use bp_trail::{Call, Reply};
 use std::alloc::AllocError;
 
-impl Core {
+impl<K: Keeper> PoolCore<K> {
     /// Gives a ticket to read a page into a free frame.
     pub(super) fn load(&mut self, client: u8, page: PageNo) -> Result<Fix, Refusal>
         requires client_in { client < self.old.parameters.clients }
@@ -164,7 +165,7 @@ fn make_ready(
     histories: &mut Histories,
     page: PageNo,
 ) -> Result<(), AllocError>
-    requires few { length reads.old.out < 2 ^ 32 }
+    requires few { length reads.old.out < 2 ^ 62 }
     requires away { is_held histories.old page ≡ false }
     ensures passes { passes.new.out ≡ passes.old.out }
     ensures more_passes { GivesAsMuch passes.old passes.new }

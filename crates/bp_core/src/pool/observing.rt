@@ -1,19 +1,22 @@
 //! What a call asks of the core before it changes anything, and an entry that changes nothing else.
 ghost use Rattle.std.specs.Prelude.{◌≡◌, ◌<◌, true, false, IfSome, IfNone};
+ghost use Rattle.bp_trail.specs.declared.entries.Reply.TheVariants.{Content};
 ghost use Rattle.bp_trail.specs.Places.{loading, resident};
 ghost use Rattle.bp_trail.specs.PageMap.{has_free_frame, reply_of};
 ghost use Rattle.bp_trail.specs.Legal.{allowed};
+ghost use Rattle.bp_keeper.specs.Kept.{read_by};
 ghost use Rattle.bp_core.specs.Agreement.{frame_of};
 ghost use Rattle.bp_core.specs.CoreView.{EachPast, HasRoomFor, room_after};
 ghost use Rattle.bp_core.specs.Outcomes.{Adds, IsQuiet, pass_is_out};
 
 use crate::passes::Pass;
-use crate::pool::Core;
+use crate::pool::PoolCore;
 use bp_frames::Frame;
-use bp_page::PageNo;
-use bp_trail::{Call, Reply};
+use bp_keeper::Keeper;
+use bp_page::{Image, PageNo};
+use bp_trail::{Call, Grant, Reply};
 
-impl Core {
+impl<K: Keeper> PoolCore<K> {
     /// The room that no entry has taken, nor any pass or ticket for the entries that will end it.
     pub(super) fn free(&self) -> usize
         ensures { EachPast self.now (λ past. result ≡ room_after self.now past) }
@@ -65,5 +68,17 @@ impl Core {
         ensures { Adds self.old client call reply self.new }
     {
         self.trail.record(client, call, reply);
+    }
+
+    /// Adds the entry of a read by a pass, which changes nothing else.
+    pub(super) fn answer_read(&mut self, pass: Grant, image: &Image, spare: K::SpareImage)
+        requires spare { K.serves_image spare image.now }
+        requires client_in { pass.client < self.old.parameters.clients }
+        requires allowed { EachPast self.old (λ past. allowed self.old.parameters past pass.client (read_by pass) ≡ true) }
+        requires reply { EachPast self.old (λ past. Content image.now ≡ reply_of self.old.parameters past (read_by pass)) }
+        requires room { HasRoomFor 1 self.old }
+        ensures { Adds self.old pass.client (read_by pass) (Content image.now) self.new }
+    {
+        self.trail.record_read(pass, image, spare);
     }
 }

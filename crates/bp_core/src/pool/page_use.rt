@@ -3,12 +3,13 @@ ghost use Rattle.std.specs.Prelude.{◌+◌, ◌≤◌, length};
 ghost use Rattle.bp_core.specs.Outcomes.{ReadOutcome, WriteOutcome, UnfixOutcome};
 
 use crate::passes::Pass;
-use crate::pool::Core;
+use crate::pool::PoolCore;
 use crate::state::offer;
+use bp_keeper::Keeper;
 use bp_page::{Bytes, Image, Lsn, Refusal};
-use bp_trail::{Call, Reply};
+use bp_trail::{Call, Grant, Reply};
 
-impl Core {
+impl<K: Keeper> PoolCore<K> {
     /// A copy of the image of the page of a pass. `TrailFull` where no entry is free, else `UnknownPass` where the pass is not out
     /// here, else `OutOfMemory`; all three change nothing.
     pub fn read(&mut self, pass: &Pass) -> Result<Image, Refusal>
@@ -23,17 +24,13 @@ impl Core {
         let Some(frame) = self.frame(pass.page) else {
             unreachable!()
         };
-        let Ok(kept) = Image::of(self.alloc, frame.image.bytes()) else {
+        let Ok(image) = Image::of(self.alloc, frame.image.bytes()) else {
             return Err(Refusal::OutOfMemory);
         };
-        let Ok(image) = Image::of(self.alloc, kept.bytes()) else {
+        let Ok(spare) = K::spare_image(self.alloc, &image) else {
             return Err(Refusal::OutOfMemory);
         };
-        let call = Call::Read {
-            pass: pass.serial,
-            page: pass.page,
-        };
-        self.answer(pass.client, call, Reply::Content(kept));
+        self.answer_read(pass.grant(), &image, spare);
         Ok(image)
     }
 
@@ -55,25 +52,14 @@ impl Core {
         if !self.knows(pass) {
             return Err(Refusal::UnknownPass);
         }
-        let Pass {
-            client,
-            page,
-            serial,
-        } = *pass;
-        let Ok(kept) = Bytes::of(self.alloc, bytes.bytes()) else {
+        let Ok(spare) = K::spare_bytes(self.alloc, bytes) else {
             return Err(Refusal::OutOfMemory);
         };
         self.state
             .frames
-            .write(page, offset as usize, bytes.bytes(), lsn);
-        let call = Call::Write {
-            pass: serial,
-            page,
-            offset,
-            bytes: kept,
-            lsn,
-        };
-        self.trail.record(client, call, Reply::Done);
+            .write(pass.page, offset as usize, bytes.bytes(), lsn);
+        self.trail
+            .record_write(pass.grant(), offset, bytes, lsn, spare);
         Ok(())
     }
 

@@ -9,34 +9,22 @@ ghost use Rattle.bp_trail.specs.Cuts.{LeadsOn, ReadsSince};
 ghost use Rattle.bp_trail.specs.Standing.{standing};
 ghost use Rattle.bp_core.specs.CoreView.{EachPast, opening};
 
-use crate::pool::Core;
+use crate::pool::PoolCore;
+use bp_keeper::{Keeper, RecordingKeeper};
 use bp_lruk::Settings;
 use bp_page::{Geometry, Lsn, PageNo};
 use bp_trail::Entry;
 
-impl Core {
-    /// The entries since the last cut, the oldest first, or all where no cut was made.
-    pub fn trail(&self) -> &[Entry]
-        ensures entries { reverse result.now ++ self.now.before ≡ self.now.past }
-        ensures room { length result.now ≤ self.now.parameters.room }
+impl<K: Keeper> PoolCore<K> {
+    /// Does nothing. What it ensures is true of every core, whether its entries can be read or not.
+    pub fn vouch(&self)
         ensures legal { EachPast self.now (Legal self.now.parameters) }
         ensures safe { EachPast self.now (Safe self.now.parameters) }
-        ensures before { Legal self.now.parameters self.now.before }
-        ensures leads_on { LeadsOn self.now.parameters (opening self.now) (reverse result.now) (standing self.now.parameters self.now.past) }
-        ensures reads { ReadsSince self.now.parameters (opening self.now) (reverse result.now) }
         ensures plain { EachPast self.now HeldIsPlain }
         ensures known { EachPast self.now ReadsAreKnown }
     {
         // The clauses follow from what every core keeps.
         let _ = &self.state;
-        self.trail.entries()
-    }
-
-    /// Ends the core and gives its trail, the oldest entry first. It takes no memory.
-    pub fn into_trail(self) -> Vec<Entry>
-        ensures entries { reverse result.items ++ self.before ≡ self.past }
-    {
-        self.trail.into_entries()
     }
 
     /// The file's pages and their size.
@@ -103,5 +91,30 @@ impl Core {
         ensures { EachPast self.now (λ past. result ≡ hist self.now.parameters past page i) }
     {
         self.state.histories.stamp(page, i)
+    }
+}
+
+impl PoolCore<RecordingKeeper> {
+    /// The entries since the last cut, the oldest first, or all where no cut was made.
+    pub fn trail(&self) -> &[Entry]
+        ensures entries { reverse result.now ++ self.now.before ≡ self.now.past }
+        ensures room { length result.now ≤ self.now.parameters.room }
+        ensures legal { EachPast self.now (Legal self.now.parameters) }
+        ensures safe { EachPast self.now (Safe self.now.parameters) }
+        ensures before { Legal self.now.parameters self.now.before }
+        ensures leads_on { LeadsOn self.now.parameters (opening self.now) (reverse result.now) (standing self.now.parameters self.now.past) }
+        ensures reads { ReadsSince self.now.parameters (opening self.now) (reverse result.now) }
+        ensures plain { EachPast self.now HeldIsPlain }
+        ensures known { EachPast self.now ReadsAreKnown }
+    {
+        self.vouch();
+        self.trail.entries()
+    }
+
+    /// Ends the core and gives its trail, the oldest entry first. It takes no memory.
+    pub fn into_trail(self) -> Vec<Entry>
+        ensures entries { reverse result.items ++ self.before ≡ self.past }
+    {
+        self.trail.into_entries()
     }
 }

@@ -2,15 +2,16 @@
 ghost use Rattle.std.specs.Prelude.{◌<◌};
 ghost use Rattle.bp_core.specs.Outcomes.{StepOutcome, TickOutcome, PurgeOutcome};
 
-use crate::pool::Core;
+use crate::pool::PoolCore;
 use bp_frames::frame::later;
+use bp_keeper::Keeper;
 use bp_page::{Lsn, Refusal};
 use bp_trail::{Call, Reply};
 
 /// The last time.
 const CLOCK_END: u64 = 4611686018427387904;
 
-impl Core {
+impl<K: Keeper> PoolCore<K> {
     /// Moves the clock on. `TrailFull` where no entry is free, else `ClockFull` where the clock would pass 2^62; both change nothing.
     pub fn tick(&mut self, client: u8, n: u64) -> Result<(), Refusal>
         requires client_in { client < self.old.parameters.clients }

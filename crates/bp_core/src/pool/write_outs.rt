@@ -11,12 +11,13 @@ ghost use Rattle.bp_core.specs.CoreView.{EachPast, HasRoomFor};
 ghost use Rattle.bp_core.specs.Outcomes.{IsBegin, BeginOutcome, EndedOutcome, FlushOutcome, WriteEndOutcome, Adds};
 
 use crate::passes::{EndRefusal, Ended, Flush, WriteTicket};
-use crate::pool::Core;
+use crate::pool::PoolCore;
 use crate::state::offer;
+use bp_keeper::Keeper;
 use bp_page::{Image, PageNo, PortFault, Refusal};
-use bp_trail::{Call, Reply};
+use bp_trail::{Call, Grant, Reply};
 
-impl Core {
+impl<K: Keeper> PoolCore<K> {
     /// Asks that a page be written out if it is unsaved: a ticket to do so; `Absent` where it is not resident, `Clean` where it is
     /// saved. The page stays in its frame.
     ///
@@ -75,10 +76,10 @@ impl Core {
             unreachable!()
         };
         let lsn = frame.top;
-        let Ok(kept) = Image::of(self.alloc, frame.image.bytes()) else {
+        let Ok(image) = Image::of(self.alloc, frame.image.bytes()) else {
             return Err(Refusal::OutOfMemory);
         };
-        let Ok(image) = Image::of(self.alloc, kept.bytes()) else {
+        let Ok(spare) = K::spare_image(self.alloc, &image) else {
             return Err(Refusal::OutOfMemory);
         };
         let Ok(()) = self.state.writes.reserve(1) else {
@@ -87,12 +88,12 @@ impl Core {
         self.state.frames.withdraw(page);
         self.state.frames.begin_write_out(page);
         let serial = self.state.give_write(client, page);
-        let reply = Reply::WriteFirst {
-            ticket: serial,
+        let ticket = Grant {
+            client,
             page,
-            image: kept,
+            serial,
         };
-        self.trail.record(client, call, reply);
+        self.trail.record_begin(call, ticket, &image, spare);
         Ok(WriteTicket {
             client,
             page,

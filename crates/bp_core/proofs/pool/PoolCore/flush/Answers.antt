@@ -1,0 +1,21 @@
+use Rattle.bp_core.specs.Outcomes.IsBegin.{by_flush}
+use Rattle.bp_core.specs.Outcomes.IsQuiet.{flush_busy, flush_absent, flush_clean, flush_log}
+use Rattle.bp_core.proofs.pool.PoolCore.flush.Goals as goal
+
+pub answer-requires-clause-quiet : goal.answer-requires-clause-quiet
+answer-requires-clause-quiet g c = flush_busy c.args.page
+
+pub answer-requires-in_default-clause-quiet : goal.answer-requires-in_default-clause-quiet
+answer-requires-in_default-clause-quiet g c = flush_absent c.args.page
+
+pub answer-requires-then-frame-clause-quiet : goal.answer-requires-then-frame-clause-quiet
+answer-requires-then-frame-clause-quiet g c = flush_busy c.args.page
+
+pub answer-requires-then-not-is_unsaved-clause-quiet : goal.answer-requires-then-not-is_unsaved-clause-quiet
+answer-requires-then-not-is_unsaved-clause-quiet g c = flush_clean c.args.page
+
+pub answer-requires-then-lt-clause-quiet : goal.answer-requires-then-lt-clause-quiet
+answer-requires-then-lt-clause-quiet g c = flush_log c.args.page c.in-Some.frame.now.top
+
+pub begin-requires-clause-begins : goal.begin-requires-clause-begins
+begin-requires-clause-begins g c = by_flush c.args.page

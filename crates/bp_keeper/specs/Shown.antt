@@ -1,0 +1,17 @@
+-- The entry of an event whose bytes someone else keeps.
+use Rattle.std.specs.Prelude.{ℕ, List}
+use Rattle.bp_trail.specs.declared.entries.Entry.{Entry}
+use Rattle.bp_trail.specs.declared.entries.Grant.{Grant}
+use Rattle.bp_trail.specs.declared.entries.Call.TheVariants.{Read, Write}
+use Rattle.bp_trail.specs.declared.entries.Reply.TheVariants.{Done, Content, WriteFirst}
+use Rattle.bp_keeper.specs.declared.ghost_trail.Shown.{Shown}
+use Rattle.bp_keeper.specs.declared.ghost_trail.Event.{Event}
+use Rattle.bp_keeper.specs.declared.ghost_trail.Event.TheVariants as event
+
+abbrev entry_with : Event → Grant → List ℕ → Entry
+entry_with event.Read pass bytes = record { client = pass.client; call = Read pass.serial pass.page; reply = Content bytes }
+entry_with (event.Write offset lsn) pass bytes = record { client = pass.client; call = Write pass.serial pass.page offset bytes lsn; reply = Done }
+entry_with (event.BeginWrite call) ticket bytes = record { client = ticket.client; call = call; reply = WriteFirst ticket.serial ticket.page bytes }
+
+abbrev pub shown_entry : Shown → Entry
+shown_entry shown = entry_with shown.event shown.grant shown.bytes.now

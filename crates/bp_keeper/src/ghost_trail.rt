@@ -1,0 +1,83 @@
+//! A trail that stands in proofs alone. Every function that makes ghost data stands in this file, to be read by eye.
+//!
+//! A `GhostTrail` has no bytes, and its functions do nothing when they run. Their proofs, by hand, pick the list that the
+//! clause names, and no memory of the program ties it down. So a reviewer has to see that the clause of each says what
+//! its name says: no entries; these entries after them; this entry after them, with its bytes or with borrowed ones.
+//!
+//! What is proved over such a list is not vacuous. The outcome of each call of a core says which entry the list gets:
+//! the call and its arguments, with the very answer that the caller was given. The list stays legal, and in a legal list
+//! each answer is the one that the entries before it give. So the list binds the answers, which are real, whether some
+//! memory has it or not. A keeper that left an entry out, or added one too many, would break the contract of [`Keeper`],
+//! as the edits in `must-fail` show. And the proof is one for every keeper, also for the one that has all in memory.
+//!
+//! [`Keeper`]: crate::Keeper
+ghost use Rattle.std.specs.Prelude.{◌≡◌, [], ◌∷◌, ◌++◌, reverse};
+ghost use Rattle.std.specs.Borrow.{ftrue};
+ghost use Rattle.bp_trail.specs.Trail.{Trail};
+
+use bp_page::Lsn;
+use bp_trail::{Call, Entry, Grant};
+use std::marker::{Model, Send};
+
+/// Entries, newest first. They stand in proofs alone, and take no memory.
+#[derive(Drop)]
+pub struct GhostTrail {
+    pub ghost past: { Trail },
+}
+
+impl Model for GhostTrail {
+    ghost also_owns = { λ _. ftrue };
+}
+
+// It owns nothing.
+unsafe impl Send for GhostTrail {}
+
+/// An entry whose bytes someone else keeps.
+#[derive(Drop)]
+pub struct Shown<'a> {
+    pub grant: Grant,
+    pub event: Event,
+    pub bytes: &'a [u8],
+}
+
+/// What was done by a pass, or by the call that gave a ticket.
+#[derive(Drop)]
+pub enum Event {
+    Read,
+    Write { offset: u32, lsn: Lsn },
+    BeginWrite(Call),
+}
+
+impl GhostTrail {
+    ghost use Rattle.bp_keeper.specs.Shown.{shown_entry};
+
+    /// No entries.
+    pub fn nothing() -> GhostTrail
+        ensures { result.past ≡ [] }
+    {
+        GhostTrail {}
+    }
+
+    /// And these entries after it, of which the list has the oldest first.
+    pub fn then(&self, _entries: &Vec<Entry>) -> GhostTrail
+        ensures { result.past ≡ reverse _entries.now.items ++ self.now.past }
+    {
+        GhostTrail {}
+    }
+
+    /// And this entry after it.
+    #[inline(always)]
+    pub fn then_one(&self, _entry: &Entry) -> GhostTrail
+        ensures { result.past ≡ _entry.now ∷ self.now.past }
+    {
+        GhostTrail {}
+    }
+
+    /// And after it this entry, whose bytes someone else keeps.
+    #[inline(always)]
+    pub fn then_shown(&self, _shown: &Shown<'_>) -> GhostTrail
+        ensures { result.past ≡ shown_entry _shown.now ∷ self.now.past }
+    {
+        GhostTrail {}
+    }
+}

@@ -1,0 +1,84 @@
+//! What a core asks of the keeper of its trail.
+ghost use Rattle.std.specs.Prelude.{◌≡◌, ℕ, ◌^◌, ◌<◌, ◌≤◌, List, IfOk};
+ghost use Rattle.bp_trail.specs.declared.entries.Reply.TheVariants.{Done, Content};
+
+use bp_page::{Bytes, Image, Lsn};
+use bp_trail::{Call, Grant, Reply};
+use std::alloc::{AllocError, Global};
+
+/// Keeps the entries of a trail, in memory or for the proofs alone.
+///
+/// What an entry needs beside what its caller has is taken beforehand, as a *spare*. So to add an entry takes no memory.
+pub trait Keeper: Drop {
+    ghost use Rattle.bp_keeper.specs.Kept.{Kept, IsEmpty, with_next, read_by, write_by, write_first};
+
+    /// What an entry with an image needs beside the image that its caller has.
+    type SpareImage: Drop;
+
+    /// What an entry with bytes needs beside the bytes that its caller has.
+    type SpareBytes: Drop;
+
+    /// The most entries that there may be room for.
+    ghost MOST_ROOM: { ℕ };
+
+    const MOST_ROOM: usize;
+
+    /// The entries, newest first, and how many there may be.
+    ghost kept: { Self → Kept };
+
+    /// It will do for an entry with this image.
+    ghost serves_image: { Self.SpareImage → List ℕ → Type 0 };
+
+    /// It will do for an entry with these bytes.
+    ghost serves_bytes: { Self.SpareBytes → List ℕ → Type 0 };
+
+    /// No entries, and room for so many.
+    fn with_capacity(alloc: Global, room: usize) -> Result<Self, AllocError>
+        ensures empty { IfOk result (λ t. IsEmpty (kept t)) }
+        ensures room { IfOk result (λ t. room ≤ (kept t).capacity) };
+
+    /// What an entry with this image will need. It fails by want of memory alone.
+    fn spare_image(alloc: Global, image: &Image) -> Result<Self::SpareImage, AllocError>
+        ensures { IfOk result (λ spare. serves_image spare image.now) };
+
+    /// What an entry with these bytes will need. It fails by want of memory alone.
+    fn spare_bytes(alloc: Global, bytes: &Bytes) -> Result<Self::SpareBytes, AllocError>
+        ensures { IfOk result (λ spare. serves_bytes spare bytes.now) };
+
+    /// How many there are since the last cut.
+    fn len(&self) -> usize
+        ensures { result ≡ (kept self.now).len };
+
+    /// Adds an entry, which takes no memory.
+    fn record(&mut self, client: u8, call: Call, reply: Reply)
+        requires { (kept self.old).len < (kept self.old).capacity }
+        ensures { kept self.new ≡ with_next (kept self.old) client call reply };
+
+    /// Adds the entry of a read by a pass, which takes no memory.
+    fn record_read(&mut self, pass: Grant, image: &Image, spare: Self::SpareImage)
+        requires room { (kept self.old).len < (kept self.old).capacity }
+        requires spare { serves_image spare image.now }
+        ensures { kept self.new ≡ with_next (kept self.old) pass.client (read_by pass) (Content image.now) };
+
+    /// Adds the entry of a write by a pass, which takes no memory.
+    fn record_write(
+        &mut self,
+        pass: Grant,
+        offset: u32,
+        bytes: &Bytes,
+        lsn: Lsn,
+        spare: Self::SpareBytes,
+    )
+        requires room { (kept self.old).len < (kept self.old).capacity }
+        requires spare { serves_bytes spare bytes.now }
+        ensures { kept self.new ≡ with_next (kept self.old) pass.client (write_by pass offset bytes.now lsn) Done };
+
+    /// Adds the entry of a call by which a write-out begins, with the ticket that it gives. It takes no memory.
+    fn record_begin(&mut self, call: Call, ticket: Grant, image: &Image, spare: Self::SpareImage)
+        requires room { (kept self.old).len < (kept self.old).capacity }
+        requires spare { serves_image spare image.now }
+        ensures { kept self.new ≡ with_next (kept self.old) ticket.client call (write_first ticket image.now) };
+
+    /// No serial number overflows within the room.
+    ghost few: { MOST_ROOM ≤ 2 ^ 61 };
+}

@@ -1,0 +1,160 @@
+//! The entries in memory, in room that was reserved once.
+ghost use Rattle.std.specs.Prelude.{◌≡◌, ◌≤◌, ◌++◌, IsOk, IfOk, OnErr, reverse, vec_capacity};
+
+use crate::ghost_trail::GhostTrail;
+use crate::keeper::Keeper;
+use bp_page::{Bytes, Image, Lsn};
+use bp_trail::{Call, Entry, Grant, Reply};
+use std::alloc::{AllocError, Global};
+use std::marker::Model;
+use std::mem;
+
+/// The entries since the last cut, the oldest first.
+#[derive(Drop)]
+pub struct RecordingKeeper {
+    before: GhostTrail,
+    entries: Vec<Entry>,
+    /// Whether they begin where no entries lead.
+    is_fresh: bool,
+}
+
+impl Model for RecordingKeeper {
+    ghost use Rattle.std.specs.Prelude.{◌++◌, length, reverse, vec_capacity};
+    ghost use Rattle.bp_keeper.specs.Kept.{Kept};
+
+    ghost Value = { Kept };
+
+    ghost view = { λ t. record { before = t.before.past; past = reverse t.entries.items ++ t.before.past; len = length t.entries.items; capacity = vec_capacity t.entries; fresh = t.is_fresh } };
+}
+
+impl Keeper for RecordingKeeper {
+    ghost use Rattle.std.specs.Prelude.{◌≡◌};
+    ghost use Rattle.std.proofs.Common.{arith};
+
+    type SpareImage = Image;
+
+    type SpareBytes = Bytes;
+
+    ghost MOST_ROOM = { 16777216 };
+
+    const MOST_ROOM: usize = 16777216;
+
+    ghost kept = { λ t. t };
+
+    ghost serves_image = { λ spare image. spare ≡ image };
+
+    ghost serves_bytes = { λ spare bytes. spare ≡ bytes };
+
+    ghost few = { omega arith };
+
+    fn with_capacity(alloc: Global, room: usize) -> Result<Self, AllocError> {
+        Ok(RecordingKeeper {
+            before: GhostTrail::nothing(),
+            entries: Vec::with_capacity(alloc, room)?,
+            is_fresh: true,
+        })
+    }
+
+    fn spare_image(alloc: Global, image: &Image) -> Result<Image, AllocError> {
+        Image::of(alloc, image.bytes())
+    }
+
+    fn spare_bytes(alloc: Global, bytes: &Bytes) -> Result<Bytes, AllocError> {
+        Bytes::of(alloc, bytes.bytes())
+    }
+
+    fn len(&self) -> usize {
+        self.entries.len()
+    }
+
+    fn record(&mut self, client: u8, call: Call, reply: Reply) {
+        self.entries.push_reserved(Entry {
+            client,
+            call,
+            reply,
+        });
+    }
+
+    fn record_read(&mut self, pass: Grant, _image: &Image, spare: Image) {
+        self.entries.push_reserved(Entry {
+            client: pass.client,
+            call: Call::Read {
+                pass: pass.serial,
+                page: pass.page,
+            },
+            reply: Reply::Content(spare),
+        });
+    }
+
+    fn record_write(&mut self, pass: Grant, offset: u32, _bytes: &Bytes, lsn: Lsn, spare: Bytes) {
+        self.entries.push_reserved(Entry {
+            client: pass.client,
+            call: Call::Write {
+                pass: pass.serial,
+                page: pass.page,
+                offset,
+                bytes: spare,
+                lsn,
+            },
+            reply: Reply::Done,
+        });
+    }
+
+    fn record_begin(&mut self, call: Call, ticket: Grant, _image: &Image, spare: Image) {
+        self.entries.push_reserved(Entry {
+            client: ticket.client,
+            call,
+            reply: Reply::WriteFirst {
+                ticket: ticket.serial,
+                page: ticket.page,
+                image: spare,
+            },
+        });
+    }
+}
+
+impl RecordingKeeper {
+    /// All of them since the last cut, the oldest first.
+    pub fn entries(&self) -> &[Entry]
+        ensures { reverse result.now ++ self.now.before ≡ self.now.past }
+    {
+        &self.entries
+    }
+
+    /// Gives all of them since the last cut, the oldest first.
+    pub fn into_entries(self) -> Vec<Entry>
+        ensures { reverse result.items ++ self.before ≡ self.past }
+    {
+        self.entries
+    }
+
+    /// Whether they begin where no entries lead.
+    pub fn is_fresh(&self) -> bool
+        ensures { result ≡ self.now.fresh }
+    {
+        self.is_fresh
+    }
+
+    /// Hands out all of them, the oldest first, and begins anew in the spare's memory, which is taken to so much room. What
+    /// the spare has is dropped.
+    pub fn cut(
+        &mut self,
+        spare: Vec<Entry>,
+        room: usize,
+        is_fresh: bool,
+    ) -> Result<Vec<Entry>, AllocError>
+        ensures entries { IfOk result (λ entries. reverse entries.items ++ self.old.before ≡ self.old.past) }
+        ensures after { IfOk result (λ entries. self.new ≡ record self.new { before = self.old.past; past = self.old.past; len = 0; fresh = is_fresh }) }
+        ensures room { IfOk result (λ entries. room ≤ self.new.capacity) }
+        ensures memory { IfOk result (λ entries. vec_capacity entries ≡ self.old.capacity) }
+        ensures enough { room ≤ vec_capacity spare → IsOk result }
+        ensures unchanged { OnErr result (self.new ≡ self.old) }
+    {
+        let mut empty = spare;
+        empty.clear();
+        empty.reserve_exact(room)?;
+        self.before = self.before.then(&self.entries);
+        self.is_fresh = is_fresh;
+        Ok(mem::replace(&mut self.entries, empty))
+    }
+}
