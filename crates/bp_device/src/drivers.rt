@@ -4,7 +4,7 @@ ghost use Rattle.bp_core.specs.Outcomes.{KnowsRead, KnowsWrite};
 ghost use Rattle.bp_device.specs.Drivers.{DrivesFix, DrivesFlush, LoadOutcome, SaveOutcome};
 
 use crate::port::Port;
-use bp_core::{Core, EndRefusal, Ended, Fix, Flush, Pass, ReadTicket, WriteTicket};
+use bp_core::{EndRefusal, Ended, Fix, Flush, Keeper, Pass, PoolCore, ReadTicket, WriteTicket};
 use bp_page::{Image, PageNo, PortFault, Refusal};
 use std::sync::Wait;
 
@@ -22,8 +22,8 @@ pub enum Flushed {
 }
 
 /// Ends a read whose ticket the core knows.
-fn load(
-    core: &mut Core,
+fn load<K: Keeper>(
+    core: &mut PoolCore<K>,
     ticket: ReadTicket,
     read: Result<Image, PortFault>,
 ) -> Result<Pass, Refusal>
@@ -39,8 +39,8 @@ fn load(
 }
 
 /// Ends a write-out whose ticket the core knows.
-fn save(
-    core: &mut Core,
+fn save<K: Keeper>(
+    core: &mut PoolCore<K>,
     ticket: WriteTicket,
     written: Result<(), PortFault>,
 ) -> Result<Ended, Refusal>
@@ -58,9 +58,9 @@ fn save(
 ///
 /// Refused as `Core::fix` is, then with nothing changed but the entries of its steps so far; with `ReadFailed` where the page could not
 /// be read, which is then not resident; with `WriteFailed` where the victim could not be written, which then stays, unsaved.
-pub fn drive_fix<P: Port, R: Wait>(
+pub fn drive_fix<K: Keeper, P: Port, R: Wait>(
     rt: &R,
-    core: &mut Core,
+    core: &mut PoolCore<K>,
     port: &mut P,
     client: u8,
     page: PageNo,
@@ -101,9 +101,9 @@ pub fn drive_fix<P: Port, R: Wait>(
 ///
 /// Refused as `Core::flush` is, then with nothing changed but that entry; with `WriteFailed` where the page could not be written, which
 /// then stays, unsaved.
-pub fn drive_flush<P: Port, R: Wait>(
+pub fn drive_flush<K: Keeper, P: Port, R: Wait>(
     rt: &R,
-    core: &mut Core,
+    core: &mut PoolCore<K>,
     port: &mut P,
     client: u8,
     page: PageNo,

@@ -9,7 +9,7 @@ ghost use Rattle.bp_core.specs.CoreView.{EachPast, with_entry};
 ghost use Rattle.bp_trail.specs.Script.{is_pass_of, first_to_go_back};
 ghost use Rattle.bp_device.specs.Rows.{EndsIn, SerialsDiffer, GoingBack, GaveBack};
 
-use bp_core::{Core, PassNote};
+use bp_core::{Keeper, PassNote, PoolCore};
 use bp_page::PageNo;
 
 /// Whether the note is of a pass of the page that the client took.
@@ -37,7 +37,7 @@ pub fn latest_pass(held: &[PassNote], client: u8, page: PageNo) -> Option<PassNo
 }
 
 /// Gives the pass back. Its note stays.
-fn give(core: &mut Core, note: PassNote)
+fn give<K: Keeper>(core: &mut PoolCore<K>, note: PassNote)
     requires known { EachPast core.old (λ past. is_out note (passes_out past) ≡ true) }
     ensures entry { core.new ≡ with_entry core.old note.client (Call.Unfix note.serial note.page) Reply.Done }
 {
@@ -48,12 +48,12 @@ fn give(core: &mut Core, note: PassNote)
 }
 
 /// That no two of the passes held have one serial number. It does nothing.
-fn serials_differ(core: &Core, held: &[PassNote])
+fn serials_differ<K: Keeper>(core: &PoolCore<K>, held: &[PassNote])
     requires ends_in { EndsIn core.now held.now }
     ensures { SerialsDiffer held.now }
 {
     // A core's trail is legal, and a legal trail gives no number twice.
-    let _ = core.trail();
+    core.vouch();
 }
 
 /// Where the note with this serial number stands. The one taken latest is looked at first.
@@ -85,7 +85,7 @@ fn strike(held: &mut Vec<PassNote>, serial: u64)
 }
 
 /// Gives the pass back, and strikes its note.
-pub(crate) fn give_one(core: &mut Core, held: &mut Vec<PassNote>, note: PassNote)
+pub(crate) fn give_one<K: Keeper>(core: &mut PoolCore<K>, held: &mut Vec<PassNote>, note: PassNote)
     requires ends_in { EndsIn core.old held.old.items }
     requires known { EachPast core.old (λ past. is_out note (passes_out past) ≡ true) }
     ensures entry { core.new ≡ with_entry core.old note.client (Call.Unfix note.serial note.page) Reply.Done }
@@ -118,7 +118,7 @@ pub fn next_to_go_back(held: &[PassNote]) -> Option<PassNote>
 }
 
 /// Gives back the passes that this client holds, in the order taken, where no lower client holds any. Their notes stay.
-fn give_back_of(core: &mut Core, held: &[PassNote], client: u8)
+fn give_back_of<K: Keeper>(core: &mut PoolCore<K>, held: &[PassNote], client: u8)
     requires ends_in { EndsIn core.old held.now }
     requires least { All (λ g. client ≤ g.client) held.now }
     ensures outcome { GoingBack core.old held.now (filter (λ g. not (g.client == client)) held.now) core.new }
@@ -132,7 +132,7 @@ fn give_back_of(core: &mut Core, held: &[PassNote], client: u8)
 }
 
 /// Gives back all passes that are held: client by client, from the lowest, in the order taken.
-pub(crate) fn give_back_all(core: &mut Core, held: &mut Vec<PassNote>)
+pub(crate) fn give_back_all<K: Keeper>(core: &mut PoolCore<K>, held: &mut Vec<PassNote>)
     requires ends_in { EndsIn core.old held.old.items }
     ensures outcome { GaveBack core.old held.old.items core.new }
 {

@@ -8,12 +8,17 @@ ghost use Rattle.bp_device.specs.Rows.{EndsIn, DrivesRow};
 use crate::drivers::{drive_fix, drive_flush};
 use crate::held_passes::{give_one, latest_pass};
 use crate::port::Port;
-use bp_core::{Core, PassNote, Row, Step};
+use bp_core::{Keeper, PassNote, PoolCore, Row, Step};
 use bp_page::{Bytes, Lsn, PageNo, Refusal};
 use std::sync::Wait;
 
 /// Reads the page by the pass that the client took latest.
-fn read_row(core: &mut Core, held: &[PassNote], client: u8, page: PageNo) -> Result<(), Refusal>
+fn read_row<K: Keeper>(
+    core: &mut PoolCore<K>,
+    held: &[PassNote],
+    client: u8,
+    page: PageNo,
+) -> Result<(), Refusal>
     requires ends_in { EndsIn core.old held.now }
     ensures outcome { DrivesRow core.old client (Step.Read page) (outcome_of result) held.now held.now core.new }
 {
@@ -31,8 +36,8 @@ fn read_row(core: &mut Core, held: &[PassNote], client: u8, page: PageNo) -> Res
 }
 
 /// Writes to the page by the pass that the client took latest.
-fn write_row(
-    core: &mut Core,
+fn write_row<K: Keeper>(
+    core: &mut PoolCore<K>,
     held: &[PassNote],
     client: u8,
     page: PageNo,
@@ -57,8 +62,8 @@ fn write_row(
 }
 
 /// Gives back the pass of the page that the client took latest.
-fn unfix_row(
-    core: &mut Core,
+fn unfix_row<K: Keeper>(
+    core: &mut PoolCore<K>,
     held: &mut Vec<PassNote>,
     client: u8,
     page: PageNo,
@@ -76,9 +81,9 @@ fn unfix_row(
 }
 
 /// Fixes the page, and holds the pass.
-fn fix_row<P: Port, R: Wait>(
+fn fix_row<K: Keeper, P: Port, R: Wait>(
     rt: &R,
-    core: &mut Core,
+    core: &mut PoolCore<K>,
     port: &mut P,
     held: &mut Vec<PassNote>,
     client: u8,
@@ -103,9 +108,9 @@ fn fix_row<P: Port, R: Wait>(
 }
 
 /// Writes the page out.
-fn flush_row<P: Port, R: Wait>(
+fn flush_row<K: Keeper, P: Port, R: Wait>(
     rt: &R,
-    core: &mut Core,
+    core: &mut PoolCore<K>,
     port: &mut P,
     held: &[PassNote],
     client: u8,
@@ -123,7 +128,12 @@ fn flush_row<P: Port, R: Wait>(
 }
 
 /// Moves the clock.
-fn tick_row(core: &mut Core, held: &[PassNote], client: u8, n: u64) -> Result<(), Refusal>
+fn tick_row<K: Keeper>(
+    core: &mut PoolCore<K>,
+    held: &[PassNote],
+    client: u8,
+    n: u64,
+) -> Result<(), Refusal>
     requires client_in { client < core.old.parameters.clients }
     ensures outcome { DrivesRow core.old client (Step.Tick n) (outcome_of result) held.now held.now core.new }
 {
@@ -131,7 +141,11 @@ fn tick_row(core: &mut Core, held: &[PassNote], client: u8, n: u64) -> Result<()
 }
 
 /// Forgets old references.
-fn purge_row(core: &mut Core, held: &[PassNote], client: u8) -> Result<(), Refusal>
+fn purge_row<K: Keeper>(
+    core: &mut PoolCore<K>,
+    held: &[PassNote],
+    client: u8,
+) -> Result<(), Refusal>
     requires client_in { client < core.old.parameters.clients }
     ensures outcome { DrivesRow core.old client Step.Purge (outcome_of result) held.now held.now core.new }
 {
@@ -142,7 +156,12 @@ fn purge_row(core: &mut Core, held: &[PassNote], client: u8) -> Result<(), Refus
 }
 
 /// Marks the log durable as far as the row says.
-fn log_row(core: &mut Core, held: &[PassNote], client: u8, lsn: Lsn) -> Result<(), Refusal>
+fn log_row<K: Keeper>(
+    core: &mut PoolCore<K>,
+    held: &[PassNote],
+    client: u8,
+    lsn: Lsn,
+) -> Result<(), Refusal>
     requires client_in { client < core.old.parameters.clients }
     ensures outcome { DrivesRow core.old client (Step.Log lsn) (outcome_of result) held.now held.now core.new }
 {
@@ -150,9 +169,9 @@ fn log_row(core: &mut Core, held: &[PassNote], client: u8, lsn: Lsn) -> Result<(
 }
 
 /// Does what a row asks for, by its client.
-pub(crate) fn drive_row<P: Port, R: Wait>(
+pub(crate) fn drive_row<K: Keeper, P: Port, R: Wait>(
     rt: &R,
-    core: &mut Core,
+    core: &mut PoolCore<K>,
     port: &mut P,
     held: &mut Vec<PassNote>,
     row: &Row,

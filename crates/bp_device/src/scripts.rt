@@ -8,7 +8,7 @@ ghost use Rattle.bp_device.specs.Rows.{AddsScript, DrivesRows};
 use crate::held_passes::give_back_all;
 use crate::port::Port;
 use crate::rows::drive_row;
-use bp_core::{Core, PassNote, Refused, Row};
+use bp_core::{Keeper, PassNote, PoolCore, Refused, Row};
 use bp_page::Refusal;
 use std::alloc::Global;
 use std::sync::Wait;
@@ -29,9 +29,9 @@ pub fn note_refused(refused: &mut Vec<Refused>, row: u64, outcome: Result<(), Re
 }
 
 /// Drives the rows in order.
-fn drive_rows<P: Port, R: Wait>(
+fn drive_rows<K: Keeper, P: Port, R: Wait>(
     rt: &R,
-    core: &mut Core,
+    core: &mut PoolCore<K>,
     port: &mut P,
     held: &mut Vec<PassNote>,
     refused: &mut Vec<Refused>,
@@ -56,10 +56,10 @@ fn drive_rows<P: Port, R: Wait>(
 /// lowest, in the order taken. The refused rows come back, in order, each with the number of its refusal.
 ///
 /// `OutOfMemory` comes only where a list of its own could not be made, before any row was run; it changes nothing.
-pub fn drive_all<P: Port, R: Wait>(
+pub fn drive_all<K: Keeper, P: Port, R: Wait>(
     rt: &R,
     alloc: Global,
-    core: &mut Core,
+    core: &mut PoolCore<K>,
     port: &mut P,
     rows: &[Row],
 ) -> Result<Vec<Refused>, Refusal>

@@ -3,7 +3,7 @@ use Rattle.bp_device.specs.Rows.{GoingBack}
 use Rattle.bp_device.proofs.held_passes.give_back_all.Given as goal
 
 abbrev pub invariant-loop-client : goal.invariant-loop-client
-invariant-loop-client l = GoingBack l.initial.core l.initial.held.items l.held.items l.core
+invariant-loop-client g l = GoingBack l.initial.core l.initial.held.items l.held.items l.core
 
 abbrev pub decreases-loop-client : goal.decreases-loop-client
-decreases-loop-client l = vec_len l.held
+decreases-loop-client g l = vec_len l.held

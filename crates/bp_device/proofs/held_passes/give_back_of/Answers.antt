@@ -7,13 +7,13 @@ use Rattle.bp_device.proofs.held_passes.give_back_of.Goals as goal
 use Rattle.bp_device.proofs.held_passes.give_back_of.Goals.{then-is_taken_by, else-is_taken_by}
 
 pub give-requires : goal.give-requires
-give-requires c = record {
+give-requires g c = record {
   known = going-known c.args.core.now c.loop-note.core c.args.held.now _ c.note-item.result c.requires.ends_in c.loop-note.invariant
       (next-is c.args.client c.loop-note.note-index c.args.held.now c.note-item.result c.loop-note-test.true c.note-item.is c.requires.least (sym c.is_taken_by.ensures ∙ c.if-is_taken_by.true));
 }
 
 pub loop-note-preserved : goal.loop-note-preserved
-loop-note-preserved c = elim c.if-is_taken_by.branch [
+loop-note-preserved g c = elim c.if-is_taken_by.branch [
   | then-is_taken_by w ↦ subst (GoingBack c.args.core.now c.args.held.now (left_from c.args.client c.args.held.now (c.loop-note.note-index + 1))) (sym w.core-is)
       (turn-given c.args.client c.loop-note.note-index c.args.held.now c.note-item.result c.loop-note-test.true c.note-item.is c.args.core.now c.loop-note.core w.give.new.core
       c.serials_differ.ensures c.requires.least (sym c.is_taken_by.ensures ∙ w.if-is_taken_by.true) c.loop-note.invariant w.give.ensures.entry)

@@ -3,4 +3,4 @@ use Rattle.bp_device.proofs.PieceSteps.{log-drives}
 use Rattle.bp_device.proofs.rows.log_row.Goals as goal
 
 pub returns : goal.returns
-returns c = record { outcome = log-drives _ _ _ _ _ _ c.mark.ensures.outcome }
+returns g c = record { outcome = log-drives _ _ _ _ _ _ c.mark.ensures.outcome }

@@ -3,7 +3,7 @@ use Rattle.bp_device.proofs.PieceSteps.{purge-drives, purge_refused-drives}
 use Rattle.bp_device.proofs.rows.purge_row.Goals as goal
 
 pub returns-in-Ok : goal.returns-in-Ok
-returns-in-Ok c = record { outcome = purge-drives _ _ _ _ _ c.in-Ok.ensures.outcome }
+returns-in-Ok g c = record { outcome = purge-drives _ _ _ _ _ c.in-Ok.ensures.outcome }
 
 pub returns-in-Err : goal.returns-in-Err
-returns-in-Err c = record { outcome = purge_refused-drives _ _ _ _ _ c.in-Err.ensures.outcome }
+returns-in-Err g c = record { outcome = purge_refused-drives _ _ _ _ _ c.in-Err.ensures.outcome }

@@ -3,4 +3,4 @@ use Rattle.bp_device.proofs.PieceSteps.{tick-drives}
 use Rattle.bp_device.proofs.rows.tick_row.Goals as goal
 
 pub returns : goal.returns
-returns c = record { outcome = tick-drives _ _ _ _ _ _ c.tick.ensures.outcome }
+returns g c = record { outcome = tick-drives _ _ _ _ _ _ c.tick.ensures.outcome }
