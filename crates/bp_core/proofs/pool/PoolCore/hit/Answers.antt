@@ -1,7 +1,4 @@
-use Rattle.std.proofs.Common.{◌≡◌, ◌<◌, ◌^◌, ap, sym, ◌∙◌, subst, true, arith}
-use Rattle.std.specs.Prelude.{All}
-use Rattle.bp_frames.specs.declared.frame.Frame.{Frame}
-use Rattle.bp_frames.specs.Tables.{Table}
+use Rattle.std.proofs.Common.{◌≡◌, ap, ◌∙◌, true, arith}
 use Rattle.bp_trail.specs.declared.entries.Call.TheVariants.{Fix}
 use Rattle.bp_trail.specs.declared.entries.Reply.TheVariants.{Hit}
 use Rattle.bp_trail.specs.Places.{resident}
@@ -21,7 +18,7 @@ block-block-requires-clause-told g c = tell-blocks _ _ _ c.self.invariant
 pub pin-requires : goal.pin-requires
 pin-requires g c =
     let r = c.self.invariant.trail_room in
-    subst (λ (t : Table). All (λ (f : Frame). f.pins < 2 ^ 63) t.frames) (sym c.withdraw.ensures.same) (few_pins _ _ _ c.self.invariant.agrees (omega (arith, r.owed, r.small)))
+    rw c.withdraw.ensures.same (few_pins _ _ _ c.self.invariant.agrees (omega (arith, r.owed, r.small)))
 
 pub hit_at-requires-clause-known : goal.hit_at-requires-clause-known
 hit_at-requires-clause-known g c =
