@@ -9,7 +9,7 @@ use bp_core::{Core, Entry, Fix, Pass};
 use bp_device::{FilePort, OpenFault, Port, drive_fix};
 use bp_lruk::Settings;
 use bp_lruk::settings::MAX_PERIOD;
-use bp_page::{Geometry, PageNo, Refusal};
+use bp_page::{Format, Geometry, PageNo, Refusal};
 use std::alloc::Global;
 use std::env;
 use std::fs::File;
@@ -201,7 +201,7 @@ fn open<R: Files<File = File>>(
     ensures size { IfOk result (λ port. port.device.size ≡ SIZE) }
     ensures pages { IfOk result (λ port. pages ≤ port.device.pages) }
 {
-    let port = match FilePort::open(rt, alloc, path, SIZE) {
+    let port = match FilePort::open(rt, alloc, path, SIZE, Format::Plain) {
         Ok(port) => port,
         Err(fault) => return Err(fault),
     };

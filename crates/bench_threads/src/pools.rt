@@ -10,7 +10,7 @@ use bp_device::{FilePort, MemDevice, MemPort, Port};
 use bp_lruk::Settings;
 use bp_lruk::settings::MAX_PERIOD;
 use bp_mark::{Mark, Reader};
-use bp_page::{Geometry, Refusal};
+use bp_page::{Format, Geometry, Refusal};
 use bp_shared::{PoolName, Session, SharedPool, TrailRing};
 use std::alloc::Global;
 use std::fs::File;
@@ -186,7 +186,7 @@ pub(crate) fn file_ports<R: Runtime<A = Global> + Files<File = File>>(
 ) -> Result<Vec<FilePort>, Refusal> {
     let mut ports = Vec::new(rt.alloc());
     for _ in 0..count {
-        let Ok(port) = FilePort::open(rt, rt.alloc(), path, SIZE) else {
+        let Ok(port) = FilePort::open(rt, rt.alloc(), path, SIZE, Format::Plain) else {
             return Err(Refusal::BadLength);
         };
         let Ok(()) = ports.push(port) else {

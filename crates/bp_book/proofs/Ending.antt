@@ -1,19 +1,24 @@
 -- The room that a list keeps, after the end of device work that its newest entry began.
-use Rattle.std.proofs.Common.{rules, ◌≡◌, refl, sym, ap, subst, ◌∙◌, eqb, ℕ, ◌+◌, ◌-◌, ◌≤◌, Bool, true, false, All, List, [], ◌∷◌, ◌++◌, length, filter, reverse, length-append, arith, Some, None}
+use Rattle.std.proofs.Common.{rules, ◌≡◌, refl, sym, ap, subst, ◌∙◌, eqb, ℕ, ◌+◌, ◌-◌, ◌≤◌, Bool, true, false, All, List, [], ◌∷◌, ◌++◌, length, filter, reverse, length-append, arith, Some, None, Err}
 use Rattle.std.proofs.lemmas.List.{reverse-append}
 use Rattle.std.proofs.lemmas.List.Elements.{All-append}
 use Rattle.std.specs.Prelude.{not, if◌then◌else◌}
+use Rattle.bp_page.specs.declared.refusals.Refusal.{Refusal}
+use Rattle.bp_page.specs.declared.refusals.PortFault.{PortFault}
+use Rattle.bp_page.specs.declared.refusals.PortFault.TheVariants as fault
 use Rattle.bp_trail.specs.declared.entries.Call.TheVariants.{ReadEnd, WriteEnd}
 use Rattle.bp_trail.specs.declared.entries.Reply.{Reply}
-use Rattle.bp_trail.specs.declared.entries.Reply.TheVariants.{Hit, Load, WriteFirst, Fixed, ReadFailed}
+use Rattle.bp_trail.specs.declared.entries.Reply.TheVariants.{Hit, Load, WriteFirst, Fixed}
 use Rattle.bp_core.specs.declared.passes.ReadTicket.{ReadTicket}
 use Rattle.bp_core.specs.declared.passes.WriteTicket.{WriteTicket}
+use Rattle.bp_core.specs.ReadFaults.{read_refusal, read_failure}
 use Rattle.bp_trail.specs.Lists.{and_given}
 use Rattle.bp_trail.specs.Event.{Grant, grant, pass_given}
 use Rattle.bp_trail.specs.Trail.{Trail}
 use Rattle.bp_trail.specs.Passes.{passes_out}
 use Rattle.bp_trail.specs.Pieces.{by}
 use Rattle.bp_book.specs.Books.{KeepsRoom, plain_reply, tickets_given, open_tickets, OwesRead, OwesWrite, OwesWriteEnd}
+use Rattle.bp_book.specs.Turns.{EndReadOutcome}
 
 pub filter_le : {X : Type 0} (p : X → Bool) (xs : List X) → length (filter p xs) ≤ length xs
 filter_le p [] = omega arith
@@ -51,21 +56,36 @@ keeps_loaded client size said after held held' tickets kept kept' blanks blanks'
       sized = sized;
     }
 
-pub keeps_not_loaded : (client size : ℕ) (said after : Trail) (held : List Grant) (tickets kept kept' : ℕ) (blanks : List (List ℕ)) (c c' h : ℕ) (ticket : ReadTicket)
+-- a read that failed gives no pass and no ticket
+failed_gives : (client page : ℕ) (f : PortFault) → (pass_given client page (read_failure f) ≡ None) × (tickets_given (read_failure f) ≡ 0)
+failed_gives client page fault.WrongPage = (refl, refl)
+failed_gives client page _ = (refl, refl)
+
+pub keeps_not_loaded : (client size : ℕ) (said after : Trail) (held : List Grant) (tickets kept kept' : ℕ) (blanks : List (List ℕ)) (c c' h : ℕ) (ticket : ReadTicket) (f : PortFault)
     → KeepsRoom client size said held tickets kept blanks c h → OwesRead client ticket said
-    → after ≡ by client (ReadEnd ticket.serial ticket.page None) ReadFailed ∷ said → kept' ≡ kept + 1 → c' ≡ c
+    → after ≡ by client (ReadEnd ticket.serial ticket.page None) (read_failure f) ∷ said → kept' ≡ kept + 1 → c' ≡ c
     → KeepsRoom client size after held (tickets - 1) kept' blanks c' h
-keeps_not_loaded client size said after held tickets kept kept' blanks c c' h ticket r o grows more same_c =
+keeps_not_loaded client size said after held tickets kept kept' blanks c c' h ticket f r o grows more same_c =
     let fewer = read_owed client ticket said o in
+    let gives = failed_gives client ticket.page f in
     record {
-      held_are = r.held_are ∙ ap (λ es. reverse (passes_out es)) (sym grows);
+      held_are = r.held_are ∙ ap reverse (sym (ap (λ g. and_given g (passes_out said)) gives.0)) ∙ ap (λ es. reverse (passes_out es)) (sym grows);
       own = r.own;
-      tickets_are = subst (λ (es : Trail). tickets - 1 ≡ open_tickets es) (sym grows) (omega (arith, r.tickets_are));
+      tickets_are = subst (λ (es : Trail). tickets - 1 ≡ open_tickets es) (sym grows) (omega (arith, gives.1, r.tickets_are));
       entries_fit = omega (arith, r.entries_fit, more, same_c, fewer, r.tickets_are);
       passes_fit = omega (arith, r.passes_fit);
       copies_fit = omega (arith, r.copies_fit);
       sized = r.sized;
     }
+
+-- what the core refuses it with is what the list's entry says
+pub ended_badly : (ticket : ReadTicket) (f : PortFault) (why : Refusal) (said after : Trail) → why ≡ read_refusal f
+    → after ≡ by ticket.client (ReadEnd ticket.serial ticket.page None) (read_failure f) ∷ said → EndReadOutcome ticket (Err f) (Err why) said after
+ended_badly ticket f why said after is grows = subst (λ r. EndReadOutcome ticket (Err f) (Err r) said after) (sym is) (go f grows)
+  where
+    go : (f : PortFault) → after ≡ by ticket.client (ReadEnd ticket.serial ticket.page None) (read_failure f) ∷ said → EndReadOutcome ticket (Err f) (Err (read_refusal f)) said after
+    go fault.WrongPage grows = (refl, grows)
+    go _ grows = (refl, grows)
 
 pub keeps_written : (client size : ℕ) (said after : Trail) (held : List Grant) (tickets kept kept' : ℕ) (blanks : List (List ℕ)) (c c' h : ℕ) (ticket page : ℕ) (good : Bool) (reply : Reply)
     → KeepsRoom client size said held tickets kept blanks c h → OwesWriteEnd client ticket said → plain_reply reply ≡ true

@@ -3,6 +3,7 @@ use Rattle.std.specs.Prelude.{◌≡◌, ◌⊎◌, ℕ, Bool, true, false, List
 use Rattle.bp_page.specs.declared.refusals.Refusal.{Refusal}
 use Rattle.bp_page.specs.declared.refusals.Refusal.TheVariants as refusal
 use Rattle.bp_page.specs.declared.refusals.PortFault.{PortFault}
+use Rattle.bp_core.specs.ReadFaults.{read_refusal}
 use Rattle.bp_core.specs.declared.passes.Pass.{Pass}
 use Rattle.bp_core.specs.declared.passes.ReadTicket.{ReadTicket}
 use Rattle.bp_core.specs.declared.passes.WriteTicket.{WriteTicket}
@@ -14,7 +15,7 @@ use Rattle.bp_core.specs.declared.passes.Ended.{Ended}
 use Rattle.bp_trail.specs.declared.entries.Call.{Call}
 use Rattle.bp_trail.specs.declared.entries.Call.TheVariants.{Mark, Fix, ReadEnd, WriteEnd, Flush, Tick, Read, Write, Purge}
 use Rattle.bp_trail.specs.declared.entries.Reply.{Reply}
-use Rattle.bp_trail.specs.declared.entries.Reply.TheVariants.{Done, Hit, Load, WriteFirst, NoVictim, NeedLog, Busy, Fixed, ReadFailed, WriteFailed, Clean, Absent, Content, Forgot}
+use Rattle.bp_trail.specs.declared.entries.Reply.TheVariants.{Done, Hit, Load, WriteFirst, NoVictim, NeedLog, Busy, Fixed, ReadFailed, WrongPage, WriteFailed, Clean, Absent, Content, Forgot}
 use Rattle.bp_trail.specs.Trail.{Trail}
 use Rattle.bp_trail.specs.Pieces.{by, FixGoesOn, FlushGoesOn}
 use Rattle.bp_trail.specs.Pieces.Manner.{session}
@@ -127,7 +128,8 @@ pub record FlushTurn (client page : ℕ) (answer : Result Flushing Refusal) (sai
 abbrev pub EndReadOutcome : ReadTicket → Result (List ℕ) PortFault → Result Pass Refusal → Trail → Trail → Type 0
 EndReadOutcome ticket (Ok image) (Ok pass) said after =
     (pass.client ≡ ticket.client) × (pass.page ≡ ticket.page) × (after ≡ by ticket.client (ReadEnd ticket.serial ticket.page (Some image)) (Fixed pass.serial) ∷ said)
-EndReadOutcome ticket (Err fault) (Err refusal.ReadFailed) said after = after ≡ by ticket.client (ReadEnd ticket.serial ticket.page None) ReadFailed ∷ said
+EndReadOutcome ticket (Err fault) (Err refusal.ReadFailed) said after = (read_refusal fault ≡ refusal.ReadFailed) × (after ≡ by ticket.client (ReadEnd ticket.serial ticket.page None) ReadFailed ∷ said)
+EndReadOutcome ticket (Err fault) (Err refusal.WrongPage) said after = (read_refusal fault ≡ refusal.WrongPage) × (after ≡ by ticket.client (ReadEnd ticket.serial ticket.page None) WrongPage ∷ said)
 EndReadOutcome ticket read (Err refusal.UnknownTicket) said after = after ≡ said
 EndReadOutcome ticket _ _ said after = ⊥
 

@@ -8,7 +8,7 @@ ghost use Rattle.bp_trail.specs.declared.scripts.Refused.{Refused as ARefused};
 ghost use Rattle.bp_trail.specs.Parameters.{Parameters};
 ghost use Rattle.bp_trail.specs.Lists.{EachEntry};
 ghost use Rattle.bp_trail.specs.Trail.{Trail};
-ghost use Rattle.bp_trail.specs.PageMap.{reply_of};
+ghost use Rattle.bp_trail.specs.PageMap.{MayReply};
 ghost use Rattle.bp_trail.specs.Victim.{backward_distance};
 ghost use Rattle.bp_trail.specs.Sentences.{IsCandidate, IsFirst};
 ghost use Rattle.bp_trail.specs.Legal.{Legal};
@@ -20,12 +20,13 @@ ghost use Rattle.bp_audit.specs.Cut.{BoundedByItsRow};
 ghost use Rattle.bp_clients.specs.Jobs.{list_of, NoneIsStrange};
 ghost use Rattle.bp_clients.specs.Runs.{MarksWithinLog, SaidIsTheirs, IsRun, after_lists, joined_lists, PiecesAreTheirs};
 
-/// In the trail of every run each reply is what the page map answers there from the calls before it; each page that leaves has no
+/// In the trail of every run each reply is what the page map answers there from the calls before it, or that a read without an image
+/// found a wrong page; each page that leaves has no
 /// pins and is not unsaved, and is the eligible page that comes first, so that none is farther by its backward K-distance; no image
 /// goes out before the log is durable as far as every earlier write of its page; and over a device that gives back what was written
 /// each content is the plain map's.
 pub fn runs_keep_the_rules_of_the_pool()
-    ensures replies { (c : Parameters) (trail : List AnEntry) → Legal c (reverse trail) → EachEntry (λ before e. e.reply ≡ reply_of c before e.call) (reverse trail) }
+    ensures replies { (c : Parameters) (trail : List AnEntry) → Legal c (reverse trail) → EachEntry (λ before e. MayReply c before e.call e.reply) (reverse trail) }
     ensures evictions { (c : Parameters) (trail : List AnEntry) → Legal c (reverse trail) → EachEntry (EvictsSafely c) (reverse trail) }
     ensures victims { (c : Parameters) (trail : List AnEntry) → Legal c (reverse trail) → EachEntry (λ before e. (t v : ℕ) → e.reply ≡ Load t (Some v) → IsFirst c before v) (reverse trail) }
     ensures farthest { (c : Parameters) (trail : List AnEntry) → Legal c (reverse trail) → EachEntry (λ before e. (t v q : ℕ) → e.reply ≡ Load t (Some v) → IsCandidate c before q → is_farther (backward_distance c before q) (backward_distance c before v) ≡ false) (reverse trail) }

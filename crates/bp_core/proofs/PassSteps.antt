@@ -1,5 +1,5 @@
 -- A hit, an unfix, a write and the end of a read keep what the core holds in agreement with the trail.
-use Rattle.std.proofs.Common.{◌≡◌, ◌≢◌, ℕ, suc, ◌+◌, ◌-◌, ◌≤◌, nat_lt, max, Bool, true, false, not, if◌then◌else◌, ◌||◌, ◌==◌, List, ◌∷◌, length, filter, refl, sym, ◌∙◌, ap, subst, arith}
+use Rattle.std.proofs.Common.{inl, ◌≡◌, ◌≢◌, ℕ, suc, ◌+◌, ◌-◌, ◌≤◌, nat_lt, max, Bool, true, false, not, if◌then◌else◌, ◌||◌, ◌==◌, List, ◌∷◌, length, filter, refl, sym, ◌∙◌, ap, subst, arith}
 use Rattle.std.proofs.lemmas.Bool.{le-leb, and_from, eqb-true, eqb-false, false_from_ne_true, true≢false}
 use Rattle.std.proofs.lemmas.Bool.Decides.{nat_tests}
 use Rattle.bp_lruk.specs.Burst.Reference.{hit}
@@ -61,7 +61,7 @@ module _ (c : Parameters) (past : Trail) (x : Parts) (a : Agrees c past x) where
         let fewer = reads-rest who p n (passes_out past) (numbered c past a.legal).passes_once out in
         let clients = owner c who p n (passes_out past) (owned c past a.legal).passes out in
         record {
-          legal = record { here = record { client = clients; allowed = out; reply = refl }; before = a.legal };
+          legal = record { here = record { client = clients; allowed = out; reply = inl refl }; before = a.legal };
           observed = record {
             clock_is = a.observed.clock_is;
             durable_is = a.observed.durable_is;
@@ -98,7 +98,7 @@ module _ (c : Parameters) (past : Trail) (x : Parts) (a : Agrees c past x) where
     agrees-write n offset bytes lsn out fits =
         let clients = owner c who p n (passes_out past) (owned c past a.legal).passes out in
         record {
-          legal = record { here = record { client = clients; allowed = and_from _ _ out (le-leb (offset + length bytes) c.size fits); reply = refl }; before = a.legal };
+          legal = record { here = record { client = clients; allowed = and_from _ _ out (le-leb (offset + length bytes) c.size fits); reply = inl refl }; before = a.legal };
           observed = record {
             clock_is = a.observed.clock_is;
             durable_is = a.observed.durable_is;
@@ -136,7 +136,7 @@ module _ (c : Parameters) (past : Trail) (x : Parts) (a : Agrees c past x) where
         → SameSettings x.blocks h → HasStampsOf h p (hit (clock past) ∷ references c past p) → ((q : ℕ) → q ≢ p → SameAt x.blocks h q) → is_held h p ≡ true
         → Agrees c (by who (Fix p) (Hit x.given) ∷ past) (record x { given = x.given + 1; out = grant who p x.given ∷ x.out; frames = changed_at p pinned x.frames; blocks = h })
     agrees-hit h client page here settings stamps others kept = record {
-      legal = record { here = record { client = client; allowed = page; reply = ap Hit a.observed.passes_is ∙ sym (reply-hit (false_from_ne_true (loading past p) (λ l. true≢false (sym here ∙ (places c past a.legal).away p l))) here) }; before = a.legal };
+      legal = record { here = record { client = client; allowed = page; reply = inl (ap Hit a.observed.passes_is ∙ sym (reply-hit (false_from_ne_true (loading past p) (λ l. true≢false (sym here ∙ (places c past a.legal).away p l))) here)) }; before = a.legal };
       observed = record {
         clock_is = a.observed.clock_is;
         durable_is = a.observed.durable_is;

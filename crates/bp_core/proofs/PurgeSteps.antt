@@ -1,5 +1,5 @@
 -- A purge keeps what the core holds in agreement with the trail.
-use Rattle.std.proofs.Common.{◌≡◌, ℕ, suc, ◌+◌, ◌-◌, ◌≤◌, nat_lt, Bool, true, false, not, if◌then◌else◌, ◌||◌, ◌&&◌, List, [], ◌∷◌, refl, ◌∙◌, ap, arith}
+use Rattle.std.proofs.Common.{inl, ◌≡◌, ℕ, suc, ◌+◌, ◌-◌, ◌≤◌, nat_lt, Bool, true, false, not, if◌then◌else◌, ◌||◌, ◌&&◌, List, [], ◌∷◌, refl, ◌∙◌, ap, arith}
 use Rattle.std.proofs.lemmas.Bool.{lt-ltb}
 use Rattle.std.proofs.lemmas.Bool.Decides.{nat_tests}
 use Rattle.bp_lruk.specs.Burst.{Reference}
@@ -68,7 +68,7 @@ module _ (c : Parameters) (past : Trail) (x : Parts) (a : Agrees c past x) where
       → ((p : ℕ) → forgets x.blocks x.now p ≡ true → HasStampsOf h p []) → ((p : ℕ) → forgets x.blocks x.now p ≡ false → SameAt x.blocks h p) → ((p : ℕ) → is_held h p ≡ is_held x.blocks p)
       → Agrees c (by who Purge (Forgot n) ∷ past) (record x { blocks = h })
   agrees-purge who n h client counted settings gone kept held = record {
-    legal = record { here = record { client = client; allowed = refl; reply = ap Forgot counted }; before = a.legal };
+    legal = record { here = record { client = client; allowed = refl; reply = inl (ap Forgot counted) }; before = a.legal };
     observed = record {
       clock_is = a.observed.clock_is;
       durable_is = a.observed.durable_is;

@@ -1,5 +1,5 @@
 -- The begin and the end of a read keep what the core holds in agreement with the trail.
-use Rattle.std.proofs.Common.{◌≡◌, ◌≢◌, ℕ, suc, ◌+◌, nat_lt, Bool, true, false, not, cond, if◌then◌else◌, ◌||◌, ◌&&◌, ◌==◌, List, ◌∷◌, length, filter, Some, None, refl, sym, ◌∙◌, ap, subst, arith}
+use Rattle.std.proofs.Common.{inl, ◌≡◌, ◌≢◌, ℕ, suc, ◌+◌, nat_lt, Bool, true, false, not, cond, if◌then◌else◌, ◌||◌, ◌&&◌, ◌==◌, List, ◌∷◌, length, filter, Some, None, refl, sym, ◌∙◌, ap, subst, arith}
 use Rattle.std.specs.List.Sorted.{IsPermutation}
 use Rattle.std.proofs.lemmas.Bool.{and_from, and_parts, eqb-true, eq-eqb, false_from_ne_true, true≢false}
 use Rattle.bp_lruk.specs.Burst.Reference.{fault}
@@ -56,7 +56,7 @@ module _ (c : Parameters) (past : Trail) (x : Parts) (a : Agrees c past x) (who 
     pub agrees-load : has_free_frame c past ≡ true → is_held h p ≡ true → ((q : ℕ) → q ≢ p → is_held h q ≡ is_held x.blocks q)
         → Agrees c (by who (Fix p) (Load x.begun None) ∷ past) (record x { begun = x.begun + 1; reads = grant who p x.begun ∷ x.reads; blocks = h })
     agrees-load frame kept others = record {
-      legal = record { here = record { client = client; allowed = page; reply = ap (λ t. Load t None) a.observed.tickets_is ∙ sym (reply-load frame) }; before = a.legal };
+      legal = record { here = record { client = client; allowed = page; reply = inl (ap (λ t. Load t None) a.observed.tickets_is ∙ sym (reply-load frame)) }; before = a.legal };
       observed = record {
         clock_is = a.observed.clock_is;
         durable_is = a.observed.durable_is;
@@ -84,7 +84,7 @@ module _ (c : Parameters) (past : Trail) (x : Parts) (a : Agrees c past x) (who 
         → Agrees c (by who (Fix p) (Load x.begun (Some v)) ∷ past) (record x { begun = x.begun + 1; reads = grant who p x.begun ∷ x.reads; frames = without_page v x.frames; blocks = h })
     unfolding without_page
     agrees-evict v full chosen saved kept gone others = record {
-      legal = record { here = record { client = client; allowed = page; reply = ap (λ t. Load t (Some v)) a.observed.tickets_is ∙ sym (reply-replace full ∙ replaces) }; before = a.legal };
+      legal = record { here = record { client = client; allowed = page; reply = inl (ap (λ t. Load t (Some v)) a.observed.tickets_is ∙ sym (reply-replace full ∙ replaces)) }; before = a.legal };
       observed = record {
         clock_is = a.observed.clock_is;
         durable_is = a.observed.durable_is;
@@ -140,7 +140,7 @@ module _ (c : Parameters) (past : Trail) (x : Parts) (a : Agrees c past x) (who 
     pub agrees-failed : ((q : ℕ) → SameStampsAt x.blocks h q) → is_held h p ≡ false → ((q : ℕ) → q ≢ p → is_held h q ≡ is_held x.blocks q)
         → Agrees c (by who (ReadEnd t p None) ReadFailed ∷ past) (record x { reads = filter (λ g. not (g.serial == t)) x.reads; blocks = h })
     agrees-failed stamps gone others = record {
-      legal = record { here = record { client = clients; allowed = and_from _ _ out refl; reply = refl }; before = a.legal };
+      legal = record { here = record { client = clients; allowed = and_from _ _ out refl; reply = inl refl }; before = a.legal };
       observed = record {
         clock_is = a.observed.clock_is;
         durable_is = a.observed.durable_is;
@@ -167,7 +167,7 @@ module _ (c : Parameters) (past : Trail) (x : Parts) (a : Agrees c past x) (who 
         → Agrees c (by who (ReadEnd t p (Some image)) (Fixed x.given) ∷ past)
         (record x { given = x.given + 1; out = grant who p x.given ∷ x.out; reads = filter (λ g. not (g.serial == t)) x.reads; frames = fs; blocks = h })
     agrees-fixed block place image size fs moved stamps others kept = record {
-      legal = record { here = record { client = clients; allowed = and_from _ _ out (eq-eqb (length image) c.size size); reply = ap Fixed a.observed.passes_is }; before = a.legal };
+      legal = record { here = record { client = clients; allowed = and_from _ _ out (eq-eqb (length image) c.size size); reply = inl (ap Fixed a.observed.passes_is) }; before = a.legal };
       observed = record {
         clock_is = a.observed.clock_is;
         durable_is = a.observed.durable_is;

@@ -1,5 +1,5 @@
 -- Each call keeps what the core holds in agreement with the trail.
-use Rattle.std.proofs.Common.{◌≡◌, ℕ, ◌+◌, ◌^◌, ◌<◌, ◌≤◌, max, true, ◌∷◌, refl, sym, ◌∙◌, ap, arith}
+use Rattle.std.proofs.Common.{inl, ◌≡◌, ℕ, ◌+◌, ◌^◌, ◌<◌, ◌≤◌, max, true, ◌∷◌, refl, sym, ◌∙◌, ap, arith}
 use Rattle.std.proofs.lemmas.Bool.{lt-ltb, le-leb}
 use Rattle.bp_trail.specs.declared.entries.Entry.{Entry}
 use Rattle.bp_trail.specs.declared.entries.Call.{Call}
@@ -22,7 +22,7 @@ by client call reply = record { client = client; call = call; reply = reply }
 module _ (c : Parameters) (past : Trail) (x : Parts) (a : Agrees c past x) where
   pub agrees-tick : (who n : ℕ) → who < c.clients → clock past + n ≤ 2 ^ 62 → Agrees c (by who (Tick n) Done ∷ past) (record x { now = x.now + n })
   agrees-tick who n client fits = record {
-    legal = record { here = record { client = lt-ltb who c.clients client; allowed = le-leb (clock past + n) (2 ^ 62) fits; reply = refl }; before = a.legal };
+    legal = record { here = record { client = lt-ltb who c.clients client; allowed = le-leb (clock past + n) (2 ^ 62) fits; reply = inl refl }; before = a.legal };
     observed = record {
       clock_is = ap (λ t. t + n) a.observed.clock_is ∙ sym (clock-tick past who n);
       durable_is = a.observed.durable_is;
@@ -43,7 +43,7 @@ module _ (c : Parameters) (past : Trail) (x : Parts) (a : Agrees c past x) where
 
   pub agrees-mark : (who lsn : ℕ) → who < c.clients → Agrees c (by who (Mark lsn) Done ∷ past) (record x { mark = max lsn x.mark })
   agrees-mark who lsn client = record {
-    legal = record { here = record { client = lt-ltb who c.clients client; allowed = refl; reply = refl }; before = a.legal };
+    legal = record { here = record { client = lt-ltb who c.clients client; allowed = refl; reply = inl refl }; before = a.legal };
     observed = record {
       clock_is = a.observed.clock_is;
       durable_is = ap (max lsn) a.observed.durable_is;
@@ -65,7 +65,7 @@ module _ (c : Parameters) (past : Trail) (x : Parts) (a : Agrees c past x) where
   -- an entry that changes nothing but the trail
   pub agrees-quiet : (who : ℕ) (call : Call) (reply : Reply) → IsQuiet call reply → who < c.clients → allowed c past who call ≡ true → reply ≡ reply_of c past call → Agrees c (by who call reply ∷ past) x
   agrees-quiet who call reply quiet client may is = record {
-    legal = record { here = record { client = lt-ltb who c.clients client; allowed = may; reply = is }; before = a.legal };
+    legal = record { here = record { client = lt-ltb who c.clients client; allowed = may; reply = inl is }; before = a.legal };
     observed = go call reply quiet;
     k_is = a.k_is;
     correlated_is = a.correlated_is;

@@ -1,5 +1,5 @@
 -- The begin and the end of a write-out keep what the core holds in agreement with the trail.
-use Rattle.std.proofs.Common.{◌≡◌, ℕ, suc, ◌+◌, nat_lt, Bool, true, false, not, if◌then◌else◌, ◌||◌, ◌&&◌, ◌==◌, [], ◌∷◌, length, filter, refl, sym, ◌∙◌, ap, subst, arith}
+use Rattle.std.proofs.Common.{inl, ◌≡◌, ℕ, suc, ◌+◌, nat_lt, Bool, true, false, not, if◌then◌else◌, ◌||◌, ◌&&◌, ◌==◌, [], ◌∷◌, length, filter, refl, sym, ◌∙◌, ap, subst, arith}
 use Rattle.std.proofs.lemmas.Bool.{and_parts, eqb-true}
 use Rattle.bp_trail.specs.declared.entries.Call.{Call}
 use Rattle.bp_trail.specs.declared.entries.Call.TheVariants.{Fix, WriteEnd, Flush}
@@ -54,7 +54,7 @@ module _ (c : Parameters) (past : Trail) (x : Parts) (a : Agrees c past x) (who 
   pub agrees-begin-fix : (p v : ℕ) → nat_lt who c.clients ≡ true → allowed c past who (Fix p) ≡ true → WriteFirst (tickets past) v (held past v) ≡ reply_of c past (Fix p)
       → Agrees c (by who (Fix p) (WriteFirst x.begun v (held past v)) ∷ past) (record x { begun = x.begun + 1; writes = grant who v x.begun ∷ x.writes; frames = changed_at v saving x.frames })
   agrees-begin-fix p v client may is = record {
-    legal = record { here = record { client = client; allowed = may; reply = ap (λ t. WriteFirst t v (held past v)) a.observed.tickets_is ∙ is }; before = a.legal };
+    legal = record { here = record { client = client; allowed = may; reply = inl (ap (λ t. WriteFirst t v (held past v)) a.observed.tickets_is ∙ is) }; before = a.legal };
     observed = record {
       clock_is = a.observed.clock_is;
       durable_is = a.observed.durable_is;
@@ -97,7 +97,7 @@ module _ (c : Parameters) (past : Trail) (x : Parts) (a : Agrees c past x) (who 
   pub agrees-begin-flush : (p v : ℕ) → nat_lt who c.clients ≡ true → allowed c past who (Flush p) ≡ true → WriteFirst (tickets past) v (held past v) ≡ reply_of c past (Flush p)
       → Agrees c (by who (Flush p) (WriteFirst x.begun v (held past v)) ∷ past) (record x { begun = x.begun + 1; writes = grant who v x.begun ∷ x.writes; frames = changed_at v saving x.frames })
   agrees-begin-flush p v client may is = record {
-    legal = record { here = record { client = client; allowed = may; reply = ap (λ t. WriteFirst t v (held past v)) a.observed.tickets_is ∙ is }; before = a.legal };
+    legal = record { here = record { client = client; allowed = may; reply = inl (ap (λ t. WriteFirst t v (held past v)) a.observed.tickets_is ∙ is) }; before = a.legal };
     observed = record {
       clock_is = a.observed.clock_is;
       durable_is = a.observed.durable_is;
@@ -159,7 +159,7 @@ module _ (c : Parameters) (past : Trail) (x : Parts) (a : Agrees c past x) (who 
 
     pub agrees-write_failed : Agrees c (by who (WriteEnd t p false) WriteFailed ∷ past) (record x { writes = filter (λ g. not (g.serial == t)) x.writes; frames = changed_at p not_saved x.frames })
     agrees-write_failed = record {
-      legal = record { here = record { client = clients; allowed = out; reply = refl }; before = a.legal };
+      legal = record { here = record { client = clients; allowed = out; reply = inl refl }; before = a.legal };
       observed = record {
         clock_is = a.observed.clock_is;
         durable_is = a.observed.durable_is;
@@ -184,7 +184,7 @@ module _ (c : Parameters) (past : Trail) (x : Parts) (a : Agrees c past x) (who 
 
     pub agrees-cleaned : written_since past t p ≡ false → Agrees c (by who (WriteEnd t p true) Cleaned ∷ past) (record x { writes = filter (λ g. not (g.serial == t)) x.writes; frames = changed_at p saved x.frames })
     agrees-cleaned since = record {
-      legal = record { here = record { client = clients; allowed = out; reply = sym (ap (λ b. if b then StillDirty else Cleaned) since) }; before = a.legal };
+      legal = record { here = record { client = clients; allowed = out; reply = inl (sym (ap (λ b. if b then StillDirty else Cleaned) since)) }; before = a.legal };
       observed = record {
         clock_is = a.observed.clock_is;
         durable_is = a.observed.durable_is;
@@ -218,7 +218,7 @@ module _ (c : Parameters) (past : Trail) (x : Parts) (a : Agrees c past x) (who 
 
     pub agrees-still_dirty : written_since past t p ≡ true → Agrees c (by who (WriteEnd t p true) StillDirty ∷ past) (record x { writes = filter (λ g. not (g.serial == t)) x.writes; frames = changed_at p saved x.frames })
     agrees-still_dirty since = record {
-      legal = record { here = record { client = clients; allowed = out; reply = sym (ap (λ b. if b then StillDirty else Cleaned) since) }; before = a.legal };
+      legal = record { here = record { client = clients; allowed = out; reply = inl (sym (ap (λ b. if b then StillDirty else Cleaned) since)) }; before = a.legal };
       observed = record {
         clock_is = a.observed.clock_is;
         durable_is = a.observed.durable_is;

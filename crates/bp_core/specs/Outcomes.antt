@@ -12,11 +12,12 @@ use Rattle.bp_trail.specs.Legal.{is_out, Legal}
 use Rattle.bp_trail.specs.Trail.{Trail}
 use Rattle.bp_trail.specs.Cuts.{LeadsOn}
 use Rattle.bp_trail.specs.declared.entries.Entry.{Entry}
+use Rattle.bp_core.specs.ReadFaults.{read_refusal, read_failure}
 use Rattle.bp_core.specs.CoreView.{CoreView, opening, EachPast, with_entry, HasRoomFor, LacksRoomFor}
 use Rattle.bp_trail.specs.declared.entries.Call.{Call}
 use Rattle.bp_trail.specs.declared.entries.Call.TheVariants.{Tick, Fix, ReadEnd, WriteEnd, Read, Write, Unfix, Flush, Purge}
 use Rattle.bp_trail.specs.declared.entries.Reply.{Reply}
-use Rattle.bp_trail.specs.declared.entries.Reply.TheVariants.{Done, Hit, Load, WriteFirst, NoVictim, NeedLog, Busy, Fixed, ReadFailed, Cleaned, StillDirty, WriteFailed, Content, Clean, Absent, Forgot}
+use Rattle.bp_trail.specs.declared.entries.Reply.TheVariants.{Done, Hit, Load, WriteFirst, NoVictim, NeedLog, Busy, Fixed, Cleaned, StillDirty, WriteFailed, Content, Clean, Absent, Forgot}
 use Rattle.bp_core.specs.declared.passes.Pass.{Pass}
 use Rattle.bp_core.specs.declared.passes.ReadTicket.{ReadTicket}
 use Rattle.bp_core.specs.declared.passes.WriteTicket.{WriteTicket}
@@ -165,9 +166,9 @@ abbrev pub ReadEndOutcome : CoreView → ReadTicket → Result (List ℕ) PortFa
 ReadEndOutcome old ticket (Ok image) (Ok pass) new =
     (pass.client ≡ ticket.client) × (pass.page ≡ ticket.page) × KnowsRead old ticket
     × Adds old ticket.client (ReadEnd ticket.serial ticket.page (Some image)) (Fixed pass.serial) new
-ReadEndOutcome old ticket (Err fault) (Err (end_refusal.Failed refusal.ReadFailed)) new =
-    KnowsRead old ticket
-    × Adds old ticket.client (ReadEnd ticket.serial ticket.page None) ReadFailed new
+ReadEndOutcome old ticket (Err fault) (Err (end_refusal.Failed why)) new =
+    (why ≡ read_refusal fault) × KnowsRead old ticket
+    × Adds old ticket.client (ReadEnd ticket.serial ticket.page None) (read_failure fault) new
 ReadEndOutcome old ticket outcome (Err (end_refusal.Unknown same back)) new =
     (same ≡ ticket) × (back ≡ outcome) × LacksRead old ticket × (new ≡ old)
 ReadEndOutcome old ticket _ _ new = ⊥

@@ -78,7 +78,7 @@ pub enum Ended {
 pub enum EndRefusal<T, R> {
     /// No such ticket is out here: the ticket and the result of the operation come back, and nothing changed.
     Unknown(T, R),
-    /// The operation failed, which is `ReadFailed` or `WriteFailed`. The ticket is spent.
+    /// The operation failed, which is `ReadFailed`, `WrongPage` or `WriteFailed`. The ticket is spent.
     Failed(Refusal),
 }
 

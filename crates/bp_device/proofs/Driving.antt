@@ -1,7 +1,9 @@
 -- How pieces grow, entry by entry.
-use Rattle.std.proofs.Common.{◌≡◌, refl, sym, ◌∙◌, ap, subst, ℕ, [], ◌∷◌, ◌++◌, true, false, Option, Some, None, Result, Ok, Err}
+use Rattle.std.proofs.Common.{List, ◌≡◌, refl, sym, ◌∙◌, ap, subst, ℕ, [], ◌∷◌, ◌++◌, true, false, Option, Some, None, Result, Ok, Err}
 use Rattle.bp_page.specs.declared.refusals.Refusal.{Refusal}
 use Rattle.bp_page.specs.declared.refusals.Refusal.TheVariants as refusal
+use Rattle.bp_page.specs.declared.refusals.PortFault.{PortFault}
+use Rattle.bp_page.specs.declared.refusals.PortFault.TheVariants as fault
 use Rattle.bp_core.specs.declared.passes.Pass.{Pass}
 use Rattle.bp_core.specs.declared.passes.ReadTicket.{ReadTicket}
 use Rattle.bp_core.specs.declared.passes.WriteTicket.{WriteTicket}
@@ -12,18 +14,19 @@ use Rattle.bp_core.specs.declared.passes.Ended.TheVariants as ended
 use Rattle.bp_trail.specs.declared.entries.Call.{Call}
 use Rattle.bp_trail.specs.declared.entries.Call.TheVariants.{Fix, ReadEnd, WriteEnd, Flush}
 use Rattle.bp_trail.specs.declared.entries.Reply.{Reply}
-use Rattle.bp_trail.specs.declared.entries.Reply.TheVariants.{Hit, Load, WriteFirst, NoVictim, NeedLog, Busy, Fixed, ReadFailed, WriteFailed, Cleaned, StillDirty, Clean, Absent}
+use Rattle.bp_trail.specs.declared.entries.Reply.TheVariants.{Hit, Load, WriteFirst, NoVictim, NeedLog, Busy, Fixed, ReadFailed, WrongPage, WriteFailed, Cleaned, StillDirty, Clean, Absent}
 use Rattle.bp_trail.specs.Lists.{and_given, without}
 use Rattle.bp_trail.specs.Event.{page_of, pass_given, pass_back}
 use Rattle.bp_trail.specs.Trail.{Trail}
 use Rattle.bp_trail.specs.Passes.{passes_out}
+use Rattle.bp_core.specs.ReadFaults.{read_refusal, read_failure}
 use Rattle.bp_core.specs.CoreView.{CoreView, with_entry}
 use Rattle.bp_core.specs.Outcomes.{FixOutcome, FlushOutcome}
 use Rattle.bp_trail.specs.Pieces.{by, FixGoesOn, FixPiece, FlushGoesOn, FlushPiece}
 use Rattle.bp_trail.specs.Pieces.Manner.{driver}
 use Rattle.bp_trail.specs.Pieces.Outcome.{accepted, refused}
 use Rattle.bp_trail.specs.Pieces.FixGoesOn.{cleaned as on_cleaned, still_dirty as on_still_dirty}
-use Rattle.bp_trail.specs.Pieces.FixPiece.{hit as fix_hit, fixed as fix_fixed, no_victim as fix_no_victim, need_log as fix_need_log, busy as fix_busy, read_failed as fix_read_failed, write_failed as fix_write_failed, no_room as fix_no_room, no_memory as fix_no_memory}
+use Rattle.bp_trail.specs.Pieces.FixPiece.{hit as fix_hit, fixed as fix_fixed, no_victim as fix_no_victim, need_log as fix_need_log, busy as fix_busy, read_failed as fix_read_failed, wrong_page as fix_wrong_page, write_failed as fix_write_failed, no_room as fix_no_room, no_memory as fix_no_memory}
 use Rattle.bp_trail.specs.Pieces.FlushGoesOn.{begins as flush_begins}
 use Rattle.bp_trail.specs.Pieces.FlushPiece.{clean as flush_clean, absent as flush_absent, cleaned as flush_cleaned, still_dirty as flush_still_dirty, need_log as flush_need_log, busy as flush_busy, write_failed as flush_write_failed, no_room as flush_no_room, no_memory as flush_no_memory}
 use Rattle.bp_device.specs.declared.drivers.Flushed.{Flushed}
@@ -65,24 +68,34 @@ began : (old mid new : CoreView) (client page : ℕ) (reply : Reply) → Waits o
 began old mid new client page reply waits is none =
     subst (λ given. AddsPiece old (Began client page reply) given new) none (adds-entry old mid new _ (Began client page reply) client (Fix page) reply waits refl is (λ piece on. (piece, refl, on)))
 
-pub load-drives : (old mid read new : CoreView) (client page : ℕ) (ticket : ReadTicket) (evicted : Option ℕ) (result : Result Pass Refusal) → Waits old client page mid
-    → FixOutcome mid client page (Ok (fixing.Load ticket evicted)) read → LoadOutcome read ticket result new → DrivesFix old client page result new
-load-drives old mid read new client page ticket evicted (Ok pass) waits h l = (
+pub load-drives : (old mid read new : CoreView) (client page : ℕ) (ticket : ReadTicket) (evicted : Option ℕ) (found : Result (List ℕ) PortFault) (result : Result Pass Refusal) → Waits old client page mid
+    → FixOutcome mid client page (Ok (fixing.Load ticket evicted)) read → LoadOutcome read ticket found result new → DrivesFix old client page result new
+load-drives old mid read new client page ticket evicted (Ok image) (Ok pass) waits h l = (
   l.0 ∙ h.1,
   l.1 ∙ h.2,
-  adds-entry old read new _ _ client (ReadEnd ticket.serial page (Some l.2.0)) (Fixed pass.serial) (began old mid read client page (Load ticket.serial evicted) waits h.3.is refl) refl is
-      (λ piece on. subst (λ whole. FixPiece driver client page (by client (ReadEnd ticket.serial page (Some l.2.0)) (Fixed pass.serial) ∷ whole) accepted) (sym on.1) (fix_fixed ticket.serial pass.serial evicted l.2.0 on.2)),
+  adds-entry old read new _ _ client (ReadEnd ticket.serial page (Some image)) (Fixed pass.serial) (began old mid read client page (Load ticket.serial evicted) waits h.3.is refl) refl is
+      (λ piece on. subst (λ whole. FixPiece driver client page (by client (ReadEnd ticket.serial page (Some image)) (Fixed pass.serial) ∷ whole) accepted) (sym on.1) (fix_fixed ticket.serial pass.serial evicted image on.2)),
 )
   where
-    is : new ≡ with_entry read client (ReadEnd ticket.serial page (Some l.2.0)) (Fixed pass.serial)
-    is = l.2.1 ∙ ap (λ who. with_entry read who (ReadEnd ticket.serial ticket.page (Some l.2.0)) (Fixed pass.serial)) h.1 ∙ ap (λ p. with_entry read client (ReadEnd ticket.serial p (Some l.2.0)) (Fixed pass.serial)) h.2
-load-drives old mid read new client page ticket evicted (Err r) waits h l =
-    subst (λ r. DrivesFix old client page (Err r) new) (sym l.0)
-    (adds-entry old read new _ _ client (ReadEnd ticket.serial page None) ReadFailed (began old mid read client page (Load ticket.serial evicted) waits h.3.is refl) refl is
-    (λ piece on. subst (λ whole. FixPiece driver client page (by client (ReadEnd ticket.serial page None) ReadFailed ∷ whole) (refused 17)) (sym on.1) (fix_read_failed ticket.serial evicted on.2)))
+    is : new ≡ with_entry read client (ReadEnd ticket.serial page (Some image)) (Fixed pass.serial)
+    is = l.2 ∙ ap (λ who. with_entry read who (ReadEnd ticket.serial ticket.page (Some image)) (Fixed pass.serial)) h.1 ∙ ap (λ p. with_entry read client (ReadEnd ticket.serial p (Some image)) (Fixed pass.serial)) h.2
+load-drives old mid read new client page ticket evicted (Err why) (Err r) waits h l = subst (λ r. DrivesFix old client page (Err r) new) (sym l.0) (go why is)
   where
-    is : new ≡ with_entry read client (ReadEnd ticket.serial page None) ReadFailed
-    is = l.1 ∙ ap (λ who. with_entry read who (ReadEnd ticket.serial ticket.page None) ReadFailed) h.1 ∙ ap (λ p. with_entry read client (ReadEnd ticket.serial p None) ReadFailed) h.2
+    is : new ≡ with_entry read client (ReadEnd ticket.serial page None) (read_failure why)
+    is = l.1 ∙ ap (λ who. with_entry read who (ReadEnd ticket.serial ticket.page None) (read_failure why)) h.1 ∙ ap (λ p. with_entry read client (ReadEnd ticket.serial p None) (read_failure why)) h.2
+
+    ended : (reply : Reply) (number : ℕ) → pass_given client page reply ≡ None → new ≡ with_entry read client (ReadEnd ticket.serial page None) reply
+        → ((older : Trail) → FixGoesOn driver client page older → FixPiece driver client page (by client (ReadEnd ticket.serial page None) reply ∷ by client (Fix page) (Load ticket.serial evicted) ∷ older) (refused number))
+        → AddsPiece old (λ piece. FixPiece driver client page piece (refused number)) None new
+    ended reply number none is of_row =
+        subst (λ given. AddsPiece old (λ piece. FixPiece driver client page piece (refused number)) given new) none
+        (adds-entry old read new _ _ client (ReadEnd ticket.serial page None) reply (began old mid read client page (Load ticket.serial evicted) waits h.3.is refl) refl is
+        (λ piece on. subst (λ whole. FixPiece driver client page (by client (ReadEnd ticket.serial page None) reply ∷ whole) (refused number)) (sym on.1) (of_row on.0 on.2)))
+
+    go : (f : PortFault) → new ≡ with_entry read client (ReadEnd ticket.serial page None) (read_failure f) → DrivesFix old client page (Err (read_refusal f)) new
+    go fault.WrongPage is = ended WrongPage 19 refl is (λ older on. fix_wrong_page ticket.serial evicted on)
+    go _ is = ended ReadFailed 17 refl is (λ older on. fix_read_failed ticket.serial evicted on)
+load-drives old mid read new client page ticket evicted _ _ waits h l = absurd l
 
 pub save-waits : (old mid written new : CoreView) (client page : ℕ) (ticket : WriteTicket) (end : Ended) → Waits old client page mid
     → FixOutcome mid client page (Ok (fixing.WriteFirst ticket)) written → SaveOutcome written ticket (Ok end) new → Waits old client page new

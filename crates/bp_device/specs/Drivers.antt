@@ -1,7 +1,8 @@
 -- What a fix and a flush by a driver add to its core.
 use Rattle.std.specs.Prelude.{◌≡◌, ℕ, List, [], ◌∷◌, ◌++◌, true, false, Option, Some, None, Result, Ok, Err}
 use Rattle.bp_page.specs.declared.refusals.Refusal.{Refusal}
-use Rattle.bp_page.specs.declared.refusals.Refusal.TheVariants.{ReadFailed as ReadRefused, WriteFailed as WriteRefused}
+use Rattle.bp_page.specs.declared.refusals.Refusal.TheVariants.{WriteFailed as WriteRefused}
+use Rattle.bp_page.specs.declared.refusals.PortFault.{PortFault}
 use Rattle.bp_page.specs.Refusals.{number_of}
 use Rattle.bp_core.specs.declared.passes.Pass.{Pass}
 use Rattle.bp_core.specs.declared.passes.ReadTicket.{ReadTicket}
@@ -10,11 +11,12 @@ use Rattle.bp_core.specs.declared.passes.Ended.{Ended}
 use Rattle.bp_core.specs.declared.passes.Ended.TheVariants as ended
 use Rattle.bp_trail.specs.declared.entries.Call.TheVariants.{ReadEnd, WriteEnd}
 use Rattle.bp_trail.specs.declared.entries.Reply.{Reply}
-use Rattle.bp_trail.specs.declared.entries.Reply.TheVariants.{Fixed, ReadFailed, Cleaned, StillDirty, WriteFailed, Clean, Absent}
+use Rattle.bp_trail.specs.declared.entries.Reply.TheVariants.{Fixed, Cleaned, StillDirty, WriteFailed, Clean, Absent}
 use Rattle.bp_trail.specs.Lists.{and_given}
 use Rattle.bp_trail.specs.Event.{Grant, grant}
 use Rattle.bp_trail.specs.Trail.{Trail}
 use Rattle.bp_trail.specs.Passes.{passes_out}
+use Rattle.bp_core.specs.ReadFaults.{read_refusal, read_failure}
 use Rattle.bp_core.specs.CoreView.{CoreView, with_entry}
 use Rattle.bp_core.specs.Outcomes.{Adds}
 use Rattle.bp_trail.specs.Pieces.{FixPiece, FlushPiece}
@@ -63,11 +65,13 @@ DrivesFlush old client page (Ok flushed) new = AddsPiece old (λ piece. FlushPie
 DrivesFlush old client page (Err refusal) new = AddsPiece old (λ piece. FlushPiece driver client page piece (refused (number_of refusal))) None new
 
 -- the end of a read or of a write-out whose ticket is known
-abbrev pub LoadOutcome : CoreView → ReadTicket → Result Pass Refusal → CoreView → Type 0
-LoadOutcome old ticket (Ok pass) new =
+abbrev pub LoadOutcome : CoreView → ReadTicket → Result (List ℕ) PortFault → Result Pass Refusal → CoreView → Type 0
+LoadOutcome old ticket (Ok image) (Ok pass) new =
     (pass.client ≡ ticket.client) × (pass.page ≡ ticket.page)
-    × ((image : List ℕ) × (new ≡ with_entry old ticket.client (ReadEnd ticket.serial ticket.page (Some image)) (Fixed pass.serial)))
-LoadOutcome old ticket (Err refusal) new = (refusal ≡ ReadRefused) × (new ≡ with_entry old ticket.client (ReadEnd ticket.serial ticket.page None) ReadFailed)
+    × (new ≡ with_entry old ticket.client (ReadEnd ticket.serial ticket.page (Some image)) (Fixed pass.serial))
+LoadOutcome old ticket (Err fault) (Err refusal) new =
+    (refusal ≡ read_refusal fault) × (new ≡ with_entry old ticket.client (ReadEnd ticket.serial ticket.page None) (read_failure fault))
+LoadOutcome old ticket _ _ new = ⊥
 
 abbrev pub SaveOutcome : CoreView → WriteTicket → Result Ended Refusal → CoreView → Type 0
 SaveOutcome old ticket (Ok ended) new = Adds old ticket.client (WriteEnd ticket.serial ticket.page true) (ended_reply ended) new

@@ -1,8 +1,10 @@
 -- What a port says of itself.
-use Rattle.std.specs.Prelude.{◌≡◌, ◌⊎◌, ℕ, ◌<◌, ◌^◌, ◌+◌, Result, Ok, Err}
+use Rattle.std.specs.Prelude.{◌≡◌, ◌⊎◌, ℕ, Bool, true, false, ◌<◌, ◌^◌, ◌+◌, Result, Ok, Err}
 use Rattle.bp_page.specs.declared.limits.Geometry.{Geometry}
 use Rattle.bp_page.specs.declared.refusals.PortFault.{PortFault}
-use Rattle.bp_page.specs.declared.refusals.PortFault.TheVariants.{Device, Memory}
+use Rattle.bp_page.specs.declared.slots.Format.{Format}
+use Rattle.bp_page.specs.declared.slots.Format.TheVariants.{Plain, Headed}
+use Rattle.bp_page.specs.declared.refusals.PortFault.TheVariants.{Device, Memory, WrongPage}
 
 -- one failure more, where the count still has room for it
 abbrev pub IsCounted : ℕ → ℕ → Type 0
@@ -12,12 +14,19 @@ IsCounted old new = (old < new) ⊎ ((old + 1 ≡ 2 ^ 64) × (new ≡ old))
 abbrev pub Counts : {A : Type 0} → Result A PortFault → ℕ → ℕ → Type 0
 Counts (Ok done) old new = new ≡ old
 Counts (Err Memory) old new = new ≡ old
+Counts (Err WrongPage) old new = new ≡ old
 Counts (Err Device) old new = IsCounted old new
 
--- what a caller sees of a port: its device's pages and their size, and the failures that it has counted
+-- what a caller sees of a port: its device's pages and their size, the failures that it has counted, and whether the pages stand with their numbers
 pub record PortView : Type 0 where
   pub device : Geometry
   pub failures : ℕ
+  pub headed : Bool
 
 abbrev pub new_port : Geometry → PortView
-new_port geometry = record { device = geometry; failures = 0 }
+new_port geometry = record { device = geometry; failures = 0; headed = false }
+
+-- whether pages stand with their numbers in a file of this version
+abbrev pub has_headers : Format → Bool
+has_headers Plain = false
+has_headers Headed = true

@@ -29,7 +29,7 @@ fn load<K: Keeper>(
 ) -> Result<Pass, Refusal>
     requires size { IfOk read (λ image. length image ≡ core.old.parameters.size) }
     requires known { KnowsRead core.old ticket }
-    ensures outcome { LoadOutcome core.old ticket result core.new }
+    ensures outcome { LoadOutcome core.old ticket read result core.new }
 {
     match core.read_end(ticket, read) {
         Ok(pass) => Ok(pass),
@@ -57,7 +57,8 @@ fn save<K: Keeper>(
 /// Fixes a page over a core that nobody else uses: reads it where it is away, and first writes out the victim where that is unsaved.
 ///
 /// Refused as `Core::fix` is, then with nothing changed but the entries of its steps so far; with `ReadFailed` where the page could not
-/// be read, which is then not resident; with `WriteFailed` where the victim could not be written, which then stays, unsaved.
+/// be read, and `WrongPage` where another page was found in its place, which is then not resident; with `WriteFailed` where the victim
+/// could not be written, which then stays, unsaved.
 pub fn drive_fix<K: Keeper, P: Port, R: Wait>(
     rt: &R,
     core: &mut PoolCore<K>,
@@ -78,7 +79,7 @@ pub fn drive_fix<K: Keeper, P: Port, R: Wait>(
             load(core, ticket, read)
         }
         Ok(Fix::WriteFirst(ticket)) => {
-            let written = port.write(rt, ticket.page(), ticket.image());
+            let written = port.write(rt, ticket.page(), ticket.image(), ticket.lsn());
             match save(core, ticket, written) {
                 // Nobody else acts meanwhile: the victim is saved and still the victim, so the same fix finds its frame.
                 Ok(_) => match core.fix(client, page) {
@@ -117,7 +118,7 @@ pub fn drive_flush<K: Keeper, P: Port, R: Wait>(
         Ok(Flush::Clean) => Ok(Flushed::Clean),
         Ok(Flush::Absent) => Ok(Flushed::Absent),
         Ok(Flush::WriteFirst(ticket)) => {
-            let written = port.write(rt, ticket.page(), ticket.image());
+            let written = port.write(rt, ticket.page(), ticket.image(), ticket.lsn());
             match save(core, ticket, written) {
                 Ok(Ended::Cleaned) => Ok(Flushed::Cleaned),
                 Ok(Ended::StillDirty) => Ok(Flushed::StillDirty),

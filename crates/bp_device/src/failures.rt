@@ -42,6 +42,7 @@ impl Failures {
         }
         PortFault::Device
     }
+
     /// Counts a failure of another port as one of this one.
     pub(crate) fn counted<T>(&mut self, outcome: Result<T, PortFault>) -> Result<T, PortFault>
         ensures same { result ≡ outcome }
@@ -50,6 +51,7 @@ impl Failures {
         match outcome {
             Ok(done) => Ok(done),
             Err(PortFault::Memory) => Err(PortFault::Memory),
+            Err(PortFault::WrongPage) => Err(PortFault::WrongPage),
             Err(PortFault::Device) => Err(self.add()),
         }
     }

@@ -1,13 +1,16 @@
 //! A page file, and the port on it.
-ghost use Rattle.std.specs.Prelude.{◌≡◌, ◌⊎◌, ◌*◌, ◌↔◌, IsOk, IfOk, IfErr, OnErr, vec_len};
+ghost use Rattle.std.specs.Prelude.{◌≡◌, ◌≢◌, ◌⊎◌, ◌*◌, ◌↔◌, true, IsOk, IfOk, IfErr, OnErr, length, vec_len};
 ghost use Rattle.bp_page.specs.Limits.{IsGeometry};
-ghost use Rattle.bp_device.specs.Ports.{PortView};
+ghost use Rattle.bp_page.specs.Slots.{slot_size};
+ghost use Rattle.bp_device.specs.Ports.{PortView, has_headers};
 ghost use Rattle.bp_device.specs.Files.{IsFileLength};
 
 use crate::failures::Failures;
 use crate::places::start_of;
 use crate::port::Port;
-use bp_page::{Geometry, Image, PageNo, PortFault, Refusal, unslot};
+use bp_page::{
+    Format, Geometry, Image, Lsn, PageNo, PortFault, Refusal, fill_slot2, unslot, unslot2,
+};
 use std::alloc::Global;
 use std::fs::{File, OpenOptions};
 use std::marker::Model;
@@ -26,54 +29,59 @@ pub enum OpenFault {
     Port(PortFault),
 }
 
-/// A client's way to a page file of version 1: page p stands at byte p · size, as its bytes.
+/// A client's way to a page file. In version 1 page p stands at byte p · size, as its bytes; in version 2 at byte p · (size + 16), after
+/// its number and its page LSN.
 #[derive(Drop)]
 pub struct FilePort {
     alloc: Global,
     device: Geometry,
+    format: Format,
     file: File,
+    /// A slot.
     buffer: Vec<u8>,
     count: Failures,
-    ghost room: { vec_len buffer ≡ device.size },
+    ghost room: { vec_len buffer ≡ slot_size format device.size },
 }
 
 impl Model for FilePort {
     ghost Value = { PortView };
 
-    ghost view = { λ p. record { device = p.device; failures = p.count } };
+    ghost view = { λ p. record { device = p.device; failures = p.count; headed = has_headers p.format } };
 }
 
-/// The geometry of a file of so many bytes, in pages of this size. `BadLength` where they are no whole pages, none, or too many.
-fn geometry_of_file(bytes: u64, size: usize) -> Result<Geometry, Refusal>
+/// The geometry of a file of so many bytes, in slots of pages of this size. `BadLength` where they are no whole slots, none, or too many.
+fn geometry_of_file(bytes: u64, size: usize, format: Format) -> Result<Geometry, Refusal>
     requires size { IsGeometry 1 size }
-    ensures accepted { IsOk result ↔ IsFileLength size bytes }
+    ensures accepted { IsOk result ↔ IsFileLength (slot_size format size) bytes }
     ensures refused { OnErr result (result ≡ Err Refusal.BadLength) }
     ensures size { IfOk result (λ geometry. geometry.size ≡ size) }
-    ensures pages { IfOk result (λ geometry. bytes ≡ geometry.pages * size) }
+    ensures pages { IfOk result (λ geometry. bytes ≡ geometry.pages * slot_size format size) }
 {
-    let page_size = size as u64;
-    if bytes % page_size != 0 {
+    let slot = format.slot_size(size) as u64;
+    if bytes % slot != 0 {
         return Err(Refusal::BadLength);
     }
-    match Geometry::new(bytes / page_size, size) {
+    match Geometry::new(bytes / slot, size) {
         Ok(geometry) => Ok(geometry),
         Err(_) => Err(Refusal::BadLength),
     }
 }
 
 impl FilePort {
-    /// Opens a page file for reading and writing. It is neither made nor cut, and its length tells how many pages it has.
+    /// Opens a page file of this version for reading and writing. It is neither made nor cut, and its length tells how many pages it has.
     ///
-    /// `Refused(BadLength)` where it is no positive number of whole pages of this size, or more than 1,048,576;
+    /// `Refused(BadLength)` where it is no positive number of whole slots of pages of this size, or more than 1,048,576;
     /// `Port(Device)` where it can't be opened, and `Port(Memory)` where a page's bytes can't be had.
     pub fn open<R: Files<File = File>, P: AsPath>(
         rt: &R,
         alloc: Global,
         path: P,
         size: usize,
+        format: Format,
     ) -> Result<FilePort, OpenFault>
         requires size { IsGeometry 1 size }
         ensures opened { IfOk result (λ port. (port.device.size ≡ size) × (port.failures ≡ 0)) }
+        ensures headed { IfOk result (λ port. port.headed ≡ has_headers format) }
         ensures refused { IfErr result (λ fault. (fault ≡ OpenFault.Refused Refusal.BadLength) ⊎ ((fault ≡ OpenFault.Port PortFault.Device) ⊎ (fault ≡ OpenFault.Port PortFault.Memory))) }
     {
         let Ok(file) = OpenOptions::new().read(true).write(true).open(rt, path) else {
@@ -82,19 +90,35 @@ impl FilePort {
         let Ok(metadata) = file.metadata() else {
             return Err(OpenFault::Port(PortFault::Device));
         };
-        let Ok(device) = geometry_of_file(metadata.len(), size) else {
+        let Ok(device) = geometry_of_file(metadata.len(), size, format) else {
             return Err(OpenFault::Refused(Refusal::BadLength));
         };
-        let Ok(buffer) = vec![in alloc; 0u8; size] else {
+        let Ok(buffer) = vec![in alloc; 0u8; format.slot_size(size)] else {
             return Err(OpenFault::Port(PortFault::Memory));
         };
         Ok(FilePort {
             alloc,
             device,
+            format,
             file,
             buffer,
             count: Failures::none(),
         })
+    }
+
+    /// The image in the buffer, which was read as the slot of this page.
+    fn image_read(&self, page: PageNo) -> Result<Image, PortFault>
+        ensures size { IfOk result (λ image. length image ≡ self.now.device.size) }
+        ensures wrong { result ≡ Err PortFault.WrongPage → self.now.headed ≡ true }
+        ensures not_counted { result ≢ Err PortFault.Device }
+    {
+        match self.format {
+            Format::Plain => unslot(self.alloc, &self.buffer),
+            Format::Headed => match unslot2(self.alloc, page, &self.buffer) {
+                Ok((_, image)) => Ok(image),
+                Err(fault) => Err(fault),
+            },
+        }
     }
 }
 
@@ -102,6 +126,8 @@ impl Port for FilePort {
     ghost geometry_of = { λ p. p.device };
 
     ghost failures_of = { λ p. p.failures };
+
+    ghost is_headed = { λ p. p.headed };
 
     fn geometry(&self) -> Geometry {
         self.device
@@ -112,24 +138,37 @@ impl Port for FilePort {
     }
 
     fn read<R: Wait>(&mut self, _rt: &R, page: PageNo) -> Result<Image, PortFault> {
-        let Some(start) = start_of(&self.device, page) else {
+        let Some(start) = start_of(&self.device, self.buffer.len(), page) else {
             return Err(self.count.add());
         };
         match self.file.read_exact_at(&mut self.buffer, start) {
-            Ok(()) => unslot(self.alloc, &self.buffer),
+            Ok(()) => self.image_read(page),
             Err(_) => Err(self.count.add()),
         }
     }
 
-    // The bytes of a version 1 slot are the image's own, so a write takes no memory.
-    fn write<R: Wait>(&mut self, _rt: &R, page: PageNo, image: &Image) -> Result<(), PortFault> {
-        let Some(start) = start_of(&self.device, page) else {
+    // A slot of version 1 is the image's own bytes, and one of version 2 is made in the buffer, so a write takes no memory.
+    fn write<R: Wait>(
+        &mut self,
+        _rt: &R,
+        page: PageNo,
+        image: &Image,
+        lsn: Lsn,
+    ) -> Result<(), PortFault> {
+        let Some(start) = start_of(&self.device, self.buffer.len(), page) else {
             return Err(self.count.add());
         };
         if image.bytes().len() != self.device.size {
             return Err(self.count.add());
         }
-        match self.file.write_all_at(image.bytes(), start) {
+        let written = match self.format {
+            Format::Plain => self.file.write_all_at(image.bytes(), start),
+            Format::Headed => {
+                fill_slot2(&mut self.buffer, page, lsn, image);
+                self.file.write_all_at(&self.buffer, start)
+            }
+        };
+        match written {
             Ok(()) => Ok(()),
             Err(_) => Err(self.count.add()),
         }

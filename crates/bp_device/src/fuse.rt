@@ -1,10 +1,10 @@
 //! A port that fails once, for tests of what a failing device leaves.
-ghost use Rattle.std.specs.Prelude.{◌≡◌, ◌-◌, ◌↔◌, IsTrue, IfOk, OnErr, length};
+ghost use Rattle.std.specs.Prelude.{◌≡◌, ◌≢◌, true, ◌-◌, ◌↔◌, IsTrue, IfOk, OnErr, length};
 ghost use Rattle.bp_device.specs.Ports.{Counts};
 
 use crate::failures::Failures;
 use crate::port::Port;
-use bp_page::{Geometry, Image, PageNo, PortFault, Refusal};
+use bp_page::{Geometry, Image, Lsn, PageNo, PortFault, Refusal};
 use std::alloc::Global;
 use std::sync::Wait;
 
@@ -72,6 +72,8 @@ impl<P: Port> Port for FusePort<P> {
 
     ghost failures_of = { λ p. p.count };
 
+    ghost is_headed = { λ p. P.is_headed p.inner };
+
     fn geometry(&self) -> Geometry {
         self.inner.geometry()
     }
@@ -82,7 +84,9 @@ impl<P: Port> Port for FusePort<P> {
 
     fn read<R: Wait>(&mut self, rt: &R, page: PageNo) -> Result<Image, PortFault>
         ensures size { IfOk result (λ image. length image ≡ (P.geometry_of self.old.inner).size) }
+        ensures wrong { result ≡ Err PortFault.WrongPage → P.is_headed self.old.inner ≡ true }
         ensures same { P.geometry_of self.new.inner ≡ P.geometry_of self.old.inner }
+        ensures alike { P.is_headed self.new.inner ≡ P.is_headed self.old.inner }
         ensures counts { Counts result self.old.count self.new.count }
         ensures left { self.new.left ≡ self.old.left - 1 }
         ensures fails { self.old.left ≡ 1 → (result ≡ Err PortFault.Device) × (self.new.inner ≡ self.old.inner) }
@@ -94,19 +98,27 @@ impl<P: Port> Port for FusePort<P> {
         self.count.counted(read)
     }
 
-    fn write<R: Wait>(&mut self, rt: &R, page: PageNo, image: &Image) -> Result<(), PortFault>
+    fn write<R: Wait>(
+        &mut self,
+        rt: &R,
+        page: PageNo,
+        image: &Image,
+        lsn: Lsn,
+    ) -> Result<(), PortFault>
+        ensures never_wrong { result ≢ Err PortFault.WrongPage }
         ensures same { P.geometry_of self.new.inner ≡ P.geometry_of self.old.inner }
+        ensures alike { P.is_headed self.new.inner ≡ P.is_headed self.old.inner }
         ensures counts { Counts result self.old.count self.new.count }
         ensures left { self.new.left ≡ self.old.left - 1 }
         ensures fails { self.old.left ≡ 1 → result ≡ Err PortFault.Device }
     {
         if self.blows() {
             if let Some(spoiled) = &self.spoiled {
-                let _ = self.inner.write(rt, page, spoiled);
+                let _ = self.inner.write(rt, page, spoiled, lsn);
             }
             return Err(self.count.add());
         }
-        let written = self.inner.write(rt, page, image);
+        let written = self.inner.write(rt, page, image, lsn);
         self.count.counted(written)
     }
 }

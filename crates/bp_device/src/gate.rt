@@ -1,10 +1,10 @@
 //! Ports in pairs that wait for one another, for tests that the device work of two clients overlaps.
-ghost use Rattle.std.specs.Prelude.{◌≡◌, ◌<◌, IsTrue, IfOk, OnErr, length};
+ghost use Rattle.std.specs.Prelude.{◌≡◌, ◌≢◌, true, ◌<◌, IsTrue, IfOk, OnErr, length};
 ghost use Rattle.bp_device.specs.Ports.{Counts};
 
 use crate::failures::Failures;
 use crate::port::Port;
-use bp_page::{Geometry, Image, PageNo, PortFault, Refusal};
+use bp_page::{Geometry, Image, Lsn, PageNo, PortFault, Refusal};
 use std::alloc::Global;
 use std::sync::{Arc, Mutex, Wait};
 use std::thread;
@@ -121,6 +121,8 @@ impl<P: Port> Port for GatePort<P> {
 
     ghost failures_of = { λ p. p.count };
 
+    ghost is_headed = { λ p. P.is_headed p.inner };
+
     fn geometry(&self) -> Geometry {
         self.inner.geometry()
     }
@@ -131,7 +133,9 @@ impl<P: Port> Port for GatePort<P> {
 
     fn read<R: Wait>(&mut self, rt: &R, page: PageNo) -> Result<Image, PortFault>
         ensures size { IfOk result (λ image. length image ≡ (P.geometry_of self.old.inner).size) }
+        ensures wrong { result ≡ Err PortFault.WrongPage → P.is_headed self.old.inner ≡ true }
         ensures same { P.geometry_of self.new.inner ≡ P.geometry_of self.old.inner }
+        ensures alike { P.is_headed self.new.inner ≡ P.is_headed self.old.inner }
         ensures counts { Counts result self.old.count self.new.count }
         ensures turns { self.new.turns ≡ self.old.turns }
         ensures shut { self.old.turns ≡ 0 → (result ≡ Err PortFault.Device) × (self.new.inner ≡ self.old.inner) }
@@ -143,8 +147,16 @@ impl<P: Port> Port for GatePort<P> {
         self.count.counted(read)
     }
 
-    fn write<R: Wait>(&mut self, rt: &R, page: PageNo, image: &Image) -> Result<(), PortFault>
+    fn write<R: Wait>(
+        &mut self,
+        rt: &R,
+        page: PageNo,
+        image: &Image,
+        lsn: Lsn,
+    ) -> Result<(), PortFault>
+        ensures never_wrong { result ≢ Err PortFault.WrongPage }
         ensures same { P.geometry_of self.new.inner ≡ P.geometry_of self.old.inner }
+        ensures alike { P.is_headed self.new.inner ≡ P.is_headed self.old.inner }
         ensures counts { Counts result self.old.count self.new.count }
         ensures turns { self.new.turns ≡ self.old.turns }
         ensures shut { self.old.turns ≡ 0 → (result ≡ Err PortFault.Device) × (self.new.inner ≡ self.old.inner) }
@@ -152,7 +164,7 @@ impl<P: Port> Port for GatePort<P> {
         if !self.writes.opens(rt, self.turns) {
             return Err(self.count.add());
         }
-        let written = self.inner.write(rt, page, image);
+        let written = self.inner.write(rt, page, image, lsn);
         self.count.counted(written)
     }
 }

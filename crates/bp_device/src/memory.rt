@@ -1,12 +1,12 @@
 //! A device in memory, and the ports on it.
-ghost use Rattle.std.specs.Prelude.{◌≡◌, ◌*◌, IfOk, OnErr};
+ghost use Rattle.std.specs.Prelude.{◌≡◌, ◌*◌, false, IfOk, OnErr};
 ghost use Rattle.bp_page.specs.declared.limits.Geometry.{Geometry};
 ghost use Rattle.bp_device.specs.Ports.{PortView, new_port};
 
 use crate::failures::Failures;
 use crate::places::start_of;
 use crate::port::Port;
-use bp_page::{Geometry, Image, PageNo, PortFault, Refusal};
+use bp_page::{Geometry, Image, Lsn, PageNo, PortFault, Refusal};
 use std::alloc::Global;
 use std::marker::Model;
 use std::sync::{Arc, Mutex, Wait};
@@ -74,13 +74,15 @@ pub struct MemPort {
 impl Model for MemPort {
     ghost Value = { PortView };
 
-    ghost view = { λ p. record { device = p.device; failures = p.count } };
+    ghost view = { λ p. record { device = p.device; failures = p.count; headed = false } };
 }
 
 impl Port for MemPort {
     ghost geometry_of = { λ p. p.device };
 
     ghost failures_of = { λ p. p.failures };
+
+    ghost is_headed = { λ p. p.headed };
 
     fn geometry(&self) -> Geometry {
         self.device
@@ -91,7 +93,7 @@ impl Port for MemPort {
     }
 
     fn read<R: Wait>(&mut self, rt: &R, page: PageNo) -> Result<Image, PortFault> {
-        let Some(start) = start_of(&self.device, page) else {
+        let Some(start) = start_of(&self.device, self.device.size, page) else {
             return Err(self.count.add());
         };
         let start = start as usize;
@@ -108,8 +110,15 @@ impl Port for MemPort {
         }
     }
 
-    fn write<R: Wait>(&mut self, rt: &R, page: PageNo, image: &Image) -> Result<(), PortFault> {
-        let Some(start) = start_of(&self.device, page) else {
+    // The LSN is not kept.
+    fn write<R: Wait>(
+        &mut self,
+        rt: &R,
+        page: PageNo,
+        image: &Image,
+        _lsn: Lsn,
+    ) -> Result<(), PortFault> {
+        let Some(start) = start_of(&self.device, self.device.size, page) else {
             return Err(self.count.add());
         };
         let start = start as usize;

@@ -1,15 +1,16 @@
 //! A client's way to the pages of a device.
 
-use bp_page::{Geometry, Image, PageNo, PortFault};
+use bp_page::{Geometry, Image, Lsn, PageNo, PortFault};
 use std::sync::Wait;
 
 /// A client's way to the pages of a device. What a read finds there, no port promises.
 ///
 /// A fault is `Device` only where the port counts a failure in that call (the count stays at 2^64 − 1 once it is there),
 /// and `Memory` only where the image's memory was refused. A page that the device does not have, or an image of another
-/// size than its pages, is a failure of the device.
+/// size than its pages, is a failure of the device. `WrongPage` is none: a read alone answers it, and only of a device whose
+/// pages stand with their numbers, where another page's number stands in the page's place.
 pub trait Port: Drop {
-    ghost use Rattle.std.specs.Prelude.{◌≡◌, ℕ, length, IfOk};
+    ghost use Rattle.std.specs.Prelude.{◌≡◌, ◌≢◌, ℕ, Bool, true, length, IfOk};
     ghost use Rattle.bp_page.specs.declared.limits.Geometry.{Geometry};
     ghost use Rattle.bp_device.specs.Ports.{Counts};
 
@@ -17,6 +18,8 @@ pub trait Port: Drop {
     ghost geometry_of: { Self → Geometry };
     // How many failures it has counted.
     ghost failures_of: { Self → ℕ };
+    // Whether its pages stand with their numbers.
+    ghost is_headed: { Self → Bool };
 
     /// How many pages the device has, and of what size.
     fn geometry(&self) -> Geometry
@@ -29,11 +32,21 @@ pub trait Port: Drop {
     /// Reads a page. The image has the size of the device's pages.
     fn read<R: Wait>(&mut self, rt: &R, page: PageNo) -> Result<Image, PortFault>
         ensures size { IfOk result (λ image. length image ≡ (geometry_of self.old).size) }
+        ensures wrong { result ≡ Err PortFault.WrongPage → is_headed self.old ≡ true }
         ensures same { geometry_of self.new ≡ geometry_of self.old }
+        ensures alike { is_headed self.new ≡ is_headed self.old }
         ensures counts { Counts result (failures_of self.old) (failures_of self.new) };
 
-    /// Writes an image of a page.
-    fn write<R: Wait>(&mut self, rt: &R, page: PageNo, image: &Image) -> Result<(), PortFault>
+    /// Writes an image of a page, with its page LSN, which a device may keep or not.
+    fn write<R: Wait>(
+        &mut self,
+        rt: &R,
+        page: PageNo,
+        image: &Image,
+        lsn: Lsn,
+    ) -> Result<(), PortFault>
+        ensures never_wrong { result ≢ Err PortFault.WrongPage }
         ensures same { geometry_of self.new ≡ geometry_of self.old }
+        ensures alike { is_headed self.new ≡ is_headed self.old }
         ensures counts { Counts result (failures_of self.old) (failures_of self.new) };
 }

@@ -1,7 +1,7 @@
 -- The number of each refusal.
 use Rattle.std.specs.Prelude.{ℕ}
 use Rattle.bp_page.specs.declared.refusals.Refusal.{Refusal}
-use Rattle.bp_page.specs.declared.refusals.Refusal.TheVariants.{BadGeometry, BadSettings, BadLength, NoVictim, NeedLog, Busy, UnknownPass, UnknownTicket, ReadFailed, WriteFailed, TrailFull, ClockFull, OutOfMemory, RingFull, Disagree, BadShape, BadClient, BadOp, BadNumber, BadHex, OutOfPage, TooLong, ReadFault}
+use Rattle.bp_page.specs.declared.refusals.Refusal.TheVariants.{BadGeometry, BadSettings, BadLength, NoVictim, NeedLog, Busy, UnknownPass, UnknownTicket, ReadFailed, WriteFailed, WrongPage, TrailFull, ClockFull, OutOfMemory, RingFull, Disagree, BadShape, BadClient, BadOp, BadNumber, BadHex, OutOfPage, TooLong, ReadFault}
 
 abbrev pub number_of : Refusal → ℕ
 number_of BadGeometry = 1
@@ -14,6 +14,7 @@ number_of UnknownPass = 14
 number_of UnknownTicket = 16
 number_of ReadFailed = 17
 number_of WriteFailed = 18
+number_of WrongPage = 19
 number_of TrailFull = 20
 number_of ClockFull = 21
 number_of OutOfMemory = 22

@@ -11,4 +11,4 @@ pub use images::{Bytes, Image};
 pub use limits::Geometry;
 pub use numbers::{Lsn, PageNo};
 pub use refusals::{PortFault, Refusal};
-pub use slots::{slot, unslot};
+pub use slots::{Format, fill_slot2, slot, slot2, unslot, unslot2};

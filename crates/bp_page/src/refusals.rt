@@ -28,6 +28,8 @@ pub enum Refusal {
     ReadFailed,
     #[error("the page could not be written")]
     WriteFailed,
+    #[error("the page's place in its file has another page")]
+    WrongPage,
     #[error("the trail has no room for the call")]
     TrailFull,
     #[error("the clock would pass its end")]
@@ -72,6 +74,7 @@ impl Refusal {
             Refusal::UnknownTicket => 16,
             Refusal::ReadFailed => 17,
             Refusal::WriteFailed => 18,
+            Refusal::WrongPage => 19,
             Refusal::TrailFull => 20,
             Refusal::ClockFull => 21,
             Refusal::OutOfMemory => 22,
@@ -96,4 +99,6 @@ pub enum PortFault {
     Device,
     #[error("out of memory")]
     Memory,
+    #[error("the page's place in its file has another page")]
+    WrongPage,
 }

@@ -1,5 +1,6 @@
 //! The page files of runs.
 use bp_device::{OpenFault, Port};
+use bp_page::Format;
 use std::marker::Send;
 
 /// Opens the page files that words name: `mem:N` is N pages of zero bytes in memory, any other word is a path.
@@ -10,12 +11,14 @@ pub trait Ports<R> {
     ghost use Rattle.bp_page.specs.Limits.{IsGeometry};
     ghost use Rattle.bp_run.specs.PageFile.{AreOpened};
 
-    /// Opens a page file whose pages have `size` bytes, once for each client. All ports are to the same pages.
+    /// Opens a page file whose pages have `size` bytes, once for each client. A file at a path has this format; pages in memory have
+    /// none. All ports are to the same pages.
     fn open(
         &mut self,
         rt: &R,
         word: &str,
         size: usize,
+        format: Format,
         clients: usize,
     ) -> Result<Vec<Self::P>, OpenFault>
         requires size { IsGeometry 1 size }

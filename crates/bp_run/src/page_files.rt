@@ -5,7 +5,7 @@ ghost use Rattle.bp_run.specs.AnyPort.{device_of, AreOf};
 
 use crate::opening::Ports;
 use bp_device::{FilePort, MemDevice, MemPort, OpenFault, Port};
-use bp_page::{Geometry, Image, PageNo, PortFault};
+use bp_page::{Format, Geometry, Image, Lsn, PageNo, PortFault};
 use bp_trace::numbers::parse_number;
 use std::alloc::Global;
 use std::fs::File;
@@ -22,11 +22,13 @@ pub enum AnyPort {
 }
 
 impl Port for AnyPort {
-    ghost use Rattle.bp_run.specs.AnyPort.{device_of, failures_of_any};
+    ghost use Rattle.bp_run.specs.AnyPort.{device_of, failures_of_any, is_headed_any};
 
     ghost geometry_of = { device_of };
 
     ghost failures_of = { failures_of_any };
+
+    ghost is_headed = { is_headed_any };
 
     fn geometry(&self) -> Geometry {
         match self {
@@ -49,10 +51,16 @@ impl Port for AnyPort {
         }
     }
 
-    fn write<R: Wait>(&mut self, rt: &R, page: PageNo, image: &Image) -> Result<(), PortFault> {
+    fn write<R: Wait>(
+        &mut self,
+        rt: &R,
+        page: PageNo,
+        image: &Image,
+        lsn: Lsn,
+    ) -> Result<(), PortFault> {
         match self {
-            AnyPort::Mem(port) => port.write(rt, page, image),
-            AnyPort::File(port) => port.write(rt, page, image),
+            AnyPort::Mem(port) => port.write(rt, page, image, lsn),
+            AnyPort::File(port) => port.write(rt, page, image, lsn),
         }
     }
 }
@@ -92,11 +100,12 @@ fn reopen<R: Files<File = File>>(
     rt: &R,
     alloc: Global,
     path: &str,
+    format: Format,
     geometry: Geometry,
 ) -> Result<AnyPort, OpenFault>
     ensures same { IfOk result (λ port. device_of port ≡ geometry) }
 {
-    let port = FilePort::open(rt, alloc, path, geometry.size)?;
+    let port = FilePort::open(rt, alloc, path, geometry.size, format)?;
     if port.geometry().pages != geometry.pages {
         return Err(OpenFault::Port(PortFault::Device));
     }
@@ -108,6 +117,7 @@ fn file_ports<R: Files<File = File>>(
     rt: &R,
     alloc: Global,
     path: &str,
+    format: Format,
     first: FilePort,
     clients: usize,
 ) -> Result<Vec<AnyPort>, OpenFault>
@@ -121,7 +131,7 @@ fn file_ports<R: Files<File = File>>(
     for _ in 0..clients {
         let port = match first.take() {
             Some(port) => port,
-            None => reopen(rt, alloc, path, geometry)?,
+            None => reopen(rt, alloc, path, format, geometry)?,
         };
         ports.push_reserved(port);
     }
@@ -149,6 +159,7 @@ impl<R: Files<File = File>> Ports<R> for PageFiles {
         rt: &R,
         word: &str,
         size: usize,
+        format: Format,
         clients: usize,
     ) -> Result<Vec<AnyPort>, OpenFault> {
         match memory_named(word) {
@@ -156,8 +167,8 @@ impl<R: Files<File = File>> Ports<R> for PageFiles {
                 Ok(geometry) => memory_ports(self.alloc, geometry, clients),
                 Err(refusal) => Err(OpenFault::Refused(refusal)),
             },
-            None => match FilePort::open(rt, self.alloc, word, size) {
-                Ok(first) => file_ports(rt, self.alloc, word, first, clients),
+            None => match FilePort::open(rt, self.alloc, word, size, format) {
+                Ok(first) => file_ports(rt, self.alloc, word, format, first, clients),
                 Err(fault) => Err(fault),
             },
         }

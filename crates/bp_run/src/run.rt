@@ -17,7 +17,7 @@ use crate::opening::Ports;
 use bp_core::{Core, Entry, Refused, Row};
 use bp_device::{OpenFault, Port, drive_all};
 use bp_lruk::Settings;
-use bp_page::{Geometry, PortFault, Refusal};
+use bp_page::{Format, Geometry, PortFault, Refusal};
 use bp_trace::{read_script, report, report_rows};
 use bp_words::{Ending, Order, RunWords, TraceSource, decide};
 use std::alloc::Global;
@@ -183,7 +183,8 @@ fn ending_of(fault: OpenFault) -> Ending
 {
     match fault {
         OpenFault::Refused(refusal) => Ending::PageFileRefused(refusal),
-        OpenFault::Port(PortFault::Device) => Ending::PageFileNotOpened,
+        // No page is read yet, so that none is wrong.
+        OpenFault::Port(PortFault::Device | PortFault::WrongPage) => Ending::PageFileNotOpened,
         OpenFault::Port(PortFault::Memory) => Ending::PageFileRefused(Refusal::OutOfMemory),
     }
 }
@@ -199,7 +200,8 @@ fn open_ports<R, O: Ports<R>>(
     ensures opened { IfOk result (λ opened. AreOpened run.now.page_file.now run.now.page_size (map O.P.geometry_of opened.items)) }
     ensures fault { IfErr result (λ ending. is_help ending ≡ false) }
 {
-    match ports.open(rt, run.page_file, run.page_size, ports_for(run.order)) {
+    let clients = ports_for(run.order);
+    match ports.open(rt, run.page_file, run.page_size, Format::Plain, clients) {
         Ok(opened) => Ok(opened),
         Err(fault) => Err(ending_of(fault)),
     }

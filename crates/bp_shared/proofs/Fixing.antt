@@ -5,7 +5,7 @@ use Rattle.bp_page.specs.declared.refusals.Refusal.TheVariants as refusal
 use Rattle.bp_page.specs.declared.refusals.PortFault.{PortFault}
 use Rattle.bp_trail.specs.declared.entries.Entry.{Entry}
 use Rattle.bp_trail.specs.declared.entries.Call.TheVariants.{Fix, ReadEnd, WriteEnd}
-use Rattle.bp_trail.specs.declared.entries.Reply.TheVariants.{Hit, Load, WriteFirst, NoVictim, NeedLog, Busy, Fixed, ReadFailed, Cleaned, StillDirty, WriteFailed}
+use Rattle.bp_trail.specs.declared.entries.Reply.TheVariants.{Hit, Load, WriteFirst, NoVictim, NeedLog, Busy, Fixed, ReadFailed, WrongPage, Cleaned, StillDirty, WriteFailed}
 use Rattle.bp_core.specs.declared.passes.Pass.{Pass}
 use Rattle.bp_core.specs.declared.passes.ReadTicket.{ReadTicket}
 use Rattle.bp_core.specs.declared.passes.WriteTicket.{WriteTicket}
@@ -18,7 +18,7 @@ use Rattle.bp_trail.specs.Trail.{Trail}
 use Rattle.bp_trail.specs.Pieces.{by, FixGoesOn}
 use Rattle.bp_trail.specs.Pieces.Manner.{session}
 use Rattle.bp_trail.specs.Pieces.FixGoesOn.{begins, marked, waited, cleaned, still_dirty}
-use Rattle.bp_trail.specs.Pieces.FixPiece.{hit, fixed, no_victim, need_log, read_failed, write_failed, lost_read, lost_write, no_room, no_memory}
+use Rattle.bp_trail.specs.Pieces.FixPiece.{hit, fixed, no_victim, need_log, read_failed, wrong_page, write_failed, lost_read, lost_write, no_room, no_memory}
 use Rattle.bp_book.specs.Books.{OwesRead, OwesWrite}
 use Rattle.bp_book.specs.Turns.{is_busy, FixWaits, FixTurn, EndReadOutcome, EndWriteOutcome, LoadOutcome, WriteOutOutcome}
 use Rattle.bp_shared.specs.Sessions.{FixSaid}
@@ -124,8 +124,16 @@ load_said client page ticket evicted answer said mid after t l = go l.read answe
         let end = λ (c p : ℕ). by c (ReadEnd ticket.serial p None) ReadFailed in
         record {
           piece = end client page ∷ e ∷ w.piece;
-          grows = h ∙ ap (λ c. end c ticket.page ∷ mid) t.asks.0 ∙ ap (λ p. end client p ∷ mid) t.asks.1 ∙ ap (λ es. end client page ∷ es) grown;
+          grows = h.1 ∙ ap (λ c. end c ticket.page ∷ mid) t.asks.0 ∙ ap (λ p. end client p ∷ mid) t.asks.1 ∙ ap (λ es. end client page ∷ es) grown;
           of_row = (read_failed ticket.serial evicted w.goes_on, tt);
+          gives = gives_none client page w.piece w.goes_on;
+        }
+    go (Err fault) (Err refusal.WrongPage) h =
+        let end = λ (c p : ℕ). by c (ReadEnd ticket.serial p None) WrongPage in
+        record {
+          piece = end client page ∷ e ∷ w.piece;
+          grows = h.1 ∙ ap (λ c. end c ticket.page ∷ mid) t.asks.0 ∙ ap (λ p. end client p ∷ mid) t.asks.1 ∙ ap (λ es. end client page ∷ es) grown;
+          of_row = (wrong_page ticket.serial evicted w.goes_on, tt);
           gives = gives_none client page w.piece w.goes_on;
         }
     go (Ok image) (Err refusal.UnknownTicket) h = record { piece = e ∷ w.piece; grows = h ∙ grown; of_row = (lost_read ticket.serial evicted refl w.goes_on, tt); gives = gives_none client page w.piece w.goes_on }

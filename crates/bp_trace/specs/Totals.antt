@@ -3,7 +3,7 @@ use Rattle.std.specs.Prelude.{ℕ, ◌+◌, ◌^◌, ◌<◌, Bool, true, false,
 use Rattle.std.specs.Fmt.{decimal}
 use Rattle.bp_trail.specs.declared.entries.Entry.{Entry}
 use Rattle.bp_trail.specs.declared.entries.Reply.{Reply}
-use Rattle.bp_trail.specs.declared.entries.Reply.TheVariants.{Hit, Load, NoVictim, NeedLog, Busy, Fixed, ReadFailed, Cleaned, StillDirty, WriteFailed}
+use Rattle.bp_trail.specs.declared.entries.Reply.TheVariants.{Hit, Load, NoVictim, NeedLog, Busy, Fixed, ReadFailed, WrongPage, Cleaned, StillDirty, WriteFailed}
 use Rattle.bp_trace.specs.declared.totals.Totals.{Totals}
 
 abbrev pub is_hit : Reply → Bool
@@ -25,6 +25,7 @@ is_write _ = false
 
 abbrev pub is_failure : Reply → Bool
 is_failure ReadFailed = true
+is_failure WrongPage = true
 is_failure WriteFailed = true
 is_failure _ = false
 

@@ -46,7 +46,7 @@ impl Totals {
                 ..
             } => self.evictions += 1,
             Reply::Cleaned | Reply::StillDirty => self.writes += 1,
-            Reply::ReadFailed | Reply::WriteFailed => self.failed += 1,
+            Reply::ReadFailed | Reply::WrongPage | Reply::WriteFailed => self.failed += 1,
             Reply::NoVictim | Reply::NeedLog(_) | Reply::Busy => self.refused += 1,
             _ => {}
         }

@@ -19,7 +19,7 @@ use Rattle.bp_trail.specs.Device.{due, due_among, due_with, due_after, BringsDue
 use Rattle.bp_trail.proofs.Lists.{some-without}
 use Rattle.bp_trail.proofs.Victim.{victim-is}
 use Rattle.bp_trail.proofs.Events.{Event, event-of}
-use Rattle.bp_trail.proofs.Events.Event.{ticked, marked, fix_hit, fix_load, fix_replace, fix_write, fix_busy, fix_none, fix_log, flush_busy, flush_absent, flush_clean, flush_log, flush_write, read_good, read_bad, write_bad, write_clean, write_dirty, page_read, page_written, unfixed, purged}
+use Rattle.bp_trail.proofs.Events.Event.{ticked, marked, fix_hit, fix_load, fix_replace, fix_write, fix_busy, fix_none, fix_log, flush_busy, flush_absent, flush_clean, flush_log, flush_write, read_good, read_bad, read_wrong, write_bad, write_clean, write_dirty, page_read, page_written, unfixed, purged}
 use Rattle.bp_trail.proofs.Places.{places, out-of_page}
 use Rattle.bp_trail.proofs.Known.{is_known, is_known_with, known}
 
@@ -125,6 +125,7 @@ module _ (c : Parameters) (m : ℕ → List ℕ) (past : Trail) (who : ℕ) (l :
   faithful-with _ _ (fix_load p x f) d = h
   faithful-with _ _ (fix_hit p x r) d = h
   faithful-with _ _ (read_bad t p o) d = h
+  faithful-with _ _ (read_wrong t p o) d = h
   faithful-with _ _ (unfixed n p o) d = h
   faithful-with _ _ (ticked n) d = h
   faithful-with _ _ (marked lsn) d = h

@@ -1,11 +1,11 @@
 -- The forms that a lawful entry has, with what each says of the trail before it.
-use Rattle.std.proofs.Common.{◌≡◌, refl, sym, subst, ℕ, ◌≤◌, nat_lt, Bool, true, false, not, if◌then◌else◌, List, Option, Some, None}
+use Rattle.std.proofs.Common.{◌≡◌, refl, sym, subst, inl, inr, ℕ, ◌≤◌, nat_lt, Bool, true, false, not, if◌then◌else◌, List, Option, Some, None}
 use Rattle.std.proofs.lemmas.Bool.{and_parts, ltb-false}
 use Rattle.bp_trail.specs.declared.entries.Entry.{Entry}
 use Rattle.bp_trail.specs.declared.entries.Call.{Call}
 use Rattle.bp_trail.specs.declared.entries.Call.TheVariants.{Tick, Mark, Fix, ReadEnd, WriteEnd, Read, Write, Unfix, Flush, Purge}
 use Rattle.bp_trail.specs.declared.entries.Reply.{Reply}
-use Rattle.bp_trail.specs.declared.entries.Reply.TheVariants.{Done, Hit, Load, WriteFirst, NoVictim, NeedLog, Busy, Fixed, ReadFailed, Cleaned, StillDirty, WriteFailed, Content, Clean, Absent, Forgot}
+use Rattle.bp_trail.specs.declared.entries.Reply.TheVariants.{Done, Hit, Load, WriteFirst, NoVictim, NeedLog, Busy, Fixed, ReadFailed, WrongPage, Cleaned, StillDirty, WriteFailed, Content, Clean, Absent, Forgot}
 use Rattle.bp_trail.specs.Parameters.{Parameters}
 use Rattle.bp_trail.specs.Event.{grant}
 use Rattle.bp_trail.specs.Trail.{Trail}
@@ -16,7 +16,8 @@ use Rattle.bp_trail.specs.Saved.{unsaved, written_since, top}
 use Rattle.bp_trail.specs.Images.{held}
 use Rattle.bp_trail.specs.References.{forgotten}
 use Rattle.bp_trail.specs.Victim.{victim}
-use Rattle.bp_trail.specs.PageMap.{has_free_frame, replace_reply, fix_reply, flush_reply, write_end_reply, reply_of}
+use Rattle.bp_trail.specs.PageMap.{has_free_frame, replace_reply, fix_reply, flush_reply, write_end_reply, reply_of, MayReply}
+use Rattle.bp_trail.specs.PageMap.FindsWrongPage.{another_page}
 use Rattle.bp_trail.specs.Legal.{is_out, allowed, IsLawful}
 
 -- a fix that finds its page away
@@ -46,6 +47,7 @@ pub data Event (c : Parameters) (past : Trail) (who : ℕ) : Call → Reply → 
   flush_write : (p : ℕ) → resident past p ≡ true → writing past p ≡ false → MayGo past p → Event c past who (Flush p) (WriteFirst (tickets past) p (held past p))
   read_good : (t p : ℕ) (image : List ℕ) → is_out (grant who p t) (reads_out past) ≡ true → Event c past who (ReadEnd t p (Some image)) (Fixed (passes past))
   read_bad : (t p : ℕ) → is_out (grant who p t) (reads_out past) ≡ true → Event c past who (ReadEnd t p None) ReadFailed
+  read_wrong : (t p : ℕ) → is_out (grant who p t) (reads_out past) ≡ true → Event c past who (ReadEnd t p None) WrongPage
   write_bad : (t p : ℕ) → is_out (grant who p t) (writes_out past) ≡ true → Event c past who (WriteEnd t p false) WriteFailed
   write_clean : (t p : ℕ) → is_out (grant who p t) (writes_out past) ≡ true → written_since past t p ≡ false → Event c past who (WriteEnd t p true) Cleaned
   write_dirty : (t p : ℕ) → is_out (grant who p t) (writes_out past) ≡ true → written_since past t p ≡ true → Event c past who (WriteEnd t p true) StillDirty
@@ -108,5 +110,9 @@ module _ (c : Parameters) (past : Trail) (who : ℕ) where
   event_of_call (Unfix n p) a = unfixed n p a
   event_of_call Purge a = purged
 
+  event_of_reply : (call : Call) (reply : Reply) → allowed c past who call ≡ true → MayReply c past call reply → Event c past who call reply
+  event_of_reply call reply a (inl is) = subst (λ r. Event c past who call r) (sym is) (event_of_call call a)
+  event_of_reply _ _ a (inr (another_page t p)) = read_wrong t p (and_parts _ _ a).0
+
 pub event-of : (c : Parameters) (past : Trail) (e : Entry) → IsLawful c past e → Event c past e.client e.call e.reply
-event-of c past e l = subst (λ r. Event c past e.client e.call r) (sym l.reply) (event_of_call c past e.client e.call l.allowed)
+event-of c past e l = event_of_reply c past e.client e.call e.reply l.allowed l.reply

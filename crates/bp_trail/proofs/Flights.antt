@@ -17,7 +17,7 @@ use Rattle.bp_trail.specs.Images.{held}
 use Rattle.bp_trail.specs.Legal.{is_out, Legal}
 use Rattle.bp_trail.proofs.Victim.{victim-is}
 use Rattle.bp_trail.proofs.Events.{Event, event-of}
-use Rattle.bp_trail.proofs.Events.Event.{ticked, marked, fix_hit, fix_load, fix_replace, fix_write, fix_busy, fix_none, fix_log, flush_busy, flush_absent, flush_clean, flush_log, flush_write, read_good, read_bad, write_bad, write_clean, write_dirty, page_read, page_written, unfixed, purged}
+use Rattle.bp_trail.proofs.Events.Event.{ticked, marked, fix_hit, fix_load, fix_replace, fix_write, fix_busy, fix_none, fix_log, flush_busy, flush_absent, flush_clean, flush_log, flush_write, read_good, read_bad, read_wrong, write_bad, write_clean, write_dirty, page_read, page_written, unfixed, purged}
 use Rattle.bp_trail.proofs.Serials.{AllBelow, numbered}
 
 -- the write-out of p with this ticket began once, and no write-out of p began later
@@ -77,6 +77,7 @@ module _ (c : Parameters) (past : Trail) (who : ℕ) (b : AllBelow (tickets past
   flights-with _ _ (fix_hit p l r) = h
   flights-with _ _ (read_good t p image o) = h
   flights-with _ _ (read_bad t p o) = h
+  flights-with _ _ (read_wrong t p o) = h
   flights-with _ _ (unfixed n p o) = h
   flights-with _ _ (ticked n) = h
   flights-with _ _ (marked lsn) = h

@@ -15,7 +15,7 @@ use Rattle.bp_trail.specs.Legal.{is_out, Legal}
 use Rattle.bp_trail.specs.Sentences.{gives_back, unended, IsUnended, HasUnended}
 use Rattle.bp_trail.proofs.Elements.{contains-here, contains-later, contains-cases, contains-none}
 use Rattle.bp_trail.proofs.Events.{Event, event-of}
-use Rattle.bp_trail.proofs.Events.Event.{fix_hit, fix_load, fix_replace, fix_write, flush_write, read_good, read_bad, write_bad, write_clean, write_dirty, unfixed}
+use Rattle.bp_trail.proofs.Events.Event.{fix_hit, fix_load, fix_replace, fix_write, flush_write, read_good, read_bad, read_wrong, write_bad, write_clean, write_dirty, unfixed}
 use Rattle.bp_trail.proofs.Serials.{numbered, out-serial, same-grant-is}
 use Rattle.bp_trail.proofs.Known.{serial-below}
 
@@ -184,6 +184,7 @@ module _ (c : Parameters) where
     read-below : (call : Call) (reply : Reply) → Event c past who call reply → (n : ℕ) → read_ticket_back call ≡ Some n → suc n ≤ tickets past
     read-below _ _ (read_good t p image o) n i = let j : t ≡ n = cc in subst (λ x. suc x ≤ tickets past) j (serial-below t (tickets past) (reads_out past) (numbered c past l).reads_below (out-serial who p t (reads_out past) o))
     read-below _ _ (read_bad t p o) n i = let j : t ≡ n = cc in subst (λ x. suc x ≤ tickets past) j (serial-below t (tickets past) (reads_out past) (numbered c past l).reads_below (out-serial who p t (reads_out past) o))
+    read-below _ _ (read_wrong t p o) n i = let j : t ≡ n = cc in subst (λ x. suc x ≤ tickets past) j (serial-below t (tickets past) (reads_out past) (numbered c past l).reads_below (out-serial who p t (reads_out past) o))
     read-below _ _ _ n i = cc
 
     write-below : (call : Call) (reply : Reply) → Event c past who call reply → (n : ℕ) → write_ticket_back call ≡ Some n → suc n ≤ tickets past

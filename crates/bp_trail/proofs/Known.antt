@@ -18,7 +18,7 @@ use Rattle.bp_trail.specs.Legal.{is_out, Legal}
 use Rattle.bp_trail.proofs.Lists.{some-filter}
 use Rattle.bp_trail.proofs.Victim.{victim-is}
 use Rattle.bp_trail.proofs.Events.{Event, event-of}
-use Rattle.bp_trail.proofs.Events.Event.{ticked, marked, fix_hit, fix_load, fix_replace, fix_write, fix_busy, fix_none, fix_log, flush_busy, flush_absent, flush_clean, flush_log, flush_write, read_good, read_bad, write_bad, write_clean, write_dirty, page_read, page_written, unfixed, purged}
+use Rattle.bp_trail.proofs.Events.Event.{ticked, marked, fix_hit, fix_load, fix_replace, fix_write, fix_busy, fix_none, fix_log, flush_busy, flush_absent, flush_clean, flush_log, flush_write, read_good, read_bad, read_wrong, write_bad, write_clean, write_dirty, page_read, page_written, unfixed, purged}
 use Rattle.bp_trail.proofs.Places.{OnePage, OnePage-filter, one-gone}
 use Rattle.bp_trail.proofs.Serials.{AllBelow, numbered, out-serial, has_serial, rest}
 use Rattle.bp_trail.proofs.Flights.{in_flight, flights, since-other, in-flight-of}
@@ -96,6 +96,7 @@ module _ (c : Parameters) (past : Trail) (who : ℕ) (l : Legal c past) (h : Air
   airborne-with _ _ (fix_hit p l r) = h
   airborne-with _ _ (read_good t p image o) = h
   airborne-with _ _ (read_bad t p o) = h
+  airborne-with _ _ (read_wrong t p o) = h
   airborne-with _ _ (unfixed n p o) = h
   airborne-with _ _ (ticked n) = h
   airborne-with _ _ (marked lsn) = h
@@ -187,6 +188,7 @@ module _ (c : Parameters) (past : Trail) (who : ℕ) (l : Legal c past) (h : (p 
   known-with _ _ (fix_hit p l r) = h
   known-with _ _ (read_good t p image o) = h
   known-with _ _ (read_bad t p o) = h
+  known-with _ _ (read_wrong t p o) = h
   known-with _ _ (unfixed n p o) = h
   known-with _ _ (ticked n) = h
   known-with _ _ (marked lsn) = h

@@ -27,7 +27,7 @@ use Rattle.bp_trail.proofs.Lists.{member}
 use Rattle.bp_trail.proofs.Counting.{none-count}
 use Rattle.bp_trail.proofs.Words.{of-all}
 use Rattle.bp_trail.proofs.Events.{Event, event-of}
-use Rattle.bp_trail.proofs.Events.Event.{fix_write, flush_write, read_good, read_bad, page_read}
+use Rattle.bp_trail.proofs.Events.Event.{fix_write, flush_write, read_good, read_bad, read_wrong, page_read}
 use Rattle.bp_trail.proofs.Serials.{AllBelow, OneSerial, has_serial, numbered}
 use Rattle.bp_trail.proofs.Victim.{victim-is, candidate-resident}
 use Rattle.bp_trail.proofs.Places.{OnePage, places, out-of_page}
@@ -132,6 +132,7 @@ reads-known c past l m who p t o = due-known c m past who p t l o
 finds : (c : Parameters) (past : Trail) → Legal c past → (who : ℕ) (call : Call) (reply : Reply) → Event c past who call reply → FindsDue past (entry who call reply)
 finds c past l who _ _ (read_good u q given o) m t p image i = let j : q ≡ p = cc in subst (λ x. IsSome (due m past x)) j (due-known c m past who q u l o)
 finds c past l who _ _ (read_bad u q o) m t p image i = let j : q ≡ p = cc in subst (λ x. IsSome (due m past x)) j (due-known c m past who q u l o)
+finds c past l who _ _ (read_wrong u q o) m t p image i = let j : q ≡ p = cc in subst (λ x. IsSome (due m past x)) j (due-known c m past who q u l o)
 finds c past l who _ _ _ m t p image i = cc
 
 pub each-finds : (c : Parameters) (past : Trail) → Legal c past → EachEntry FindsDue past

@@ -18,7 +18,7 @@ use Rattle.bp_trail.specs.Legal.{is_out, Legal}
 use Rattle.bp_trail.proofs.Lists.{some-filter, some-without, some-mono, since-mono, count-none, member-filter}
 use Rattle.bp_trail.proofs.Victim.{victim-is}
 use Rattle.bp_trail.proofs.Events.{Event, event-of}
-use Rattle.bp_trail.proofs.Events.Event.{ticked, marked, fix_hit, fix_load, fix_replace, fix_write, fix_busy, fix_none, fix_log, flush_busy, flush_absent, flush_clean, flush_log, flush_write, read_good, read_bad, write_bad, write_clean, write_dirty, page_read, page_written, unfixed, purged}
+use Rattle.bp_trail.proofs.Events.Event.{ticked, marked, fix_hit, fix_load, fix_replace, fix_write, fix_busy, fix_none, fix_log, flush_busy, flush_absent, flush_clean, flush_log, flush_write, read_good, read_bad, read_wrong, write_bad, write_clean, write_dirty, page_read, page_written, unfixed, purged}
 
 -- no two of the grants are of one page
 abbrev pub OnePage : List Grant → Type 0
@@ -139,6 +139,12 @@ module _ (c : Parameters) (past : Trail) (who : ℕ) (h : Places past) where
     dirty = λ q l. or_right (p == q) (resident past q) (h.dirty q l);
   }
   places-with _ _ (read_bad t p o) = record {
+    away = λ q l. h.away q (some-without (is_of q) (λ g. g.serial) (Some t) (reads_out past) l);
+    once = OnePage-filter (λ g. not (g.serial == t)) (reads_out past) h.once;
+    pinned = h.pinned;
+    dirty = h.dirty;
+  }
+  places-with _ _ (read_wrong t p o) = record {
     away = λ q l. h.away q (some-without (is_of q) (λ g. g.serial) (Some t) (reads_out past) l);
     once = OnePage-filter (λ g. not (g.serial == t)) (reads_out past) h.once;
     pinned = h.pinned;

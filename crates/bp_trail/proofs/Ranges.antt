@@ -19,7 +19,7 @@ use Rattle.bp_trail.specs.Legal.{is_out, allowed, Legal}
 use Rattle.bp_trail.proofs.Lists.{some-filter, member-filter}
 use Rattle.bp_trail.proofs.Victim.{victim-is, candidate-resident}
 use Rattle.bp_trail.proofs.Events.{Event, event-of}
-use Rattle.bp_trail.proofs.Events.Event.{ticked, marked, fix_hit, fix_load, fix_replace, fix_write, fix_busy, fix_none, fix_log, flush_busy, flush_absent, flush_clean, flush_log, flush_write, read_good, read_bad, write_bad, write_clean, write_dirty, page_read, page_written, unfixed, purged}
+use Rattle.bp_trail.proofs.Events.Event.{ticked, marked, fix_hit, fix_load, fix_replace, fix_write, fix_busy, fix_none, fix_log, flush_busy, flush_absent, flush_clean, flush_log, flush_write, read_good, read_bad, read_wrong, write_bad, write_clean, write_dirty, page_read, page_written, unfixed, purged}
 use Rattle.bp_trail.proofs.Serials.{AllBelow, numbered}
 use Rattle.bp_trail.proofs.Places.{out-of_page}
 
@@ -46,6 +46,7 @@ module _ (c : Parameters) (past : Trail) (who : ℕ) (h : InRange c past) where
     pages = λ q k. elim (or_cases (p == q) (resident past q) k) [ inl e ↦ subst (λ x. nat_lt x c.pages ≡ true) (eqb-true p q e) (h.reads p (out-of_page who p t (reads_out past) o)) | inr l ↦ h.pages q l ];
   }
   ranges-with _ _ (read_bad t p o) a = record { reads = λ q l. h.reads q (some-filter (is_of q) (λ g. not (g.serial == t)) (reads_out past) l); pages = h.pages }
+  ranges-with _ _ (read_wrong t p o) a = record { reads = λ q l. h.reads q (some-filter (is_of q) (λ g. not (g.serial == t)) (reads_out past) l); pages = h.pages }
   ranges-with _ _ (fix_write p v m w g) a = h
   ranges-with _ _ (flush_write p r w g) a = h
   ranges-with _ _ (write_bad t p o) a = h
@@ -95,6 +96,7 @@ module _ (c : Parameters) (past : Trail) (who : ℕ) (l : Legal c past) (h : Siz
       go q k false = h q k
   sized-with _ _ (fix_load p m f) a = h
   sized-with _ _ (read_bad t p o) a = h
+  sized-with _ _ (read_wrong t p o) a = h
   sized-with _ _ (fix_write p v m w g) a = h
   sized-with _ _ (flush_write p r w g) a = h
   sized-with _ _ (write_bad t p o) a = h
@@ -165,6 +167,7 @@ module _ (c : Parameters) (past : Trail) (who : ℕ) (l : Legal c past) (h : Ref
   referred-with _ _ (page_written n p offset bytes lsn o) a = h
   referred-with _ _ (fix_load p m f) a = h
   referred-with _ _ (read_bad t p o) a = h
+  referred-with _ _ (read_wrong t p o) a = h
   referred-with _ _ (fix_write p v m w g) a = h
   referred-with _ _ (flush_write p r w g) a = h
   referred-with _ _ (write_bad t p o) a = h
@@ -215,6 +218,7 @@ module _ (c : Parameters) (past : Trail) (who : ℕ) (client : nat_lt who c.clie
   owned-with _ _ (flush_write p r w g) = record { passes = h.passes; reads = h.reads; writes = and_from _ _ client h.writes }
   owned-with _ _ (read_good t p image o) = record { passes = and_from _ _ client h.passes; reads = every-left _ _ (reads_out past) h.reads; writes = h.writes }
   owned-with _ _ (read_bad t p o) = record { passes = h.passes; reads = every-left _ _ (reads_out past) h.reads; writes = h.writes }
+  owned-with _ _ (read_wrong t p o) = record { passes = h.passes; reads = every-left _ _ (reads_out past) h.reads; writes = h.writes }
   owned-with _ _ (write_bad t p o) = record { passes = h.passes; reads = h.reads; writes = every-left _ _ (writes_out past) h.writes }
   owned-with _ _ (write_clean t p o w) = record { passes = h.passes; reads = h.reads; writes = every-left _ _ (writes_out past) h.writes }
   owned-with _ _ (write_dirty t p o w) = record { passes = h.passes; reads = h.reads; writes = every-left _ _ (writes_out past) h.writes }
@@ -274,6 +278,7 @@ module _ (c : Parameters) (past : Trail) (who : ℕ) (below : AllBelow (tickets 
   no_end-with _ _ (fix_hit p x r) = h
   no_end-with _ _ (read_good t p image o) = h
   no_end-with _ _ (read_bad t p o) = h
+  no_end-with _ _ (read_wrong t p o) = h
   no_end-with _ _ (unfixed n p o) = h
   no_end-with _ _ (ticked n) = h
   no_end-with _ _ (marked lsn) = h
@@ -317,6 +322,7 @@ module _ (c : Parameters) (past : Trail) (who : ℕ) (h : Stays past) where
   stays-with _ _ (fix_load p m f) = h
   stays-with _ _ (fix_hit p x r) = h
   stays-with _ _ (read_bad t p o) = h
+  stays-with _ _ (read_wrong t p o) = h
   stays-with _ _ (unfixed n p o) = h
   stays-with _ _ (ticked n) = h
   stays-with _ _ (marked lsn) = h

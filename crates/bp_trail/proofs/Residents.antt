@@ -11,7 +11,7 @@ use Rattle.bp_trail.specs.Places.{residents}
 use Rattle.bp_trail.specs.Legal.{Legal}
 use Rattle.bp_trail.proofs.Lists.{member, some-filter}
 use Rattle.bp_trail.proofs.Events.{Event, event-of}
-use Rattle.bp_trail.proofs.Events.Event.{ticked, marked, fix_hit, fix_load, fix_replace, fix_write, fix_busy, fix_none, fix_log, flush_busy, flush_absent, flush_clean, flush_log, flush_write, read_good, read_bad, write_bad, write_clean, write_dirty, page_read, page_written, unfixed, purged}
+use Rattle.bp_trail.proofs.Events.Event.{ticked, marked, fix_hit, fix_load, fix_replace, fix_write, fix_busy, fix_none, fix_log, flush_busy, flush_absent, flush_clean, flush_log, flush_write, read_good, read_bad, read_wrong, write_bad, write_clean, write_dirty, page_read, page_written, unfixed, purged}
 use Rattle.bp_trail.proofs.Victim.{victim-is, candidate-resident}
 use Rattle.bp_trail.proofs.Serials.{numbered, count-rest, rest, OneSerial}
 use Rattle.bp_trail.proofs.Places.{places, out-of_page}
@@ -95,6 +95,10 @@ module _ (c : Parameters) (past : Trail) (who : ℕ) (l : Legal c past) (h : Fra
     within = let k = reads-rest who p t (reads_out past) (numbered c past l).reads_once o in let f = h.within in omega arith;
   }
   frames-with _ _ (read_bad t p o) = record {
+    distinct = h.distinct;
+    within = let k = reads-rest who p t (reads_out past) (numbered c past l).reads_once o in let f = h.within in omega arith;
+  }
+  frames-with _ _ (read_wrong t p o) = record {
     distinct = h.distinct;
     within = let k = reads-rest who p t (reads_out past) (numbered c past l).reads_once o in let f = h.within in omega arith;
   }

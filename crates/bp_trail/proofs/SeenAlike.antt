@@ -1,11 +1,12 @@
 -- What a call can see is the same after two trails of the same standing.
-use Rattle.std.proofs.Common.{◌≡◌, refl, sym, ◌∙◌, ap, subst, ℕ, ◌+◌, ◌-◌, ◌^◌, ◌≤◌, nat_lt, nat_le, Bool, true, false, not, ◌&&◌, ◌||◌, ◌==◌, if◌then◌else◌, List, [], ◌∷◌, filter, length, Option, Some, None, arith}
+use Rattle.std.proofs.Common.{◌≡◌, refl, sym, ◌∙◌, ap, subst, inl, inr, ℕ, ◌+◌, ◌-◌, ◌^◌, ◌≤◌, nat_lt, nat_le, Bool, true, false, not, ◌&&◌, ◌||◌, ◌==◌, if◌then◌else◌, List, [], ◌∷◌, filter, length, Option, Some, None, arith}
 use Rattle.std.proofs.lemmas.Bool.{eq-eqb, ne_eqb, or_left, or_right, not_from_false}
 use Rattle.std.proofs.lemmas.Bool.Decides.{nat_tests}
 use Rattle.bp_lruk.specs.Burst.{Reference, last_time}
 use Rattle.bp_lruk.specs.Stamp.{IsTimed}
 use Rattle.bp_trail.specs.declared.entries.Entry.{Entry}
 use Rattle.bp_trail.specs.declared.entries.Call.{Call}
+use Rattle.bp_trail.specs.declared.entries.Reply.{Reply}
 use Rattle.bp_trail.specs.declared.entries.Call.TheVariants.{Tick, Mark, Fix, ReadEnd, WriteEnd, Read, Write, Unfix, Flush, Purge}
 use Rattle.bp_trail.specs.declared.entries.Reply.TheVariants.{Hit, Load, WriteFirst, NeedLog, Busy, Clean, Absent, Fixed, StillDirty, Cleaned, Content, Forgot}
 use Rattle.bp_trail.specs.Parameters.{Parameters}
@@ -17,7 +18,7 @@ use Rattle.bp_trail.specs.Places.{residents, resident, loading, writing}
 use Rattle.bp_trail.specs.Saved.{unsaved}
 use Rattle.bp_trail.specs.References.{is_empty, references, forgets, forgotten}
 use Rattle.bp_trail.specs.Victim.{Rank, rank, before, candidate, victim}
-use Rattle.bp_trail.specs.PageMap.{has_free_frame, write_out_reply, replace_reply, fix_reply, flush_reply, reply_of}
+use Rattle.bp_trail.specs.PageMap.{has_free_frame, write_out_reply, replace_reply, fix_reply, flush_reply, reply_of, MayReply}
 use Rattle.bp_trail.specs.Legal.{is_out, has_size, allowed, IsLawful, Legal}
 use Rattle.bp_trail.proofs.Same.{SameStanding}
 use Rattle.bp_trail.proofs.Lists.{member, member-filter}
@@ -150,9 +151,13 @@ module _ (c : Parameters) (s t : Trail) (l : Legal c s) (m : Legal c t) (same : 
   same-reply who (Write n p offset bytes lsn) a = refl
   same-reply who (Unfix n p) a = refl
 
+  pub same-may_reply : (who : ℕ) (call : Call) (reply : Reply) → allowed c s who call ≡ true → MayReply c s call reply → MayReply c t call reply
+  same-may_reply who call reply a (inl is) = inl (is ∙ same-reply who call a)
+  same-may_reply who call reply a (inr found) = inr found
+
   pub same-lawful : (e : Entry) → IsLawful c s e → IsLawful c t e
   same-lawful e h = record {
     client = h.client;
     allowed = sym (same-allowed e.client e.call) ∙ h.allowed;
-    reply = h.reply ∙ same-reply e.client e.call h.allowed;
+    reply = same-may_reply e.client e.call e.reply h.allowed h.reply;
   }

@@ -12,7 +12,7 @@ use Rattle.bp_trail.specs.Passes.{passes, tickets, passes_out, reads_out, writes
 use Rattle.bp_trail.specs.Legal.{is_out, Legal}
 use Rattle.bp_trail.proofs.Lists.{some-filter, some-mono}
 use Rattle.bp_trail.proofs.Events.{Event, event-of}
-use Rattle.bp_trail.proofs.Events.Event.{ticked, marked, fix_hit, fix_load, fix_replace, fix_write, fix_busy, fix_none, fix_log, flush_busy, flush_absent, flush_clean, flush_log, flush_write, read_good, read_bad, write_bad, write_clean, write_dirty, page_read, page_written, unfixed, purged}
+use Rattle.bp_trail.proofs.Events.Event.{ticked, marked, fix_hit, fix_load, fix_replace, fix_write, fix_busy, fix_none, fix_log, flush_busy, flush_absent, flush_clean, flush_log, flush_write, read_good, read_bad, read_wrong, write_bad, write_clean, write_dirty, page_read, page_written, unfixed, purged}
 
 abbrev pub has_serial : ℕ → Grant → Bool
 has_serial n g = g.serial == n
@@ -137,6 +137,14 @@ module _ (c : Parameters) (past : Trail) (who : ℕ) (h : Numbered past) where
     writes_once = h.writes_once;
   }
   numbered-with _ _ (read_bad t p o) = record {
+    passes_below = h.passes_below;
+    passes_once = h.passes_once;
+    reads_below = AllBelow-filter _ (tickets past) (reads_out past) h.reads_below;
+    reads_once = OneSerial-filter _ (reads_out past) h.reads_once;
+    writes_below = h.writes_below;
+    writes_once = h.writes_once;
+  }
+  numbered-with _ _ (read_wrong t p o) = record {
     passes_below = h.passes_below;
     passes_once = h.passes_once;
     reads_below = AllBelow-filter _ (tickets past) (reads_out past) h.reads_below;

@@ -1,5 +1,5 @@
--- Legal trails: each call could be made, and has the lawful reply.
-use Rattle.std.specs.Prelude.{◌≡◌, ℕ, ◌+◌, ◌^◌, nat_lt, nat_le, Bool, true, ◌&&◌, ◌==◌, List, length, Option, Some, None, IsTrue}
+-- Legal trails: each call could be made, and has a lawful reply.
+use Rattle.std.specs.Prelude.{ℕ, ◌+◌, ◌^◌, nat_lt, nat_le, Bool, true, ◌&&◌, ◌==◌, List, length, Option, Some, None, IsTrue}
 use Rattle.bp_trail.specs.declared.entries.Entry.{Entry}
 use Rattle.bp_trail.specs.declared.entries.Call.{Call}
 use Rattle.bp_trail.specs.declared.entries.Call.TheVariants.{Tick, Mark, Fix, ReadEnd, WriteEnd, Read, Write, Unfix, Flush, Purge}
@@ -9,7 +9,7 @@ use Rattle.bp_trail.specs.Event.{Grant, grant, same_grant}
 use Rattle.bp_trail.specs.Trail.{Trail}
 use Rattle.bp_trail.specs.Clock.{clock}
 use Rattle.bp_trail.specs.Passes.{passes_out, reads_out, writes_out}
-use Rattle.bp_trail.specs.PageMap.{reply_of}
+use Rattle.bp_trail.specs.PageMap.{MayReply}
 
 abbrev pub is_out : Grant → List Grant → Bool
 is_out g grants = some (same_grant g) grants
@@ -34,7 +34,7 @@ allowed c past who Purge = true
 pub record IsLawful (c : Parameters) (past : Trail) (e : Entry) : Type 0 where
   pub client : IsTrue (nat_lt e.client c.clients)
   pub allowed : IsTrue (allowed c past e.client e.call)
-  pub reply : e.reply ≡ reply_of c past e.call
+  pub reply : MayReply c past e.call e.reply
 
 abbrev pub Legal : Parameters → Trail → Type 0
 Legal c past = EachEntry (IsLawful c) past

@@ -1,9 +1,9 @@
--- The one lawful reply to a call after a trail.
-use Rattle.std.specs.Prelude.{ℕ, ◌+◌, nat_lt, Bool, true, false, not, if◌then◌else◌, List, length, Option, Some, None}
+-- The lawful reply to a call after a trail.
+use Rattle.std.specs.Prelude.{◌≡◌, ◌⊎◌, ℕ, ◌+◌, nat_lt, Bool, true, false, not, if◌then◌else◌, List, length, Option, Some, None}
 use Rattle.bp_trail.specs.declared.entries.Call.{Call}
 use Rattle.bp_trail.specs.declared.entries.Call.TheVariants.{Tick, Mark, Fix, ReadEnd, WriteEnd, Read, Write, Unfix, Flush, Purge}
 use Rattle.bp_trail.specs.declared.entries.Reply.{Reply}
-use Rattle.bp_trail.specs.declared.entries.Reply.TheVariants.{Done, Hit, Load, WriteFirst, NoVictim, NeedLog, Busy, Fixed, ReadFailed, Cleaned, StillDirty, WriteFailed, Content, Clean, Absent, Forgot}
+use Rattle.bp_trail.specs.declared.entries.Reply.TheVariants.{Done, Hit, Load, WriteFirst, NoVictim, NeedLog, Busy, Fixed, ReadFailed, WrongPage, Cleaned, StillDirty, WriteFailed, Content, Clean, Absent, Forgot}
 use Rattle.bp_trail.specs.Parameters.{Parameters}
 use Rattle.bp_trail.specs.Trail.{Trail}
 use Rattle.bp_trail.specs.Clock.{durable}
@@ -61,3 +61,11 @@ reply_of c past (Tick n) = Done
 reply_of c past (Mark lsn) = Done
 reply_of c past (Write n p offset bytes lsn) = Done
 reply_of c past (Unfix n p) = Done
+
+-- a read that ended without an image may have found another page in its page's place
+pub data FindsWrongPage : Call → Reply → Type 0 where
+  another_page : (t p : ℕ) → FindsWrongPage (ReadEnd t p None) WrongPage
+
+-- the replies that the call may have: the one of `reply_of`, or that the read found another page
+abbrev pub MayReply : Parameters → Trail → Call → Reply → Type 0
+MayReply c past call reply = (reply ≡ reply_of c past call) ⊎ FindsWrongPage call reply

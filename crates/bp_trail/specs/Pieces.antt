@@ -6,7 +6,7 @@ use Rattle.bp_trail.specs.declared.entries.Entry.{Entry}
 use Rattle.bp_trail.specs.declared.entries.Call.{Call}
 use Rattle.bp_trail.specs.declared.entries.Call.TheVariants.{Mark, Fix, ReadEnd, WriteEnd, Flush}
 use Rattle.bp_trail.specs.declared.entries.Reply.{Reply}
-use Rattle.bp_trail.specs.declared.entries.Reply.TheVariants.{Done, Hit, Load, WriteFirst, NoVictim, NeedLog, Busy, Fixed, ReadFailed, Cleaned, StillDirty, WriteFailed, Clean, Absent}
+use Rattle.bp_trail.specs.declared.entries.Reply.TheVariants.{Done, Hit, Load, WriteFirst, NoVictim, NeedLog, Busy, Fixed, ReadFailed, WrongPage, Cleaned, StillDirty, WriteFailed, Clean, Absent}
 use Rattle.bp_trail.specs.Trail.{Trail}
 
 -- a session shares its pool: it marks, waits where a page is busy, and may lose a ticket; a driver has its core alone
@@ -50,6 +50,8 @@ pub data FixPiece (m : Manner) (client page : ℕ) : Trail → Outcome → Type 
   busy : {older : Trail} → m ≡ driver → FixGoesOn m client page older → FixPiece m client page (by client (Fix page) Busy ∷ older) (refused 13)
   read_failed : {older : Trail} (ticket : ℕ) (evicted : Option ℕ) → FixGoesOn m client page older
       → FixPiece m client page (by client (ReadEnd ticket page None) ReadFailed ∷ by client (Fix page) (Load ticket evicted) ∷ older) (refused 17)
+  wrong_page : {older : Trail} (ticket : ℕ) (evicted : Option ℕ) → FixGoesOn m client page older
+      → FixPiece m client page (by client (ReadEnd ticket page None) WrongPage ∷ by client (Fix page) (Load ticket evicted) ∷ older) (refused 19)
   write_failed : {older : Trail} (ticket victim : ℕ) (image : List ℕ) → FixGoesOn m client page older
       → FixPiece m client page (by client (WriteEnd ticket victim false) WriteFailed ∷ by client (Fix page) (WriteFirst ticket victim image) ∷ older) (refused 18)
   lost_read : {older : Trail} (ticket : ℕ) (evicted : Option ℕ) → IsTrue (in_session m) → FixGoesOn m client page older

@@ -64,6 +64,7 @@ pub enum Reply {
     Busy,
     Fixed(u64),
     ReadFailed,
+    WrongPage,
     Cleaned,
     StillDirty,
     WriteFailed,

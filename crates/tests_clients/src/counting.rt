@@ -24,7 +24,10 @@ fn is_good_write_out(entry: &Entry) -> bool {
 }
 
 fn is_failure(entry: &Entry) -> bool {
-    matches!(entry.reply, Reply::ReadFailed | Reply::WriteFailed)
+    matches!(
+        entry.reply,
+        Reply::ReadFailed | Reply::WrongPage | Reply::WriteFailed
+    )
 }
 
 fn is_refusal(entry: &Entry) -> bool {

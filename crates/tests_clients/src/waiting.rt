@@ -9,7 +9,7 @@ use crate::making::{Do, both, geometry, run, script};
 use bp_clients::Outcome;
 use bp_core::{Refused, Row};
 use bp_device::{FusePort, GatePort, MemDevice, MemPort, Port};
-use bp_page::{Geometry, Image, PageNo, PortFault};
+use bp_page::{Geometry, Image, Lsn, PageNo, PortFault};
 use std::marker::Sync;
 use std::process::Abort;
 use std::sync::Wait;
@@ -39,6 +39,8 @@ impl<P: Port> Port for SlowPort<P> {
 
     ghost failures_of = { λ p. P.failures_of p.inner };
 
+    ghost is_headed = { λ p. P.is_headed p.inner };
+
     fn geometry(&self) -> Geometry {
         self.inner.geometry()
     }
@@ -52,9 +54,15 @@ impl<P: Port> Port for SlowPort<P> {
         self.inner.read(rt, page)
     }
 
-    fn write<R: Wait>(&mut self, rt: &R, page: PageNo, image: &Image) -> Result<(), PortFault> {
+    fn write<R: Wait>(
+        &mut self,
+        rt: &R,
+        page: PageNo,
+        image: &Image,
+        lsn: Lsn,
+    ) -> Result<(), PortFault> {
         let_others_run(self.turns);
-        self.inner.write(rt, page, image)
+        self.inner.write(rt, page, image, lsn)
     }
 }
 

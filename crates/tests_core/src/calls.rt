@@ -15,6 +15,8 @@ pub(super) enum Do {
     /// Ends the read with a page that starts with this byte and has zeros else.
     ReadEnd(u8),
     ReadFails,
+    /// Ends the read with the fault of a port that found another page.
+    ReadFindsAnother,
     /// Puts a byte at the start of the page of a pass, with an LSN.
     Write(usize, u8, u64),
     Read(usize),
@@ -315,6 +317,7 @@ impl<K: Keeper> Run<K> {
             Do::Fix(client, page) => self.fix(client, page),
             Do::ReadEnd(first) => self.end_read_with(first),
             Do::ReadFails => self.end_read(Err(PortFault::Device)),
+            Do::ReadFindsAnother => self.end_read(Err(PortFault::WrongPage)),
             Do::Write(pass, byte, lsn) => self.write(pass, byte, lsn),
             Do::Read(pass) => self.read(pass),
             Do::Unfix(pass) => self.unfix(pass),

@@ -19,3 +19,5 @@ mod rows;
 mod strangers;
 #[cfg(test)]
 mod write_outs;
+#[cfg(test)]
+mod wrong_pages;

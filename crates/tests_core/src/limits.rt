@@ -75,6 +75,7 @@ fn numbers_of_refusals(rt: HostRuntime) {
         (Refusal::Busy, 13),
         (Refusal::ReadFailed, 17),
         (Refusal::WriteFailed, 18),
+        (Refusal::WrongPage, 19),
         (Refusal::TrailFull, 20),
         (Refusal::ClockFull, 21),
     ] {

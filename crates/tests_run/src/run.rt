@@ -1,6 +1,6 @@
 //! Whole runs, from the words and the bytes of a trace to the bytes of the report and the status.
 use bp_device::Port;
-use bp_page::{Image, PageNo};
+use bp_page::{Format, Image, Lsn, PageNo};
 use bp_run::{PageFiles, Ports, run_with};
 use std::alloc::Global;
 use std::fs::File;
@@ -400,11 +400,15 @@ fn expect_one_device(
     word: &str,
 ) {
     let alloc = rt.alloc();
-    let opened = PageFiles::new(alloc).open(rt, word, 16, 2);
+    let opened = PageFiles::new(alloc).open(rt, word, 16, Format::Plain, 2);
     let mut ports = opened.expect(rt, "the page file");
     assert_eq!(rt; ports.len(), 2);
     let written = Image::of(alloc, b"written by first".as_slice()).expect(rt, "the image");
-    assert!(rt; ports[0].write(rt, PageNo::new(1), &written).is_ok());
+    assert!(rt;
+        ports[0]
+            .write(rt, PageNo::new(1), &written, Lsn::new(0))
+            .is_ok()
+    );
     let found = ports[1].read(rt, PageNo::new(1));
     assert!(rt; found.expect(rt, "the page") == written);
 }

@@ -4,6 +4,7 @@ ghost use Rattle.bp_trail.specs.Fits.{RowFits};
 
 mod gates;
 mod long_scripts;
+mod version_two;
 
 use bp_core::{Call, Core, PassNote, Refused, Reply, Row, Step};
 use bp_device::{
@@ -11,7 +12,7 @@ use bp_device::{
     drive_flush,
 };
 use bp_lruk::Settings;
-use bp_page::{Bytes, Geometry, Image, Lsn, PageNo, PortFault, Refusal, slot, unslot};
+use bp_page::{Bytes, Format, Geometry, Image, Lsn, PageNo, PortFault, Refusal, slot, unslot};
 use std::alloc::{AllocError, Global};
 use std::fs::File;
 use std::path::PathBuf;
@@ -222,7 +223,7 @@ fn drivers_keep_to_their_tickets(rt: HostRuntime) {
 
 /// Writes a page by its port.
 fn put<P: Port, R: Wait + Abort + AllocGlobal>(rt: &R, port: &mut P, page: PageNo, bytes: &[u8]) {
-    assert!(rt; port.write(rt, page, &image(rt, bytes)).is_ok());
+    assert!(rt; port.write(rt, page, &image(rt, bytes), Lsn::new(0)).is_ok());
 }
 
 /// Drives the two pages, and asserts what their reads brought from the device.
@@ -304,7 +305,7 @@ fn expect_pages<P: Port, R: Wait + Abort>(rt: &R, port: &mut P) {
 
 /// Asserts that both ports read what one of them writes.
 fn expect_same_pages<P: Port, R: Wait + Abort>(rt: &R, port: &mut P, other: &mut P, nine: &Image) {
-    assert_eq!(rt; port.write(rt, PageNo::new(1), nine), Ok(()));
+    assert_eq!(rt; port.write(rt, PageNo::new(1), nine, Lsn::new(9)), Ok(()));
     expect_pages(rt, port);
     expect_pages(rt, other);
 }
@@ -319,7 +320,7 @@ fn expect_no_write<P: Port, R: Wait + Abort>(
 ) {
     assert!(rt;
         matches!(
-            port.write(rt, PageNo::new(page), image),
+            port.write(rt, PageNo::new(page), image, Lsn::new(9)),
             Err(PortFault::Device)
         )
     );
@@ -361,7 +362,7 @@ fn pages_of<R: Files<File = File> + AllocGlobal>(
     requires { length ≤ 40 }
 {
     fs::write(rt, path, &[7u8; 40][..length])?;
-    match FilePort::open(rt, rt.alloc(), path, SIZE) {
+    match FilePort::open(rt, rt.alloc(), path, SIZE, Format::Plain) {
         Ok(port) => Ok(Some(port.geometry().pages)),
         Err(OpenFault::Refused(Refusal::BadLength)) => Ok(None),
         Err(_) => Err(io::Error::from(io::ErrorKind::Other)),
@@ -384,7 +385,7 @@ fn file_lengths(rt: HostRuntime) {
         Some(2)
     );
     fs::remove_file(&rt, path.as_path()).expect(&rt, "the file is removed");
-    let absent = FilePort::open(&rt, rt.alloc(), path.as_path(), SIZE);
+    let absent = FilePort::open(&rt, rt.alloc(), path.as_path(), SIZE, Format::Plain);
     assert!(rt; matches!(absent, Err(OpenFault::Port(PortFault::Device))));
 }
 
@@ -411,11 +412,11 @@ fn expect_slot<R: Files + AllocGlobal + Abort>(
 fn pages_of_a_file_are_read_again(rt: HostRuntime) {
     let path = scratch(&rt, process::id(rt.process()), "pages_of_a_file").expect(&rt, "the path");
     fs::write(&rt, path.as_path(), [0u8; 64].as_slice()).expect(&rt, "the file");
-    let mut port = FilePort::open(&rt, rt.alloc(), path.as_path(), SIZE).expect(
+    let mut port = FilePort::open(&rt, rt.alloc(), path.as_path(), SIZE, Format::Plain).expect(
         &rt,
         "the page file",
     );
-    let mut other = FilePort::open(&rt, rt.alloc(), path.as_path(), SIZE).expect(
+    let mut other = FilePort::open(&rt, rt.alloc(), path.as_path(), SIZE, Format::Plain).expect(
         &rt,
         "the page file",
     );
@@ -430,7 +431,7 @@ fn pages_of_a_file_are_read_again(rt: HostRuntime) {
 fn short_read_is_counted(rt: HostRuntime) {
     let path = scratch(&rt, process::id(rt.process()), "short_read").expect(&rt, "the path");
     fs::write(&rt, path.as_path(), [9u8; 32].as_slice()).expect(&rt, "the file");
-    let mut port = FilePort::open(&rt, rt.alloc(), path.as_path(), SIZE).expect(
+    let mut port = FilePort::open(&rt, rt.alloc(), path.as_path(), SIZE, Format::Plain).expect(
         &rt,
         "the page file",
     );

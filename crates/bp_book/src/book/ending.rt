@@ -5,7 +5,9 @@ ghost use Rattle.bp_book.specs.Books.{SameOwner, OwesRead, OwesWrite, Alike};
 ghost use Rattle.bp_book.specs.Turns.{EndReadOutcome, EndWriteOutcome};
 
 use super::{Book, copied};
-use bp_core::{Call, Core, EndRefusal, Ended, Entry, Pass, ReadTicket, Reply, WriteTicket};
+use bp_core::{
+    Call, Core, EndRefusal, Ended, Entry, Pass, ReadTicket, Reply, WriteTicket, reply_of_read,
+};
 use bp_page::{Image, PortFault, Refusal};
 
 impl Book {
@@ -55,7 +57,8 @@ impl Book {
         }
     }
 
-    /// Ends a read that failed, which is `ReadFailed`. A ticket that the core does not know is forfeited, as by `end_load`.
+    /// Ends a read that failed, which is `WrongPage` where another page was found, and else `ReadFailed`. A ticket that the core does not
+    /// know is forfeited, as by `end_load`.
     fn end_failed_load(
         &mut self,
         core: &mut Core,
@@ -74,7 +77,7 @@ impl Book {
         let serial = ticket.serial();
         match core.read_end(ticket, Err(fault)) {
             Ok(_pass) => unreachable!(),
-            Err(EndRefusal::Failed(_)) => {
+            Err(EndRefusal::Failed(refusal)) => {
                 self.said.add(Entry {
                     client: self.client,
                     call: Call::ReadEnd {
@@ -82,10 +85,10 @@ impl Book {
                         page,
                         image: None,
                     },
-                    reply: Reply::ReadFailed,
+                    reply: reply_of_read(fault),
                 });
                 self.tickets -= 1;
-                Err(Refusal::ReadFailed)
+                Err(refusal)
             }
             Err(EndRefusal::Unknown(lost, _)) => {
                 lost.forfeit();
@@ -97,8 +100,8 @@ impl Book {
     /// Ends a read that the list's newest entry began. The trail and the list get the end, and the client holds the pass.
     /// It takes no memory for the list.
     ///
-    /// Where the read failed, this is `ReadFailed`, the reply of the entry. A ticket that the core does not know is
-    /// forfeited, which is `UnknownTicket`, and nothing else changes.
+    /// Where the read failed, this is `ReadFailed`, and where it found another page `WrongPage`, the reply of the entry. A
+    /// ticket that the core does not know is forfeited, which is `UnknownTicket`, and nothing else changes.
     pub fn end_read(
         &mut self,
         core: &mut Core,

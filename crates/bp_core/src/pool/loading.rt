@@ -10,8 +10,10 @@ ghost use Rattle.bp_trail.specs.Victim.{victim};
 ghost use Rattle.bp_trail.specs.PageMap.{has_free_frame};
 ghost use Rattle.bp_frames.specs.GrantLists.{GivesAsMuch};
 ghost use Rattle.bp_core.specs.CoreView.{EachPast, HasRoomFor};
+ghost use Rattle.bp_core.specs.ReadFaults.{read_failure};
 ghost use Rattle.bp_core.specs.Outcomes.{FixOutcome, ReadEndOutcome, Adds};
 
+use crate::faults::{refusal_of_read, reply_of_read};
 use crate::passes::{EndRefusal, Fix, Pass, ReadTicket};
 use crate::pool::PoolCore;
 use bp_frames::GrantList;
@@ -86,9 +88,9 @@ impl<K: Keeper> PoolCore<K> {
         Ok(Fix::Load(ticket, Some(gone)))
     }
 
-    /// Ends a read. Where it went well the page is resident, with the pass that comes back; where it failed, which is `ReadFailed`,
-    /// its frame is free and nothing of the page is remembered. A ticket that is not out here comes back with the result, which is
-    /// `Unknown`, and nothing changes. It takes no memory.
+    /// Ends a read. Where it went well the page is resident, with the pass that comes back. Where it found another page, which is
+    /// `WrongPage`, or failed otherwise, which is `ReadFailed`, its frame is free and nothing of the page is remembered. A ticket that
+    /// is not out here comes back with the result, which is `Unknown`, and nothing changes. It takes no memory.
     pub fn read_end(
         &mut self,
         ticket: ReadTicket,
@@ -111,9 +113,9 @@ impl<K: Keeper> PoolCore<K> {
         } = ticket;
         match read {
             Ok(image) => Ok(self.end_load(client, page, serial, image)),
-            Err(_) => {
-                self.fail_load(client, page, serial);
-                Err(EndRefusal::Failed(Refusal::ReadFailed))
+            Err(fault) => {
+                self.fail_load(client, page, serial, fault);
+                Err(EndRefusal::Failed(refusal_of_read(fault)))
             }
         }
     }
@@ -141,9 +143,9 @@ impl<K: Keeper> PoolCore<K> {
     }
 
     /// A read failed: nothing is remembered of it.
-    fn fail_load(&mut self, client: u8, page: PageNo, serial: u64)
+    fn fail_load(&mut self, client: u8, page: PageNo, serial: u64, fault: PortFault)
         requires { EachPast self.old (λ past. is_out (grant client page serial) (reads_out past) ≡ true) }
-        ensures { Adds self.old client (Call.ReadEnd serial page None) Reply.ReadFailed self.new }
+        ensures { Adds self.old client (Call.ReadEnd serial page None) (read_failure fault) self.new }
     {
         self.state.reads.take_back(serial);
         self.state.histories.unprepare(page);
@@ -152,7 +154,7 @@ impl<K: Keeper> PoolCore<K> {
             page,
             image: None,
         };
-        self.trail.record(client, call, Reply::ReadFailed);
+        self.trail.record(client, call, reply_of_read(fault));
     }
 }
 

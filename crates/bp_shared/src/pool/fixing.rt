@@ -54,7 +54,7 @@ impl<N: PoolName> SharedPool<N> {
         ensures port { P.geometry_of port.new ≡ P.geometry_of port.old }
         ensures outcome { WriteOutOutcome ticket result session.old.said session.new.said }
     {
-        let written = port.write(rt, ticket.page(), ticket.image());
+        let written = port.write(rt, ticket.page(), ticket.image(), ticket.lsn());
         let mut state = locked(rt, &self.state);
         let asked = self.posted.take();
         let ended = state.end_write(session, ticket, written, asked);
@@ -96,9 +96,9 @@ impl<N: PoolName> SharedPool<N> {
     /// port and with no lock held; where another client has the page in flight, the call waits for the end of some device work and
     /// asks again. Before each event it looks at the mark once.
     ///
-    /// The session's list gets the events as the trail does. `NoVictim`, `NeedLog`, `ReadFailed` and `WriteFailed` are the reply of the
-    /// last one. `TrailFull` and `OutOfMemory` make no event, and those made before stand; `UnknownTicket` is the pool's answer for a
-    /// ticket that it does not know, which is forfeited.
+    /// The session's list gets the events as the trail does. `NoVictim`, `NeedLog`, `ReadFailed`, `WrongPage` and `WriteFailed` are the
+    /// reply of the last one. `TrailFull` and `OutOfMemory` make no event, and those made before stand; `UnknownTicket` is the pool's
+    /// answer for a ticket that it does not know, which is forfeited.
     pub fn fix<P: Port, R: Wait>(
         &self,
         rt: &R,

@@ -1,7 +1,7 @@
 //! Ports in pairs: two threads that meet, and calls that nobody meets.
 use super::{NINE, ZEROS, expect_page, four_pages, image, port_of};
 use bp_device::{FusePort, GatePort, MemPort, Port};
-use bp_page::{Image, PageNo, PortFault};
+use bp_page::{Image, Lsn, PageNo, PortFault};
 use std::process::Abort;
 use std::sync::Wait;
 use std::thread;
@@ -29,7 +29,7 @@ fn job_of(port: GatePort<MemPort>, page: u64) -> Job {
 
 fn run<R: Wait>(rt: &R, image: &Image, job: &mut Job) {
     job.read = job.port.read(rt, job.page);
-    job.written = job.port.write(rt, job.page, image);
+    job.written = job.port.write(rt, job.page, image, Lsn::new(9));
 }
 
 /// One thread for each job. All have ended at the return.
@@ -55,7 +55,10 @@ fn calls_of_two_threads_meet(rt: HostRuntime) {
     let device = four_pages(&rt);
     let mut plain = port_of(&rt, &device);
     let nine = image(&rt, &NINE);
-    assert_eq!(rt; plain.write(&rt, PageNo::new(1), &nine), Ok(()));
+    assert_eq!(rt;
+        plain.write(&rt, PageNo::new(1), &nine, Lsn::new(9)),
+        Ok(())
+    );
     let (a, b) = GatePort::pair(
         rt.alloc(),
         port_of(&rt, &device),
@@ -105,9 +108,12 @@ fn read_that_nobody_meets(rt: HostRuntime) {
 fn read_then_write<P: Port, R: Wait + Abort>(rt: &R, port: &mut P, other: &mut P, nine: &Image) {
     let page = PageNo::new(1);
     assert!(rt; matches!(port.read(rt, page), Err(PortFault::Device)));
-    assert_eq!(rt; other.write(rt, page, nine), Err(PortFault::Device));
+    assert_eq!(rt;
+        other.write(rt, page, nine, Lsn::new(9)),
+        Err(PortFault::Device)
+    );
     expect_page(rt, other, page, &ZEROS);
-    assert_eq!(rt; port.write(rt, page, nine), Ok(()));
+    assert_eq!(rt; port.write(rt, page, nine, Lsn::new(9)), Ok(()));
     expect_page(rt, port, page, &NINE);
     assert_eq!(rt; (port.failures(), other.failures()), (1, 1));
 }

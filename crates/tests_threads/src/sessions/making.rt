@@ -20,12 +20,14 @@ pub(super) struct Zeros {
 }
 
 impl Port for Zeros {
-    ghost use Rattle.std.specs.Prelude.{◌≡◌, IfOk, length};
+    ghost use Rattle.std.specs.Prelude.{◌≡◌, IfOk, false, length};
     ghost use Rattle.bp_device.specs.Ports.{Counts};
 
     ghost geometry_of = { λ z. z.geometry };
 
     ghost failures_of = { λ _. 0 };
+
+    ghost is_headed = { λ _. false };
 
     fn geometry(&self) -> Geometry {
         self.geometry
@@ -42,7 +44,13 @@ impl Port for Zeros {
         }
     }
 
-    fn write<R: Wait>(&mut self, _rt: &R, _page: PageNo, _image: &Image) -> Result<(), PortFault> {
+    fn write<R: Wait>(
+        &mut self,
+        _rt: &R,
+        _page: PageNo,
+        _image: &Image,
+        _lsn: Lsn,
+    ) -> Result<(), PortFault> {
         Ok(())
     }
 }

@@ -4,11 +4,11 @@ use Rattle.bp_trail.specs.Parameters.{Parameters}
 use Rattle.bp_trail.specs.Trail.{Trail}
 use Rattle.bp_trail.specs.Lists.{EachEntry}
 use Rattle.bp_trail.specs.Legal.{Legal}
-use Rattle.bp_trail.specs.PageMap.{reply_of}
+use Rattle.bp_trail.specs.PageMap.{MayReply}
 use Rattle.bp_trail.proofs.LegalLaws.{each-evicts, each-first, each-farthest, each-durable, each-answers}
 use Rattle.bp_clients.proofs.laws.runs_keep_the_rules_of_the_pool.Goals as goal
 
-each-replies : (c : Parameters) (past : Trail) → Legal c past → EachEntry (λ before e. e.reply ≡ reply_of c before e.call) past
+each-replies : (c : Parameters) (past : Trail) → Legal c past → EachEntry (λ before e. MayReply c before e.call e.reply) past
 each-replies c [] legal = tt
 each-replies c (e ∷ past) legal = record { here = legal.here.reply; before = each-replies c past legal.before }
 
