@@ -1,0 +1,18 @@
+-- One page more.
+use Rattle.std.proofs.Common.{rules, ◌≡◌, subst, length}
+use Rattle.bp_migrate.specs.Files.{MigratesPage}
+use Rattle.bp_migrate.proofs.Steps.{copies-more}
+use Rattle.bp_migrate.proofs.migration.migrate_told.Goals as goal
+
+pub loop-page-preserved : goal.loop-page-preserved
+loop-page-preserved g c =
+    let r = g.I.Read.remaining in
+    let w = g.W.Write.contents in
+    let size = c.args.geometry.now.size in
+    let image = c.migrate_page.new.buffer in
+    let fits : length image ≡ size = search rules in (
+      copies-more c.loop-page.page size image (r c.args.reader.now) (r c.loop-page.reader) (r c.migrate_page.new.reader) (w c.args.writer.now) (w c.loop-page.writer) (w c.migrate_page.new.writer)
+          c.loop-page.invariant.0 fits
+          (subst (λ p. MigratesPage p image (r c.loop-page.reader) (r c.migrate_page.new.reader) (w c.loop-page.writer) (w c.migrate_page.new.writer)) c.new-number.ensures c.in-Ok-migrate_page.ensures.migrated),
+      c.loop-page.invariant.1,
+    )

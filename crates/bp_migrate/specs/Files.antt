@@ -1,0 +1,40 @@
+-- Whole page files of both versions, by the images of their pages.
+use Rattle.std.specs.Prelude.{◌≡◌, ℕ, suc, List, [], ◌∷◌, ◌++◌, length, All, Option}
+use Rattle.std.specs.Io.KnownBytes.{Consumes, Appends}
+use Rattle.bp_page.specs.declared.limits.Geometry.{Geometry}
+use Rattle.bp_page.specs.Slots.{raw_slot, headed_slot}
+
+-- the slots of images one after the other, of pages numbered from this one on
+abbrev pub slots_from : (ℕ → List ℕ → List ℕ) → ℕ → List (List ℕ) → List ℕ
+slots_from slot page [] = []
+slots_from slot page (image ∷ images) = slot page image ++ slots_from slot (suc page) images
+
+-- a slot of version 1 tells no number, and one of version 2 the page's, here with LSN 0
+abbrev pub unnumbered : ℕ → List ℕ → List ℕ
+unnumbered page image = raw_slot image
+
+abbrev pub numbered : ℕ → List ℕ → List ℕ
+numbered page image = headed_slot page 0 image
+
+-- the files of these images
+abbrev pub raw_file : List (List ℕ) → List ℕ
+raw_file images = slots_from unnumbered 0 images
+
+abbrev pub headed_file : List (List ℕ) → List ℕ
+headed_file images = slots_from numbered 0 images
+
+-- one page was read and written
+pub record MigratesPage (page : ℕ) (image : List ℕ) (unread left old new : Option (List ℕ)) : Type 0 where
+  pub read : Consumes unread left image
+  pub written : Appends old new (headed_slot page 0 image)
+
+-- the file of so many images was read, each of the page size, and that of the other version written
+pub record Copies (pages size : ℕ) (unread left old new : Option (List ℕ)) : Type 0 where
+  pub images : List (List ℕ)
+  pub count : length images ≡ pages
+  pub sized : All (λ image. length image ≡ size) images
+  pub read : Consumes unread left (raw_file images)
+  pub written : Appends old new (headed_file images)
+
+abbrev pub Migrates : Geometry → Option (List ℕ) → Option (List ℕ) → Option (List ℕ) → Option (List ℕ) → Type 0
+Migrates g unread left old new = Copies g.pages g.size unread left old new

@@ -1,0 +1,87 @@
+//! From the pages of a file of version 1 to a file of version 2.
+ghost use Rattle.std.specs.Prelude.{◌≡◌, OnOk, IfOk};
+ghost use Rattle.bp_page.specs.Limits.{IsGeometry};
+ghost use Rattle.bp_migrate.specs.Files.{Migrates, MigratesPage};
+
+use crate::progress::{Progress, Untold};
+use bp_page::{Geometry, Image, Lsn, PageNo, slot2};
+use std::alloc::Global;
+use std::io::{Read, Write};
+use thiserror::Error;
+
+/// Why a migration ended early.
+#[derive(Clone, Copy, PartialEq, Eq, Debug, Error)]
+pub enum MigrateFault {
+    /// The reader failed, or ended before the last page.
+    #[error("the page file could not be read")]
+    Read,
+    /// The writer failed. What it holds then is no page file.
+    #[error("the new page file could not be written")]
+    Write,
+    #[error("out of memory")]
+    Memory,
+}
+
+/// Reads the bytes of a page into the buffer, and writes its slot of version 2 with LSN 0.
+fn migrate_page<I: Read, W: Write>(
+    alloc: Global,
+    reader: &mut I,
+    writer: &mut W,
+    page: PageNo,
+    buffer: &mut [u8],
+) -> Result<(), MigrateFault>
+    ensures migrated { OnOk result (MigratesPage page buffer.new (I.remaining reader.old) (I.remaining reader.new) (W.contents writer.old) (W.contents writer.new)) }
+{
+    let Ok(()) = reader.read_exact(buffer) else {
+        return Err(MigrateFault::Read);
+    };
+    let Ok(image) = Image::of(alloc, buffer) else {
+        return Err(MigrateFault::Memory);
+    };
+    let Ok(slot) = slot2(alloc, page, Lsn::new(0), &image) else {
+        return Err(MigrateFault::Memory);
+    };
+    match writer.write_all(&slot) {
+        Ok(()) => Ok(()),
+        Err(_) => Err(MigrateFault::Write),
+    }
+}
+
+/// As `migrate_with`, and tells how far it has come after each page.
+pub fn migrate_told<I: Read, W: Write, P: Progress>(
+    alloc: Global,
+    reader: &mut I,
+    writer: &mut W,
+    geometry: &Geometry,
+    progress: &mut P,
+) -> Result<(), MigrateFault>
+    ensures migrated { OnOk result (Migrates geometry.now (I.remaining reader.old) (I.remaining reader.new) (W.contents writer.old) (W.contents writer.new)) }
+{
+    let Ok(mut buffer) = vec![in alloc; 0u8; geometry.size] else {
+        return Err(MigrateFault::Memory);
+    };
+    for page in 0..geometry.pages {
+        let number = PageNo::new(page);
+        match migrate_page(alloc, reader, writer, number, &mut buffer) {
+            Ok(()) => progress.written(page + 1, geometry.pages),
+            Err(fault) => return Err(fault),
+        }
+    }
+    Ok(())
+}
+
+/// Reads the pages of a file of version 1, and writes the file of version 2 of the same images, each with its page's number and LSN 0. It
+/// reads as many bytes as the pages have and no more, one page at a time, in the memory of a few pages.
+///
+/// `Read` where the reader fails or ends before, `Write` where the writer fails, and `Memory` where a page's bytes can't be had; what was
+/// written until then is no page file.
+pub fn migrate_with<I: Read, W: Write>(
+    alloc: Global,
+    reader: &mut I,
+    writer: &mut W,
+    geometry: &Geometry,
+) -> Result<(), MigrateFault>
+    ensures migrated { OnOk result (Migrates geometry.now (I.remaining reader.old) (I.remaining reader.new) (W.contents writer.old) (W.contents writer.new)) }
+{
+    migrate_told(alloc, reader, writer, geometry, &mut Untold)
+}

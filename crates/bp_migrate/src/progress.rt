@@ -1,0 +1,15 @@
+//! How far a migration has come.
+
+/// Somebody who is told how far a migration has come.
+pub trait Progress {
+    /// So many of the pages are written.
+    fn written(&mut self, done: u64, pages: u64);
+}
+
+/// Nobody is told.
+#[derive(Clone, Copy, Debug)]
+pub struct Untold;
+
+impl Progress for Untold {
+    fn written(&mut self, _done: u64, _pages: u64) {}
+}
