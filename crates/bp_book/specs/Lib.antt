@@ -1,4 +1,5 @@
 -- What a client's own list keeps, and what each step of a session adds to it.
 pub mod Books
 pub mod Turns
+pub mod Causes
 pub mod Rings

@@ -1,5 +1,5 @@
 -- What each step of a session's call adds to its list.
-use Rattle.std.specs.Prelude.{◌≡◌, ◌⊎◌, ℕ, Bool, true, false, List, ◌∷◌, ◌++◌, Option, Some, None, Result, Ok, Err}
+use Rattle.std.specs.Prelude.{◌≡◌, ◌⊎◌, ◌≤◌, ◌<◌, ℕ, Bool, true, false, List, ◌∷◌, ◌++◌, Option, Some, None, Result, Ok, Err}
 use Rattle.bp_page.specs.declared.refusals.Refusal.{Refusal}
 use Rattle.bp_page.specs.declared.refusals.Refusal.TheVariants as refusal
 use Rattle.bp_page.specs.declared.refusals.PortFault.{PortFault}
@@ -17,19 +17,25 @@ use Rattle.bp_trail.specs.declared.entries.Call.TheVariants.{Mark, Fix, ReadEnd,
 use Rattle.bp_trail.specs.declared.entries.Reply.{Reply}
 use Rattle.bp_trail.specs.declared.entries.Reply.TheVariants.{Done, Hit, Load, WriteFirst, NoVictim, NeedLog, Busy, Fixed, ReadFailed, WrongPage, WriteFailed, Clean, Absent, Content, Forgot}
 use Rattle.bp_trail.specs.Trail.{Trail}
-use Rattle.bp_trail.specs.Pieces.{by, FixGoesOn, FlushGoesOn}
-use Rattle.bp_trail.specs.Pieces.Manner.{session}
+use Rattle.bp_trail.specs.Clock.{durable}
+use Rattle.bp_core.specs.CoreView.{CoreView}
+use Rattle.bp_trail.specs.Pieces.{by}
 use Rattle.bp_device.specs.Drivers.{ended_reply}
 
--- at most one mark, where memory was refused or the trail may have had no room for it
-abbrev pub look_refuses : Refusal → Bool
-look_refuses refusal.TrailFull = true
-look_refuses refusal.OutOfMemory = true
-look_refuses _ = false
+-- the list has a mark more
+abbrev pub Marked : ℕ → ℕ → Trail → Trail → Type 0
+Marked client lsn said after = after ≡ by client (Mark lsn) Done ∷ said
 
-abbrev pub LookOutcome : {A : Type 0} → ℕ → Result A Refusal → Trail → Trail → Type 0
-LookOutcome client (Ok done) said after = (after ≡ said) ⊎ ((lsn : ℕ) × (after ≡ by client (Mark lsn) Done ∷ said))
-LookOutcome client (Err why) said after = (look_refuses why ≡ true) × (after ≡ said)
+-- a look that saw this LSN: a mark of it exactly where it is above what the core knows to be durable
+abbrev pub LookOutcome : {A : Type 0} → ℕ → CoreView → ℕ → Result A Refusal → Trail → Trail → Type 0
+LookOutcome client core seen (Ok done) said after =
+    ((seen ≤ durable core.past) × (after ≡ said)) ⊎ ((durable core.past < seen) × Marked client seen said after)
+LookOutcome client core seen (Err refusal.TrailFull) said after = (durable core.past < seen) × (after ≡ said)
+LookOutcome client core seen (Err _) said after = ⊥
+
+-- at most one mark
+abbrev pub MarksOnce : ℕ → Trail → Trail → Type 0
+MarksOnce client said after = (after ≡ said) ⊎ ((lsn : ℕ) × Marked client lsn said after)
 
 -- a refusal that is an entry's reply
 abbrev pub refusal_reply : Refusal → Option Reply
@@ -102,26 +108,15 @@ PurgeSaid client (Err refusal.TrailFull) said after = after ≡ said
 PurgeSaid client (Err refusal.OutOfMemory) said after = after ≡ said
 PurgeSaid client (Err _) said after = ⊥
 
--- marks and waits so far, after which the fix or the flush goes on
-pub record FixWaits (client page : ℕ) (said after : Trail) : Type 0 where
-  pub piece : Trail
-  pub goes_on : FixGoesOn session client page piece
-  pub grows : after ≡ piece ++ said
-
-pub record FlushWaits (client page : ℕ) (said after : Trail) : Type 0 where
-  pub piece : Trail
-  pub goes_on : FlushGoesOn session client page piece
-  pub grows : after ≡ piece ++ said
-
--- one turn of it: at most one mark, and then the event
+-- one turn, which is one critical section: at most one mark, and then the event
 pub record FixTurn (client page : ℕ) (answer : Result Fixing Refusal) (said after : Trail) : Type 0 where
   pub marked : Trail
-  pub waits : FixWaits client page said marked
+  pub marks : MarksOnce client said marked
   pub asks : AskFixOutcome client page answer marked after
 
 pub record FlushTurn (client page : ℕ) (answer : Result Flushing Refusal) (said after : Trail) : Type 0 where
   pub marked : Trail
-  pub waits : FlushWaits client page said marked
+  pub marks : MarksOnce client said marked
   pub asks : AskFlushOutcome client page answer marked after
 
 -- the end of a read, by what was read; a ticket that the pool does not know leaves no entry

@@ -105,6 +105,7 @@ impl Book {
         ensures size { result.size ≡ geometry.size }
         ensures before { result.before ≡ [] }
         ensures said { result.said ≡ [] }
+        ensures room { result.entries ≡ 0 }
     {
         Book {
             alloc,
@@ -153,16 +154,18 @@ impl Book {
     /// Hands out what earlier cuts left of the list, the oldest entry first, and goes on in the spare's memory with room for
     /// all that is owed; what the spare has is dropped. All that is said of the list goes on over the whole of it.
     ///
-    /// Where the memory for what is owed is refused, which is `OutOfMemory`, nothing changes. It is not refused where the
-    /// spare has that room.
+    /// The list handed out has all the memory that it had, and no room of the spare is lost. Where the memory for what is
+    /// owed is refused, which is `OutOfMemory`, nothing changes. It is not refused where the spare has that room.
     pub fn cut(&mut self, spare: Vec<Entry>) -> Result<Vec<Entry>, Refusal>
         ensures entries { IfOk result (λ entries. reverse entries.items ++ self.old.before ≡ self.old.said) }
         ensures client { self.new.client ≡ self.old.client }
         ensures size { self.new.size ≡ self.old.size }
         ensures said { self.new.said ≡ self.old.said }
         ensures before { OnOk result (self.new.before ≡ self.old.said) }
-        ensures unchanged { OnErr result (self.new.before ≡ self.old.before) }
+        ensures unchanged { OnErr result (self.new ≡ self.old) }
         ensures refused { OnErr result (result ≡ Err Refusal.OutOfMemory) }
+        ensures memory { IfOk result (λ list. vec_capacity list ≡ self.old.entries + (vec_len list + owed self.old.said)) }
+        ensures room { OnOk result (vec_capacity spare ≤ self.new.entries + owed self.old.said) }
         ensures enough { owed self.old.said ≤ vec_capacity spare → IsOk result }
     {
         match self.said.cut(spare, self.held.len() + 2 * self.tickets) {

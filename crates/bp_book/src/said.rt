@@ -1,5 +1,5 @@
 //! The entries that a session said. Those that a cut handed out are known to proofs alone.
-ghost use Rattle.std.specs.Prelude.{◌≡◌, ◌+◌, ◌<◌, ◌≤◌, ◌∷◌, ◌++◌, [], IsOk, IfOk, OnOk, OnErr, reverse, vec_capacity};
+ghost use Rattle.std.specs.Prelude.{◌≡◌, ◌+◌, ◌<◌, ◌≤◌, ◌∷◌, ◌++◌, [], IsOk, IfOk, OnOk, OnErr, reverse, vec_len, vec_capacity};
 
 use bp_core::{Before, Entry};
 use std::alloc::{AllocError, Global};
@@ -25,7 +25,7 @@ impl Model for Said {
 impl Said {
     /// No entries.
     pub(crate) fn new(alloc: Global) -> Said
-        ensures { (result.before ≡ []) × (result.all ≡ []) × (result.kept ≡ 0) }
+        ensures { (result.before ≡ []) × (result.all ≡ []) × (result.kept ≡ 0) × (result.capacity ≡ 0) }
     {
         Said {
             before: Before::nothing(),
@@ -77,6 +77,9 @@ impl Said {
         ensures before { IfOk result (λ entries. self.new.before ≡ self.old.all) }
         ensures kept { IfOk result (λ entries. self.new.kept ≡ 0) }
         ensures room { IfOk result (λ entries. room ≤ self.new.capacity) }
+        ensures len { IfOk result (λ entries. vec_len entries ≡ self.old.kept) }
+        ensures memory { IfOk result (λ entries. vec_capacity entries ≡ self.old.capacity) }
+        ensures spare { IfOk result (λ entries. vec_capacity spare ≤ self.new.capacity) }
         ensures enough { room ≤ vec_capacity spare → IsOk result }
         ensures unchanged { OnErr result (self.new ≡ self.old) }
     {

@@ -3,19 +3,19 @@ use Rattle.std.proofs.Common.{◌≡◌, refl, sym, ◌∙◌, ap, subst, ℕ, z
 use Rattle.std.proofs.lemmas.Bool.{eqb-true, eq-eqb}
 use Rattle.std.specs.declared.vec.Vec.{Vec}
 use Rattle.std.proofs.lemmas.List.{get_or-map, length-map, append_assoc}
-use Rattle.bp_shared.specs.Sessions.{SessionValue, new_sessions}
+use Rattle.bp_shared.specs.Sessions.{SessionValue, new_session, new_sessions}
 use Rattle.bp_trail.specs.declared.scripts.Row.{Row}
 use Rattle.bp_trail.specs.Parameters.{Parameters}
 use Rattle.bp_clients.specs.Jobs.{list_of, lists, ScriptFits, EachScriptFits, sessions_from, JobValue, new_job, new_jobs}
 
-one_more : (first n : ℕ) → sessions_from first (suc n) ≡ sessions_from first n ++ record { client = first + n; before = []; said = [] } ∷ []
-one_more first zero = ap (λ c. record { client = c; before = []; said = [] } ∷ []) (omega arith)
-one_more first (suc n) = ap (λ ss. record { client = first; before = []; said = [] } ∷ ss) (one_more (suc first) n ∙ ap (λ c. sessions_from (suc first) n ++ record { client = c; before = []; said = [] } ∷ []) (omega arith))
+one_more : (first n : ℕ) → sessions_from first (suc n) ≡ sessions_from first n ++ new_session (first + n) ∷ []
+one_more first zero = ap (λ c. new_session c ∷ []) (omega arith)
+one_more first (suc n) = ap (λ ss. new_session first ∷ ss) (one_more (suc first) n ∙ ap (λ c. sessions_from (suc first) n ++ new_session c ∷ []) (omega arith))
 
 -- the sessions of a new pool, counted from the first
 pub in_order : (n : ℕ) → new_sessions n ≡ sessions_from 0 n
 in_order zero = refl
-in_order (suc n) = ap (λ ss. ss ++ record { client = n; before = []; said = [] } ∷ []) (in_order n) ∙ sym (one_more 0 n ∙ ap (λ c. sessions_from 0 n ++ record { client = c; before = []; said = [] } ∷ []) (omega arith))
+in_order (suc n) = ap (λ ss. ss ++ new_session n ∷ []) (in_order n) ∙ sym (one_more 0 n ∙ ap (λ c. sessions_from 0 n ++ new_session c ∷ []) (omega arith))
 
 -- the scripts fit, one by one, as those of the clients from this one on
 abbrev pub ScriptsFit : Parameters → ℕ → List (List Row) → Type 0
@@ -65,12 +65,12 @@ one_more_fits p scripts n script rows so_far below is are fits c within = go (c 
 
 -- the session that comes next, and those after it
 pub record NextSession (n left : ℕ) (s : SessionValue) (rest : List SessionValue) : Type 0 where
-  pub is : s ≡ record { client = n; before = []; said = [] }
+  pub is : s ≡ new_session n
   pub after : rest ≡ sessions_from (suc n) left
 
 pub next_session : (n m left : ℕ) (sessions rest : List SessionValue) (s : SessionValue) → sessions ≡ sessions_from n m → sessions ≡ s ∷ rest → m ≡ suc left → NextSession n left s rest
 next_session n m left sessions rest s are begins some =
-    let same : s ∷ rest ≡ record { client = n; before = []; said = [] } ∷ sessions_from (suc n) left = sym begins ∙ are ∙ ap (sessions_from n) some in
+    let same : s ∷ rest ≡ new_session n ∷ sessions_from (suc n) left = sym begins ∙ are ∙ ap (sessions_from n) some in
     record { is = cc; after = cc }
 
 pub made_more : (jobs jobs_after all : List JobValue) (n next : ℕ) (rows : List Row) (scripts rest : List (List Row)) (j : JobValue) → jobs ++ new_jobs n scripts ≡ all → scripts ≡ rows ∷ rest → jobs_after ≡ jobs ++ j ∷ []

@@ -9,7 +9,7 @@ use Rattle.bp_trail.specs.Trail.{Trail}
 use Rattle.bp_trail.specs.Fits.{RowFits}
 use Rattle.bp_trail.specs.Pieces.Manner.{session}
 use Rattle.bp_trail.specs.Script.{FollowsBy, GivesBack}
-use Rattle.bp_shared.specs.Sessions.{SessionValue}
+use Rattle.bp_shared.specs.Sessions.{SessionValue, new_session}
 use Rattle.bp_audit.specs.Clients.{of_client}
 use Rattle.bp_audit.specs.Log.{log_of, IsWithinLog}
 
@@ -66,7 +66,7 @@ new_jobs first (script ∷ scripts) = new_job first script ∷ new_jobs (suc fir
 -- the same of the sessions that are given to them
 abbrev pub sessions_from : ℕ → ℕ → List SessionValue
 sessions_from first zero = []
-sessions_from first (suc n) = record { client = first; before = []; said = [] } ∷ sessions_from (suc first) n
+sessions_from first (suc n) = new_session first ∷ sessions_from (suc first) n
 
 -- a job keeps its client and its script
 pub record SameJob (old new : JobValue) : Type 0 where

@@ -20,7 +20,8 @@ use Rattle.bp_trail.specs.Pieces.Manner.{session}
 use Rattle.bp_trail.specs.Pieces.FixGoesOn.{begins, marked, waited, cleaned, still_dirty}
 use Rattle.bp_trail.specs.Pieces.FixPiece.{hit, fixed, no_victim, need_log, read_failed, wrong_page, write_failed, lost_read, lost_write, no_room, no_memory}
 use Rattle.bp_book.specs.Books.{OwesRead, OwesWrite}
-use Rattle.bp_book.specs.Turns.{is_busy, FixWaits, FixTurn, EndReadOutcome, EndWriteOutcome, LoadOutcome, WriteOutOutcome}
+use Rattle.bp_book.specs.Turns.{is_busy, FixTurn, EndReadOutcome, EndWriteOutcome, LoadOutcome, WriteOutOutcome}
+use Rattle.bp_shared.proofs.Turning.{FixWaits, FixTurns, fix_marked}
 use Rattle.bp_shared.specs.Sessions.{FixSaid}
 use Rattle.bp_device.specs.Drivers.{Gives}
 
@@ -51,10 +52,10 @@ waits_more client page said mid after w v =
     }
 
 -- a turn after those before
-pub turn_more : (client page : ℕ) (answer : Result Fixing Refusal) (said mid after : Trail) → FixWaits client page said mid → FixTurn client page answer mid after → FixTurn client page answer said after
-turn_more client page answer said mid after w t = record { marked = t.marked; waits = waits_more client page said mid t.marked w t.waits; asks = t.asks }
+pub turn_more : (client page : ℕ) (answer : Result Fixing Refusal) (said mid after : Trail) → FixWaits client page said mid → FixTurn client page answer mid after → FixTurns client page answer said after
+turn_more client page answer said mid after w t = record { marked = t.marked; waits = waits_more client page said mid t.marked w (fix_marked client page mid t.marked t.marks); asks = t.asks }
 
-pub hit_said : (client page : ℕ) (pass : Pass) (said after : Trail) → FixTurn client page (Ok (fixing.Hit pass)) said after → FixSaid client page (Ok pass) said after
+pub hit_said : (client page : ℕ) (pass : Pass) (said after : Trail) → FixTurns client page (Ok (fixing.Hit pass)) said after → FixSaid client page (Ok pass) said after
 hit_said client page pass said after t =
     let w = t.waits in
     let e = by client (Fix page) (Hit pass.serial) in (
@@ -67,13 +68,13 @@ pub is-busy : (why : Refusal) → is_busy why ≡ true → why ≡ refusal.Busy
 is-busy refusal.Busy h = refl
 is-busy _ h = absurd (let no : false ≡ true = h in cc)
 
-pub busy_waits : (client page : ℕ) (why : Refusal) (said after : Trail) → is_busy why ≡ true → FixTurn client page (Err why) said after → FixWaits client page said after
+pub busy_waits : (client page : ℕ) (why : Refusal) (said after : Trail) → is_busy why ≡ true → FixTurns client page (Err why) said after → FixWaits client page said after
 busy_waits client page why said after busy turn =
-    let t = subst (λ (r : Refusal). FixTurn client page (Err r) said after) (is-busy why busy) turn in
+    let t = subst (λ (r : Refusal). FixTurns client page (Err r) said after) (is-busy why busy) turn in
     let e = by client (Fix page) Busy in
     record { piece = e ∷ t.waits.piece; goes_on = waited refl t.waits.goes_on; grows = t.asks.1 ∙ ap (λ es. e ∷ es) t.waits.grows }
 
-pub refused_said : (client page : ℕ) (why : Refusal) (said after : Trail) → is_busy why ≡ false → FixTurn client page (Err why) said after → FixSaid client page (Err why) said after
+pub refused_said : (client page : ℕ) (why : Refusal) (said after : Trail) → is_busy why ≡ false → FixTurns client page (Err why) said after → FixSaid client page (Err why) said after
 refused_said client page refusal.NoVictim said after not t =
     let w = t.waits in
     let e = by client (Fix page) NoVictim in record { piece = e ∷ w.piece; grows = t.asks.1 ∙ ap (λ es. e ∷ es) w.grows; of_row = (no_victim w.goes_on, tt); gives = gives_none client page w.piece w.goes_on }
@@ -95,7 +96,7 @@ pub owes_write : (client page : ℕ) (ticket : WriteTicket) (said after : Trail)
 owes_write client page ticket said after t = record { call = Fix page; before = t.marked; whose = t.asks.0; gave = t.asks.1 }
 
 -- the read and its end
-pub load_said : (client page : ℕ) (ticket : ReadTicket) (evicted : Option ℕ) (answer : Result Pass Refusal) (said mid after : Trail) → FixTurn client page (Ok (fixing.Load ticket evicted)) said mid
+pub load_said : (client page : ℕ) (ticket : ReadTicket) (evicted : Option ℕ) (answer : Result Pass Refusal) (said mid after : Trail) → FixTurns client page (Ok (fixing.Load ticket evicted)) said mid
     → LoadOutcome ticket answer mid after → FixSaid client page answer said after
 load_said client page ticket evicted answer said mid after t l = go l.read answer l.ended
   where
@@ -141,7 +142,7 @@ load_said client page ticket evicted answer said mid after t l = go l.read answe
     go _ _ h = absurd h
 
 -- the victim's write-out and its end
-pub written_waits : (client page : ℕ) (ticket : WriteTicket) (how : Ended) (said mid after : Trail) → FixTurn client page (Ok (fixing.WriteFirst ticket)) said mid → WriteOutOutcome ticket (Ok how) mid after → FixWaits client page said after
+pub written_waits : (client page : ℕ) (ticket : WriteTicket) (how : Ended) (said mid after : Trail) → FixTurns client page (Ok (fixing.WriteFirst ticket)) said mid → WriteOutOutcome ticket (Ok how) mid after → FixWaits client page said after
 written_waits client page ticket how said mid after t o = go o.written how o.ended
   where
     w : FixWaits client page said t.marked
@@ -159,7 +160,7 @@ written_waits client page ticket how said mid after t o = go o.written how o.end
         record { piece = end client ∷ e ∷ w.piece; goes_on = still_dirty ticket.serial ticket.page ticket.image w.goes_on; grows = h ∙ ap (λ c. end c ∷ mid) t.asks.0 ∙ ap (λ es. end client ∷ es) (t.asks.1 ∙ ap (λ es. e ∷ es) w.grows) }
     go (Err fault) _ h = absurd h
 
-pub unwritten_said : (client page : ℕ) (ticket : WriteTicket) (why : Refusal) (said mid after : Trail) → FixTurn client page (Ok (fixing.WriteFirst ticket)) said mid → WriteOutOutcome ticket (Err why) mid after → FixSaid client page (Err why) said after
+pub unwritten_said : (client page : ℕ) (ticket : WriteTicket) (why : Refusal) (said mid after : Trail) → FixTurns client page (Ok (fixing.WriteFirst ticket)) said mid → WriteOutOutcome ticket (Err why) mid after → FixSaid client page (Err why) said after
 unwritten_said client page ticket why said mid after t o = go o.written why o.ended
   where
     w : FixWaits client page said t.marked

@@ -18,7 +18,8 @@ use Rattle.bp_trail.specs.Pieces.FlushGoesOn.{begins, marked, waited}
 use Rattle.bp_trail.specs.Pieces.FlushPiece.{clean, absent, cleaned, still_dirty, need_log, write_failed, lost_write, no_room, no_memory}
 use Rattle.bp_device.specs.declared.drivers.Flushed.{Flushed}
 use Rattle.bp_device.specs.declared.drivers.Flushed.TheVariants as flushed
-use Rattle.bp_book.specs.Turns.{is_busy, FlushWaits, FlushTurn, EndWriteOutcome, WriteOutOutcome}
+use Rattle.bp_book.specs.Turns.{is_busy, FlushTurn, EndWriteOutcome, WriteOutOutcome}
+use Rattle.bp_shared.proofs.Turning.{FlushWaits, FlushTurns, flush_marked}
 use Rattle.bp_shared.specs.Sessions.{FlushSaid}
 use Rattle.bp_device.specs.Drivers.{Gives, ended_reply, flushed_reply}
 use Rattle.bp_shared.proofs.Fixing.{is-busy}
@@ -44,26 +45,26 @@ waits_more client page said mid after w v =
       grows = v.grows ∙ ap (λ es. v.piece ++ es) w.grows ∙ sym (append_assoc v.piece w.piece said);
     }
 
-pub flush_turn_more : (client page : ℕ) (answer : Result Flushing Refusal) (said mid after : Trail) → FlushWaits client page said mid → FlushTurn client page answer mid after → FlushTurn client page answer said after
-flush_turn_more client page answer said mid after w t = record { marked = t.marked; waits = waits_more client page said mid t.marked w t.waits; asks = t.asks }
+pub flush_turn_more : (client page : ℕ) (answer : Result Flushing Refusal) (said mid after : Trail) → FlushWaits client page said mid → FlushTurn client page answer mid after → FlushTurns client page answer said after
+flush_turn_more client page answer said mid after w t = record { marked = t.marked; waits = waits_more client page said mid t.marked w (flush_marked client page mid t.marked t.marks); asks = t.asks }
 
-pub clean_said : (client page : ℕ) (said after : Trail) → FlushTurn client page (Ok flushing.Clean) said after → FlushSaid client page (Ok flushed.Clean) said after
+pub clean_said : (client page : ℕ) (said after : Trail) → FlushTurns client page (Ok flushing.Clean) said after → FlushSaid client page (Ok flushed.Clean) said after
 clean_said client page said after t =
     let w = t.waits in
     let e = by client (Flush page) Clean in record { piece = e ∷ w.piece; grows = t.asks ∙ ap (λ es. e ∷ es) w.grows; of_row = (clean w.goes_on, refl); gives = gives_none client page w.piece w.goes_on }
 
-pub absent_said : (client page : ℕ) (said after : Trail) → FlushTurn client page (Ok flushing.Absent) said after → FlushSaid client page (Ok flushed.Absent) said after
+pub absent_said : (client page : ℕ) (said after : Trail) → FlushTurns client page (Ok flushing.Absent) said after → FlushSaid client page (Ok flushed.Absent) said after
 absent_said client page said after t =
     let w = t.waits in
     let e = by client (Flush page) Absent in record { piece = e ∷ w.piece; grows = t.asks ∙ ap (λ es. e ∷ es) w.grows; of_row = (absent w.goes_on, refl); gives = gives_none client page w.piece w.goes_on }
 
-pub flush_busy_waits : (client page : ℕ) (why : Refusal) (said after : Trail) → is_busy why ≡ true → FlushTurn client page (Err why) said after → FlushWaits client page said after
+pub flush_busy_waits : (client page : ℕ) (why : Refusal) (said after : Trail) → is_busy why ≡ true → FlushTurns client page (Err why) said after → FlushWaits client page said after
 flush_busy_waits client page why said after busy turn =
-    let t = subst (λ (r : Refusal). FlushTurn client page (Err r) said after) (is-busy why busy) turn in
+    let t = subst (λ (r : Refusal). FlushTurns client page (Err r) said after) (is-busy why busy) turn in
     let e = by client (Flush page) Busy in
     record { piece = e ∷ t.waits.piece; goes_on = waited refl t.waits.goes_on; grows = t.asks.1 ∙ ap (λ es. e ∷ es) t.waits.grows }
 
-pub flush_refused_said : (client page : ℕ) (why : Refusal) (said after : Trail) → is_busy why ≡ false → FlushTurn client page (Err why) said after → FlushSaid client page (Err why) said after
+pub flush_refused_said : (client page : ℕ) (why : Refusal) (said after : Trail) → is_busy why ≡ false → FlushTurns client page (Err why) said after → FlushSaid client page (Err why) said after
 flush_refused_said client page (refusal.NeedLog lsn) said after not t =
     let w = t.waits in
     let e = by client (Flush page) (NeedLog lsn) in record { piece = e ∷ w.piece; grows = t.asks.1 ∙ ap (λ es. e ∷ es) w.grows; of_row = (need_log lsn w.goes_on, refl); gives = gives_none client page w.piece w.goes_on }
@@ -74,7 +75,7 @@ flush_refused_said client page refusal.OutOfMemory said after not t =
     let w = t.waits in record { piece = w.piece; grows = t.asks.1 ∙ w.grows; of_row = (no_memory w.goes_on, tt); gives = gives_none client page w.piece w.goes_on }
 flush_refused_said client page _ said after not t = absurd (let no : false ≡ true = t.asks.0 in cc)
 
-module _ (client page : ℕ) (ticket : WriteTicket) (said mid after : Trail) (t : FlushTurn client page (Ok (flushing.WriteFirst ticket)) said mid) where
+module _ (client page : ℕ) (ticket : WriteTicket) (said mid after : Trail) (t : FlushTurns client page (Ok (flushing.WriteFirst ticket)) said mid) where
   abbrev w : FlushWaits client page said t.marked
   w = t.waits
 
@@ -116,9 +117,9 @@ module _ (client page : ℕ) (ticket : WriteTicket) (said mid after : Trail) (t 
   lost_said (Err fault) refusal.UnknownTicket h = record { piece = e ∷ w.piece; grows = h ∙ grown; of_row = (lost_write ticket.serial ticket.image refl w.goes_on, tt); gives = gives_none client page w.piece w.goes_on }
   lost_said _ _ h = absurd h
 
-pub flushed_said : (client page : ℕ) (ticket : WriteTicket) (how : Ended) (answer : Flushed) (said mid after : Trail) → FlushTurn client page (Ok (flushing.WriteFirst ticket)) said mid → flushed_reply answer ≡ ended_reply how
+pub flushed_said : (client page : ℕ) (ticket : WriteTicket) (how : Ended) (answer : Flushed) (said mid after : Trail) → FlushTurns client page (Ok (flushing.WriteFirst ticket)) said mid → flushed_reply answer ≡ ended_reply how
     → WriteOutOutcome ticket (Ok how) mid after → FlushSaid client page (Ok answer) said after
 flushed_said client page ticket how answer said mid after t is o = ended_said client page ticket said mid after t how answer o.written is o.ended
 
-pub unflushed_said : (client page : ℕ) (ticket : WriteTicket) (why : Refusal) (said mid after : Trail) → FlushTurn client page (Ok (flushing.WriteFirst ticket)) said mid → WriteOutOutcome ticket (Err why) mid after → FlushSaid client page (Err why) said after
+pub unflushed_said : (client page : ℕ) (ticket : WriteTicket) (why : Refusal) (said mid after : Trail) → FlushTurns client page (Ok (flushing.WriteFirst ticket)) said mid → WriteOutOutcome ticket (Err why) mid after → FlushSaid client page (Err why) said after
 unflushed_said client page ticket why said mid after t o = lost_said client page ticket said mid after t o.written why o.ended

@@ -1,4 +1,5 @@
 pub mod Stepping
+pub mod Turning
 pub mod Taking
 pub mod Fixing
 pub mod Making

@@ -1,19 +1,28 @@
 -- What the locked state and a session's list have in common.
-use Rattle.std.specs.Prelude.{◌≡◌, ℕ, ◌≤◌, List, ◌++◌}
+use Rattle.std.specs.Prelude.{◌≡◌, ℕ, ◌+◌, ◌%◌, ◌^◌, ◌≤◌, List, ◌++◌, ◌⊎◌, Result, Ok, Err, IsErr}
+use Rattle.bp_page.specs.declared.refusals.Refusal.{Refusal}
+use Rattle.bp_page.specs.declared.refusals.Refusal.TheVariants as refusal
 use Rattle.bp_mark.specs.Marks.{MarkName, ReaderValue}
 use Rattle.bp_trail.specs.Parameters.{Parameters}
 use Rattle.bp_trail.specs.Trail.{Trail}
 use Rattle.bp_trail.specs.Clock.{durable}
 use Rattle.bp_core.specs.CoreView.{CoreView}
+use Rattle.bp_core.specs.Outcomes.{FixOutcome, FlushOutcome}
+use Rattle.bp_core.specs.declared.passes.Fix.{Fix as Fixing}
+use Rattle.bp_core.specs.declared.passes.Flush.{Flush as Flushing}
+use Rattle.bp_book.specs.Causes.{Looks}
 use Rattle.bp_book.specs.Rings.{RingView, DrainsRings}
 
 -- no pool's parameters
 abbrev pub no_parameters : Parameters
 no_parameters = record { frames = 0; k = 0; correlated = 0; retained = 0; pages = 0; size = 0; clients = 0; room = 0 }
 
--- what lies under the lock: the core, the rings in the order in which they are drained, and how many passes were strays
+-- what lies under the lock: the core, the greatest LSN that its reader has seen, how often device work ended, modulo 2^64,
+-- the rings in the order in which they are drained, and how many passes were strays
 pub record LockedValue : Type 0 where
   pub core : CoreView
+  pub seen : ℕ
+  pub ends : ℕ
   pub rings : List RingView
   pub strays : ℕ
 
@@ -27,12 +36,37 @@ pub record IsLocked (mark : MarkName) (parameters : Parameters) (core : CoreView
 pub record Settled (old new : LockedValue) : Type 0 where
   pub parameters : new.core.parameters ≡ old.core.parameters
   pub before : new.core.before ≡ old.core.before
+  pub seen : new.seen ≡ old.seen
+  pub ends : new.ends ≡ old.ends
   pub drained : DrainsRings 32 old.rings new.rings old.core.past old.strays new.core.past new.strays
 
--- the rings were drained, and then the trail and the list got the same entries
-pub record InStep (old : LockedValue) (said : Trail) (new : LockedValue) (after : Trail) : Type 0 where
+-- the rings were drained; then the core did what the event says, and the trail and the list got the same entries
+pub record InStep (Event : CoreView → CoreView → Type 0) (old : LockedValue) (said : Trail) (new : LockedValue) (after : Trail) : Type 0 where
   pub past : Trail
   pub drained : DrainsRings 32 old.rings new.rings old.core.past old.strays past new.strays
+  pub event : Event (record old.core { past = past }) new.core
   pub piece : Trail
   pub is : new.core ≡ record old.core { past = piece ++ past }
   pub grows : after ≡ piece ++ said
+
+-- a look that was not refused
+abbrev pub not_refused : Result (Unit {0}) Refusal
+not_refused = Ok tt
+
+-- a look, and where it is not refused one event after it
+abbrev pub LooksFirst : {A : Type 0} → ℕ → ℕ → Result A Refusal → (CoreView → CoreView → Type 0) → CoreView → CoreView → Type 0
+LooksFirst client seen answer Event core new =
+    (IsErr answer × Looks client seen core answer new)
+    ⊎ ((looked : CoreView) × Looks client seen core not_refused looked × Event looked new)
+
+-- a fix, and a flush, after a look that saw this LSN
+abbrev pub FixStep : ℕ → ℕ → ℕ → Result Fixing Refusal → CoreView → CoreView → Type 0
+FixStep client page seen answer = LooksFirst client seen answer (λ looked new. FixOutcome looked client page answer new)
+
+abbrev pub FlushStep : ℕ → ℕ → ℕ → Result Flushing Refusal → CoreView → CoreView → Type 0
+FlushStep client page seen answer = LooksFirst client seen answer (λ looked new. FlushOutcome looked client page answer new)
+
+-- how often device work ended, after one end more: that of a ticket that the pool does not know is none
+abbrev pub ends_after : {A : Type 0} → Result A Refusal → ℕ → ℕ
+ends_after (Err refusal.UnknownTicket) ends = ends
+ends_after _ ends = (ends + 1) % 2 ^ 64

@@ -1,30 +1,48 @@
 -- What a session's call adds to the session's list, newest first, by what it answers.
-use Rattle.std.specs.Prelude.{◌≡◌, ℕ, zero, suc, true, false, List, [], ◌∷◌, ◌++◌, Option, Some, None, Result, Ok, Err}
+use Rattle.std.specs.Prelude.{◌≡◌, ℕ, ◌+◌, ◌≤◌, zero, suc, true, false, List, [], ◌∷◌, ◌++◌, Option, Some, None, Result, Ok, Err, vec_len, vec_capacity}
 use Rattle.bp_page.specs.declared.refusals.Refusal.{Refusal}
 use Rattle.bp_page.specs.Refusals.{number_of}
 use Rattle.bp_page.specs.declared.refusals.Refusal.TheVariants as refusal
 use Rattle.bp_core.specs.declared.passes.Pass.{Pass}
 use Rattle.bp_trail.specs.declared.entries.Call.TheVariants.{Unfix}
 use Rattle.bp_trail.specs.declared.entries.Reply.TheVariants.{Done, NeedLog}
+use Rattle.std.specs.declared.vec.Vec.{Vec}
+use Rattle.bp_trail.specs.declared.entries.Entry.{Entry}
 use Rattle.bp_trail.specs.Event.{Grant, grant}
 use Rattle.bp_trail.specs.Trail.{Trail}
 use Rattle.bp_core.specs.Outcomes.{pass_is_out}
 use Rattle.bp_trail.specs.Pieces.{by, FixPiece, FlushPiece}
 use Rattle.bp_trail.specs.Pieces.Manner.{session}
 use Rattle.bp_trail.specs.Pieces.Outcome.{accepted, refused}
+use Rattle.bp_book.specs.Books.{owed}
 use Rattle.bp_device.specs.declared.drivers.Flushed.{Flushed}
 use Rattle.bp_device.specs.Drivers.{Gives, Ends, flushed_reply}
 
--- whose session it is, and its list: what cuts handed out, and all of it
+-- whose session it is, and its list: what cuts handed out, and all of it; in how many places of its ring it knows no pass;
+-- and for how many entries the list has room beyond all that it owes
 pub record SessionValue : Type 0 where
   pub client : ℕ
   pub before : Trail
   pub said : Trail
+  pub free : ℕ
+  pub room : ℕ
 
--- a session for each client, in order, that said nothing
+-- a session that said nothing, with 32 free places in its ring
+abbrev pub new_session : ℕ → SessionValue
+new_session client = record { client = client; before = []; said = []; free = 32; room = 0 }
+
+-- a new session for each client, in order
 abbrev pub new_sessions : ℕ → List SessionValue
 new_sessions zero = []
-new_sessions (suc n) = new_sessions n ++ record { client = n; before = []; said = [] } ∷ []
+new_sessions (suc n) = new_sessions n ++ new_session n ∷ []
+
+-- what the list had was handed out, and all else goes on
+abbrev pub IsCut : SessionValue → SessionValue → Type 0
+IsCut old new = new ≡ record old { before = old.said; room = new.room }
+
+-- a list that was handed out has the memory that it had
+abbrev pub KeepsMemory : {A : Type 0} → SessionValue → Vec Entry A → Type 0
+KeepsMemory old list = vec_capacity list ≡ old.room + (vec_len list + owed old.said)
 
 -- the list has one more piece, which is as P says
 pub record Says (P : Trail → Type 0) (given : Option Grant) (said after : Trail) : Type 0 where
@@ -47,10 +65,13 @@ abbrev pub FlushSaid : ℕ → ℕ → Result Flushed Refusal → Trail → Trai
 FlushSaid client page (Ok how) said after = Says (λ piece. FlushPiece session client page piece accepted × Ends (flushed_reply how) piece) None said after
 FlushSaid client page (Err why) said after = Says (λ piece. FlushPiece session client page piece (refused (number_of why)) × Repeats why piece) None said after
 
--- a pass that the list leaves out is posted, or finds the ring full; any other is unknown
-abbrev pub UnfixSaid : {A : Type 0} → ℕ → Pass → Result A (Pass × Refusal) → Trail → Trail → Type 0
-UnfixSaid client pass (Ok done) said after =
-    (pass_is_out pass said ≡ true) × (pass.client ≡ client) × (after ≡ by client (Unfix pass.serial pass.page) Done ∷ said)
-UnfixSaid client pass (Err (back, refusal.UnknownPass)) said after = (pass_is_out pass said ≡ false) × (back ≡ pass) × (after ≡ said)
-UnfixSaid client pass (Err (back, refusal.RingFull)) said after = (pass_is_out pass said ≡ true) × (back ≡ pass) × (after ≡ said)
-UnfixSaid client pass (Err (back, _)) said after = ⊥
+-- a pass that the list leaves out is posted, or finds the ring full: then no place was free, and nothing changes;
+-- any other is unknown
+abbrev pub UnfixSaid : {A : Type 0} → SessionValue → Pass → Result A (Pass × Refusal) → SessionValue → Type 0
+UnfixSaid old pass (Ok done) new =
+    (pass_is_out pass old.said ≡ true) × (pass.client ≡ old.client)
+    × (new.said ≡ by old.client (Unfix pass.serial pass.page) Done ∷ old.said) × (old.free ≤ new.free + 1)
+UnfixSaid old pass (Err (back, refusal.UnknownPass)) new = (pass_is_out pass old.said ≡ false) × (back ≡ pass) × (new ≡ old)
+UnfixSaid old pass (Err (back, refusal.RingFull)) new =
+    (pass_is_out pass old.said ≡ true) × (back ≡ pass) × (new ≡ old) × (old.free ≡ 0)
+UnfixSaid old pass (Err (back, _)) new = ⊥

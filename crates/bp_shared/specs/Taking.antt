@@ -73,5 +73,6 @@ pub record HandsOut (old : LockedValue) (had : TakerValue) (entries : List Entry
   pub settled : Settled old mid
   pub cuts : Cuts mid.core entries new.core
   pub rings_stay : (new.rings ≡ mid.rings) × (new.strays ≡ mid.strays)
+  pub ends_stay : new.ends ≡ mid.ends
   pub had_all : had.past ≡ old.core.before
   pub takes : has.past ≡ reverse entries ++ had.past

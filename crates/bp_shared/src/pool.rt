@@ -156,7 +156,7 @@ impl<N: PoolName> SharedPool<N> {
     pub fn unfix(&self, session: &mut Session<N>, pass: Pass) -> Result<(), (Pass, Refusal)>
         ensures client { session.new.client ≡ session.old.client }
         ensures before { session.new.before ≡ session.old.before }
-        ensures outcome { UnfixSaid session.old.client pass result session.old.said session.new.said }
+        ensures outcome { UnfixSaid session.old pass result session.new }
     {
         let client = session.client();
         let posted = session.post(pass);

@@ -20,25 +20,31 @@ pub struct Session<N: PoolName> {
 
 impl<N: PoolName> Model for Session<N> {
     ghost use Rattle.std.specs.Prelude.{◌≡◌, ◌<◌, reverse};
-    ghost use Rattle.rtrb.specs.Ring.{sent};
+    ghost use Rattle.rtrb.specs.Ring.{sent, known_free};
     ghost use Rattle.bp_book.specs.Books.{unfixes};
     ghost use Rattle.bp_shared.specs.Sessions.{SessionValue};
 
     ghost Value = { SessionValue };
 
-    ghost view = { λ s. record { client = s.book.client; before = s.book.before; said = s.book.said } };
+    ghost view = { λ s. record {
+      client = s.book.client;
+      before = s.book.before;
+      said = s.book.said;
+      free = known_free s.producer;
+      room = s.book.entries;
+    } };
 
     // The passes posted are those of the list's own unfixes, in order.
     ghost invariant = { λ s. (s.book.client < N.parameters.clients) × (s.book.size ≡ N.parameters.size) × (sent s.producer ≡ reverse (unfixes s.book.said)) };
 }
 
 impl<N: PoolName> Session<N> {
-    ghost use Rattle.std.specs.Prelude.{◌≡◌, ◌<◌, ◌++◌, ◌≤◌, [], reverse, IsOk, IfOk, OnOk, OnErr, vec_capacity};
+    ghost use Rattle.std.specs.Prelude.{◌≡◌, ◌+◌, ◌<◌, ◌++◌, ◌≤◌, [], reverse, IsOk, IfOk, OnOk, OnErr, vec_capacity};
     ghost use Rattle.bp_page.specs.declared.refusals.Refusal.TheVariants as Refusal;
-    ghost use Rattle.rtrb.specs.Ring.{sent};
+    ghost use Rattle.rtrb.specs.Ring.{sent, known_free};
     ghost use Rattle.bp_trail.specs.Script.{held_passes};
     ghost use Rattle.bp_book.specs.Books.{owed};
-    ghost use Rattle.bp_shared.specs.Sessions.{UnfixSaid};
+    ghost use Rattle.bp_shared.specs.Sessions.{UnfixSaid, IsCut, KeepsMemory};
 
     /// A session that said nothing yet.
     pub(crate) fn new(
@@ -49,10 +55,12 @@ impl<N: PoolName> Session<N> {
     ) -> Session<N>
         requires client_in { client < N.parameters.clients }
         requires size { geometry.size ≡ N.parameters.size }
-        requires unused { sent producer ≡ [] }
+        requires unused { (sent producer ≡ []) × (known_free producer ≡ 32) }
         ensures client { result.client ≡ client }
         ensures before { result.before ≡ [] }
         ensures said { result.said ≡ [] }
+        ensures free { result.free ≡ 32 }
+        ensures room { result.room ≡ 0 }
     {
         Session {
             book: Book::new(alloc, geometry, client),
@@ -94,7 +102,8 @@ impl<N: PoolName> Session<N> {
     /// only where entries are owed; where it is refused, which is `OutOfMemory`, nothing changes.
     pub fn cut(&mut self) -> Result<Vec<Entry>, Refusal>
         ensures entries { IfOk result (λ entries. reverse entries.items ++ self.old.before ≡ self.old.said) }
-        ensures after { OnOk result (self.new ≡ record self.old { before = self.old.said }) }
+        ensures after { OnOk result (IsCut self.old self.new) }
+        ensures memory { IfOk result (λ list. KeepsMemory self.old list) }
         ensures unchanged { OnErr result (self.new ≡ self.old) }
         ensures refused { OnErr result (result ≡ Err Refusal.OutOfMemory) }
         ensures enough { owed self.old.said ≡ 0 → IsOk result }
@@ -105,12 +114,14 @@ impl<N: PoolName> Session<N> {
 
     /// A cut that goes on in the memory of a spare list. It is not refused where that has room for the entries that are
     /// owed: one for each pass held, and two for each ticket that the list was given and did not end. What the spare has
-    /// is dropped.
+    /// is dropped, and none of its room is lost; the list handed out has all the memory that it had.
     pub fn cut_into(&mut self, spare: Vec<Entry>) -> Result<Vec<Entry>, Refusal>
         ensures entries { IfOk result (λ entries. reverse entries.items ++ self.old.before ≡ self.old.said) }
-        ensures after { OnOk result (self.new ≡ record self.old { before = self.old.said }) }
+        ensures after { OnOk result (IsCut self.old self.new) }
+        ensures memory { IfOk result (λ list. KeepsMemory self.old list) }
         ensures unchanged { OnErr result (self.new ≡ self.old) }
         ensures refused { OnErr result (result ≡ Err Refusal.OutOfMemory) }
+        ensures room { OnOk result (vec_capacity spare ≤ self.new.room + owed self.old.said) }
         ensures enough { owed self.old.said ≤ vec_capacity spare → IsOk result }
     {
         self.book.cut(spare)
@@ -121,7 +132,7 @@ impl<N: PoolName> Session<N> {
     pub(crate) fn post(&mut self, pass: Pass) -> Result<(), (Pass, Refusal)>
         ensures client { self.new.client ≡ self.old.client }
         ensures before { self.new.before ≡ self.old.before }
-        ensures outcome { UnfixSaid self.old.client pass result self.old.said self.new.said }
+        ensures outcome { UnfixSaid self.old pass result self.new }
     {
         if !self.book.holds(&pass) {
             return Err((pass, Refusal::UnknownPass));

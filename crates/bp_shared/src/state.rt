@@ -36,7 +36,13 @@ impl<N: PoolName> Model for State<N> {
 
     ghost Value = { LockedValue };
 
-    ghost view = { λ s. record { core = s.core; rings = map ring_view s.consumers.items; strays = s.strays } };
+    ghost view = { λ s. record {
+      core = s.core;
+      seen = s.reader.seen;
+      ends = s.ends;
+      rings = map ring_view s.consumers.items;
+      strays = s.strays;
+    } };
 
     ghost invariant = { λ s. IsLocked N.mark N.parameters s.core s.reader × IsHandedOut N.ring N.before s.pieces s.core };
 }
@@ -78,7 +84,9 @@ impl<N: PoolName> State<N> {
     }
 
     /// How often device work ended, modulo 2^64.
-    pub(crate) fn ends(&self) -> u64 {
+    pub(crate) fn ends(&self) -> u64
+        ensures { result ≡ self.now.ends }
+    {
         self.ends
     }
 

@@ -7,6 +7,9 @@ ghost use Rattle.bp_trail.specs.Clock.{durable};
 ghost use Rattle.bp_book.specs.Books.{SameOwner, Alike};
 ghost use Rattle.bp_book.specs.Turns.{LookOutcome, AskFixOutcome, AskFlushOutcome};
 ghost use Rattle.bp_book.specs.Turns.{TickSaid, PurgeSaid, ReadSaid, WriteSaid};
+ghost use Rattle.bp_core.specs.Outcomes.{FixOutcome, FlushOutcome, TickOutcome, PurgeOutcome};
+ghost use Rattle.bp_core.specs.Outcomes.{ReadOutcome, WriteOutcome};
+ghost use Rattle.bp_book.specs.Causes.{Looks};
 
 use super::Book;
 use bp_core::{Call, Core, Fix, Flush, Pass, Reply};
@@ -29,7 +32,8 @@ impl Book {
         ensures entries { self.old.entries ≤ self.new.entries + 1 }
         ensures passes { self.new.passes ≡ self.old.passes }
         ensures copies { self.new.copies ≡ self.old.copies }
-        ensures outcome { LookOutcome self.old.client result self.old.said self.new.said }
+        ensures looks { Looks self.old.client reader.new.seen core.old result core.new }
+        ensures outcome { LookOutcome self.old.client core.old reader.new.seen result self.old.said self.new.said }
         ensures alike { Alike core.old self.old.said core.new self.new.said }
     {
         let seen = reader.look(mark);
@@ -62,6 +66,7 @@ impl Book {
         ensures parameters { core.new.parameters ≡ core.old.parameters }
         ensures before { core.new.before ≡ core.old.before }
         ensures owner { SameOwner self.old self.new }
+        ensures asked { FixOutcome core.old self.old.client page result core.new }
         ensures outcome { AskFixOutcome self.old.client page result self.old.said self.new.said }
         ensures alike { Alike core.old self.old.said core.new self.new.said }
     {
@@ -101,6 +106,7 @@ impl Book {
         ensures parameters { core.new.parameters ≡ core.old.parameters }
         ensures before { core.new.before ≡ core.old.before }
         ensures owner { SameOwner self.old self.new }
+        ensures asked { FlushOutcome core.old self.old.client page result core.new }
         ensures outcome { AskFlushOutcome self.old.client page result self.old.said self.new.said }
         ensures alike { Alike core.old self.old.said core.new self.new.said }
     {
@@ -132,6 +138,7 @@ impl Book {
         ensures parameters { core.new.parameters ≡ core.old.parameters }
         ensures before { core.new.before ≡ core.old.before }
         ensures owner { SameOwner self.old self.new }
+        ensures asked { TickOutcome core.old self.old.client n result core.new }
         ensures outcome { TickSaid self.old.client n result self.old.said self.new.said }
         ensures alike { Alike core.old self.old.said core.new self.new.said }
     {
@@ -155,6 +162,7 @@ impl Book {
         ensures parameters { core.new.parameters ≡ core.old.parameters }
         ensures before { core.new.before ≡ core.old.before }
         ensures owner { SameOwner self.old self.new }
+        ensures asked { PurgeOutcome core.old self.old.client result core.new }
         ensures outcome { PurgeSaid self.old.client result self.old.said self.new.said }
         ensures alike { Alike core.old self.old.said core.new self.new.said }
     {
@@ -179,6 +187,7 @@ impl Book {
         ensures parameters { core.new.parameters ≡ core.old.parameters }
         ensures before { core.new.before ≡ core.old.before }
         ensures owner { SameOwner self.old self.new }
+        ensures asked { ReadOutcome core.old pass.now result core.new }
         ensures outcome { ReadSaid self.old.client pass.now result self.old.said self.new.said }
         ensures alike { Alike core.old self.old.said core.new self.new.said }
     {
@@ -218,6 +227,7 @@ impl Book {
         ensures parameters { core.new.parameters ≡ core.old.parameters }
         ensures before { core.new.before ≡ core.old.before }
         ensures owner { SameOwner self.old self.new }
+        ensures asked { WriteOutcome core.old pass.now offset bytes lsn result core.new }
         ensures outcome { WriteSaid self.old.client pass.now offset bytes lsn result self.old.said self.new.said }
         ensures alike { Alike core.old self.old.said core.new self.new.said }
     {

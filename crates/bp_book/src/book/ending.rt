@@ -3,6 +3,7 @@ ghost use Rattle.std.specs.Prelude.{◌≡◌, ◌≤◌, ◌<◌, ◌+◌, ◌-
 ghost use Rattle.bp_trail.specs.Clock.{durable};
 ghost use Rattle.bp_book.specs.Books.{SameOwner, OwesRead, OwesWrite, Alike};
 ghost use Rattle.bp_book.specs.Turns.{EndReadOutcome, EndWriteOutcome};
+ghost use Rattle.bp_book.specs.Causes.{EndsRead, EndsWrite};
 
 use super::{Book, copied};
 use bp_core::{
@@ -26,6 +27,7 @@ impl Book {
         ensures parameters { core.new.parameters ≡ core.old.parameters }
         ensures before { core.new.before ≡ core.old.before }
         ensures owner { SameOwner self.old self.new }
+        ensures ended { EndsRead core.old ticket (Ok image) result core.new }
         ensures outcome { EndReadOutcome ticket (Ok image) result self.old.said self.new.said }
         ensures alike { Alike core.old self.old.said core.new self.new.said }
     {
@@ -70,6 +72,7 @@ impl Book {
         ensures parameters { core.new.parameters ≡ core.old.parameters }
         ensures before { core.new.before ≡ core.old.before }
         ensures owner { SameOwner self.old self.new }
+        ensures ended { EndsRead core.old ticket (Err fault) result core.new }
         ensures outcome { EndReadOutcome ticket (Err fault) result self.old.said self.new.said }
         ensures alike { Alike core.old self.old.said core.new self.new.said }
     {
@@ -115,6 +118,7 @@ impl Book {
         ensures parameters { core.new.parameters ≡ core.old.parameters }
         ensures before { core.new.before ≡ core.old.before }
         ensures owner { SameOwner self.old self.new }
+        ensures ended { EndsRead core.old ticket read result core.new }
         ensures outcome { EndReadOutcome ticket read result self.old.said self.new.said }
         ensures alike { Alike core.old self.old.said core.new self.new.said }
     {
@@ -140,6 +144,7 @@ impl Book {
         ensures parameters { core.new.parameters ≡ core.old.parameters }
         ensures before { core.new.before ≡ core.old.before }
         ensures owner { SameOwner self.old self.new }
+        ensures ended { EndsWrite core.old ticket written result core.new }
         ensures outcome { EndWriteOutcome ticket written result self.old.said self.new.said }
         ensures alike { Alike core.old self.old.said core.new self.new.said }
     {

@@ -28,6 +28,7 @@ impl<N: PoolName> SharedPool<N> {
         requires port { (P.geometry_of port.old).size ≡ N.parameters.size }
         ensures client { session.new.client ≡ session.old.client }
         ensures before { session.new.before ≡ session.old.before }
+        ensures free { session.new.free ≡ session.old.free }
         ensures port { P.geometry_of port.new ≡ P.geometry_of port.old }
         ensures outcome { LoadOutcome ticket result session.old.said session.new.said }
     {
@@ -51,6 +52,7 @@ impl<N: PoolName> SharedPool<N> {
         requires owes { OwesWrite session.old.client ticket session.old.said }
         ensures client { session.new.client ≡ session.old.client }
         ensures before { session.new.before ≡ session.old.before }
+        ensures free { session.new.free ≡ session.old.free }
         ensures port { P.geometry_of port.new ≡ P.geometry_of port.old }
         ensures outcome { WriteOutOutcome ticket result session.old.said session.new.said }
     {
@@ -74,6 +76,7 @@ impl<N: PoolName> SharedPool<N> {
         requires page_in { page < N.parameters.pages }
         ensures client { session.new.client ≡ session.old.client }
         ensures before { session.new.before ≡ session.old.before }
+        ensures free { session.new.free ≡ session.old.free }
         ensures turn { FixTurn session.old.client page result session.old.said session.new.said }
     {
         let Ok(()) = session.book.prepare() else {
@@ -110,6 +113,7 @@ impl<N: PoolName> SharedPool<N> {
         requires port { (P.geometry_of port.old).size ≡ N.parameters.size }
         ensures client { session.new.client ≡ session.old.client }
         ensures before { session.new.before ≡ session.old.before }
+        ensures free { session.new.free ≡ session.old.free }
         ensures port { P.geometry_of port.new ≡ P.geometry_of port.old }
         ensures outcome { FixSaid session.old.client page result session.old.said session.new.said }
     {

@@ -37,6 +37,7 @@ impl<N: PoolName> SharedPool<N> {
         requires page_in { page < N.parameters.pages }
         ensures client { session.new.client ≡ session.old.client }
         ensures before { session.new.before ≡ session.old.before }
+        ensures free { session.new.free ≡ session.old.free }
         ensures turn { FlushTurn session.old.client page result session.old.said session.new.said }
     {
         let Ok(()) = session.book.prepare() else {
@@ -70,6 +71,7 @@ impl<N: PoolName> SharedPool<N> {
         requires page_in { page < N.parameters.pages }
         ensures client { session.new.client ≡ session.old.client }
         ensures before { session.new.before ≡ session.old.before }
+        ensures free { session.new.free ≡ session.old.free }
         ensures port { P.geometry_of port.new ≡ P.geometry_of port.old }
         ensures outcome { FlushSaid session.old.client page result session.old.said session.new.said }
     {

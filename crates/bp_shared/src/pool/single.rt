@@ -17,6 +17,7 @@ impl<N: PoolName> SharedPool<N> {
     pub fn tick<R: Wait>(&self, rt: &R, session: &mut Session<N>, n: u64) -> Result<(), Refusal>
         ensures client { session.new.client ≡ session.old.client }
         ensures before { session.new.before ≡ session.old.before }
+        ensures free { session.new.free ≡ session.old.free }
         ensures outcome { TickSaid session.old.client n result session.old.said session.new.said }
     {
         let Ok(()) = session.book.prepare() else {
@@ -31,6 +32,7 @@ impl<N: PoolName> SharedPool<N> {
     pub fn purge<R: Wait>(&self, rt: &R, session: &mut Session<N>) -> Result<u64, Refusal>
         ensures client { session.new.client ≡ session.old.client }
         ensures before { session.new.before ≡ session.old.before }
+        ensures free { session.new.free ≡ session.old.free }
         ensures outcome { PurgeSaid session.old.client result session.old.said session.new.said }
     {
         let Ok(()) = session.book.prepare() else {
@@ -51,6 +53,7 @@ impl<N: PoolName> SharedPool<N> {
     ) -> Result<Image, Refusal>
         ensures client { session.new.client ≡ session.old.client }
         ensures before { session.new.before ≡ session.old.before }
+        ensures free { session.new.free ≡ session.old.free }
         ensures stranger { pass.now.client ≢ session.old.client → result ≡ Err Refusal.UnknownPass }
         ensures outcome { ReadSaid session.old.client pass.now result session.old.said session.new.said }
     {
@@ -78,6 +81,7 @@ impl<N: PoolName> SharedPool<N> {
         requires fits { offset + length bytes.now ≤ N.parameters.size }
         ensures client { session.new.client ≡ session.old.client }
         ensures before { session.new.before ≡ session.old.before }
+        ensures free { session.new.free ≡ session.old.free }
         ensures stranger { pass.now.client ≢ session.old.client → result ≡ Err Refusal.UnknownPass }
         ensures outcome { WriteSaid session.old.client pass.now offset bytes.now lsn result session.old.said session.new.said }
     {

@@ -5,7 +5,9 @@ ghost use Rattle.std.specs.Prelude.{◌≡◌, ◌+◌, ◌<◌, ◌≤◌, leng
 ghost use Rattle.bp_book.specs.Books.{SameOwner, OwesRead, OwesWrite};
 ghost use Rattle.bp_book.specs.Turns.{FixTurn, FlushTurn, EndReadOutcome, EndWriteOutcome};
 ghost use Rattle.bp_book.specs.Turns.{TickSaid, PurgeSaid, ReadSaid, WriteSaid};
-ghost use Rattle.bp_shared.specs.Locked.{InStep};
+ghost use Rattle.bp_book.specs.Causes.{EndsRead, EndsWrite};
+ghost use Rattle.bp_core.specs.Outcomes.{TickOutcome, PurgeOutcome, ReadOutcome, WriteOutcome};
+ghost use Rattle.bp_shared.specs.Locked.{InStep, FixStep, FlushStep, ends_after};
 
 use super::State;
 use crate::names::PoolName;
@@ -16,7 +18,9 @@ use bp_mark::Mark;
 use bp_page::{Bytes, Image, Lsn, PageNo, PortFault, Refusal};
 
 /// How often device work ended, after an end that may have been that of an unknown ticket.
-fn counted<T>(ends: u64, ended: &Result<T, Refusal>) -> u64 {
+fn counted<T>(ends: u64, ended: &Result<T, Refusal>) -> u64
+    ensures { result ≡ ends_after ended.now ends }
+{
     match ended {
         Err(Refusal::UnknownTicket) => ends,
         _ => ends.wrapping_add(1),
@@ -41,7 +45,8 @@ impl<N: PoolName> State<N> {
         requires copies { 2 ≤ book.old.copies }
         ensures owner { SameOwner book.old book.new }
         ensures turn { FixTurn book.old.client page result book.old.said book.new.said }
-        ensures in_step { InStep self.old book.old.said self.new book.new.said }
+        ensures in_step { InStep (FixStep book.old.client page self.new.seen result)
+            self.old book.old.said self.new book.new.said }
     {
         drain_all(&mut self.core, &mut self.strays, &mut self.consumers, asked);
         match book.look(&mut self.core, &mut self.reader, mark) {
@@ -68,7 +73,8 @@ impl<N: PoolName> State<N> {
         requires copies { 2 ≤ book.old.copies }
         ensures owner { SameOwner book.old book.new }
         ensures turn { FlushTurn book.old.client page result book.old.said book.new.said }
-        ensures in_step { InStep self.old book.old.said self.new book.new.said }
+        ensures in_step { InStep (FlushStep book.old.client page self.new.seen result)
+            self.old book.old.said self.new book.new.said }
     {
         drain_all(&mut self.core, &mut self.strays, &mut self.consumers, asked);
         match book.look(&mut self.core, &mut self.reader, mark) {
@@ -90,8 +96,11 @@ impl<N: PoolName> State<N> {
         requires size { IfOk read (λ image. length image ≡ N.parameters.size) }
         ensures client { session.new.client ≡ session.old.client }
         ensures before { session.new.before ≡ session.old.before }
+        ensures free { session.new.free ≡ session.old.free }
         ensures outcome { EndReadOutcome ticket read result session.old.said session.new.said }
-        ensures in_step { InStep self.old session.old.said self.new session.new.said }
+        ensures ends { self.new.ends ≡ ends_after result self.old.ends }
+        ensures in_step { InStep (λ core after. EndsRead core ticket read result after)
+            self.old session.old.said self.new session.new.said }
     {
         drain_all(&mut self.core, &mut self.strays, &mut self.consumers, asked);
         let ended = session.book.end_read(&mut self.core, ticket, read);
@@ -110,8 +119,11 @@ impl<N: PoolName> State<N> {
         requires owes { OwesWrite session.old.client ticket session.old.said }
         ensures client { session.new.client ≡ session.old.client }
         ensures before { session.new.before ≡ session.old.before }
+        ensures free { session.new.free ≡ session.old.free }
         ensures outcome { EndWriteOutcome ticket written result session.old.said session.new.said }
-        ensures in_step { InStep self.old session.old.said self.new session.new.said }
+        ensures ends { self.new.ends ≡ ends_after result self.old.ends }
+        ensures in_step { InStep (λ core after. EndsWrite core ticket written result after)
+            self.old session.old.said self.new session.new.said }
     {
         drain_all(&mut self.core, &mut self.strays, &mut self.consumers, asked);
         let ended = session.book.end_write_out(&mut self.core, ticket, written);
@@ -125,7 +137,8 @@ impl<N: PoolName> State<N> {
         requires room { 0 < book.old.entries }
         ensures owner { SameOwner book.old book.new }
         ensures outcome { TickSaid book.old.client n result book.old.said book.new.said }
-        ensures in_step { InStep self.old book.old.said self.new book.new.said }
+        ensures in_step { InStep (λ core after. TickOutcome core book.old.client n result after)
+            self.old book.old.said self.new book.new.said }
     {
         drain_all(&mut self.core, &mut self.strays, &mut self.consumers, asked);
         book.ask_tick(&mut self.core, n)
@@ -137,7 +150,8 @@ impl<N: PoolName> State<N> {
         requires room { 0 < book.old.entries }
         ensures owner { SameOwner book.old book.new }
         ensures outcome { PurgeSaid book.old.client result book.old.said book.new.said }
-        ensures in_step { InStep self.old book.old.said self.new book.new.said }
+        ensures in_step { InStep (λ core after. PurgeOutcome core book.old.client result after)
+            self.old book.old.said self.new book.new.said }
     {
         drain_all(&mut self.core, &mut self.strays, &mut self.consumers, asked);
         book.ask_purge(&mut self.core)
@@ -156,7 +170,8 @@ impl<N: PoolName> State<N> {
         requires copies { 0 < book.old.copies }
         ensures owner { SameOwner book.old book.new }
         ensures outcome { ReadSaid book.old.client pass.now result book.old.said book.new.said }
-        ensures in_step { InStep self.old book.old.said self.new book.new.said }
+        ensures in_step { InStep (λ core after. ReadOutcome core pass.now result after)
+            self.old book.old.said self.new book.new.said }
     {
         drain_all(&mut self.core, &mut self.strays, &mut self.consumers, asked);
         book.ask_read(&mut self.core, pass)
@@ -177,7 +192,8 @@ impl<N: PoolName> State<N> {
         requires room { 0 < book.old.entries }
         ensures owner { SameOwner book.old book.new }
         ensures outcome { WriteSaid book.old.client pass.now offset bytes lsn result book.old.said book.new.said }
-        ensures in_step { InStep self.old book.old.said self.new book.new.said }
+        ensures in_step { InStep (λ core after. WriteOutcome core pass.now offset bytes lsn result after)
+            self.old book.old.said self.new book.new.said }
     {
         drain_all(&mut self.core, &mut self.strays, &mut self.consumers, asked);
         book.ask_write(&mut self.core, pass, offset, bytes, lsn)

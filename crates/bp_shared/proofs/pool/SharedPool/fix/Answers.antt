@@ -4,7 +4,7 @@ use Rattle.bp_shared.proofs.Fixing.{waits_none, turn_more, hit_said, busy_waits,
 use Rattle.bp_shared.proofs.pool.SharedPool.fix.Goals as goal
 
 pub loop-init : goal.loop-init
-loop-init g c = record { client = refl; before = refl; port = refl; waits = waits_none _ _ _ }
+loop-init g c = record { client = refl; before = refl; free = refl; port = refl; waits = waits_none _ _ _ }
 
 pub returns-in-Ok-Hit-clause-outcome : goal.returns-in-Ok-Hit-clause-outcome
 returns-in-Ok-Hit-clause-outcome g c =
@@ -25,6 +25,7 @@ loop-preserved-in-Ok g c =
     record {
       client = c.write_out.ensures.client ∙ c.ask_fix.ensures.client ∙ i.client;
       before = c.write_out.ensures.before ∙ c.ask_fix.ensures.before ∙ i.before;
+      free = c.write_out.ensures.free ∙ c.ask_fix.ensures.free ∙ i.free;
       port = c.write_out.ensures.port ∙ i.port;
       waits = written_waits _ _ c.in-Ok-WriteFirst.ticket _ _ _ _ (turn_more _ _ _ _ _ _ i.waits t) c.in-Ok.ensures.outcome;
     }
@@ -39,10 +40,10 @@ pub loop-preserved : goal.loop-preserved
 loop-preserved g c =
     let i = c.loop.invariant in
     let t = rw i.client at c.in-Err.ensures.turn in
-    record { client = c.ask_fix.ensures.client ∙ i.client; before = c.ask_fix.ensures.before ∙ i.before; port = i.port; waits = busy_waits _ _ c.in-Err.refusal _ _ (search rules) (turn_more _ _ _ _ _ _ i.waits t) }
+    record { client = c.ask_fix.ensures.client ∙ i.client; before = c.ask_fix.ensures.before ∙ i.before; free = c.ask_fix.ensures.free ∙ i.free; port = i.port; waits = busy_waits _ _ c.in-Err.refusal _ _ (search rules) (turn_more _ _ _ _ _ _ i.waits t) }
 
 pub returns-then-not-is_busy : goal.returns-then-not-is_busy
 returns-then-not-is_busy g c =
     let i = c.loop.invariant in
     let t = rw i.client at c.in-Err.ensures.turn in
-    record { client = c.ask_fix.ensures.client ∙ i.client; before = c.ask_fix.ensures.before ∙ i.before; port = i.port; outcome = refused_said _ _ c.in-Err.refusal _ _ (search rules) (turn_more _ _ _ _ _ _ i.waits t) }
+    record { client = c.ask_fix.ensures.client ∙ i.client; before = c.ask_fix.ensures.before ∙ i.before; free = c.ask_fix.ensures.free ∙ i.free; port = i.port; outcome = refused_said _ _ c.in-Err.refusal _ _ (search rules) (turn_more _ _ _ _ _ _ i.waits t) }

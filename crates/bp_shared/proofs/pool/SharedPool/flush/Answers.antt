@@ -4,7 +4,7 @@ use Rattle.bp_shared.proofs.Flushing.{flush_waits_none, flush_turn_more, clean_s
 use Rattle.bp_shared.proofs.pool.SharedPool.flush.Goals as goal
 
 pub loop-init : goal.loop-init
-loop-init g c = record { client = refl; before = refl; port = refl; waits = flush_waits_none _ _ _ }
+loop-init g c = record { client = refl; before = refl; free = refl; port = refl; waits = flush_waits_none _ _ _ }
 
 pub returns-in-Ok-Clean-clause-outcome : goal.returns-in-Ok-Clean-clause-outcome
 returns-in-Ok-Clean-clause-outcome g c =
@@ -36,10 +36,10 @@ pub loop-preserved : goal.loop-preserved
 loop-preserved g c =
     let i = c.loop.invariant in
     let t = rw i.client at c.in-Err.ensures.turn in
-    record { client = c.ask_flush.ensures.client ∙ i.client; before = c.ask_flush.ensures.before ∙ i.before; port = i.port; waits = flush_busy_waits _ _ c.in-Err.refusal _ _ (search rules) (flush_turn_more _ _ _ _ _ _ i.waits t) }
+    record { client = c.ask_flush.ensures.client ∙ i.client; before = c.ask_flush.ensures.before ∙ i.before; free = c.ask_flush.ensures.free ∙ i.free; port = i.port; waits = flush_busy_waits _ _ c.in-Err.refusal _ _ (search rules) (flush_turn_more _ _ _ _ _ _ i.waits t) }
 
 pub returns-then-not-is_busy : goal.returns-then-not-is_busy
 returns-then-not-is_busy g c =
     let i = c.loop.invariant in
     let t = rw i.client at c.in-Err.ensures.turn in
-    record { client = c.ask_flush.ensures.client ∙ i.client; before = c.ask_flush.ensures.before ∙ i.before; port = i.port; outcome = flush_refused_said _ _ c.in-Err.refusal _ _ (search rules) (flush_turn_more _ _ _ _ _ _ i.waits t) }
+    record { client = c.ask_flush.ensures.client ∙ i.client; before = c.ask_flush.ensures.before ∙ i.before; free = c.ask_flush.ensures.free ∙ i.free; port = i.port; outcome = flush_refused_said _ _ c.in-Err.refusal _ _ (search rules) (flush_turn_more _ _ _ _ _ _ i.waits t) }

@@ -1,6 +1,6 @@
 -- The turns so far.
 use Rattle.std.proofs.Common.{◌≡◌}
-use Rattle.bp_book.specs.Turns.{FlushWaits}
+use Rattle.bp_shared.proofs.Turning.{FlushWaits}
 use Rattle.bp_shared.proofs.pool.SharedPool.flush.Given as goal
 
 abbrev pub invariant-loop : goal.invariant-loop
@@ -8,6 +8,7 @@ invariant-loop g l =
     record {
       client : l.session.client ≡ l.initial.session.client;
       before : l.session.before ≡ l.initial.session.before;
+      free : l.session.free ≡ l.initial.session.free;
       port : g.P.Port.geometry_of l.port ≡ g.P.Port.geometry_of l.initial.port;
       waits : FlushWaits l.initial.session.client l.page l.initial.session.said l.session.said;
     }

@@ -26,10 +26,11 @@ returns-clause-done g c =
     let passed = c.pass_on.ensures in
     let len : length c.drain_all.new.consumers ≡ c.self.inside.consumers.len = search rules in
     rw (← c.self.view_is) (rw (← c.taker.view_is) (rw passed.same (record {
-      mid = record { core = c.drain_all.new.core; rings = map ring_view c.drain_all.new.consumers; strays = c.drain_all.new.strays };
-      settled = record { parameters = drained.parameters; before = drained.before; drained = rw c.deref_mut.ensures.value at drained.drained };
+      mid = record { core = c.drain_all.new.core; seen = c.self.inside.reader.seen; ends = c.self.inside.ends; rings = map ring_view c.drain_all.new.consumers; strays = c.drain_all.new.strays };
+      settled = record { parameters = drained.parameters; before = drained.before; seen = refl; ends = refl; drained = rw c.deref_mut.ensures.value at drained.drained };
       cuts = c.in-Ok.ensures.done;
       rings_stay = (ap (map ring_view) (with_items_is c.self.inside.consumers c.drain_all.new.consumers len), refl);
+      ends_stay = refl;
       had_all = ap (after_pieces before) passed.all ∙ sym c.self.invariant.1.pieces_are;
       takes = ap (after_pieces before) passed.received ∙ one_more before (received c.taker.inside.taken) c.in-Ok.entries;
     })))
