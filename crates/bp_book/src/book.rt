@@ -164,7 +164,8 @@ impl Book {
         ensures before { OnOk result (self.new.before ≡ self.old.said) }
         ensures unchanged { OnErr result (self.new ≡ self.old) }
         ensures refused { OnErr result (result ≡ Err Refusal.OutOfMemory) }
-        ensures memory { IfOk result (λ list. vec_capacity list ≡ self.old.entries + (vec_len list + owed self.old.said)) }
+        ensures memory { IfOk result (λ list.
+            vec_capacity list ≡ self.old.entries + (vec_len list + owed self.old.said)) }
         ensures room { OnOk result (vec_capacity spare ≤ self.new.entries + owed self.old.said) }
         ensures enough { owed self.old.said ≤ vec_capacity spare → IsOk result }
     {
