@@ -7,10 +7,10 @@ use Rattle.bp_core.specs.ReadFaults.{read_refusal}
 use Rattle.bp_core.specs.declared.passes.Pass.{Pass}
 use Rattle.bp_core.specs.declared.passes.ReadTicket.{ReadTicket}
 use Rattle.bp_core.specs.declared.passes.WriteTicket.{WriteTicket}
-use Rattle.bp_core.specs.declared.passes.Fix.{Fix as Fixing}
-use Rattle.bp_core.specs.declared.passes.Fix.TheVariants as fixing
-use Rattle.bp_core.specs.declared.passes.Flush.{Flush as Flushing}
-use Rattle.bp_core.specs.declared.passes.Flush.TheVariants as flushing
+use Rattle.bp_book.specs.declared.pending.Fix.{Fix as Fixing}
+use Rattle.bp_book.specs.declared.pending.Fix.TheVariants as fixing
+use Rattle.bp_book.specs.declared.pending.Flush.{Flush as Flushing}
+use Rattle.bp_book.specs.declared.pending.Flush.TheVariants as flushing
 use Rattle.bp_core.specs.declared.passes.Ended.{Ended}
 use Rattle.bp_trail.specs.declared.entries.Call.{Call}
 use Rattle.bp_trail.specs.declared.entries.Call.TheVariants.{Mark, Fix, ReadEnd, WriteEnd, Flush, Tick, Read, Write, Purge}

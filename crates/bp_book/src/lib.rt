@@ -10,9 +10,11 @@
 
 pub mod book;
 pub mod draining;
+pub mod pending;
 mod posted;
 mod said;
 
 pub use book::Book;
 pub use draining::drain_all;
+pub use pending::{Fix, Flush, PendingRead, PendingWrite};
 pub use posted::Posted;

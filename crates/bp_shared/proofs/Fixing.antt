@@ -9,8 +9,8 @@ use Rattle.bp_trail.specs.declared.entries.Reply.TheVariants.{Hit, Load, WriteFi
 use Rattle.bp_core.specs.declared.passes.Pass.{Pass}
 use Rattle.bp_core.specs.declared.passes.ReadTicket.{ReadTicket}
 use Rattle.bp_core.specs.declared.passes.WriteTicket.{WriteTicket}
-use Rattle.bp_core.specs.declared.passes.Fix.{Fix as Fixing}
-use Rattle.bp_core.specs.declared.passes.Fix.TheVariants as fixing
+use Rattle.bp_book.specs.declared.pending.Fix.{Fix as Fixing}
+use Rattle.bp_book.specs.declared.pending.Fix.TheVariants as fixing
 use Rattle.bp_core.specs.declared.passes.Ended.{Ended}
 use Rattle.bp_core.specs.declared.passes.Ended.TheVariants as ended
 use Rattle.bp_trail.specs.Event.{grant}

@@ -7,8 +7,8 @@ use Rattle.bp_trail.specs.declared.entries.Entry.{Entry}
 use Rattle.bp_trail.specs.declared.entries.Call.TheVariants.{Flush, WriteEnd}
 use Rattle.bp_trail.specs.declared.entries.Reply.TheVariants.{WriteFirst, NeedLog, Busy, Cleaned, StillDirty, WriteFailed, Clean, Absent}
 use Rattle.bp_core.specs.declared.passes.WriteTicket.{WriteTicket}
-use Rattle.bp_core.specs.declared.passes.Flush.{Flush as Flushing}
-use Rattle.bp_core.specs.declared.passes.Flush.TheVariants as flushing
+use Rattle.bp_book.specs.declared.pending.Flush.{Flush as Flushing}
+use Rattle.bp_book.specs.declared.pending.Flush.TheVariants as flushing
 use Rattle.bp_core.specs.declared.passes.Ended.{Ended}
 use Rattle.bp_core.specs.declared.passes.Ended.TheVariants as ended
 use Rattle.bp_trail.specs.Trail.{Trail}

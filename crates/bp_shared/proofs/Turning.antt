@@ -2,8 +2,8 @@
 use Rattle.std.proofs.Common.{◌≡◌, refl, sym, subst, ℕ, [], ◌∷◌, ◌++◌, Result, Err, inl, inr}
 use Rattle.bp_page.specs.declared.refusals.Refusal.{Refusal}
 use Rattle.bp_page.specs.declared.refusals.Refusal.TheVariants as refusal
-use Rattle.bp_core.specs.declared.passes.Fix.{Fix as Fixing}
-use Rattle.bp_core.specs.declared.passes.Flush.{Flush as Flushing}
+use Rattle.bp_book.specs.declared.pending.Fix.{Fix as Fixing}
+use Rattle.bp_book.specs.declared.pending.Flush.{Flush as Flushing}
 use Rattle.bp_core.specs.CoreView.{CoreView}
 use Rattle.bp_trail.specs.declared.entries.Call.TheVariants.{Mark}
 use Rattle.bp_trail.specs.declared.entries.Reply.TheVariants.{Done}

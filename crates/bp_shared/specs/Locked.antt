@@ -7,10 +7,9 @@ use Rattle.bp_trail.specs.Parameters.{Parameters}
 use Rattle.bp_trail.specs.Trail.{Trail}
 use Rattle.bp_trail.specs.Clock.{durable}
 use Rattle.bp_core.specs.CoreView.{CoreView}
-use Rattle.bp_core.specs.Outcomes.{FixOutcome, FlushOutcome}
-use Rattle.bp_core.specs.declared.passes.Fix.{Fix as Fixing}
-use Rattle.bp_core.specs.declared.passes.Flush.{Flush as Flushing}
-use Rattle.bp_book.specs.Causes.{Looks}
+use Rattle.bp_book.specs.declared.pending.Fix.{Fix as Fixing}
+use Rattle.bp_book.specs.declared.pending.Flush.{Flush as Flushing}
+use Rattle.bp_book.specs.Causes.{Looks, AsksFix, AsksFlush}
 use Rattle.bp_book.specs.Rings.{RingView, DrainsRings}
 
 -- no pool's parameters
@@ -61,10 +60,10 @@ LooksFirst client seen answer Event core new =
 
 -- a fix, and a flush, after a look that saw this LSN
 abbrev pub FixStep : ℕ → ℕ → ℕ → Result Fixing Refusal → CoreView → CoreView → Type 0
-FixStep client page seen answer = LooksFirst client seen answer (λ looked new. FixOutcome looked client page answer new)
+FixStep client page seen answer = LooksFirst client seen answer (AsksFix client page answer)
 
 abbrev pub FlushStep : ℕ → ℕ → ℕ → Result Flushing Refusal → CoreView → CoreView → Type 0
-FlushStep client page seen answer = LooksFirst client seen answer (λ looked new. FlushOutcome looked client page answer new)
+FlushStep client page seen answer = LooksFirst client seen answer (AsksFlush client page answer)
 
 -- how often device work ended, after one end more: that of a ticket that the pool does not know is none
 abbrev pub ends_after : {A : Type 0} → Result A Refusal → ℕ → ℕ

@@ -7,12 +7,13 @@ ghost use Rattle.bp_trail.specs.Clock.{durable};
 ghost use Rattle.bp_book.specs.Books.{SameOwner, Alike};
 ghost use Rattle.bp_book.specs.Turns.{LookOutcome, AskFixOutcome, AskFlushOutcome};
 ghost use Rattle.bp_book.specs.Turns.{TickSaid, PurgeSaid, ReadSaid, WriteSaid};
-ghost use Rattle.bp_core.specs.Outcomes.{FixOutcome, FlushOutcome, TickOutcome, PurgeOutcome};
+ghost use Rattle.bp_core.specs.Outcomes.{TickOutcome, PurgeOutcome};
 ghost use Rattle.bp_core.specs.Outcomes.{ReadOutcome, WriteOutcome};
-ghost use Rattle.bp_book.specs.Causes.{Looks};
+ghost use Rattle.bp_book.specs.Causes.{Looks, AsksFix, AsksFlush};
 
 use super::Book;
-use bp_core::{Call, Core, Fix, Flush, Pass, Reply};
+use crate::pending::{Fix, Flush, PendingRead, PendingWrite};
+use bp_core::{Call, Core, Pass, Reply, passes};
 use bp_mark::{Mark, Reader};
 use bp_page::{Bytes, Image, Lsn, PageNo, Refusal};
 
@@ -66,22 +67,22 @@ impl Book {
         ensures parameters { core.new.parameters ≡ core.old.parameters }
         ensures before { core.new.before ≡ core.old.before }
         ensures owner { SameOwner self.old self.new }
-        ensures asked { FixOutcome core.old self.old.client page result core.new }
+        ensures asked { AsksFix self.old.client page result core.old core.new }
         ensures outcome { AskFixOutcome self.old.client page result self.old.said self.new.said }
         ensures alike { Alike core.old self.old.said core.new self.new.said }
     {
         match core.fix(self.client, page) {
-            Ok(Fix::Hit(pass)) => {
+            Ok(passes::Fix::Hit(pass)) => {
                 let pass = self.tell_hit(page, pass);
                 Ok(Fix::Hit(pass))
             }
-            Ok(Fix::Load(ticket, evicted)) => {
+            Ok(passes::Fix::Load(ticket, evicted)) => {
                 let ticket = self.tell_load(ticket, evicted.as_ref().copied());
-                Ok(Fix::Load(ticket, evicted))
+                Ok(Fix::Load(PendingRead { ticket }, evicted))
             }
-            Ok(Fix::WriteFirst(ticket)) => {
+            Ok(passes::Fix::WriteFirst(ticket)) => {
                 let ticket = self.tell_write_first(Call::Fix(page), ticket);
-                Ok(Fix::WriteFirst(ticket))
+                Ok(Fix::WriteFirst(PendingWrite { ticket }))
             }
             Err(refusal) => {
                 self.tell_refused(Call::Fix(page), &refusal);
@@ -106,22 +107,22 @@ impl Book {
         ensures parameters { core.new.parameters ≡ core.old.parameters }
         ensures before { core.new.before ≡ core.old.before }
         ensures owner { SameOwner self.old self.new }
-        ensures asked { FlushOutcome core.old self.old.client page result core.new }
+        ensures asked { AsksFlush self.old.client page result core.old core.new }
         ensures outcome { AskFlushOutcome self.old.client page result self.old.said self.new.said }
         ensures alike { Alike core.old self.old.said core.new self.new.said }
     {
         match core.flush(self.client, page) {
-            Ok(Flush::Clean) => {
+            Ok(passes::Flush::Clean) => {
                 self.tell(Call::Flush(page), Reply::Clean);
                 Ok(Flush::Clean)
             }
-            Ok(Flush::Absent) => {
+            Ok(passes::Flush::Absent) => {
                 self.tell(Call::Flush(page), Reply::Absent);
                 Ok(Flush::Absent)
             }
-            Ok(Flush::WriteFirst(ticket)) => {
+            Ok(passes::Flush::WriteFirst(ticket)) => {
                 let ticket = self.tell_write_first(Call::Flush(page), ticket);
-                Ok(Flush::WriteFirst(ticket))
+                Ok(Flush::WriteFirst(PendingWrite { ticket }))
             }
             Err(refusal) => {
                 self.tell_refused(Call::Flush(page), &refusal);

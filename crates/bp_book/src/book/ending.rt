@@ -6,9 +6,8 @@ ghost use Rattle.bp_book.specs.Turns.{EndReadOutcome, EndWriteOutcome};
 ghost use Rattle.bp_book.specs.Causes.{EndsRead, EndsWrite};
 
 use super::{Book, copied};
-use bp_core::{
-    Call, Core, EndRefusal, Ended, Entry, Pass, ReadTicket, Reply, WriteTicket, reply_of_read,
-};
+use crate::pending::{PendingRead, PendingWrite};
+use bp_core::{Call, Core, EndRefusal, Ended, Entry, Pass, ReadTicket, Reply, reply_of_read};
 use bp_page::{Image, PortFault, Refusal};
 
 impl Book {
@@ -108,7 +107,7 @@ impl Book {
     pub fn end_read(
         &mut self,
         core: &mut Core,
-        ticket: ReadTicket,
+        ticket: PendingRead,
         read: Result<Image, PortFault>,
     ) -> Result<Pass, Refusal>
         requires owes { OwesRead self.old.client ticket self.old.said }
@@ -122,6 +121,7 @@ impl Book {
         ensures outcome { EndReadOutcome ticket read result self.old.said self.new.said }
         ensures alike { Alike core.old self.old.said core.new self.new.said }
     {
+        let PendingRead { ticket } = ticket;
         match read {
             Ok(image) => self.end_load(core, ticket, image),
             Err(fault) => self.end_failed_load(core, ticket, fault),
@@ -136,7 +136,7 @@ impl Book {
     pub fn end_write_out(
         &mut self,
         core: &mut Core,
-        ticket: WriteTicket,
+        ticket: PendingWrite,
         written: Result<(), PortFault>,
     ) -> Result<Ended, Refusal>
         requires owes { OwesWrite self.old.client ticket self.old.said }
@@ -148,6 +148,7 @@ impl Book {
         ensures outcome { EndWriteOutcome ticket written result self.old.said self.new.said }
         ensures alike { Alike core.old self.old.said core.new self.new.said }
     {
+        let PendingWrite { ticket } = ticket;
         let page = ticket.page();
         let serial = ticket.serial();
         match core.write_end(ticket, written) {

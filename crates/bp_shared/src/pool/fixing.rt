@@ -5,7 +5,8 @@ use super::{SharedPool, found_busy, is_busy};
 use crate::locking::locked;
 use crate::names::PoolName;
 use crate::session::Session;
-use bp_core::{Ended, Fix, Pass, ReadTicket, WriteTicket};
+use bp_book::{Fix, PendingRead, PendingWrite};
+use bp_core::{Ended, Pass};
 use bp_device::Port;
 use bp_page::{PageNo, Refusal};
 use std::sync::Wait;
@@ -22,7 +23,7 @@ impl<N: PoolName> SharedPool<N> {
         rt: &R,
         session: &mut Session<N>,
         port: &mut P,
-        ticket: ReadTicket,
+        ticket: PendingRead,
     ) -> Result<Pass, Refusal>
         requires owes { OwesRead session.old.client ticket session.old.said }
         requires port { (P.geometry_of port.old).size ≡ N.parameters.size }
@@ -47,7 +48,7 @@ impl<N: PoolName> SharedPool<N> {
         rt: &R,
         session: &mut Session<N>,
         port: &mut P,
-        ticket: WriteTicket,
+        ticket: PendingWrite,
     ) -> Result<Ended, Refusal>
         requires owes { OwesWrite session.old.client ticket session.old.said }
         ensures client { session.new.client ≡ session.old.client }

@@ -12,8 +12,8 @@ ghost use Rattle.bp_shared.specs.Locked.{InStep, FixStep, FlushStep, ends_after}
 use super::State;
 use crate::names::PoolName;
 use crate::session::Session;
-use bp_book::{Book, drain_all};
-use bp_core::{Ended, Fix, Flush, Pass, ReadTicket, WriteTicket};
+use bp_book::{Book, Fix, Flush, PendingRead, PendingWrite, drain_all};
+use bp_core::{Ended, Pass};
 use bp_mark::Mark;
 use bp_page::{Bytes, Image, Lsn, PageNo, PortFault, Refusal};
 
@@ -88,7 +88,7 @@ impl<N: PoolName> State<N> {
     pub(crate) fn end_read(
         &mut self,
         session: &mut Session<N>,
-        ticket: ReadTicket,
+        ticket: PendingRead,
         read: Result<Image, PortFault>,
         asked: u64,
     ) -> Result<Pass, Refusal>
@@ -112,7 +112,7 @@ impl<N: PoolName> State<N> {
     pub(crate) fn end_write(
         &mut self,
         session: &mut Session<N>,
-        ticket: WriteTicket,
+        ticket: PendingWrite,
         written: Result<(), PortFault>,
         asked: u64,
     ) -> Result<Ended, Refusal>

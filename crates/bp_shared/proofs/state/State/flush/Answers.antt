@@ -1,6 +1,6 @@
 -- Rings drained, at most one mark, one event.
 use Rattle.std.proofs.Common.{arith, refl, inl, inr}
-use Rattle.bp_core.specs.declared.passes.Flush.{Flush as Flushing}
+use Rattle.bp_book.specs.declared.pending.Flush.{Flush as Flushing}
 use Rattle.bp_book.proofs.Drains.{lent_rings}
 use Rattle.bp_shared.proofs.Stepping.{step_one, step_two, look_refused, looked, marks_once}
 use Rattle.bp_shared.proofs.Turning.{flush_not_looked}

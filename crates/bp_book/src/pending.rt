@@ -1,0 +1,89 @@
+//! Device work that is under way, as a client of a shared pool has it.
+ghost use Rattle.std.specs.Prelude.{◌≡◌};
+
+use bp_core::{Pass, ReadTicket, WriteTicket};
+use bp_page::{Image, Lsn, PageNo};
+use std::marker::Model;
+
+/// A read that a client's list began. It can be neither copied nor dropped, and its ticket can't be forfeited: only
+/// `Book::end_read` takes it, which asks the core.
+#[derive(Debug)]
+pub struct PendingRead {
+    pub(crate) ticket: ReadTicket,
+}
+
+/// A write-out that a client's list began. Only `Book::end_write_out` takes it.
+#[derive(Debug)]
+pub struct PendingWrite {
+    pub(crate) ticket: WriteTicket,
+}
+
+impl Model for PendingRead {
+    ghost use Rattle.bp_core.specs.declared.passes.ReadTicket.{ReadTicket};
+
+    ghost Value = { ReadTicket };
+
+    ghost view = { λ p. p.ticket };
+}
+
+impl Model for PendingWrite {
+    ghost use Rattle.bp_core.specs.declared.passes.WriteTicket.{WriteTicket};
+
+    ghost Value = { WriteTicket };
+
+    ghost view = { λ p. p.ticket };
+}
+
+/// What a fix gave a client.
+#[derive(Debug)]
+pub enum Fix {
+    /// A pass of the page.
+    Hit(Pass),
+    /// The page is to be read, after the other one left its frame.
+    Load(PendingRead, Option<PageNo>),
+    /// A page that is to leave its frame is to be written out first.
+    WriteFirst(PendingWrite),
+}
+
+/// What a flush gave a client.
+#[derive(Debug)]
+pub enum Flush {
+    /// The page is saved.
+    Clean,
+    /// The page is in no frame.
+    Absent,
+    /// The page is to be written out.
+    WriteFirst(PendingWrite),
+}
+
+impl PendingRead {
+    /// The page to read.
+    pub fn page(&self) -> PageNo
+        ensures { result ≡ self.now.page }
+    {
+        self.ticket.page()
+    }
+}
+
+impl PendingWrite {
+    /// The page to write.
+    pub fn page(&self) -> PageNo
+        ensures { result ≡ self.now.page }
+    {
+        self.ticket.page()
+    }
+
+    /// The image to write.
+    pub fn image(&self) -> &Image
+        ensures { result.now ≡ self.now.image }
+    {
+        self.ticket.image()
+    }
+
+    /// The page LSN when the write-out began.
+    pub fn lsn(&self) -> Lsn
+        ensures { result ≡ self.now.lsn }
+    {
+        self.ticket.lsn()
+    }
+}
