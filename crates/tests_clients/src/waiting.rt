@@ -161,17 +161,16 @@ fn waits_for_a_failing_read(rt: HostRuntime) {
     assert_eq!(rt; done.refused.as_slice(), [not_read, no_pass].as_slice());
 }
 
-/// Client 1 begins its own write-out once client 0's has begun, and then flushes client 0's page.
-#[test]
-fn waits_for_a_write_out(rt: HostRuntime) {
+/// Each client flushes a page of its own, and then client 1 flushes client 0's page.
+fn flushes<R: Abort + AllocGlobal>(rt: &R) -> (Vec<Row>, Vec<Row>) {
     let first = script(
-        &rt,
+        rt,
         0,
         1,
         &[Do::Fix(0), Do::Write(0, 0), Do::Flush(0), Do::Unfix(0)],
     );
     let second = script(
-        &rt,
+        rt,
         1,
         5,
         &[
@@ -182,6 +181,13 @@ fn waits_for_a_write_out(rt: HostRuntime) {
             Do::Unfix(1),
         ],
     );
+    (first, second)
+}
+
+/// Client 1 begins its own write-out once client 0's has begun, and then flushes client 0's page.
+#[test]
+fn waits_for_a_write_out(rt: HostRuntime) {
+    let (first, second) = flushes(&rt);
     let done = run_slowly(&rt, 0, first, second);
     let [hits, faults, evictions, write_outs, failures, busy] = counts(&done.trail);
     assert_eq!(rt;
@@ -190,4 +196,19 @@ fn waits_for_a_write_out(rt: HostRuntime) {
     );
     assert!(rt; waited_once_at_most(busy));
     assert!(rt; done.refused.is_empty());
+}
+
+/// Client 0's write-out fails, and client 1 then writes the page out itself.
+#[test]
+fn waits_for_a_failing_write_out(rt: HostRuntime) {
+    let (first, second) = flushes(&rt);
+    let done = run_slowly(&rt, 2, first, second);
+    let [hits, faults, evictions, write_outs, failures, busy] = counts(&done.trail);
+    assert_eq!(rt;
+        [hits, faults, evictions, write_outs, failures],
+        [0, 2, 0, 2, 1]
+    );
+    assert!(rt; waited_once_at_most(busy));
+    let not_written = Refused { row: 3, number: 18 };
+    assert_eq!(rt; done.refused.as_slice(), [not_written].as_slice());
 }
