@@ -39,7 +39,7 @@ owes_write_end client ticket said o = record { call = o.call; page = ticket.page
 
 pub keeps_loaded : (client size : ℕ) (said after : Trail) (held held' : List Grant) (tickets kept kept' : ℕ) (blanks blanks' : List (List ℕ)) (c c' h h' : ℕ) (ticket : ReadTicket) (n : ℕ) (image : List ℕ)
     → KeepsRoom client size said held tickets kept blanks c h → OwesRead client ticket said
-    → after ≡ by client (ReadEnd ticket.serial ticket.page (Some image)) (Fixed n) ∷ said → held' ≡ held ++ grant client ticket.page n ∷ [] → kept' ≡ kept + 1 → c' ≡ c → h' ≡ h
+    → after ≡ by client (ReadEnd ticket.serial ticket.page (Some image)) (Fixed n) ∷ said → held' ≡ held ++ grant client ticket.page n ∷ [] → kept' ≡ kept + 1 → c' ≡ c → h' + 1 ≡ h
     → All (λ b. length b ≡ size) blanks' → length blanks ≤ length blanks' + 1
     → KeepsRoom client size after held' (tickets - 1) kept' blanks' c' h'
 keeps_loaded client size said after held held' tickets kept kept' blanks blanks' c c' h h' ticket n image r o grows holds more same_c same_h sized most =
@@ -51,7 +51,7 @@ keeps_loaded client size said after held held' tickets kept kept' blanks blanks'
       own = subst (All (λ g. g.client ≡ client)) (sym holds) (All-append (λ (g : Grant). g.client ≡ client) held (g ∷ []) r.own (search rules));
       tickets_are = subst (λ (es : Trail). tickets - 1 ≡ open_tickets es) (sym grows) (omega (arith, r.tickets_are));
       entries_fit = omega (arith, r.entries_fit, len, more, same_c, fewer, r.tickets_are);
-      passes_fit = omega (arith, r.passes_fit, len, same_h, fewer, r.tickets_are);
+      passes_fit = omega (arith, r.passes_fit, same_h, fewer, r.tickets_are);
       copies_fit = omega (arith, r.copies_fit, most, fewer, r.tickets_are);
       sized = sized;
     }

@@ -1,4 +1,5 @@
 pub mod Asking
 pub mod Ending
 pub mod Posting
+pub mod Striking
 pub mod Drains

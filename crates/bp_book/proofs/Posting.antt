@@ -45,7 +45,7 @@ held_of_list client g said held are own there =
 
 pub keeps_unfixed : (client size : ℕ) (said after : Trail) (held held' : List Grant) (tickets kept kept' : ℕ) (blanks : List (List ℕ)) (c c' h h' : ℕ) (g : Grant)
     → KeepsRoom client size said held tickets kept blanks c h → is_out g (passes_out said) ≡ true
-    → after ≡ by client (Unfix g.serial g.page) Done ∷ said → held' ≡ filter (others g.serial) held → kept' ≡ kept + 1 → c' ≡ c → h' ≡ h
+    → after ≡ by client (Unfix g.serial g.page) Done ∷ said → held' ≡ filter (others g.serial) held → kept' ≡ kept + 1 → c' ≡ c → h ≤ h'
     → KeepsRoom client size after held' tickets kept' blanks c' h'
 keeps_unfixed client size said after held held' tickets kept kept' blanks c c' h h' g r there grows holds more same_c same_h =
     let fewer : length held' + 1 ≤ length held = subst (λ gs. length gs + 1 ≤ length held) (sym holds) (held_of_list client g said held r.held_are r.own there).fewer in
@@ -54,7 +54,7 @@ keeps_unfixed client size said after held held' tickets kept kept' blanks c c' h
       own = subst (All (λ (x : Grant). x.client ≡ client)) (sym holds) (All-filter (others g.serial) (λ (x : Grant). x.client ≡ client) held r.own);
       tickets_are = subst (λ (es : Trail). tickets ≡ open_tickets es) (sym grows) (omega (arith, r.tickets_are));
       entries_fit = omega (arith, r.entries_fit, fewer, more, same_c);
-      passes_fit = omega (arith, r.passes_fit, fewer, same_h);
+      passes_fit = omega (arith, r.passes_fit, same_h);
       copies_fit = r.copies_fit;
       sized = r.sized;
     }

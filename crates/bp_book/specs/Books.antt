@@ -12,6 +12,7 @@ use Rattle.bp_trail.specs.Trail.{Trail}
 use Rattle.bp_trail.specs.Pieces.{by}
 use Rattle.bp_trail.specs.Script.{held_passes}
 use Rattle.bp_core.specs.CoreView.{CoreView, with_entry}
+use Rattle.bp_frames.specs.Rising.{IsRisingBy}
 
 -- the entries of a list, newest first: those that cuts handed out, and all; how many are kept, and in how much room
 pub record SaidValue : Type 0 where
@@ -29,6 +30,15 @@ pub record BookValue : Type 0 where
   pub entries : ℕ
   pub passes : ℕ
   pub copies : ℕ
+
+-- the passes that a list holds, in the order taken, and how many more may be held with no memory taken
+pub record HeldValue : Type 0 where
+  pub passes : List Grant
+  pub room : ℕ
+
+-- the numbers of the passes rise, if that is said of them
+abbrev pub MayRise : Bool → List Grant → Type 0
+MayRise is_rising passes = is_rising ≡ true → IsRisingBy (λ g. g.serial) passes
 
 -- the list and its owner stay
 pub record SameBook (old new : BookValue) : Type 0 where
@@ -87,7 +97,7 @@ pub record KeepsRoom (client size : ℕ) (said : Trail) (held : List Grant) (tic
   pub own : All (λ g. g.client ≡ client) held
   pub tickets_are : tickets ≡ open_tickets said
   pub entries_fit : kept + (length held + 2 * tickets) ≤ for_said
-  pub passes_fit : length held + tickets ≤ for_held
+  pub passes_fit : tickets ≤ for_held
   pub copies_fit : tickets ≤ length blanks
   pub sized : All (λ b. length b ≡ size) blanks
 

@@ -1,5 +1,5 @@
 -- What each step of a session's call adds to its list.
-use Rattle.std.specs.Prelude.{◌≡◌, ◌⊎◌, ◌≤◌, ◌<◌, ℕ, Bool, true, false, List, ◌∷◌, ◌++◌, Option, Some, None, Result, Ok, Err}
+use Rattle.std.specs.Prelude.{◌≡◌, ◌⊎◌, ◌≤◌, ◌<◌, ℕ, Bool, true, false, List, ◌∷◌, Option, Some, None, Result, Ok, Err}
 use Rattle.bp_page.specs.declared.refusals.Refusal.{Refusal}
 use Rattle.bp_page.specs.declared.refusals.Refusal.TheVariants as refusal
 use Rattle.bp_page.specs.declared.refusals.PortFault.{PortFault}

@@ -13,6 +13,7 @@ mod ending;
 mod posting;
 mod telling;
 
+use crate::held::Held;
 use crate::said::Said;
 use bp_core::{Call, Entry, PassNote, Reply};
 use bp_page::{Geometry, Image, Refusal};
@@ -30,7 +31,7 @@ pub struct Book {
     client: u8,
     said: Said,
     /// The passes that the list gave and did not give back, in the order taken.
-    held: Vec<PassNote>,
+    held: Held,
     /// The tickets whose end may still come.
     tickets: usize,
     /// Images for the entries that will need a copy of one.
@@ -38,7 +39,7 @@ pub struct Book {
 }
 
 impl Model for Book {
-    ghost use Rattle.std.specs.Prelude.{◌+◌, ◌-◌, ◌*◌, vec_len, vec_capacity};
+    ghost use Rattle.std.specs.Prelude.{◌+◌, ◌-◌, ◌*◌, length, vec_len};
     ghost use Rattle.bp_book.specs.Books.{BookValue, KeepsRoom};
 
     ghost Value = { BookValue };
@@ -48,12 +49,12 @@ impl Model for Book {
       size = b.geometry.size;
       before = b.said.before;
       said = b.said.all;
-      entries = b.said.capacity - (b.said.kept + (vec_len b.held + 2 * b.tickets));
-      passes = vec_capacity b.held - (vec_len b.held + b.tickets);
+      entries = b.said.capacity - (b.said.kept + (length b.held.passes + 2 * b.tickets));
+      passes = b.held.room - b.tickets;
       copies = vec_len b.blanks - b.tickets;
     } };
 
-    ghost invariant = { λ b. KeepsRoom b.client b.geometry.size b.said.all b.held.items b.tickets b.said.kept b.blanks.items b.said.capacity (vec_capacity b.held) };
+    ghost invariant = { λ b. KeepsRoom b.client b.geometry.size b.said.all b.held.passes b.tickets b.said.kept b.blanks.items b.said.capacity b.held.room };
 }
 
 /// Makes so many blank images more.
@@ -112,7 +113,7 @@ impl Book {
             geometry,
             client,
             said: Said::new(alloc),
-            held: Vec::new(alloc),
+            held: Held::new(alloc),
             tickets: 0,
             blanks: Vec::new(alloc),
         }
@@ -139,9 +140,10 @@ impl Book {
 
     /// The passes that the list leaves out, in the order taken.
     pub fn held(&self) -> &[PassNote]
-        ensures { result.now ≡ held_passes self.now.said }
+        ensures held { result.now ≡ held_passes self.now.said }
+        ensures own { All (λ g. g.client ≡ self.now.client) result.now }
     {
-        &self.held
+        self.held.notes()
     }
 
     /// Gives what cuts left of the list, the oldest entry first, and drops the rest. It takes no memory.

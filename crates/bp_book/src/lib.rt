@@ -10,6 +10,7 @@
 
 pub mod book;
 pub mod draining;
+mod held;
 pub mod pending;
 mod posted;
 mod said;

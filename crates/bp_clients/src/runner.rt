@@ -1,15 +1,15 @@
 //! What one client's thread acts with, and what each step of a script does.
-ghost use Rattle.std.specs.Prelude.{◌≡◌, ◌+◌, ◌≤◌, ◌<◌, OnOk, OnErr, IsTrue, ◌∷◌, length};
+ghost use Rattle.std.specs.Prelude.{◌≡◌, ◌+◌, ◌≤◌, ◌<◌, All, IfNone, OnOk, OnErr, IsTrue, [], ◌∷◌, length};
 ghost use Rattle.bp_trail.specs.declared.entries.Call.TheVariants as Call;
 ghost use Rattle.bp_trail.specs.declared.entries.Reply.TheVariants as Reply;
 ghost use Rattle.bp_trail.specs.declared.scripts.Step.TheVariants as Step;
 ghost use Rattle.bp_trail.specs.Fits.{StepFits};
 ghost use Rattle.bp_trail.specs.Pieces.{outcome_of};
-ghost use Rattle.bp_trail.specs.Script.{GivesBack, give_back, latest_pass};
+ghost use Rattle.bp_trail.specs.Script.{GivesBack, give_back, held_passes, latest_pass, next_to_go_back};
 ghost use Rattle.bp_clients.specs.Steps.{as_fault, StepSaid};
 
 use bp_core::{Entry, PassNote, Step};
-use bp_device::{Port, latest_pass, next_to_go_back};
+use bp_device::{Port, latest_pass};
 use bp_mark::LogEnd;
 use bp_page::{Bytes, Lsn, PageNo, Refusal};
 use bp_shared::{PoolName, Session, SharedPool};
@@ -97,6 +97,14 @@ fn post<N: PoolName, R: Wait>(
             }
         }
     }
+}
+
+/// Of the passes that a session holds, the one that goes back next: the one taken first.
+fn next_of<N: PoolName>(session: &Session<N>) -> Option<PassNote>
+    ensures first { result ≡ next_to_go_back session.now.said }
+    ensures none { IfNone result (held_passes session.now.said ≡ []) }
+{
+    session.held().first().copied()
 }
 
 impl<N: PoolName, P: Port> Runner<N, P> {
@@ -285,7 +293,7 @@ impl<N: PoolName, P: Port> Runner<N, P> {
         ensures client { self.new.client ≡ self.old.client }
         ensures back { IsTrue result → GivesBack self.old.said self.new.said }
     {
-        while let Some(note) = next_to_go_back(self.session.held()) {
+        while let Some(note) = next_of(&self.session) {
             match post(rt, pool, &mut self.session, note) {
                 Ok(()) => {}
                 Err(_) => return false,

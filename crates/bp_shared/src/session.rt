@@ -39,7 +39,7 @@ impl<N: PoolName> Model for Session<N> {
 }
 
 impl<N: PoolName> Session<N> {
-    ghost use Rattle.std.specs.Prelude.{◌≡◌, ◌+◌, ◌<◌, ◌++◌, ◌≤◌, [], reverse, IsOk, IfOk, OnOk, OnErr, vec_capacity};
+    ghost use Rattle.std.specs.Prelude.{◌≡◌, ◌+◌, ◌<◌, ◌++◌, ◌≤◌, [], reverse, All, IsOk, IfOk, OnOk, OnErr, vec_capacity};
     ghost use Rattle.bp_page.specs.declared.refusals.Refusal.TheVariants as Refusal;
     ghost use Rattle.rtrb.specs.Ring.{sent, known_free};
     ghost use Rattle.bp_trail.specs.Script.{held_passes};
@@ -85,7 +85,8 @@ impl<N: PoolName> Session<N> {
 
     /// The passes that the list gave and did not give back, in the order taken.
     pub fn held(&self) -> &[PassNote]
-        ensures { result.now ≡ held_passes self.now.said }
+        ensures held { result.now ≡ held_passes self.now.said }
+        ensures own { All (λ g. g.client ≡ self.now.client) result.now }
     {
         self.book.held()
     }

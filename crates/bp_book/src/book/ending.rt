@@ -45,7 +45,7 @@ impl Book {
                     },
                     reply: Reply::Fixed(note.serial()),
                 });
-                self.held.push_reserved(note);
+                self.held.push(note);
                 self.tickets -= 1;
                 Ok(note.pass())
             }

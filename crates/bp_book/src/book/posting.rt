@@ -11,43 +11,12 @@ ghost use Rattle.bp_book.specs.Books.{Tells};
 use super::Book;
 use bp_core::{Call, Entry, Pass, PassNote, Reply};
 
-/// Whether the note is of this pass.
-fn is_of(note: &PassNote, pass: &Pass) -> bool
-    ensures { result ≡ same_grant (grant pass.now.client pass.now.page pass.now.serial) note.now }
-{
-    pass.client() == note.client()
-        && pass.page().number() == note.page().number()
-        && pass.serial() == note.serial()
-}
-
-/// Whether the note's pass has another serial number.
-fn differs(note: &PassNote, serial: u64) -> bool
-    ensures { result ≡ not (note.now.serial == serial) }
-{
-    note.serial() != serial
-}
-
-/// Whether a pass is among those held. The one taken latest is looked at first.
-fn is_held(held: &[PassNote], pass: &Pass) -> bool
-    ensures { result ≡ is_out (grant pass.now.client pass.now.page pass.now.serial) (reverse held.now) }
-{
-    held.iter().rev().any(|note| is_of(note, pass))
-}
-
-/// Strikes the note with this serial number.
-fn strike(held: &mut Vec<PassNote>, serial: u64)
-    ensures held { held.new.items ≡ filter (λ g. not (g.serial == serial)) held.old.items }
-    ensures capacity { vec_capacity held.new ≡ vec_capacity held.old }
-{
-    held.retain(|note| differs(note, serial));
-}
-
 impl Book {
     /// Whether the list gave this pass and did not give it back.
     pub fn holds(&self, pass: &Pass) -> bool
         ensures { result ≡ pass_is_out pass.now self.now.said }
     {
-        is_held(&self.held, pass)
+        self.held.has(pass)
     }
 
     /// Adds the entry of a pass that goes back, which is held no more. It takes no memory. The core is not asked: whoever
@@ -65,6 +34,6 @@ impl Book {
             },
             reply: Reply::Done,
         });
-        strike(&mut self.held, note.serial());
+        self.held.strike(note.serial());
     }
 }

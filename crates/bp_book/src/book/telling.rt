@@ -55,7 +55,7 @@ impl Book {
             call: Call::Fix(page),
             reply: Reply::Hit(note.serial()),
         });
-        self.held.push_reserved(note);
+        self.held.push(note);
         note.pass()
     }
 

@@ -13,8 +13,8 @@ invariant_of-self c =
     let blanks = c.copied-copy.new.blanks.items in
     keeps_loaded _ _ _ _ _ _ _ _ _ _ _ _ _ _ _ c.args.ticket c.note-note.result.serial c.copied-copy.result c.self.invariant (search rules)
     (c.add.ensures.all ∙ search rules)
-    (c.push_reserved.ensures.items ∙ search rules)
-    c.add.ensures.kept c.add.ensures.capacity c.push_reserved.ensures.capacity
+    (c.push.ensures.passes ∙ search rules)
+    c.add.ensures.kept c.add.ensures.capacity c.push.ensures.room
     (subst (λ n. All (λ (b : List ℕ). length b ≡ n) blanks) (search rules) c.copied-copy.ensures.sized)
     (search rules)
 
@@ -32,7 +32,7 @@ invariant_of-self-in-Err-Unknown c =
       entries_fit = r.entries_fit;
       passes_fit = r.passes_fit;
       copies_fit = search rules;
-      sized = subst (All (λ (b : List ℕ). length b ≡ size)) (sym c.push_reserved-in-Err-Unknown.ensures.items) (All-append (λ (b : List ℕ). length b ≡ size) blanks (copy ∷ []) rest (search rules));
+      sized = subst (All (λ (b : List ℕ). length b ≡ size)) (sym c.push_reserved.ensures.items) (All-append (λ (b : List ℕ). length b ≡ size) blanks (copy ∷ []) rest (search rules));
     }
 
 pub returns-in-Ok-clause-alike : goal.returns-in-Ok-clause-alike

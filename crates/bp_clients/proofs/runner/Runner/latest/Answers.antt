@@ -8,5 +8,5 @@ use Rattle.bp_clients.proofs.runner.Runner.latest.Goals as goal
 pub returns : goal.returns
 returns g c =
     rw (← c.self.view_is)
-    (latest_found c.held.result.now c.self.inside.session.said c.self.inside.session.client c.args.page c.latest_pass.result c.held.ensures
+    (latest_found c.held.result.now c.self.inside.session.said c.self.inside.session.client c.args.page c.latest_pass.result c.held.ensures.held
     (c.latest_pass.ensures ∙ ap (λ who. find (is_pass_of who c.args.page) (reverse c.held.result.now)) c.client.ensures))
