@@ -7,3 +7,4 @@ pub mod Choosing
 pub mod Next
 pub mod Rooms
 pub mod Judging
+pub mod Replying

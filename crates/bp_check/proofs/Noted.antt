@@ -1,5 +1,5 @@
 -- What a lawful entry does to the references of each page.
-use Rattle.std.proofs.Common.{◌≡◌, ◌≢◌, ℕ, ◌<◌, Bool, true, false, ◌&&◌, ◌==◌, List, [], ◌∷◌, length, refl, sym, ap, subst, ◌∙◌}
+use Rattle.std.proofs.Common.{◌≡◌, ◌≢◌, ℕ, ◌<◌, Bool, true, false, ◌&&◌, ◌==◌, List, [], ◌∷◌, length, inl, inr, refl, sym, ap, subst, ◌∙◌}
 use Rattle.std.specs.Prelude.{if◌then◌else◌}
 use Rattle.std.specs.declared.vec.Vec.{Vec}
 use Rattle.std.proofs.lemmas.Bool.{eqb-true, eqb-false, eq-eqb}
@@ -15,7 +15,8 @@ use Rattle.bp_trail.specs.Trail.{Trail}
 use Rattle.bp_trail.specs.Event.{Grant, page_of, is_hit_reply, is_fixed_reply, is_purge}
 use Rattle.bp_trail.specs.Clock.{clock}
 use Rattle.bp_trail.specs.References.{references, forgets}
-use Rattle.bp_trail.specs.PageMap.{reply_of}
+use Rattle.bp_trail.specs.PageMap.{MayReply, FindsWrongPage}
+use Rattle.bp_trail.specs.PageMap.FindsWrongPage.{another_page}
 use Rattle.bp_trail.proofs.Events.{Event, event-of}
 use Rattle.bp_trail.proofs.Events.Event.{purged}
 use Rattle.bp_check.specs.declared.spans.Span.{Span}
@@ -26,9 +27,13 @@ use Rattle.bp_check.proofs.Choosing.{outdated-forgets}
 
 -- ---- replies and their calls
 
-no-purge : (c : Parameters) (past : Trail) (call : Call) (reply : Reply) → reply ≡ reply_of c past call → ((n : ℕ) → reply ≡ Forgot n → ⊥) → is_purge call ≡ false
-no-purge c past Purge reply is not_forgot = absurd (not_forgot _ is)
-no-purge c past _ reply is not_forgot = refl
+no-purge : (c : Parameters) (past : Trail) (call : Call) (reply : Reply) → MayReply c past call reply → ((n : ℕ) → reply ≡ Forgot n → ⊥) → is_purge call ≡ false
+no-purge c past Purge reply (inl is) not_forgot = absurd (not_forgot _ is)
+no-purge c past _ reply (inr found) not_forgot = by-read _ _ found
+  where
+    by-read : (call : Call) (reply : Reply) → FindsWrongPage call reply → is_purge call ≡ false
+    by-read _ _ (another_page t p) = refl
+no-purge c past _ reply (inl is) not_forgot = refl
 
 purge-call : (c : Parameters) (past : Trail) (who : ℕ) (call : Call) (reply : Reply) → Event c past who call reply → (n : ℕ) → reply ≡ Forgot n → is_purge call ≡ true
 purge-call c past who _ _ purged n i = refl

@@ -1,11 +1,12 @@
 -- Which trails are legal does not hang on the room.
-use Rattle.std.proofs.Common.{◌≡◌, ℕ, zero, suc, Bool, not, ◌&&◌, cond, List, [], ◌∷◌, filter, find, Some, None, refl, sym, ap, ◌∙◌}
+use Rattle.std.proofs.Common.{◌≡◌, ℕ, zero, suc, Bool, not, ◌&&◌, cond, List, [], ◌∷◌, filter, find, Some, None, inl, inr, refl, sym, ap, ◌∙◌}
 use Rattle.std.specs.Prelude.{if◌then◌else◌}
 use Rattle.bp_lruk.specs.Burst.{last_time}
 use Rattle.bp_lruk.specs.Stamp.{stamp}
 use Rattle.bp_trail.specs.declared.entries.Entry.{Entry}
 use Rattle.bp_trail.specs.declared.entries.Call.{Call}
 use Rattle.bp_trail.specs.declared.entries.Call.TheVariants.{Tick, Mark, Fix, ReadEnd, WriteEnd, Read, Write, Unfix, Flush, Purge}
+use Rattle.bp_trail.specs.declared.entries.Reply.{Reply}
 use Rattle.bp_trail.specs.declared.entries.Reply.TheVariants.{Hit, Load, Busy, Forgot}
 use Rattle.bp_trail.specs.Trail.{Trail}
 use Rattle.bp_trail.specs.Lists.{every, count_below}
@@ -13,7 +14,7 @@ use Rattle.bp_trail.specs.Passes.{passes, tickets}
 use Rattle.bp_trail.specs.Places.{residents, resident, loading}
 use Rattle.bp_trail.specs.References.{references, references_with, forgets, last}
 use Rattle.bp_trail.specs.Victim.{rank, before, candidate, candidates, victim}
-use Rattle.bp_trail.specs.PageMap.{has_free_frame, replace_reply, reply_of}
+use Rattle.bp_trail.specs.PageMap.{has_free_frame, replace_reply, reply_of, MayReply}
 use Rattle.bp_trail.specs.Legal.{allowed, IsLawful, Legal}
 use Rattle.bp_check.specs.declared.setup.Setup.{Setup}
 use Rattle.bp_check.specs.Setups.{parameters_of}
@@ -90,11 +91,19 @@ module _ (s : Setup) (r : ℕ) where
   same-allowed past who (Write n p offset bytes lsn) = refl
   same-allowed past who (Unfix n p) = refl
 
+  may-there : (past : Trail) (call : Call) (reply : Reply) → MayReply (parameters_of s 0) past call reply → MayReply (parameters_of s r) past call reply
+  may-there past call reply (inl is) = inl (is ∙ sym (same-reply past call))
+  may-there past call reply (inr found) = inr found
+
+  may-here : (past : Trail) (call : Call) (reply : Reply) → MayReply (parameters_of s r) past call reply → MayReply (parameters_of s 0) past call reply
+  may-here past call reply (inl is) = inl (is ∙ same-reply past call)
+  may-here past call reply (inr found) = inr found
+
   pub lawful-there : (past : Trail) (e : Entry) → IsLawful (parameters_of s 0) past e → IsLawful (parameters_of s r) past e
-  lawful-there past e l = record { client = l.client; allowed = same-allowed past e.client e.call ∙ l.allowed; reply = l.reply ∙ sym (same-reply past e.call) }
+  lawful-there past e l = record { client = l.client; allowed = same-allowed past e.client e.call ∙ l.allowed; reply = may-there past e.call e.reply l.reply }
 
   pub lawful-here : (past : Trail) (e : Entry) → IsLawful (parameters_of s r) past e → IsLawful (parameters_of s 0) past e
-  lawful-here past e l = record { client = l.client; allowed = sym (same-allowed past e.client e.call) ∙ l.allowed; reply = l.reply ∙ same-reply past e.call }
+  lawful-here past e l = record { client = l.client; allowed = sym (same-allowed past e.client e.call) ∙ l.allowed; reply = may-here past e.call e.reply l.reply }
 
   pub legal-there : (past : Trail) → Legal (parameters_of s 0) past → Legal (parameters_of s r) past
   legal-there [] l = tt

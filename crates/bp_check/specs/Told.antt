@@ -1,5 +1,5 @@
 -- What is kept of the entries so far.
-use Rattle.std.specs.Prelude.{◌≡◌, ℕ, ◌<◌, Bool, false, ◌==◌, List, ◌∷◌, length, Option, Some, None, slice_index_or}
+use Rattle.std.specs.Prelude.{◌≡◌, ℕ, ◌<◌, Bool, true, false, ◌==◌, List, ◌∷◌, length, Option, Some, None, slice_index_or}
 use Rattle.std.specs.declared.vec.Vec.{Vec}
 use Rattle.bp_trail.specs.Parameters.{Parameters}
 use Rattle.bp_trail.specs.Trail.{Trail}
@@ -10,6 +10,10 @@ use Rattle.bp_trail.specs.Passes.{passes, tickets, passes_out, reads_out, writes
 use Rattle.bp_trail.specs.Places.{residents}
 use Rattle.bp_trail.specs.References.{references}
 use Rattle.bp_trail.specs.declared.entries.Entry.{Entry}
+use Rattle.bp_trail.specs.declared.entries.Call.{Call}
+use Rattle.bp_trail.specs.declared.entries.Call.TheVariants.{ReadEnd}
+use Rattle.bp_trail.specs.declared.entries.Reply.{Reply}
+use Rattle.bp_trail.specs.declared.entries.Reply.TheVariants.{WrongPage}
 use Rattle.bp_trail.specs.Legal.{IsLawful, Legal}
 use Rattle.bp_check.specs.declared.spans.Span.{Span}
 use Rattle.bp_check.specs.Spans.{spans, spans_at}
@@ -53,3 +57,8 @@ abbrev pub KeepsSpans : {A : Type 0} → Parameters → Trail → Entry → ℕ 
 KeepsSpans c past e now pages reads old new =
     IsLawful c past e → now ≡ clock past → pages ≡ residents past → reads ≡ reads_out past
     → length old ≡ c.pages → AreSpans c past old → AreSpans c (e ∷ past) new
+
+-- a read that ended without an image tells that it found another page
+abbrev pub tells_wrong_page : Call → Reply → Bool
+tells_wrong_page (ReadEnd t p None) WrongPage = true
+tells_wrong_page call reply = false

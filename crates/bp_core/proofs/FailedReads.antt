@@ -16,7 +16,7 @@ use Rattle.bp_frames.specs.GrantLists.{Given, GivesAsMuch}
 use Rattle.bp_core.specs.declared.state.State.{State}
 use Rattle.bp_core.specs.ReadFaults.{read_failure}
 use Rattle.bp_core.specs.CoreView.{CoreView, EachPast}
-use Rattle.bp_core.specs.Lodging.{Kept, with_next}
+use Rattle.bp_keeper.specs.Kept.{Kept, with_next}
 use Rattle.bp_core.specs.Agreement.{Parts, Agrees, IsCore, view_of}
 use Rattle.bp_core.proofs.Steps.{by}
 use Rattle.bp_core.proofs.KeepsLoads.{keeps-fail_load}

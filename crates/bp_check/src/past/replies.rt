@@ -1,6 +1,7 @@
-//! The one lawful reply to a call. Each function has the name of its definition.
-ghost use Rattle.std.specs.Prelude.{◌≡◌, IfOk};
+//! The lawful replies to a call. Each function has the name of its definition.
+ghost use Rattle.std.specs.Prelude.{◌≡◌, ◌↔◌, IfOk, IsTrue};
 ghost use Rattle.bp_trail.specs.PageMap as of;
+ghost use Rattle.bp_check.specs.Told.{tells_wrong_page};
 
 use crate::past::Past;
 use bp_page::{Image, PageNo};
@@ -102,8 +103,8 @@ impl<'a> Past<'a> {
         }
     }
 
-    /// The one lawful reply to a call. It fails by want of memory alone.
-    pub(super) fn reply_of(&self, alloc: Global, call: &Call) -> Result<Reply, AllocError>
+    /// The reply to a call, but for a read that found another page. It fails by want of memory alone.
+    fn reply_of(&self, alloc: Global, call: &Call) -> Result<Reply, AllocError>
         ensures { IfOk result (λ reply. reply ≡ of.reply_of self.now.parameters self.now.past call.now) }
     {
         match call {
@@ -117,5 +118,38 @@ impl<'a> Past<'a> {
             Call::Purge => Ok(Reply::Forgot(self.forgotten())),
             _ => Ok(Reply::Done),
         }
+    }
+
+    fn is_reply(&self, alloc: Global, call: &Call, reply: &Reply) -> Result<bool, AllocError>
+        ensures { IfOk result (λ answer. IsTrue answer ↔ (reply.now ≡ of.reply_of self.now.parameters self.now.past call.now)) }
+    {
+        let lawful = self.reply_of(alloc, call)?;
+        Ok(*reply == lawful)
+    }
+
+    /// Whether the call may have this reply. It fails by want of memory alone.
+    #[tactic(auto, using(crate::proofs::Replying::may_by_page))]
+    pub(super) fn may_reply(
+        &self,
+        alloc: Global,
+        call: &Call,
+        reply: &Reply,
+    ) -> Result<bool, AllocError>
+        ensures { IfOk result (λ answer. IsTrue answer ↔ of.MayReply self.now.parameters self.now.past call.now reply.now) }
+    {
+        if tells_wrong_page(call, reply) {
+            return Ok(true);
+        }
+        self.is_reply(alloc, call, reply)
+    }
+}
+
+/// Whether a read that ended without an image tells that it found another page.
+fn tells_wrong_page(call: &Call, reply: &Reply) -> bool
+    ensures { result ≡ tells_wrong_page call.now reply.now }
+{
+    match (call, reply) {
+        (Call::ReadEnd { image: None, .. }, Reply::WrongPage) => true,
+        _ => false,
     }
 }

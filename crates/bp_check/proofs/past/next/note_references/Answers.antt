@@ -1,7 +1,7 @@
 use Rattle.std.proofs.Common.{ap, arith}
 use Rattle.bp_trail.specs.Event as event
 use Rattle.bp_check.specs.Setups.{parameters_of}
-use Rattle.bp_check.proofs.Noted.{noted-purge}
+use Rattle.bp_check.proofs.Noted.{noted-hit, noted-purge}
 use Rattle.bp_check.proofs.past.next.note_references.Goals as goal
 
 pub refer_at-requires : goal.refer_at-requires
@@ -14,3 +14,7 @@ refer_at-requires-in-Fixed c =
 
 pub returns-in-Forgot-clause-noted : goal.returns-in-Forgot-clause-noted
 returns-in-Forgot-clause-noted c past = noted-purge (parameters_of c.args.setup.now 0) past c.args.e.now c.args.clock c.args.residents.now c.args.reads_out.now c.args.spans.now c.forget.new.table c.in-Forgot.field-0 c.in-Forgot.is c.forget.ensures.each
+
+pub returns-in_ok-refer_at-in-Hit-clause-noted : goal.returns-in_ok-refer_at-in-Hit-clause-noted
+returns-in_ok-refer_at-in-Hit-clause-noted c past =
+    noted-hit (parameters_of c.args.setup.now 0) past c.args.e.now c.args.clock c.args.residents.now c.args.reads_out.now c.args.spans.now c.refer_at.new.table c.in-Hit.field-0 c.page_of-page.result c.page_of-page.ensures c.in-Hit.is c.in_ok-refer_at-in-Hit.ensures.own c.in_ok-refer_at-in-Hit.ensures.others

@@ -1,7 +1,7 @@
 use Rattle.std.proofs.Common.{None, ◌∙◌, ap}
 use Rattle.bp_trail.specs.declared.entries.Call.TheVariants.{ReadEnd}
 use Rattle.bp_core.specs.ReadFaults.{read_failure}
-use Rattle.bp_core.specs.Lodging.{with_next}
+use Rattle.bp_keeper.specs.Kept.{with_next}
 use Rattle.bp_core.proofs.Keeps.{adds}
 use Rattle.bp_core.proofs.KeepsLoads.{held-now}
 use Rattle.bp_core.proofs.FailedReads.{keeps-failed}
@@ -18,4 +18,4 @@ invariant_of-self g c =
 pub returns : goal.returns
 returns g c =
     adds _ _ _ c.self.invariant _ c.self.view_is c.args.client (ReadEnd c.args.serial c.args.page None) (read_failure c.args.fault) _ _
-    (c.record.ensures ∙ ap (with_next c.self.inside.trail c.args.client (ReadEnd c.args.serial c.args.page None)) c.reply_of_read.ensures) (invariant_of-self g c)
+    (c.record.ensures ∙ ap (with_next (g.K.Keeper.kept c.self.inside.trail) c.args.client (ReadEnd c.args.serial c.args.page None)) c.reply_of_read.ensures) (invariant_of-self g c)
