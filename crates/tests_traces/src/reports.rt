@@ -2,11 +2,10 @@
 use bp_page::{Bytes, Image, Lsn, PageNo};
 use bp_trace::{ReportRun, report, report_rows};
 use bp_trail::{Call, Entry, Refused, Reply};
-use std::alloc::{AllocError, Global};
+use std::alloc::Global;
 use std::io;
 use std::io::Write;
 use std::process::Abort;
-use std::test::*;
 
 /// Takes at most five bytes a call, and fails once it holds so many.
 #[derive(Drop)]
@@ -84,49 +83,47 @@ fn read_end(ticket: u64, page: u64, image: Option<Image>, reply: Reply) -> Entry
 }
 
 /// Bytes 00 to 0f.
-fn first_image(alloc: Global) -> Result<Image, AllocError> {
-    Image::of(
-        alloc,
-        &[0, 1, 2, 3, 4, 5, 6, 7, 8, 9, 10, 11, 12, 13, 14, 15],
-    )
+fn first_image(rt: &(impl Abort + AllocGlobal)) -> Image {
+    let bytes = [0, 1, 2, 3, 4, 5, 6, 7, 8, 9, 10, 11, 12, 13, 14, 15];
+    Image::of(rt.alloc(), &bytes).expect(rt, "the image")
 }
 
 /// 32 bytes, of which the first 16 are fifteen ff and one 9a.
-fn second_image(alloc: Global) -> Result<Image, AllocError> {
+fn second_image(rt: &(impl Abort + AllocGlobal)) -> Image {
     let mut bytes = [0x11; 32];
     for place in &mut bytes[..15] {
         *place = 0xff;
     }
     bytes[15] = 0x9a;
-    Image::of(alloc, &bytes)
+    Image::of(rt.alloc(), &bytes).expect(rt, "the image")
 }
 
 // A write of three bytes.
-fn write_of_letters(alloc: Global) -> Result<Call, AllocError> {
-    Ok(Call::Write {
+fn write_of_letters(rt: &(impl Abort + AllocGlobal)) -> Call {
+    Call::Write {
         pass: 0,
         page: PageNo::new(1),
         offset: 3,
-        bytes: Bytes::of(alloc, b"abc")?,
+        bytes: Bytes::of(rt.alloc(), b"abc").expect(rt, "the bytes"),
         lsn: Lsn::new(7),
-    })
+    }
 }
 
 // A page goes out.
-fn goes_out(alloc: Global, ticket: u64, page: u64) -> Result<Reply, AllocError> {
-    Ok(Reply::WriteFirst {
+fn goes_out(rt: &(impl Abort + AllocGlobal), ticket: u64, page: u64) -> Reply {
+    Reply::WriteFirst {
         ticket,
         page: PageNo::new(page),
-        image: first_image(alloc)?,
-    })
+        image: first_image(rt),
+    }
 }
 
 // Reads, a write and a hit.
-fn uses(alloc: Global) -> Result<Vec<Entry>, AllocError> {
-    let loaded = first_image(alloc)?;
-    let first = first_image(alloc)?;
-    let second = second_image(alloc)?;
-    let write = write_of_letters(alloc)?;
+fn uses(rt: &(impl Abort + AllocGlobal)) -> Vec<Entry> {
+    let loaded = first_image(rt);
+    let first = first_image(rt);
+    let second = second_image(rt);
+    let write = write_of_letters(rt);
     let entries = [
         fix(1, load(0, None)),
         read_end(0, 1, Some(loaded), Reply::Fixed(0)),
@@ -137,12 +134,12 @@ fn uses(alloc: Global) -> Result<Vec<Entry>, AllocError> {
         fix(1, Reply::Hit(1)),
         unfix(1, 1),
     ];
-    Ok(Vec::from_array(alloc, entries)?)
+    Vec::from_array(rt.alloc(), entries).expect(rt, "the entries")
 }
 
 // Page 1 makes way for page 2, whose read then fails.
-fn makes_way(alloc: Global) -> Result<Vec<Entry>, AllocError> {
-    let out = goes_out(alloc, 1, 1)?;
+fn makes_way(rt: &(impl Abort + AllocGlobal)) -> Vec<Entry> {
+    let out = goes_out(rt, 1, 1);
     let entries = [
         fix(2, Reply::NoVictim),
         fix(2, Reply::NeedLog(Lsn::new(7))),
@@ -154,12 +151,12 @@ fn makes_way(alloc: Global) -> Result<Vec<Entry>, AllocError> {
         fix(2, load(2, Some(PageNo::new(1)))),
         read_end(2, 2, None, Reply::ReadFailed),
     ];
-    Ok(Vec::from_array(alloc, entries)?)
+    Vec::from_array(rt.alloc(), entries).expect(rt, "the entries")
 }
 
 // Flushes, a purge, and the latest time of all.
-fn flushes(alloc: Global) -> Result<Vec<Entry>, AllocError> {
-    let out = goes_out(alloc, 3, 1_048_575)?;
+fn flushes(rt: &(impl Abort + AllocGlobal)) -> Vec<Entry> {
+    let out = goes_out(rt, 3, 1_048_575);
     let entries = [
         flush(1_048_575, out),
         tick(1),
@@ -172,24 +169,21 @@ fn flushes(alloc: Global) -> Result<Vec<Entry>, AllocError> {
         tick(u64::MAX),
         fix(7, load(5, Some(PageNo::new(0)))),
     ];
-    Ok(Vec::from_array(alloc, entries)?)
+    Vec::from_array(rt.alloc(), entries).expect(rt, "the entries")
 }
 
 /// Every kind of call and of reply, though no core would give this trail.
-fn every_kind(alloc: Global) -> Result<Vec<Entry>, AllocError> {
-    let mut entries = uses(alloc)?;
-    add_all(&mut entries, makes_way(alloc)?)?;
-    add_all(&mut entries, flushes(alloc)?)?;
-    Ok(entries)
+fn every_kind(rt: &(impl Abort + AllocGlobal)) -> Vec<Entry> {
+    let mut entries = uses(rt);
+    add_all(rt, &mut entries, makes_way(rt));
+    add_all(rt, &mut entries, flushes(rt));
+    entries
 }
 
-fn add_all(entries: &mut Vec<Entry>, more: Vec<Entry>) -> Result<(), AllocError> {
+fn add_all(rt: &impl Abort, entries: &mut Vec<Entry>, more: Vec<Entry>) {
     for entry in more {
-        let Ok(()) = entries.push(entry) else {
-            return Err(AllocError);
-        };
+        entries.push(entry).expect(rt, "the entries");
     }
-    Ok(())
 }
 
 // The last time is 11 plus twice 2^64 - 1.
@@ -209,21 +203,19 @@ refused 3
 ";
 
 #[test]
-fn report_of_every_kind(rt: HostRuntime) -> Result<(), Fail> {
-    let entries = every_kind(rt.alloc())?;
+fn report_of_every_kind(rt: HostRuntime) {
+    let entries = every_kind(&rt);
     let mut out = Vec::new(rt.alloc());
-    report(entries.as_slice(), &mut out)?;
+    report(entries.as_slice(), &mut out).expect(&rt, "the report");
     assert_eq!(rt; out.as_slice(), EVERY_KIND.as_bytes());
-    Ok(())
 }
 
 #[test]
-fn report_of_nothing(rt: HostRuntime) -> Result<(), Fail> {
+fn report_of_nothing(rt: HostRuntime) {
     let mut out = Vec::new(rt.alloc());
-    report(&[], &mut out)?;
+    report(&[], &mut out).expect(&rt, "the report");
     let text = "hits 0\nfaults 0\nevictions 0\nwrites 0\nfailed 0\nrefused 0\n";
     assert_eq!(rt; out.as_slice(), text.as_bytes());
-    Ok(())
 }
 
 fn refused_rows() -> [Refused; 3] {
@@ -243,13 +235,12 @@ fn refused_rows() -> [Refused; 3] {
 const REFUSED_ROWS: &str = "row 4 refused 11\nrow 10 refused 14\nrow 262144 refused 20\n";
 
 #[test]
-fn refused_rows_in_order(rt: HostRuntime) -> Result<(), Fail> {
+fn refused_rows_in_order(rt: HostRuntime) {
     let mut out = Vec::new(rt.alloc());
-    report_rows(&refused_rows(), &mut out)?;
+    report_rows(&refused_rows(), &mut out).expect(&rt, "the report");
     assert_eq!(rt; out.as_slice(), REFUSED_ROWS.as_bytes());
-    report_rows(&[], &mut out)?;
+    report_rows(&[], &mut out).expect(&rt, "the report");
     assert_eq!(rt; out.as_slice(), REFUSED_ROWS.as_bytes());
-    Ok(())
 }
 
 /// Whether the writer failed with its own fault exactly where it could not hold the whole text, and holds the text up
@@ -269,8 +260,8 @@ fn stops_at_its_limit(outcome: io::Result<()>, writer: &Limited, text: &str) -> 
 }
 
 #[test]
-fn failing_writers(rt: HostRuntime) -> Result<(), Fail> {
-    let entries = every_kind(rt.alloc())?;
+fn failing_writers(rt: HostRuntime) {
+    let entries = every_kind(&rt);
     for limit in 0..EVERY_KIND.len() + 1 {
         let mut writer = limited_to(rt.alloc(), limit);
         let outcome = report(entries.as_slice(), &mut writer);
@@ -287,20 +278,19 @@ fn failing_writers(rt: HostRuntime) -> Result<(), Fail> {
             "of {limit} bytes"
         );
     }
-    Ok(())
 }
 
 /// A page of sixteen bytes, of which the first is ff where it was written.
-fn image_of(alloc: Global, first: u8) -> Result<Image, AllocError> {
+fn image_of(rt: &(impl Abort + AllocGlobal), first: u8) -> Image {
     let mut bytes = [0; 16];
     bytes[0] = first;
-    Image::of(alloc, &bytes)
+    Image::of(rt.alloc(), &bytes).expect(rt, "the image")
 }
 
 /// A read from the device that ended well, with the pass that it gave.
-fn loaded(alloc: Global, ticket: u64, page: u64, first: u8) -> Result<Entry, AllocError> {
-    let image = image_of(alloc, first)?;
-    Ok(read_end(ticket, page, Some(image), Reply::Fixed(ticket)))
+fn loaded(rt: &(impl Abort + AllocGlobal), ticket: u64, page: u64, first: u8) -> Entry {
+    let image = image_of(rt, first);
+    read_end(ticket, page, Some(image), Reply::Fixed(ticket))
 }
 
 fn unfix(pass: u64, page: u64) -> Entry {
@@ -313,9 +303,9 @@ fn mark(lsn: u64) -> Entry {
 }
 
 // One frame: a page that was written with LSN 7 is to leave it.
-fn written_ahead(alloc: Global) -> Result<Vec<Entry>, AllocError> {
-    let first = loaded(alloc, 0, 1, 0)?;
-    let bytes = Bytes::of(alloc, &[0xff])?;
+fn written_ahead(rt: &(impl Abort + AllocGlobal)) -> Vec<Entry> {
+    let first = loaded(rt, 0, 1, 0);
+    let bytes = Bytes::of(rt.alloc(), &[0xff]).expect(rt, "the byte");
     let write = Call::Write {
         pass: 0,
         page: PageNo::new(1),
@@ -333,13 +323,13 @@ fn written_ahead(alloc: Global) -> Result<Vec<Entry>, AllocError> {
         fix(2, Reply::NeedLog(Lsn::new(7))),
         mark(7),
     ];
-    Ok(Vec::from_array(alloc, entries)?)
+    Vec::from_array(rt.alloc(), entries).expect(rt, "the entries")
 }
 
 // It leaves once the log is durable up to 7.
-fn leaves(alloc: Global) -> Result<Vec<Entry>, AllocError> {
-    let image = image_of(alloc, 0xff)?;
-    let second = loaded(alloc, 2, 2, 0)?;
+fn leaves(rt: &(impl Abort + AllocGlobal)) -> Vec<Entry> {
+    let image = image_of(rt, 0xff);
+    let second = loaded(rt, 2, 2, 0);
     let page = PageNo::new(1);
     let entries = [
         fix(
@@ -355,13 +345,13 @@ fn leaves(alloc: Global) -> Result<Vec<Entry>, AllocError> {
         second,
         unfix(2, 2),
     ];
-    Ok(Vec::from_array(alloc, entries)?)
+    Vec::from_array(rt.alloc(), entries).expect(rt, "the entries")
 }
 
 // It comes back, and is read.
-fn comes_back(alloc: Global) -> Result<Vec<Entry>, AllocError> {
-    let again = loaded(alloc, 3, 1, 0xff)?;
-    let seen = image_of(alloc, 0xff)?;
+fn comes_back(rt: &(impl Abort + AllocGlobal)) -> Vec<Entry> {
+    let again = loaded(rt, 3, 1, 0xff);
+    let seen = image_of(rt, 0xff);
     let entries = [
         tick(1),
         fix(1, load(3, Some(PageNo::new(2)))),
@@ -369,15 +359,15 @@ fn comes_back(alloc: Global) -> Result<Vec<Entry>, AllocError> {
         read(0, 1, seen),
         unfix(3, 1),
     ];
-    Ok(Vec::from_array(alloc, entries)?)
+    Vec::from_array(rt.alloc(), entries).expect(rt, "the entries")
 }
 
 // One frame: a page that was written with LSN 7 may leave it only once the log is durable up to 7.
-fn waiting_for_the_log(alloc: Global) -> Result<Vec<Entry>, AllocError> {
-    let mut entries = written_ahead(alloc)?;
-    add_all(&mut entries, leaves(alloc)?)?;
-    add_all(&mut entries, comes_back(alloc)?)?;
-    Ok(entries)
+fn waiting_for_the_log(rt: &(impl Abort + AllocGlobal)) -> Vec<Entry> {
+    let mut entries = written_ahead(rt);
+    add_all(rt, &mut entries, leaves(rt));
+    add_all(rt, &mut entries, comes_back(rt));
+    entries
 }
 
 // But for the line of the refused row.
@@ -395,16 +385,15 @@ refused 1
 ";
 
 #[test]
-fn write_ahead_rule(rt: HostRuntime) -> Result<(), Fail> {
+fn write_ahead_rule(rt: HostRuntime) {
     let alloc = rt.alloc();
-    let entries = waiting_for_the_log(alloc)?;
+    let entries = waiting_for_the_log(&rt);
     let mut printed = Vec::new(alloc);
-    report(&entries, &mut printed)?;
+    report(&entries, &mut printed).expect(&rt, "the report");
     assert_eq!(rt; printed.as_slice(), WAITING_FOR_THE_LOG.as_bytes());
     printed.clear();
-    report_rows(&[Refused { row: 6, number: 12 }], &mut printed)?;
+    report_rows(&[Refused { row: 6, number: 12 }], &mut printed).expect(&rt, "the report");
     assert_eq!(rt; printed.as_slice(), b"row 6 refused 12\n".as_slice());
-    Ok(())
 }
 
 /// Reports entries in pieces of this length, but for the last.
@@ -426,19 +415,18 @@ fn report_by<W: Write>(
 }
 
 #[test]
-fn report_in_pieces(rt: HostRuntime) -> Result<(), Fail> {
-    let entries = waiting_for_the_log(rt.alloc())?;
+fn report_in_pieces(rt: HostRuntime) {
+    let entries = waiting_for_the_log(&rt);
     for length in 1..entries.len() + 1 {
         let mut printed = Vec::new(rt.alloc());
-        report_by(&rt, &entries, length, &mut printed)?;
+        report_by(&rt, &entries, length, &mut printed).expect(&rt, "the report");
         assert_eq!(rt; printed.as_slice(), WAITING_FOR_THE_LOG.as_bytes());
     }
-    Ok(())
 }
 
 #[test]
-fn failing_writers_of_pieces(rt: HostRuntime) -> Result<(), Fail> {
-    let entries = waiting_for_the_log(rt.alloc())?;
+fn failing_writers_of_pieces(rt: HostRuntime) {
+    let entries = waiting_for_the_log(&rt);
     for limit in 0..WAITING_FOR_THE_LOG.len() + 1 {
         let mut writer = limited_to(rt.alloc(), limit);
         let outcome = report_by(&rt, &entries, 5, &mut writer);
@@ -447,7 +435,6 @@ fn failing_writers_of_pieces(rt: HostRuntime) -> Result<(), Fail> {
             "of {limit} bytes"
         );
     }
-    Ok(())
 }
 
 // Hands in a piece where the writer failed before: there is a fault again.
@@ -457,8 +444,8 @@ fn fails_again<W: Write>(rt: &impl Abort, run: &mut ReportRun, piece: &[Entry], 
 }
 
 #[test]
-fn a_fault_of_the_writer_stays(rt: HostRuntime) -> Result<(), Fail> {
-    let entries = waiting_for_the_log(rt.alloc())?;
+fn a_fault_of_the_writer_stays(rt: HostRuntime) {
+    let entries = waiting_for_the_log(&rt);
     let mut run = ReportRun::new();
     let mut writer = limited_to(rt.alloc(), 3);
     fails_again(&rt, &mut run, &entries, &mut writer);
@@ -467,5 +454,4 @@ fn a_fault_of_the_writer_stays(rt: HostRuntime) -> Result<(), Fail> {
     fails_again(&rt, &mut run, &[tick(0)], &mut writer);
     assert!(rt; run.totals(&mut writer).is_err());
     assert_eq!(rt; writer.held.len(), 3);
-    Ok(())
 }

@@ -2,11 +2,10 @@
 use bp_page::{Bytes, Geometry, Lsn, PageNo};
 use bp_trace::{TraceFault, read_script};
 use bp_trail::{Row, Step};
-use std::alloc::{AllocError, Global};
+use std::alloc::Global;
 use std::io;
 use std::io::Read;
 use std::process::Abort;
-use std::test::*;
 
 /// Gives its bytes in pieces. The read call of a number, from 1, or each from then on, fails in its place.
 #[derive(Drop)]
@@ -100,18 +99,18 @@ fn tick(row: u64, steps: u64) -> Row {
 }
 
 fn write(
-    alloc: Global,
+    rt: &(impl Abort + AllocGlobal),
     number: u64,
     offset: u32,
     bytes: &[u8],
     lsn: u64,
-) -> Result<Step, AllocError> {
-    Ok(Step::Write {
+) -> Step {
+    Step::Write {
         page: page(number),
         offset,
-        bytes: Bytes::of(alloc, bytes)?,
+        bytes: Bytes::of(rt.alloc(), bytes).expect(rt, "the bytes"),
         lsn: Lsn::new(lsn),
-    })
+    }
 }
 
 /// Whether each trace is refused so, in whatever pieces the reader gives it.
@@ -296,8 +295,8 @@ fn empty_and_malformed_traces(rt: HostRuntime) {
 
 // What is cut inside its last field reads as what stands there.
 #[test]
-fn cut_traces(rt: HostRuntime) -> Result<(), Fail> {
-    let write = [row(1, 0, write(rt.alloc(), 1, 0, b"\xff", 12)?)];
+fn cut_traces(rt: HostRuntime) {
+    let write = [row(1, 0, write(&rt, 1, 0, b"\xff", 12))];
     let table: [(&[u8], &[Row]); 3] = [
         (b"0,fix,1,,,", &[fix(1, 1)]),
         (b"0,write,1,0,ff,12", &write),
@@ -311,11 +310,10 @@ fn cut_traces(rt: HostRuntime) -> Result<(), Fail> {
         assert_eq!(rt; got.len(), 1);
         assert!(rt; matches!(&got[0].step, Step::Write { lsn, .. } if lsn.number() == number));
     }
-    Ok(())
 }
 
 #[test]
-fn every_op(rt: HostRuntime) -> Result<(), Fail> {
+fn every_op(rt: HostRuntime) {
     let trace = b"0,fix,0,,,
 63,unfix,15,,,
 1,read,2,,,
@@ -329,7 +327,7 @@ fn every_op(rt: HostRuntime) -> Result<(), Fail> {
         row(1, 0, Step::Fix(page(0))),
         row(2, 63, Step::Unfix(page(15))),
         row(3, 1, Step::Read(page(2))),
-        row(4, 2, write(rt.alloc(), 3, 4, &[0x00, 0xff], 9)?),
+        row(4, 2, write(&rt, 3, 4, &[0x00, 0xff], 9)),
         row(5, 0, Step::Flush(page(5))),
         row(6, 7, Step::Tick(8)),
         row(7, 0, Step::Log(Lsn::new(6))),
@@ -337,21 +335,15 @@ fn every_op(rt: HostRuntime) -> Result<(), Fail> {
     ];
     let table: [(&[u8], &[Row]); 1] = [(trace, &rows)];
     assert_rows(&rt, rt.alloc(), &table);
-    Ok(())
 }
 
 #[test]
-fn writes(rt: HostRuntime) -> Result<(), Fail> {
-    let alloc = rt.alloc();
+fn writes(rt: HostRuntime) {
     let sixteen = [0xab; 16];
-    let hex = [row(1, 0, write(alloc, 1, 0, b"\x01\x23\xab\xcd\xef", 0)?)];
-    let last = [row(
-        1,
-        0,
-        write(alloc, 15, 15, b"\xff", 4_611_686_018_427_387_904)?,
-    )];
-    let none = [row(1, 0, write(alloc, 1, 16, b"", 9)?)];
-    let whole = [row(1, 0, write(alloc, 0, 0, &sixteen, 7)?)];
+    let hex = [row(1, 0, write(&rt, 1, 0, b"\x01\x23\xab\xcd\xef", 0))];
+    let last = [row(1, 0, write(&rt, 15, 15, b"\xff", 4_611_686_018_427_387_904))];
+    let none = [row(1, 0, write(&rt, 1, 16, b"", 9))];
+    let whole = [row(1, 0, write(&rt, 0, 0, &sixteen, 7))];
     let table: [(&[u8], &[Row]); 6] = [
         (b"0,write,1,0,0123abcdef,0", &hex),
         (b"0,write,1,0,0123ABCDEF,0", &hex),
@@ -362,7 +354,6 @@ fn writes(rt: HostRuntime) -> Result<(), Fail> {
         (b"0,write,0,0,abababababababababababababababab,7", &whole),
     ];
     assert_rows(&rt, rt.alloc(), &table);
-    Ok(())
 }
 
 #[test]
@@ -447,15 +438,17 @@ fn rows_or_want_of_memory(rt: HostRuntime) {
 }
 
 #[test]
-fn too_many_rows(rt: HostRuntime) -> Result<(), Fail> {
+fn too_many_rows(rt: HostRuntime) {
     let geometry = sixteen_pages(&rt);
     let mut trace = Vec::new(rt.alloc());
     for _ in 0..262_144 {
-        trace.extend_from_slice(b"0,tick,0,,,\n")?;
+        trace
+            .extend_from_slice(b"0,tick,0,,,\n")
+            .expect(&rt, "the trace");
     }
     let got = read_script(rt.alloc(), &mut trace.as_slice(), &geometry);
     assert_eq!(rt; got.expect(&rt, "a script").len(), 262_144);
-    trace.extend_from_slice(b"\n0")?;
+    trace.extend_from_slice(b"\n0").expect(&rt, "the trace");
     let got = read_script(rt.alloc(), &mut trace.as_slice(), &geometry);
     assert_eq!(rt;
         got,
@@ -466,11 +459,14 @@ fn too_many_rows(rt: HostRuntime) -> Result<(), Fail> {
     );
     // The first record that is refused comes first.
     let mut refused = Vec::new(rt.alloc());
-    refused.extend_from_slice(b"0,FIX,1,,,\n")?;
-    refused.extend_from_slice(trace.as_slice())?;
+    refused
+        .extend_from_slice(b"0,FIX,1,,,\n")
+        .expect(&rt, "the trace");
+    refused
+        .extend_from_slice(trace.as_slice())
+        .expect(&rt, "the trace");
     let got = read_script(rt.alloc(), &mut refused.as_slice(), &geometry);
     assert_eq!(rt; got, Err(TraceFault { row: 1, number: 42 }));
-    Ok(())
 }
 
 #[test]
@@ -487,9 +483,8 @@ fn too_many_bytes(rt: HostRuntime) {
 }
 
 #[test]
-fn faults_as_text(rt: HostRuntime) -> Result<(), Fail> {
+fn faults_as_text(rt: HostRuntime) {
     let fault = TraceFault { row: 3, number: 40 };
-    let text = format!(in rt.alloc(); "{fault}")?;
+    let text = format!(in rt.alloc(); "{fault}").expect(&rt, "the text");
     assert_eq!(rt; text.as_str(), "trace row 3 refused 40");
-    Ok(())
 }
