@@ -3,7 +3,7 @@ use Rattle.std.proofs.Common.{◌≡◌, All, vec_len}
 use Rattle.tests_clients.proofs.making.ports.Given as goal
 
 abbrev pub invariant-loop : goal.invariant-loop
-invariant-loop l = record {
+invariant-loop g l = record {
   count : vec_len l.ports ≡ l.counter;
   geometry : All (λ p. p.device ≡ l.fn.geometry) l.ports.items;
 }
