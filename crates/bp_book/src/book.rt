@@ -54,7 +54,9 @@ impl Model for Book {
       copies = vec_len b.blanks - b.tickets;
     } };
 
-    ghost invariant = { λ b. KeepsRoom b.client b.geometry.size b.said.all b.held.passes b.tickets b.said.kept b.blanks.items b.said.capacity b.held.room };
+    ghost invariant = { λ b. KeepsRoom b.client b.geometry.size b.said.all
+        b.held.passes b.tickets b.said.kept
+        b.blanks.items b.said.capacity b.held.room };
 }
 
 /// Makes so many blank images more.
@@ -159,7 +161,8 @@ impl Book {
     /// The list handed out has all the memory that it had, and no room of the spare is lost. Where the memory for what is
     /// owed is refused, which is `OutOfMemory`, nothing changes. It is not refused where the spare has that room.
     pub fn cut(&mut self, spare: Vec<Entry>) -> Result<Vec<Entry>, Refusal>
-        ensures entries { IfOk result (λ entries. reverse entries.items ++ self.old.before ≡ self.old.said) }
+        ensures entries { IfOk result (λ entries.
+            reverse entries.items ++ self.old.before ≡ self.old.said) }
         ensures client { self.new.client ≡ self.old.client }
         ensures size { self.new.size ≡ self.old.size }
         ensures said { self.new.said ≡ self.old.said }

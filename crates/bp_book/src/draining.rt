@@ -31,7 +31,8 @@ fn give_back(core: &mut Core, strays: &mut u64, note: PassNote)
 fn drain(core: &mut Core, strays: &mut u64, consumer: &mut Consumer<PassNote>)
     ensures parameters { core.new.parameters ≡ core.old.parameters }
     ensures before { core.new.before ≡ core.old.before }
-    ensures drained { DrainsRing 32 (ring_view consumer.old) (ring_view consumer.new) core.old.past strays.old core.new.past strays.new }
+    ensures drained { DrainsRing 32 (ring_view consumer.old) (ring_view consumer.new)
+        core.old.past strays.old core.new.past strays.new }
 {
     for _ in 0..RING {
         let Ok(note) = consumer.pop() else {
@@ -45,7 +46,8 @@ fn drain(core: &mut Core, strays: &mut u64, consumer: &mut Consumer<PassNote>)
 fn drain_asked(core: &mut Core, strays: &mut u64, consumer: &mut Consumer<PassNote>, is_asked: bool)
     ensures parameters { core.new.parameters ≡ core.old.parameters }
     ensures before { core.new.before ≡ core.old.before }
-    ensures drained { DrainsRing 32 (ring_view consumer.old) (ring_view consumer.new) core.old.past strays.old core.new.past strays.new }
+    ensures drained { DrainsRing 32 (ring_view consumer.old) (ring_view consumer.new)
+        core.old.past strays.old core.new.past strays.new }
 {
     if is_asked || consumer.cached_slots() > 0 {
         drain(core, strays, consumer);
@@ -63,7 +65,8 @@ pub fn drain_all(
 )
     ensures parameters { core.new.parameters ≡ core.old.parameters }
     ensures before { core.new.before ≡ core.old.before }
-    ensures drained { DrainsRings 32 (map ring_view consumers.old) (map ring_view consumers.new) core.old.past strays.old core.new.past strays.new }
+    ensures drained { DrainsRings 32 (map ring_view consumers.old) (map ring_view consumers.new)
+        core.old.past strays.old core.new.past strays.new }
     ensures durable { durable core.new.past ≡ durable core.old.past }
 {
     let mut word = asked;

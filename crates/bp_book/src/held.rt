@@ -29,9 +29,13 @@ impl Model for Held {
 
     ghost Value = { HeldValue };
 
-    ghost view = { λ h. record { passes = drop h.gone h.notes.items; room = vec_capacity h.notes - vec_len h.notes } };
+    ghost view = { λ h. record {
+      passes = drop h.gone h.notes.items;
+      room = vec_capacity h.notes - vec_len h.notes;
+    } };
 
-    ghost invariant = { λ h. (h.gone ≤ vec_len h.notes) × MayRise h.is_rising (drop h.gone h.notes.items) };
+    ghost invariant = { λ h. (h.gone ≤ vec_len h.notes)
+        × MayRise h.is_rising (drop h.gone h.notes.items) };
 }
 
 /// Whether the note is of this pass.
@@ -52,7 +56,8 @@ fn differs(note: &PassNote, serial: u64) -> bool
 
 /// Whether a pass is among those held. The one taken latest is looked at first.
 fn is_held(held: &[PassNote], pass: &Pass) -> bool
-    ensures { result ≡ is_out (grant pass.now.client pass.now.page pass.now.serial) (reverse held.now) }
+    ensures { result
+        ≡ is_out (grant pass.now.client pass.now.page pass.now.serial) (reverse held.now) }
 {
     held.iter().rev().any(|note| is_of(note, pass))
 }
@@ -162,7 +167,8 @@ impl Held {
 
     /// Whether this pass is held.
     pub(crate) fn has(&self, pass: &Pass) -> bool
-        ensures { result ≡ is_out (grant pass.now.client pass.now.page pass.now.serial) (reverse self.now.passes) }
+        ensures { result
+            ≡ is_out (grant pass.now.client pass.now.page pass.now.serial) (reverse self.now.passes) }
     {
         if !self.is_rising {
             return is_held(self.notes(), pass);

@@ -19,13 +19,19 @@ impl Model for Said {
 
     ghost Value = { SaidValue };
 
-    ghost view = { λ s. record { before = s.before.past; all = reverse s.entries.items ++ s.before.past; kept = vec_len s.entries; capacity = vec_capacity s.entries } };
+    ghost view = { λ s. record {
+      before = s.before.past;
+      all = reverse s.entries.items ++ s.before.past;
+      kept = vec_len s.entries;
+      capacity = vec_capacity s.entries;
+    } };
 }
 
 impl Said {
     /// No entries.
     pub(crate) fn new(alloc: Global) -> Said
-        ensures { (result.before ≡ []) × (result.all ≡ []) × (result.kept ≡ 0) × (result.capacity ≡ 0) }
+        ensures { (result.before ≡ []) × (result.all ≡ [])
+            × (result.kept ≡ 0) × (result.capacity ≡ 0) }
     {
         Said {
             before: Before::nothing(),
@@ -72,7 +78,8 @@ impl Said {
     /// Hands out those since the last cut, the oldest first, and goes on in the spare's memory, which is taken to so much
     /// room. What the spare has is dropped.
     pub(crate) fn cut(&mut self, spare: Vec<Entry>, room: usize) -> Result<Vec<Entry>, AllocError>
-        ensures entries { IfOk result (λ entries. reverse entries.items ++ self.old.before ≡ self.old.all) }
+        ensures entries { IfOk result (λ entries.
+            reverse entries.items ++ self.old.before ≡ self.old.all) }
         ensures all { self.new.all ≡ self.old.all }
         ensures before { IfOk result (λ entries. self.new.before ≡ self.old.all) }
         ensures kept { IfOk result (λ entries. self.new.kept ≡ 0) }

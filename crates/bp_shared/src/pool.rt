@@ -172,10 +172,12 @@ impl<N: PoolName> SharedPool<N> {
     /// `ClockFull` where more than 2^62 passes or tickets were given; `OutOfMemory` where the room of a trail can't be
     /// reserved anew, which is done before the lock is taken. Both hand out nothing.
     pub fn cut<R: Wait>(&self, rt: &R, taker: &mut Taker<N>) -> Result<Vec<Entry>, Refusal>
-        ensures next { IfOk result (λ entries. ComesNext N.parameters taker.old entries.items taker.new) }
+        ensures next { IfOk result (λ entries.
+            ComesNext N.parameters taker.old entries.items taker.new) }
         ensures memory { IfOk result (λ entries. N.parameters.room ≤ vec_capacity entries) }
         ensures unchanged { OnErr result (taker.new ≡ taker.old) }
-        ensures refused { OnErr result ((result ≡ Err Refusal.ClockFull) ⊎ (result ≡ Err Refusal.OutOfMemory)) }
+        ensures refused { OnErr result
+            ((result ≡ Err Refusal.ClockFull) ⊎ (result ≡ Err Refusal.OutOfMemory)) }
         ensures cause { result ≡ Err Refusal.ClockFull → GaveTooMany N.parameters taker.old }
     {
         self.cut_into(rt, taker, Vec::new(self.alloc))
@@ -189,12 +191,15 @@ impl<N: PoolName> SharedPool<N> {
         taker: &mut Taker<N>,
         spare: Vec<Entry>,
     ) -> Result<Vec<Entry>, Refusal>
-        ensures next { IfOk result (λ entries. ComesNext N.parameters taker.old entries.items taker.new) }
+        ensures next { IfOk result (λ entries.
+            ComesNext N.parameters taker.old entries.items taker.new) }
         ensures memory { IfOk result (λ entries. N.parameters.room ≤ vec_capacity entries) }
         ensures unchanged { OnErr result (taker.new ≡ taker.old) }
-        ensures refused { OnErr result ((result ≡ Err Refusal.ClockFull) ⊎ (result ≡ Err Refusal.OutOfMemory)) }
+        ensures refused { OnErr result
+            ((result ≡ Err Refusal.ClockFull) ⊎ (result ≡ Err Refusal.OutOfMemory)) }
         ensures cause { result ≡ Err Refusal.ClockFull → GaveTooMany N.parameters taker.old }
-        ensures enough { N.parameters.room ≤ vec_capacity spare → OnErr result (result ≡ Err Refusal.ClockFull) }
+        ensures enough { N.parameters.room ≤ vec_capacity spare
+            → OnErr result (result ≡ Err Refusal.ClockFull) }
     {
         let mut empty = spare;
         empty.clear();

@@ -35,7 +35,9 @@ impl<N: PoolName> Model for Session<N> {
     } };
 
     // The passes posted are those of the list's own unfixes, in order.
-    ghost invariant = { λ s. (s.book.client < N.parameters.clients) × (s.book.size ≡ N.parameters.size) × (sent s.producer ≡ reverse (unfixes s.book.said)) };
+    ghost invariant = { λ s. (s.book.client < N.parameters.clients)
+        × (s.book.size ≡ N.parameters.size)
+        × (sent s.producer ≡ reverse (unfixes s.book.said)) };
 }
 
 impl<N: PoolName> Session<N> {
@@ -102,7 +104,8 @@ impl<N: PoolName> Session<N> {
     /// room for what is owed. It takes no lock, and may be called between any two calls of the session. Memory is wanted
     /// only where entries are owed; where it is refused, which is `OutOfMemory`, nothing changes.
     pub fn cut(&mut self) -> Result<Vec<Entry>, Refusal>
-        ensures entries { IfOk result (λ entries. reverse entries.items ++ self.old.before ≡ self.old.said) }
+        ensures entries { IfOk result (λ entries.
+            reverse entries.items ++ self.old.before ≡ self.old.said) }
         ensures after { OnOk result (IsCut self.old self.new) }
         ensures memory { IfOk result (λ list. KeepsMemory self.old list) }
         ensures unchanged { OnErr result (self.new ≡ self.old) }
@@ -117,7 +120,8 @@ impl<N: PoolName> Session<N> {
     /// owed: one for each pass held, and two for each ticket that the list was given and did not end. What the spare has
     /// is dropped, and none of its room is lost; the list handed out has all the memory that it had.
     pub fn cut_into(&mut self, spare: Vec<Entry>) -> Result<Vec<Entry>, Refusal>
-        ensures entries { IfOk result (λ entries. reverse entries.items ++ self.old.before ≡ self.old.said) }
+        ensures entries { IfOk result (λ entries.
+            reverse entries.items ++ self.old.before ≡ self.old.said) }
         ensures after { OnOk result (IsCut self.old self.new) }
         ensures memory { IfOk result (λ list. KeepsMemory self.old list) }
         ensures unchanged { OnErr result (self.new ≡ self.old) }

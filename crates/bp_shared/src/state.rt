@@ -44,7 +44,8 @@ impl<N: PoolName> Model for State<N> {
       strays = s.strays;
     } };
 
-    ghost invariant = { λ s. IsLocked N.mark N.parameters s.core s.reader × IsHandedOut N.ring N.before s.pieces s.core };
+    ghost invariant = { λ s. IsLocked N.mark N.parameters s.core s.reader
+        × IsHandedOut N.ring N.before s.pieces s.core };
 }
 
 impl<N: PoolName> State<N> {

@@ -26,7 +26,8 @@ impl Model for TrailRing {
 
     ghost view = { λ r. ring_of r.pieces };
 
-    ghost invariant = { λ r. (ring_at r.taken ≡ ring_of r.pieces) × IsEmptied r.pieces × (sent r.pieces ≡ []) × (received r.taken ≡ []) };
+    ghost invariant = { λ r. (ring_at r.taken ≡ ring_of r.pieces) × IsEmptied r.pieces
+        × (sent r.pieces ≡ []) × (received r.taken ≡ []) };
 }
 
 impl TrailRing {

@@ -34,7 +34,8 @@ impl Book {
         ensures passes { self.new.passes ≡ self.old.passes }
         ensures copies { self.new.copies ≡ self.old.copies }
         ensures looks { Looks self.old.client reader.new.seen core.old result core.new }
-        ensures outcome { LookOutcome self.old.client core.old reader.new.seen result self.old.said self.new.said }
+        ensures outcome { LookOutcome self.old.client core.old reader.new.seen result
+            self.old.said self.new.said }
         ensures alike { Alike core.old self.old.said core.new self.new.said }
     {
         let seen = reader.look(mark);
@@ -229,7 +230,8 @@ impl Book {
         ensures before { core.new.before ≡ core.old.before }
         ensures owner { SameOwner self.old self.new }
         ensures asked { WriteOutcome core.old pass.now offset bytes lsn result core.new }
-        ensures outcome { WriteSaid self.old.client pass.now offset bytes lsn result self.old.said self.new.said }
+        ensures outcome { WriteSaid self.old.client pass.now offset bytes lsn result
+            self.old.said self.new.said }
         ensures alike { Alike core.old self.old.said core.new self.new.said }
     {
         match core.write(pass, offset, &bytes, lsn) {

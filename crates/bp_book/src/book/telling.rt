@@ -66,7 +66,8 @@ impl Book {
         requires passes { 1 ≤ self.old.passes }
         requires copies { 1 ≤ self.old.copies }
         ensures ticket { result ≡ ticket }
-        ensures told { Tells self.old (Call.Fix ticket.page) (Reply.Load ticket.serial evicted) self.new }
+        ensures told { Tells self.old (Call.Fix ticket.page)
+            (Reply.Load ticket.serial evicted) self.new }
     {
         self.said.add(Entry {
             client: self.client,
@@ -89,7 +90,8 @@ impl Book {
         requires passes { 1 ≤ self.old.passes }
         requires copies { 2 ≤ self.old.copies }
         ensures ticket { result ≡ ticket }
-        ensures told { Tells self.old call (Reply.WriteFirst ticket.serial ticket.page ticket.image) self.new }
+        ensures told { Tells self.old call
+            (Reply.WriteFirst ticket.serial ticket.page ticket.image) self.new }
     {
         let image = self.copy_of(ticket.image());
         self.said.add(Entry {
@@ -110,7 +112,8 @@ impl Book {
         requires plain { plain_call call ≡ true }
         requires room { 0 < self.old.entries }
         ensures owner { SameOwner self.old self.new }
-        ensures said { self.new.said ≡ and_told self.old.client call (refusal_reply refusal.now) self.old.said }
+        ensures said { self.new.said
+            ≡ and_told self.old.client call (refusal_reply refusal.now) self.old.said }
     {
         if let Some(reply) = reply_of(refusal) {
             self.tell(call, reply);

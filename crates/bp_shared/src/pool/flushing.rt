@@ -74,7 +74,8 @@ impl<N: PoolName> SharedPool<N> {
         ensures before { session.new.before ≡ session.old.before }
         ensures free { session.new.free ≡ session.old.free }
         ensures port { P.geometry_of port.new ≡ P.geometry_of port.old }
-        ensures outcome { FlushSaid session.old.client page result session.old.said session.new.said }
+        ensures outcome { FlushSaid session.old.client page result
+            session.old.said session.new.said }
     {
         for _ in rt.forever() {
             match self.ask_flush(rt, session, page) {

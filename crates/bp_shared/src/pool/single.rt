@@ -55,7 +55,8 @@ impl<N: PoolName> SharedPool<N> {
         ensures before { session.new.before ≡ session.old.before }
         ensures free { session.new.free ≡ session.old.free }
         ensures stranger { pass.now.client ≢ session.old.client → result ≡ Err Refusal.UnknownPass }
-        ensures outcome { ReadSaid session.old.client pass.now result session.old.said session.new.said }
+        ensures outcome { ReadSaid session.old.client pass.now result
+            session.old.said session.new.said }
     {
         if pass.client() != session.client() {
             return Err(Refusal::UnknownPass);
@@ -83,7 +84,8 @@ impl<N: PoolName> SharedPool<N> {
         ensures before { session.new.before ≡ session.old.before }
         ensures free { session.new.free ≡ session.old.free }
         ensures stranger { pass.now.client ≢ session.old.client → result ≡ Err Refusal.UnknownPass }
-        ensures outcome { WriteSaid session.old.client pass.now offset bytes.now lsn result session.old.said session.new.said }
+        ensures outcome { WriteSaid session.old.client pass.now offset bytes.now lsn result
+            session.old.said session.new.said }
     {
         if pass.client() != session.client() {
             return Err(Refusal::UnknownPass);

@@ -21,9 +21,11 @@ impl<N: PoolName> State<N> {
         spare: Vec<Entry>,
     ) -> Result<Vec<Entry>, Refusal>
         requires room { N.parameters.room ≤ vec_capacity spare }
-        ensures done { IfOk result (λ entries. HandsOut self.old taker.old entries.items self.new taker.new) }
+        ensures done { IfOk result (λ entries.
+            HandsOut self.old taker.old entries.items self.new taker.new) }
         ensures memory { IfOk result (λ entries. N.parameters.room ≤ vec_capacity entries) }
-        ensures next { IfOk result (λ entries. ComesNext N.parameters taker.old entries.items taker.new) }
+        ensures next { IfOk result (λ entries.
+            ComesNext N.parameters taker.old entries.items taker.new) }
         ensures refused { OnErr result (result ≡ Err Refusal.ClockFull) }
         ensures cause { OnErr result (GaveTooMany N.parameters taker.old) }
         ensures settled { OnErr result (Settled self.old self.new) }

@@ -191,8 +191,10 @@ impl<N: PoolName> State<N> {
         requires fits { offset + length bytes ≤ N.parameters.size }
         requires room { 0 < book.old.entries }
         ensures owner { SameOwner book.old book.new }
-        ensures outcome { WriteSaid book.old.client pass.now offset bytes lsn result book.old.said book.new.said }
-        ensures in_step { InStep (λ core after. WriteOutcome core pass.now offset bytes lsn result after)
+        ensures outcome { WriteSaid book.old.client pass.now offset bytes lsn result
+            book.old.said book.new.said }
+        ensures in_step { InStep
+            (λ core after. WriteOutcome core pass.now offset bytes lsn result after)
             self.old book.old.said self.new book.new.said }
     {
         drain_all(&mut self.core, &mut self.strays, &mut self.consumers, asked);
