@@ -49,8 +49,9 @@ impl Model for FilePort {
     ghost view = { λ p. record { device = p.device; failures = p.count; headed = has_headers p.format } };
 }
 
-/// The geometry of a file of so many bytes, in slots of pages of this size. `BadLength` where they are no whole slots, none, or too many.
-fn geometry_of_file(bytes: u64, size: usize, format: Format) -> Result<Geometry, Refusal>
+/// The geometry of a page file of so many bytes and this version, with pages of this size. `BadLength` where they are no whole slots,
+/// none, or more than 1,048,576.
+pub fn geometry_of_file(bytes: u64, size: usize, format: Format) -> Result<Geometry, Refusal>
     requires size { IsGeometry 1 size }
     ensures accepted { IsOk result ↔ IsFileLength (slot_size format size) bytes }
     ensures refused { OnErr result (result ≡ Err Refusal.BadLength) }

@@ -14,7 +14,7 @@ mod rows;
 pub mod scripts;
 
 pub use drivers::{Flushed, drive_fix, drive_flush};
-pub use files::{FilePort, OpenFault};
+pub use files::{FilePort, OpenFault, geometry_of_file};
 pub use fuse::FusePort;
 pub use gate::GatePort;
 pub use held_passes::{latest_pass, next_to_go_back};

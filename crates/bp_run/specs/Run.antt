@@ -1,5 +1,5 @@
 -- What a run of rows over a new core reports.
-use Rattle.std.specs.Prelude.{◌≡◌, ℕ, ◌+◌, ◌*◌, ◌==◌, min, Bool, List, ◌++◌, length, reverse, Option, Some, IfSome, Ok, if◌then◌else◌}
+use Rattle.std.specs.Prelude.{◌≡◌, ◌⊎◌, ℕ, ◌+◌, ◌*◌, ◌==◌, min, Bool, List, [], ◌++◌, length, reverse, Option, Some, IfSome, Ok, if◌then◌else◌}
 use Rattle.std.specs.Io.KnownBytes.{Appends}
 use Rattle.bp_page.specs.declared.limits.Geometry.{Geometry}
 use Rattle.bp_trail.specs.declared.entries.Entry.{Entry}
@@ -16,7 +16,9 @@ use Rattle.clap.specs.Words.{Text}
 use Rattle.bp_words.specs.declared.words.Order.{Order}
 use Rattle.bp_words.specs.declared.words.Order.TheVariants as order
 use Rattle.bp_run.specs.Scripts.{clients_of, scripts_of}
-use Rattle.bp_words.specs.Words.{Told, TraceAt, from_stdin, at_path, told_by}
+use Rattle.bp_words.specs.Words.{Told, TraceAt, from_stdin, at_path}
+use Rattle.bp_words.specs.Asked.{Migration, asked_by}
+use Rattle.bp_words.specs.Asked.Asked.{a_run, a_migration}
 use Rattle.bp_run.specs.PageFile.{HasPages, memory_named}
 
 -- the room of a trail for so many rows
@@ -87,7 +89,18 @@ pub record Runs (told : Told) (bytes : Option (List ℕ)) (all_accepted : Bool) 
 -- what was written is the report of such a run, with what the words name; the status is 0 where all rows were accepted, else 1
 pub record RunsWords (words : List Text) (bytes : Option (List ℕ)) (status : ℕ) (old new : Option (List ℕ)) : Type 0 where
   pub told : Told
-  pub named : told_by words ≡ Some told
+  pub named : asked_by words ≡ Some (a_run told)
   pub all_accepted : Bool
   pub runs : Runs told bytes all_accepted old new
   pub status_is : status ≡ (if all_accepted then 0 else 1)
+
+-- the words name a migration; nothing was written here, and the status is 0
+pub record MigratesWords (words : List Text) (status : ℕ) (old new : Option (List ℕ)) : Type 0 where
+  pub told : Migration
+  pub named : asked_by words ≡ Some (a_migration told)
+  pub written : Appends old new []
+  pub status_is : status ≡ 0
+
+-- what the words name was done
+abbrev pub DoesWords : List Text → Option (List ℕ) → ℕ → Option (List ℕ) → Option (List ℕ) → Type 0
+DoesWords words bytes status old new = RunsWords words bytes status old new ⊎ MigratesWords words status old new

@@ -4,6 +4,8 @@
 #![tactic(auto)]
 
 mod free;
+mod meter;
+mod migration;
 mod opening;
 mod page_files;
 mod run;

@@ -24,4 +24,7 @@ pub trait Ports<R> {
         requires size { IsGeometry 1 size }
         ensures count { IfOk result (λ ports. vec_len ports ≡ clients) }
         ensures opened { IfOk result (λ ports. AreOpened word.now size (map Self.P.geometry_of ports.items)) };
+
+    /// Whether somebody watches the program: how far a migration has come is then shown on the error output.
+    fn is_watched(&self) -> bool;
 }

@@ -142,12 +142,24 @@ fn file_ports<R: Files<File = File>>(
 #[derive(Clone, Copy, Debug)]
 pub struct PageFiles {
     alloc: Global,
+    is_watched: bool,
 }
 
 impl PageFiles {
-    /// Page files whose pages in memory come from this allocator.
+    /// Page files whose pages in memory come from this allocator. Nobody watches.
     pub fn new(alloc: Global) -> PageFiles {
-        PageFiles { alloc }
+        PageFiles {
+            alloc,
+            is_watched: false,
+        }
+    }
+
+    /// The same, and whether somebody watches.
+    pub fn watched(self, is_watched: bool) -> PageFiles {
+        PageFiles {
+            alloc: self.alloc,
+            is_watched,
+        }
     }
 }
 
@@ -172,5 +184,9 @@ impl<R: Files<File = File>> Ports<R> for PageFiles {
                 Err(fault) => Err(fault),
             },
         }
+    }
+
+    fn is_watched(&self) -> bool {
+        self.is_watched
     }
 }

@@ -10,16 +10,17 @@ ghost use Rattle.bp_words.specs.Ending.{is_help};
 ghost use Rattle.bp_run.specs.Opening.{ending_of};
 ghost use Rattle.bp_run.specs.PageFile.{AreOpened};
 ghost use Rattle.bp_words.specs.Words.{from_stdin, told_of, trace_told, words_or_default};
-ghost use Rattle.bp_run.specs.Run.{AreRead, Reports, ReportsIn, Runs, RunsWords, parameters_for, ports_for, room_for};
+ghost use Rattle.bp_run.specs.Run.{AreRead, Reports, ReportsIn, Runs, DoesWords, parameters_for, ports_for, room_for};
 
 use crate::free::run_free;
+use crate::migration::migrate;
 use crate::opening::Ports;
 use bp_core::{Core, Entry, Refused, Row};
 use bp_device::{OpenFault, Port, drive_all};
 use bp_lruk::Settings;
-use bp_page::{Format, Geometry, PortFault, Refusal};
+use bp_page::{Geometry, PortFault, Refusal};
 use bp_trace::{read_script, report, report_rows};
-use bp_words::{Ending, Order, RunWords, TraceSource, decide};
+use bp_words::{Ending, Order, RunWords, Task, TraceSource, decide};
 use std::alloc::Global;
 use std::fs;
 use std::io::{Read, Write};
@@ -201,7 +202,7 @@ fn open_ports<R, O: Ports<R>>(
     ensures fault { IfErr result (λ ending. is_help ending ≡ false) }
 {
     let clients = ports_for(run.order);
-    match ports.open(rt, run.page_file, run.page_size, Format::Plain, clients) {
+    match ports.open(rt, run.page_file, run.page_size, run.format, clients) {
         Ok(opened) => Ok(opened),
         Err(fault) => Err(ending_of(fault)),
     }
@@ -267,13 +268,15 @@ fn status_of_run(all_accepted: bool) -> u8
 }
 
 /// Does what the words of the command line say, which leave out the program's name, and gives the status to end with.
-/// No words at all are those of the default run. It looks at the words first, then opens the page file by `ports`, and
-/// then reads the trace: from `reader` where its word is `stdin`, else from the file at that path. In the order `trace` it runs
-/// the rows one after the other; in the order `free` each client is a thread, which runs its own rows.
+/// No words at all are those of the default run. It looks at the words first.
 ///
-/// Status 0: help, or a run whose rows were all accepted. Status 1: a run with refused rows. Their report, and then the
-/// refused rows, are on `out`. Status 2: one line on `err` says why there is no report; nothing is on `out`, but where
-/// the line is `output failed`, which comes after whatever was written.
+/// For a run it then opens the page file by `ports`, and then reads the trace: from `reader` where its word is `stdin`, else from the
+/// file at that path. In the order `trace` it runs the rows one after the other; in the order `free` each client is a thread, which runs
+/// its own rows. For a migration it writes the page file of version 1 anew in version 2, and nothing on `out`.
+///
+/// Status 0: help, a run whose rows were all accepted, or a migration. Status 1: a run with refused rows. Their report, and then the
+/// refused rows, are on `out`. Status 2: one line on `err` says why there is no report or no new page file; nothing is on `out`, but
+/// where the line is `output failed`, which for a run comes after whatever was written.
 pub fn run_with<R: Files + Threads + Wait + Sync, I: Read, O: Ports<R>, W: Write, E: Write>(
     rt: &R,
     alloc: Global,
@@ -284,15 +287,24 @@ pub fn run_with<R: Files + Threads + Wait + Sync, I: Read, O: Ports<R>, W: Write
     err: &mut E,
 ) -> u8
     ensures reported { ¬ AsksForHelp (words_or_default (texts words.entry.now)) → result < 2
-        → RunsWords (words_or_default (texts words.entry.now)) (I.remaining reader.old) result (W.contents out.old) (W.contents out.new) }
+        → DoesWords (words_or_default (texts words.entry.now)) (I.remaining reader.old) result (W.contents out.old) (W.contents out.new) }
     ensures status { result ≤ 2 }
 {
-    let run = match decide(alloc, words) {
-        Ok(run) => run,
-        Err(ending) => return ending.finish(out, err),
+    let done = match decide(alloc, words) {
+        Ok(Task::Run(run)) => match run_told(rt, alloc, &run, reader, ports, out) {
+            Ok(all_accepted) => Ok(status_of_run(all_accepted)),
+            Err(ending) => Err(ending),
+        },
+        Ok(Task::Migrate(migration)) => {
+            match migrate(rt, alloc, &migration, ports.is_watched(), err) {
+                Ok(()) => Ok(0),
+                Err(ending) => Err(ending),
+            }
+        }
+        Err(ending) => Err(ending),
     };
-    match run_told(rt, alloc, &run, reader, ports, out) {
-        Ok(all_accepted) => status_of_run(all_accepted),
+    match done {
+        Ok(status) => status,
         Err(ending) => ending.finish(out, err),
     }
 }

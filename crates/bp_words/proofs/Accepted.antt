@@ -1,5 +1,5 @@
--- Words in which clap finds no fault name a run.
-use Rattle.std.proofs.Common.{◌≡◌, ◌∙◌, ℕ, ◌≤◌, ◌^◌, ◌&&◌, ◌||◌, ◌⊎◌, inl, inr, not, nat_le, nat_lt, if◌then◌else◌, cond, true, false, Bool, codes, ap, ap₂, refl, sym, subst, List, [], ◌∷◌, Option, Some, None, is_some, option_map}
+-- Words in which clap finds no fault name a run or a migration.
+use Rattle.std.proofs.Common.{◌≡◌, ◌∙◌, ℕ, ◌≤◌, ◌^◌, ◌&&◌, ◌||◌, ◌⊎◌, inl, inr, not, nat_le, nat_lt, if◌then◌else◌, cond, true, false, Bool, codes, ap, ap₂, refl, sym, subst, List, [], ◌∷◌, Option, Some, None, IfSome, is_some, option_map}
 use Rattle.std.proofs.lemmas.Slice.Eq.{bytes_eq-Decides}
 use Rattle.std.proofs.lemmas.Bool.{leb-true}
 use Rattle.std.specs.List.{filter, find, list_any}
@@ -20,9 +20,11 @@ use Rattle.clap.specs.declared.error.Error.{Error}
 use Rattle.clap.specs.declared.error.kind.ErrorKind.{ErrorKind}
 use Rattle.clap.specs.declared.error.kind.ErrorKind.TheVariants.{InvalidValue, MissingRequiredArgument}
 use Rattle.clap.proofs.WalkLemmas.{both}
-use Rattle.bp_words.specs.Command.{bpool_app, number_option, positional as positional_rule, run_shape}
+use Rattle.bp_words.specs.Command.{bpool_app, number_option, required_number, positional as positional_rule, run_shape, migrate_shape}
 use Rattle.bp_words.specs.declared.words.Order.{Order}
-use Rattle.bp_words.specs.Words.{IsInLimits, Told, ◌>>=◌, fault_in, number_at, order_at, order_fault, told_by, told_by_rows, told_in, trace_of}
+use Rattle.bp_words.specs.Words.{IsInLimits, Told, ◌>>=◌, fault_in, format_of, number_at, order_at, order_fault, told_by_rows, trace_of}
+use Rattle.bp_words.specs.Asked.{Asked, Migration, HasPageSize, AreInLimits, asked_by, asked_in, migration_by_rows}
+use Rattle.bp_words.specs.Asked.Asked.{a_run, a_migration}
 use Rattle.bp_words.proofs.Entering.{NotHelp, walk_not_help}
 use Rattle.bp_words.proofs.Fits.{AllFit, Fits, IsOf, or_else-nil}
 use Rattle.bp_words.proofs.Level.{IsFilled, has_default, level_filled}
@@ -111,6 +113,10 @@ number_read id low high a rows parses read = record {
 abbrev pub run_built : Shape
 run_built = built_leaf (inherited (on_top with_leaf_noted (on_top marked_built bpool_app)).top run_shape)
 
+-- and the command `migrate`
+abbrev pub migrate_built : Shape
+migrate_built = built_leaf (inherited (on_top with_leaf_noted (on_top marked_built bpool_app)).top migrate_shape)
+
 given_has : (id : Text) (rows : List Row) → is_given id rows ≡ true → has_row id rows ≡ true
 given_has id [] e = cc
 given_has id (r ∷ rows) e = go (bytes_eq r.id id) e (given_has id rows)
@@ -149,7 +155,7 @@ last_bound f (Some x) = refl
 rows_tell : (rows : List Row) → IsFilled run_built rows → Tells rows
 rows_tell rows filled = record {
   told = told_in_order;
-  tells = rw (trace.as_text, pages.as_text, frames.is, k.is, correlated.is, retained.is, size.is) (last_bound told_in_order (order_at rows));
+  tells = rw (trace.as_text, pages.as_text, frames.is, k.is, correlated.is, retained.is, size.is, version.is) (last_bound told_in_order (order_at rows));
   limits = λ order. record {
     some_frames = frames.at_least;
     few_frames = frames.at_most;
@@ -188,6 +194,9 @@ rows_tell rows filled = record {
     size : IsNumber (codes "page-size") 16 65536 rows
     size = option_read (codes "page-size") 16 65536 (codes "64") refl refl
 
+    version : IsNumber (codes "format") 1 2 rows
+    version = option_read (codes "format") 1 2 (codes "1") refl refl
+
     told_in_order : Order → Told
     told_in_order order = record {
       trace = trace_of trace.word;
@@ -197,8 +206,58 @@ rows_tell rows filled = record {
       correlated = correlated.number;
       retained = retained.number;
       size = size.number;
+      format = format_of version.number;
       order = order;
     }
+
+-- ---- the arguments of a migration
+
+abbrev old_rule : Rule
+old_rule = with_index 1 (filled_rule (positional_rule (codes "old")))
+
+abbrev new_rule : Rule
+new_rule = with_index 2 (filled_rule (positional_rule (codes "new")))
+
+abbrev size_rule : Rule
+size_rule = filled_rule (required_number (codes "page-size") 16 65536)
+
+-- the words that a migration needs are there
+record AreGiven (g h k : Bool) : Type 0 where
+  first : g ≡ true
+  second : h ≡ true
+  third : k ≡ true
+
+three_given : (g h k : Bool) → (if not g || (not h || (not k || false)) then MissingRequiredArgument ∷ [] else []) ≡ [] → AreGiven g h k
+three_given true true true e = record { first = refl; second = refl; third = refl }
+three_given true true false e = cc
+three_given true false k e = cc
+three_given false h k e = cc
+
+-- what the rows tell a migration
+record TellsMigration (rows : List Row) : Type 0 where
+  told : Migration
+  tells : migration_by_rows rows ≡ Some told
+  limits : HasPageSize told.size
+
+rows_tell_migration : (rows : List Row) → IsFilled migrate_built rows → TellsMigration rows
+rows_tell_migration rows filled = record {
+  told = record { old = old.word; new = new.word; size = size.number };
+  tells = rw (old.as_text, new.as_text, size.is) refl;
+  limits = record { some_bytes = size.at_least; few_bytes = size.at_most };
+}
+  where
+    given : AreGiven (is_given (codes "old") rows) (is_given (codes "new") rows) (is_given (codes "page-size") rows)
+    given = three_given (is_given (codes "old") rows) (is_given (codes "new") rows) (is_given (codes "page-size") rows) filled.checked
+
+    old : IsRead (codes "old") old_rule rows
+    old = argument_read (codes "old") migrate_built.rules old_rule rows refl filled.fits (given_has (codes "old") rows given.first)
+
+    new : IsRead (codes "new") new_rule rows
+    new = argument_read (codes "new") migrate_built.rules new_rule rows refl filled.fits (given_has (codes "new") rows given.second)
+
+    size : IsNumber (codes "page-size") 16 65536 rows
+    size = number_read (codes "page-size") 16 65536 size_rule rows refl
+        (argument_read (codes "page-size") migrate_built.rules size_rule rows refl filled.fits (given_has (codes "page-size") rows given.third))
 
 -- ---- the words
 
@@ -206,15 +265,17 @@ entered_one : (rows : List Row) (entered : Bool) → check_fault (built bpool_ap
 entered_one rows true e = refl
 entered_one rows false e = cc
 
--- the subcommand that was met is `run`, and its words have no fault
-record IsRun (stop : Option (Text × List Text)) : Type 0 where
+-- the subcommand that was met is the one with this shape, and its words have no fault
+record IsMet (shape : Shape) (stop : Option (Text × List Text)) : Type 0 where
   words : List Text
-  met : entered (built bpool_app) stop ≡ Some (rows_at run_built words)
-  fault : level_fault run_built [] nothing_held words false [] ≡ []
+  met : entered (built bpool_app) stop ≡ Some (rows_at shape words)
+  fault : level_fault shape [] nothing_held words false [] ≡ []
 
-run_entered : (stop : Option (Text × List Text)) → NotHelp stop → is_some (entered (built bpool_app) stop) ≡ true → entered_fault (built bpool_app) stop ≡ [] → IsRun stop
-run_entered None other e fault = cc
-run_entered (Some p) other e fault = go (answers_to p.0 (codes "run", [])) (answers_to p.0 (codes "help", [])) refl (not_help (bytes_eq (codes "help") p.0) refl) e fault
+command_entered : (stop : Option (Text × List Text)) → NotHelp stop → is_some (entered (built bpool_app) stop) ≡ true → entered_fault (built bpool_app) stop ≡ []
+    → IsMet run_built stop ⊎ IsMet migrate_built stop
+command_entered None other e fault = cc
+command_entered (Some p) other e fault =
+    go (answers_to p.0 (codes "run", [])) (answers_to p.0 (codes "migrate", [])) (answers_to p.0 (codes "help", [])) refl refl (not_help (bytes_eq (codes "help") p.0) refl) e fault
   where
     not_help : (b : Bool) → bytes_eq (codes "help") p.0 ≡ b → b || false ≡ false
     not_help true e =
@@ -226,28 +287,60 @@ run_entered (Some p) other e fault = go (answers_to p.0 (codes "run", [])) (answ
     help_built : Shape
     help_built = built_leaf help_shape
 
-    go : (run help : Bool) → answers_to p.0 (codes "run", []) ≡ run → help ≡ false
-        → is_some (option_map (λ s. rows_at s p.1) (cond run (Some run_built) (cond help (Some help_built) None))) ≡ true
-        → option_map_or (λ s. level_fault s [] nothing_held p.1 false []) (cond run (Some run_built) (cond help (Some help_built) None)) [] ≡ []
-        → IsRun (Some p)
-    go true help is other e fault = record { words = p.1; met = rw is refl; fault = fault }
-    go false true is other e fault = cc
-    go false false is other e fault = cc
+    shape_met : Bool → Bool → Bool → Option Shape
+    shape_met run migrate help = cond run (Some run_built) (cond migrate (Some migrate_built) (cond help (Some help_built) None))
 
--- what words in which clap finds no fault tell a run in the order that they name, if they name one
+    go : (run migrate help : Bool) → answers_to p.0 (codes "run", []) ≡ run → answers_to p.0 (codes "migrate", []) ≡ migrate → help ≡ false
+        → is_some (option_map (λ s. rows_at s p.1) (shape_met run migrate help)) ≡ true
+        → option_map_or (λ s. level_fault s [] nothing_held p.1 false []) (shape_met run migrate help) [] ≡ []
+        → IsMet run_built (Some p) ⊎ IsMet migrate_built (Some p)
+    go true migrate help is as_m other e fault = inl (record { words = p.1; met = rw is refl; fault = fault })
+    go false true help is as_m other e fault = inr (record { words = p.1; met = rw (is, as_m) refl; fault = fault })
+    go false false true is as_m other e fault = cc
+    go false false false is as_m other e fault = cc
+
+-- what words in which clap finds no fault ask for, if they name an order where they are those of a run
 record IsAccepted (words : List Text) : Type 0 where
-  order : Option Order
-  told : Order → Told
-  tells : told_in (subcommand_of bpool_app words) ≡ option_map told order
-  limits : (o : Order) → IsInLimits (told o)
-  fault : order_fault (subcommand_of bpool_app words) ≡ (if is_some order then [] else InvalidValue ∷ [])
+  asked : Option Asked
+  asks : asked_in (subcommand_of bpool_app words) ≡ asked
+  limits : IfSome asked AreInLimits
+  fault : order_fault (subcommand_of bpool_app words) ≡ (if is_some asked then [] else InvalidValue ∷ [])
 
-run_tells : (words : List Text) (run : IsRun (stop_after (built bpool_app).top.rules (names_of (built bpool_app)) words))
+run_tells : (words : List Text) (run : IsMet run_built (stop_after (built bpool_app).top.rules (names_of (built bpool_app)) words))
     → Tells (finished run_built.rules (walk run_built.rules [] nothing_held run.words).held) → IsAccepted words
-run_tells words run told =
-    let met : told_in (subcommand_of bpool_app words) ≡ told_in (Some (rows_at run_built run.words)) = ap told_in run.met in
-    let named : order_fault (subcommand_of bpool_app words) ≡ order_fault (Some (rows_at run_built run.words)) = ap order_fault run.met in
-    record { order = order_at (finished run_built.rules (walk run_built.rules [] nothing_held run.words).held); told = told.told; tells = met ∙ told.tells; limits = told.limits; fault = named }
+run_tells words run told = go (order_at rows) refl
+  where
+    rows : List Row
+    rows = finished run_built.rules (walk run_built.rules [] nothing_held run.words).held
+
+    met : asked_in (subcommand_of bpool_app words) ≡ asked_in (Some (rows_at run_built run.words))
+    met = ap asked_in run.met
+
+    named : order_fault (subcommand_of bpool_app words) ≡ order_fault (Some (rows_at run_built run.words))
+    named = ap order_fault run.met
+
+    go : (order : Option Order) → order_at rows ≡ order → IsAccepted words
+    go (Some order) is = record {
+      asked = Some (a_run (told.told order));
+      asks = met ∙ ap (λ (o : Option Told). option_map a_run o) (told.tells ∙ ap (λ (o : Option Order). option_map told.told o) is);
+      limits = told.limits order;
+      fault = named ∙ ap (λ (o : Option Order). if is_some o then [] else InvalidValue ∷ []) is;
+    }
+    go None is = record {
+      asked = None;
+      asks = met ∙ ap (λ (o : Option Told). option_map a_run o) (told.tells ∙ ap (λ (o : Option Order). option_map told.told o) is);
+      limits = tt;
+      fault = named ∙ ap (λ (o : Option Order). if is_some o then [] else InvalidValue ∷ []) is;
+    }
+
+migration_tells : (words : List Text) (migrate : IsMet migrate_built (stop_after (built bpool_app).top.rules (names_of (built bpool_app)) words))
+    → TellsMigration (finished migrate_built.rules (walk migrate_built.rules [] nothing_held migrate.words).held) → IsAccepted words
+migration_tells words migrate told = record {
+  asked = Some (a_migration told.told);
+  asks = ap asked_in migrate.met ∙ ap (λ (o : Option Migration). option_map a_migration o) told.tells;
+  limits = told.limits;
+  fault = ap order_fault migrate.met;
+}
 
 -- words in which clap finds no fault
 accepted : (words : List Text) → fault_of bpool_app words ≡ [] → IsAccepted words
@@ -261,24 +354,28 @@ accepted words fault =
     let below = or_else-nil (entered_fault (built bpool_app) stop) _ walked.1 in
     let settles = or_else-nil (settle_fault top.rules top.args_override_self end) _ below.1 in
     let filled = or_else-nil (defaults_fault (settled top.rules end).rows top.rules) (check_fault top (finished top.rules end) has) settles.1 in
-    let run = run_entered stop (walk_not_help top names (walk_from nothing_held) words refl walked.0 tt) (entered_one (finished top.rules end) has filled.1) below.0 in
-    run_tells words run (rows_tell _ (level_filled run_built run.words refl run.fault))
+    by_command words (command_entered stop (walk_not_help top names (walk_from nothing_held) words refl walked.0 tt) (entered_one (finished top.rules end) has filled.1) below.0)
+  where
+    by_command : (words : List Text) → IsMet run_built (stop_after (built bpool_app).top.rules (names_of (built bpool_app)) words) ⊎ IsMet migrate_built (stop_after (built bpool_app).top.rules (names_of (built bpool_app)) words)
+        → IsAccepted words
+    by_command words (inl run) = run_tells words run (rows_tell _ (level_filled run_built run.words refl run.fault))
+    by_command words (inr migrate) = migration_tells words migrate (rows_tell_migration _ (level_filled migrate_built migrate.words refl migrate.fault))
 
--- what the matches of such words tell, where they name an order
+-- what the matches of such words ask for, where a run names an order
 pub record IsTold (words : List Text) (m : ArgMatches) : Type 0 where
-  pub told : Told
-  pub by_matches : told_in (subcommand_rows_of m) ≡ Some told
-  pub by_words : told_by words ≡ Some told
-  pub limits : IsInLimits told
+  pub asked : Asked
+  pub by_matches : asked_in (subcommand_rows_of m) ≡ Some asked
+  pub by_words : asked_by words ≡ Some asked
+  pub limits : AreInLimits asked
   pub fault : fault_in words ≡ []
 
--- and where they name none
+-- and where it names none
 pub record IsUntold (words : List Text) (m : ArgMatches) : Type 0 where
-  pub by_matches : told_in (subcommand_rows_of m) ≡ None
+  pub by_matches : asked_in (subcommand_rows_of m) ≡ None
   pub fault : fault_in words ≡ InvalidValue ∷ []
 
 pub matches_told : (app : App) (words : List Text) (m : ArgMatches) → app ≡ bpool_app → HasMatchesOf app words m → fault_of app words ≡ [] → IsTold words m ⊎ IsUntold words m
-matches_told app words m same matches fault = go found.order found.tells found.fault
+matches_told app words m same matches fault = go found.asked found.asks found.limits found.fault
   where
     none : fault_of bpool_app words ≡ []
     none = ap (λ (a : App). fault_of a words) (sym same) ∙ fault
@@ -289,30 +386,30 @@ matches_told app words m same matches fault = go found.order found.tells found.f
     met : subcommand_rows_of m ≡ subcommand_of bpool_app words
     met = (matches (ap is_simple same)).1 ∙ ap (λ (a : App). subcommand_of a words) same
 
-    go : (order : Option Order) → told_in (subcommand_of bpool_app words) ≡ option_map found.told order
-        → order_fault (subcommand_of bpool_app words) ≡ (if is_some order then [] else InvalidValue ∷ []) → IsTold words m ⊎ IsUntold words m
-    go (Some order) tells names =
+    go : (asked : Option Asked) → asked_in (subcommand_of bpool_app words) ≡ asked → IfSome asked AreInLimits
+        → order_fault (subcommand_of bpool_app words) ≡ (if is_some asked then [] else InvalidValue ∷ []) → IsTold words m ⊎ IsUntold words m
+    go (Some asked) asks limits names =
         let no_fault : fault_in words ≡ [] = ap₂ or_else none names in
         inl (record {
-          told = found.told order;
-          by_matches = ap told_in met ∙ tells;
-          by_words = ap (λ (kinds : Kinds). if is_empty kinds then told_in (subcommand_of bpool_app words) else None) no_fault ∙ tells;
-          limits = found.limits order;
+          asked = asked;
+          by_matches = ap asked_in met ∙ asks;
+          by_words = ap (λ (kinds : Kinds). if is_empty kinds then asked_in (subcommand_of bpool_app words) else None) no_fault ∙ asks;
+          limits = limits;
           fault = no_fault;
         })
-    go None tells names = inr (record { by_matches = ap told_in met ∙ tells; fault = ap₂ or_else none names })
+    go None asks limits names = inr (record { by_matches = ap asked_in met ∙ asks; fault = ap₂ or_else none names })
 
--- a run that is told is that of the words
-pub run_is : {X : Type 0} (told_as : X → Told) (x : X) (words : List Text) (m : ArgMatches) → IsTold words m ⊎ IsUntold words m → Some (told_as x) ≡ told_in (subcommand_rows_of m)
-    → (told_by words ≡ Some (told_as x)) × IsInLimits (told_as x) × (fault_in words ≡ [])
-run_is told_as x words m (inl told) is =
-    let same : told.told ≡ told_as x = (let both : Some (told_as x) ≡ Some told.told = is ∙ told.by_matches in cc) in
-    (told.by_words ∙ ap Some same, subst IsInLimits same told.limits, told.fault)
-run_is told_as x words m (inr untold) is = let bad : Some (told_as x) ≡ None = is ∙ untold.by_matches in cc
+-- what is asked for is what the words ask for
+pub task_is : {X : Type 0} (asked_as : X → Asked) (x : X) (words : List Text) (m : ArgMatches) → IsTold words m ⊎ IsUntold words m → Some (asked_as x) ≡ asked_in (subcommand_rows_of m)
+    → (asked_by words ≡ Some (asked_as x)) × AreInLimits (asked_as x) × (fault_in words ≡ [])
+task_is asked_as x words m (inl told) is =
+    let same : told.asked ≡ asked_as x = (let both : Some (asked_as x) ≡ Some told.asked = is ∙ told.by_matches in cc) in
+    (told.by_words ∙ ap Some same, subst AreInLimits same told.limits, told.fault)
+task_is asked_as x words m (inr untold) is = let bad : Some (asked_as x) ≡ None = is ∙ untold.by_matches in cc
 
--- where none is told the order is at fault
-pub no_order_is : (words : List Text) (m : ArgMatches) (e : Error) → IsTold words m ⊎ IsUntold words m → None ≡ told_in (subcommand_rows_of m) → kind_of e ≡ InvalidValue → HasKind (fault_in words) e
-no_order_is words m e (inl told) is kind = let bad : None ≡ Some told.told = is ∙ told.by_matches in cc
+-- where nothing is asked for the order is at fault
+pub no_order_is : (words : List Text) (m : ArgMatches) (e : Error) → IsTold words m ⊎ IsUntold words m → None ≡ asked_in (subcommand_rows_of m) → kind_of e ≡ InvalidValue → HasKind (fault_in words) e
+no_order_is words m e (inl told) is kind = let bad : None ≡ Some told.asked = is ∙ told.by_matches in cc
 no_order_is words m e (inr untold) is kind = inr (subst (IsAmong (kind_of e)) (sym untold.fault) (inl kind))
 
 among_either : (kind : ErrorKind) (first next : Kinds) → IsAmong kind first → IsAmong kind (or_else first next)

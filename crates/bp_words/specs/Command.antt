@@ -13,6 +13,10 @@ abbrev pub number_option : Text → ℕ → ℕ → Text → Rule
 number_option id low high default =
     record (new_rule id) { long = Some id; value_names = 1; parser = Some (parser.Unsigned low high); defaults = default ∷ [] }
 
+-- an option that must be there, and takes a whole number from low to high
+abbrev pub required_number : Text → ℕ → ℕ → Rule
+required_number id low high = record (new_rule id) { long = Some id; value_names = 1; required = true; parser = Some (parser.Unsigned low high) }
+
 -- an option that takes any word
 abbrev pub word_option : Text → Text → Rule
 word_option id default = record (new_rule id) { long = Some id; value_names = 1; defaults = default ∷ [] }
@@ -26,11 +30,18 @@ run_rules =
     ∷ number_option (codes "correlated") 0 4611686018427387904 (codes "0")
     ∷ number_option (codes "retained") 0 4611686018427387904 (codes "1000")
     ∷ number_option (codes "page-size") 16 65536 (codes "64")
+    ∷ number_option (codes "format") 1 2 (codes "1")
     ∷ word_option (codes "order") (codes "trace")
     ∷ []
 
 abbrev pub run_shape : Shape
 run_shape = record (new_shape (codes "run")) { rules = run_rules }
+
+abbrev pub migrate_rules : List Rule
+migrate_rules = positional (codes "old") ∷ positional (codes "new") ∷ required_number (codes "page-size") 16 65536 ∷ []
+
+abbrev pub migrate_shape : Shape
+migrate_shape = record (new_shape (codes "migrate")) { rules = migrate_rules }
 
 -- the words leave out the program's name, and one of them must be a command
 abbrev pub program_app : App
@@ -38,6 +49,6 @@ program_app =
     let plain = new_app (codes "bpool") in
     record plain { top = record plain.top { no_binary_name = true; subcommand_required = true } }
 
--- the program with its one command
+-- the program with its commands
 abbrev pub bpool_app : App
-bpool_app = with_subcommand program_app run_shape
+bpool_app = with_subcommand (with_subcommand program_app run_shape) migrate_shape

@@ -1,12 +1,14 @@
 -- What the words of a command line decide.
-use Rattle.std.specs.Prelude.{◌≡◌, ◌≢◌, ◌%◌, List, Result, Ok, Err, Some}
+use Rattle.std.specs.Prelude.{◌≡◌, ◌≢◌, ℕ, ◌%◌, List, Result, Ok, Err, Some}
 use Rattle.clap.specs.Kinds.{IsAmong}
 use Rattle.clap.specs.Words.{Text}
 use Rattle.clap.specs.declared.error.kind.ErrorKind.{ErrorKind}
 use Rattle.clap.specs.declared.error.kind.ErrorKind.TheVariants.{DisplayHelp, OutOfMemory as no_memory}
 use Rattle.bp_page.specs.declared.refusals.Refusal.TheVariants.{BadGeometry, OutOfMemory}
-use Rattle.bp_words.specs.Words.{Told, IsInLimits, fault_in, told_by, told_of}
-use Rattle.bp_words.specs.declared.words.RunWords.{RunWords}
+use Rattle.bp_words.specs.Words.{Told, IsInLimits, fault_in}
+use Rattle.bp_words.specs.Asked.{Migration, Asked, HasPageSize, asked_by, asked_of}
+use Rattle.bp_words.specs.Asked.Asked.{a_run, a_migration}
+use Rattle.bp_words.specs.declared.words.Task.{Task}
 use Rattle.bp_words.specs.declared.ending.Ending.{Ending}
 use Rattle.bp_words.specs.declared.ending.Ending.TheVariants as ending
 
@@ -14,6 +16,19 @@ use Rattle.bp_words.specs.declared.ending.Ending.TheVariants as ending
 pub record IsRunnable (told : Told) : Type 0 where
   pub limits : IsInLimits told
   pub in_sixteens : told.size % 16 ≡ 0
+
+-- and a migration with what it is told
+pub record IsMigratable (m : Migration) : Type 0 where
+  pub limits : HasPageSize m.size
+  pub in_sixteens : m.size % 16 ≡ 0
+
+abbrev pub CanBegin : Asked → Type 0
+CanBegin (a_run told) = IsRunnable told
+CanBegin (a_migration m) = IsMigratable m
+
+abbrev pub size_asked : Asked → ℕ
+size_asked (a_run told) = told.size
+size_asked (a_migration m) = m.size
 
 -- the words ask for help, or have another fault
 abbrev pub AsksForHelp : List Text → Type 0
@@ -31,11 +46,11 @@ IsRefusal kind _ = ⊥
 
 -- the words name a page size that no page file has
 abbrev pub NamesNoPages : List Text → Type 0
-NamesNoPages words = (told : Told) × (told_by words ≡ Some told) × (told.size % 16 ≢ 0)
+NamesNoPages words = (asked : Asked) × (asked_by words ≡ Some asked) × (size_asked asked % 16 ≢ 0)
 
 -- the words decide on the result, but for want of memory
-abbrev pub IsDecision : List Text → Result RunWords Ending → Type 0
-IsDecision words (Ok run) = (told_by words ≡ Some (told_of run)) × IsRunnable (told_of run)
+abbrev pub IsDecision : List Text → Result Task Ending → Type 0
+IsDecision words (Ok task) = (asked_by words ≡ Some (asked_of task)) × CanBegin (asked_of task)
 IsDecision words (Err (ending.Help text)) = AsksForHelp words
 IsDecision words (Err (ending.CommandLine line)) = HasFault words
 IsDecision words (Err (ending.PageFileRefused refusal)) = (refusal ≡ BadGeometry) × NamesNoPages words

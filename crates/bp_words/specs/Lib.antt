@@ -1,6 +1,7 @@
 -- What the words of a command line name, and what is said where they make no run.
 pub mod Command
 pub mod Words
+pub mod Asked
 pub mod Line
 pub mod Ending
 pub mod Decision

@@ -1,8 +1,7 @@
 -- What the words of a command line name, in clap's own words.
-use Rattle.std.specs.Prelude.{ℕ, ◌^◌, ◌&&◌, ◌≤◌, nat_lt, if◌then◌else◌, List, [], ◌∷◌, codes, Option, Some, None, is_some}
+use Rattle.std.specs.Prelude.{ℕ, ◌^◌, ◌&&◌, ◌||◌, ◌==◌, not, ◌≤◌, nat_lt, if◌then◌else◌, List, [], ◌∷◌, codes, Option, Some, None, is_some}
 use Rattle.std.specs.Str.{bytes_eq}
 use Rattle.std.specs.Str.Parse.{digits_value, without_leading_plus}
-use Rattle.clap.specs.Walk.{is_empty}
 use Rattle.clap.specs.ValueTests.{is_numeral}
 use Rattle.clap.specs.Kinds.{or_else}
 use Rattle.clap.specs.Words.{Kinds, Row, Text, fault_of, first_of, one_of, subcommand_of}
@@ -14,6 +13,8 @@ use Rattle.bp_words.specs.declared.words.Order.TheVariants as order
 use Rattle.bp_words.specs.declared.words.TraceSource.{TraceSource}
 use Rattle.bp_words.specs.declared.words.TraceSource.TheVariants as trace_source
 use Rattle.bp_words.specs.declared.words.RunWords.{RunWords}
+use Rattle.bp_page.specs.declared.slots.Format.{Format}
+use Rattle.bp_page.specs.declared.slots.Format.TheVariants as format
 
 -- where a run reads its trace
 pub data TraceAt : Type 0 where
@@ -29,6 +30,7 @@ pub record Told : Type 0 where
   pub correlated : ℕ
   pub retained : ℕ
   pub size : ℕ
+  pub format : Format
   pub order : Order
 
 -- ---- one word
@@ -39,6 +41,10 @@ trace_of word = if bytes_eq word (codes "stdin") then from_stdin else at_path wo
 -- the order that a word names
 abbrev pub order_of : Text → Option Order
 order_of word = if bytes_eq word (codes "trace") then Some order.Trace else if bytes_eq word (codes "free") then Some order.Free else None
+
+-- the version with this number, of 1 and 2
+abbrev pub format_of : ℕ → Format
+format_of number = if number == 2 then format.Headed else format.Plain
 
 -- the number that `u64` reads from a text: digits, where a plus may stand before them
 abbrev pub unsigned_of : Text → Option ℕ
@@ -71,26 +77,18 @@ told_by_rows rows = do
   correlated ← number_at (codes "correlated") rows
   retained ← number_at (codes "retained") rows
   size ← number_at (codes "page-size") rows
+  version ← number_at (codes "format") rows
   order ← order_at rows
-  Some (record { trace = trace_of trace; page_file = page_file; frames = frames; k = k; correlated = correlated; retained = retained; size = size; order = order })
-
--- what the subcommand that was met is told, where it is `run`
-abbrev pub told_in : Option (Text × List Row) → Option Told
-told_in None = None
-told_in (Some met) = if bytes_eq met.0 (codes "run") then told_by_rows met.1 else None
+  Some (record { trace = trace_of trace; page_file = page_file; frames = frames; k = k; correlated = correlated; retained = retained; size = size; format = format_of version; order = order })
 
 -- a run's own rows name no order
 abbrev pub order_fault : Option (Text × List Row) → Kinds
 order_fault None = []
-order_fault (Some met) = if is_some (order_at met.1) then [] else InvalidValue ∷ []
+order_fault (Some met) = if not (bytes_eq met.0 (codes "run")) || is_some (order_at met.1) then [] else InvalidValue ∷ []
 
 -- the first fault of the words: clap's, and else that of an option whose word is no order
 abbrev pub fault_in : List Text → Kinds
 fault_in words = or_else (fault_of bpool_app words) (order_fault (subcommand_of bpool_app words))
-
--- what the words tell a run, where they have no fault
-abbrev pub told_by : List Text → Option Told
-told_by words = if is_empty (fault_in words) then told_in (subcommand_of bpool_app words) else None
 
 -- the numbers are in the limits of the options
 pub record IsInLimits (told : Told) : Type 0 where
@@ -115,4 +113,4 @@ trace_told trace_source.Stdin = from_stdin
 trace_told (trace_source.Path path) = at_path path.now
 
 abbrev pub told_of : RunWords → Told
-told_of w = record { trace = trace_told w.trace; page_file = w.page_file.now; frames = w.frames; k = w.k; correlated = w.correlated; retained = w.retained; size = w.page_size; order = w.order }
+told_of w = record { trace = trace_told w.trace; page_file = w.page_file.now; frames = w.frames; k = w.k; correlated = w.correlated; retained = w.retained; size = w.page_size; format = w.format; order = w.order }

@@ -12,4 +12,4 @@ mod words;
 pub use decision::decide;
 pub use ending::Ending;
 pub use line::Line;
-pub use words::{Order, RunWords, TraceSource};
+pub use words::{MigrationWords, Order, RunWords, Task, TraceSource};

@@ -3,10 +3,13 @@ ghost use Rattle.std.specs.Prelude.{◌≡◌, option_map, Some, IfOk};
 ghost use Rattle.clap.specs.Walk.{texts};
 ghost use Rattle.clap.specs.Values.{kind_of};
 ghost use Rattle.clap.specs.Words.{first_of, found_of, rows_of, subcommand_rows_of, FailsBy};
-ghost use Rattle.bp_words.specs.Words.{IsInLimits, fault_in, number_at, order_at, order_of, told_by, told_by_rows, told_in, told_of};
+ghost use Rattle.bp_words.specs.Words.{fault_in, format_of, number_at, order_at, order_of, told_by_rows, told_of};
 ghost use Rattle.bp_words.specs.Words as spec;
+ghost use Rattle.bp_words.specs.Asked.{AreInLimits, asked_by, asked_in, asked_of, migration_by_rows, migration_of};
+ghost use Rattle.bp_words.specs.Decision.{size_asked};
 
 use crate::command::bpool_command;
+use bp_page::Format;
 use clap::error::ErrorKind;
 use clap::{ArgMatches, Error};
 use std::alloc::{AllocError, Global};
@@ -45,7 +48,39 @@ pub struct RunWords<'a> {
     pub retained: u64,
     /// How many bytes a page has.
     pub page_size: usize,
+    /// How pages stand in a page file at a path.
+    pub format: Format,
     pub order: Order,
+}
+
+/// What the words of a migration name.
+#[derive(Clone, Copy, Debug, PartialEq, Eq)]
+pub struct MigrationWords<'a> {
+    /// The path of the page file of version 1.
+    pub old: &'a str,
+    /// The path of the page file of version 2 that is made of it.
+    pub new: &'a str,
+    /// How many bytes a page has.
+    pub page_size: usize,
+}
+
+/// What the words of a command line ask for.
+#[derive(Clone, Copy, Debug, PartialEq, Eq)]
+pub enum Task<'a> {
+    Run(RunWords<'a>),
+    Migrate(MigrationWords<'a>),
+}
+
+impl Task<'_> {
+    /// How many bytes a page has.
+    pub fn page_size(&self) -> usize
+        ensures { result ≡ size_asked (asked_of self.now) }
+    {
+        match self {
+            Task::Run(run) => run.page_size,
+            Task::Migrate(migration) => migration.page_size,
+        }
+    }
 }
 
 fn trace_source<'a>(word: &'a str) -> TraceSource<'a>
@@ -65,6 +100,17 @@ fn order_of(word: &str) -> Option<Order>
         "trace" => Some(Order::Trace),
         "free" => Some(Order::Free),
         _ => None,
+    }
+}
+
+/// The version of page files with this number, of 1 and 2.
+fn format_of(number: usize) -> Format
+    ensures { result ≡ format_of number }
+{
+    if number == 2 {
+        Format::Headed
+    } else {
+        Format::Plain
     }
 }
 
@@ -108,6 +154,7 @@ fn run_words<'a>(matches: &ArgMatches<'a>) -> Option<RunWords<'a>>
     let correlated = period_at(matches, "correlated")?;
     let retained = period_at(matches, "retained")?;
     let page_size = count_at(matches, "page-size")?;
+    let version = count_at(matches, "format")?;
     let order = order_at(matches)?;
     Some(RunWords {
         trace: trace_source(trace),
@@ -117,16 +164,36 @@ fn run_words<'a>(matches: &ArgMatches<'a>) -> Option<RunWords<'a>>
         correlated,
         retained,
         page_size,
+        format: format_of(version),
         order,
     })
 }
 
-/// What the matches of the program name, where they are those of a run.
-fn words_in<'a>(matches: &ArgMatches<'a>) -> Option<RunWords<'a>>
-    ensures { option_map told_of result ≡ told_in (subcommand_rows_of matches.now) }
+/// What the matches of a migration name.
+fn migration_words<'a>(matches: &ArgMatches<'a>) -> Option<MigrationWords<'a>>
+    ensures { option_map migration_of result ≡ migration_by_rows (rows_of (found_of matches.now)) }
 {
-    let run = matches.subcommand_matches("run")?;
-    run_words(run)
+    let old = word_at(matches, "old")?;
+    let new = word_at(matches, "new")?;
+    let page_size = count_at(matches, "page-size")?;
+    Some(MigrationWords {
+        old,
+        new,
+        page_size,
+    })
+}
+
+/// What the matches of the program ask for.
+fn task_in<'a>(matches: &ArgMatches<'a>) -> Option<Task<'a>>
+    ensures { option_map asked_of result ≡ asked_in (subcommand_rows_of matches.now) }
+{
+    if let Some(run) = matches.subcommand_matches("run") {
+        let words = run_words(run)?;
+        return Some(Task::Run(words));
+    }
+    let migration = matches.subcommand_matches("migrate")?;
+    let words = migration_words(migration)?;
+    Some(Task::Migrate(words))
 }
 
 /// The fault of words that name no order.
@@ -147,9 +214,9 @@ fn no_order(alloc: Global, matches: &ArgMatches<'_>) -> Result<Error, AllocError
 /// Reads the words of a command line, which leave out the program's name.
 ///
 /// An `Err` is by the kind of the words' first fault: a mistake, a call for help, or want of memory.
-pub fn read_words<'a>(alloc: Global, words: &'a [&'a str]) -> Result<RunWords<'a>, Error>
-    ensures told { IfOk result (λ run. told_by (texts words.now) ≡ Some (told_of run)) }
-    ensures limits { IfOk result (λ run. IsInLimits (told_of run)) }
+pub fn read_words<'a>(alloc: Global, words: &'a [&'a str]) -> Result<Task<'a>, Error>
+    ensures told { IfOk result (λ task. asked_by (texts words.now) ≡ Some (asked_of task)) }
+    ensures limits { IfOk result (λ task. AreInLimits (asked_of task)) }
     ensures faults { FailsBy (fault_in (texts words.now)) result }
 {
     let command = bpool_command(alloc)?;
@@ -157,8 +224,8 @@ pub fn read_words<'a>(alloc: Global, words: &'a [&'a str]) -> Result<RunWords<'a
         Ok(matches) => matches,
         Err(error) => return Err(error),
     };
-    match words_in(&matches) {
-        Some(run) => Ok(run),
+    match task_in(&matches) {
+        Some(task) => Ok(task),
         None => Err(no_order(alloc, &matches)?),
     }
 }

@@ -1,11 +1,11 @@
-//! Runs a trace over a buffer pool and reports what the pool did.
+//! Runs a trace over a buffer pool and reports what the pool did, or writes a page file anew in its second version.
 #![tactic(auto)]
 
 use bp_page::Refusal;
 use bp_run::{PageFiles, run_with};
 use bp_words::Ending;
 use std::fs::File;
-use std::io::{BufWriter, ErrorKind, Write};
+use std::io::{BufWriter, ErrorKind, IsTerminal, Write};
 use std::marker::Sync;
 use std::process::ExitCode;
 use std::rt::{Env, Files};
@@ -28,10 +28,12 @@ fn words_given<R: AllocGlobal + Env>(rt: &R) -> Result<Vec<String>, Ending> {
         .map_err(|_| Ending::RunRefused(Refusal::OutOfMemory))
 }
 
-/// Does what the words say, over standard input and output, and gives the status to end with.
+/// Does what the words say, over standard input and output, and gives the status to end with. Where somebody watches, how far a
+/// migration has come is shown on `err`.
 fn run_words<R: AllocGlobal + Files<File = File> + Input + Print + Threads + Wait + Sync, E: Write>(
     rt: &R,
     given: &[String],
+    is_watched: bool,
     err: &mut E,
 ) -> Result<u8, Ending> {
     let alloc = rt.alloc();
@@ -44,7 +46,7 @@ fn run_words<R: AllocGlobal + Files<File = File> + Input + Print + Threads + Wai
     let Ok(mut out) = BufWriter::new(alloc, io::writer(rt)) else {
         return Err(Ending::RunRefused(Refusal::OutOfMemory));
     };
-    let mut ports = PageFiles::new(alloc);
+    let mut ports = PageFiles::new(alloc).watched(is_watched);
     let status = run_with(
         rt,
         alloc,
@@ -59,8 +61,9 @@ fn run_words<R: AllocGlobal + Files<File = File> + Input + Print + Threads + Wai
 
 fn main(rt: HostRuntime) -> ExitCode {
     let mut err = rt.stderr();
+    let is_watched = err.is_terminal();
     let run = match words_given(&rt) {
-        Ok(given) => run_words(&rt, &given, &mut err),
+        Ok(given) => run_words(&rt, &given, is_watched, &mut err),
         Err(ending) => Err(ending),
     };
     let status = match run {

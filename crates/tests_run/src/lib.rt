@@ -2,4 +2,6 @@
 #![tactic(auto)]
 
 #[cfg(test)]
+mod migrations;
+#[cfg(test)]
 mod run;

@@ -51,7 +51,7 @@ fn text_of(rt: &impl Abort, bytes: Vec<u8>) -> String {
 }
 
 /// Asserts the status, the report and what is said of faults.
-fn expect_run(
+pub(crate) fn expect_run(
     rt: &(impl Runtime<A = Global> + Files<File = File> + Threads + Wait + Sync + Abort),
     line: &str,
     trace: &[u8],

@@ -2,4 +2,6 @@
 #![tactic(auto)]
 
 #[cfg(test)]
+mod versions;
+#[cfg(test)]
 mod words;

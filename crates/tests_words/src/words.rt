@@ -1,7 +1,7 @@
 //! What the words of a line decide, and what is said where they make no run.
 use bp_page::Refusal;
 use bp_trace::TraceFault;
-use bp_words::{Ending, Order, TraceSource, decide};
+use bp_words::{Ending, Order, Task, TraceSource, decide};
 use std::process::Abort;
 
 /// What the program says of a line that it does not run.
@@ -13,7 +13,7 @@ fn ending_of(rt: &(impl AllocGlobal + Abort), line: &str) -> Ending {
     }
 }
 
-fn words_of<'a>(rt: &(impl AllocGlobal + Abort), line: &'a str) -> Vec<&'a str> {
+pub(crate) fn words_of<'a>(rt: &(impl AllocGlobal + Abort), line: &'a str) -> Vec<&'a str> {
     line.split_ascii_whitespace()
         .collect(rt.alloc())
         .expect(rt, "the words")
@@ -41,7 +41,7 @@ fn expect_run<R: Abort + AllocGlobal>(
     order: Order,
 ) {
     let words = words_of(rt, line);
-    let Ok(run) = decide(rt.alloc(), words.as_slice()) else {
+    let Ok(Task::Run(run)) = decide(rt.alloc(), words.as_slice()) else {
         panic!(rt; "{line} is refused")
     };
     let got = [
@@ -90,14 +90,14 @@ fn words_that_are_run(rt: HostRuntime) {
         expect_run(&rt, line, page_file, numbers, order);
     }
     let words = ["run", "trace.csv", "pages"];
-    let Ok(run) = decide(rt.alloc(), words.as_slice()) else {
+    let Ok(Task::Run(run)) = decide(rt.alloc(), words.as_slice()) else {
         panic!(rt; "the words are refused")
     };
     assert!(rt; run.trace == TraceSource::Path("trace.csv"));
 }
 
 /// Asserts that each line is a fault of the words, which is said in a line of its own, with where to find help.
-fn expect_faults<R: Abort + AllocGlobal>(rt: &R, rows: &[(&str, &str)]) {
+pub(crate) fn expect_faults<R: Abort + AllocGlobal>(rt: &R, rows: &[(&str, &str)]) {
     for (line, fault) in rows {
         expect_fault(rt, line, fault);
     }
@@ -217,8 +217,9 @@ fn expect_help(rt: &(impl AllocGlobal + Abort), lines: &[&str], parts: &[&str]) 
 fn help_of_the_program(rt: HostRuntime) {
     let parts = [
         "Usage: bpool <COMMAND>\n",
-        "\n  run   Runs a trace over a buffer pool ",
-        "\nbpool run TRACE PAGEFILE [--frames N] [--k N] [--correlated N] [--retained N] [--page-size N] [--order ORDER]\n",
+        "\n  run      Runs a trace over a buffer pool ",
+        "\n  migrate  Writes a page file of version 1 anew in version 2\n",
+        "\nbpool run TRACE PAGEFILE [--frames N] [--k N] [--correlated N] [--retained N] [--page-size N] [--format N] [--order ORDER]\n",
         "\n  TRACE             A path, or stdin for the standard input\n",
         "\n  PAGEFILE          A path, or mem:N for N pages of zero bytes in memory, N from 1 to 1048576\n",
         "\n  --frames N        1 to 65536 [default: 8]\n",
@@ -226,7 +227,11 @@ fn help_of_the_program(rt: HostRuntime) {
         "\n  --correlated N    0 to 2^62 ticks [default: 0]\n",
         "\n  --retained N      0 to 2^62 ticks [default: 1000]\n",
         "\n  --page-size N     16 to 65536 bytes, a multiple of 16 [default: 64]\n",
+        "\n  --format N        1 or 2: version of a page file at a path [default: 1]\n",
         "\n  --order ORDER     trace or free [default: trace]\n",
+        "\nbpool migrate OLD NEW --page-size N\n",
+        "\n  OLD               A path: a page file of version 1\n",
+        "\n  NEW               A path: the page file of version 2 that is made of it\n",
         "\nNo words at all: run stdin mem:16 --frames 2 --k 1\n",
         "\nStatus 0: all rows were accepted, or help was asked for. Status 1: some row was refused. Status 2: ",
     ];
@@ -244,6 +249,7 @@ fn help_of_a_run(rt: HostRuntime) {
         "      --correlated <N>  Correlated reference period in ticks, from 0 to 2^62 [default: 0]\n",
         "      --retained <N>    Retained information period in ticks, from 0 to 2^62 [default: 1000]\n",
         "      --page-size <N>   Bytes of a page, a multiple of 16 from 16 to 65536 [default: 64]\n",
+        "      --format <N>      Version of a page file at a path: 1 for plain pages, 2 for pages with their numbers [default: 1]\n",
         "      --order <ORDER>   Order of the rows: trace for that of the trace, free for one thread for each client [default: trace]\n",
         "Status 0: all rows were accepted. Status 1: some row was refused; ",
     ];

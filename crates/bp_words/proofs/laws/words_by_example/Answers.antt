@@ -26,6 +26,18 @@ pub returns-clause-no_order : goal.returns-clause-no_order
 unfolding clap_on_literals
 returns-clause-no_order c = refl
 
+pub returns-clause-no_version : goal.returns-clause-no_version
+unfolding clap_on_literals
+returns-clause-no_version c = refl
+
+pub returns-clause-migration : goal.returns-clause-migration
+unfolding clap_on_literals
+returns-clause-migration c = refl
+
+pub returns-clause-no_size : goal.returns-clause-no_size
+unfolding clap_on_literals
+returns-clause-no_size c = refl
+
 pub returns-clause-help : goal.returns-clause-help
 unfolding clap_on_literals
 returns-clause-help c = refl

@@ -2,9 +2,9 @@ use Rattle.std.proofs.Common.{◌≡◌, ap}
 use Rattle.clap.specs.Faults.{is_simple_and_free}
 use Rattle.clap.specs.Simple.{app_of}
 use Rattle.clap.specs.Walk.{texts}
-use Rattle.bp_words.proofs.Accepted.{clap_faults, matches_told, no_order_is, run_is}
+use Rattle.bp_words.proofs.Accepted.{clap_faults, matches_told, no_order_is, task_is}
 use Rattle.bp_words.specs.Command.{bpool_app}
-use Rattle.bp_words.specs.Words.{told_of}
+use Rattle.bp_words.specs.Asked.{asked_of}
 use Rattle.bp_words.proofs.words.read_words.Goals as goal
 
 pub returns-in-Err-clause-faults : goal.returns-in-Err-clause-faults
@@ -16,19 +16,19 @@ pub returns-in-Some-clause-told : goal.returns-in-Some-clause-told
 returns-in-Some-clause-told c =
     let app_is : app_of c.in_ok-command.command ≡ bpool_app = c.in_ok-command.ensures in
     let is = matches_told (app_of c.in_ok-command.command) (texts c.args.words.now) c.in-Ok.matches app_is c.in-Ok.ensures.matches (c.in-Ok.ensures.kinds (ap is_simple_and_free app_is)) in
-    (run_is told_of c.in-Some.run' (texts c.args.words.now) c.in-Ok.matches is c.in-Some.ensures).0
+    (task_is asked_of c.in-Some.task (texts c.args.words.now) c.in-Ok.matches is c.in-Some.ensures).0
 
 pub returns-in-Some-clause-limits : goal.returns-in-Some-clause-limits
 returns-in-Some-clause-limits c =
     let app_is : app_of c.in_ok-command.command ≡ bpool_app = c.in_ok-command.ensures in
     let is = matches_told (app_of c.in_ok-command.command) (texts c.args.words.now) c.in-Ok.matches app_is c.in-Ok.ensures.matches (c.in-Ok.ensures.kinds (ap is_simple_and_free app_is)) in
-    (run_is told_of c.in-Some.run' (texts c.args.words.now) c.in-Ok.matches is c.in-Some.ensures).1
+    (task_is asked_of c.in-Some.task (texts c.args.words.now) c.in-Ok.matches is c.in-Some.ensures).1
 
 pub returns-in-Some-clause-faults : goal.returns-in-Some-clause-faults
 returns-in-Some-clause-faults c =
     let app_is : app_of c.in_ok-command.command ≡ bpool_app = c.in_ok-command.ensures in
     let is = matches_told (app_of c.in_ok-command.command) (texts c.args.words.now) c.in-Ok.matches app_is c.in-Ok.ensures.matches (c.in-Ok.ensures.kinds (ap is_simple_and_free app_is)) in
-    (run_is told_of c.in-Some.run' (texts c.args.words.now) c.in-Ok.matches is c.in-Some.ensures).2
+    (task_is asked_of c.in-Some.task (texts c.args.words.now) c.in-Ok.matches is c.in-Some.ensures).2
 
 pub returns-clause-faults : goal.returns-clause-faults
 returns-clause-faults c =

@@ -1,0 +1,156 @@
+//! A page file of version 1 that is written anew in version 2.
+ghost use Rattle.std.specs.Prelude.{◌≡◌, IfErr, false};
+ghost use Rattle.bp_words.specs.Asked.{migration_of};
+ghost use Rattle.bp_words.specs.Decision.{IsMigratable};
+ghost use Rattle.bp_words.specs.Ending.{is_help};
+
+use crate::meter::Meter;
+use bp_device::geometry_of_file;
+use bp_migrate::{MigrateFault, Progress, Untold, migrate_told};
+use bp_page::{Format, Geometry, Refusal};
+use bp_words::{Ending, Line, MigrationWords};
+use std::alloc::Global;
+use std::fs;
+use std::fs::{File, Metadata, OpenFile};
+use std::io::{BufReader, BufWriter, Read, Write};
+use std::os::unix::fs::MetadataExt;
+use std::rt::Files;
+
+/// How the program ends where a migration failed.
+fn ending_of(fault: MigrateFault) -> Ending
+    ensures { is_help result ≡ false }
+{
+    match fault {
+        MigrateFault::Read => Ending::PageFileNotOpened,
+        MigrateFault::Write => Ending::OutputFailed,
+        MigrateFault::Memory => Ending::PageFileRefused(Refusal::OutOfMemory),
+    }
+}
+
+/// What is said where the new page file would be the old one.
+fn same_file(alloc: Global) -> Ending
+    ensures { is_help result ≡ false }
+{
+    match Line::of(alloc, "error: OLD and NEW are one file") {
+        Ok(line) => Ending::CommandLine(line),
+        Err(_) => Ending::RunRefused(Refusal::OutOfMemory),
+    }
+}
+
+/// Whether the file at a path is the one with this metadata. No file is, at a path where none can be looked at.
+fn is_at<R: Files>(rt: &R, metadata: &Metadata, path: &str) -> bool {
+    match fs::metadata(rt, path) {
+        Ok(other) => other.ino() == metadata.ino() && other.dev() == metadata.dev(),
+        Err(_) => false,
+    }
+}
+
+/// Copies the pages, and hands all that was written to the system.
+fn copy_pages<I: Read + Drop, W: Write + Drop, P: Progress>(
+    alloc: Global,
+    old: I,
+    new: W,
+    geometry: &Geometry,
+    progress: &mut P,
+) -> Result<(), Ending>
+    ensures fault { IfErr result (λ ending. is_help ending ≡ false) }
+{
+    let no_memory = Ending::PageFileRefused(Refusal::OutOfMemory);
+    let Ok(mut reader) = BufReader::new(alloc, old) else {
+        return Err(no_memory);
+    };
+    let Ok(mut writer) = BufWriter::new(alloc, new) else {
+        return Err(no_memory);
+    };
+    match migrate_told(alloc, &mut reader, &mut writer, geometry, progress) {
+        Ok(()) => {}
+        Err(fault) => return Err(ending_of(fault)),
+    }
+    match writer.flush() {
+        Ok(()) => Ok(()),
+        Err(_) => Err(Ending::OutputFailed),
+    }
+}
+
+/// Makes a new file at a path of its own, which then takes the name of the new page file. Where that fails no file of these is left.
+fn make_file<R: Files, P: Progress>(
+    rt: &R,
+    alloc: Global,
+    old: R::File,
+    geometry: &Geometry,
+    beside: &str,
+    new: &str,
+    progress: &mut P,
+) -> Result<(), Ending>
+    ensures fault { IfErr result (λ ending. is_help ending ≡ false) }
+{
+    let Ok(file) = File::create_new(rt, beside) else {
+        return Err(Ending::OutputFailed);
+    };
+    let copied = copy_pages(alloc, old, file, geometry, progress);
+    let made = match copied {
+        Ok(()) => fs::rename(rt, beside, new).map_err(|_| Ending::OutputFailed),
+        Err(ending) => Err(ending),
+    };
+    if made.is_err() {
+        let _ = fs::remove_file(rt, beside);
+    }
+    made
+}
+
+/// Opens the old page file to read it, and takes its geometry from its length. It is an error where the new one would be the same file.
+fn open_old<R: Files>(
+    rt: &R,
+    alloc: Global,
+    words: &MigrationWords<'_>,
+) -> Result<(R::File, Geometry), Ending>
+    requires possible { IsMigratable (migration_of words.now) }
+    ensures fault { IfErr result (λ ending. is_help ending ≡ false) }
+{
+    let Ok(file) = fs::open(rt, words.old) else {
+        return Err(Ending::PageFileNotOpened);
+    };
+    let Ok(metadata) = file.metadata() else {
+        return Err(Ending::PageFileNotOpened);
+    };
+    if words.old == words.new || is_at(rt, &metadata, words.new) {
+        return Err(same_file(alloc));
+    }
+    match geometry_of_file(metadata.len(), words.page_size, Format::Plain) {
+        Ok(geometry) => Ok((file, geometry)),
+        Err(refusal) => Err(Ending::PageFileRefused(refusal)),
+    }
+}
+
+/// Writes the page file of version 1 that the words name anew in version 2, each page with its number and LSN 0. The new file is made
+/// beside its path, under its name with `.migrating` after it, and takes that path, and the place of what stood there, once it is whole.
+/// Where somebody watches, the error output shows how far it has come.
+///
+/// An `Err` is how the program ends otherwise. The old file is as it was, and so is what stands at the new path.
+pub(crate) fn migrate<R: Files, E: Write>(
+    rt: &R,
+    alloc: Global,
+    words: &MigrationWords<'_>,
+    is_watched: bool,
+    err: &mut E,
+) -> Result<(), Ending>
+    requires possible { IsMigratable (migration_of words.now) }
+    ensures fault { IfErr result (λ ending. is_help ending ≡ false) }
+{
+    let (old, geometry) = match open_old(rt, alloc, words) {
+        Ok(opened) => opened,
+        Err(ending) => return Err(ending),
+    };
+    let new = words.new;
+    let Ok(beside) = format!(in alloc; "{new}.migrating") else {
+        return Err(Ending::PageFileRefused(Refusal::OutOfMemory));
+    };
+    if is_watched {
+        let mut meter = Meter::new(err);
+        let made = make_file(rt, alloc, old, &geometry, beside.as_str(), new, &mut meter);
+        meter.clear();
+        made
+    } else {
+        make_file(rt, alloc, old, &geometry, beside.as_str(), new, &mut Untold)
+    }
+}

@@ -1,0 +1,211 @@
+//! Page files of version 2: how they are made of those of version 1, and runs over them.
+use super::run::expect_run;
+use bp_migrate::{MigrateFault, migrate_with};
+use bp_page::Geometry;
+use std::alloc::Global;
+use std::fs::File;
+use std::io::{Read, Write};
+use std::marker::Sync;
+use std::process::Abort;
+use std::rt::{Files, Runtime};
+use std::sync::Wait;
+use std::test::*;
+use std::thread::Threads;
+use std::{fs, io};
+
+/// Two pages of 16 bytes: zeros, and bytes 11 in hexadecimal.
+fn two_pages() -> [u8; 32] {
+    let mut pages = [0x11u8; 32];
+    pages[..16].copy_from_slice(&[0u8; 16]);
+    pages
+}
+
+/// The file of version 2 of these pages, with LSN 0.
+fn two_slots() -> [u8; 64] {
+    let mut slots = [0u8; 64];
+    slots[32] = 1;
+    slots[48..].copy_from_slice(&[0x11u8; 16]);
+    slots
+}
+
+const READS: &[u8] = b"0,fix,1,,,\n0,read,1,,,\n0,unfix,1,,,\n";
+
+/// Writes the two pages to a path, and then makes a file of version 2 of them.
+fn migrate(
+    rt: &(impl Runtime<A = Global> + Files<File = File> + Threads + Wait + Sync + Abort),
+    old: &str,
+    new: &str,
+) -> Result<(), Fail> {
+    let pages = two_pages();
+    fs::write(rt, old, pages.as_slice())?;
+    let line = format!(in rt.alloc(); "migrate {old} {new} --page-size 16")?;
+    expect_run(rt, line.as_str(), b"", 0, "", "")?;
+    assert_eq!(rt; fs::read(rt, old)?.as_slice(), pages.as_slice());
+    Ok(())
+}
+
+#[test]
+fn migrate_two_pages(rt: HostRuntime) -> Result<(), Fail> {
+    let (old, new) = ("migrate_two.old", "migrate_two.new");
+    migrate(&rt, old, new)?;
+    assert_eq!(rt; fs::read(&rt, new)?.as_slice(), two_slots().as_slice());
+    assert!(rt; fs::metadata(&rt, "migrate_two.new.migrating").is_err());
+    let report =
+        "read 0 1 11111111111111111111111111111111\nhits 0\nfaults 1\nevictions 0\nwrites 0\nfailed 0\nrefused 0\n";
+    for order in ["trace", "free"] {
+        let line = format!(in rt.alloc();
+            "run stdin {new} --format 2 --page-size 16 --order {order}"
+        )?;
+        expect_run(&rt, line.as_str(), READS, 0, report, "")?;
+    }
+    fs::remove_file(&rt, old)?;
+    fs::remove_file(&rt, new)?;
+    Ok(())
+}
+
+#[test]
+fn misdirected_read(rt: HostRuntime) -> Result<(), Fail> {
+    let path = "misdirected_read.pages";
+    let mut slots = two_slots();
+    slots[32] = 0;
+    fs::write(&rt, path, slots.as_slice())?;
+    let report = "hits 0\nfaults 0\nevictions 0\nwrites 0\nfailed 1\nrefused 0\nrow 1 refused 19\n";
+    for order in ["trace", "free"] {
+        let line = format!(in rt.alloc();
+            "run stdin {path} --format 2 --page-size 16 --order {order}"
+        )?;
+        expect_run(&rt, line.as_str(), b"0,fix,1,,,\n", 1, report, "")?;
+    }
+    fs::remove_file(&rt, path)?;
+    Ok(())
+}
+
+#[test]
+fn version_two_length(rt: HostRuntime) -> Result<(), Fail> {
+    let path = "version_two_length.pages";
+    fs::write(&rt, path, [0u8; 48].as_slice())?;
+    let line = format!(in rt.alloc(); "run stdin {path} --format 2 --page-size 16")?;
+    expect_run(&rt, line.as_str(), b"", 2, "", "page file refused 3\n")?;
+    let plain = format!(in rt.alloc(); "run stdin {path} --format 1 --page-size 16")?;
+    let nothing = "hits 0\nfaults 0\nevictions 0\nwrites 0\nfailed 0\nrefused 0\n";
+    expect_run(&rt, plain.as_str(), b"", 0, nothing, "")?;
+    let memory = "run stdin mem:3 --format 2 --page-size 16";
+    expect_run(&rt, memory, b"", 0, nothing, "")?;
+    fs::remove_file(&rt, path)?;
+    Ok(())
+}
+
+#[test]
+fn page_lsn_in_the_slot(rt: HostRuntime) -> Result<(), Fail> {
+    let trace =
+        b"0,fix,1,,,\n0,write,1,0,ff,7\n0,log,7,,,\n0,flush,1,,,\n0,unfix,1,,,\n".as_slice();
+    let report = "out 1 1\nhits 0\nfaults 1\nevictions 0\nwrites 1\nfailed 0\nrefused 0\n";
+    for order in ["trace", "free"] {
+        let (old, new) = ("page_lsn.old", "page_lsn.new");
+        migrate(&rt, old, new)?;
+        let line = format!(in rt.alloc();
+            "run stdin {new} --format 2 --page-size 16 --order {order}"
+        )?;
+        expect_run(&rt, line.as_str(), trace, 0, report, "")?;
+        let mut slots = two_slots();
+        slots[40] = 7;
+        slots[48] = 0xff;
+        assert_eq!(rt; fs::read(&rt, new)?.as_slice(), slots.as_slice());
+        fs::remove_file(&rt, old)?;
+        fs::remove_file(&rt, new)?;
+    }
+    Ok(())
+}
+
+/// Asserts that a migration ends with status 2 and this line, that the old file is as it was, and that nothing is made beside the new
+/// one.
+fn expect_fault(
+    rt: &(impl Runtime<A = Global> + Files<File = File> + Threads + Wait + Sync + Abort),
+    old: &str,
+    bytes: &[u8],
+    new: &str,
+    said: &str,
+) -> Result<(), Fail> {
+    fs::write(rt, old, bytes)?;
+    let line = format!(in rt.alloc(); "migrate {old} {new} --page-size 16")?;
+    expect_run(rt, line.as_str(), b"", 2, "", said)?;
+    assert_eq!(rt; fs::read(rt, old)?.as_slice(), bytes);
+    let beside = format!(in rt.alloc(); "{new}.migrating")?;
+    assert!(rt; fs::metadata(rt, beside.as_str()).is_err());
+    fs::remove_file(rt, old)?;
+    Ok(())
+}
+
+#[test]
+fn migrations_that_fail(rt: HostRuntime) -> Result<(), Fail> {
+    let old = "migration_fails.old";
+    let pages = two_pages();
+    let one = "error: OLD and NEW are one file; try 'bpool --help'\n";
+    expect_fault(&rt, old, pages.as_slice(), old, one)?;
+    expect_fault(&rt, old, pages.as_slice(), "./migration_fails.old", one)?;
+    let new = "migration_fails.new";
+    let length = "page file refused 3\n";
+    expect_fault(&rt, old, &pages[..24], new, length)?;
+    expect_fault(&rt, old, b"", new, length)?;
+    let nowhere = "no_such_directory/migration_fails.new";
+    expect_fault(&rt, old, pages.as_slice(), nowhere, "output failed\n")?;
+    assert!(rt; fs::metadata(&rt, new).is_err());
+    let absent = "migrate no_such_file.old migration_fails.new --page-size 16";
+    expect_run(&rt, absent, b"", 2, "", "page file not opened\n")?;
+    assert!(rt; fs::metadata(&rt, new).is_err());
+    let odd = "migrate no_such_file.old migration_fails.new --page-size 24";
+    expect_run(&rt, odd, b"", 2, "", "page file refused 1\n")
+}
+
+/// Holds at most so many bytes, and then fails.
+#[derive(Drop)]
+struct Full {
+    held: Vec<u8>,
+    limit: usize,
+}
+
+impl Write for Full {
+    fn write(&mut self, buf: &[u8]) -> io::Result<usize> {
+        let room = self.limit.saturating_sub(self.held.len());
+        if room == 0 {
+            return Err(io::Error::from(io::ErrorKind::StorageFull));
+        }
+        let count = room.min(buf.len());
+        self.held.extend_from_slice(&buf[..count])?;
+        Ok(count)
+    }
+
+    fn flush(&mut self) -> io::Result<()> {
+        Ok(())
+    }
+}
+
+#[test]
+fn engine_reads_the_pages_and_no_more(rt: HostRuntime) -> Result<(), Fail> {
+    let alloc = rt.alloc();
+    let Ok(geometry) = Geometry::new(2, 16) else {
+        return Err(Fail::from("the geometry"));
+    };
+    let mut longer = [7u8; 40];
+    longer[..32].copy_from_slice(&two_pages());
+    let mut reader = longer.as_slice();
+    let mut made = Vec::new(alloc);
+    assert_eq!(rt;
+        migrate_with(alloc, &mut reader, &mut made, &geometry),
+        Ok(())
+    );
+    assert_eq!(rt; made.as_slice(), two_slots().as_slice());
+    assert_eq!(rt; reader, [7u8; 8].as_slice());
+    let mut short = &longer[..31];
+    let mut part = Vec::new(alloc);
+    let ended = migrate_with(alloc, &mut short, &mut part, &geometry);
+    assert_eq!(rt; ended, Err(MigrateFault::Read));
+    let mut again = longer.as_slice();
+    let mut full = Full {
+        held: Vec::new(alloc),
+        limit: 63,
+    };
+    let failed = migrate_with(alloc, &mut again, &mut full, &geometry);
+    assert_eq!(rt; failed, Err(MigrateFault::Write));
+    Ok(())
+}
