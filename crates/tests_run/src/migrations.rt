@@ -2,6 +2,7 @@
 use super::run::expect_run;
 use bp_migrate::{MigrateFault, migrate_with};
 use bp_page::Geometry;
+use bp_run::{PageFiles, run_with};
 use std::alloc::Global;
 use std::fs::File;
 use std::io::{Read, Write};
@@ -155,6 +156,64 @@ fn migrations_that_fail(rt: HostRuntime) -> Result<(), Fail> {
     assert!(rt; fs::metadata(&rt, new).is_err());
     let odd = "migrate no_such_file.old migration_fails.new --page-size 24";
     expect_run(&rt, odd, b"", 2, "", "page file refused 1\n")
+}
+
+// A file that stands where the new one is to be made is not touched, and neither is OLD by another name.
+#[test]
+fn files_in_the_way(rt: HostRuntime) -> Result<(), Fail> {
+    let (old, new, beside) = (
+        "in_the_way.old",
+        "in_the_way.new",
+        "in_the_way.new.migrating",
+    );
+    let pages = two_pages();
+    fs::write(&rt, old, pages.as_slice())?;
+    fs::write(&rt, beside, b"left over".as_slice())?;
+    let line = "migrate in_the_way.old in_the_way.new --page-size 16";
+    expect_run(&rt, line, b"", 2, "", "output failed\n")?;
+    assert_eq!(rt; fs::read(&rt, beside)?.as_slice(), b"left over".as_slice());
+    fs::remove_file(&rt, beside)?;
+    fs::hard_link(&rt, old, new)?;
+    let one = "error: OLD and NEW are one file; try 'bpool --help'\n";
+    expect_run(&rt, line, b"", 2, "", one)?;
+    assert_eq!(rt; fs::read(&rt, old)?.as_slice(), pages.as_slice());
+    fs::remove_file(&rt, new)?;
+    fs::write(&rt, new, b"is overwritten".as_slice())?;
+    expect_run(&rt, line, b"", 0, "", "")?;
+    assert_eq!(rt; fs::read(&rt, new)?.as_slice(), two_slots().as_slice());
+    fs::remove_file(&rt, old)?;
+    fs::remove_file(&rt, new)?;
+    Ok(())
+}
+
+#[test]
+fn progress_is_shown_to_who_watches(rt: HostRuntime) -> Result<(), Fail> {
+    let alloc = rt.alloc();
+    let (old, new) = ("watched.old", "watched.new");
+    fs::write(&rt, old, two_pages().as_slice())?;
+    let words = ["migrate", old, new, "--page-size", "16"];
+    let mut files = PageFiles::new(alloc).watched(true);
+    let (mut out, mut err) = (Vec::new(alloc), Vec::new(alloc));
+    let mut reader = b"".as_slice();
+    let status = run_with(
+        &rt,
+        alloc,
+        words.as_slice(),
+        &mut reader,
+        &mut files,
+        &mut out,
+        &mut err,
+    );
+    assert_eq!(rt; status, 0);
+    assert!(rt; out.is_empty());
+    let shown = format!(in alloc;
+        "\rmigrated 1 of 2 pages\rmigrated 2 of 2 pages\r{:40}\r",
+        ""
+    )?;
+    assert_eq!(rt; String::from_utf8(err)?.as_str(), shown.as_str());
+    fs::remove_file(&rt, old)?;
+    fs::remove_file(&rt, new)?;
+    Ok(())
 }
 
 /// Holds at most so many bytes, and then fails.
