@@ -16,8 +16,8 @@ pub use faults::{refusal_of_read, reply_of_read};
 pub use passes::{EndRefusal, Ended, Fix, Flush, Pass, PassNote, ReadTicket, WriteTicket};
 pub use pool::PoolCore;
 
-/// A core whose trail can be read, compared and cut.
+/// A core that has its trail in memory, where it can be read, compared and cut.
 pub type Core = PoolCore<RecordingKeeper>;
 
-/// A core that only counts its entries. It has no bytes of them, and no memory of its own for an image that it hands out.
+/// A core that only counts its entries. What its calls promise is proved of the same list, which stands in proofs alone.
 pub type SilentCore = PoolCore<SilentKeeper>;

@@ -15,7 +15,7 @@ pub struct SilentKeeper {
 }
 
 impl Model for SilentKeeper {
-    ghost use Rattle.std.specs.Prelude.{◌≡◌, ◌-◌, ◌^◌, [], true, length};
+    ghost use Rattle.std.specs.Prelude.{◌-◌, ◌^◌, [], true};
     ghost use Rattle.bp_keeper.specs.Kept.{Kept};
 
     ghost Value = { Kept };
