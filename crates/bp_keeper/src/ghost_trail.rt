@@ -34,15 +34,15 @@ unsafe impl Send for GhostTrail {}
 
 /// An entry whose bytes someone else keeps.
 #[derive(Drop)]
-pub struct Shown<'a> {
-    pub grant: Grant,
-    pub event: Event,
-    pub bytes: &'a [u8],
+pub(crate) struct Shown<'a> {
+    pub(crate) grant: Grant,
+    pub(crate) event: Event,
+    pub(crate) bytes: &'a [u8],
 }
 
 /// What was done by a pass, or by the call that gave a ticket.
 #[derive(Drop)]
-pub enum Event {
+pub(crate) enum Event {
     Read,
     Write { offset: u32, lsn: Lsn },
     BeginWrite(Call),
@@ -67,7 +67,7 @@ impl GhostTrail {
 
     /// And this entry after it.
     #[inline(always)]
-    pub fn then_one(&self, _entry: &Entry) -> GhostTrail
+    pub(crate) fn then_one(&self, _entry: &Entry) -> GhostTrail
         ensures { result.past ≡ _entry.now ∷ self.now.past }
     {
         GhostTrail {}
@@ -75,7 +75,7 @@ impl GhostTrail {
 
     /// And after it this entry, whose bytes someone else keeps.
     #[inline(always)]
-    pub fn then_shown(&self, _shown: &Shown<'_>) -> GhostTrail
+    pub(crate) fn then_shown(&self, _shown: &Shown<'_>) -> GhostTrail
         ensures { result.past ≡ shown_entry _shown.now ∷ self.now.past }
     {
         GhostTrail {}
