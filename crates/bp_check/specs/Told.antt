@@ -3,8 +3,8 @@ use Rattle.std.specs.Prelude.{◌≡◌, ℕ, ◌<◌, Bool, true, false, ◌==�
 use Rattle.std.specs.declared.vec.Vec.{Vec}
 use Rattle.bp_trail.specs.Parameters.{Parameters}
 use Rattle.bp_trail.specs.Trail.{Trail}
-use Rattle.bp_trail.specs.Lists.{some}
-use Rattle.bp_trail.specs.Event.{Grant, ends_well}
+use Rattle.bp_trail.specs.Lists.{some, and_given, without}
+use Rattle.bp_trail.specs.Event.{Grant, page_of, loaded, evicted, ends_well}
 use Rattle.bp_trail.specs.Clock.{clock, durable}
 use Rattle.bp_trail.specs.Passes.{passes, tickets, passes_out, reads_out, writes_out}
 use Rattle.bp_trail.specs.Places.{residents}
@@ -22,6 +22,14 @@ use Rattle.bp_check.specs.Spans.{spans, spans_at}
 pub record Told : Type 0 where
   pub parameters : Parameters
   pub past : Trail
+
+-- of passes or tickets of a kind, the one with the number that ends goes, and the one that is given comes
+abbrev pub passed_on : Option Grant → Option ℕ → List Grant → List Grant
+passed_on gives ends out = and_given gives (without (λ (g : Grant). g.serial) ends out)
+
+-- of the resident pages, the one that an entry evicts goes, and the one that it loads comes
+abbrev pub pages_after : Entry → List ℕ → List ℕ
+pages_after e pages = and_given (loaded (page_of e.call) e.reply) (without (λ (q : ℕ). q) (evicted e.reply) pages)
 
 -- the ticket, where it is this one
 abbrev pub is_ticket : ℕ → Option ℕ → Bool

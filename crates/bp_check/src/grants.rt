@@ -2,9 +2,10 @@
 ghost use Rattle.std.specs.Prelude.{◌≡◌, [], length, OnOk};
 ghost use Rattle.bp_trail.specs.Event as event;
 ghost use Rattle.bp_trail.specs.Event.{grant};
-ghost use Rattle.bp_trail.specs.Lists.{some, count, and_given, without};
+ghost use Rattle.bp_trail.specs.Lists.{some, count};
 ghost use Rattle.bp_trail.specs.Legal.{is_out};
 ghost use Rattle.bp_trail.specs.Passes.{is_of};
+ghost use Rattle.bp_check.specs.Told.{passed_on};
 
 use bp_page::PageNo;
 use bp_trail::Grant;
@@ -96,7 +97,7 @@ impl Grants {
         ends: Option<u64>,
         gives: Option<Grant>,
     ) -> Result<(), AllocError>
-        ensures { OnOk result (self.new ≡ and_given gives (without (λ (g : Grant). g.serial) ends self.old)) }
+        ensures { OnOk result (self.new ≡ passed_on gives ends self.old) }
     {
         if let Some(serial) = ends {
             self.out.retain(|given| given.serial != serial);

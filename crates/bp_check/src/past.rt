@@ -46,7 +46,8 @@ impl<'a> Model for Past<'a> {
 
     ghost view = { λ p. record { parameters = parameters_of p.setup 0; past = reverse p.entries.now } };
 
-    ghost invariant = { λ p. Keeps (parameters_of p.setup 0) (reverse p.entries.now) p.clock p.durable p.passes p.tickets p.passes_out p.reads_out p.writes_out p.residents p.ended.items p.spans.items };
+    ghost invariant = { λ p. Keeps (parameters_of p.setup 0) (reverse p.entries.now) p.clock p.durable p.passes
+        p.tickets p.passes_out p.reads_out p.writes_out p.residents p.ended.items p.spans.items };
 }
 
 impl<'a> Past<'a> {

@@ -45,12 +45,13 @@ pub(crate) fn last_of(known: &[Span]) -> u64
     }
 }
 
-/// The widths of the bursts at the places from 1 to this one, each where a hit opened the next newer burst. No sum of 16
-/// wraps in so many bits.
+/// The widths of the bursts at the places from 1 to this one, each where a hit opened the next newer burst. In 128 bits
+/// no sum of 16 wraps.
 fn counted_widths(known: &[Span], place: usize) -> u128
     requires there { place < length known.now }
     requires few { place < 16 }
-    ensures counted { (all : List Burst) → reverse known.now ≡ map span all → result ≡ stamp.counted_widths all place }
+    ensures counted { (all : List Burst) → reverse known.now ≡ map span all →
+        result ≡ stamp.counted_widths all place }
     ensures small { result ≤ place * 2 ^ 64 }
 {
     let mut counted = 0;
@@ -65,7 +66,8 @@ fn counted_widths(known: &[Span], place: usize) -> u128
 /// The first time of the burst at a place, put later by those widths, or 0 where there is no such burst.
 pub(crate) fn burst_stamp(known: &[Span], place: usize) -> u128
     requires { place < 16 }
-    ensures { (all : List Burst) → reverse known.now ≡ map span all → result ≡ stamp.burst_stamp all place }
+    ensures { (all : List Burst) → reverse known.now ≡ map span all →
+        result ≡ stamp.burst_stamp all place }
 {
     if place < known.len() {
         u128::from(span_at(known, place).first) + counted_widths(known, place)
@@ -76,7 +78,8 @@ pub(crate) fn burst_stamp(known: &[Span], place: usize) -> u128
 
 /// Adds a reference, which opens a burst or stands in the newest one.
 fn refer(known: &mut Vec<Span>, correlated: u64, by_hit: bool, now: u64) -> Result<(), AllocError>
-    ensures { OnOk result (reverse known.new.items ≡ with_reference correlated by_hit now (reverse known.old.items)) }
+    ensures { OnOk result (reverse known.new.items ≡
+        with_reference correlated by_hit now (reverse known.old.items)) }
 {
     let count = known.len();
     if by_hit && 0 < count && now.saturating_sub(known[count - 1].last) <= correlated {
@@ -113,7 +116,8 @@ pub(crate) fn refer_at(
 ) -> Result<(), AllocError>
     requires { page < length table.old }
     ensures count { length table.new ≡ length table.old }
-    ensures own { OnOk result (spans_at table.new page ≡ with_reference correlated by_hit now (spans_at table.old page)) }
+    ensures own { OnOk result (spans_at table.new page ≡
+        with_reference correlated by_hit now (spans_at table.old page)) }
     ensures others { OnOk result ((q : ℕ) → q ≢ page → spans_at table.new q ≡ spans_at table.old q) }
 {
     let known = &mut table[page.number() as usize];
@@ -145,7 +149,8 @@ pub(crate) fn forgotten(
     residents: &Residents,
     reads: &Grants,
 ) -> u64
-    ensures { result ≡ count_below (λ p. of.outdated retained now residents.now reads.now p (spans_at table.now p)) (length table.now) }
+    ensures { result ≡ count_below
+        (λ p. of.outdated retained now residents.now reads.now p (spans_at table.now p)) (length table.now) }
 {
     let mut count = 0;
     for at in 0..table.len() {
@@ -166,7 +171,9 @@ pub(crate) fn forget(
     reads: &Grants,
 )
     ensures count { length table.new ≡ length table.old }
-    ensures each { (p : ℕ) → p < length table.old → spans_at table.new p ≡ (if of.outdated retained now residents.now reads.now p (spans_at table.old p) then [] else spans_at table.old p) }
+    ensures each { (p : ℕ) → p < length table.old → spans_at table.new p ≡
+        (if of.outdated retained now residents.now reads.now p (spans_at table.old p) then []
+        else spans_at table.old p) }
 {
     for at in 0..table.len() {
         let page = PageNo::new(at as u64);

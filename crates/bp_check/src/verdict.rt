@@ -9,19 +9,21 @@ use crate::setup::Setup;
 use bp_trail::Entry;
 use std::alloc::{AllocError, Global};
 
-/// The place of the first entry that is not lawful after those before it, or `None` where the entries are a legal trail.
-/// They are in the order of time, from the first on that a pool made.
+/// The place of the first entry that is not lawful after those before it, or `None` where the entries are a legal
+/// trail. They are in the order of time, from the first on that a pool made. What room the pool had doesn't matter.
 ///
-/// It fails by want of memory alone: it takes memory for a list of each page of the file, for the references of the pages,
-/// for what is out, and for one image at a time. Its time is at most in proportion to the square of the number of
-/// entries.
+/// It fails by want of memory alone. It takes memory for an empty list of each page of the file, and then for what is
+/// out, for the references that no purge forgot, and for an image or two at a time. An entry takes time in proportion to
+/// those before it, and a purge to the pages of the file besides.
 pub fn first_unlawful(
     alloc: Global,
     setup: &Setup,
     trail: &[Entry],
 ) -> Result<Option<usize>, AllocError>
-    ensures legal { IfOk result (λ place. (room : ℕ) → ((place ≡ None) ↔ Legal (parameters_of setup.now room) (reverse trail.now))) }
-    ensures first { IfOk result (λ place. (room : ℕ) → IfSome place (IsFirstUnlawful (parameters_of setup.now room) trail.now)) }
+    ensures legal { IfOk result (λ place. (room : ℕ) →
+        ((place ≡ None) ↔ Legal (parameters_of setup.now room) (reverse trail.now))) }
+    ensures first { IfOk result (λ place. (room : ℕ) →
+        IfSome place (IsFirstUnlawful (parameters_of setup.now room) trail.now)) }
 {
     let mut past = Past::new(alloc, setup, &trail[..0])?;
     for place in 0..trail.len() {

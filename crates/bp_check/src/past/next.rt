@@ -2,11 +2,10 @@
 ghost use Rattle.std.specs.Prelude.{◌≡◌, ◌∷◌, ◌<◌, ◌+◌, ℕ, true, length, reverse, vec_len, is_some, if◌then◌else◌, Some, IfOk, OnOk};
 ghost use Rattle.bp_trail.specs.Trail.{Trail};
 ghost use Rattle.bp_trail.specs.Event as event;
-ghost use Rattle.bp_trail.specs.Lists.{and_given, without};
 ghost use Rattle.bp_trail.specs.Passes as passes;
 ghost use Rattle.bp_trail.specs.Legal.{IsLawful};
 ghost use Rattle.bp_check.specs.Setups.{parameters_of};
-ghost use Rattle.bp_check.specs.Told.{AreEnded, KeepsSpans};
+ghost use Rattle.bp_check.specs.Told.{passed_on, pages_after, AreEnded, KeepsSpans};
 
 use crate::events::{
     evicted, loaded, marked, page_of, pass_back, pass_of, read_ticket_back, read_ticket_of,
@@ -30,9 +29,11 @@ fn note_references(
     spans: &mut [Vec<Span>],
     e: &Entry,
 ) -> Result<(), AllocError>
-    requires in_file { (g : event.Grant) → passes.pass_of e.now ≡ Some g → event.page_of e.now.call < length spans.old }
+    requires in_file { (g : event.Grant) → passes.pass_of e.now ≡ Some g →
+        event.page_of e.now.call < length spans.old }
     ensures count { length spans.new ≡ length spans.old }
-    ensures noted { OnOk result ((past : Trail) → KeepsSpans (parameters_of setup.now 0) past e.now clock residents.now reads_out.now spans.old spans.new) }
+    ensures noted { OnOk result ((past : Trail) →
+        KeepsSpans (parameters_of setup.now 0) past e.now clock residents.now reads_out.now spans.old spans.new) }
 {
     let page = page_of(&e.call);
     let correlated = setup.settings.correlated;
@@ -57,8 +58,10 @@ fn note_references(
 /// Notes the ticket that an entry gives, or the write-out that ends well.
 fn note_tickets(ended: &mut Vec<bool>, e: &Entry) -> Result<(), AllocError>
     requires given { (t : ℕ) → event.ends_well t e.now.call ≡ true → t < vec_len ended.old }
-    ensures count { OnOk result (vec_len ended.new ≡ vec_len ended.old + (if is_some (event.ticket_given e.now.reply) then 1 else 0)) }
-    ensures noted { OnOk result ((past : Trail) → AreEnded past ended.old.items → AreEnded (e.now ∷ past) ended.new.items) }
+    ensures count { OnOk result (vec_len ended.new ≡
+        vec_len ended.old + (if is_some (event.ticket_given e.now.reply) then 1 else 0)) }
+    ensures noted { OnOk result ((past : Trail) →
+        AreEnded past ended.old.items → AreEnded (e.now ∷ past) ended.new.items) }
 {
     if let Some(ticket) = well_ended(&e.call) {
         ended[ticket as usize] = true;
@@ -77,10 +80,13 @@ fn pass_on(
     residents: &mut Residents,
     e: &Entry,
 ) -> Result<(), AllocError>
-    ensures passes { OnOk result (passes_out.new ≡ and_given (passes.pass_of e.now) (without (λ (g : event.Grant). g.serial) (event.pass_back e.now.call) passes_out.old)) }
-    ensures reads { OnOk result (reads_out.new ≡ and_given (passes.read_ticket_of e.now) (without (λ (g : event.Grant). g.serial) (event.read_ticket_back e.now.call) reads_out.old)) }
-    ensures writes { OnOk result (writes_out.new ≡ and_given (passes.write_ticket_of e.now) (without (λ (g : event.Grant). g.serial) (event.write_ticket_back e.now.call) writes_out.old)) }
-    ensures residents { OnOk result (residents.new ≡ and_given (event.loaded (event.page_of e.now.call) e.now.reply) (without (λ (q : ℕ). q) (event.evicted e.now.reply) residents.old)) }
+    ensures passes { OnOk result (passes_out.new ≡
+        passed_on (passes.pass_of e.now) (event.pass_back e.now.call) passes_out.old) }
+    ensures reads { OnOk result (reads_out.new ≡
+        passed_on (passes.read_ticket_of e.now) (event.read_ticket_back e.now.call) reads_out.old) }
+    ensures writes { OnOk result (writes_out.new ≡
+        passed_on (passes.write_ticket_of e.now) (event.write_ticket_back e.now.call) writes_out.old) }
+    ensures residents { OnOk result (residents.new ≡ pages_after e.now residents.old) }
 {
     passes_out.pass_on(pass_back(&e.call), pass_of(e))?;
     reads_out.pass_on(read_ticket_back(&e.call), read_ticket_of(e))?;
