@@ -7,8 +7,8 @@
     peers/side_by_side.py ROUNDS [ROOM ..]
     peers/side_by_side.py ROUNDS threads
 
-For each ROOM the trail has that room and is cut when half full; ROOM 0 is a trail that is never cut. Each
-number is in fixes and unfixes a second of processor time. With `threads` it is in those of all client threads
+For each ROOM the trail has that room and is cut when half full; ROOM 0 is a trail that is never cut, and ROOM
+`silent` one that is only counted. Each number is in fixes and unfixes a second of processor time. With `threads` it is in those of all client threads
 together, a second of wall clock time. A ratio is of one round, above 1 where the proved pool is faster. The
 median of the rounds comes first, and then the least and the greatest.
 """
@@ -88,7 +88,7 @@ def print_table(title, names, runs, peer):
 
 def main():
     rounds, in_threads = int(sys.argv[1]), sys.argv[2:] == ["threads"]
-    rooms = [] if in_threads else [int(it) for it in sys.argv[2:]] or [0]
+    rooms = [] if in_threads else [it if it == "silent" else int(it) for it in sys.argv[2:]] or [0]
     with tempfile.TemporaryDirectory(prefix="side-by-side-") as folder:
         mpool, pages = f"{folder}/mpool", f"{folder}/pages.bin"
         subprocess.run(["cc", "-O2", f"{TOP}/peers/mpool.c", "-ldb", "-lpthread", "-o", mpool], check=True)
@@ -103,7 +103,8 @@ def main():
             if in_threads:
                 of_threads.append(ours_in_threads(pages, folder))
     for room in rooms:
-        title = f"room {room}, cut when half full" if room else "never cut"
+        titles = {0: "never cut", "silent": "only counted"}
+        title = titles.get(room, f"room {room}, cut when half full")
         print_table(title, [name for name, *_ in COLUMNS], runs[room], peer)
     if in_threads:
         print_table("client threads, cut as they go", [name for name, *_ in THREAD_COLUMNS], of_threads, peer)

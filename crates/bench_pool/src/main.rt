@@ -1,11 +1,11 @@
 //! Times fix and unfix over a page file where its argument is the path of one; else it does nothing. A second argument is the
-//! trail's room: the trail is then cut each time it is half full, into the memory of the piece before. docs/BENCHMARKS.md has the
-//! numbers.
+//! trail's room: the trail is then cut each time it is half full, into the memory of the piece before. Where it is `silent`, the
+//! core only counts its entries. docs/BENCHMARKS.md has the numbers.
 #![tactic(auto)]
 
 ghost use Rattle.std.specs.Prelude.{◌≡◌, ◌*◌, ◌<◌, ◌≤◌, IfOk};
 
-use bp_core::{Core, Entry, Fix, Pass};
+use bp_core::{Entry, Fix, Keeper, Pass, PoolCore, RecordingKeeper, SilentKeeper};
 use bp_device::{FilePort, OpenFault, Port, drive_fix};
 use bp_lruk::Settings;
 use bp_lruk::settings::MAX_PERIOD;
@@ -36,7 +36,7 @@ fn next(state: u64) -> u64 {
 }
 
 // Gives a pass back, and counts that.
-fn give_back(core: &mut Core, pass: Pass) -> u64
+fn give_back<K: Keeper>(core: &mut PoolCore<K>, pass: Pass) -> u64
     ensures same { core.new.parameters ≡ core.old.parameters }
     ensures one { result ≤ 1 }
 {
@@ -50,7 +50,7 @@ fn give_back(core: &mut Core, pass: Pass) -> u64
 }
 
 // Fixes a page, and gives it back. Counts that where the page was resident.
-fn use_resident(core: &mut Core, page: PageNo) -> u64
+fn use_resident<K: Keeper>(core: &mut PoolCore<K>, page: PageNo) -> u64
     requires client { 0 < core.old.parameters.clients }
     requires page_in { page < core.old.parameters.pages }
     ensures same { core.new.parameters ≡ core.old.parameters }
@@ -71,7 +71,12 @@ fn use_resident(core: &mut Core, page: PageNo) -> u64
 }
 
 // Fixes a page, which is read where it is away, and gives it back. Counts that where it was not refused.
-fn use_any(rt: &impl Wait, core: &mut Core, port: &mut FilePort, page: PageNo) -> u64
+fn use_any<K: Keeper>(
+    rt: &impl Wait,
+    core: &mut PoolCore<K>,
+    port: &mut FilePort,
+    page: PageNo,
+) -> u64
     requires size { port.old.device.size ≡ core.old.parameters.size }
     requires client { 0 < core.old.parameters.clients }
     requires page_in { page < core.old.parameters.pages }
@@ -103,32 +108,49 @@ fn cuts_at(alloc: Global, at: usize) -> Cuts {
     }
 }
 
-// Hands out the trail, and drops the piece before.
-fn cut(core: &mut Core, cuts: &mut Cuts)
-    ensures same { core.new.parameters ≡ core.old.parameters }
-{
-    let spare = mem::replace(&mut cuts.spare, Vec::new(cuts.alloc));
-    match core.cut_into(spare) {
-        Ok(entries) => cuts.spare = entries,
-        Err(_) => (),
+/// A keeper whose room does not run out.
+trait Tended: Keeper {
+    /// Makes room where a long trail stands in memory.
+    fn tend(core: &mut PoolCore<Self>, cuts: &mut Cuts)
+        ensures same { core.new.parameters ≡ core.old.parameters };
+}
+
+impl Tended for RecordingKeeper {
+    // Hands out a long trail, and drops the piece before.
+    fn tend(core: &mut PoolCore<RecordingKeeper>, cuts: &mut Cuts) {
+        if core.trail().len() < cuts.at {
+            return;
+        }
+        let spare = mem::replace(&mut cuts.spare, Vec::new(cuts.alloc));
+        if let Ok(entries) = core.cut_into(spare) {
+            cuts.spare = entries;
+        }
     }
 }
 
+impl Tended for SilentKeeper {
+    fn tend(_core: &mut PoolCore<SilentKeeper>, _cuts: &mut Cuts) {}
+}
+
 // Moves the clock where it is due, and cuts a long trail.
-fn tick(core: &mut Core, call: u64, cuts: &mut Cuts)
+fn tick<K: Tended>(core: &mut PoolCore<K>, call: u64, cuts: &mut Cuts)
     requires client { 0 < core.old.parameters.clients }
     ensures same { core.new.parameters ≡ core.old.parameters }
 {
     if call % FIXES_A_TICK == 0 {
         let _ = core.tick(0, 1);
-        if core.trail().len() >= cuts.at {
-            cut(core, cuts);
-        }
+        K::tend(core, cuts);
     }
 }
 
 // Brings in as many pages, in turn.
-fn fill(rt: &impl Wait, core: &mut Core, port: &mut FilePort, pages: u64, cuts: &mut Cuts)
+fn fill<K: Tended>(
+    rt: &impl Wait,
+    core: &mut PoolCore<K>,
+    port: &mut FilePort,
+    pages: u64,
+    cuts: &mut Cuts,
+)
     requires size { port.old.device.size ≡ core.old.parameters.size }
     requires client { 0 < core.old.parameters.clients }
     requires pages_in { pages ≤ core.old.parameters.pages }
@@ -142,7 +164,7 @@ fn fill(rt: &impl Wait, core: &mut Core, port: &mut FilePort, pages: u64, cuts: 
 }
 
 // Fixes pages at random. Counts those that were resident.
-fn hit_at_random(core: &mut Core, pages: u64, calls: u64, cuts: &mut Cuts) -> u64
+fn hit_at_random<K: Tended>(core: &mut PoolCore<K>, pages: u64, calls: u64, cuts: &mut Cuts) -> u64
     requires some { 0 < pages }
     requires client { 0 < core.old.parameters.clients }
     requires pages_in { pages ≤ core.old.parameters.pages }
@@ -158,9 +180,9 @@ fn hit_at_random(core: &mut Core, pages: u64, calls: u64, cuts: &mut Cuts) -> u6
 }
 
 // Fixes pages at random. Counts those that were not refused.
-fn fix_at_random(
+fn fix_at_random<K: Tended>(
     rt: &impl Wait,
-    core: &mut Core,
+    core: &mut PoolCore<K>,
     port: &mut FilePort,
     pages: u64,
     calls: u64,
@@ -212,7 +234,12 @@ fn open<R: Files<File = File>>(
 }
 
 // A core of K 2 and no periods for one client.
-fn new_core(alloc: Global, geometry: Geometry, frames: usize, room: usize) -> Result<Core, Refusal>
+fn new_core<K: Keeper>(
+    alloc: Global,
+    geometry: Geometry,
+    frames: usize,
+    room: usize,
+) -> Result<PoolCore<K>, Refusal>
     ensures size { IfOk result (λ core. core.parameters.size ≡ geometry.size) }
     ensures pages { IfOk result (λ core. core.parameters.pages ≡ geometry.pages) }
     ensures client { IfOk result (λ core. core.parameters.clients ≡ 1) }
@@ -221,13 +248,13 @@ fn new_core(alloc: Global, geometry: Geometry, frames: usize, room: usize) -> Re
         Ok(settings) => settings,
         Err(refusal) => return Err(refusal),
     };
-    Core::new(alloc, geometry, settings, frames, 1, room)
+    PoolCore::new(alloc, geometry, settings, frames, 1, room)
 }
 
 // Times fixes of pages that are resident.
-fn time_hits(
+fn time_hits<K: Tended>(
     rt: &(impl Runtime<A = Global> + CpuClock),
-    core: &mut Core,
+    core: &mut PoolCore<K>,
     pages: u64,
     calls: u64,
     cuts: &mut Cuts,
@@ -245,9 +272,9 @@ fn time_hits(
 }
 
 // Times fixes of more pages than there are frames.
-fn time_evictions(
+fn time_evictions<K: Tended>(
     rt: &(impl Runtime<A = Global> + CpuClock + Wait),
-    core: &mut Core,
+    core: &mut PoolCore<K>,
     port: &mut FilePort,
     pages: u64,
     calls: u64,
@@ -269,14 +296,14 @@ fn time_evictions(
 }
 
 // A core whose frames are full of the first pages.
-fn full_core(
+fn full_core<K: Tended>(
     rt: &impl Wait,
     alloc: Global,
     port: &mut FilePort,
     frames: usize,
     room: usize,
     cuts: &mut Cuts,
-) -> Result<Core, Refusal>
+) -> Result<PoolCore<K>, Refusal>
     requires pages_in { frames ≤ port.old.device.pages }
     ensures device { port.new.device ≡ port.old.device }
     ensures size { IfOk result (λ core. core.parameters.size ≡ port.old.device.size) }
@@ -293,7 +320,7 @@ fn full_core(
 }
 
 // Times hits over a new core.
-fn time_resident(
+fn time_resident<K: Tended>(
     rt: &(impl Runtime<A = Global> + CpuClock + Wait),
     port: &mut FilePort,
     frames: usize,
@@ -306,12 +333,12 @@ fn time_resident(
     ensures device { port.new.device ≡ port.old.device }
 {
     let mut cuts = cuts_at(rt.alloc(), cut_at);
-    let mut core = full_core(rt, rt.alloc(), port, frames, room, &mut cuts)?;
+    let mut core = full_core::<K>(rt, rt.alloc(), port, frames, room, &mut cuts)?;
     time_hits(rt, &mut core, frames as u64, calls, &mut cuts)
 }
 
 // Times fixes with evictions over a new core.
-fn time_away(
+fn time_away<K: Tended>(
     rt: &(impl Runtime<A = Global> + CpuClock + Wait),
     port: &mut FilePort,
     frames: usize,
@@ -324,7 +351,7 @@ fn time_away(
     requires pages_in { frames * PAGES_A_FRAME ≤ port.old.device.pages }
 {
     let mut cuts = cuts_at(rt.alloc(), cut_at);
-    let mut core = full_core(rt, rt.alloc(), port, frames, room, &mut cuts)?;
+    let mut core = full_core::<K>(rt, rt.alloc(), port, frames, room, &mut cuts)?;
     time_evictions(
         rt,
         &mut core,
@@ -335,7 +362,7 @@ fn time_away(
     )
 }
 
-fn time_pool(
+fn time_pool<K: Tended>(
     rt: &(impl Runtime<A = Global> + CpuClock + Files<File = File> + Wait),
     path: &str,
     frames: usize,
@@ -349,21 +376,19 @@ fn time_pool(
 {
     println!(rt; "{frames} frames")?;
     let mut port = open(rt, rt.alloc(), path, frames as u64 * PAGES_A_FRAME)?;
-    time_resident(rt, &mut port, frames, hits, room, cut_at)?;
-    time_away(rt, &mut port, frames, fixes, room, cut_at)
+    time_resident::<K>(rt, &mut port, frames, hits, room, cut_at)?;
+    time_away::<K>(rt, &mut port, frames, fixes, room, cut_at)
 }
 
-fn time_pools(
+fn time_pools<K: Tended>(
     rt: &(impl Runtime<A = Global> + CpuClock + Files<File = File> + Wait),
     path: &str,
     room: usize,
     cut_at: usize,
 ) -> Result<(), anyhow::Error> {
-    let bytes = size_of::<Entry>();
-    println!(rt; "an entry has {bytes} bytes")?;
-    time_pool(rt, path, 256, 4000000, 400000, room, cut_at)?;
-    time_pool(rt, path, 4096, 4000000, 400000, room, cut_at)?;
-    time_pool(rt, path, 65536, 400000, 400000, room, cut_at)
+    time_pool::<K>(rt, path, 256, 4000000, 400000, room, cut_at)?;
+    time_pool::<K>(rt, path, 4096, 4000000, 400000, room, cut_at)?;
+    time_pool::<K>(rt, path, 65536, 400000, 400000, room, cut_at)
 }
 
 fn main(rt: HostRuntime) -> Result<(), anyhow::Error> {
@@ -371,11 +396,18 @@ fn main(rt: HostRuntime) -> Result<(), anyhow::Error> {
     let Some(path) = words.next() else {
         return Ok(());
     };
-    match words.next() {
-        Some(room) => {
-            let room = room.as_str().parse::<usize>()?;
-            time_pools(&rt, path.as_str(), room, room / 2)
-        }
-        None => time_pools(&rt, path.as_str(), ROOM, ROOM),
+    let word = words.next();
+    if word.as_ref().map(|word| word.as_str()) == Some("silent") {
+        println!(&rt; "entries are only counted")?;
+        return time_pools::<SilentKeeper>(&rt, path.as_str(), SilentKeeper::MOST_ROOM, 0);
     }
+    let (room, cut_at) = match word {
+        Some(word) => {
+            let room = word.as_str().parse::<usize>()?;
+            (room, room / 2)
+        }
+        None => (ROOM, ROOM),
+    };
+    println!(&rt; "an entry has {} bytes", size_of::<Entry>())?;
+    time_pools::<RecordingKeeper>(&rt, path.as_str(), room, cut_at)
 }
