@@ -2,6 +2,7 @@
 ghost use Rattle.std.specs.Prelude.{◌≡◌, All, vec_len};
 ghost use Rattle.bp_page.specs.declared.limits.Geometry.{Geometry as AGeometry};
 
+use crate::judging::expect_legal;
 use bp_clients::{Config, Outcome, run_clients, scripts_fit};
 use bp_core::{Row, Step};
 use bp_device::{GatePort, MemDevice, MemPort, Port};
@@ -130,5 +131,8 @@ pub(crate) fn run<P: Port + Send, R: Threads + Wait + Sync + Abort + AllocGlobal
         room,
     };
     assert!(rt; ports.len() == scripts.len() && scripts_fit(&config, &scripts));
-    run_clients(rt, rt.alloc(), config, scripts, ports)
+    let clients = scripts.len();
+    let outcome = run_clients(rt, rt.alloc(), config, scripts, ports)?;
+    expect_legal(rt, &config, clients, &outcome);
+    Ok(outcome)
 }
