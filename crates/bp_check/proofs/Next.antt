@@ -9,8 +9,8 @@ use Rattle.bp_trail.specs.declared.entries.Call.{Call}
 use Rattle.bp_trail.specs.declared.entries.Reply.{Reply}
 use Rattle.bp_trail.specs.Parameters.{Parameters}
 use Rattle.bp_trail.specs.Trail.{Trail}
-use Rattle.bp_trail.specs.Lists.{some, and_given, without}
-use Rattle.bp_trail.specs.Event.{Grant, page_of, ticks, marked, pass_given, pass_back, read_ticket_back, write_ticket_back, ticket_given, loaded, evicted, ends_well}
+use Rattle.bp_trail.specs.Lists.{some}
+use Rattle.bp_trail.specs.Event.{Grant, page_of, ticks, marked, pass_given, pass_back, read_ticket_back, write_ticket_back, ticket_given, ends_well}
 use Rattle.bp_trail.specs.Passes.{passes, tickets, reads_out, writes_out, pass_of, read_ticket_of, write_ticket_of}
 use Rattle.bp_trail.specs.Legal.{allowed, IsLawful, Legal}
 use Rattle.bp_trail.proofs.Lists.{total-with, greatest-with}
@@ -20,7 +20,7 @@ use Rattle.bp_trail.proofs.Serials.{AllBelow, has_serial, numbered, out-serial}
 use Rattle.bp_trail.proofs.Events.{Event, event-of}
 use Rattle.bp_trail.proofs.Events.Event.{fix_hit, read_good, write_clean, write_dirty}
 use Rattle.bp_check.specs.declared.spans.Span.{Span}
-use Rattle.bp_check.specs.Told.{AreEnded, KeepsSpans, Keeps}
+use Rattle.bp_check.specs.Told.{passed_on, pages_after, AreEnded, KeepsSpans, Keeps}
 
 -- ---- what a lawful entry names is in range
 
@@ -75,26 +75,24 @@ lent-back n new items is = take_at new (drop (length new) items) n is
 
 -- ---- all that is kept
 
-pub keeps-next : {A : Type 0} (c : Parameters) (past whole : Trail) (e : Entry) (now mark given begun now' mark' given' begun' : ℕ) (out reads writes out' reads' writes' : List Grant) (pages pages' : List ℕ) (done done' : List Bool) (table table' : List (Vec Span A))
-    → Keeps c past now mark given begun out reads writes pages done table → IsLawful c past e → whole ≡ e ∷ past
-    → now' ≡ now + unwrap_or (ticks e.call) 0 → mark' ≡ max (unwrap_or (marked e.call) 0) mark → given' ≡ given + (if is_some (pass_of e) then 1 else 0) → begun' ≡ length done' → length done' ≡ length done + (if is_some (ticket_given e.reply) then 1 else 0)
-    → out' ≡ and_given (pass_of e) (without (λ (g : Grant). g.serial) (pass_back e.call) out) → reads' ≡ and_given (read_ticket_of e) (without (λ (g : Grant). g.serial) (read_ticket_back e.call) reads)
-    → writes' ≡ and_given (write_ticket_of e) (without (λ (g : Grant). g.serial) (write_ticket_back e.call) writes) → pages' ≡ and_given (loaded (page_of e.call) e.reply) (without (λ (q : ℕ). q) (evicted e.reply) pages)
+pub keeps-next : {A : Type 0} (c : Parameters) (past whole : Trail) (e : Entry) (now mark given now' mark' given' : ℕ) (out reads writes out' reads' writes' : List Grant) (pages pages' : List ℕ) (done done' : List Bool) (table table' : List (Vec Span A))
+    → Keeps c past now mark given out reads writes pages done table → IsLawful c past e → whole ≡ e ∷ past
+    → now' ≡ now + unwrap_or (ticks e.call) 0 → mark' ≡ max (unwrap_or (marked e.call) 0) mark → given' ≡ given + (if is_some (pass_of e) then 1 else 0) → length done' ≡ length done + (if is_some (ticket_given e.reply) then 1 else 0)
+    → out' ≡ passed_on (pass_of e) (pass_back e.call) out → reads' ≡ passed_on (read_ticket_of e) (read_ticket_back e.call) reads → writes' ≡ passed_on (write_ticket_of e) (write_ticket_back e.call) writes → pages' ≡ pages_after e pages
     → (AreEnded past done → AreEnded (e ∷ past) done') → KeepsSpans c past e now pages reads table table' → length table' ≡ length table
-    → Keeps c whole now' mark' given' begun' out' reads' writes' pages' done' table'
-keeps-next c past whole e now mark given begun now' mark' given' begun' out reads writes out' reads' writes' pages pages' done done' table table' kept lawful all time marks gives begins as_many outs readings writings comes ends spans whole_table =
+    → Keeps c whole now' mark' given' out' reads' writes' pages' done' table'
+keeps-next c past whole e now mark given now' mark' given' out reads writes out' reads' writes' pages pages' done done' table table' kept lawful all time marks gives as_many outs readings writings comes ends spans whole_table =
     rw all record {
       legal = record { here = lawful; before = kept.legal };
       clock = let t = total-with (λ d. ticks d.call) e past in omega (arith, time, kept.clock, t);
       durable = marks ∙ ap (max (unwrap_or (marked e.call) 0)) kept.durable ∙ sym (greatest-with (λ d. marked d.call) e past);
       passes = gives ∙ ap (λ n. n + (if is_some (pass_of e) then 1 else 0)) kept.passes ∙ sym (counts-with pass_of e past);
-      tickets = begins ∙ as_many ∙ ap (λ n. n + (if is_some (ticket_given e.reply) then 1 else 0)) (kept.one_each ∙ kept.tickets) ∙ sym (counts-with (λ d. ticket_given d.reply) e past);
-      passes_out = outs ∙ ap (λ gs. and_given (pass_of e) (without (λ (g : Grant). g.serial) (pass_back e.call) gs)) kept.passes_out;
-      reads_out = readings ∙ ap (λ gs. and_given (read_ticket_of e) (without (λ (g : Grant). g.serial) (read_ticket_back e.call) gs)) kept.reads_out;
-      writes_out = writings ∙ ap (λ gs. and_given (write_ticket_of e) (without (λ (g : Grant). g.serial) (write_ticket_back e.call) gs)) kept.writes_out;
-      residents = comes ∙ ap (λ qs. and_given (loaded (page_of e.call) e.reply) (without (λ (q : ℕ). q) (evicted e.reply) qs)) kept.residents;
+      tickets = as_many ∙ ap (λ n. n + (if is_some (ticket_given e.reply) then 1 else 0)) kept.tickets ∙ sym (counts-with (λ d. ticket_given d.reply) e past);
+      passes_out = outs ∙ ap (passed_on (pass_of e) (pass_back e.call)) kept.passes_out;
+      reads_out = readings ∙ ap (passed_on (read_ticket_of e) (read_ticket_back e.call)) kept.reads_out;
+      writes_out = writings ∙ ap (passed_on (write_ticket_of e) (write_ticket_back e.call)) kept.writes_out;
+      residents = comes ∙ ap (pages_after e) kept.residents;
       ended = ends kept.ended;
-      one_each = sym begins;
       spans = spans lawful kept.clock kept.residents kept.reads_out kept.one_a_page kept.spans;
       one_a_page = whole_table ∙ kept.one_a_page;
     }

@@ -45,18 +45,17 @@ abbrev pub AreSpans : {A : Type 0} → Parameters → Trail → List (Vec Span A
 AreSpans c past table = (p : ℕ) → p < c.pages → spans_at table p ≡ spans c.correlated (references c past p)
 
 -- what is kept is what the entries say, and they are legal
-pub record Keeps {A : Type 0} (c : Parameters) (past : Trail) (now mark given begun : ℕ) (out reads writes : List Grant) (pages : List ℕ) (done : List Bool) (table : List (Vec Span A)) : Type 0 where
+pub record Keeps {A : Type 0} (c : Parameters) (past : Trail) (now mark given : ℕ) (out reads writes : List Grant) (pages : List ℕ) (done : List Bool) (table : List (Vec Span A)) : Type 0 where
   pub legal : Legal c past
   pub clock : now ≡ clock past
   pub durable : mark ≡ durable past
   pub passes : given ≡ passes past
-  pub tickets : begun ≡ tickets past
   pub passes_out : out ≡ passes_out past
   pub reads_out : reads ≡ reads_out past
   pub writes_out : writes ≡ writes_out past
   pub residents : pages ≡ residents past
+  pub tickets : length done ≡ tickets past
   pub ended : AreEnded past done
-  pub one_each : length done ≡ begun
   pub spans : AreSpans c past table
   pub one_a_page : length table ≡ c.pages
 

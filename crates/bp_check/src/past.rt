@@ -24,14 +24,13 @@ pub(crate) struct Past<'a> {
     entries: &'a [Entry],
     clock: u64,
     durable: Lsn,
-    /// How many passes were given, which is the next serial number, and how many tickets.
+    /// How many passes were given, which is the next serial number.
     passes: u64,
-    tickets: u64,
     passes_out: Grants,
     reads_out: Grants,
     writes_out: Grants,
     residents: Residents,
-    /// By tickets, whether the write-out with it ended well.
+    /// By tickets of both kinds, whether the write-out with it ended well.
     ended: Vec<bool>,
     /// By pages, the spans of the bursts of its references.
     spans: Vec<Vec<Span>>,
@@ -47,7 +46,7 @@ impl<'a> Model for Past<'a> {
     ghost view = { λ p. record { parameters = parameters_of p.setup 0; past = reverse p.entries.now } };
 
     ghost invariant = { λ p. Keeps (parameters_of p.setup 0) (reverse p.entries.now) p.clock p.durable p.passes
-        p.tickets p.passes_out p.reads_out p.writes_out p.residents p.ended.items p.spans.items };
+        p.passes_out p.reads_out p.writes_out p.residents p.ended.items p.spans.items };
 }
 
 impl<'a> Past<'a> {
@@ -72,7 +71,6 @@ impl<'a> Past<'a> {
             clock: 1,
             durable: Lsn::new(0),
             passes: 0,
-            tickets: 0,
             passes_out: Grants::new(alloc),
             reads_out: Grants::new(alloc),
             writes_out: Grants::new(alloc),
@@ -80,6 +78,13 @@ impl<'a> Past<'a> {
             ended: Vec::new(alloc),
             spans,
         })
+    }
+
+    /// How many tickets of both kinds were given, which is the next serial number.
+    fn tickets(&self) -> u64
+        ensures { result ≡ passes.tickets self.now.past }
+    {
+        self.ended.len() as u64
     }
 
     /// Whether a read of the page is under way.

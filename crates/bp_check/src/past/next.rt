@@ -130,14 +130,12 @@ impl<'a> Past<'a> {
             &mut residents,
             e,
         )?;
-        let tickets = ended.len() as u64;
         Ok(Past {
             setup,
             entries,
             clock: clock + ticks(&e.call).unwrap_or(0),
             durable: at_least(marked(&e.call), durable),
             passes: passes + one_if(pass_of(e).is_some()),
-            tickets,
             passes_out,
             reads_out,
             writes_out,

@@ -25,7 +25,7 @@ impl<'a> Past<'a> {
             return Ok(Reply::NeedLog(top));
         }
         Ok(Reply::WriteFirst {
-            ticket: self.tickets,
+            ticket: self.tickets(),
             page,
             image: self.held(alloc, page)?,
         })
@@ -41,7 +41,7 @@ impl<'a> Past<'a> {
                     self.write_out_reply(alloc, page)
                 } else {
                     Ok(Reply::Load {
-                        ticket: self.tickets,
+                        ticket: self.tickets(),
                         evicted: Some(page),
                     })
                 }
@@ -58,7 +58,7 @@ impl<'a> Past<'a> {
             Ok(Reply::Hit(self.passes))
         } else if self.has_free_frame() {
             Ok(Reply::Load {
-                ticket: self.tickets,
+                ticket: self.tickets(),
                 evicted: None,
             })
         } else {

@@ -20,7 +20,7 @@ note_tickets-requires c =
     let p = parameters_of c.self.inside.setup 0 in
     let past = reverse c.self.inside.entries.now in
     let lawful : IsLawful p past c.args.e.now = subst (λ (t : Told). IsLawful t.parameters t.past c.args.e.now) (sym c.self.view_is) c.requires.lawful in
-    record { given = λ t i. omega (arith, end-below p past c.self.invariant.legal c.args.e.now lawful t i, c.self.invariant.tickets, c.self.invariant.one_each, c.self.inside.ended.ok.0) }
+    record { given = λ t i. omega (arith, end-below p past c.self.invariant.legal c.args.e.now lawful t i, c.self.invariant.tickets, c.self.inside.ended.ok.0) }
 
 pub overflow_add-result-2 : goal.overflow_add-result-2
 overflow_add-result-2 c =
@@ -41,11 +41,10 @@ invariant_of-result c =
     let all : reverse c.args.entries.now ≡ e ∷ past = c.requires.all ∙ ap (λ (t : Told). e ∷ t.past) (sym c.self.view_is) in
     let table : List (Vec Span Global) = take x.spans.len (c.note_references.new.spans ++ drop (length c.note_references.new.spans) x.spans.items) in
     let back : table ≡ c.note_references.new.spans = lent-back x.spans.len c.note_references.new.spans x.spans.items (c.note_references.ensures.count ∙ c.deref_mut.ensures.len) in
-    keeps-next p past (reverse c.args.entries.now) e x.clock x.durable x.passes x.tickets _ _ _ _ x.passes_out x.reads_out x.writes_out _ _ _ x.residents _ x.ended.items _ x.spans.items table i lawful all
+    keeps-next p past (reverse c.args.entries.now) e x.clock x.durable x.passes _ _ _ x.passes_out x.reads_out x.writes_out _ _ _ x.residents _ x.ended.items _ x.spans.items table i lawful all
     (ap (λ n. x.clock + n) (c.unwrap_or.ensures ∙ ap (λ o. unwrap_or o 0) c.ticks.ensures))
     (c.at_least.ensures ∙ ap (λ o. max (unwrap_or o 0) x.durable) c.marked.ensures)
     (ap (λ n. x.passes + n) (c.one_if.ensures ∙ ap (λ b. if b then 1 else 0) (c.is_some.ensures ∙ ap (λ o. is_some o) c.pass_of.ensures)))
-    (omega (arith, c.len-tickets.ensures, c.note_tickets.new.ended.ok.0))
     (omega (arith, c.in_ok-note_tickets.ensures.count, c.note_tickets.new.ended.ok.0, x.ended.ok.0))
     c.in_ok-pass_on.ensures.passes c.in_ok-pass_on.ensures.reads c.in_ok-pass_on.ensures.writes c.in_ok-pass_on.ensures.residents
     (c.in_ok-note_tickets.ensures.noted past)
