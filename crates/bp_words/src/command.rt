@@ -16,7 +16,8 @@ Status 2: one line on standard error says why there is no report, or only a part
 
 /// The words and options of a run, in short, and what the program does without words.
 const SUMMARY: &str = "\
-bpool run TRACE PAGEFILE [--frames N] [--k N] [--correlated N] [--retained N] [--page-size N] [--format N] [--order ORDER]
+bpool run TRACE PAGEFILE [--frames N] [--k N] [--correlated N] [--retained N] [--page-size N]
+          [--format N] [--order ORDER]
 
   TRACE             A path, or stdin for the standard input
   PAGEFILE          A path, or mem:N for N pages of zero bytes in memory, N from 1 to 1048576
@@ -40,8 +41,8 @@ Status 2: one line on standard error says why there is no report, or only a part
 
 /// How a migration goes, and what its statuses mean.
 const MIGRATION: &str = "\
-Each page gets its number and LSN 0. NEW is written beside itself as NEW.migrating, and takes its name once it is whole. \
-Status 0: NEW is made. Status 2: one line on standard error says why it is not; OLD is as it was.";
+Each page gets its number and LSN 0. NEW is written beside itself as NEW.migrating, and takes its name once it is \
+whole. Status 0: NEW is made. Status 2: one line on standard error says why it is not; OLD is as it was.";
 
 const TRACE: &str = "The trace: a path, or stdin for the standard input";
 

@@ -146,7 +146,7 @@ fn migrations_that_fail(rt: HostRuntime) -> Result<(), Fail> {
     expect_fault(&rt, old, pages.as_slice(), "./migration_fails.old", one)?;
     let new = "migration_fails.new";
     let length = "page file refused 3\n";
-    expect_fault(&rt, old, &pages[..24], new, length)?;
+    expect_fault(&rt, old, [7u8; 24].as_slice(), new, length)?;
     expect_fault(&rt, old, b"", new, length)?;
     let nowhere = "no_such_directory/migration_fails.new";
     expect_fault(&rt, old, pages.as_slice(), nowhere, "output failed\n")?;
@@ -255,7 +255,8 @@ fn engine_reads_the_pages_and_no_more(rt: HostRuntime) -> Result<(), Fail> {
     );
     assert_eq!(rt; made.as_slice(), two_slots().as_slice());
     assert_eq!(rt; reader, [7u8; 8].as_slice());
-    let mut short = &longer[..31];
+    let cut = [7u8; 31];
+    let mut short = cut.as_slice();
     let mut part = Vec::new(alloc);
     let ended = migrate_with(alloc, &mut short, &mut part, &geometry);
     assert_eq!(rt; ended, Err(MigrateFault::Read));

@@ -219,7 +219,7 @@ fn help_of_the_program(rt: HostRuntime) {
         "Usage: bpool <COMMAND>\n",
         "\n  run      Runs a trace over a buffer pool ",
         "\n  migrate  Writes a page file of version 1 anew in version 2\n",
-        "\nbpool run TRACE PAGEFILE [--frames N] [--k N] [--correlated N] [--retained N] [--page-size N] [--format N] [--order ORDER]\n",
+        "\nbpool run TRACE PAGEFILE [--frames N] [--k N] [--correlated N] [--retained N] [--page-size N]\n          [--format N] [--order ORDER]\n",
         "\n  TRACE             A path, or stdin for the standard input\n",
         "\n  PAGEFILE          A path, or mem:N for N pages of zero bytes in memory, N from 1 to 1048576\n",
         "\n  --frames N        1 to 65536 [default: 8]\n",
