@@ -48,13 +48,13 @@ impl<'a> Past<'a> {
         }
     }
 
-    /// Whether the page may leave: it is resident, has no pins, is not being written out, and was last referenced more
-    /// than the correlated period ago.
+    /// Whether a resident page may leave: it has no pins, is not being written out, and was last referenced more than the
+    /// correlated period ago.
     fn candidate(&self, page: PageNo) -> bool
+        requires { resident self.now.past page ≡ true }
         ensures { result ≡ of.candidate self.now.parameters self.now.past page }
     {
-        self.resident(page)
-            && self.pins(page) == 0
+        self.pins(page) == 0
             && !self.writing(page)
             && self.setup.settings.correlated < self.clock.saturating_sub(self.last(page))
     }
