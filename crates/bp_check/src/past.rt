@@ -43,10 +43,14 @@ impl<'a> Model for Past<'a> {
 
     ghost Value = { Seen };
 
-    ghost view = { λ p. record { parameters = parameters_of p.setup 0; past = reverse p.entries.now } };
+    ghost view = { λ p. record {
+      parameters = parameters_of p.setup 0;
+      past = reverse p.entries.now;
+    } };
 
-    ghost invariant = { λ p. Keeps (parameters_of p.setup 0) (reverse p.entries.now) p.clock p.durable p.passes
-        p.passes_out p.reads_out p.writes_out p.residents p.ended.items p.spans.items };
+    ghost invariant = { λ p. Keeps (parameters_of p.setup 0) (reverse p.entries.now)
+        p.clock p.durable p.passes p.passes_out p.reads_out p.writes_out p.residents
+        p.ended.items p.spans.items };
 }
 
 impl<'a> Past<'a> {
@@ -62,7 +66,8 @@ impl<'a> Past<'a> {
         none: &'a [Entry],
     ) -> Result<Past<'a>, AllocError>
         requires { none.now ≡ [] }
-        ensures { IfOk result (λ past. past ≡ record { parameters = parameters_of setup.now 0; past = [] }) }
+        ensures { IfOk result (λ past. past ≡
+            record { parameters = parameters_of setup.now 0; past = [] }) }
     {
         let spans = no_references(alloc, setup.geometry.pages as usize)?;
         Ok(Past {

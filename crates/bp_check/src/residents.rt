@@ -61,7 +61,8 @@ impl Residents {
         leaves: Option<PageNo>,
         loaded: Option<PageNo>,
     ) -> Result<(), AllocError>
-        ensures { OnOk result (self.new ≡ and_given loaded (without (λ (q : ℕ). q) leaves self.old)) }
+        ensures { OnOk result (self.new ≡
+            and_given loaded (without (λ (q : ℕ). q) leaves self.old)) }
     {
         if let Some(page) = leaves {
             self.pages.retain(|resident| *resident != page);

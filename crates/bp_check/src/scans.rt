@@ -21,7 +21,8 @@ fn has_ended(ended: &[bool], ticket: u64) -> bool
 
 /// Whether a write-out of the page begins that has ended well.
 fn began_saving(ended: &[bool], page: PageNo, reply: &Reply) -> bool
-    ensures { (past : Trail) → AreEnded past ended.now → result ≡ saved.began_saving past page reply.now }
+    ensures { (past : Trail) → AreEnded past ended.now →
+        result ≡ saved.began_saving past page reply.now }
 {
     match reply {
         Reply::WriteFirst {

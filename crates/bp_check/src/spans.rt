@@ -118,7 +118,8 @@ pub(crate) fn refer_at(
     ensures count { length table.new ≡ length table.old }
     ensures own { OnOk result (spans_at table.new page ≡
         with_reference correlated by_hit now (spans_at table.old page)) }
-    ensures others { OnOk result ((q : ℕ) → q ≢ page → spans_at table.new q ≡ spans_at table.old q) }
+    ensures others { OnOk result ((q : ℕ) →
+        q ≢ page → spans_at table.new q ≡ spans_at table.old q) }
 {
     let known = &mut table[page.number() as usize];
     refer(known, correlated, by_hit, now)?;
@@ -150,7 +151,8 @@ pub(crate) fn forgotten(
     reads: &Grants,
 ) -> u64
     ensures { result ≡ count_below
-        (λ p. of.outdated retained now residents.now reads.now p (spans_at table.now p)) (length table.now) }
+        (λ p. of.outdated retained now residents.now reads.now p (spans_at table.now p))
+        (length table.now) }
 {
     let mut count = 0;
     for at in 0..table.len() {

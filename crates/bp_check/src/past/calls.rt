@@ -72,7 +72,8 @@ impl<'a> Past<'a> {
 
     /// Whether the entry could be made now, and has a lawful reply. It fails by want of memory alone.
     pub(crate) fn is_lawful(&self, alloc: Global, e: &Entry) -> Result<bool, AllocError>
-        ensures { IfOk result (λ answer. IsTrue answer ↔ of.IsLawful self.now.parameters self.now.past e.now) }
+        ensures { IfOk result (λ answer. IsTrue answer ↔
+            of.IsLawful self.now.parameters self.now.past e.now) }
     {
         if e.client >= self.setup.clients || !self.allowed(e.client, &e.call) {
             return Ok(false);

@@ -33,7 +33,8 @@ fn note_references(
         event.page_of e.now.call < length spans.old }
     ensures count { length spans.new ≡ length spans.old }
     ensures noted { OnOk result ((past : Trail) →
-        KeepsSpans (parameters_of setup.now 0) past e.now clock residents.now reads_out.now spans.old spans.new) }
+        KeepsSpans (parameters_of setup.now 0) past e.now clock residents.now reads_out.now
+        spans.old spans.new) }
 {
     let page = page_of(&e.call);
     let correlated = setup.settings.correlated;
@@ -85,7 +86,8 @@ fn pass_on(
     ensures reads { OnOk result (reads_out.new ≡
         passed_on (passes.read_ticket_of e.now) (event.read_ticket_back e.now.call) reads_out.old) }
     ensures writes { OnOk result (writes_out.new ≡
-        passed_on (passes.write_ticket_of e.now) (event.write_ticket_back e.now.call) writes_out.old) }
+        passed_on (passes.write_ticket_of e.now) (event.write_ticket_back e.now.call)
+        writes_out.old) }
     ensures residents { OnOk result (residents.new ≡ pages_after e.now residents.old) }
 {
     passes_out.pass_on(pass_back(&e.call), pass_of(e))?;
@@ -106,7 +108,8 @@ impl<'a> Past<'a> {
     pub(crate) fn with(self, e: &Entry, entries: &'a [Entry]) -> Result<Past<'a>, AllocError>
         requires lawful { IsLawful self.parameters self.past e.now }
         requires all { reverse entries.now ≡ e.now ∷ self.past }
-        ensures { IfOk result (λ past. past ≡ record self.entry { past = e.now ∷ self.entry.past }) }
+        ensures { IfOk result (λ past. past ≡
+            record self.entry { past = e.now ∷ self.entry.past }) }
     {
         let Past {
             setup,

@@ -50,7 +50,8 @@ impl<'a> Past<'a> {
     }
 
     fn fix_reply(&self, alloc: Global, page: PageNo) -> Result<Reply, AllocError>
-        ensures { IfOk result (λ reply. reply ≡ of.fix_reply self.now.parameters self.now.past page) }
+        ensures { IfOk result (λ reply. reply ≡
+            of.fix_reply self.now.parameters self.now.past page) }
     {
         if self.loading(page) {
             Ok(Reply::Busy)
@@ -105,7 +106,8 @@ impl<'a> Past<'a> {
 
     /// The reply to a call, but for a read that found another page. It fails by want of memory alone.
     fn reply_of(&self, alloc: Global, call: &Call) -> Result<Reply, AllocError>
-        ensures { IfOk result (λ reply. reply ≡ of.reply_of self.now.parameters self.now.past call.now) }
+        ensures { IfOk result (λ reply. reply ≡
+            of.reply_of self.now.parameters self.now.past call.now) }
     {
         match call {
             Call::Fix(page) => self.fix_reply(alloc, *page),
@@ -121,7 +123,8 @@ impl<'a> Past<'a> {
     }
 
     fn is_reply(&self, alloc: Global, call: &Call, reply: &Reply) -> Result<bool, AllocError>
-        ensures { IfOk result (λ answer. IsTrue answer ↔ (reply.now ≡ of.reply_of self.now.parameters self.now.past call.now)) }
+        ensures { IfOk result (λ answer. IsTrue answer ↔
+            (reply.now ≡ of.reply_of self.now.parameters self.now.past call.now)) }
     {
         let lawful = self.reply_of(alloc, call)?;
         Ok(*reply == lawful)
@@ -135,7 +138,8 @@ impl<'a> Past<'a> {
         call: &Call,
         reply: &Reply,
     ) -> Result<bool, AllocError>
-        ensures { IfOk result (λ answer. IsTrue answer ↔ of.MayReply self.now.parameters self.now.past call.now reply.now) }
+        ensures { IfOk result (λ answer. IsTrue answer ↔
+            of.MayReply self.now.parameters self.now.past call.now reply.now) }
     {
         if tells_wrong_page(call, reply) {
             return Ok(true);
