@@ -153,6 +153,27 @@ fn ten_thousand_entries(rt: HostRuntime) {
     assert_eq!(&rt; judged(&rt, &setup, &trail), None);
 }
 
+/// Some visits, and the trail that was cut after them.
+fn piece_of(alloc: Global, core: &mut Core) -> Result<Vec<Entry>, Refusal> {
+    visits(alloc, core, 40)?;
+    core.cut()
+}
+
+// A piece alone goes on from serial numbers that nothing in it gave.
+#[test]
+fn pieces_of_a_trail(rt: HostRuntime) {
+    let setup = setup(5).expect(&rt, "the setup");
+    let mut core = new_core(rt.alloc(), &setup).expect(&rt, "the core");
+    let mut joined = piece_of(rt.alloc(), &mut core).expect(&rt, "the first piece");
+    let second = piece_of(rt.alloc(), &mut core).expect(&rt, "the second piece");
+    assert_eq!(&rt; judged(&rt, &setup, &joined), None);
+    assert_eq!(&rt; judged(&rt, &setup, &second), Some(0));
+    for e in second {
+        let _ = joined.push(e);
+    }
+    assert_eq!(&rt; judged(&rt, &setup, &joined), None);
+}
+
 // By another number of frames, the page that leaves first does not have to.
 #[test]
 fn trail_of_another_pool(rt: HostRuntime) {
