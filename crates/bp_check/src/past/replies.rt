@@ -122,6 +122,7 @@ impl<'a> Past<'a> {
         }
     }
 
+    /// Whether the reply is that of `reply_of`.
     fn is_reply(&self, alloc: Global, call: &Call, reply: &Reply) -> Result<bool, AllocError>
         ensures { IfOk result (λ answer. IsTrue answer ↔
             (reply.now ≡ of.reply_of self.now.parameters self.now.past call.now)) }
