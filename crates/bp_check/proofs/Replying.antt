@@ -22,7 +22,7 @@ pub may_by_page : (c : Parameters) (past : Trail) (call : Call) (reply : Reply) 
 may_by_page c past call reply told = inr (finds call reply told)
 
 may-by-reply : (c : Parameters) (past : Trail) (call : Call) (reply : Reply) (same : Bool) → tells_wrong_page call reply ≡ false → (IsTrue same ↔ (reply ≡ reply_of c past call)) → IsTrue same ↔ MayReply c past call reply
-may-by-reply c past call reply same silent is = ((λ s. inl (is.0 s)) , back)
+may-by-reply c past call reply same silent is = ((λ s. inl (is.0 s)), back)
   where
     back : MayReply c past call reply → IsTrue same
     back (inl known) = is.1 known
