@@ -40,7 +40,7 @@ fn migrate(
     let pages = two_pages();
     fs::write(rt, old, pages.as_slice())?;
     let line = format!(in rt.alloc(); "migrate {old} {new} --page-size 16")?;
-    expect_run(rt, line.as_str(), b"", 0, "", "")?;
+    expect_run(rt, line.as_str(), b"", 0, "", "");
     assert_eq!(rt; fs::read(rt, old)?.as_slice(), pages.as_slice());
     Ok(())
 }
@@ -57,7 +57,7 @@ fn migrate_two_pages(rt: HostRuntime) -> Result<(), Fail> {
         let line = format!(in rt.alloc();
             "run stdin {new} --format 2 --page-size 16 --order {order}"
         )?;
-        expect_run(&rt, line.as_str(), READS, 0, report, "")?;
+        expect_run(&rt, line.as_str(), READS, 0, report, "");
     }
     fs::remove_file(&rt, old)?;
     fs::remove_file(&rt, new)?;
@@ -75,7 +75,7 @@ fn misdirected_read(rt: HostRuntime) -> Result<(), Fail> {
         let line = format!(in rt.alloc();
             "run stdin {path} --format 2 --page-size 16 --order {order}"
         )?;
-        expect_run(&rt, line.as_str(), b"0,fix,1,,,\n", 1, report, "")?;
+        expect_run(&rt, line.as_str(), b"0,fix,1,,,\n", 1, report, "");
     }
     fs::remove_file(&rt, path)?;
     Ok(())
@@ -86,13 +86,38 @@ fn version_two_length(rt: HostRuntime) -> Result<(), Fail> {
     let path = "version_two_length.pages";
     fs::write(&rt, path, [0u8; 48].as_slice())?;
     let line = format!(in rt.alloc(); "run stdin {path} --format 2 --page-size 16")?;
-    expect_run(&rt, line.as_str(), b"", 2, "", "page file refused 3\n")?;
+    expect_run(&rt, line.as_str(), b"", 2, "", "page file refused 3\n");
     let plain = format!(in rt.alloc(); "run stdin {path} --format 1 --page-size 16")?;
     let nothing = "hits 0\nfaults 0\nevictions 0\nwrites 0\nfailed 0\nrefused 0\n";
-    expect_run(&rt, plain.as_str(), b"", 0, nothing, "")?;
+    expect_run(&rt, plain.as_str(), b"", 0, nothing, "");
     let memory = "run stdin mem:3 --format 2 --page-size 16";
-    expect_run(&rt, memory, b"", 0, nothing, "")?;
+    expect_run(&rt, memory, b"", 0, nothing, "");
     fs::remove_file(&rt, path)?;
+    Ok(())
+}
+
+/// Asserts that in either order a run over two pages of version 2 gives this report, and leaves page 1 with a first byte ff
+/// and page LSN 7.
+fn expect_lsn(
+    rt: &(impl Runtime<A = Global> + Files<File = File> + Threads + Wait + Sync + Abort),
+    old: &str,
+    new: &str,
+    trace: &[u8],
+    report: &str,
+) -> Result<(), Fail> {
+    for order in ["trace", "free"] {
+        migrate(rt, old, new)?;
+        let line = format!(in rt.alloc();
+            "run stdin {new} --frames 1 --format 2 --page-size 16 --order {order}"
+        )?;
+        expect_run(rt, line.as_str(), trace, 0, report, "");
+        let mut slots = two_slots();
+        slots[40] = 7;
+        slots[48] = 0xff;
+        assert_eq!(rt; fs::read(rt, new)?.as_slice(), slots.as_slice());
+        fs::remove_file(rt, old)?;
+        fs::remove_file(rt, new)?;
+    }
     Ok(())
 }
 
@@ -101,21 +126,17 @@ fn page_lsn_in_the_slot(rt: HostRuntime) -> Result<(), Fail> {
     let trace =
         b"0,fix,1,,,\n0,write,1,0,ff,7\n0,log,7,,,\n0,flush,1,,,\n0,unfix,1,,,\n".as_slice();
     let report = "out 1 1\nhits 0\nfaults 1\nevictions 0\nwrites 1\nfailed 0\nrefused 0\n";
-    for order in ["trace", "free"] {
-        let (old, new) = ("page_lsn.old", "page_lsn.new");
-        migrate(&rt, old, new)?;
-        let line = format!(in rt.alloc();
-            "run stdin {new} --format 2 --page-size 16 --order {order}"
-        )?;
-        expect_run(&rt, line.as_str(), trace, 0, report, "")?;
-        let mut slots = two_slots();
-        slots[40] = 7;
-        slots[48] = 0xff;
-        assert_eq!(rt; fs::read(&rt, new)?.as_slice(), slots.as_slice());
-        fs::remove_file(&rt, old)?;
-        fs::remove_file(&rt, new)?;
-    }
-    Ok(())
+    expect_lsn(&rt, "page_lsn.old", "page_lsn.new", trace, report)
+}
+
+// The page is written out because another takes its frame.
+#[test]
+fn page_lsn_of_a_victim(rt: HostRuntime) -> Result<(), Fail> {
+    let trace =
+        b"0,fix,1,,,\n0,write,1,0,ff,7\n0,unfix,1,,,\n0,tick,1,,,\n0,log,7,,,\n0,fix,0,,,\n0,unfix,0,,,\n".as_slice();
+    let report =
+        "out 2 1\nevict 2 1\nhits 0\nfaults 2\nevictions 1\nwrites 1\nfailed 0\nrefused 0\n";
+    expect_lsn(&rt, "victim_lsn.old", "victim_lsn.new", trace, report)
 }
 
 /// Asserts that a migration ends with status 2 and this line, that the old file is as it was, and that nothing is made beside the new
@@ -129,7 +150,7 @@ fn expect_fault(
 ) -> Result<(), Fail> {
     fs::write(rt, old, bytes)?;
     let line = format!(in rt.alloc(); "migrate {old} {new} --page-size 16")?;
-    expect_run(rt, line.as_str(), b"", 2, "", said)?;
+    expect_run(rt, line.as_str(), b"", 2, "", said);
     assert_eq!(rt; fs::read(rt, old)?.as_slice(), bytes);
     let beside = format!(in rt.alloc(); "{new}.migrating")?;
     assert!(rt; fs::metadata(rt, beside.as_str()).is_err());
@@ -152,10 +173,11 @@ fn migrations_that_fail(rt: HostRuntime) -> Result<(), Fail> {
     expect_fault(&rt, old, pages.as_slice(), nowhere, "output failed\n")?;
     assert!(rt; fs::metadata(&rt, new).is_err());
     let absent = "migrate no_such_file.old migration_fails.new --page-size 16";
-    expect_run(&rt, absent, b"", 2, "", "page file not opened\n")?;
+    expect_run(&rt, absent, b"", 2, "", "page file not opened\n");
     assert!(rt; fs::metadata(&rt, new).is_err());
     let odd = "migrate no_such_file.old migration_fails.new --page-size 24";
-    expect_run(&rt, odd, b"", 2, "", "page file refused 1\n")
+    expect_run(&rt, odd, b"", 2, "", "page file refused 1\n");
+    Ok(())
 }
 
 // A file that stands where the new one is to be made is not touched, and neither is OLD by another name.
@@ -170,16 +192,16 @@ fn files_in_the_way(rt: HostRuntime) -> Result<(), Fail> {
     fs::write(&rt, old, pages.as_slice())?;
     fs::write(&rt, beside, b"left over".as_slice())?;
     let line = "migrate in_the_way.old in_the_way.new --page-size 16";
-    expect_run(&rt, line, b"", 2, "", "output failed\n")?;
+    expect_run(&rt, line, b"", 2, "", "output failed\n");
     assert_eq!(rt; fs::read(&rt, beside)?.as_slice(), b"left over".as_slice());
     fs::remove_file(&rt, beside)?;
     fs::hard_link(&rt, old, new)?;
     let one = "error: OLD and NEW are one file; try 'bpool --help'\n";
-    expect_run(&rt, line, b"", 2, "", one)?;
+    expect_run(&rt, line, b"", 2, "", one);
     assert_eq!(rt; fs::read(&rt, old)?.as_slice(), pages.as_slice());
     fs::remove_file(&rt, new)?;
     fs::write(&rt, new, b"is overwritten".as_slice())?;
-    expect_run(&rt, line, b"", 0, "", "")?;
+    expect_run(&rt, line, b"", 0, "", "");
     assert_eq!(rt; fs::read(&rt, new)?.as_slice(), two_slots().as_slice());
     fs::remove_file(&rt, old)?;
     fs::remove_file(&rt, new)?;
