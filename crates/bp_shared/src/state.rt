@@ -15,14 +15,14 @@ mod turns;
 /// core was told.
 #[derive(Drop)]
 pub(crate) struct State<N: PoolName> {
-    pub(crate) core: Core,
-    pub(crate) reader: Reader,
+    core: Core,
+    reader: Reader,
     /// The ring of each client.
-    pub(crate) consumers: Vec<Consumer<PassNote>>,
+    consumers: Vec<Consumer<PassNote>>,
     /// How often device work ended.
     ends: u64,
     /// The passes taken from rings that the core did not know.
-    pub(crate) strays: u64,
+    strays: u64,
     /// Where the trail is handed out.
     pieces: Producer<Vec<Entry>>,
     of: PhantomData<N>,

@@ -44,6 +44,7 @@ impl<N: PoolName> State<N> {
         requires passes { 1 ≤ book.old.passes }
         requires copies { 2 ≤ book.old.copies }
         ensures owner { SameOwner book.old book.new }
+        ensures ends { self.new.ends ≡ self.old.ends }
         ensures turn { FixTurn book.old.client page result book.old.said book.new.said }
         ensures in_step { InStep (FixStep book.old.client page self.new.seen result)
             self.old book.old.said self.new book.new.said }
@@ -72,6 +73,7 @@ impl<N: PoolName> State<N> {
         requires passes { 1 ≤ book.old.passes }
         requires copies { 2 ≤ book.old.copies }
         ensures owner { SameOwner book.old book.new }
+        ensures ends { self.new.ends ≡ self.old.ends }
         ensures turn { FlushTurn book.old.client page result book.old.said book.new.said }
         ensures in_step { InStep (FlushStep book.old.client page self.new.seen result)
             self.old book.old.said self.new book.new.said }
@@ -136,6 +138,7 @@ impl<N: PoolName> State<N> {
         requires client_in { book.old.client < N.parameters.clients }
         requires room { 0 < book.old.entries }
         ensures owner { SameOwner book.old book.new }
+        ensures ends { self.new.ends ≡ self.old.ends }
         ensures outcome { TickSaid book.old.client n result book.old.said book.new.said }
         ensures in_step { InStep (λ core after. TickOutcome core book.old.client n result after)
             self.old book.old.said self.new book.new.said }
@@ -149,6 +152,7 @@ impl<N: PoolName> State<N> {
         requires client_in { book.old.client < N.parameters.clients }
         requires room { 0 < book.old.entries }
         ensures owner { SameOwner book.old book.new }
+        ensures ends { self.new.ends ≡ self.old.ends }
         ensures outcome { PurgeSaid book.old.client result book.old.said book.new.said }
         ensures in_step { InStep (λ core after. PurgeOutcome core book.old.client result after)
             self.old book.old.said self.new book.new.said }
@@ -169,6 +173,7 @@ impl<N: PoolName> State<N> {
         requires room { 0 < book.old.entries }
         requires copies { 0 < book.old.copies }
         ensures owner { SameOwner book.old book.new }
+        ensures ends { self.new.ends ≡ self.old.ends }
         ensures outcome { ReadSaid book.old.client pass.now result book.old.said book.new.said }
         ensures in_step { InStep (λ core after. ReadOutcome core pass.now result after)
             self.old book.old.said self.new book.new.said }
@@ -191,6 +196,7 @@ impl<N: PoolName> State<N> {
         requires fits { offset + length bytes ≤ N.parameters.size }
         requires room { 0 < book.old.entries }
         ensures owner { SameOwner book.old book.new }
+        ensures ends { self.new.ends ≡ self.old.ends }
         ensures outcome { WriteSaid book.old.client pass.now offset bytes lsn result
             book.old.said book.new.said }
         ensures in_step { InStep
