@@ -8,7 +8,7 @@ use Rattle.bp_page.specs.declared.refusals.PortFault.TheVariants.{Device, Memory
 
 -- one failure more, where the count still has room for it
 abbrev pub IsCounted : ℕ → ℕ → Type 0
-IsCounted old new = (old < new) ⊎ ((old + 1 ≡ 2 ^ 64) × (new ≡ old))
+IsCounted old new = ((old + 1 < 2 ^ 64) × (new ≡ old + 1)) ⊎ ((old + 1 ≡ 2 ^ 64) × (new ≡ old))
 
 -- a fault of the device is counted, and nothing else is
 abbrev pub Counts : {A : Type 0} → Result A PortFault → ℕ → ℕ → Type 0

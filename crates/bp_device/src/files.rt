@@ -1,7 +1,7 @@
 //! A page file, and the port on it.
-ghost use Rattle.std.specs.Prelude.{◌≡◌, ◌≢◌, ◌⊎◌, ◌*◌, ◌↔◌, true, IsOk, IfOk, IfErr, OnErr, length, vec_len};
+ghost use Rattle.std.specs.Prelude.{◌≡◌, ◌≢◌, ◌≤◌, ◌⊎◌, ◌*◌, ◌↔◌, true, IsOk, IfOk, IfErr, OnErr, length, vec_len};
 ghost use Rattle.bp_page.specs.Limits.{IsGeometry};
-ghost use Rattle.bp_page.specs.Slots.{slot_size};
+ghost use Rattle.bp_page.specs.Slots.{page_in, slot_size};
 ghost use Rattle.bp_device.specs.Ports.{PortView, has_headers};
 ghost use Rattle.bp_device.specs.Files.{IsFileLength};
 
@@ -113,13 +113,24 @@ impl FilePort {
         ensures wrong { result ≡ Err PortFault.WrongPage → self.now.headed ≡ true }
         ensures not_counted { result ≢ Err PortFault.Device }
     {
-        match self.format {
-            Format::Plain => unslot(self.alloc, &self.buffer),
-            Format::Headed => match unslot2(self.alloc, page, &self.buffer) {
-                Ok((_, image)) => Ok(image),
-                Err(fault) => Err(fault),
-            },
-        }
+        image_in(self.alloc, self.format, page, &self.buffer)
+    }
+}
+
+/// The image in a slot of this version that was read as that of this page. `WrongPage` exactly where the slot has the number
+/// of another page, else `Memory` where the image can't be had.
+fn image_in(alloc: Global, format: Format, page: PageNo, slot: &[u8]) -> Result<Image, PortFault>
+    requires header { has_headers format ≡ true → 16 ≤ length slot.now }
+    ensures wrong { (result ≡ Err PortFault.WrongPage) ↔ ((has_headers format ≡ true) × (page_in slot.now ≢ page)) }
+    ensures size { IfOk result (λ image. slot_size format (length image) ≡ length slot.now) }
+    ensures not_counted { result ≢ Err PortFault.Device }
+{
+    match format {
+        Format::Plain => unslot(alloc, slot),
+        Format::Headed => match unslot2(alloc, page, slot) {
+            Ok((_, image)) => Ok(image),
+            Err(fault) => Err(fault),
+        },
     }
 }
 
