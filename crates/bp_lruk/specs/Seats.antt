@@ -1,5 +1,5 @@
 -- Candidates that are entered by seats: each stands at a seat of its own, as a page stands in a frame.
-use Rattle.std.specs.Prelude.{◌≡◌, ℕ, ◌*◌, ◌+◌, ◌-◌, ◌/◌, ◌≢◌, ◌<◌, ◌≤◌, ◌&&◌, ◌==◌, nat_lt, zero, suc, Bool, true, List, [], ◌∷◌, length, slice_index_or, set, Option, Some, None, if◌then◌else◌}
+use Rattle.std.specs.Prelude.{◌≡◌, ◌⊎◌, ℕ, ◌*◌, ◌+◌, ◌-◌, ◌/◌, ◌≢◌, ◌<◌, ◌≤◌, ◌&&◌, ◌==◌, nat_lt, zero, suc, Bool, true, List, [], ◌∷◌, length, slice_index_or, set, Option, Some, None, if◌then◌else◌}
 use Rattle.bp_lruk.specs.Candidates.{Candidate, Entered, is_before}
 use Rattle.bp_lruk.specs.declared.tournament.Winners.{Winners}
 
@@ -56,54 +56,74 @@ pub record IsFirst (seats : List (Option Candidate)) (P : Candidate → Type 0) 
 
 -- ---- a tree of winners: below the node i stand the nodes 2 i and 2 i + 1
 
+-- whom a node knows: who stands at the seats whose numbers it has
+pub record Known : Type 0 where
+  pub first : Option Candidate
+  pub older : Option Candidate
+
+-- nobody stands at a number past the seats
+abbrev pub known_by : List (Option Candidate) → Winners → Known
+known_by seats w = record { first = seat_at seats w.first; older = seat_at seats w.older }
+
 -- nobody stands there, or one who was last referenced before a time
 abbrev pub is_aged : ℕ → Option Candidate → Bool
 is_aged time None = true
 is_aged time (Some e) = nat_lt e.1 time
 
 -- who comes first of those last referenced before a time; one who was not where the node does not know
-unfoldable pub aged_first : ℕ → Winners → Option Candidate
+unfoldable pub aged_first : ℕ → Known → Option Candidate
 aged_first time w = if is_aged time w.first then w.first else w.older
 
 -- below two nodes, who comes first of those last referenced before `first`; where a node does not know, `first` again
-unfoldable pub older_of : Winners → Winners → Option Candidate → Option Candidate
+unfoldable pub older_of : Known → Known → Option Candidate → Option Candidate
 older_of a b None = None
 older_of a b (Some e) =
     if is_aged e.1 (aged_first e.1 a) && is_aged e.1 (aged_first e.1 b)
     then winner (aged_first e.1 a) (aged_first e.1 b)
     else Some e
 
--- what is known of the seats below two nodes
-unfoldable pub both : Winners → Winners → Winners
+-- the same by numbers
+abbrev pub older_at : List (Option Candidate) → Winners → Winners → ℕ → Option Candidate
+older_at seats a b first = older_of (known_by seats a) (known_by seats b) (seat_at seats first)
+
+-- who is known of the seats below two nodes
+unfoldable pub both : Known → Known → Known
 both a b = record { first = winner a.first b.first; older = older_of a b (winner a.first b.first) }
 
--- what is known of one seat
-abbrev pub alone : Option Candidate → Winners
-alone e = record { first = e; older = None }
-
--- below the nodes stand the seats
-unfoldable pub node : List Winners → List (Option Candidate) → ℕ → Winners
-node nodes seats i =
-    if nat_lt i (length nodes) then slice_index_or nodes i (alone None) else alone (seat_at seats (i - length nodes))
+-- below the nodes stand the seats, each a node that knows itself
+unfoldable pub node : List Winners → ℕ → Winners
+node nodes i =
+    if nat_lt i (length nodes)
+    then slice_index_or nodes i (record { first = 0; older = 0 })
+    else record { first = i - length nodes; older = length nodes }
 
 abbrev pub IsWon : List Winners → List (Option Candidate) → ℕ → Type 0
-IsWon nodes seats i = node nodes seats i ≡ both (node nodes seats (2 * i)) (node nodes seats (2 * i + 1))
+IsWon nodes seats i = known_by seats (node nodes i) ≡ both (known_by seats (node nodes (2 * i))) (known_by seats (node nodes (2 * i + 1)))
 
--- each node has what is known of the two nodes below it
+-- a node has the number of a seat
+abbrev pub Has : Winners → ℕ → Type 0
+Has w seat = (w.first ≡ seat) ⊎ (w.older ≡ seat)
+
+-- each number that a node has is of one of the two others
+abbrev pub IsOfBoth : Winners → Winners → Winners → Type 0
+IsOfBoth a b w = (seat : ℕ) → Has w seat → Has a seat ⊎ Has b seat
+
+abbrev pub IsFromBelow : List Winners → ℕ → Type 0
+IsFromBelow nodes i = IsOfBoth (node nodes (2 * i)) (node nodes (2 * i + 1)) (node nodes i)
+
+-- whoever's number a node has stands at that seat, if it is one of a seat
+abbrev pub IsTaken : List (Option Candidate) → ℕ → Type 0
+IsTaken seats seat = seat < length seats → seat_at seats seat ≢ None
+
+abbrev pub AreTaken : List (Option Candidate) → Winners → Type 0
+AreTaken seats w = (seat : ℕ) → Has w seat → IsTaken seats seat
+
+-- each node knows whom the two nodes below it know to win, by numbers that these have
 pub record IsTournament (nodes : List Winners) (seats : List (Option Candidate)) : Type 0 where
   pub length_is : length nodes ≡ length seats
+  pub taken : (i : ℕ) → 1 ≤ i → i < length nodes → AreTaken seats (node nodes i)
+  pub from_below : (i : ℕ) → 1 ≤ i → i < length nodes → IsFromBelow nodes i
   pub won : (i : ℕ) → 1 ≤ i → i < length nodes → IsWon nodes seats i
-
--- the first comes before the other, and was not last referenced after it
-abbrev pub Outruns : Option Candidate → Option Candidate → Type 0
-Outruns None e = ⊥
-Outruns (Some first) None = Unit {0}
-Outruns (Some first) (Some e) = (is_before first e ≡ true) × (first.1 ≤ e.1)
-
--- and so has each node but the one above this one
-pub record IsWonBut (nodes : List Winners) (seats : List (Option Candidate)) (at : ℕ) : Type 0 where
-  pub length_is : length nodes ≡ length seats
-  pub won : (i : ℕ) → 1 ≤ i → i < length nodes → i ≢ at / 2 → IsWon nodes seats i
 
 -- the node that stands so many steps above another
 abbrev pub above : ℕ → ℕ → ℕ
@@ -113,7 +133,7 @@ above (suc steps) i = above steps i / 2
 abbrev pub IsBelow : ℕ → ℕ → Type 0
 IsBelow i j = (steps : ℕ) × (above steps j ≡ i)
 
--- the same, of the seats below a node
+-- the first of those below a node
 pub record IsFirstBelow (seats : List (Option Candidate)) (i : ℕ) (P : Candidate → Type 0) (first : Option Candidate) : Type 0 where
   pub there : (x : Candidate) → first ≡ Some x → (k : ℕ) × IsBelow i (length seats + k) × (seat_at seats k ≡ Some x) × P x
   pub none_before : (k : ℕ) (x : Candidate) → IsBelow i (length seats + k) → seat_at seats k ≡ Some x → P x → winner first (Some x) ≡ first

@@ -17,7 +17,7 @@ use std::marker::Model;
 /// O(log frames), and for a hot page mostly a step or two. `victim` takes the page that left last out, and else moves
 /// none. With no correlated period, at a time that is not before any reference, the root knows the victim, so that
 /// `victim` is O(log frames), and O(1) where no page left. Else it looks at O(log frames) nodes for each page that is
-/// still too young, and never at more than two for each frame. The memory is taken once, by `new`: 96 bytes a seat.
+/// still too young, and never at more than two for each frame. The memory is taken once, by `new`: 41 bytes a seat.
 #[derive(Drop)]
 pub struct Candidates {
     correlated: u64,

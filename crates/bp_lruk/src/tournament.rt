@@ -1,9 +1,11 @@
 //! A tree of winners over a number of seats.
-ghost use Rattle.std.specs.Prelude.{◌≡◌, ℕ, ◌*◌, ◌+◌, ◌-◌, ◌/◌, ◌^◌, ◌<◌, ◌≤◌, [], IsTrue, IsFalse, Some, None, IfOk, IsSome, length, replicate, set, slice_index_or, ◌↔◌};
+ghost use Rattle.std.specs.Prelude.{◌≡◌, ◌⊎◌, ℕ, ◌*◌, ◌+◌, ◌-◌, ◌/◌, ◌^◌, ◌<◌, ◌≤◌, [], IsTrue, IsFalse, Some, None, IfOk, IsSome, length, replicate, set, slice_index_or};
 ghost use Rattle.bp_lruk.specs.Candidates.{Candidate};
-ghost use Rattle.bp_lruk.specs.Seats.{winner, is_aged, aged_first, older_of, both, node, IsFirst, IsFirstBelow, IsTournament, IsWon, IsWonBut, Outruns};
+ghost use Rattle.bp_lruk.specs.Seats.{winner, seat_at, is_aged, aged_first, older_of, both, node, known_by, Has, IsOfBoth, IsTaken, AreTaken, IsFirst, IsFirstBelow, IsTournament, older_at};
+ghost use Rattle.bp_lruk.specs.Replay.{IsWonUpTo};
 
 use crate::candidates::precedes;
+use crate::seat_list::SeatList;
 use bp_page::PageNo;
 use std::alloc::{AllocError, Global};
 use std::marker::Model;
@@ -11,26 +13,30 @@ use std::marker::Model;
 /// Who stands at a seat, or nobody.
 pub type Seat = Option<(u64, u64, PageNo)>;
 
-/// What a node knows of the seats below it: who comes first, and who comes first of those that were last referenced
-/// before that one. Where the node does not know the second, it has the first again.
+/// Whom a node knows of the seats below it, by the numbers of their seats: who comes first, and who comes first of
+/// those that were last referenced before that one. Where the node does not know the second, it has the first again.
+/// The number of seats stands for nobody.
 #[derive(Clone, Copy)]
 struct Winners {
-    first: Seat,
-    older: Seat,
+    first: usize,
+    older: usize,
 }
 
 /// Seats, and a tree over them that knows at each node who comes first of the seats below it.
 ///
-/// `put` goes up from its seat as far as it changes what a node knows, at most to the root: O(log seats). It ends at once
-/// where the seat, before and after the change, comes after its neighbour and was not last referenced before that one.
+/// `put` goes up from its seat as far as it changes what a node knows, at most to the root: O(log seats). It ends at
+/// the first node that has the numbers it had, none of them that of the seat: nothing above knows who stood there or
+/// stands there now. So it takes one step where the seat, before and after the change, comes after its neighbour and
+/// was not last referenced before that one.
+///
 /// `first_before` asks the root, and then looks below those nodes that do not know. Below each of them stand two who
 /// were not last referenced before the time that is asked for, nor at the same time. So the root knows where nobody was
 /// referenced after that time, and else it looks at O(log seats) nodes for each who was not last referenced before it,
-/// and never at more than two for each seat. The memory is taken once, by `new`: 96 bytes a seat.
+/// and never at more than two for each seat. The memory is taken once, by `new`: 41 bytes a seat.
 #[derive(Drop)]
 pub struct Tournament {
     nodes: Vec<Winners>,
-    seats: Vec<Seat>,
+    seats: SeatList,
 }
 
 impl Model for Tournament {
@@ -40,49 +46,43 @@ impl Model for Tournament {
 
     ghost Value = { List (Option Candidate) };
 
-    ghost view = { λ t. t.seats.items };
+    ghost view = { λ t. t.seats };
 
-    ghost invariant = { λ t. IsTournament t.nodes.items t.seats.items };
+    ghost invariant = { λ t. IsTournament t.nodes.items t.seats };
 }
 
 // Of two seats, the one that comes first.
-fn winner(a: &Seat, b: &Seat) -> Seat
-    ensures { result ≡ winner a.now b.now }
+fn winner(seats: &SeatList, a: usize, b: usize) -> usize
+    requires a { IsTaken seats.now a }
+    requires b { IsTaken seats.now b }
+    ensures either { (result ≡ a) ⊎ (result ≡ b) }
+    ensures first { seat_at seats.now result ≡ winner (seat_at seats.now a) (seat_at seats.now b) }
 {
-    match (*a, *b) {
-        (None, _) => *b,
-        (Some(_), None) => *a,
-        (Some(x), Some(y)) => if precedes(&y, &x) { *b } else { *a },
+    match (seats.at(a), seats.at(b)) {
+        (None, _) => b,
+        (Some(_), None) => a,
+        (Some(x), Some(y)) => if precedes(&y, &x) { b } else { a },
     }
 }
 
-// Whether both have the same.
-fn is_same(a: &Seat, b: &Seat) -> bool
-    ensures { IsTrue result ↔ (a.now ≡ b.now) }
+// Whether nobody stands at a seat, or one who was last referenced before a time.
+fn is_aged(seats: &SeatList, seat: usize, time: u64) -> bool
+    requires { IsTaken seats.now seat }
+    ensures { result ≡ is_aged time (seat_at seats.now seat) }
 {
-    match (*a, *b) {
-        (None, None) => true,
-        (Some(x), Some(y)) => x.2.number() == y.2.number() && x.1 == y.1 && x.0 == y.0,
-        (None, Some(_)) => false,
-        (Some(_), None) => false,
-    }
-}
-
-// Whether nobody stands there, or one who was last referenced before a time.
-fn is_aged(seat: &Seat, time: u64) -> bool
-    ensures { result ≡ is_aged time seat.now }
-{
-    match seat {
+    match seats.at(seat) {
         None => true,
         Some(entry) => entry.1 < time,
     }
 }
 
 // Who comes first of those last referenced before a time; one who was not where the node does not know.
-fn aged_first(winners: &Winners, time: u64) -> Seat
-    ensures { result ≡ aged_first time winners.now }
+fn aged_first(seats: &SeatList, winners: &Winners, time: u64) -> usize
+    requires { AreTaken seats.now winners.now }
+    ensures had { Has winners.now result }
+    ensures first { seat_at seats.now result ≡ aged_first time (known_by seats.now winners.now) }
 {
-    if is_aged(&winners.first, time) {
+    if is_aged(seats, winners.first, time) {
         winners.first
     } else {
         winners.older
@@ -90,43 +90,55 @@ fn aged_first(winners: &Winners, time: u64) -> Seat
 }
 
 // Of the seats below two nodes, who comes first of those last referenced before the one that comes first of all.
-fn older_of(a: &Winners, b: &Winners, first: &Seat) -> Seat
-    ensures { result ≡ older_of a.now b.now first.now }
+fn older_of(seats: &SeatList, a: &Winners, b: &Winners, first: usize) -> usize
+    requires a { AreTaken seats.now a.now }
+    requires b { AreTaken seats.now b.now }
+    requires first { IsTaken seats.now first }
+    ensures had { (Has a.now result ⊎ Has b.now result) ⊎ (result ≡ first) }
+    ensures older { seat_at seats.now result ≡ older_at seats.now a.now b.now first }
 {
-    let Some(entry) = *first else {
-        return None;
+    let Some(entry) = seats.at(first) else {
+        return first;
     };
-    let x = aged_first(a, entry.1);
-    let y = aged_first(b, entry.1);
-    if is_aged(&x, entry.1) && is_aged(&y, entry.1) {
-        winner(&x, &y)
+    let x = aged_first(seats, a, entry.1);
+    let y = aged_first(seats, b, entry.1);
+    if is_aged(seats, x, entry.1) && is_aged(seats, y, entry.1) {
+        winner(seats, x, y)
     } else {
-        *first
+        first
     }
 }
 
-// What is known of the seats below two nodes.
-fn both(a: &Winners, b: &Winners) -> Winners
-    ensures { result ≡ both a.now b.now }
+// Whom a node above two others knows.
+fn both(seats: &SeatList, a: &Winners, b: &Winners) -> Winners
+    requires a { AreTaken seats.now a.now }
+    requires b { AreTaken seats.now b.now }
+    ensures had { IsOfBoth a.now b.now result }
+    ensures known { let knows = known_by seats.now in
+        knows result ≡ both (knows a.now) (knows b.now) }
 {
-    let first = winner(&a.first, &b.first);
-    let older = older_of(a, b, &first);
+    let first = winner(seats, a.first, b.first);
+    let older = older_of(seats, a, b, first);
     Winners { first, older }
 }
 
-// The node at a place: the seats stand below the others.
-fn node(nodes: &[Winners], seats: &[Seat], at: usize) -> Winners
+// The node at a place: the seats stand below the others, and an empty one knows nobody.
+fn node(nodes: &[Winners], seats: &SeatList, at: usize) -> Winners
     requires as_many { length nodes.now ≡ length seats.now }
-    requires in_range { at < 2 * length seats.now }
-    ensures { result ≡ node nodes.now seats.now at }
+    requires in_range { at < 2 * length nodes.now }
+    requires taken { at < length nodes.now → AreTaken seats.now (node nodes.now at) }
+    ensures taken { AreTaken seats.now result }
+    ensures had { (seat : ℕ) → Has result seat → Has (node nodes.now at) seat }
+    ensures known { known_by seats.now result ≡ known_by seats.now (node nodes.now at) }
 {
     if at < nodes.len() {
-        nodes[at]
-    } else {
-        Winners {
-            first: seats[at - nodes.len()],
-            older: None,
-        }
+        return nodes[at];
+    }
+    let nobody = nodes.len();
+    let seat = at - nobody;
+    Winners {
+        first: if seats.is_taken(seat) { seat } else { nobody },
+        older: nobody,
     }
 }
 
@@ -139,46 +151,19 @@ fn beside(at: usize) -> usize
     if at % 2 == 0 { at + 1 } else { at - 1 }
 }
 
-// Whether who comes first of the seats below a node comes before this one, and was not last referenced after it. Such a
-// seat changes nothing of what a node right above it knows.
-fn is_outrun(winners: &Winners, seat: &Seat) -> bool
-    ensures { IsTrue result → Outruns winners.now.first seat.now }
+// Whether a node has these numbers already, and none of them is the seat's.
+fn is_settled(winners: &Winners, found: &Winners, seat: usize) -> bool
+    ensures same { IsTrue result → winners.now ≡ found.now }
+    ensures apart { IsTrue result → Has found.now seat → ⊥ }
 {
-    match (winners.first, *seat) {
-        (None, _) => false,
-        (Some(_), None) => true,
-        (Some(first), Some(entry)) => precedes(&first, &entry) && first.1 <= entry.1,
-    }
+    let is_same = winners.first == found.first && winners.older == found.older;
+    is_same && found.first != seat && found.older != seat
 }
 
-// Whether the nodes surely know the same once a seat is changed: another outruns it before and after that.
-fn is_changed_unseen(nodes: &[Winners], seats: &[Seat], seat: usize, entry: &Seat) -> bool
-    requires won { IsTournament nodes.now seats.now }
-    requires in_range { seat < length seats.now }
-    ensures { IsTrue result → IsTournament nodes.now (set seats.now seat entry.now) }
-{
-    let above = &nodes[(seats.len() + seat) / 2];
-    is_outrun(above, &seats[seat]) && is_outrun(above, entry)
-}
-
-// Puts what is known into a node, and tells whether that is another than before.
-fn renew(nodes: &mut [Winners], at: usize, winners: &Winners) -> bool
-    requires { at < length nodes.old }
-    ensures renewed { IsTrue result → nodes.new ≡ set nodes.old at winners.now }
-    ensures same { IsFalse result → nodes.new ≡ nodes.old }
-    ensures known { IsFalse result → slice_index_or nodes.old at winners.now ≡ winners.now }
-{
-    if is_same(&winners.first, &nodes[at].first) && is_same(&winners.older, &nodes[at].older) {
-        return false;
-    }
-    nodes[at] = *winners;
-    true
-}
-
-// Finds out anew what the nodes above a seat that was changed know, up to the first where nothing changes.
-fn replay(nodes: &mut [Winners], seats: &[Seat], seat: usize)
+// Finds out anew whom the nodes above a seat that was changed know, up to the first that is settled.
+fn replay(nodes: &mut [Winners], seats: &SeatList, seat: usize)
     requires seat { seat < length seats.now }
-    requires but { IsWonBut nodes.old seats.now (length seats.now + seat) }
+    requires changed { IsWonUpTo nodes.old seats.now seat (length seats.now + seat) }
     ensures won { IsTournament nodes.new seats.now }
 {
     let mut at = seats.len() + seat;
@@ -186,27 +171,29 @@ fn replay(nodes: &mut [Winners], seats: &[Seat], seat: usize)
     while at > 1 {
         let other = node(nodes, seats, beside(at));
         at /= 2;
-        winners = both(&winners, &other);
-        if !renew(nodes, at, &winners) {
+        winners = both(seats, &winners, &other);
+        if is_settled(&nodes[at], &winners, seat) {
             return;
         }
+        nodes[at] = winners;
     }
 }
 
 // Who comes first of those below a node that were last referenced before a time; it looks below nodes that do not know.
-fn first_below(nodes: &[Winners], seats: &[Seat], at: usize, time: u64) -> Seat
+fn first_below(nodes: &[Winners], seats: &SeatList, at: usize, time: u64) -> usize
     requires won { IsTournament nodes.now seats.now }
     requires positive { 1 ≤ at }
     requires in_range { at < 2 * length seats.now }
-    ensures { IsFirstBelow seats.now at (λ e. e.1 < time) result }
+    ensures taken { IsTaken seats.now result }
+    ensures first { IsFirstBelow seats.now at (λ e. e.1 < time) (seat_at seats.now result) }
 {
-    let first = aged_first(&node(nodes, seats, at), time);
-    if is_aged(&first, time) {
+    let first = aged_first(seats, &node(nodes, seats, at), time);
+    if is_aged(seats, first, time) {
         return first;
     }
     let left = first_below(nodes, seats, 2 * at, time);
     let right = first_below(nodes, seats, 2 * at + 1, time);
-    winner(&left, &right)
+    winner(seats, left, right)
 }
 
 impl Tournament {
@@ -215,11 +202,11 @@ impl Tournament {
         ensures { IfOk result (λ t. t ≡ replicate size None) }
     {
         let nobody = Winners {
-            first: None,
-            older: None,
+            first: size,
+            older: size,
         };
         let nodes = vec![in alloc; nobody; size]?;
-        let seats = vec![in alloc; None; size]?;
+        let seats = SeatList::new(alloc, size)?;
         Ok(Tournament { nodes, seats })
     }
 
@@ -227,10 +214,11 @@ impl Tournament {
     pub fn first_before(&self, time: u64) -> Seat
         ensures { IsFirst self.now (λ e. e.1 < time) result }
     {
-        if self.seats.is_empty() {
+        if self.seats.len() == 0 {
             return None;
         }
-        first_below(&self.nodes, &self.seats, 1, time)
+        let first = first_below(&self.nodes, &self.seats, 1, time);
+        self.seats.at(first)
     }
 
     /// Changes who stands at a seat.
@@ -238,10 +226,7 @@ impl Tournament {
         requires { seat < length self.old }
         ensures { self.new ≡ set self.old seat entry }
     {
-        let is_unseen = is_changed_unseen(&self.nodes, &self.seats, seat, &entry);
-        self.seats[seat] = entry;
-        if !is_unseen {
-            replay(&mut self.nodes, &self.seats, seat);
-        }
+        self.seats.put(seat, entry);
+        replay(&mut self.nodes, &self.seats, seat);
     }
 }
