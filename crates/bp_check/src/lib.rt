@@ -1,5 +1,5 @@
 //! An independent judge of trails: it tells of a list of entries whether each could be made after those before it and
-//! has the one lawful reply, or which one is the first that is not so.
+//! has a lawful reply, or which one is the first that is not so.
 //!
 //! It follows the definitions of `bp_trail` in the order of time, and shares no code with the core. What folds (the
 //! clock, the durable mark, the counts, the passes, tickets and pages that are there, the spans of the bursts) is kept

@@ -65,7 +65,7 @@ abbrev pub FlushSaid : ℕ → ℕ → Result Flushed Refusal → Trail → Trai
 FlushSaid client page (Ok how) said after = Says (λ piece. FlushPiece session client page piece accepted × Ends (flushed_reply how) piece) None said after
 FlushSaid client page (Err why) said after = Says (λ piece. FlushPiece session client page piece (refused (number_of why)) × Repeats why piece) None said after
 
--- a pass that the list leaves out is posted, or finds the ring full: then no place was free, and nothing changes;
+-- a pass that the list leaves out is posted, or finds the ring full: then the session knew of no free place, and nothing changes;
 -- any other is unknown
 abbrev pub UnfixSaid : {A : Type 0} → SessionValue → Pass → Result A (Pass × Refusal) → SessionValue → Type 0
 UnfixSaid old pass (Ok done) new =

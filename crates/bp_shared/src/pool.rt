@@ -218,7 +218,7 @@ impl<N: PoolName> SharedPool<N> {
     }
 
     /// Ends the pool: drains the rings once more, and gives back the core, the mark and its reader. It neither waits nor
-    /// takes memory. A pass that is posted later stays out. The core's trail goes on from all that the taker was handed.
+    /// takes memory. A pass that no ring has by then stays out. The core's trail goes on from all that the taker was handed.
     pub fn finish(self, taker: Taker<N>) -> (Core, Mark, Reader)
         ensures before { result.0.before ≡ taker.past }
         ensures mark { result.1 ≡ N.mark }
