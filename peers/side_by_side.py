@@ -8,9 +8,9 @@
     peers/side_by_side.py ROUNDS threads
 
 For each ROOM the trail has that room and is cut when half full; ROOM 0 is a trail that is never cut, and ROOM
-`silent` one that is only counted. Each number is in fixes and unfixes a second of processor time. With `threads` it is in those of all client threads
-together, a second of wall clock time. A ratio is of one round, above 1 where the proved pool is faster. The
-median of the rounds comes first, and then the least and the greatest.
+`silent` one that is only counted. Each number is in fixes and unfixes a second of processor time. With `threads` it
+is in those of all client threads together, a second of wall clock time. A ratio is of one round, above 1 where the
+proved pool is faster. The median of the rounds comes first, and then the least and the greatest.
 """
 import os
 import re

@@ -3,10 +3,11 @@ use std::hint::spin_loop;
 use std::sync::{Mutex, MutexGuard, Wait};
 
 // How often a held lock is looked at again before the wait is a sleep.
-const LOOKS: u32 = 8;
+const LOOKS: u32 = 6;
 
-// The steps of the first pause between two looks: a few microseconds. Each pause is twice the one before.
-const FIRST_PAUSE: u32 = 128;
+// The steps of the first pause between two looks: some twenty microseconds, so that who has the lock makes some fifty calls
+// before it is looked at again. Each pause is twice the one before.
+const FIRST_PAUSE: u32 = 512;
 
 // Lets a short time go by without a sleep.
 fn pause(steps: u32) {
