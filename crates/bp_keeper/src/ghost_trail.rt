@@ -1,8 +1,10 @@
-//! A trail that stands in proofs alone. Every function that makes ghost data stands in this file, to be read by eye.
+//! A trail that stands in proofs alone, and an image. Each of the five functions that make ghost data stands in this file,
+//! to be read by eye.
 //!
-//! A `GhostTrail` has no bytes, and its functions do nothing when they run. Their proofs, by hand, pick the list that the
-//! clause names, and no memory of the program ties it down. So a reviewer has to see that the clause of each says what
-//! its name says: no entries; these entries after them; this entry after them, with its bytes or with borrowed ones.
+//! A `GhostTrail` and a `GhostImage` have no bytes, and their functions do nothing when they run. Their proofs, by hand,
+//! pick the list that the clause names, and no memory of the program ties it down. So a reviewer has to see that the
+//! clause of each says what its name says: no entries; these entries after them; this entry after them, with its bytes
+//! or with borrowed ones; the bytes of this image.
 //!
 //! What is proved over such a list is not vacuous. The outcome of each call of a core says which entry the list gets:
 //! the call and its arguments, with the very answer that the caller was given. The list stays legal, and in a legal list
@@ -11,11 +13,11 @@
 //! as the edits in `must-fail` show. And the proof is one for every keeper, also for the one that has all in memory.
 //!
 //! [`Keeper`]: crate::Keeper
-ghost use Rattle.std.specs.Prelude.{◌≡◌, [], ◌∷◌, ◌++◌, reverse};
+ghost use Rattle.std.specs.Prelude.{◌≡◌, ℕ, List, [], ◌∷◌, ◌++◌, reverse};
 ghost use Rattle.std.specs.Borrow.{ftrue};
 ghost use Rattle.bp_trail.specs.Trail.{Trail};
 
-use bp_page::Lsn;
+use bp_page::{Image, Lsn};
 use bp_trail::{Call, Entry, Grant};
 use std::marker::{Model, Send};
 
@@ -32,7 +34,17 @@ impl Model for GhostTrail {
 // It owns nothing.
 unsafe impl Send for GhostTrail {}
 
-/// An entry whose bytes someone else keeps.
+/// The bytes of an image. They stand in proofs alone, and take no memory.
+#[derive(Drop)]
+pub struct GhostImage {
+    pub ghost bytes: { List ℕ },
+}
+
+impl Model for GhostImage {
+    ghost also_owns = { λ _. ftrue };
+}
+
+/// An entry whose bytes someone else keeps, or nobody.
 #[derive(Drop)]
 pub(crate) struct Shown<'a> {
     pub(crate) grant: Grant,
@@ -45,6 +57,8 @@ pub(crate) struct Shown<'a> {
 pub(crate) enum Event {
     Read,
     Write { offset: u32, lsn: Lsn },
+    /// The image moved on before the number of its pass was known.
+    Load { pass: u64, image: GhostImage },
     BeginWrite(Call),
 }
 
@@ -79,5 +93,15 @@ impl GhostTrail {
         ensures { result.past ≡ shown_entry _shown.now ∷ self.now.past }
     {
         GhostTrail {}
+    }
+}
+
+impl GhostImage {
+    /// The bytes of this image.
+    #[inline(always)]
+    pub(crate) fn of(_image: &Image) -> GhostImage
+        ensures { result.bytes ≡ _image.now }
+    {
+        GhostImage {}
     }
 }

@@ -1,9 +1,10 @@
 //! The entries in memory, in room that was reserved once.
-ghost use Rattle.std.specs.Prelude.{◌≡◌, ◌≤◌, ◌++◌, IsOk, IfOk, OnErr, reverse, vec_capacity};
+ghost use Rattle.std.specs.Prelude.{◌≡◌, ◌≤◌, ◌++◌, IsOk, IfOk, OnErr, reverse, vec_len, vec_capacity};
 
 use crate::ghost_trail::GhostTrail;
 use crate::keeper::Keeper;
-use bp_page::{Bytes, Image, Lsn};
+use crate::list_keeper::ListKeeper;
+use bp_page::{Bytes, Geometry, Image, Lsn};
 use bp_trail::{Call, Entry, Grant, Reply};
 use std::alloc::{AllocError, Global};
 use std::marker::Model;
@@ -113,6 +114,54 @@ impl Keeper for RecordingKeeper {
     }
 }
 
+impl ListKeeper for RecordingKeeper {
+    ghost use Rattle.std.specs.Prelude.{◌≡◌, length};
+
+    type Blank = Image;
+
+    ghost fits = { λ blank size. length blank ≡ size };
+
+    ghost image_of = { λ spare. spare };
+
+    fn empty(alloc: Global) -> Self {
+        RecordingKeeper {
+            before: GhostTrail::nothing(),
+            entries: Vec::new(alloc),
+            is_fresh: true,
+        }
+    }
+
+    fn reserve(&mut self, more: usize) -> Result<(), AllocError> {
+        self.entries.reserve(more)
+    }
+
+    fn blank(alloc: Global, geometry: &Geometry) -> Result<Image, AllocError> {
+        Image::blank(alloc, geometry)
+    }
+
+    fn fill(blank: Image, image: &Image) -> Image {
+        let mut copy = blank;
+        copy.copy_from(image);
+        copy
+    }
+
+    fn clear(spare: Image) -> Image {
+        spare
+    }
+
+    fn record_load(&mut self, ticket: Grant, pass: u64, spare: Image) {
+        self.entries.push_reserved(Entry {
+            client: ticket.client,
+            call: Call::ReadEnd {
+                ticket: ticket.serial,
+                page: ticket.page,
+                image: Some(spare),
+            },
+            reply: Reply::Fixed(pass),
+        });
+    }
+}
+
 impl RecordingKeeper {
     /// All of them since the last cut, the oldest first.
     pub fn entries(&self) -> &[Entry]
@@ -146,7 +195,9 @@ impl RecordingKeeper {
         ensures entries { IfOk result (λ entries. reverse entries.items ++ self.old.before ≡ self.old.past) }
         ensures after { IfOk result (λ entries. self.new ≡ record self.new { before = self.old.past; past = self.old.past; len = 0; fresh = is_fresh }) }
         ensures room { IfOk result (λ entries. room ≤ self.new.capacity) }
+        ensures len { IfOk result (λ entries. vec_len entries ≡ self.old.len) }
         ensures memory { IfOk result (λ entries. vec_capacity entries ≡ self.old.capacity) }
+        ensures spare { IfOk result (λ entries. vec_capacity spare ≤ self.new.capacity) }
         ensures enough { room ≤ vec_capacity spare → IsOk result }
         ensures unchanged { OnErr result (self.new ≡ self.old) }
     {

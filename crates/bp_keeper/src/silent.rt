@@ -1,33 +1,37 @@
 //! The entries for the proofs alone.
 
-use crate::ghost_trail::{Event, GhostTrail, Shown};
+use crate::ghost_trail::{Event, GhostImage, GhostTrail, Shown};
 use crate::keeper::Keeper;
-use bp_page::{Bytes, Image, Lsn};
+use crate::list_keeper::ListKeeper;
+use bp_page::{Bytes, Geometry, Image, Lsn};
 use bp_trail::{Call, Entry, Grant, Reply};
 use std::alloc::{AllocError, Global};
 use std::marker::Model;
 
-/// How many entries there are. The list of them stands in the proofs alone.
+/// How many entries there are, and how many there may be. The list of them stands in the proofs alone.
 #[derive(Drop)]
 pub struct SilentKeeper {
     count: usize,
+    room: usize,
     trail: GhostTrail,
 }
 
 impl Model for SilentKeeper {
-    ghost use Rattle.std.specs.Prelude.{◌-◌, ◌^◌, [], true};
+    ghost use Rattle.std.specs.Prelude.{◌<◌, ◌^◌, [], true};
     ghost use Rattle.bp_keeper.specs.Kept.{Kept};
 
     ghost Value = { Kept };
 
-    ghost view = { λ t. record { before = []; past = t.trail.past; len = t.count; capacity = 2 ^ 64 - 1; fresh = true } };
+    ghost invariant = { λ t. t.room < 2 ^ 64 };
+
+    ghost view = { λ t. record { before = []; past = t.trail.past; len = t.count; capacity = t.room; fresh = true } };
 }
 
 impl Keeper for SilentKeeper {
-    ghost use Rattle.std.specs.Prelude.{◌^◌};
+    ghost use Rattle.std.specs.Prelude.{◌≡◌, ◌^◌};
     ghost use Rattle.std.proofs.Common.{arith};
 
-    type SpareImage = ();
+    type SpareImage = GhostImage;
 
     type SpareBytes = ();
 
@@ -37,21 +41,22 @@ impl Keeper for SilentKeeper {
 
     ghost kept = { λ t. t };
 
-    ghost serves_image = { λ spare image. Unit {0} };
+    ghost serves_image = { λ spare image. spare.bytes ≡ image };
 
     ghost serves_bytes = { λ spare bytes. Unit {0} };
 
     ghost few = { omega arith };
 
-    fn with_capacity(_alloc: Global, _room: usize) -> Result<Self, AllocError> {
+    fn with_capacity(_alloc: Global, room: usize) -> Result<Self, AllocError> {
         Ok(SilentKeeper {
             count: 0,
+            room,
             trail: GhostTrail::nothing(),
         })
     }
 
-    fn spare_image(_alloc: Global, _image: &Image) -> Result<(), AllocError> {
-        Ok(())
+    fn spare_image(_alloc: Global, image: &Image) -> Result<GhostImage, AllocError> {
+        Ok(GhostImage::of(image))
     }
 
     fn spare_bytes(_alloc: Global, _bytes: &Bytes) -> Result<(), AllocError> {
@@ -72,7 +77,7 @@ impl Keeper for SilentKeeper {
         self.count += 1;
     }
 
-    fn record_read(&mut self, pass: Grant, image: &Image, _spare: ()) {
+    fn record_read(&mut self, pass: Grant, image: &Image, _spare: GhostImage) {
         self.trail = self.trail.then_shown(&Shown {
             grant: pass,
             event: Event::Read,
@@ -90,11 +95,54 @@ impl Keeper for SilentKeeper {
         self.count += 1;
     }
 
-    fn record_begin(&mut self, call: Call, ticket: Grant, image: &Image, _spare: ()) {
+    fn record_begin(&mut self, call: Call, ticket: Grant, image: &Image, _spare: GhostImage) {
         self.trail = self.trail.then_shown(&Shown {
             grant: ticket,
             event: Event::BeginWrite(call),
             bytes: image.bytes(),
+        });
+        self.count += 1;
+    }
+}
+
+impl ListKeeper for SilentKeeper {
+    type Blank = ();
+
+    ghost fits = { λ blank size. Unit {0} };
+
+    ghost image_of = { λ spare. spare.bytes };
+
+    fn empty(_alloc: Global) -> Self {
+        SilentKeeper {
+            count: 0,
+            room: 0,
+            trail: GhostTrail::nothing(),
+        }
+    }
+
+    fn reserve(&mut self, more: usize) -> Result<(), AllocError> {
+        let Some(room) = self.count.checked_add(more) else {
+            return Err(AllocError);
+        };
+        self.room = self.room.max(room);
+        Ok(())
+    }
+
+    fn blank(_alloc: Global, _geometry: &Geometry) -> Result<(), AllocError> {
+        Ok(())
+    }
+
+    fn fill(_blank: (), image: &Image) -> GhostImage {
+        GhostImage::of(image)
+    }
+
+    fn clear(_spare: GhostImage) {}
+
+    fn record_load(&mut self, ticket: Grant, pass: u64, spare: GhostImage) {
+        self.trail = self.trail.then_shown(&Shown {
+            grant: ticket,
+            event: Event::Load { pass, image: spare },
+            bytes: &[],
         });
         self.count += 1;
     }
