@@ -37,12 +37,12 @@ write_owed client ticket said o = subst (λ (es : Trail). 1 ≤ open_tickets es)
 pub owes_write_end : (client : ℕ) (ticket : WriteTicket) (said : Trail) → OwesWrite client ticket said → OwesWriteEnd client ticket.serial said
 owes_write_end client ticket said o = record { call = o.call; page = ticket.page; image = ticket.image; before = o.before; gave = o.gave }
 
-pub keeps_loaded : (client size : ℕ) (said after : Trail) (held held' : List Grant) (tickets kept kept' : ℕ) (blanks blanks' : List (List ℕ)) (c c' h h' : ℕ) (ticket : ReadTicket) (n : ℕ) (image : List ℕ)
-    → KeepsRoom client size said held tickets kept blanks c h → OwesRead client ticket said
+pub keeps_loaded : (client : ℕ) (said after : Trail) (held held' : List Grant) (tickets kept kept' copies copies' : ℕ) (c c' h h' : ℕ) (ticket : ReadTicket) (n : ℕ) (image : List ℕ)
+    → KeepsRoom client said held tickets kept copies c h → OwesRead client ticket said
     → after ≡ by client (ReadEnd ticket.serial ticket.page (Some image)) (Fixed n) ∷ said → held' ≡ held ++ grant client ticket.page n ∷ [] → kept' ≡ kept + 1 → c' ≡ c → h' + 1 ≡ h
-    → All (λ b. length b ≡ size) blanks' → length blanks ≤ length blanks' + 1
-    → KeepsRoom client size after held' (tickets - 1) kept' blanks' c' h'
-keeps_loaded client size said after held held' tickets kept kept' blanks blanks' c c' h h' ticket n image r o grows holds more same_c same_h sized most =
+    → copies ≤ copies' + 1
+    → KeepsRoom client after held' (tickets - 1) kept' copies' c' h'
+keeps_loaded client said after held held' tickets kept kept' copies copies' c c' h h' ticket n image r o grows holds more same_c same_h most =
     let g = grant client ticket.page n in
     let fewer = read_owed client ticket said o in
     let len : length held' ≡ length held + 1 = ap length holds ∙ length-append held (g ∷ []) in
@@ -53,7 +53,6 @@ keeps_loaded client size said after held held' tickets kept kept' blanks blanks'
       entries_fit = omega (arith, r.entries_fit, len, more, same_c, fewer, r.tickets_are);
       passes_fit = omega (arith, r.passes_fit, same_h, fewer, r.tickets_are);
       copies_fit = omega (arith, r.copies_fit, most, fewer, r.tickets_are);
-      sized = sized;
     }
 
 -- a read that failed gives no pass and no ticket
@@ -61,11 +60,11 @@ failed_gives : (client page : ℕ) (f : PortFault) → (pass_given client page (
 failed_gives client page fault.WrongPage = (refl, refl)
 failed_gives client page _ = (refl, refl)
 
-pub keeps_not_loaded : (client size : ℕ) (said after : Trail) (held : List Grant) (tickets kept kept' : ℕ) (blanks : List (List ℕ)) (c c' h : ℕ) (ticket : ReadTicket) (f : PortFault)
-    → KeepsRoom client size said held tickets kept blanks c h → OwesRead client ticket said
+pub keeps_not_loaded : (client : ℕ) (said after : Trail) (held : List Grant) (tickets kept kept' copies : ℕ) (c c' h : ℕ) (ticket : ReadTicket) (f : PortFault)
+    → KeepsRoom client said held tickets kept copies c h → OwesRead client ticket said
     → after ≡ by client (ReadEnd ticket.serial ticket.page None) (read_failure f) ∷ said → kept' ≡ kept + 1 → c' ≡ c
-    → KeepsRoom client size after held (tickets - 1) kept' blanks c' h
-keeps_not_loaded client size said after held tickets kept kept' blanks c c' h ticket f r o grows more same_c =
+    → KeepsRoom client after held (tickets - 1) kept' copies c' h
+keeps_not_loaded client said after held tickets kept kept' copies c c' h ticket f r o grows more same_c =
     let fewer = read_owed client ticket said o in
     let gives = failed_gives client ticket.page f in
     record {
@@ -75,7 +74,6 @@ keeps_not_loaded client size said after held tickets kept kept' blanks c c' h ti
       entries_fit = omega (arith, r.entries_fit, more, same_c, fewer, r.tickets_are);
       passes_fit = omega (arith, r.passes_fit);
       copies_fit = omega (arith, r.copies_fit);
-      sized = r.sized;
     }
 
 -- what the core refuses it with is what the list's entry says
@@ -87,11 +85,11 @@ ended_badly ticket f why said after is grows = subst (λ r. EndReadOutcome ticke
     go fault.WrongPage grows = (refl, grows)
     go _ grows = (refl, grows)
 
-pub keeps_written : (client size : ℕ) (said after : Trail) (held : List Grant) (tickets kept kept' : ℕ) (blanks : List (List ℕ)) (c c' h : ℕ) (ticket page : ℕ) (good : Bool) (reply : Reply)
-    → KeepsRoom client size said held tickets kept blanks c h → OwesWriteEnd client ticket said → plain_reply reply ≡ true
+pub keeps_written : (client : ℕ) (said after : Trail) (held : List Grant) (tickets kept kept' copies : ℕ) (c c' h : ℕ) (ticket page : ℕ) (good : Bool) (reply : Reply)
+    → KeepsRoom client said held tickets kept copies c h → OwesWriteEnd client ticket said → plain_reply reply ≡ true
     → after ≡ by client (WriteEnd ticket page good) reply ∷ said → kept' ≡ kept + 1 → c' ≡ c
-    → KeepsRoom client size after held (tickets - 1) kept' blanks c' h
-keeps_written client size said after held tickets kept kept' blanks c c' h ticket page good reply r o plain grows more same_c =
+    → KeepsRoom client after held (tickets - 1) kept' copies c' h
+keeps_written client said after held tickets kept kept' copies c c' h ticket page good reply r o plain grows more same_c =
     let fewer = write_owed client ticket said o in
     let p = plain-with client page reply plain in
     record {
@@ -101,7 +99,6 @@ keeps_written client size said after held tickets kept kept' blanks c c' h ticke
       entries_fit = omega (arith, r.entries_fit, more, same_c, fewer, r.tickets_are);
       passes_fit = omega (arith, r.passes_fit);
       copies_fit = omega (arith, r.copies_fit);
-      sized = r.sized;
     }
   where
     plain-with : (client page : ℕ) (reply : Reply) → plain_reply reply ≡ true → (pass_given client page reply ≡ None) × (tickets_given reply ≡ 0)

@@ -3,3 +3,4 @@ pub mod Ending
 pub mod Posting
 pub mod Striking
 pub mod Drains
+pub mod Keeping

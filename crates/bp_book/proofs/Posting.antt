@@ -43,11 +43,11 @@ pub held_of_list : (client : ℕ) (g : Grant) (said : Trail) (held : List Grant)
 held_of_list client g said held are own there =
     held_there client g held own (out-reversed g held (ap (is_out g) (ap reverse are ∙ reverse-reverse (passes_out said)) ∙ there))
 
-pub keeps_unfixed : (client size : ℕ) (said after : Trail) (held held' : List Grant) (tickets kept kept' : ℕ) (blanks : List (List ℕ)) (c c' h h' : ℕ) (g : Grant)
-    → KeepsRoom client size said held tickets kept blanks c h → is_out g (passes_out said) ≡ true
+pub keeps_unfixed : (client : ℕ) (said after : Trail) (held held' : List Grant) (tickets kept kept' copies : ℕ) (c c' h h' : ℕ) (g : Grant)
+    → KeepsRoom client said held tickets kept copies c h → is_out g (passes_out said) ≡ true
     → after ≡ by client (Unfix g.serial g.page) Done ∷ said → held' ≡ filter (others g.serial) held → kept' ≡ kept + 1 → c' ≡ c → h ≤ h'
-    → KeepsRoom client size after held' tickets kept' blanks c' h'
-keeps_unfixed client size said after held held' tickets kept kept' blanks c c' h h' g r there grows holds more same_c same_h =
+    → KeepsRoom client after held' tickets kept' copies c' h'
+keeps_unfixed client said after held held' tickets kept kept' copies c c' h h' g r there grows holds more same_c same_h =
     let fewer : length held' + 1 ≤ length held = subst (λ gs. length gs + 1 ≤ length held) (sym holds) (held_of_list client g said held r.held_are r.own there).fewer in
     record {
       held_are = holds ∙ ap (filter (others g.serial)) r.held_are ∙ sym (filter-reverse (others g.serial) (passes_out said)) ∙ ap (λ es. reverse (passes_out es)) (sym grows);
@@ -56,5 +56,4 @@ keeps_unfixed client size said after held held' tickets kept kept' blanks c c' h
       entries_fit = omega (arith, r.entries_fit, fewer, more, same_c);
       passes_fit = omega (arith, r.passes_fit, same_h);
       copies_fit = r.copies_fit;
-      sized = r.sized;
     }

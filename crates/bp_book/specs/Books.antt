@@ -14,13 +14,6 @@ use Rattle.bp_trail.specs.Script.{held_passes}
 use Rattle.bp_core.specs.CoreView.{CoreView, with_entry}
 use Rattle.bp_frames.specs.Rising.{IsRisingBy}
 
--- the entries of a list, newest first: those that cuts handed out, and all; how many are kept, and in how much room
-pub record SaidValue : Type 0 where
-  pub before : Trail
-  pub all : Trail
-  pub kept : ℕ
-  pub capacity : ℕ
-
 -- a client's own list, newest first, and what cuts handed out of it, the bytes of a page, and the room beyond all that the list owes: for entries, for passes held, and for copies of images
 pub record BookValue : Type 0 where
   pub client : ℕ
@@ -92,14 +85,13 @@ owed said = length (held_passes said) + 2 * open_tickets said
 
 -- the passes held are those that the list leaves out, and there is room for what is owed: an unfix for each of them;
 -- for each open ticket an end, an unfix and a copy of an image
-pub record KeepsRoom (client size : ℕ) (said : Trail) (held : List Grant) (tickets kept : ℕ) (blanks : List (List ℕ)) (for_said for_held : ℕ) : Type 0 where
+pub record KeepsRoom (client : ℕ) (said : Trail) (held : List Grant) (tickets kept copies for_said for_held : ℕ) : Type 0 where
   pub held_are : held ≡ held_passes said
   pub own : All (λ g. g.client ≡ client) held
   pub tickets_are : tickets ≡ open_tickets said
   pub entries_fit : kept + (length held + 2 * tickets) ≤ for_said
   pub passes_fit : tickets ≤ for_held
-  pub copies_fit : tickets ≤ length blanks
-  pub sized : All (λ b. length b ≡ size) blanks
+  pub copies_fit : tickets ≤ copies
 
 -- no pass or ticket is given back by the call, or given by the reply
 abbrev pub plain_call : Call → Bool

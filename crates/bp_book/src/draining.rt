@@ -3,7 +3,7 @@ ghost use Rattle.std.specs.Prelude.{◌≡◌, map};
 ghost use Rattle.bp_trail.specs.Clock.{durable};
 ghost use Rattle.bp_book.specs.Rings.{OneBack, ring_view, DrainsRing, DrainsRings};
 
-use bp_core::{Core, PassNote};
+use bp_core::{Keeper, PassNote, PoolCore};
 use rtrb::Consumer;
 
 /// The most passes that are taken from a ring at once, which is as many as it holds.
@@ -13,7 +13,7 @@ pub const RING: usize = 32;
 pub const ALL: u64 = u64::MAX;
 
 /// Gives a pass back. One that the core does not know is dropped, and counted as a stray; the count stays at 2^64 − 1.
-fn give_back(core: &mut Core, strays: &mut u64, note: PassNote)
+fn give_back<K: Keeper>(core: &mut PoolCore<K>, strays: &mut u64, note: PassNote)
     ensures parameters { core.new.parameters ≡ core.old.parameters }
     ensures before { core.new.before ≡ core.old.before }
     ensures back { OneBack core.old.past strays.old note core.new.past strays.new }
@@ -28,7 +28,7 @@ fn give_back(core: &mut Core, strays: &mut u64, note: PassNote)
 }
 
 /// Takes at most 32 passes from a ring, and gives them back in order.
-fn drain(core: &mut Core, strays: &mut u64, consumer: &mut Consumer<PassNote>)
+fn drain<K: Keeper>(core: &mut PoolCore<K>, strays: &mut u64, consumer: &mut Consumer<PassNote>)
     ensures parameters { core.new.parameters ≡ core.old.parameters }
     ensures before { core.new.before ≡ core.old.before }
     ensures drained { DrainsRing 32 (ring_view consumer.old) (ring_view consumer.new)
@@ -43,7 +43,12 @@ fn drain(core: &mut Core, strays: &mut u64, consumer: &mut Consumer<PassNote>)
 }
 
 /// Drains a ring that is to be asked, or in which a pass is known to wait.
-fn drain_asked(core: &mut Core, strays: &mut u64, consumer: &mut Consumer<PassNote>, is_asked: bool)
+fn drain_asked<K: Keeper>(
+    core: &mut PoolCore<K>,
+    strays: &mut u64,
+    consumer: &mut Consumer<PassNote>,
+    is_asked: bool,
+)
     ensures parameters { core.new.parameters ≡ core.old.parameters }
     ensures before { core.new.before ≡ core.old.before }
     ensures drained { DrainsRing 32 (ring_view consumer.old) (ring_view consumer.new)
@@ -57,8 +62,8 @@ fn drain_asked(core: &mut Core, strays: &mut u64, consumer: &mut Consumer<PassNo
 /// Drains each ring that is to be asked, and each in which a pass is known to wait, the first client's first, at most 32
 /// passes each. Bit c of the word stands for the ring of client c. Each pass goes back to the core; one that the core does
 /// not know is dropped, and counted as a stray. It takes no memory.
-pub fn drain_all(
-    core: &mut Core,
+pub fn drain_all<K: Keeper>(
+    core: &mut PoolCore<K>,
     strays: &mut u64,
     consumers: &mut [Consumer<PassNote>],
     asked: u64,

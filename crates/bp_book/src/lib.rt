@@ -14,7 +14,6 @@ pub mod draining;
 mod held;
 pub mod pending;
 mod posted;
-mod said;
 
 pub use book::Book;
 pub use draining::drain_all;

@@ -13,8 +13,16 @@ mod taker;
 mod trail_ring;
 
 pub use bp_device::Flushed;
+use bp_keeper::SilentKeeper;
 pub use names::PoolName;
 pub use pool::SharedPool;
 pub use session::Session;
 pub use taker::Taker;
 pub use trail_ring::TrailRing;
+
+/// A shared pool that only counts the entries of its core and of its sessions. What its calls promise is proved of the same
+/// trail and the same lists, which stand in proofs alone.
+pub type SilentPool<N> = SharedPool<N, SilentKeeper>;
+
+/// A client's end of a [`SilentPool`]: it has the passes that it holds and its ring, and no list.
+pub type SilentSession<N> = Session<N, SilentKeeper>;

@@ -12,7 +12,8 @@ use crate::taker::Taker;
 use crate::trail_ring::TrailRing;
 use bp_book::Posted;
 use bp_book::draining::RING;
-use bp_core::{Core, Entry, Pass, PassNote};
+use bp_core::{Pass, PassNote, PoolCore};
+use bp_keeper::{ListKeeper, RecordingKeeper};
 use bp_mark::{Mark, Reader};
 use bp_page::{Geometry, Refusal};
 use rtrb::{Consumer, RingBuffer};
@@ -20,6 +21,7 @@ use std::alloc::Global;
 use std::marker::Model;
 use std::sync::{Condvar, Mutex, Wait};
 
+mod cutting;
 mod fixing;
 mod flushing;
 mod single;
@@ -43,11 +45,11 @@ fn found_busy<T>(answer: &Result<T, Refusal>) -> bool {
 }
 
 /// A session for each client, and the taking end of its ring, in order.
-fn new_clients<N: PoolName>(
+fn new_clients<N: PoolName, K: ListKeeper>(
     alloc: Global,
     geometry: Geometry,
     clients: u8,
-) -> Result<(Vec<Session<N>>, Vec<Consumer<PassNote>>), Refusal>
+) -> Result<(Vec<Session<N, K>>, Vec<Consumer<PassNote>>), Refusal>
     requires clients { clients ≡ N.parameters.clients }
     requires size { geometry.size ≡ N.parameters.size }
     ensures sessions { IfOk result (λ made. made.0.items ≡ new_sessions N.parameters.clients) }
@@ -72,12 +74,14 @@ fn new_clients<N: PoolName>(
 
 /// A buffer pool that many clients share, each through its own session.
 ///
+/// Each client's list has the keeper of the core's trail, which is in memory where nothing else is said.
+///
 /// A call takes a session of this pool, and a page and a port of the core's geometry.
 #[derive(Drop)]
-pub struct SharedPool<N: PoolName> {
+pub struct SharedPool<N: PoolName, K: ListKeeper = RecordingKeeper> {
     alloc: Global,
     mark: Mark,
-    state: Mutex<State<N>>,
+    state: Mutex<State<N, K>>,
     /// Where sessions wait for the end of device work.
     ended: Condvar,
     /// Whose rings have passes that no section asked for.
@@ -86,7 +90,7 @@ pub struct SharedPool<N: PoolName> {
     room: usize,
 }
 
-impl<N: PoolName> Model for SharedPool<N> {
+impl<N: PoolName, K: ListKeeper> Model for SharedPool<N, K> {
     ghost use Rattle.std.specs.Prelude.{◌≡◌};
 
     ghost Value = { Unit {0} };
@@ -96,23 +100,22 @@ impl<N: PoolName> Model for SharedPool<N> {
     ghost invariant = { λ p. (p.mark ≡ N.mark) × (p.room ≡ N.parameters.room) };
 }
 
-impl<N: PoolName> SharedPool<N> {
-    ghost use Rattle.std.specs.Prelude.{◌≡◌, ◌⊎◌, ◌≤◌, IfOk, OnErr, vec_capacity};
+impl<N: PoolName, K: ListKeeper> SharedPool<N, K> {
+    ghost use Rattle.std.specs.Prelude.{◌≡◌, ◌≤◌, IfOk, OnErr};
     ghost use Rattle.bp_page.specs.declared.refusals.Refusal.TheVariants as Refusal;
     ghost use Rattle.bp_trail.specs.Clock.{durable};
     ghost use Rattle.bp_shared.specs.Sessions.{new_sessions, UnfixSaid};
-    ghost use Rattle.bp_shared.specs.Taking.{ComesNext, GaveTooMany};
 
     /// A pool over a core, and one session for each client, in order. The reader is the mark's, and has seen what the core was told.
     ///
     /// Where memory is refused, which is `OutOfMemory`, all that was given is dropped.
     pub fn new(
         alloc: Global,
-        core: Core,
+        core: PoolCore<K>,
         mark: Mark,
         reader: Reader,
         ring: TrailRing,
-    ) -> Result<(SharedPool<N>, Vec<Session<N>>, Taker<N>), Refusal>
+    ) -> Result<(SharedPool<N, K>, Vec<Session<N, K>>, Taker<N>), Refusal>
         requires mark { mark ≡ N.mark }
         requires reader { reader.mark ≡ N.mark }
         requires parameters { core.parameters ≡ N.parameters }
@@ -153,7 +156,7 @@ impl<N: PoolName> SharedPool<N> {
     ///
     /// `UnknownPass` where the session's own list does not give this pass, or gave it back already; else `RingFull` where 32 passes
     /// wait in the ring. Both hand the pass back and change nothing.
-    pub fn unfix(&self, session: &mut Session<N>, pass: Pass) -> Result<(), (Pass, Refusal)>
+    pub fn unfix(&self, session: &mut Session<N, K>, pass: Pass) -> Result<(), (Pass, Refusal)>
         ensures client { session.new.client ≡ session.old.client }
         ensures before { session.new.before ≡ session.old.before }
         ensures outcome { UnfixSaid session.old pass result session.new }
@@ -166,51 +169,8 @@ impl<N: PoolName> SharedPool<N> {
         posted
     }
 
-    /// Hands the trail to its taker, the oldest entry first, and goes on with an empty one: the rings are drained before.
-    /// Nothing else changes: frames, passes and tickets that are out, the clock, histories. It may be called at any time.
-    ///
-    /// `ClockFull` where more than 2^62 passes or tickets were given; `OutOfMemory` where the room of a trail can't be
-    /// reserved anew, which is done before the lock is taken. Both hand out nothing.
-    pub fn cut<R: Wait>(&self, rt: &R, taker: &mut Taker<N>) -> Result<Vec<Entry>, Refusal>
-        ensures next { IfOk result (λ entries.
-            ComesNext N.parameters taker.old entries.items taker.new) }
-        ensures memory { IfOk result (λ entries. N.parameters.room ≤ vec_capacity entries) }
-        ensures unchanged { OnErr result (taker.new ≡ taker.old) }
-        ensures refused { OnErr result
-            ((result ≡ Err Refusal.ClockFull) ⊎ (result ≡ Err Refusal.OutOfMemory)) }
-        ensures cause { result ≡ Err Refusal.ClockFull → GaveTooMany N.parameters taker.old }
-    {
-        self.cut_into(rt, taker, Vec::new(self.alloc))
-    }
-
-    /// A cut that goes on in the memory of a spare list: more is taken only where that has not the trail's room. What the
-    /// spare has is dropped, also before the lock is taken. A piece that was handed out has the room.
-    pub fn cut_into<R: Wait>(
-        &self,
-        rt: &R,
-        taker: &mut Taker<N>,
-        spare: Vec<Entry>,
-    ) -> Result<Vec<Entry>, Refusal>
-        ensures next { IfOk result (λ entries.
-            ComesNext N.parameters taker.old entries.items taker.new) }
-        ensures memory { IfOk result (λ entries. N.parameters.room ≤ vec_capacity entries) }
-        ensures unchanged { OnErr result (taker.new ≡ taker.old) }
-        ensures refused { OnErr result
-            ((result ≡ Err Refusal.ClockFull) ⊎ (result ≡ Err Refusal.OutOfMemory)) }
-        ensures cause { result ≡ Err Refusal.ClockFull → GaveTooMany N.parameters taker.old }
-        ensures enough { N.parameters.room ≤ vec_capacity spare
-            → OnErr result (result ≡ Err Refusal.ClockFull) }
-    {
-        let mut empty = spare;
-        empty.clear();
-        let Ok(()) = empty.reserve_exact(self.room) else {
-            return Err(Refusal::OutOfMemory);
-        };
-        self.state.lock(rt).cut(taker, empty)
-    }
-
     /// Drains the rings, and does nothing else. It takes no memory.
-    pub fn settle<R: Wait>(&self, rt: &R, session: &mut Session<N>)
+    pub fn settle<R: Wait>(&self, rt: &R, session: &mut Session<N, K>)
         ensures { session.new ≡ session.old }
     {
         let _ = session.client();
@@ -219,7 +179,7 @@ impl<N: PoolName> SharedPool<N> {
 
     /// Ends the pool: drains the rings once more, and gives back the core, the mark and its reader. It neither waits nor
     /// takes memory. A pass that no ring has by then stays out. The core's trail goes on from all that the taker was handed.
-    pub fn finish(self, taker: Taker<N>) -> (Core, Mark, Reader)
+    pub fn finish(self, taker: Taker<N>) -> (PoolCore<K>, Mark, Reader)
         ensures before { result.0.before ≡ taker.past }
         ensures mark { result.1 ≡ N.mark }
         ensures reader { result.2.mark ≡ N.mark }

@@ -1,7 +1,10 @@
 //! One client's end of a pool.
+mod cutting;
+
 use crate::names::PoolName;
 use bp_book::Book;
-use bp_core::{Entry, Pass, PassNote};
+use bp_core::{Pass, PassNote};
+use bp_keeper::{ListKeeper, RecordingKeeper};
 use bp_page::{Geometry, Refusal};
 use rtrb::{Producer, PushError};
 use std::alloc::Global;
@@ -12,13 +15,13 @@ use std::marker::{Model, PhantomData};
 /// A pass that was given back stands in the list where the client posted it. The list gets no other entry than those of this
 /// session's calls, and room for all that it still owes is kept, so that an end and an unfix never want memory.
 #[derive(Drop)]
-pub struct Session<N: PoolName> {
-    pub(crate) book: Book,
+pub struct Session<N: PoolName, K: ListKeeper = RecordingKeeper> {
+    pub(crate) book: Book<K>,
     pub(crate) producer: Producer<PassNote>,
     pub(crate) of: PhantomData<N>,
 }
 
-impl<N: PoolName> Model for Session<N> {
+impl<N: PoolName, K: ListKeeper> Model for Session<N, K> {
     ghost use Rattle.std.specs.Prelude.{◌≡◌, ◌<◌, reverse};
     ghost use Rattle.rtrb.specs.Ring.{sent, known_free};
     ghost use Rattle.bp_book.specs.Books.{unfixes};
@@ -40,13 +43,11 @@ impl<N: PoolName> Model for Session<N> {
         × (sent s.producer ≡ reverse (unfixes s.book.said)) };
 }
 
-impl<N: PoolName> Session<N> {
-    ghost use Rattle.std.specs.Prelude.{◌≡◌, ◌+◌, ◌<◌, ◌++◌, ◌≤◌, [], reverse, All, IsOk, IfOk, OnOk, OnErr, vec_capacity};
-    ghost use Rattle.bp_page.specs.declared.refusals.Refusal.TheVariants as Refusal;
+impl<N: PoolName, K: ListKeeper> Session<N, K> {
+    ghost use Rattle.std.specs.Prelude.{◌≡◌, ◌<◌, [], All};
     ghost use Rattle.rtrb.specs.Ring.{sent, known_free};
     ghost use Rattle.bp_trail.specs.Script.{held_passes};
-    ghost use Rattle.bp_book.specs.Books.{owed};
-    ghost use Rattle.bp_shared.specs.Sessions.{UnfixSaid, IsCut, KeepsMemory};
+    ghost use Rattle.bp_shared.specs.Sessions.{UnfixSaid};
 
     /// A session that said nothing yet.
     pub(crate) fn new(
@@ -54,7 +55,7 @@ impl<N: PoolName> Session<N> {
         geometry: Geometry,
         client: u8,
         producer: Producer<PassNote>,
-    ) -> Session<N>
+    ) -> Session<N, K>
         requires client_in { client < N.parameters.clients }
         requires size { geometry.size ≡ N.parameters.size }
         requires unused { (sent producer ≡ []) × (known_free producer ≡ 32) }
@@ -78,58 +79,12 @@ impl<N: PoolName> Session<N> {
         self.book.client()
     }
 
-    /// What cuts left of the session's own list, the oldest entry first.
-    pub fn said(&self) -> &[Entry]
-        ensures { reverse result.now ++ self.now.before ≡ self.now.said }
-    {
-        self.book.said()
-    }
-
     /// The passes that the list gave and did not give back, in the order taken.
     pub fn held(&self) -> &[PassNote]
         ensures held { result.now ≡ held_passes self.now.said }
         ensures own { All (λ g. g.client ≡ self.now.client) result.now }
     {
         self.book.held()
-    }
-
-    /// Ends the session and gives what cuts left of its list, the oldest entry first. It takes no memory.
-    pub fn into_said(self) -> Vec<Entry>
-        ensures { reverse result.items ++ self.before ≡ self.said }
-    {
-        self.book.into_said()
-    }
-
-    /// Hands out what earlier cuts left of the list, the oldest entry first. All else goes on: the passes held, and the
-    /// room for what is owed. It takes no lock, and may be called between any two calls of the session. Memory is wanted
-    /// only where entries are owed; where it is refused, which is `OutOfMemory`, nothing changes.
-    pub fn cut(&mut self) -> Result<Vec<Entry>, Refusal>
-        ensures entries { IfOk result (λ entries.
-            reverse entries.items ++ self.old.before ≡ self.old.said) }
-        ensures after { OnOk result (IsCut self.old self.new) }
-        ensures memory { IfOk result (λ list. KeepsMemory self.old list) }
-        ensures unchanged { OnErr result (self.new ≡ self.old) }
-        ensures refused { OnErr result (result ≡ Err Refusal.OutOfMemory) }
-        ensures enough { owed self.old.said ≡ 0 → IsOk result }
-    {
-        let alloc = self.book.alloc();
-        self.cut_into(Vec::new(alloc))
-    }
-
-    /// A cut that goes on in the memory of a spare list. It is not refused where that has room for the entries that are
-    /// owed: one for each pass held, and two for each ticket that the list was given and did not end. What the spare has
-    /// is dropped, and none of its room is lost; the list handed out has all the memory that it had.
-    pub fn cut_into(&mut self, spare: Vec<Entry>) -> Result<Vec<Entry>, Refusal>
-        ensures entries { IfOk result (λ entries.
-            reverse entries.items ++ self.old.before ≡ self.old.said) }
-        ensures after { OnOk result (IsCut self.old self.new) }
-        ensures memory { IfOk result (λ list. KeepsMemory self.old list) }
-        ensures unchanged { OnErr result (self.new ≡ self.old) }
-        ensures refused { OnErr result (result ≡ Err Refusal.OutOfMemory) }
-        ensures room { OnOk result (vec_capacity spare ≤ self.new.room + owed self.old.said) }
-        ensures enough { owed self.old.said ≤ vec_capacity spare → IsOk result }
-    {
-        self.book.cut(spare)
     }
 
     /// Puts a pass on the ring, with no lock and no memory. Where the list does not give it, or gives it back already, this is

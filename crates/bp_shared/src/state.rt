@@ -3,7 +3,8 @@ use crate::names::PoolName;
 use crate::taker::Taker;
 use crate::trail_ring::meet;
 use bp_book::draining::{ALL, drain_all};
-use bp_core::{Core, Entry, PassNote};
+use bp_core::{Entry, PassNote, PoolCore};
+use bp_keeper::ListKeeper;
 use bp_mark::Reader;
 use rtrb::{Consumer, Producer};
 use std::marker::{Model, PhantomData};
@@ -14,8 +15,8 @@ mod turns;
 /// What lies under the lock. Its trail is legal, by the core's own type; the reader is the mark's, and has seen every LSN that the
 /// core was told.
 #[derive(Drop)]
-pub(crate) struct State<N: PoolName> {
-    core: Core,
+pub(crate) struct State<N: PoolName, K: ListKeeper> {
+    core: PoolCore<K>,
     reader: Reader,
     /// The ring of each client.
     consumers: Vec<Consumer<PassNote>>,
@@ -28,7 +29,7 @@ pub(crate) struct State<N: PoolName> {
     of: PhantomData<N>,
 }
 
-impl<N: PoolName> Model for State<N> {
+impl<N: PoolName, K: ListKeeper> Model for State<N, K> {
     ghost use Rattle.std.specs.Prelude.{map};
     ghost use Rattle.bp_shared.specs.Locked.{LockedValue, IsLocked};
     ghost use Rattle.bp_book.specs.Rings.{ring_view};
@@ -48,7 +49,7 @@ impl<N: PoolName> Model for State<N> {
         × IsHandedOut N.ring N.before s.pieces s.core };
 }
 
-impl<N: PoolName> State<N> {
+impl<N: PoolName, K: ListKeeper> State<N, K> {
     ghost use Rattle.std.specs.Prelude.{◌≡◌, ◌≤◌, [], map};
     ghost use Rattle.rtrb.specs.Ring.{sent};
     ghost use Rattle.bp_trail.specs.Clock.{durable};
@@ -58,11 +59,11 @@ impl<N: PoolName> State<N> {
 
     /// A core whose rings gave nothing yet.
     pub(crate) fn new(
-        core: Core,
+        core: PoolCore<K>,
         reader: Reader,
         consumers: Vec<Consumer<PassNote>>,
         pieces: Producer<Vec<Entry>>,
-    ) -> State<N>
+    ) -> State<N, K>
         requires reader { reader.mark ≡ N.mark }
         requires parameters { core.parameters ≡ N.parameters }
         requires before { core.before ≡ N.before }
@@ -99,7 +100,7 @@ impl<N: PoolName> State<N> {
     }
 
     /// The core and its reader. The taker has all that the core handed out.
-    pub(crate) fn into_parts(self, taker: Taker<N>) -> (Core, Reader)
+    pub(crate) fn into_parts(self, taker: Taker<N>) -> (PoolCore<K>, Reader)
         ensures before { result.0.before ≡ taker.past }
         ensures reader { result.1.mark ≡ N.mark }
         ensures parameters { result.0.parameters ≡ N.parameters }

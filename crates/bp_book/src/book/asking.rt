@@ -13,14 +13,20 @@ ghost use Rattle.bp_book.specs.Causes.{Looks, AsksFix, AsksFlush};
 
 use super::Book;
 use crate::pending::{Fix, Flush, PendingRead, PendingWrite};
-use bp_core::{Call, Core, Pass, Reply, passes};
+use bp_core::{Call, Pass, PoolCore, Reply, passes};
+use bp_keeper::ListKeeper;
 use bp_mark::{Mark, Reader};
 use bp_page::{Bytes, Image, Lsn, PageNo, Refusal};
 
-impl Book {
+impl<K: ListKeeper> Book<K> {
     /// Looks at the mark once, and marks what it sees where that is above what the core was told: the trail and the list
     /// get the entry. `TrailFull`, where the trail has no room for the mark, adds none.
-    pub fn look(&mut self, core: &mut Core, reader: &mut Reader, mark: &Mark) -> Result<(), Refusal>
+    pub fn look(
+        &mut self,
+        core: &mut PoolCore<K>,
+        reader: &mut Reader,
+        mark: &Mark,
+    ) -> Result<(), Refusal>
         requires mark { reader.old.mark ≡ mark.now }
         requires client_in { self.old.client < core.old.parameters.clients }
         requires seen { durable core.old.past ≤ reader.old.seen }
@@ -57,7 +63,7 @@ impl Book {
     ///
     /// `NoVictim`, `NeedLog` and `Busy` are the reply of the entry; `TrailFull` and `OutOfMemory` add none.
     #[tactic(auto, using(crate::proofs::Asking::fix_refused, crate::proofs::Asking::write_first_sized))]
-    pub fn ask_fix(&mut self, core: &mut Core, page: PageNo) -> Result<Fix, Refusal>
+    pub fn ask_fix(&mut self, core: &mut PoolCore<K>, page: PageNo) -> Result<Fix, Refusal>
         requires client_in { self.old.client < core.old.parameters.clients }
         requires page_in { page < core.old.parameters.pages }
         requires size { self.old.size ≡ core.old.parameters.size }
@@ -97,7 +103,7 @@ impl Book {
     ///
     /// `NeedLog` and `Busy` are the reply of the entry; `TrailFull` and `OutOfMemory` add none.
     #[tactic(auto, using(crate::proofs::Asking::flush_refused, crate::proofs::Asking::write_first_sized))]
-    pub fn ask_flush(&mut self, core: &mut Core, page: PageNo) -> Result<Flush, Refusal>
+    pub fn ask_flush(&mut self, core: &mut PoolCore<K>, page: PageNo) -> Result<Flush, Refusal>
         requires client_in { self.old.client < core.old.parameters.clients }
         requires page_in { page < core.old.parameters.pages }
         requires size { self.old.size ≡ core.old.parameters.size }
@@ -133,7 +139,7 @@ impl Book {
     }
 
     /// Moves the clock on: the trail and the list get the tick. `TrailFull` and `ClockFull` add no entry.
-    pub fn ask_tick(&mut self, core: &mut Core, n: u64) -> Result<(), Refusal>
+    pub fn ask_tick(&mut self, core: &mut PoolCore<K>, n: u64) -> Result<(), Refusal>
         requires client_in { self.old.client < core.old.parameters.clients }
         requires room { 0 < self.old.entries }
         ensures durable { durable core.new.past ≡ durable core.old.past }
@@ -157,7 +163,7 @@ impl Book {
 
     /// Forgets old references, and counts their pages: the trail and the list get the purge with its count. `TrailFull`
     /// adds no entry.
-    pub fn ask_purge(&mut self, core: &mut Core) -> Result<u64, Refusal>
+    pub fn ask_purge(&mut self, core: &mut PoolCore<K>) -> Result<u64, Refusal>
         requires client_in { self.old.client < core.old.parameters.clients }
         requires room { 0 < self.old.entries }
         ensures durable { durable core.new.past ≡ durable core.old.past }
@@ -180,7 +186,7 @@ impl Book {
 
     /// Reads the page of a pass of the client's. The trail and the list get the read, each with an image of its own.
     /// `TrailFull`, `UnknownPass` and `OutOfMemory` add no entry.
-    pub fn ask_read(&mut self, core: &mut Core, pass: &Pass) -> Result<Image, Refusal>
+    pub fn ask_read(&mut self, core: &mut PoolCore<K>, pass: &Pass) -> Result<Image, Refusal>
         requires own { pass.now.client ≡ self.old.client }
         requires size { self.old.size ≡ core.old.parameters.size }
         requires room { 0 < self.old.entries }
@@ -195,14 +201,7 @@ impl Book {
     {
         match core.read(pass) {
             Ok(image) => {
-                let copy = self.copy_of(&image);
-                self.tell(
-                    Call::Read {
-                        pass: pass.serial(),
-                        page: pass.page(),
-                    },
-                    Reply::Content(copy),
-                );
+                self.tell_read(pass, &image);
                 Ok(image)
             }
             Err(Refusal::TrailFull) => Err(Refusal::TrailFull),
@@ -212,40 +211,33 @@ impl Book {
         }
     }
 
-    /// Writes to the page of a pass of the client's. The trail and the list get the write, and the list keeps the bytes.
+    /// Writes to the page of a pass of the client's. The trail and the list get the write; the list keeps the bytes in the spare.
     /// `TrailFull`, `UnknownPass` and `OutOfMemory` add no entry.
     pub fn ask_write(
         &mut self,
-        core: &mut Core,
+        core: &mut PoolCore<K>,
         pass: &Pass,
         offset: u32,
-        bytes: Bytes,
+        bytes: &Bytes,
         lsn: Lsn,
+        spare: K::SpareBytes,
     ) -> Result<(), Refusal>
         requires own { pass.now.client ≡ self.old.client }
-        requires fits { offset + length bytes ≤ core.old.parameters.size }
+        requires fits { offset + length bytes.now ≤ core.old.parameters.size }
         requires room { 0 < self.old.entries }
+        requires spare { K.serves_bytes spare bytes.now }
         ensures durable { durable core.new.past ≡ durable core.old.past }
         ensures parameters { core.new.parameters ≡ core.old.parameters }
         ensures before { core.new.before ≡ core.old.before }
         ensures owner { SameOwner self.old self.new }
-        ensures asked { WriteOutcome core.old pass.now offset bytes lsn result core.new }
-        ensures outcome { WriteSaid self.old.client pass.now offset bytes lsn result
+        ensures asked { WriteOutcome core.old pass.now offset bytes.now lsn result core.new }
+        ensures outcome { WriteSaid self.old.client pass.now offset bytes.now lsn result
             self.old.said self.new.said }
         ensures alike { Alike core.old self.old.said core.new self.new.said }
     {
-        match core.write(pass, offset, &bytes, lsn) {
+        match core.write(pass, offset, bytes, lsn) {
             Ok(()) => {
-                self.tell(
-                    Call::Write {
-                        pass: pass.serial(),
-                        page: pass.page(),
-                        offset,
-                        bytes,
-                        lsn,
-                    },
-                    Reply::Done,
-                );
+                self.tell_write(pass, offset, bytes, lsn, spare);
                 Ok(())
             }
             Err(Refusal::TrailFull) => Err(Refusal::TrailFull),

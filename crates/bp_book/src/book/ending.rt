@@ -7,15 +7,17 @@ ghost use Rattle.bp_book.specs.Causes.{EndsRead, EndsWrite};
 
 use super::{Book, copied};
 use crate::pending::{PendingRead, PendingWrite};
-use bp_core::{Call, Core, EndRefusal, Ended, Entry, Pass, ReadTicket, Reply, reply_of_read};
+use bp_core::{Call, EndRefusal, Ended, Pass, PoolCore, ReadTicket, Reply, reply_of_read};
+use bp_keeper::ListKeeper;
 use bp_page::{Image, PortFault, Refusal};
+use bp_trail::Grant;
 
-impl Book {
+impl<K: ListKeeper> Book<K> {
     /// Ends a read that went well. The list keeps a copy of the image. A ticket that the core does not know is forfeited, which is
     /// `UnknownTicket`, and nothing else changes.
     fn end_load(
         &mut self,
-        core: &mut Core,
+        core: &mut PoolCore<K>,
         ticket: ReadTicket,
         image: Image,
     ) -> Result<Pass, Refusal>
@@ -30,21 +32,18 @@ impl Book {
         ensures outcome { EndReadOutcome ticket (Ok image) result self.old.said self.new.said }
         ensures alike { Alike core.old self.old.said core.new self.new.said }
     {
-        let copy = copied(&mut self.blanks, &image);
+        let copy = copied::<K>(&mut self.blanks, &image);
         let page = ticket.page();
         let serial = ticket.serial();
         match core.read_end(ticket, Ok(image)) {
             Ok(pass) => {
                 let note = pass.note();
-                self.said.add(Entry {
+                let ended = Grant {
                     client: self.client,
-                    call: Call::ReadEnd {
-                        ticket: serial,
-                        page,
-                        image: Some(copy),
-                    },
-                    reply: Reply::Fixed(note.serial()),
-                });
+                    page,
+                    serial,
+                };
+                self.said.record_load(ended, note.serial(), copy);
                 self.held.push(note);
                 self.tickets -= 1;
                 Ok(note.pass())
@@ -52,7 +51,7 @@ impl Book {
             Err(EndRefusal::Failed(_)) => unreachable!(),
             Err(EndRefusal::Unknown(lost, _)) => {
                 lost.forfeit();
-                self.blanks.push_reserved(copy);
+                self.blanks.push_reserved(K::clear(copy));
                 Err(Refusal::UnknownTicket)
             }
         }
@@ -62,7 +61,7 @@ impl Book {
     /// know is forfeited, as by `end_load`.
     fn end_failed_load(
         &mut self,
-        core: &mut Core,
+        core: &mut PoolCore<K>,
         ticket: ReadTicket,
         fault: PortFault,
     ) -> Result<Pass, Refusal>
@@ -80,15 +79,12 @@ impl Book {
         match core.read_end(ticket, Err(fault)) {
             Ok(_pass) => unreachable!(),
             Err(EndRefusal::Failed(refusal)) => {
-                self.said.add(Entry {
-                    client: self.client,
-                    call: Call::ReadEnd {
-                        ticket: serial,
-                        page,
-                        image: None,
-                    },
-                    reply: reply_of_read(fault),
-                });
+                let call = Call::ReadEnd {
+                    ticket: serial,
+                    page,
+                    image: None,
+                };
+                self.said.record(self.client, call, reply_of_read(fault));
                 self.tickets -= 1;
                 Err(refusal)
             }
@@ -106,7 +102,7 @@ impl Book {
     /// ticket that the core does not know is forfeited, which is `UnknownTicket`, and nothing else changes.
     pub fn end_read(
         &mut self,
-        core: &mut Core,
+        core: &mut PoolCore<K>,
         ticket: PendingRead,
         read: Result<Image, PortFault>,
     ) -> Result<Pass, Refusal>
@@ -135,7 +131,7 @@ impl Book {
     /// forfeited, which is `UnknownTicket`, and nothing else changes.
     pub fn end_write_out(
         &mut self,
-        core: &mut Core,
+        core: &mut PoolCore<K>,
         ticket: PendingWrite,
         written: Result<(), PortFault>,
     ) -> Result<Ended, Refusal>

@@ -9,9 +9,10 @@ ghost use Rattle.bp_core.specs.Outcomes.{pass_is_out};
 ghost use Rattle.bp_book.specs.Books.{Tells};
 
 use super::Book;
-use bp_core::{Call, Entry, Pass, PassNote, Reply};
+use bp_core::{Call, Pass, PassNote, Reply};
+use bp_keeper::ListKeeper;
 
-impl Book {
+impl<K: ListKeeper> Book<K> {
     /// Whether the list gave this pass and did not give it back.
     pub fn holds(&self, pass: &Pass) -> bool
         ensures { result ≡ pass_is_out pass.now self.now.said }
@@ -26,14 +27,11 @@ impl Book {
         ensures whose { note.client ≡ self.old.client }
         ensures told { Tells self.old (Call.Unfix note.serial note.page) Reply.Done self.new }
     {
-        self.said.add(Entry {
-            client: self.client,
-            call: Call::Unfix {
-                pass: note.serial(),
-                page: note.page(),
-            },
-            reply: Reply::Done,
-        });
+        let call = Call::Unfix {
+            pass: note.serial(),
+            page: note.page(),
+        };
+        self.said.record(self.client, call, Reply::Done);
         self.held.strike(note.serial());
     }
 }

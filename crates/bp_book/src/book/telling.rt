@@ -6,8 +6,10 @@ ghost use Rattle.bp_book.specs.Books.{OwesWriteEnd, SameOwner, Tells, plain_call
 ghost use Rattle.bp_book.specs.Turns.{and_told, refusal_reply};
 
 use super::Book;
-use bp_core::{Call, Entry, Pass, ReadTicket, Reply, WriteTicket};
-use bp_page::{PageNo, Refusal};
+use bp_core::{Call, Pass, ReadTicket, Reply, WriteTicket};
+use bp_keeper::ListKeeper;
+use bp_page::{Bytes, Image, Lsn, PageNo, Refusal};
+use bp_trail::Grant;
 
 /// The reply that a refusal is, if there is an entry with it.
 fn reply_of(refusal: &Refusal) -> Option<Reply>
@@ -22,7 +24,18 @@ fn reply_of(refusal: &Refusal) -> Option<Reply>
     }
 }
 
-impl Book {
+impl<K: ListKeeper> Book<K> {
+    /// A pass or a ticket of the list's client.
+    pub(super) fn grant(&self, page: PageNo, serial: u64) -> Grant
+        ensures { result ≡ record { client = self.now.client; page = page; serial = serial } }
+    {
+        Grant {
+            client: self.client,
+            page,
+            serial,
+        }
+    }
+
     /// Adds an entry by which no pass or ticket is given or given back.
     pub(crate) fn tell(&mut self, call: Call, reply: Reply)
         requires plain { plain_call call ≡ true }
@@ -33,11 +46,38 @@ impl Book {
         ensures passes { self.new.passes ≡ self.old.passes }
         ensures copies { self.new.copies ≡ self.old.copies }
     {
-        self.said.add(Entry {
-            client: self.client,
-            call,
-            reply,
-        });
+        self.said.record(self.client, call, reply);
+    }
+
+    /// Adds the entry of a read by a pass, with a copy of the image.
+    pub(crate) fn tell_read(&mut self, pass: &Pass, image: &Image)
+        requires size { length image.now ≡ self.old.size }
+        requires room { 0 < self.old.entries }
+        requires copies { 0 < self.old.copies }
+        ensures told { Tells self.old (Call.Read pass.now.serial pass.now.page)
+            (Reply.Content image.now) self.new }
+    {
+        let copy = self.copy_of(image);
+        let by = self.grant(pass.page(), pass.serial());
+        self.said.record_read(by, image, copy);
+    }
+
+    /// Adds the entry of a write by a pass, with the bytes.
+    pub(crate) fn tell_write(
+        &mut self,
+        pass: &Pass,
+        offset: u32,
+        bytes: &Bytes,
+        lsn: Lsn,
+        spare: K::SpareBytes,
+    )
+        requires room { 0 < self.old.entries }
+        requires spare { K.serves_bytes spare bytes.now }
+        ensures told { Tells self.old
+            (Call.Write pass.now.serial pass.now.page offset bytes.now lsn) Reply.Done self.new }
+    {
+        let by = self.grant(pass.page(), pass.serial());
+        self.said.record_write(by, offset, bytes, lsn, spare);
     }
 
     /// Adds the entry of a pass that a fix gave at once, and holds the pass.
@@ -50,11 +90,8 @@ impl Book {
         ensures told { Tells self.old (Call.Fix page) (Reply.Hit pass.serial) self.new }
     {
         let note = pass.note();
-        self.said.add(Entry {
-            client: self.client,
-            call: Call::Fix(page),
-            reply: Reply::Hit(note.serial()),
-        });
+        self.said
+            .record(self.client, Call::Fix(page), Reply::Hit(note.serial()));
         self.held.push(note);
         note.pass()
     }
@@ -69,14 +106,12 @@ impl Book {
         ensures told { Tells self.old (Call.Fix ticket.page)
             (Reply.Load ticket.serial evicted) self.new }
     {
-        self.said.add(Entry {
-            client: self.client,
-            call: Call::Fix(ticket.page()),
-            reply: Reply::Load {
-                ticket: ticket.serial(),
-                evicted,
-            },
-        });
+        let reply = Reply::Load {
+            ticket: ticket.serial(),
+            evicted,
+        };
+        self.said
+            .record(self.client, Call::Fix(ticket.page()), reply);
         self.tickets += 1;
         ticket
     }
@@ -93,16 +128,9 @@ impl Book {
         ensures told { Tells self.old call
             (Reply.WriteFirst ticket.serial ticket.page ticket.image) self.new }
     {
-        let image = self.copy_of(ticket.image());
-        self.said.add(Entry {
-            client: self.client,
-            call,
-            reply: Reply::WriteFirst {
-                ticket: ticket.serial(),
-                page: ticket.page(),
-                image,
-            },
-        });
+        let copy = self.copy_of(ticket.image());
+        let given = self.grant(ticket.page(), ticket.serial());
+        self.said.record_begin(call, given, ticket.image(), copy);
         self.tickets += 1;
         ticket
     }
@@ -126,11 +154,8 @@ impl Book {
         requires owes { OwesWriteEnd self.old.client ticket self.old.said }
         ensures told { Tells self.old (Call.WriteEnd ticket page good) reply self.new }
     {
-        self.said.add(Entry {
-            client: self.client,
-            call: Call::WriteEnd { ticket, page, good },
-            reply,
-        });
+        let call = Call::WriteEnd { ticket, page, good };
+        self.said.record(self.client, call, reply);
         self.tickets -= 1;
     }
 }

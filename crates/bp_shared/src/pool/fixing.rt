@@ -8,10 +8,11 @@ use crate::session::Session;
 use bp_book::{Fix, PendingRead, PendingWrite};
 use bp_core::{Ended, Pass};
 use bp_device::Port;
+use bp_keeper::ListKeeper;
 use bp_page::{PageNo, Refusal};
 use std::sync::Wait;
 
-impl<N: PoolName> SharedPool<N> {
+impl<N: PoolName, K: ListKeeper> SharedPool<N, K> {
     ghost use Rattle.std.specs.Prelude.{◌≡◌, ◌<◌};
     ghost use Rattle.bp_book.specs.Books.{OwesRead, OwesWrite};
     ghost use Rattle.bp_book.specs.Turns.{FixTurn, LoadOutcome, WriteOutOutcome};
@@ -21,7 +22,7 @@ impl<N: PoolName> SharedPool<N> {
     fn load<P: Port, R: Wait>(
         &self,
         rt: &R,
-        session: &mut Session<N>,
+        session: &mut Session<N, K>,
         port: &mut P,
         ticket: PendingRead,
     ) -> Result<Pass, Refusal>
@@ -46,7 +47,7 @@ impl<N: PoolName> SharedPool<N> {
     pub(super) fn write_out<P: Port, R: Wait>(
         &self,
         rt: &R,
-        session: &mut Session<N>,
+        session: &mut Session<N, K>,
         port: &mut P,
         ticket: PendingWrite,
     ) -> Result<Ended, Refusal>
@@ -71,7 +72,7 @@ impl<N: PoolName> SharedPool<N> {
     fn ask_fix<R: Wait>(
         &self,
         rt: &R,
-        session: &mut Session<N>,
+        session: &mut Session<N, K>,
         page: PageNo,
     ) -> Result<Fix, Refusal>
         requires page_in { page < N.parameters.pages }
@@ -106,7 +107,7 @@ impl<N: PoolName> SharedPool<N> {
     pub fn fix<P: Port, R: Wait>(
         &self,
         rt: &R,
-        session: &mut Session<N>,
+        session: &mut Session<N, K>,
         port: &mut P,
         page: PageNo,
     ) -> Result<Pass, Refusal>

@@ -9,6 +9,7 @@ use crate::session::Session;
 use bp_book::Flush;
 use bp_core::Ended;
 use bp_device::{Flushed, Port};
+use bp_keeper::ListKeeper;
 use bp_page::{PageNo, Refusal};
 use std::sync::Wait;
 
@@ -22,7 +23,7 @@ fn flushed_by(ended: Ended) -> Flushed
     }
 }
 
-impl<N: PoolName> SharedPool<N> {
+impl<N: PoolName, K: ListKeeper> SharedPool<N, K> {
     ghost use Rattle.std.specs.Prelude.{◌≡◌, ◌<◌};
     ghost use Rattle.bp_book.specs.Turns.{FlushTurn};
     ghost use Rattle.bp_shared.specs.Sessions.{FlushSaid};
@@ -32,7 +33,7 @@ impl<N: PoolName> SharedPool<N> {
     fn ask_flush<R: Wait>(
         &self,
         rt: &R,
-        session: &mut Session<N>,
+        session: &mut Session<N, K>,
         page: PageNo,
     ) -> Result<Flush, Refusal>
         requires page_in { page < N.parameters.pages }
@@ -65,7 +66,7 @@ impl<N: PoolName> SharedPool<N> {
     pub fn flush<P: Port, R: Wait>(
         &self,
         rt: &R,
-        session: &mut Session<N>,
+        session: &mut Session<N, K>,
         port: &mut P,
         page: PageNo,
     ) -> Result<Flushed, Refusal>

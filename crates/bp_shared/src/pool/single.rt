@@ -6,15 +6,16 @@ use crate::locking::locked;
 use crate::names::PoolName;
 use crate::session::Session;
 use bp_core::Pass;
+use bp_keeper::ListKeeper;
 use bp_page::{Bytes, Image, Lsn, Refusal};
 use std::sync::Wait;
 
-impl<N: PoolName> SharedPool<N> {
+impl<N: PoolName, K: ListKeeper> SharedPool<N, K> {
     ghost use Rattle.std.specs.Prelude.{◌≡◌, ◌≢◌, ◌+◌, ◌≤◌, length};
     ghost use Rattle.bp_book.specs.Turns.{TickSaid, PurgeSaid, ReadSaid, WriteSaid};
 
     /// Moves the clock on. `OutOfMemory`, `TrailFull` and `ClockFull` change nothing.
-    pub fn tick<R: Wait>(&self, rt: &R, session: &mut Session<N>, n: u64) -> Result<(), Refusal>
+    pub fn tick<R: Wait>(&self, rt: &R, session: &mut Session<N, K>, n: u64) -> Result<(), Refusal>
         ensures client { session.new.client ≡ session.old.client }
         ensures before { session.new.before ≡ session.old.before }
         ensures free { session.new.free ≡ session.old.free }
@@ -29,7 +30,7 @@ impl<N: PoolName> SharedPool<N> {
     }
 
     /// Forgets old references, and counts their pages. `OutOfMemory` and `TrailFull` change nothing.
-    pub fn purge<R: Wait>(&self, rt: &R, session: &mut Session<N>) -> Result<u64, Refusal>
+    pub fn purge<R: Wait>(&self, rt: &R, session: &mut Session<N, K>) -> Result<u64, Refusal>
         ensures client { session.new.client ≡ session.old.client }
         ensures before { session.new.before ≡ session.old.before }
         ensures free { session.new.free ≡ session.old.free }
@@ -48,7 +49,7 @@ impl<N: PoolName> SharedPool<N> {
     pub fn read<R: Wait>(
         &self,
         rt: &R,
-        session: &mut Session<N>,
+        session: &mut Session<N, K>,
         pass: &Pass,
     ) -> Result<Image, Refusal>
         ensures client { session.new.client ≡ session.old.client }
@@ -73,7 +74,7 @@ impl<N: PoolName> SharedPool<N> {
     pub fn write<R: Wait>(
         &self,
         rt: &R,
-        session: &mut Session<N>,
+        session: &mut Session<N, K>,
         pass: &Pass,
         offset: u32,
         bytes: &Bytes,
@@ -90,7 +91,7 @@ impl<N: PoolName> SharedPool<N> {
         if pass.client() != session.client() {
             return Err(Refusal::UnknownPass);
         }
-        let Ok(kept) = Bytes::of(self.alloc, bytes.bytes()) else {
+        let Ok(spare) = K::spare_bytes(self.alloc, bytes) else {
             return Err(Refusal::OutOfMemory);
         };
         let Ok(()) = session.book.prepare() else {
@@ -98,6 +99,6 @@ impl<N: PoolName> SharedPool<N> {
         };
         let mut state = locked(rt, &self.state);
         let asked = self.posted.take();
-        state.write(&mut session.book, pass, offset, kept, lsn, asked)
+        state.write(&mut session.book, pass, offset, bytes, lsn, spare, asked)
     }
 }

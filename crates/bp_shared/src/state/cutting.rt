@@ -10,9 +10,10 @@ use crate::taker::Taker;
 use crate::trail_ring::{meet, pass_on};
 use bp_book::draining::{ALL, drain_all};
 use bp_core::Entry;
+use bp_keeper::RecordingKeeper;
 use bp_page::Refusal;
 
-impl<N: PoolName> State<N> {
+impl<N: PoolName> State<N, RecordingKeeper> {
     /// Drains the rings, and hands the trail to the taker. The core goes on in the spare's memory, and takes none.
     /// `ClockFull` where more than 2^62 passes or tickets were given: then the rings are drained, and no more.
     pub(crate) fn cut(

@@ -14,6 +14,7 @@ use crate::names::PoolName;
 use crate::session::Session;
 use bp_book::{Book, Fix, Flush, PendingRead, PendingWrite, drain_all};
 use bp_core::{Ended, Pass};
+use bp_keeper::ListKeeper;
 use bp_mark::Mark;
 use bp_page::{Bytes, Image, Lsn, PageNo, PortFault, Refusal};
 
@@ -27,12 +28,12 @@ fn counted<T>(ends: u64, ended: &Result<T, Refusal>) -> u64
     }
 }
 
-impl<N: PoolName> State<N> {
+impl<N: PoolName, K: ListKeeper> State<N, K> {
     /// Asks for a page, after one look at the mark.
     pub(crate) fn fix(
         &mut self,
         mark: &Mark,
-        book: &mut Book,
+        book: &mut Book<K>,
         page: PageNo,
         asked: u64,
     ) -> Result<Fix, Refusal>
@@ -61,7 +62,7 @@ impl<N: PoolName> State<N> {
     pub(crate) fn flush(
         &mut self,
         mark: &Mark,
-        book: &mut Book,
+        book: &mut Book<K>,
         page: PageNo,
         asked: u64,
     ) -> Result<Flush, Refusal>
@@ -89,7 +90,7 @@ impl<N: PoolName> State<N> {
     /// Ends a read. It takes no memory.
     pub(crate) fn end_read(
         &mut self,
-        session: &mut Session<N>,
+        session: &mut Session<N, K>,
         ticket: PendingRead,
         read: Result<Image, PortFault>,
         asked: u64,
@@ -113,7 +114,7 @@ impl<N: PoolName> State<N> {
     /// Ends a write-out. It takes no memory.
     pub(crate) fn end_write(
         &mut self,
-        session: &mut Session<N>,
+        session: &mut Session<N, K>,
         ticket: PendingWrite,
         written: Result<(), PortFault>,
         asked: u64,
@@ -134,7 +135,7 @@ impl<N: PoolName> State<N> {
     }
 
     /// Moves the clock.
-    pub(crate) fn tick(&mut self, book: &mut Book, n: u64, asked: u64) -> Result<(), Refusal>
+    pub(crate) fn tick(&mut self, book: &mut Book<K>, n: u64, asked: u64) -> Result<(), Refusal>
         requires client_in { book.old.client < N.parameters.clients }
         requires room { 0 < book.old.entries }
         ensures owner { SameOwner book.old book.new }
@@ -148,7 +149,7 @@ impl<N: PoolName> State<N> {
     }
 
     /// Forgets old references, and counts their pages.
-    pub(crate) fn purge(&mut self, book: &mut Book, asked: u64) -> Result<u64, Refusal>
+    pub(crate) fn purge(&mut self, book: &mut Book<K>, asked: u64) -> Result<u64, Refusal>
         requires client_in { book.old.client < N.parameters.clients }
         requires room { 0 < book.old.entries }
         ensures owner { SameOwner book.old book.new }
@@ -164,7 +165,7 @@ impl<N: PoolName> State<N> {
     /// Reads the page of a pass of the list's client.
     pub(crate) fn read(
         &mut self,
-        book: &mut Book,
+        book: &mut Book<K>,
         pass: &Pass,
         asked: u64,
     ) -> Result<Image, Refusal>
@@ -185,25 +186,27 @@ impl<N: PoolName> State<N> {
     /// Writes to the page of a pass of the list's client.
     pub(crate) fn write(
         &mut self,
-        book: &mut Book,
+        book: &mut Book<K>,
         pass: &Pass,
         offset: u32,
-        bytes: Bytes,
+        bytes: &Bytes,
         lsn: Lsn,
+        spare: K::SpareBytes,
         asked: u64,
     ) -> Result<(), Refusal>
         requires own { pass.now.client ≡ book.old.client }
-        requires fits { offset + length bytes ≤ N.parameters.size }
+        requires fits { offset + length bytes.now ≤ N.parameters.size }
         requires room { 0 < book.old.entries }
+        requires spare { K.serves_bytes spare bytes.now }
         ensures owner { SameOwner book.old book.new }
         ensures ends { self.new.ends ≡ self.old.ends }
-        ensures outcome { WriteSaid book.old.client pass.now offset bytes lsn result
+        ensures outcome { WriteSaid book.old.client pass.now offset bytes.now lsn result
             book.old.said book.new.said }
         ensures in_step { InStep
-            (λ core after. WriteOutcome core pass.now offset bytes lsn result after)
+            (λ core after. WriteOutcome core pass.now offset bytes.now lsn result after)
             self.old book.old.said self.new book.new.said }
     {
         drain_all(&mut self.core, &mut self.strays, &mut self.consumers, asked);
-        book.ask_write(&mut self.core, pass, offset, bytes, lsn)
+        book.ask_write(&mut self.core, pass, offset, bytes, lsn, spare)
     }
 }

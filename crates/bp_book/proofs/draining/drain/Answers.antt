@@ -4,10 +4,10 @@ use Rattle.bp_book.proofs.Drains.{takes_none, takes_more, drains_most, drains_al
 use Rattle.bp_book.proofs.draining.drain.Goals as goal
 
 pub loop-init : goal.loop-init
-loop-init c = record { parameters = refl; before = refl; takes = takes_none _ _ _ }
+loop-init g c = record { parameters = refl; before = refl; takes = takes_none _ _ _ }
 
 pub loop-preserved : goal.loop-preserved
-loop-preserved c =
+loop-preserved g c =
     let i = c.loop.invariant in
     record {
       parameters = c.give_back.ensures.parameters ∙ i.parameters;
@@ -16,7 +16,7 @@ loop-preserved c =
     }
 
 pub returns-in_default-clause-drained : goal.returns-in_default-clause-drained
-returns-in_default-clause-drained c = drains_all _ _ _ _ _ _ _ _ _ c.loop.invariant.takes (omega arith) c.in_default.ensures.empty.0 c.in_default.ensures.empty.1
+returns-in_default-clause-drained g c = drains_all _ _ _ _ _ _ _ _ _ c.loop.invariant.takes (omega arith) c.in_default.ensures.empty.0 c.in_default.ensures.empty.1
 
 pub returns-clause-drained : goal.returns-clause-drained
-returns-clause-drained c = drains_most _ _ _ _ _ _ _ _ c.loop.invariant.takes (omega arith)
+returns-clause-drained g c = drains_most _ _ _ _ _ _ _ _ c.loop.invariant.takes (omega arith)

@@ -5,7 +5,7 @@ use Rattle.bp_book.proofs.Drains.{Takes}
 use Rattle.bp_book.proofs.draining.drain.Given as goal
 
 abbrev pub invariant-loop : goal.invariant-loop
-invariant-loop l =
+invariant-loop g l =
     record {
       parameters : l.core.parameters ≡ l.initial.core.parameters;
       before : l.core.before ≡ l.initial.core.before;

@@ -4,7 +4,7 @@ use Rattle.bp_book.specs.Rings.{ring_view, DrainsRings}
 use Rattle.bp_book.proofs.draining.drain_all.Given as goal
 
 abbrev pub invariant-loop-consumer : goal.invariant-loop-consumer
-invariant-loop-consumer l =
+invariant-loop-consumer g l =
     let i = l.consumer-index in
     let first = map ring_view l.initial.consumers in
     let now = map ring_view l.consumers in

@@ -3,5 +3,5 @@ use Rattle.std.proofs.Common.{sym, ◌∙◌}
 use Rattle.bp_book.proofs.Asking.{content_sized}
 use Rattle.bp_book.proofs.book.Book.ask_read.Goals as goal
 
-pub copy_of-copy-requires-clause-size : goal.copy_of-copy-requires-clause-size
-copy_of-copy-requires-clause-size c = content_sized _ _ _ _ _ _ c.in-Ok.ensures.outcome.2 ∙ sym c.requires.size
+pub tell_read-requires-clause-size : goal.tell_read-requires-clause-size
+tell_read-requires-clause-size g c = content_sized _ _ _ _ _ _ c.in-Ok.ensures.outcome.2 ∙ sym c.requires.size

@@ -8,7 +8,7 @@ use Rattle.bp_core.specs.Outcomes.{CutRefused}
 use Rattle.bp_book.specs.Rings.{ring_view}
 use Rattle.bp_shared.specs.Taking.{after_pieces}
 use Rattle.bp_shared.proofs.Taking.{one_more, handed_out, comes_next, gave_too_many, still_locked}
-use Rattle.bp_shared.proofs.state.State.cut.Goals as goal
+use Rattle.bp_shared.proofs.state.cutting.State+N+RecordingKeeper.cut.Goals as goal
 
 pub invariant_of-self-2 : goal.invariant_of-self-2
 invariant_of-self-2 g c =
