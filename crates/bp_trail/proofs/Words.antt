@@ -6,7 +6,7 @@ use Rattle.bp_trail.specs.declared.entries.Entry.{Entry}
 use Rattle.bp_trail.specs.declared.entries.Call.{Call}
 use Rattle.bp_trail.specs.declared.entries.Call.TheVariants.{Fix, ReadEnd, WriteEnd, Write, Unfix, Flush}
 use Rattle.bp_trail.specs.declared.entries.Reply.{Reply}
-use Rattle.bp_trail.specs.declared.entries.Reply.TheVariants.{Hit, Load, WriteFirst, Fixed, Cleaned, StillDirty}
+use Rattle.bp_trail.specs.declared.entries.Reply.TheVariants.{Hit, Load, WriteFirst, Fixed, ReadFailed, WrongPage, Cleaned, StillDirty}
 use Rattle.bp_trail.specs.Parameters.{Parameters}
 use Rattle.bp_trail.specs.Lists.{EachEntry}
 use Rattle.bp_trail.specs.Event.{Grant, grant, hits, loads, writes, begins_of, ends_well, page_of, pass_given, read_ticket_given, write_ticket_given, pass_back, read_ticket_back, write_ticket_back}
@@ -17,7 +17,7 @@ use Rattle.bp_trail.specs.Legal.{Legal}
 use Rattle.bp_trail.specs.Sentences.{evicts}
 use Rattle.bp_trail.specs.Wording.{FitsItsCall, IsHit, IsGoodReadEnd, IsEviction, IsWrite, IsBegin, IsGoodWriteEnd, GivesPass, GivesReadTicket, GivesWriteTicket, SaysSo}
 use Rattle.bp_trail.proofs.Events.{Event, event-of}
-use Rattle.bp_trail.proofs.Events.Event.{fix_hit, fix_load, fix_replace, fix_write, flush_write, read_good, write_clean, write_dirty, page_written}
+use Rattle.bp_trail.proofs.Events.Event.{fix_hit, fix_load, fix_replace, fix_write, flush_write, read_good, read_bad, read_wrong, write_clean, write_dirty, page_written}
 
 abbrev entry : ℕ → Call → Reply → Entry
 entry who call reply = record { client = who; call = call; reply = reply }
@@ -52,6 +52,17 @@ module _ (c : Parameters) (past : Trail) (who : ℕ) where
   read-reply : (call : Call) (reply : Reply) → Event c past who call reply → (t p : ℕ) (image : List ℕ) → call ≡ ReadEnd t p (Some image) → (n : ℕ) × (reply ≡ Fixed n)
   read-reply _ _ (read_good u q given o) t p image i = (passes past, refl)
   read-reply _ _ _ t p image i = cc
+
+  unread-call : (call : Call) (reply : Reply) → Event c past who call reply → (reply ≡ ReadFailed) ⊎ (reply ≡ WrongPage) → (t : ℕ) × (p : ℕ) × (call ≡ ReadEnd t p None)
+  unread-call _ _ (read_bad t p o) i = (t, p, refl)
+  unread-call _ _ (read_wrong t p o) i = (t, p, refl)
+  unread-call _ _ _ (inl i) = cc
+  unread-call _ _ _ (inr i) = cc
+
+  unread-reply : (call : Call) (reply : Reply) → Event c past who call reply → (t p : ℕ) → call ≡ ReadEnd t p None → (reply ≡ ReadFailed) ⊎ (reply ≡ WrongPage)
+  unread-reply _ _ (read_bad u q o) t p i = inl refl
+  unread-reply _ _ (read_wrong u q o) t p i = inr refl
+  unread-reply _ _ _ t p i = cc
 
   saved-call : (call : Call) (reply : Reply) → Event c past who call reply → (reply ≡ Cleaned) ⊎ (reply ≡ StillDirty) → (t : ℕ) × (p : ℕ) × (call ≡ WriteEnd t p true)
   saved-call _ _ (write_clean t p o w) i = (t, p, refl)
@@ -120,6 +131,8 @@ fits c = of-all c (λ past e. FitsItsCall e) (λ past e l. let v = event-of c pa
   write_first = write-call c past e.client e.call e.reply v;
   fixed = fixed-call c past e.client e.call e.reply v;
   read_well = read-reply c past e.client e.call e.reply v;
+  unread = unread-call c past e.client e.call e.reply v;
+  read_badly = unread-reply c past e.client e.call e.reply v;
   saved = saved-call c past e.client e.call e.reply v;
   written_well = end-reply c past e.client e.call e.reply v;
 })

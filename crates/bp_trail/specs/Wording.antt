@@ -1,19 +1,21 @@
 -- What the words on one entry of a legal trail say, in its call and its reply.
-use Rattle.std.specs.Prelude.{◌≡◌, ℕ, Bool, true, List, Option, Some, ◌⊎◌, ◌↔◌, Decides}
+use Rattle.std.specs.Prelude.{◌≡◌, ℕ, Bool, true, List, Option, Some, None, ◌⊎◌, ◌↔◌, Decides}
 use Rattle.bp_trail.specs.declared.entries.Entry.{Entry}
 use Rattle.bp_trail.specs.declared.entries.Call.TheVariants.{Fix, ReadEnd, WriteEnd, Write, Unfix, Flush}
-use Rattle.bp_trail.specs.declared.entries.Reply.TheVariants.{Done, Hit, Load, WriteFirst, Fixed, Cleaned, StillDirty}
+use Rattle.bp_trail.specs.declared.entries.Reply.TheVariants.{Done, Hit, Load, WriteFirst, Fixed, ReadFailed, WrongPage, Cleaned, StillDirty}
 use Rattle.bp_trail.specs.Event.{Grant, hits, loads, writes, begins_of, ends_well, pass_back, read_ticket_back, write_ticket_back}
 use Rattle.bp_trail.specs.Passes.{pass_of, read_ticket_of, write_ticket_of}
 use Rattle.bp_trail.specs.Sentences.{evicts, gives_back}
 
--- which calls each reply is of, and the good ends
+-- which calls each reply is of, and how good ends are answered, and reads that end without an image
 pub record FitsItsCall (e : Entry) : Type 0 where
   pub hit : (n : ℕ) → e.reply ≡ Hit n → (p : ℕ) × (e.call ≡ Fix p)
   pub load : (t : ℕ) (victim : Option ℕ) → e.reply ≡ Load t victim → (p : ℕ) × (e.call ≡ Fix p)
   pub write_first : (t p : ℕ) (image : List ℕ) → e.reply ≡ WriteFirst t p image → ((q : ℕ) × (e.call ≡ Fix q)) ⊎ (e.call ≡ Flush p)
   pub fixed : (n : ℕ) → e.reply ≡ Fixed n → (t : ℕ) × (p : ℕ) × (image : List ℕ) × (e.call ≡ ReadEnd t p (Some image))
   pub read_well : (t p : ℕ) (image : List ℕ) → e.call ≡ ReadEnd t p (Some image) → (n : ℕ) × (e.reply ≡ Fixed n)
+  pub unread : (e.reply ≡ ReadFailed) ⊎ (e.reply ≡ WrongPage) → (t : ℕ) × (p : ℕ) × (e.call ≡ ReadEnd t p None)
+  pub read_badly : (t p : ℕ) → e.call ≡ ReadEnd t p None → (e.reply ≡ ReadFailed) ⊎ (e.reply ≡ WrongPage)
   pub saved : (e.reply ≡ Cleaned) ⊎ (e.reply ≡ StillDirty) → (t : ℕ) × (p : ℕ) × (e.call ≡ WriteEnd t p true)
   pub written_well : (t p : ℕ) → e.call ≡ WriteEnd t p true → (e.reply ≡ Cleaned) ⊎ (e.reply ≡ StillDirty)
 
