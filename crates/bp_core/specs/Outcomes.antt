@@ -9,6 +9,7 @@ use Rattle.bp_trail.specs.Clock.{clock}
 use Rattle.bp_trail.specs.Passes.{passes, tickets, passes_out, reads_out, writes_out}
 use Rattle.bp_trail.specs.Saved.{top}
 use Rattle.bp_trail.specs.Legal.{is_out, Legal}
+use Rattle.bp_trail.specs.PageMap.{reply_of}
 use Rattle.bp_trail.specs.Trail.{Trail}
 use Rattle.bp_trail.specs.Cuts.{LeadsOn}
 use Rattle.bp_trail.specs.declared.entries.Entry.{Entry}
@@ -29,6 +30,17 @@ use Rattle.bp_core.specs.declared.passes.Ended.{Ended}
 use Rattle.bp_core.specs.declared.passes.Ended.TheVariants as ended
 use Rattle.bp_core.specs.declared.passes.EndRefusal.{EndRefusal}
 use Rattle.bp_core.specs.declared.passes.EndRefusal.TheVariants as end_refusal
+
+-- the replies for which memory is taken: for a pass, for a ticket and the page's history, for the image that goes out
+abbrev pub takes_memory : Reply → Bool
+takes_memory (Hit pass) = true
+takes_memory (Load ticket victim) = true
+takes_memory (WriteFirst ticket page image) = true
+takes_memory _ = false
+
+-- the lawful reply to a call is one of them
+abbrev pub TakesMemory : Call → CoreView → Type 0
+TakesMemory call core = EachPast core (λ past. takes_memory (reply_of core.parameters past call) ≡ true)
 
 -- one more entry, of a legal trail
 pub record Adds (old : CoreView) (client : ℕ) (call : Call) (reply : Reply) (new : CoreView) : Type 0 where

@@ -4,7 +4,7 @@ ghost use Rattle.bp_trail.specs.Places.{loading, resident};
 ghost use Rattle.bp_trail.specs.Victim.{victim};
 ghost use Rattle.bp_trail.specs.PageMap.{has_free_frame};
 ghost use Rattle.bp_core.specs.CoreView.{EachPast, HasRoomFor};
-ghost use Rattle.bp_core.specs.Outcomes.{FixOutcome};
+ghost use Rattle.bp_core.specs.Outcomes.{FixOutcome, TakesMemory};
 
 use crate::passes::Fix;
 use crate::pool::PoolCore;
@@ -16,13 +16,14 @@ impl<K: Keeper> PoolCore<K> {
     /// Asks for a page (Gray and Reuter, chapter 13): a pass where it is resident; else a ticket to read it into a free frame or
     /// into that of the victim; else, where the victim is unsaved, a ticket to write the victim out first.
     ///
-    /// `TrailFull` where fewer than three entries are free, else `OutOfMemory`; both change nothing. `Busy` where the page is
-    /// loading, `NoVictim` where no page may leave, `NeedLog` where the log is not durable as far as the victim's page LSN; these
-    /// three are entries and change nothing else.
+    /// `TrailFull` where fewer than three entries are free, else `OutOfMemory`, where it would have given a pass or a ticket; both
+    /// change nothing. `Busy` where the page is loading, `NoVictim` where no page may leave, `NeedLog` where the log is not durable as
+    /// far as the victim's page LSN; these three are entries, take no memory and change nothing else.
     pub fn fix(&mut self, client: u8, page: PageNo) -> Result<Fix, Refusal>
         requires client_in { client < self.old.parameters.clients }
         requires page_in { page < self.old.parameters.pages }
         ensures outcome { FixOutcome self.old client page result self.new }
+        ensures memory { result ≡ Err Refusal.OutOfMemory → TakesMemory (Call.Fix page) self.old }
     {
         if self.free() < 3 {
             return Err(Refusal::TrailFull);
@@ -47,6 +48,7 @@ impl<K: Keeper> PoolCore<K> {
         requires here { EachPast self.old (λ past. resident past page ≡ true) }
         requires room { HasRoomFor 3 self.old }
         ensures outcome { FixOutcome self.old client page result self.new }
+        ensures memory { TakesMemory (Call.Fix page) self.old }
     {
         let pending = self.state.reads.len() + 1;
         let Ok(()) = self.state.passes.reserve(pending) else {
@@ -71,6 +73,7 @@ impl<K: Keeper> PoolCore<K> {
         requires full { EachPast self.old (λ past. has_free_frame self.old.parameters past ≡ false) }
         requires room { HasRoomFor 3 self.old }
         ensures outcome { FixOutcome self.old client page result self.new }
+        ensures memory { result ≡ Err Refusal.OutOfMemory → TakesMemory (Call.Fix page) self.old }
     {
         let Some(victim) = self.victim() else {
             self.answer(client, Call::Fix(page), Reply::NoVictim);

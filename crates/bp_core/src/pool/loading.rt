@@ -11,7 +11,7 @@ ghost use Rattle.bp_trail.specs.PageMap.{has_free_frame};
 ghost use Rattle.bp_frames.specs.GrantLists.{GivesAsMuch};
 ghost use Rattle.bp_core.specs.CoreView.{EachPast, HasRoomFor};
 ghost use Rattle.bp_core.specs.ReadFaults.{read_failure};
-ghost use Rattle.bp_core.specs.Outcomes.{FixOutcome, ReadEndOutcome, Adds};
+ghost use Rattle.bp_core.specs.Outcomes.{FixOutcome, ReadEndOutcome, Adds, TakesMemory};
 
 use crate::faults::{refusal_of_read, reply_of_read};
 use crate::passes::{EndRefusal, Fix, Pass, ReadTicket};
@@ -33,6 +33,7 @@ impl<K: Keeper> PoolCore<K> {
         requires frame { EachPast self.old (λ past. has_free_frame self.old.parameters past ≡ true) }
         requires room { HasRoomFor 3 self.old }
         ensures outcome { FixOutcome self.old client page result self.new }
+        ensures memory { TakesMemory (Call.Fix page) self.old }
     {
         let reads = self.state.reads.len();
         let Ok(()) = self.state.frames.provide(self.alloc, reads) else {
@@ -66,6 +67,7 @@ impl<K: Keeper> PoolCore<K> {
         requires saved { EachPast self.old (λ past. unsaved past gone ≡ false) }
         requires room { HasRoomFor 3 self.old }
         ensures outcome { FixOutcome self.old client page result self.new }
+        ensures memory { TakesMemory (Call.Fix page) self.old }
     {
         let block = self.state.block(gone);
         let Ok(()) = make_ready(

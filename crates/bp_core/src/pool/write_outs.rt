@@ -8,7 +8,7 @@ ghost use Rattle.bp_trail.specs.Passes.{tickets, writes_out};
 ghost use Rattle.bp_trail.specs.PageMap.{reply_of};
 ghost use Rattle.bp_trail.specs.Places.{resident};
 ghost use Rattle.bp_core.specs.CoreView.{EachPast, HasRoomFor};
-ghost use Rattle.bp_core.specs.Outcomes.{IsBegin, BeginOutcome, EndedOutcome, FlushOutcome, WriteEndOutcome, Adds};
+ghost use Rattle.bp_core.specs.Outcomes.{IsBegin, BeginOutcome, EndedOutcome, FlushOutcome, WriteEndOutcome, Adds, TakesMemory};
 
 use crate::passes::{EndRefusal, Ended, Flush, WriteTicket};
 use crate::pool::PoolCore;
@@ -21,12 +21,14 @@ impl<K: Keeper> PoolCore<K> {
     /// Asks that a page be written out if it is unsaved: a ticket to do so; `Absent` where it is not resident, `Clean` where it is
     /// saved. The page stays in its frame.
     ///
-    /// `TrailFull` where fewer than two entries are free, else `OutOfMemory`; both change nothing. `Busy` where the page is loading
-    /// or being written out, `NeedLog` where the log is not durable as far as its page LSN; both are entries and change nothing else.
+    /// `TrailFull` where fewer than two entries are free, else `OutOfMemory`, where it would have given a ticket; both change nothing.
+    /// `Busy` where the page is loading or being written out, `NeedLog` where the log is not durable as far as its page LSN; both are
+    /// entries, take no memory and change nothing else.
     pub fn flush(&mut self, client: u8, page: PageNo) -> Result<Flush, Refusal>
         requires client_in { client < self.old.parameters.clients }
         requires page_in { page < self.old.parameters.pages }
         ensures outcome { FlushOutcome self.old client page result self.new }
+        ensures memory { result ≡ Err Refusal.OutOfMemory → TakesMemory (Call.Flush page) self.old }
     {
         if self.free() < 2 {
             return Err(Refusal::TrailFull);
@@ -71,6 +73,7 @@ impl<K: Keeper> PoolCore<K> {
         requires reply { EachPast self.old (λ past. WriteFirst (tickets past) page (held past page) ≡ reply_of self.old.parameters past call) }
         requires room { HasRoomFor 2 self.old }
         ensures outcome { BeginOutcome self.old client call page result self.new }
+        ensures memory { TakesMemory call self.old }
     {
         let Some(frame) = self.frame(page) else {
             unreachable!()

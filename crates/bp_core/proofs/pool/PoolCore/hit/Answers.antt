@@ -6,6 +6,7 @@ use Rattle.bp_core.proofs.Seen.{few_pins, now_is, known_is, resident_seen}
 use Rattle.bp_core.proofs.Keeps.{at-past, adds}
 use Rattle.bp_core.proofs.Placed.{tell-blocks}
 use Rattle.bp_core.proofs.KeepsPasses.{keeps-hit}
+use Rattle.bp_core.proofs.Memory.{here-takes}
 use Rattle.bp_core.proofs.pool.PoolCore.hit.Goals as goal
 
 pub block-block-requires-clause-here : goal.block-block-requires-clause-here
@@ -33,6 +34,9 @@ invariant_of-self-2 g c =
     let w = c.withdraw.ensures in
     rw (c.record.ensures, c.give_pass-pass.ensures.after, c.give_pass-pass.ensures.pass, c.pin.ensures, c.withdraw.ensures.same) (keeps-hit _ _ _ c.self.invariant _ c.self.view_is c.args.client c.args.page c.requires.client_in c.requires.page_in c.requires.here c.requires.room c.reserve.new.self c.reserve.ensures.out (omega (arith, c.in-Ok.ensures.room, c.len-pending.ensures)) c.hit_at.new.self h.settings h.stamps h.others h.held h.places c.withdraw.new.self.candidates w.limits w.pages w.others w.left)
 
+pub returns-in_default-clause-memory : goal.returns-in_default-clause-memory
+returns-in_default-clause-memory g c = here-takes _ _ _ c.self.invariant _ c.self.view_is c.args.page c.requires.here
+
 pub returns : goal.returns
 returns g c =
     record {
@@ -42,4 +46,5 @@ returns g c =
         ap (λ p. p.page) c.give_pass-pass.ensures.pass,
         adds _ _ _ c.self.invariant _ c.self.view_is c.args.client (Fix c.args.page) (Hit c.give_pass-pass.result.serial) _ _ c.record.ensures (invariant_of-self-2 g c),
       );
+      memory = here-takes _ _ _ c.self.invariant _ c.self.view_is c.args.page c.requires.here;
     }
