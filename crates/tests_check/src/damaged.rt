@@ -185,6 +185,39 @@ fn write_end_says_written_since(rt: HostRuntime) {
     assert_eq!(&rt; judged(&rt, &trail), Some(16));
 }
 
+// The read of page 3 ended without an image: it may tell that it found another page. What comes after stays lawful, since
+// the frame is free either way.
+#[test]
+fn wrong_page_without_an_image(rt: HostRuntime) {
+    let trail = with(&rt, 18, read_end(0, 3, 3, None, Reply::WrongPage));
+    assert_eq!(&rt; judged(&rt, &trail), None);
+}
+
+// With an image it gives a pass, and nothing else.
+#[test]
+fn failed_end_with_an_image(rt: HostRuntime) {
+    for reply in [Reply::WrongPage, Reply::ReadFailed] {
+        let image = some_image(&rt, 3, 3, 3);
+        let trail = with(&rt, 18, read_end(0, 3, 3, Some(image), reply));
+        assert_eq!(&rt; judged(&rt, &trail), Some(18));
+    }
+}
+
+#[test]
+fn pass_without_an_image(rt: HostRuntime) {
+    let trail = with(&rt, 18, read_end(0, 3, 3, None, Reply::Fixed(4)));
+    assert_eq!(&rt; judged(&rt, &trail), Some(18));
+}
+
+// Only a read finds another page.
+#[test]
+fn wrong_page_at_other_calls(rt: HostRuntime) {
+    let trail = with(&rt, 16, write_end(0, 2, 1, false, Reply::WrongPage));
+    assert_eq!(&rt; judged(&rt, &trail), Some(16));
+    let trail = with(&rt, 17, fix(0, 3, Reply::WrongPage));
+    assert_eq!(&rt; judged(&rt, &trail), Some(17));
+}
+
 #[test]
 fn last_entry_is_wrong(rt: HostRuntime) {
     let trail = with(&rt, 28, unfix(0, 4, 4));
