@@ -1,0 +1,26 @@
+-- Passes that go back, one after the other.
+use Rattle.std.proofs.Common.{◌≡◌, sym, ◌∙◌, subst, List, [], ◌∷◌, Some}
+use Rattle.std.specs.Prelude.{slice_get}
+use Rattle.bp_trail.specs.Event.{Grant}
+use Rattle.bp_trail.specs.Trail.{Trail}
+use Rattle.bp_trail.specs.Script.{held_passes, give_back}
+use Rattle.bp_workers.specs.Giving.{GoBack}
+use Rattle.bp_workers.specs.Giving.GoBack.{no_more, one_more}
+
+pub nothing_back : (said : Trail) → GoBack said said
+nothing_back said = no_more
+
+-- what goes back from there goes back from here
+pub back_and_on : (said mid after : Trail) → GoBack said mid → GoBack mid after → GoBack said after
+back_and_on said mid after so_far no_more = so_far
+back_and_on said mid after so_far (one_more g later rest held) = one_more g later (back_and_on said mid _ so_far rest) held
+
+rest_of : (held : List Grant) (g : Grant) → slice_get held 0 ≡ Some g → (later : List Grant) × (held ≡ g ∷ later)
+rest_of [] g is = absurd (let no = is in cc)
+rest_of (h ∷ held) g is = (held, (let same : Some h ≡ Some g = is in cc))
+
+-- the first pass held goes back
+pub first_back : (said after : Trail) (held : List Grant) (g : Grant) → held ≡ held_passes said → slice_get held 0 ≡ Some g → after ≡ give_back g ∷ said → GoBack said after
+first_back said after held g are first grows =
+    let split = rest_of held g first in
+    subst (GoBack said) (sym grows) (one_more g split.0 no_more (sym are ∙ split.1))

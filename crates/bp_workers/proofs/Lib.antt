@@ -1,0 +1,3 @@
+-- Lemmas.
+pub mod GoingBack
+pub mod Lining

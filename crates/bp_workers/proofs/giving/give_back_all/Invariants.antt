@@ -1,0 +1,11 @@
+-- What went back so far.
+use Rattle.std.proofs.Common.{◌≡◌}
+use Rattle.bp_workers.specs.Giving.{GoBack}
+use Rattle.bp_workers.proofs.giving.give_back_all.Given as goal
+
+abbrev pub invariant-loop : goal.invariant-loop
+invariant-loop g l = record {
+  client : l.session.client ≡ l.initial.session.client;
+  before : l.session.before ≡ l.initial.session.before;
+  back : GoBack l.initial.session.said l.session.said;
+}

@@ -1,0 +1,13 @@
+-- The first pass held went back, or none did.
+use Rattle.std.proofs.Common.{sym, ◌∙◌, rules}
+use Rattle.bp_workers.proofs.GoingBack.{nothing_back, first_back}
+use Rattle.bp_workers.proofs.giving.give_first_back.Goals as goal
+
+pub returns-in_default-clause-back : goal.returns-in_default-clause-back
+returns-in_default-clause-back g c = nothing_back _
+
+pub returns-in-Err-clause-back : goal.returns-in-Err-clause-back
+returns-in-Err-clause-back g c = search (rules, nothing_back)
+
+pub returns-in-Ok-clause-back : goal.returns-in-Ok-clause-back
+returns-in-Ok-clause-back g c = first_back _ _ c.held.result.now c.in-Some.note c.held.ensures.held (sym c.first.ensures.value ∙ sym c.copied.ensures ∙ c.in-Some.is) (search rules)

@@ -1,0 +1,10 @@
+-- The mark, the core and the ring that were just made.
+use Rattle.bp_workers.proofs.run.run_workers.Given as goal
+
+abbrev pub ghosts-run_named : goal.ghosts-run_named
+ghosts-run_named g a = record {
+  mark = a.parts.0;
+  parameters = a.core.parameters;
+  before = a.core.before;
+  ring = a.ring;
+}

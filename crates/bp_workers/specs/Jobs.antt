@@ -1,0 +1,47 @@
+-- What one worker's thread is given, and what it leaves.
+use Rattle.std.specs.Prelude.{◌≡◌, ◌↔◌, ℕ, Bool, true, List, [], ◌∷◌, ◌++◌, reverse, length, Option, Some, None, IsSome}
+use Rattle.bp_trail.specs.Trail.{Trail}
+use Rattle.bp_trail.specs.Script.{held_passes}
+use Rattle.bp_shared.specs.Sessions.{SessionValue, new_session}
+use Rattle.bp_workers.specs.declared.worker.Left.{Left}
+use Rattle.bp_workers.specs.Giving.{GoBack}
+use Rattle.bp_workers.specs.Workers.{UpkeepValue, new_upkeep}
+
+pub record JobValue (W : Type 0) : Type 0 where
+  pub worker : W
+  pub session : SessionValue
+  pub upkeep : Option UpkeepValue
+  pub held : ℕ
+  pub is_settled : Bool
+
+-- its session said nothing yet, and it has the upkeep where it is of client 0
+pub record IsReady {W : Type 0} (j : JobValue W) : Type 0 where
+  pub new : j.session ≡ new_session j.session.client
+  pub upkeep : j.upkeep ≡ new_upkeep j.session.client
+
+-- the worker did its work, and then passes that it still held went back
+pub record Ran {W : Type 0} (Leaves : ℕ → W → W → SessionValue → Option UpkeepValue → Type 0) (old new : JobValue W) : Type 0 where
+  pub returned : SessionValue
+  pub leaves : Leaves old.session.client old.worker new.worker returned new.upkeep
+  pub before : new.session.before ≡ returned.before
+  pub held : new.held ≡ length (held_passes returned.said)
+  pub back : GoBack returned.said new.session.said
+  pub settled : (new.is_settled ≡ true) ↔ (held_passes new.session.said ≡ [])
+  pub upkeep : IsSome old.upkeep → IsSome new.upkeep
+
+-- what it leaves, with what cuts left of its list
+pub record IsLeftOf {P W : Type 0} (j : JobValue W) (left : Left P W) : Type 0 where
+  pub worker : left.worker ≡ j.worker
+  pub said : reverse left.said.items ++ j.session.before ≡ j.session.said
+  pub held : left.held ≡ j.held
+  pub settled : left.is_settled ≡ j.is_settled
+
+-- what was taken of the trail, by who has the upkeep
+abbrev pub taken_of : Option UpkeepValue → Option Trail
+taken_of None = None
+taken_of (Some u) = Some u.taken
+
+-- and by the first of some jobs
+abbrev pub taken_by : {W : Type 0} → List (JobValue W) → Option Trail
+taken_by [] = None
+taken_by (j ∷ jobs) = taken_of j.upkeep

@@ -1,0 +1,89 @@
+//! One worker's thread.
+
+use crate::giving::give_back_all;
+use crate::worker::{Client, Left, Upkeep, Worker};
+use bp_device::Port;
+use bp_shared::{PoolName, SharedPool};
+use std::marker::Model;
+use std::sync::Wait;
+
+/// What one worker's thread is given, and what it leaves.
+#[derive(Drop)]
+pub(crate) struct Job<N: PoolName, P: Port, W: Worker<P>> {
+    worker: W,
+    client: Client<N, P>,
+    upkeep: Option<Upkeep<N>>,
+    held: usize,
+    is_settled: bool,
+}
+
+impl<N: PoolName, P: Port, W: Worker<P>> Model for Job<N, P, W> {
+    ghost use Rattle.bp_workers.specs.Workers.{held_upkeep};
+    ghost use Rattle.bp_workers.specs.Jobs.{JobValue};
+
+    ghost Value = { JobValue W };
+
+    ghost view = { λ j. record {
+      worker = j.worker;
+      session = j.client.session;
+      upkeep = held_upkeep j.upkeep;
+      held = j.held;
+      is_settled = j.is_settled;
+    } };
+}
+
+impl<N: PoolName, P: Port, W: Worker<P>> Job<N, P, W> {
+    ghost use Rattle.std.specs.Prelude.{◌≡◌};
+    ghost use Rattle.bp_workers.specs.Workers.{held_upkeep};
+    ghost use Rattle.bp_workers.specs.Jobs.{IsReady, Ran, IsLeftOf};
+
+    pub(crate) fn new(worker: W, client: Client<N, P>, upkeep: Option<Upkeep<N>>) -> Job<N, P, W>
+        ensures worker { result.worker ≡ worker }
+        ensures session { result.session ≡ client.session }
+        ensures upkeep { result.upkeep ≡ held_upkeep upkeep }
+    {
+        Job {
+            worker,
+            client,
+            upkeep,
+            held: 0,
+            is_settled: false,
+        }
+    }
+
+    /// Lets the worker do its work, and then gives back the passes that it still holds.
+    pub(crate) fn run<R: Wait>(&mut self, rt: &R, pool: &SharedPool<N>)
+        requires ready { IsReady self.old }
+        ensures ran { Ran W.leaves self.old self.new }
+    {
+        match &mut self.upkeep {
+            Some(upkeep) => self.worker.lead(rt, pool, &mut self.client, upkeep),
+            None => self.worker.work(rt, pool, &mut self.client),
+        }
+        self.held = self.client.session.held().len();
+        self.is_settled = give_back_all(rt, pool, &mut self.client.session);
+    }
+
+    /// What the job left, and its upkeep. It takes no memory.
+    pub(crate) fn into_left(self) -> (Left<P, W>, Option<Upkeep<N>>)
+        ensures left { IsLeftOf self result.0 }
+        ensures upkeep { held_upkeep result.1 ≡ self.upkeep }
+    {
+        let Job {
+            worker,
+            client,
+            upkeep,
+            held,
+            is_settled,
+        } = self;
+        let Client { session, port } = client;
+        let left = Left {
+            worker,
+            port,
+            said: session.into_said(),
+            held,
+            is_settled,
+        };
+        (left, upkeep)
+    }
+}

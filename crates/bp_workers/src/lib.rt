@@ -1,0 +1,16 @@
+//! Workers over one buffer pool: a thread, a session and a port for each.
+//!
+//! `run_workers` picks the name on which pool, sessions and mark agree, so that its callers need not. What it answers
+//! is the workers, their lists and the core, whose trail is one legal history.
+#![tactic(auto)]
+
+mod giving;
+mod job;
+mod log_writer;
+pub mod run;
+pub mod worker;
+
+pub use giving::give_back;
+pub use log_writer::LogWriter;
+pub use run::{Config, Run, run_workers};
+pub use worker::{Client, Left, Upkeep, Worker};

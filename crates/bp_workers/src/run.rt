@@ -1,0 +1,293 @@
+//! A run: one thread for each worker.
+ghost use Rattle.std.specs.Prelude.{◌≡◌, ◌<◌, ◌≤◌, ◌↔◌, ℕ, [], length, IfOk, OnErr, Some, IsSome, IsTrue};
+ghost use Rattle.std.specs.Prelude.{All, vec_len, vec_capacity, slice_index_or};
+ghost use Rattle.bp_page.specs.declared.refusals.Refusal.TheVariants as Refusal;
+ghost use Rattle.bp_trail.specs.Legal.{Legal};
+ghost use Rattle.bp_shared.specs.Sessions.{new_sessions};
+ghost use Rattle.bp_workers.specs.Workers.{upkeep_value, unused_upkeep};
+ghost use Rattle.bp_workers.specs.Jobs.{IsReady, Ran, IsLeftOf, taken_by};
+ghost use Rattle.bp_workers.specs.Lists.{SideBySide};
+ghost use Rattle.bp_workers.specs.Runs.{run_parameters, FitTogether, CanRun, RunAnswers, LeftBy, IsNewJob, IsOfPool};
+
+use crate::job::Job;
+use crate::log_writer::LogWriter;
+use crate::worker::{Client, Left, Upkeep, Worker};
+use bp_core::Core;
+use bp_device::Port;
+use bp_lruk::Settings;
+use bp_mark::{LogEnd, Mark, Reader};
+use bp_page::{Geometry, Refusal};
+use bp_shared::{PoolName, Session, SharedPool, Taker, TrailRing};
+use std::alloc::Global;
+use std::marker::{Brand, Send, Sync};
+use std::sync::Wait;
+use std::thread;
+use std::thread::Threads;
+
+/// What a pool of workers is made with.
+#[derive(Clone, Copy)]
+pub struct Config {
+    pub geometry: Geometry,
+    pub settings: Settings,
+    pub frames: usize,
+    /// The entries that the trail may have between two cuts.
+    pub room: usize,
+}
+
+/// What is there after all workers have returned.
+#[derive(Drop)]
+pub struct Run<P: Port, W: Worker<P>> {
+    /// The core of the pool. Its trail has all entries that the worker of client 0 did not cut.
+    pub core: Core,
+    /// What each worker left, in the order in which they were given.
+    pub left: Vec<Left<P, W>>,
+}
+
+/// A job for each session, with the port and the worker of the same number. The first has the upkeep.
+fn make_jobs<N: PoolName, P: Port, W: Worker<P>>(
+    alloc: Global,
+    sessions: Vec<Session<N>>,
+    ports: Vec<P>,
+    workers: Vec<W>,
+    upkeep: Upkeep<N>,
+) -> Result<Vec<Job<N, P, W>>, Refusal>
+    requires sessions { sessions.items ≡ new_sessions (vec_len workers) }
+    requires ports { vec_len ports ≡ vec_len workers }
+    requires of_pool { All (λ p. IsOfPool N.parameters (P.geometry_of p)) ports.items }
+    requires unused { upkeep_value upkeep ≡ unused_upkeep }
+    ensures jobs { IfOk result (λ jobs. SideBySide IsNewJob 0 workers.items jobs.items) }
+    ensures refused { OnErr result (result ≡ Err Refusal.OutOfMemory) }
+{
+    let mut jobs = Vec::new(alloc);
+    let mut upkeep = Some(upkeep);
+    let mut sessions = sessions.into_iter();
+    let mut ports = ports.into_iter();
+    for worker in workers {
+        let Some(session) = sessions.next() else {
+            unreachable!()
+        };
+        let Some(port) = ports.next() else {
+            unreachable!()
+        };
+        let client = Client { session, port };
+        let job = Job::new(worker, client, upkeep.take());
+        let Ok(()) = jobs.push(job) else {
+            return Err(Refusal::OutOfMemory);
+        };
+    }
+    Ok(jobs)
+}
+
+/// One thread for each job. All have ended at the return.
+fn run_jobs<
+    N: PoolName + Send + Sync,
+    P: Port + Send,
+    W: Worker<P> + Send,
+    R: Threads + Wait + Sync,
+>(rt: &R, pool: &SharedPool<N>, jobs: &mut [Job<N, P, W>])
+    requires some { 0 < length jobs.old }
+    requires ready { All IsReady jobs.old }
+    ensures counted { length jobs.new ≡ length jobs.old }
+    ensures ran { (k : ℕ) (d : _) → k < length jobs.old
+        → Ran W.leaves (slice_index_or jobs.old k d) (slice_index_or jobs.new k d) }
+{
+    let count = jobs.len();
+    thread::for_each_mut(rt, jobs, count, &|_, job| job.run(rt, pool));
+}
+
+/// What the jobs left, and the taker that the first had. There is room for it, so that no memory is taken.
+fn all_left<N: PoolName, P: Port, W: Worker<P>>(
+    jobs: Vec<Job<N, P, W>>,
+    left: Vec<Left<P, W>>,
+) -> (Taker<N>, Vec<Left<P, W>>)
+    requires upkeep { IsSome (taken_by jobs.items) }
+    requires empty { left.items ≡ [] }
+    requires room { vec_len jobs ≤ vec_capacity left }
+    ensures taken { taken_by jobs.items ≡ Some result.0.past }
+    ensures left { SideBySide (λ _. IsLeftOf) 0 jobs.items result.1.items }
+{
+    let mut left = left;
+    let mut jobs = jobs.into_iter();
+    let Some(first) = jobs.next() else {
+        unreachable!()
+    };
+    let (one, upkeep) = first.into_left();
+    let Some(Upkeep { log: _, taker }) = upkeep else {
+        unreachable!()
+    };
+    left.push_reserved(one);
+    for job in jobs {
+        let (one, _) = job.into_left();
+        left.push_reserved(one);
+    }
+    (taker, left)
+}
+
+/// Runs the jobs, each in a thread of its own, and ends the pool. The memory for what they leave is taken before any
+/// thread starts.
+fn run_pool<
+    N: PoolName + Send + Sync,
+    P: Port + Send,
+    W: Worker<P> + Send,
+    R: Threads + Wait + Sync,
+>(rt: &R, alloc: Global, pool: SharedPool<N>, jobs: Vec<Job<N, P, W>>) -> Result<Run<P, W>, Refusal>
+    requires some { 0 < vec_len jobs }
+    requires ready { All IsReady jobs.items }
+    requires upkeep { IsSome (taken_by jobs.items) }
+    ensures parameters { IfOk result (λ run. run.core.parameters ≡ N.parameters) }
+    ensures left { (workers : _) → SideBySide IsNewJob 0 workers jobs.items → IfOk result (λ run.
+        SideBySide (LeftBy W.leaves run.core.before) 0 workers run.left.items) }
+    ensures refused { OnErr result (result ≡ Err Refusal.OutOfMemory) }
+{
+    let Ok(left) = Vec::with_capacity(alloc, jobs.len()) else {
+        return Err(Refusal::OutOfMemory);
+    };
+    let mut jobs = jobs;
+    run_jobs(rt, &pool, jobs.as_mut_slice());
+    let (taker, left) = all_left(jobs, left);
+    let (core, _, _) = pool.finish(taker);
+    Ok(Run { core, left })
+}
+
+/// Runs the workers of a pool whose parts agree on N.
+fn run_named<
+    N: PoolName + Send + Sync,
+    P: Port + Send,
+    W: Worker<P> + Send,
+    R: Threads + Wait + Sync,
+>(
+    rt: &R,
+    alloc: Global,
+    core: Core,
+    parts: (Mark, LogEnd, Reader),
+    ring: TrailRing,
+    ports: Vec<P>,
+    workers: Vec<W>,
+) -> Result<Run<P, W>, Refusal>
+    requires mark { (parts.0 ≡ N.mark) × (parts.1.mark ≡ N.mark) × (parts.2.mark ≡ N.mark) }
+    requires raised { parts.1.frontier ≡ 0 }
+    requires parameters { core.parameters ≡ N.parameters }
+    requires before { (core.before ≡ N.before) × (core.before ≡ []) }
+    requires ring { ring ≡ N.ring }
+    requires new { core.past ≡ [] }
+    requires clients { N.parameters.clients ≡ vec_len workers }
+    requires some { 0 < vec_len workers }
+    requires ports { vec_len ports ≡ vec_len workers }
+    requires of_pool { All (λ p. IsOfPool N.parameters (P.geometry_of p)) ports.items }
+    ensures parameters { IfOk result (λ run. run.core.parameters ≡ N.parameters) }
+    ensures left { IfOk result (λ run.
+        SideBySide (LeftBy W.leaves run.core.before) 0 workers.items run.left.items) }
+    ensures refused { OnErr result (result ≡ Err Refusal.OutOfMemory) }
+{
+    let (mark, end, reader) = parts;
+    let (pool, sessions, taker) = match SharedPool::<N>::new(alloc, core, mark, reader, ring) {
+        Ok(made) => made,
+        Err(refusal) => return Err(refusal),
+    };
+    let upkeep = Upkeep {
+        log: LogWriter::new(end),
+        taker,
+    };
+    match make_jobs(alloc, sessions, ports, workers, upkeep) {
+        Ok(jobs) => run_pool(rt, alloc, pool, jobs),
+        Err(refusal) => Err(refusal),
+    }
+}
+
+/// A mark at 0, with its log end and a reader, and a ring for a trail.
+fn new_parts(alloc: Global) -> Result<((Mark, LogEnd, Reader), TrailRing), Refusal>
+    ensures log_end { IfOk result (λ made. made.0.1 ≡ record { mark = made.0.0; frontier = 0 }) }
+    ensures reader { IfOk result (λ made. made.0.2 ≡ record { mark = made.0.0; seen = 0 }) }
+    ensures refused { OnErr result (result ≡ Err Refusal.OutOfMemory) }
+{
+    let parts = match Mark::new(alloc) {
+        Ok(parts) => parts,
+        Err(refusal) => return Err(refusal),
+    };
+    match TrailRing::new(alloc) {
+        Ok(ring) => Ok((parts, ring)),
+        Err(refusal) => Err(refusal),
+    }
+}
+
+/// Whether two geometries are the same.
+fn is_same(one: &Geometry, other: &Geometry) -> bool
+    ensures { IsTrue result ↔ one.now ≡ other.now }
+{
+    one.pages == other.pages && one.size == other.size
+}
+
+/// Whether all ports are on devices of this geometry.
+fn are_of<P: Port>(ports: &[P], geometry: &Geometry) -> bool
+    ensures { IsTrue result ↔ All (λ p. P.geometry_of p ≡ geometry.now) ports.now }
+{
+    for port in ports {
+        if !is_same(&port.geometry(), geometry) {
+            return false;
+        }
+    }
+    true
+}
+
+/// Whether there is a port of the configuration's geometry for each of so many workers, which are 1 to 64.
+fn fit_together<P: Port>(config: &Config, ports: &[P], workers: usize) -> bool
+    ensures { IsTrue result ↔ FitTogether P.geometry_of config.now ports.now workers }
+{
+    if workers < 1 || workers > 64 || ports.len() != workers {
+        return false;
+    }
+    are_of(ports, &config.geometry)
+}
+
+/// Runs workers over one pool, each in a thread of its own with a session and a port: `workers[c]` is client c and has
+/// `ports[c]`. The worker of client 0 has the log writer and the taker of the trail too. It waits until all have
+/// returned, and gives back the passes that they still hold.
+///
+/// It takes 1 to 64 workers, and as many ports on devices of the configuration's geometry. At `Ok` each worker did its
+/// work, and what it left stands at its place. The core's entries, those that were cut and its trail, are one legal
+/// history.
+///
+/// `BadSettings` where the workers are not 1 to 64, the ports are not as many or one is of another geometry, the frames
+/// are not 1 to 65,536 or the room is not 1 to 16,777,216; `OutOfMemory` where memory is wanted. Both come before any
+/// thread starts, and all that was given is dropped. Device faults and the pool's refusals go to the worker that
+/// called, and end no run.
+pub fn run_workers<P: Port + Send, W: Worker<P> + Send, R: Threads + Wait + Sync>(
+    rt: &R,
+    alloc: Global,
+    config: Config,
+    ports: Vec<P>,
+    workers: Vec<W>,
+) -> Result<Run<P, W>, Refusal>
+    ensures legal { IfOk result (λ run.
+        Legal (run_parameters config (vec_len workers)) run.core.past) }
+    ensures parameters { IfOk result (λ run.
+        run.core.parameters ≡ run_parameters config (vec_len workers)) }
+    ensures left { IfOk result (λ run.
+        SideBySide (LeftBy W.leaves run.core.before) 0 workers.items run.left.items) }
+    ensures answers { RunAnswers (CanRun P.geometry_of config ports.items (vec_len workers)) result }
+{
+    if !fit_together(&config, &ports, workers.len()) {
+        return Err(Refusal::BadSettings);
+    }
+    let clients = workers.len() as u8;
+    let core = match Core::new(
+        alloc,
+        config.geometry,
+        config.settings,
+        config.frames,
+        clients,
+        config.room,
+    ) {
+        Ok(core) => core,
+        Err(refusal) => return Err(refusal),
+    };
+    let (parts, ring) = match new_parts(alloc) {
+        Ok(made) => made,
+        Err(refusal) => return Err(refusal),
+    };
+    let ran = run_named::<Brand, P, W, R>(rt, alloc, core, parts, ring, ports, workers);
+    if let Ok(run) = &ran {
+        run.core.vouch();
+    }
+    ran
+}

@@ -1,0 +1,74 @@
+//! What a worker is given, and what it leaves.
+ghost use Rattle.std.specs.Prelude.{◌≡◌};
+
+use crate::log_writer::LogWriter;
+use bp_core::Entry;
+use bp_device::Port;
+use bp_shared::{PoolName, Session, SharedPool, Taker};
+use std::sync::Wait;
+
+/// One client of a pool: its session, and its port on a device of the pool's pages.
+#[derive(Drop)]
+pub struct Client<N: PoolName, P: Port> {
+    pub session: Session<N>,
+    pub port: P,
+    pub ghost pages_are: { (P.geometry_of port).pages ≡ N.parameters.pages },
+    pub ghost size_is: { (P.geometry_of port).size ≡ N.parameters.size },
+}
+
+/// What client 0 is given besides: who raises the pool's mark, and who takes its trail.
+#[derive(Drop)]
+pub struct Upkeep<N: PoolName> {
+    pub log: LogWriter<N>,
+    pub taker: Taker<N>,
+}
+
+/// What one client of a pool does, in a thread of its own.
+///
+/// A refusal is the worker's own to note. Passes that it holds when it returns are given back for it. It has to return,
+/// since the run waits for all workers.
+pub trait Worker<P: Port>: Drop {
+    ghost use Rattle.std.specs.Prelude.{◌≡◌, ◌<◌, ℕ, Option, Some, None};
+    ghost use Rattle.bp_shared.specs.Sessions.{SessionValue, new_session};
+    ghost use Rattle.bp_workers.specs.Workers.{UpkeepValue, upkeep_value, unused_upkeep};
+
+    // What the work of a client leaves: by the client's number, the worker before and after, its session, and of
+    // client 0 the upkeep. A worker that says nothing of it may leave anything.
+    ghost leaves: { ℕ → Self → Self → SessionValue → Option UpkeepValue → Type 0 } = { λ _ _ _ _ _. Unit {0} };
+
+    /// Does the work of any client but client 0, with a session that said nothing yet.
+    fn work<N: PoolName, R: Wait>(
+        &mut self,
+        rt: &R,
+        pool: &SharedPool<N>,
+        client: &mut Client<N, P>,
+    )
+        requires new { client.old.session ≡ new_session client.old.session.client }
+        requires other { 0 < client.old.session.client }
+        ensures leaves { leaves client.old.session.client self.old self.new client.new.session None };
+
+    /// Does the work of client 0, who has the log writer and the taker of the trail too.
+    fn lead<N: PoolName, R: Wait>(
+        &mut self,
+        rt: &R,
+        pool: &SharedPool<N>,
+        client: &mut Client<N, P>,
+        upkeep: &mut Upkeep<N>,
+    )
+        requires new { client.old.session ≡ new_session 0 }
+        requires unused { upkeep_value upkeep.old ≡ unused_upkeep }
+        ensures leaves { leaves 0 self.old self.new client.new.session (Some (upkeep_value upkeep.new)) };
+}
+
+/// What a worker left.
+#[derive(Drop)]
+pub struct Left<P: Port, W: Worker<P>> {
+    pub worker: W,
+    pub port: P,
+    /// What the worker's cuts left of its session's list, in order.
+    pub said: Vec<Entry>,
+    /// How many passes it held when it returned. They were given back for it.
+    pub held: usize,
+    /// Whether all of them went back.
+    pub is_settled: bool,
+}
