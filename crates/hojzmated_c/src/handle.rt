@@ -1,0 +1,48 @@
+//! The handle that C holds.
+ghost use Rattle.std.specs.Prelude.{◌≡◌, Some, None, is_some, IfSome, IfNone};
+
+use crate::pool::Pool;
+use crate::seal::Seal;
+use std::alloc::Global;
+use std::mem;
+
+/// A core, or none. All bytes of one with none are zero.
+#[repr(C)]
+#[derive(Drop)]
+pub struct HzCore {
+    pub(crate) seal: Seal,
+    pub(crate) is_live: bool,
+    pub ghost agrees: { is_live ≡ is_some seal.pool },
+}
+
+impl HzCore {
+    /// The handle of a pool.
+    pub(crate) fn of(pool: Box<Pool, Global>) -> HzCore
+        ensures { result.seal.pool ≡ Some pool.value }
+    {
+        HzCore {
+            seal: Seal::of(pool),
+            is_live: true,
+        }
+    }
+
+    /// The handle of no pool.
+    pub(crate) fn none(alloc: Global) -> HzCore
+        ensures { result.seal.pool ≡ None }
+    {
+        HzCore {
+            seal: Seal::none(alloc),
+            is_live: false,
+        }
+    }
+
+    /// Takes the pool out, if there is one.
+    pub(crate) fn take(&mut self, alloc: Global) -> Option<Box<Pool, Global>>
+        ensures some { IfSome result (λ pool. self.old.seal.pool ≡ Some pool.value) }
+        ensures none { IfNone result (self.old.seal.pool ≡ None) }
+        ensures gone { self.new.seal.pool ≡ None }
+    {
+        let HzCore { seal, is_live } = mem::replace(self, HzCore::none(alloc));
+        if is_live { Some(seal.into_box()) } else { None }
+    }
+}

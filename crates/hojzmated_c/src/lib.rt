@@ -1,0 +1,322 @@
+//! The silent core for C, C++, Rust and Go: a static library of plain calls on a handle. `include/hojzmated.h` declares
+//! them, and `docs/C.md` says how to use them.
+//!
+//! Every call tests what the core requires, and answers 0 or the number of a refusal. What C has to keep to is that a
+//! handle is one that these calls made, and that each pointer leads to memory of its type.
+#![tactic(auto)]
+
+ghost use Rattle.std.specs.Prelude.{◌≡◌, [], None, IfOk};
+ghost use Rattle.bp_page.specs.Refusals.{number_of};
+ghost use Rattle.bp_page.specs.declared.refusals.Refusal.{Refusal as RefusalValue};
+ghost use Rattle.bp_trail.specs.declared.entries.Call.TheVariants.{Mark};
+ghost use Rattle.hojzmated_c.specs.Outcomes.{Steps, Ticks, Purges, Fixes, Flushes, EndsRead, FailsRead, EndsWrite, ReadsPart, WritesPart, Unfixes, IsAsAsked};
+ghost use Rattle.hojzmated_c.specs.Exports.{code_of, OnPool, Told, Made, or_else, Shows, fault_of};
+
+mod forms;
+mod handle;
+mod kept;
+mod pool;
+mod seal;
+mod texts;
+
+use crate::forms::{HzConfig, HzFixed, HzGrant, HzTotals};
+pub use crate::handle::HzCore;
+use crate::pool::Pool;
+use bp_page::{PortFault, Refusal};
+use std::alloc::Global;
+
+/// The handle has no core.
+const NO_CORE: u16 = 50;
+
+/// The handle has a core already.
+const HAS_CORE: u16 = 51;
+
+/// 0, or the number of the refusal.
+fn code<T>(answer: &Result<T, Refusal>) -> u16
+    ensures { result ≡ code_of answer.now }
+{
+    match answer {
+        Ok(_) => 0,
+        Err(refusal) => refusal.number(),
+    }
+}
+
+/// A fresh pool in a block of its own.
+fn boxed(alloc: Global, config: &HzConfig) -> Result<Box<Pool, Global>, Refusal>
+    ensures { IfOk result (λ pool. (pool.value.core.past ≡ []) × (pool.value.core.before ≡ []) × IsAsAsked pool.value.core.parameters config.now) }
+{
+    let pool = Pool::new(alloc, config)?;
+    match Box::new(alloc, pool) {
+        Ok(whole) => Ok(whole),
+        Err(_) => Err(Refusal::OutOfMemory),
+    }
+}
+
+/// Makes a core: 0, or the number of the refusal, which leaves `core` as it was.
+#[unsafe(no_mangle)]
+pub extern "C" fn hz_core_new(alloc: Global, config: &HzConfig, core: &mut HzCore) -> u16
+    ensures { Made core.old.seal.pool core.new.seal.pool config.now result }
+{
+    if core.is_live {
+        return HAS_CORE;
+    }
+    match boxed(alloc, config) {
+        Ok(whole) => {
+            *core = HzCore::of(whole);
+            0
+        }
+        Err(refusal) => refusal.number(),
+    }
+}
+
+/// Frees a core: 0, or 50 where there is none. The handle has none afterwards.
+#[unsafe(no_mangle)]
+pub extern "C" fn hz_core_free(alloc: Global, core: &mut HzCore) -> u16
+    ensures { core.new.seal.pool ≡ None }
+{
+    match core.take(alloc) {
+        Some(_whole) => 0,
+        None => NO_CORE,
+    }
+}
+
+/// Moves the clock on.
+#[unsafe(no_mangle)]
+pub extern "C" fn hz_tick(alloc: Global, core: &mut HzCore, client: u8, n: u64) -> u16
+    ensures { OnPool core.old.seal.pool core.new.seal.pool result (λ old new. Told result (λ r. Ticks {A = Unit {0}} old.core client n r new.core)) }
+{
+    let Some(mut pool) = core.take(alloc) else {
+        return NO_CORE;
+    };
+    let ticked = pool.tick(client, n);
+    *core = HzCore::of(pool);
+    code(&ticked)
+}
+
+/// Notes that the log is durable as far as an LSN.
+#[unsafe(no_mangle)]
+pub extern "C" fn hz_mark(alloc: Global, core: &mut HzCore, client: u8, lsn: u64) -> u16
+    ensures { OnPool core.old.seal.pool core.new.seal.pool result (λ old new. Told result (λ r. Steps {A = Unit {0}} old.core client (Mark lsn) r new.core)) }
+{
+    let Some(mut pool) = core.take(alloc) else {
+        return NO_CORE;
+    };
+    let marked = pool.mark(client, lsn);
+    *core = HzCore::of(pool);
+    code(&marked)
+}
+
+/// Forgets old histories, and counts them.
+#[unsafe(no_mangle)]
+pub extern "C" fn hz_purge(alloc: Global, core: &mut HzCore, client: u8, count: &mut u64) -> u16
+    ensures { OnPool core.old.seal.pool core.new.seal.pool result (λ old new. Told result (λ r. Purges old.core client r new.core × (count.new ≡ or_else r count.old))) }
+{
+    let Some(mut pool) = core.take(alloc) else {
+        return NO_CORE;
+    };
+    let purged = pool.purge(client);
+    *core = HzCore::of(pool);
+    if let Ok(forgotten) = purged {
+        *count = forgotten;
+    }
+    code(&purged)
+}
+
+/// Asks for a page.
+#[unsafe(no_mangle)]
+pub extern "C" fn hz_fix(
+    alloc: Global,
+    core: &mut HzCore,
+    client: u8,
+    page: u64,
+    out: &mut HzFixed,
+) -> u16
+    ensures { OnPool core.old.seal.pool core.new.seal.pool result (λ old new. Told result (λ r. Fixes old.core client page r new.core × Shows r out.new)) }
+{
+    let Some(mut pool) = core.take(alloc) else {
+        return NO_CORE;
+    };
+    let fixed = pool.fix(client, page);
+    *core = HzCore::of(pool);
+    *out = HzFixed::of(client, page, &fixed);
+    code(&fixed)
+}
+
+/// Asks that a page be written out if it is unsaved.
+#[unsafe(no_mangle)]
+pub extern "C" fn hz_flush(
+    alloc: Global,
+    core: &mut HzCore,
+    client: u8,
+    page: u64,
+    out: &mut HzFixed,
+) -> u16
+    ensures { OnPool core.old.seal.pool core.new.seal.pool result (λ old new. Told result (λ r. Flushes old.core client page r new.core × Shows r out.new)) }
+{
+    let Some(mut pool) = core.take(alloc) else {
+        return NO_CORE;
+    };
+    let flushed = pool.flush(client, page);
+    *core = HzCore::of(pool);
+    *out = HzFixed::of(client, page, &flushed);
+    code(&flushed)
+}
+
+/// Ends a read that went well.
+#[unsafe(no_mangle)]
+pub extern "C" fn hz_read_end(
+    alloc: Global,
+    core: &mut HzCore,
+    ticket: &HzGrant,
+    image: &[u8],
+    pass: &mut HzGrant,
+) -> u16
+    ensures { OnPool core.old.seal.pool core.new.seal.pool result (λ old new. Told result (λ r. EndsRead old.core ticket.now image.now r new.core × (pass.new ≡ or_else r pass.old))) }
+{
+    let Some(mut pool) = core.take(alloc) else {
+        return NO_CORE;
+    };
+    let ended = pool.read_end(ticket, image);
+    *core = HzCore::of(pool);
+    if let Ok(given) = ended {
+        *pass = given;
+    }
+    code(&ended)
+}
+
+/// Ends a read that failed: the number is never 0.
+#[unsafe(no_mangle)]
+pub extern "C" fn hz_read_failed(
+    alloc: Global,
+    core: &mut HzCore,
+    ticket: &HzGrant,
+    is_wrong_page: bool,
+) -> u16
+    ensures { OnPool core.old.seal.pool core.new.seal.pool result (λ old new. (why : RefusalValue) × (result ≡ number_of why) × FailsRead old.core ticket.now (fault_of is_wrong_page) why new.core) }
+{
+    let Some(mut pool) = core.take(alloc) else {
+        return NO_CORE;
+    };
+    let fault = if is_wrong_page {
+        PortFault::WrongPage
+    } else {
+        PortFault::Device
+    };
+    let why = pool.read_failed(ticket, fault);
+    *core = HzCore::of(pool);
+    why.number()
+}
+
+/// Copies the image that a ticket is to write.
+#[unsafe(no_mangle)]
+pub extern "C" fn hz_write_image(
+    alloc: Global,
+    core: &mut HzCore,
+    ticket: &HzGrant,
+    into: &mut [u8],
+) -> u16
+    ensures { OnPool core.old.seal.pool core.new.seal.pool result (λ old new. new ≡ old) }
+{
+    let Some(pool) = core.take(alloc) else {
+        return NO_CORE;
+    };
+    let copied = pool.write_image(ticket, into);
+    *core = HzCore::of(pool);
+    code(&copied)
+}
+
+/// Ends a write-out.
+#[unsafe(no_mangle)]
+pub extern "C" fn hz_write_end(
+    alloc: Global,
+    core: &mut HzCore,
+    ticket: &HzGrant,
+    is_good: bool,
+    is_still_dirty: &mut bool,
+) -> u16
+    ensures { OnPool core.old.seal.pool core.new.seal.pool result (λ old new. Told result (λ r. EndsWrite old.core ticket.now is_good r new.core × (is_still_dirty.new ≡ or_else r is_still_dirty.old))) }
+{
+    let Some(mut pool) = core.take(alloc) else {
+        return NO_CORE;
+    };
+    let ended = pool.write_end(ticket, is_good);
+    *core = HzCore::of(pool);
+    if let Ok(is_dirty) = ended {
+        *is_still_dirty = is_dirty;
+    }
+    code(&ended)
+}
+
+/// Copies a part of a page.
+#[unsafe(no_mangle)]
+pub extern "C" fn hz_read(
+    alloc: Global,
+    core: &mut HzCore,
+    pass: &HzGrant,
+    offset: usize,
+    into: &mut [u8],
+) -> u16
+    ensures { OnPool core.old.seal.pool core.new.seal.pool result (λ old new. Told result (λ r. ReadsPart old.core pass.now offset into.old into.new r new.core)) }
+{
+    let Some(mut pool) = core.take(alloc) else {
+        return NO_CORE;
+    };
+    let read = pool.read(pass, offset, into);
+    *core = HzCore::of(pool);
+    code(&read)
+}
+
+/// Puts bytes into a page.
+#[unsafe(no_mangle)]
+pub extern "C" fn hz_write(
+    alloc: Global,
+    core: &mut HzCore,
+    pass: &HzGrant,
+    offset: usize,
+    bytes: &[u8],
+    lsn: u64,
+) -> u16
+    ensures { OnPool core.old.seal.pool core.new.seal.pool result (λ old new. Told result (λ r. WritesPart {A = Unit {0}} old.core pass.now offset bytes.now lsn r new.core)) }
+{
+    let Some(mut pool) = core.take(alloc) else {
+        return NO_CORE;
+    };
+    let written = pool.write(pass, offset, bytes, lsn);
+    *core = HzCore::of(pool);
+    code(&written)
+}
+
+/// Gives a pass back.
+#[unsafe(no_mangle)]
+pub extern "C" fn hz_unfix(alloc: Global, core: &mut HzCore, pass: &HzGrant) -> u16
+    ensures { OnPool core.old.seal.pool core.new.seal.pool result (λ old new. Told result (λ r. Unfixes {A = Unit {0}} old.core pass.now r new.core)) }
+{
+    let Some(mut pool) = core.take(alloc) else {
+        return NO_CORE;
+    };
+    let unfixed = pool.unfix(pass);
+    *core = HzCore::of(pool);
+    code(&unfixed)
+}
+
+/// What was counted.
+#[unsafe(no_mangle)]
+pub extern "C" fn hz_totals_of(alloc: Global, core: &mut HzCore, out: &mut HzTotals) -> u16
+    ensures { OnPool core.old.seal.pool core.new.seal.pool result (λ old new. (new ≡ old) × (out.new ≡ old.totals) × (result ≡ 0)) }
+{
+    let Some(pool) = core.take(alloc) else {
+        return NO_CORE;
+    };
+    *out = pool.totals();
+    *core = HzCore::of(pool);
+    0
+}
+
+/// Writes the text of a refusal's number, as much of it as there is room for, and returns its whole length.
+#[unsafe(no_mangle)]
+pub extern "C" fn hz_text(number: u16, into: &mut [u8]) -> usize {
+    let text = texts::text_of(number).as_bytes();
+    let len = text.len().min(into.len());
+    into[..len].copy_from_slice(&text[..len]);
+    text.len()
+}

@@ -1,0 +1,153 @@
+/* The buffer pool Hojzmated for C, C++ and whatever calls C: the silent core, with one owner. docs/C.md has the order of
+ * calls, what is proved and what is not.
+ *
+ * The pool does no input or output and takes no lock. Two threads may use one core, in turn, under a lock of yours.
+ *
+ * Each call that returns a uint16_t returns 0, or the number of a refusal; hz_text has its text. A refusal leaves what
+ * the call would have written as it was, but for hz_fixed, whose kind is then 0. Any client, page, offset, length, pass
+ * or ticket may be passed: what is not of this core is refused. Each handle has to be zero, or as these calls left it,
+ * each pointer not null and of its type, with so many elements where a length follows it, and no two of a call may
+ * overlap.
+ */
+#ifndef HOJZMATED_H
+#define HOJZMATED_H
+
+#include <stdbool.h>
+#include <stddef.h>
+#include <stdint.h>
+
+#ifdef __cplusplus
+extern "C" {
+#endif
+
+enum hz_refusal {
+    HZ_DONE = 0,
+    HZ_BAD_GEOMETRY = 1,
+    HZ_BAD_SETTINGS = 2,
+    HZ_NO_VICTIM = 11,
+    HZ_NEED_LOG = 12,
+    HZ_BUSY = 13,
+    HZ_UNKNOWN_PASS = 14,
+    HZ_UNKNOWN_TICKET = 16,
+    HZ_READ_FAILED = 17,
+    HZ_WRITE_FAILED = 18,
+    HZ_WRONG_PAGE = 19,
+    HZ_TRAIL_FULL = 20,
+    HZ_CLOCK_FULL = 21,
+    HZ_OUT_OF_MEMORY = 22,
+    HZ_BAD_CLIENT = 41,
+    HZ_OUT_OF_PAGE = 45,
+    HZ_NO_CORE = 50,
+    HZ_HAS_CORE = 51,
+};
+
+/* What hz_fixed.kind may be; 0 where the call was refused. */
+enum hz_kind {
+    HZ_HIT = 1,         /* the page is here: the grant is a pass */
+    HZ_LOAD = 2,        /* read the page: the grant is a ticket for hz_read_end or hz_read_failed */
+    HZ_WRITE_FIRST = 3, /* write a page out: the grant is a ticket for hz_write_image and hz_write_end */
+    HZ_CLEAN = 4,       /* flush: the page has nothing to write */
+    HZ_ABSENT = 5,      /* flush: the page is in no frame */
+};
+
+/* A core, or none: one that is all zero bytes has none. Only the calls below may read or write it, and no copy of it may
+ * be used. */
+typedef struct hz_core {
+    struct {
+        void *pool;
+    } seal;
+    bool is_live;
+} hz_core;
+
+/* What a core is made with. */
+typedef struct hz_config {
+    uint64_t pages;      /* of the file: 1 to 1,048,576 */
+    size_t page_size;    /* 16 to 65,536 bytes, a multiple of 16 */
+    size_t frames;       /* 1 to 65,536 */
+    size_t room;         /* how many calls there may be in all: 1 to 2^61 */
+    uint64_t correlated; /* the two periods of LRU-K, in ticks: 0 to 2^62 */
+    uint64_t retained;
+    uint8_t k;       /* 1 to 16 */
+    uint8_t clients; /* 1 to 64 */
+} hz_config;
+
+/* A pass or a ticket. It may be copied and kept anywhere. */
+typedef struct hz_grant {
+    uint64_t page;
+    uint64_t serial;
+    size_t slot;
+    uint8_t client;
+} hz_grant;
+
+/* What a fix or a flush gave. */
+typedef struct hz_fixed {
+    hz_grant grant;
+    uint64_t lsn;     /* kind 3: the page LSN of the image; refusal 12: how far the log has to be durable first */
+    uint64_t evicted; /* the page that left its frame, where has_evicted */
+    uint8_t kind;
+    bool has_evicted;
+} hz_fixed;
+
+/* What was counted since the core was made. */
+typedef struct hz_totals {
+    uint64_t hits;      /* fixes that found their page in a frame */
+    uint64_t faults;    /* reads that went well */
+    uint64_t evictions; /* pages that left a frame for another */
+    uint64_t writes;    /* write-outs that went well */
+    uint64_t failed;    /* reads and write-outs that failed */
+} hz_totals;
+
+/* Makes a core in a handle that has none. Refused: 1, 2, 22, 51. */
+uint16_t hz_core_new(const hz_config *config, hz_core *core);
+
+/* Frees it, with all passes and tickets that are out. Refused: 50. */
+uint16_t hz_core_free(hz_core *core);
+
+/* Fixes a page, which pins it. Refused: 41, 45, 22, 20; 13 where a read of it is under way, 11 where no page may leave
+ * its frame, 12 where the victim's log record is not durable yet: out->lsn tells it. */
+uint16_t hz_fix(hz_core *core, uint8_t client, uint64_t page, hz_fixed *out);
+
+/* Ends a read: the page is in a frame, and pass is a pass for it. Refused: 45 where len is not the page size, 22, 16. */
+uint16_t hz_read_end(hz_core *core, const hz_grant *ticket, const uint8_t *image, size_t len, hz_grant *pass);
+
+/* Ends a read that failed, and returns 19 where another page was found, else 17; or 16. */
+uint16_t hz_read_failed(hz_core *core, const hz_grant *ticket, bool is_wrong_page);
+
+/* Copies the image that is to be written. Refused: 16, and 45 where len is not the page size. */
+uint16_t hz_write_image(hz_core *core, const hz_grant *ticket, uint8_t *into, size_t len);
+
+/* Ends a write-out. is_still_dirty tells whether the page was written to since it began. Refused: 18 where it was not
+ * good, which ends it too; 16. */
+uint16_t hz_write_end(hz_core *core, const hz_grant *ticket, bool is_good, bool *is_still_dirty);
+
+/* Gives a pass back. Refused: 14. */
+uint16_t hz_unfix(hz_core *core, const hz_grant *pass);
+
+/* Copies len bytes of the page from the offset on. Refused: 45, 14, 20, 22. */
+uint16_t hz_read(hz_core *core, const hz_grant *pass, size_t offset, uint8_t *into, size_t len);
+
+/* Puts len bytes into the page from the offset on, under the log record lsn. Refused: 45, 14, 22, 20. */
+uint16_t hz_write(hz_core *core, const hz_grant *pass, size_t offset, const uint8_t *bytes, size_t len, uint64_t lsn);
+
+/* Moves the clock on by n. Refused: 41, 20, 21. */
+uint16_t hz_tick(hz_core *core, uint8_t client, uint64_t n);
+
+/* Notes that the log is durable as far as lsn. Refused: 41, 20. */
+uint16_t hz_mark(hz_core *core, uint8_t client, uint64_t lsn);
+
+/* Asks that a page be written out if it is unsaved: kind 3, 4 or 5. Refused: 41, 45, 22, 20, 13, 12. */
+uint16_t hz_flush(hz_core *core, uint8_t client, uint64_t page, hz_fixed *out);
+
+/* Forgets pages that are away and whose newest reference is older than the retained period. Refused: 41, 20. */
+uint16_t hz_purge(hz_core *core, uint8_t client, uint64_t *count);
+
+/* Tells what was counted. Refused: 50. */
+uint16_t hz_totals_of(hz_core *core, hz_totals *out);
+
+/* Writes the text of a number, as much as fits and with no zero at its end, and returns its whole length. */
+size_t hz_text(uint16_t number, uint8_t *into, size_t len);
+
+#ifdef __cplusplus
+}
+#endif
+#endif
