@@ -1,7 +1,10 @@
+pub mod Causes
 pub mod ClientPasses
 pub mod Driving
 pub mod GivingBack
 pub mod PieceSteps
+pub mod RowsWork
 pub mod ScriptSteps
 pub mod SecondTry
 pub mod Striking
+pub mod Working

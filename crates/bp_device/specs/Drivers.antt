@@ -1,6 +1,7 @@
 -- What a fix and a flush by a driver add to its core.
 use Rattle.std.specs.Prelude.{◌≡◌, ℕ, List, [], ◌∷◌, ◌++◌, true, false, Option, Some, None, Result, Ok, Err}
 use Rattle.bp_page.specs.declared.refusals.Refusal.{Refusal}
+use Rattle.bp_page.specs.declared.refusals.Refusal.TheVariants as refusal
 use Rattle.bp_page.specs.declared.refusals.Refusal.TheVariants.{WriteFailed as WriteRefused}
 use Rattle.bp_page.specs.declared.refusals.PortFault.{PortFault}
 use Rattle.bp_page.specs.Refusals.{number_of}
@@ -9,16 +10,17 @@ use Rattle.bp_core.specs.declared.passes.ReadTicket.{ReadTicket}
 use Rattle.bp_core.specs.declared.passes.WriteTicket.{WriteTicket}
 use Rattle.bp_core.specs.declared.passes.Ended.{Ended}
 use Rattle.bp_core.specs.declared.passes.Ended.TheVariants as ended
+use Rattle.bp_trail.specs.declared.entries.Call.{Call}
 use Rattle.bp_trail.specs.declared.entries.Call.TheVariants.{ReadEnd, WriteEnd}
 use Rattle.bp_trail.specs.declared.entries.Reply.{Reply}
-use Rattle.bp_trail.specs.declared.entries.Reply.TheVariants.{Fixed, Cleaned, StillDirty, WriteFailed, Clean, Absent}
+use Rattle.bp_trail.specs.declared.entries.Reply.TheVariants.{Fixed, NeedLog, Cleaned, StillDirty, WriteFailed, Clean, Absent}
 use Rattle.bp_trail.specs.Lists.{and_given}
 use Rattle.bp_trail.specs.Event.{Grant, grant}
 use Rattle.bp_trail.specs.Trail.{Trail}
 use Rattle.bp_trail.specs.Passes.{passes_out}
 use Rattle.bp_core.specs.ReadFaults.{read_refusal, read_failure}
-use Rattle.bp_core.specs.CoreView.{CoreView, with_entry}
-use Rattle.bp_core.specs.Outcomes.{Adds}
+use Rattle.bp_core.specs.CoreView.{CoreView, with_entry, HasRoomFor, LacksRoomFor}
+use Rattle.bp_core.specs.Outcomes.{Adds, TakesMemory}
 use Rattle.bp_trail.specs.Pieces.{FixPiece, FlushPiece}
 use Rattle.bp_trail.specs.Pieces.Manner.{driver}
 use Rattle.bp_trail.specs.Pieces.Outcome.{accepted, refused}
@@ -63,6 +65,14 @@ Ends reply (e ∷ older) = e.reply ≡ reply
 abbrev pub DrivesFlush : CoreView → ℕ → ℕ → Result Flushed Refusal → CoreView → Type 0
 DrivesFlush old client page (Ok flushed) new = AddsPiece old (λ piece. FlushPiece driver client page piece accepted × Ends (flushed_reply flushed) piece) None new
 DrivesFlush old client page (Err refusal) new = AddsPiece old (λ piece. FlushPiece driver client page piece (refused (number_of refusal))) None new
+
+-- why a driver's fix or flush, which asks for so much room, is refused, by what it leaves: 20 where the core has less room, 22 where it
+-- has as much and the call takes memory, and 12 with the LSN of the newest entry
+abbrev pub IsCaused : ℕ → Call → Refusal → CoreView → Type 0
+IsCaused n call refusal.TrailFull core = LacksRoomFor n core
+IsCaused n call refusal.OutOfMemory core = HasRoomFor n core × TakesMemory call core
+IsCaused n call (refusal.NeedLog lsn) core = Ends (NeedLog lsn) core.past
+IsCaused n call _ core = Unit {0}
 
 -- the end of a read or of a write-out whose ticket is known
 abbrev pub LoadOutcome : CoreView → ReadTicket → Result (List ℕ) PortFault → Result Pass Refusal → CoreView → Type 0

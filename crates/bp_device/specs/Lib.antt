@@ -2,4 +2,5 @@
 pub mod Ports
 pub mod Files
 pub mod Drivers
+pub mod Work
 pub mod Rows

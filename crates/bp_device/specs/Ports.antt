@@ -1,5 +1,5 @@
 -- What a port says of itself.
-use Rattle.std.specs.Prelude.{◌≡◌, ◌⊎◌, ℕ, Bool, true, false, ◌<◌, ◌^◌, ◌+◌, Result, Ok, Err}
+use Rattle.std.specs.Prelude.{◌≡◌, ◌≢◌, ◌⊎◌, ℕ, Bool, true, false, ◌<◌, ◌^◌, ◌+◌, Result, Ok, Err}
 use Rattle.bp_page.specs.declared.limits.Geometry.{Geometry}
 use Rattle.bp_page.specs.declared.refusals.PortFault.{PortFault}
 use Rattle.bp_page.specs.declared.slots.Format.{Format}
@@ -16,6 +16,14 @@ Counts (Ok done) old new = new ≡ old
 Counts (Err Memory) old new = new ≡ old
 Counts (Err WrongPage) old new = new ≡ old
 Counts (Err Device) old new = IsCounted old new
+
+-- it failed as a device does
+abbrev pub IsFailure : {A : Type 0} → Result A PortFault → Type 0
+IsFailure result = result ≡ Err Device
+
+-- of a port that counts its calls down and fails once, at 1: that call fails so, and each other one passes
+abbrev pub FailsOrPasses : ℕ → Type 0 → Type 0 → Type 0
+FailsOrPasses left fails passes = (left ≡ 1 → fails) × (left ≢ 1 → passes)
 
 -- what a caller sees of a port: its device's pages and their size, the failures that it has counted, and whether the pages stand with their numbers
 pub record PortView : Type 0 where

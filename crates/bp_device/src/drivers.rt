@@ -1,7 +1,10 @@
 //! A fix and a flush over a core that has one owner, with the reads and writes of its device.
-ghost use Rattle.std.specs.Prelude.{◌≡◌, ◌<◌, IfOk, length};
+ghost use Rattle.std.specs.Prelude.{◌≡◌, ◌<◌, IfErr, IfOk, length};
+ghost use Rattle.std.specs.Result.{is_ok};
+ghost use Rattle.bp_trail.specs.declared.entries.Call.TheVariants as call;
 ghost use Rattle.bp_core.specs.Outcomes.{KnowsRead, KnowsWrite};
-ghost use Rattle.bp_device.specs.Drivers.{DrivesFix, DrivesFlush, LoadOutcome, SaveOutcome};
+ghost use Rattle.bp_device.specs.Drivers.{DrivesFix, DrivesFlush, IsCaused, LoadOutcome, SaveOutcome};
+ghost use Rattle.bp_device.specs.Work.{DoesWork};
 
 use crate::port::Port;
 use bp_core::{EndRefusal, Ended, Fix, Flush, Keeper, Pass, PoolCore, ReadTicket, WriteTicket};
@@ -46,6 +49,7 @@ fn save<K: Keeper>(
 ) -> Result<Ended, Refusal>
     requires known { KnowsWrite core.old ticket }
     ensures outcome { SaveOutcome core.old ticket result core.new }
+    ensures good { is_ok result ≡ is_ok written }
 {
     match core.write_end(ticket, written) {
         Ok(ended) => Ok(ended),
@@ -54,7 +58,9 @@ fn save<K: Keeper>(
     }
 }
 
-/// Fixes a page over a core that nobody else uses: reads it where it is away, and first writes out the victim where that is unsaved.
+/// Fixes a page over a core that nobody else uses: reads it where it is away, and first writes out the victim where that is unsaved. The
+/// device does this and nothing else: each read is of the page, each write of the ticket's page, with its image and its page LSN, and the
+/// entries have what the port answered.
 ///
 /// Refused as `Core::fix` is, then with nothing changed but the entries of its steps so far; with `ReadFailed` where the page could not
 /// be read, and `WrongPage` where another page was found in its place, which is then not resident; with `WriteFailed` where the victim
@@ -70,6 +76,8 @@ pub fn drive_fix<K: Keeper, P: Port, R: Wait>(
     requires client_in { client < core.old.parameters.clients }
     requires page_in { page < core.old.parameters.pages }
     ensures outcome { DrivesFix core.old client page result core.new }
+    ensures cause { IfErr result (λ why. IsCaused 3 (call.Fix page) why core.new) }
+    ensures work { DoesWork P.read_gives P.write_gives core.old port.old core.new port.new }
     ensures geometry { P.geometry_of port.new ≡ P.geometry_of port.old }
 {
     match core.fix(client, page) {
@@ -78,9 +86,9 @@ pub fn drive_fix<K: Keeper, P: Port, R: Wait>(
             let read = port.read(rt, page);
             load(core, ticket, read)
         }
-        Ok(Fix::WriteFirst(ticket)) => {
-            let written = port.write(rt, ticket.page(), ticket.image(), ticket.lsn());
-            match save(core, ticket, written) {
+        Ok(Fix::WriteFirst(victim)) => {
+            let written = port.write(rt, victim.page(), victim.image(), victim.lsn());
+            match save(core, victim, written) {
                 // Nobody else acts meanwhile: the victim is saved and still the victim, so the same fix finds its frame.
                 Ok(_) => match core.fix(client, page) {
                     Ok(Fix::Hit(_pass)) => unreachable!(),
@@ -112,6 +120,8 @@ pub fn drive_flush<K: Keeper, P: Port, R: Wait>(
     requires client_in { client < core.old.parameters.clients }
     requires page_in { page < core.old.parameters.pages }
     ensures outcome { DrivesFlush core.old client page result core.new }
+    ensures cause { IfErr result (λ why. IsCaused 2 (call.Flush page) why core.new) }
+    ensures work { DoesWork P.read_gives P.write_gives core.old port.old core.new port.new }
     ensures geometry { P.geometry_of port.new ≡ P.geometry_of port.old }
 {
     match core.flush(client, page) {

@@ -2,7 +2,7 @@
 ghost use Rattle.std.specs.Prelude.{◌≡◌, ◌≢◌, ◌≤◌, ◌⊎◌, ◌*◌, ◌↔◌, true, IsOk, IfOk, IfErr, OnErr, length, vec_len};
 ghost use Rattle.bp_page.specs.Limits.{IsGeometry};
 ghost use Rattle.bp_page.specs.Slots.{page_in, slot_size};
-ghost use Rattle.bp_device.specs.Ports.{PortView, has_headers};
+ghost use Rattle.bp_device.specs.Ports.{Counts, PortView, has_headers};
 ghost use Rattle.bp_device.specs.Files.{IsFileLength};
 
 use crate::failures::Failures;
@@ -140,6 +140,10 @@ impl Port for FilePort {
     ghost failures_of = { λ p. p.failures };
 
     ghost is_headed = { λ p. p.headed };
+
+    ghost read_gives = { λ port page found after. Counts found port.failures after.failures };
+
+    ghost write_gives = { λ port page image lsn written after. Counts written port.failures after.failures };
 
     fn geometry(&self) -> Geometry {
         self.device

@@ -1,6 +1,6 @@
 //! A port that fails once, for tests of what a failing device leaves.
 ghost use Rattle.std.specs.Prelude.{◌≡◌, ◌≢◌, true, ◌-◌, ◌↔◌, IsTrue, IfOk, OnErr, length};
-ghost use Rattle.bp_device.specs.Ports.{Counts};
+ghost use Rattle.bp_device.specs.Ports.{Counts, FailsOrPasses, IsFailure};
 
 use crate::failures::Failures;
 use crate::port::Port;
@@ -74,6 +74,12 @@ impl<P: Port> Port for FusePort<P> {
 
     ghost is_headed = { λ p. P.is_headed p.inner };
 
+    ghost read_gives = { λ port page found after.
+        FailsOrPasses port.left (IsFailure found × (after.inner ≡ port.inner)) (P.read_gives port.inner page found after.inner) };
+
+    ghost write_gives = { λ port page image lsn written after.
+        FailsOrPasses port.left (IsFailure written) (P.write_gives port.inner page image lsn written after.inner) };
+
     fn geometry(&self) -> Geometry {
         self.inner.geometry()
     }
@@ -90,6 +96,7 @@ impl<P: Port> Port for FusePort<P> {
         ensures counts { Counts result self.old.count self.new.count }
         ensures left { self.new.left ≡ self.old.left - 1 }
         ensures fails { self.old.left ≡ 1 → (result ≡ Err PortFault.Device) × (self.new.inner ≡ self.old.inner) }
+        ensures gives { FailsOrPasses self.old.left (IsFailure result × (self.new.inner ≡ self.old.inner)) (P.read_gives self.old.inner page result self.new.inner) }
     {
         if self.blows() {
             return Err(self.count.add());
@@ -111,6 +118,7 @@ impl<P: Port> Port for FusePort<P> {
         ensures counts { Counts result self.old.count self.new.count }
         ensures left { self.new.left ≡ self.old.left - 1 }
         ensures fails { self.old.left ≡ 1 → result ≡ Err PortFault.Device }
+        ensures gives { FailsOrPasses self.old.left (IsFailure result) (P.write_gives self.old.inner page image.now lsn result self.new.inner) }
     {
         if self.blows() {
             if let Some(spoiled) = &self.spoiled {

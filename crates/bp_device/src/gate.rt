@@ -1,6 +1,6 @@
 //! Ports in pairs that wait for one another, for tests that the device work of two clients overlaps.
-ghost use Rattle.std.specs.Prelude.{◌≡◌, ◌≢◌, true, ◌<◌, IsTrue, IfOk, OnErr, length};
-ghost use Rattle.bp_device.specs.Ports.{Counts};
+ghost use Rattle.std.specs.Prelude.{◌≡◌, ◌≢◌, ◌⊎◌, true, ◌<◌, IsTrue, IfOk, OnErr, length};
+ghost use Rattle.bp_device.specs.Ports.{Counts, IsFailure};
 
 use crate::failures::Failures;
 use crate::port::Port;
@@ -123,6 +123,12 @@ impl<P: Port> Port for GatePort<P> {
 
     ghost is_headed = { λ p. P.is_headed p.inner };
 
+    ghost read_gives = { λ port page found after.
+        (IsFailure found × (after.inner ≡ port.inner)) ⊎ P.read_gives port.inner page found after.inner };
+
+    ghost write_gives = { λ port page image lsn written after.
+        (IsFailure written × (after.inner ≡ port.inner)) ⊎ P.write_gives port.inner page image lsn written after.inner };
+
     fn geometry(&self) -> Geometry {
         self.inner.geometry()
     }
@@ -139,6 +145,7 @@ impl<P: Port> Port for GatePort<P> {
         ensures counts { Counts result self.old.count self.new.count }
         ensures turns { self.new.turns ≡ self.old.turns }
         ensures shut { self.old.turns ≡ 0 → (result ≡ Err PortFault.Device) × (self.new.inner ≡ self.old.inner) }
+        ensures gives { (IsFailure result × (self.new.inner ≡ self.old.inner)) ⊎ P.read_gives self.old.inner page result self.new.inner }
     {
         if !self.reads.opens(rt, self.turns) {
             return Err(self.count.add());
@@ -160,6 +167,7 @@ impl<P: Port> Port for GatePort<P> {
         ensures counts { Counts result self.old.count self.new.count }
         ensures turns { self.new.turns ≡ self.old.turns }
         ensures shut { self.old.turns ≡ 0 → (result ≡ Err PortFault.Device) × (self.new.inner ≡ self.old.inner) }
+        ensures gives { (IsFailure result × (self.new.inner ≡ self.old.inner)) ⊎ P.write_gives self.old.inner page image.now lsn result self.new.inner }
     {
         if !self.writes.opens(rt, self.turns) {
             return Err(self.count.add());

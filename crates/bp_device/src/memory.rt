@@ -1,7 +1,7 @@
 //! A device in memory, and the ports on it.
 ghost use Rattle.std.specs.Prelude.{◌≡◌, ◌*◌, false, IfOk, OnErr};
 ghost use Rattle.bp_page.specs.declared.limits.Geometry.{Geometry};
-ghost use Rattle.bp_device.specs.Ports.{PortView, new_port};
+ghost use Rattle.bp_device.specs.Ports.{Counts, PortView, new_port};
 
 use crate::failures::Failures;
 use crate::places::start_of;
@@ -83,6 +83,10 @@ impl Port for MemPort {
     ghost failures_of = { λ p. p.failures };
 
     ghost is_headed = { λ p. p.headed };
+
+    ghost read_gives = { λ port page found after. Counts found port.failures after.failures };
+
+    ghost write_gives = { λ port page image lsn written after. Counts written port.failures after.failures };
 
     fn geometry(&self) -> Geometry {
         self.device

@@ -9,9 +9,13 @@ use std::sync::Wait;
 /// and `Memory` only where the image's memory was refused. A page that the device does not have, or an image of another
 /// size than its pages, is a failure of the device. `WrongPage` is none: a read alone answers it, and only of a device whose
 /// pages stand with their numbers, where another page's number stands in the page's place.
+///
+/// A port says by two relations of its own which calls led from it, as it was, to it, as it is. What is promised by them of
+/// any port, as of the drivers, can be kept only by these calls.
 pub trait Port: Drop {
-    ghost use Rattle.std.specs.Prelude.{◌≡◌, ◌≢◌, ℕ, Bool, true, length, IfOk};
+    ghost use Rattle.std.specs.Prelude.{◌≡◌, ◌≢◌, ℕ, Bool, true, List, Result, length, IfOk};
     ghost use Rattle.bp_page.specs.declared.limits.Geometry.{Geometry};
+    ghost use Rattle.bp_page.specs.declared.refusals.PortFault.{PortFault as Fault};
     ghost use Rattle.bp_device.specs.Ports.{Counts};
 
     // How many pages the device has, and of what size.
@@ -20,6 +24,10 @@ pub trait Port: Drop {
     ghost failures_of: { Self → ℕ };
     // Whether its pages stand with their numbers.
     ghost is_headed: { Self → Bool };
+    // A read of a page gives a result, and leaves the port so.
+    ghost read_gives: { Self → ℕ → Result (List ℕ) Fault → Self → Type 0 };
+    // A write of a page, with an image and a page LSN, gives a result, and leaves the port so.
+    ghost write_gives: { Self → ℕ → List ℕ → ℕ → Result (Unit {0}) Fault → Self → Type 0 };
 
     /// How many pages the device has, and of what size.
     fn geometry(&self) -> Geometry
@@ -35,7 +43,8 @@ pub trait Port: Drop {
         ensures wrong { result ≡ Err PortFault.WrongPage → is_headed self.old ≡ true }
         ensures same { geometry_of self.new ≡ geometry_of self.old }
         ensures alike { is_headed self.new ≡ is_headed self.old }
-        ensures counts { Counts result (failures_of self.old) (failures_of self.new) };
+        ensures counts { Counts result (failures_of self.old) (failures_of self.new) }
+        ensures gives { read_gives self.old page result self.new };
 
     /// Writes an image of a page, with its page LSN, which a device may keep or not.
     fn write<R: Wait>(
@@ -48,5 +57,6 @@ pub trait Port: Drop {
         ensures never_wrong { result ≢ Err PortFault.WrongPage }
         ensures same { geometry_of self.new ≡ geometry_of self.old }
         ensures alike { is_headed self.new ≡ is_headed self.old }
-        ensures counts { Counts result (failures_of self.old) (failures_of self.new) };
+        ensures counts { Counts result (failures_of self.old) (failures_of self.new) }
+        ensures gives { write_gives self.old page image.now lsn result self.new };
 }

@@ -4,6 +4,7 @@ ghost use Rattle.bp_trail.specs.declared.scripts.Step.TheVariants as Step;
 ghost use Rattle.bp_trail.specs.Fits.{RowFits};
 ghost use Rattle.bp_trail.specs.Pieces.{outcome_of};
 ghost use Rattle.bp_device.specs.Rows.{EndsIn, DrivesRow};
+ghost use Rattle.bp_device.specs.Work.{DoesWork};
 
 use crate::drivers::{drive_fix, drive_flush};
 use crate::held_passes::{give_one, latest_pass};
@@ -96,6 +97,7 @@ fn fix_row<K: Keeper, P: Port, R: Wait>(
     ensures outcome { DrivesRow core.old client (Step.Fix page) (outcome_of result) held.old.items held.new.items core.new }
     ensures more { vec_len held.new ≤ vec_len held.old + 1 }
     ensures capacity { vec_capacity held.new ≡ vec_capacity held.old }
+    ensures work { DoesWork P.read_gives P.write_gives core.old port.old core.new port.new }
     ensures geometry { P.geometry_of port.new ≡ P.geometry_of port.old }
 {
     match drive_fix(rt, core, port, client, page) {
@@ -119,6 +121,7 @@ fn flush_row<K: Keeper, P: Port, R: Wait>(
     requires client_in { client < core.old.parameters.clients }
     requires page_in { page < core.old.parameters.pages }
     ensures outcome { DrivesRow core.old client (Step.Flush page) (outcome_of result) held.now held.now core.new }
+    ensures work { DoesWork P.read_gives P.write_gives core.old port.old core.new port.new }
     ensures geometry { P.geometry_of port.new ≡ P.geometry_of port.old }
 {
     match drive_flush(rt, core, port, client, page) {
@@ -183,6 +186,7 @@ pub(crate) fn drive_row<K: Keeper, P: Port, R: Wait>(
     ensures outcome { DrivesRow core.old row.now.client row.now.step (outcome_of result) held.old.items held.new.items core.new }
     ensures more { vec_len held.new ≤ vec_len held.old + 1 }
     ensures capacity { vec_capacity held.new ≡ vec_capacity held.old }
+    ensures work { DoesWork P.read_gives P.write_gives core.old port.old core.new port.new }
     ensures geometry { P.geometry_of port.new ≡ P.geometry_of port.old }
 {
     let client = row.client;

@@ -4,6 +4,7 @@ ghost use Rattle.bp_trail.specs.Fits.{RowFits};
 ghost use Rattle.bp_trail.specs.Pieces.{outcome_of};
 ghost use Rattle.bp_trail.specs.Script.{refused_row};
 ghost use Rattle.bp_device.specs.Rows.{AddsScript, DrivesRows};
+ghost use Rattle.bp_device.specs.Work.{DoesWork};
 
 use crate::held_passes::give_back_all;
 use crate::port::Port;
@@ -44,6 +45,7 @@ fn drive_rows<K: Keeper, P: Port, R: Wait>(
     requires held_room { length rows.now ≤ vec_capacity held.old }
     requires refused_room { length rows.now ≤ vec_capacity refused.old }
     ensures outcome { DrivesRows core.old rows.now refused.new.items held.new.items core.new }
+    ensures work { DoesWork P.read_gives P.write_gives core.old port.old core.new port.new }
     ensures geometry { P.geometry_of port.new ≡ P.geometry_of port.old }
 {
     for row in rows {
@@ -68,6 +70,7 @@ pub fn drive_all<K: Keeper, P: Port, R: Wait>(
     ensures follows { IfOk result (λ refused. AddsScript core.old rows.now refused.items core.new) }
     ensures refused { OnErr result (result ≡ Err Refusal.OutOfMemory) }
     ensures unchanged { OnErr result (core.new ≡ core.old) }
+    ensures work { DoesWork P.read_gives P.write_gives core.old port.old core.new port.new }
     ensures geometry { P.geometry_of port.new ≡ P.geometry_of port.old }
 {
     let Ok(mut held) = Vec::with_capacity(alloc, rows.len()) else {

@@ -16,7 +16,11 @@ abbrev pub is_headed_any : AnyPort → Bool
 is_headed_any (Mem port) = port.headed
 is_headed_any (File port) = port.headed
 
--- so many ports to one device
-pub record AreOf (g : Geometry) (clients : ℕ) (ports : List AnyPort) : Type 0 where
+-- a port to this device, whose pages stand with their numbers or not
+abbrev pub IsPortTo : Geometry → Bool → AnyPort → Type 0
+IsPortTo g headed port = (device_of port ≡ g) × (is_headed_any port ≡ headed)
+
+-- so many such ports
+pub record AreOf (g : Geometry) (headed : Bool) (clients : ℕ) (ports : List AnyPort) : Type 0 where
   pub count : length ports ≡ clients
-  pub alike : All (λ port. device_of port ≡ g) ports
+  pub alike : All (IsPortTo g headed) ports

@@ -1,7 +1,8 @@
 //! Page files in memory and on disk.
-ghost use Rattle.std.specs.Prelude.{◌≡◌, IfOk};
+ghost use Rattle.std.specs.Prelude.{◌≡◌, false, IfOk, IfSome};
 ghost use Rattle.bp_run.specs.PageFile.{memory_named};
-ghost use Rattle.bp_run.specs.AnyPort.{device_of, AreOf};
+ghost use Rattle.bp_device.specs.Ports.{has_headers};
+ghost use Rattle.bp_run.specs.AnyPort.{IsPortTo, AreOf};
 
 use crate::opening::Ports;
 use bp_device::{FilePort, MemDevice, MemPort, OpenFault, Port};
@@ -22,6 +23,7 @@ pub enum AnyPort {
 }
 
 impl Port for AnyPort {
+    ghost use Rattle.bp_device.specs.Ports.{Counts};
     ghost use Rattle.bp_run.specs.AnyPort.{device_of, failures_of_any, is_headed_any};
 
     ghost geometry_of = { device_of };
@@ -29,6 +31,10 @@ impl Port for AnyPort {
     ghost failures_of = { failures_of_any };
 
     ghost is_headed = { is_headed_any };
+
+    ghost read_gives = { λ port page found after. Counts found (failures_of_any port) (failures_of_any after) };
+
+    ghost write_gives = { λ port page image lsn written after. Counts written (failures_of_any port) (failures_of_any after) };
 
     fn geometry(&self) -> Geometry {
         match self {
@@ -80,7 +86,7 @@ fn memory_ports(
     geometry: Geometry,
     clients: usize,
 ) -> Result<Vec<AnyPort>, OpenFault>
-    ensures ports { IfOk result (λ ports. AreOf geometry clients ports.items) }
+    ensures ports { IfOk result (λ ports. AreOf geometry false clients ports.items) }
 {
     let device = MemDevice::new(alloc, geometry).map_err(OpenFault::Refused)?;
     let Ok(mut ports) = Vec::with_capacity(alloc, clients) else {
@@ -103,7 +109,7 @@ fn reopen<R: Files<File = File>>(
     format: Format,
     geometry: Geometry,
 ) -> Result<AnyPort, OpenFault>
-    ensures same { IfOk result (λ port. device_of port ≡ geometry) }
+    ensures same { IfOk result (λ port. IsPortTo geometry (has_headers format) port) }
 {
     let port = FilePort::open(rt, alloc, path, geometry.size, format)?;
     if port.geometry().pages != geometry.pages {
@@ -112,27 +118,46 @@ fn reopen<R: Files<File = File>>(
     Ok(AnyPort::File(port))
 }
 
-/// Ports to the page file at a path, one for each client: the one that was opened first, and as many more as it takes.
+/// The port that was opened first, where nobody has it yet, and else one more to the same page file.
+fn next_port<R: Files<File = File>>(
+    rt: &R,
+    alloc: Global,
+    path: &str,
+    format: Format,
+    geometry: Geometry,
+    first: &mut Option<AnyPort>,
+) -> Result<AnyPort, OpenFault>
+    requires first { IfSome first.old (λ port. IsPortTo geometry (has_headers format) port) }
+    ensures port { IfOk result (λ port. IsPortTo geometry (has_headers format) port) }
+    ensures first { IfSome first.new (λ port. IsPortTo geometry (has_headers format) port) }
+{
+    match first.take() {
+        Some(port) => Ok(port),
+        None => reopen(rt, alloc, path, format, geometry),
+    }
+}
+
+/// Ports to the page file at a path, which has this geometry, one for each client: the one that was opened first, and as many more as it
+/// takes.
 fn file_ports<R: Files<File = File>>(
     rt: &R,
     alloc: Global,
     path: &str,
     format: Format,
+    geometry: Geometry,
     first: FilePort,
     clients: usize,
 ) -> Result<Vec<AnyPort>, OpenFault>
-    ensures ports { IfOk result (λ ports. AreOf first.device clients ports.items) }
+    requires geometry { first.device ≡ geometry }
+    requires headed { first.headed ≡ has_headers format }
+    ensures ports { IfOk result (λ ports. AreOf geometry (has_headers format) clients ports.items) }
 {
-    let geometry = first.geometry();
     let mut first = Some(AnyPort::File(first));
     let Ok(mut ports) = Vec::with_capacity(alloc, clients) else {
         return Err(OpenFault::Port(PortFault::Memory));
     };
     for _ in 0..clients {
-        let port = match first.take() {
-            Some(port) => port,
-            None => reopen(rt, alloc, path, format, geometry)?,
-        };
+        let port = next_port(rt, alloc, path, format, geometry, &mut first)?;
         ports.push_reserved(port);
     }
     Ok(ports)
@@ -180,7 +205,10 @@ impl<R: Files<File = File>> Ports<R> for PageFiles {
                 Err(refusal) => Err(OpenFault::Refused(refusal)),
             },
             None => match FilePort::open(rt, self.alloc, word, size, format) {
-                Ok(first) => file_ports(rt, self.alloc, word, format, first, clients),
+                Ok(first) => {
+                    let geometry = first.geometry();
+                    file_ports(rt, self.alloc, word, format, geometry, first, clients)
+                }
                 Err(fault) => Err(fault),
             },
         }

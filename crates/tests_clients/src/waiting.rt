@@ -41,6 +41,11 @@ impl<P: Port> Port for SlowPort<P> {
 
     ghost is_headed = { λ p. P.is_headed p.inner };
 
+    ghost read_gives = { λ port page found after. P.read_gives port.inner page found after.inner };
+
+    ghost write_gives = { λ port page image lsn written after.
+        P.write_gives port.inner page image lsn written after.inner };
+
     fn geometry(&self) -> Geometry {
         self.inner.geometry()
     }

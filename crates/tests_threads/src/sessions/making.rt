@@ -29,6 +29,10 @@ impl Port for Zeros {
 
     ghost is_headed = { λ _. false };
 
+    ghost read_gives = { λ _ _ _ _. Unit {0} };
+
+    ghost write_gives = { λ _ _ _ _ _ _. Unit {0} };
+
     fn geometry(&self) -> Geometry {
         self.geometry
     }

@@ -3,6 +3,8 @@ use Rattle.std.proofs.Common.{◌≡◌, refl, sym, ◌∙◌, ap, subst, ◌+�
 use Rattle.std.proofs.Math.Seq.{take-suc}
 use Rattle.bp_device.specs.Rows.{DrivesRows}
 use Rattle.bp_device.proofs.ScriptSteps.{rows-none, rows-parameters, rows-step}
+use Rattle.bp_device.proofs.Working.{none-yet}
+use Rattle.bp_device.proofs.RowsWork.{work-join}
 use Rattle.bp_device.proofs.scripts.drive_rows.Goals as goal
 
 pub loop-row-init : goal.loop-row-init
@@ -12,6 +14,7 @@ loop-row-init g c = record {
   few_refused = omega (arith, ap length c.requires.none_refused, c.args.refused.now.ok);
   held_room = refl;
   refused_room = refl;
+  work = none-yet _ _ c.args.core.now c.args.port.now;
   geometry = refl;
 }
 
@@ -26,6 +29,7 @@ loop-row-preserved g c =
       few_held = omega (arith, c.drive_row-outcome.ensures.more, c.loop-row.invariant.few_held);
       few_refused = omega (arith, c.note_refused.ensures.more, c.loop-row.invariant.few_refused);
       held_room = c.drive_row-outcome.ensures.capacity ∙ c.loop-row.invariant.held_room;
+      work = work-join _ _ _ _ _ _ _ _ c.loop-row.invariant.work c.drive_row-outcome.ensures.work;
       geometry = c.drive_row-outcome.ensures.geometry ∙ c.loop-row.invariant.geometry;
       refused_room = c.note_refused.ensures.capacity ∙ c.loop-row.invariant.refused_room;
     }

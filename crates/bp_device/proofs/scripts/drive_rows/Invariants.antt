@@ -1,6 +1,7 @@
 use Rattle.std.proofs.Common.{◌≡◌, ◌≤◌, vec_len, vec_capacity}
 use Rattle.std.specs.Prelude.{take}
 use Rattle.bp_device.specs.Rows.{DrivesRows}
+use Rattle.bp_device.specs.Work.{DoesWork}
 use Rattle.bp_device.proofs.scripts.drive_rows.Given as goal
 
 abbrev pub invariant-loop-row : goal.invariant-loop-row
@@ -9,6 +10,7 @@ invariant-loop-row g l = record {
   few_held : vec_len l.held ≤ l.row-index;
   few_refused : vec_len l.refused ≤ l.row-index;
   held_room : vec_capacity l.held ≡ vec_capacity l.initial.held;
+  work : DoesWork g.P.Port.read_gives g.P.Port.write_gives l.initial.core l.initial.port l.core l.port;
   geometry : g.P.Port.geometry_of l.port ≡ g.P.Port.geometry_of l.initial.port;
   refused_room : vec_capacity l.refused ≡ vec_capacity l.initial.refused;
 }

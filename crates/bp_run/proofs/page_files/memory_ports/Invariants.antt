@@ -1,6 +1,6 @@
-use Rattle.std.proofs.Common.{◌≤◌, vec_capacity}
+use Rattle.std.proofs.Common.{◌≤◌, false, vec_capacity}
 use Rattle.bp_run.specs.AnyPort.{AreOf}
 use Rattle.bp_run.proofs.page_files.memory_ports.Given as goal
 
 abbrev pub invariant-loop : goal.invariant-loop
-invariant-loop l = AreOf l.fn.geometry l.counter l.ports.items × (l.fn.clients ≤ vec_capacity l.ports)
+invariant-loop l = AreOf l.fn.geometry false l.counter l.ports.items × (l.fn.clients ≤ vec_capacity l.ports)

@@ -1,0 +1,55 @@
+-- Why a driver's call is refused.
+use Rattle.std.proofs.Common.{List, ◌≡◌, refl, sym, subst, ℕ, Result, Ok, Err}
+use Rattle.std.specs.Prelude.{IfErr}
+use Rattle.bp_page.specs.declared.refusals.Refusal.{Refusal}
+use Rattle.bp_page.specs.declared.refusals.Refusal.TheVariants as refusal
+use Rattle.bp_page.specs.declared.refusals.PortFault.{PortFault}
+use Rattle.bp_page.specs.declared.refusals.PortFault.TheVariants as fault
+use Rattle.bp_core.specs.declared.passes.Pass.{Pass}
+use Rattle.bp_core.specs.declared.passes.ReadTicket.{ReadTicket}
+use Rattle.bp_core.specs.declared.passes.WriteTicket.{WriteTicket}
+use Rattle.bp_core.specs.declared.passes.Fix.{Fix as Fixing}
+use Rattle.bp_core.specs.declared.passes.Flush.{Flush as Flushing}
+use Rattle.bp_trail.specs.declared.entries.Call.{Call}
+use Rattle.bp_trail.specs.declared.entries.Call.TheVariants.{Fix, Flush}
+use Rattle.bp_trail.specs.declared.entries.Reply.TheVariants.{NeedLog}
+use Rattle.bp_core.specs.ReadFaults.{read_refusal}
+use Rattle.bp_core.specs.CoreView.{CoreView, HasRoomFor, LacksRoomFor}
+use Rattle.bp_core.specs.Outcomes.{FixOutcome, FlushOutcome, TakesMemory}
+use Rattle.bp_device.specs.Drivers.{LoadOutcome, SaveOutcome, Ends, IsCaused}
+
+-- it was refused for want of memory
+abbrev WantsMemory : (A : Type 0) → Result A Refusal → Type 0
+WantsMemory A result = result ≡ Err refusal.OutOfMemory
+
+pub fix-caused : (old new : CoreView) (client page : ℕ) (why : Refusal) → FixOutcome old client page (Err why) new
+    → (WantsMemory Fixing (Err why) → TakesMemory (Fix page) old) → IsCaused 3 (Fix page) why new
+fix-caused old new client page refusal.NoVictim h m = tt
+fix-caused old new client page (refusal.NeedLog lsn) h m = subst (λ (core : CoreView). Ends (NeedLog lsn) core.past) (sym h.1.is) refl
+fix-caused old new client page refusal.Busy h m = tt
+fix-caused old new client page refusal.TrailFull h m = subst (LacksRoomFor 3) (sym h.1) h.0
+fix-caused old new client page refusal.OutOfMemory h m = (subst (HasRoomFor 3) (sym h.1) h.0, subst (TakesMemory (Fix page)) (sym h.1) (m refl))
+fix-caused old new client page _ h m = absurd h
+
+pub flush-caused : (old new : CoreView) (client page : ℕ) (why : Refusal) → FlushOutcome old client page (Err why) new
+    → (WantsMemory Flushing (Err why) → TakesMemory (Flush page) old) → IsCaused 2 (Flush page) why new
+flush-caused old new client page (refusal.NeedLog lsn) h m = subst (λ (core : CoreView). Ends (NeedLog lsn) core.past) (sym h.1.is) refl
+flush-caused old new client page refusal.Busy h m = tt
+flush-caused old new client page refusal.TrailFull h m = subst (LacksRoomFor 2) (sym h.1) h.0
+flush-caused old new client page refusal.OutOfMemory h m = (subst (HasRoomFor 2) (sym h.1) h.0, subst (TakesMemory (Flush page)) (sym h.1) (m refl))
+flush-caused old new client page _ h m = absurd h
+
+pub load-caused : (old new : CoreView) (n : ℕ) (call : Call) (ticket : ReadTicket) (found : Result (List ℕ) PortFault) (result : Result Pass Refusal) → LoadOutcome old ticket found result new
+    → IfErr result (λ why. IsCaused n call why new)
+load-caused old new n call ticket (Ok image) (Ok pass) l = tt
+load-caused old new n call ticket (Err why) (Err r) l = subst (λ r. IsCaused n call r new) (sym l.0) (go why)
+  where
+    go : (f : PortFault) → IsCaused n call (read_refusal f) new
+    go fault.WrongPage = tt
+    go fault.Device = tt
+    go fault.Memory = tt
+load-caused old new n call ticket (Ok image) (Err r) l = absurd l
+load-caused old new n call ticket (Err why) (Ok pass) l = absurd l
+
+pub save-caused : (old new : CoreView) (n : ℕ) (call : Call) (ticket : WriteTicket) (why : Refusal) → SaveOutcome old ticket (Err why) new → IsCaused n call why new
+save-caused old new n call ticket why s = subst (λ r. IsCaused n call r new) (sym s.0) tt

@@ -1,0 +1,86 @@
+-- The device's work for the rows of a script.
+use Rattle.std.proofs.Common.{List, ◌≡◌, refl, sym, ◌∙◌, ap, subst, ℕ, Bool, true, false, [], ◌∷◌, ◌++◌, append_assoc, Option, Some, None}
+use Rattle.std.proofs.lemmas.List.{append_cancel_right}
+use Rattle.bp_trail.specs.declared.entries.Call.{Call}
+use Rattle.bp_trail.specs.declared.entries.Call.TheVariants.{Tick, Mark, Read, Write, Unfix, Purge}
+use Rattle.bp_trail.specs.declared.entries.Reply.{Reply}
+use Rattle.bp_trail.specs.declared.scripts.Step.{Step}
+use Rattle.bp_trail.specs.declared.scripts.Step.TheVariants as step
+use Rattle.bp_trail.specs.Event.{Grant}
+use Rattle.bp_trail.specs.Pieces.{Outcome, OneCall}
+use Rattle.bp_trail.specs.Pieces.Manner.{driver}
+use Rattle.bp_trail.specs.Pieces.Outcome.{accepted, refused}
+use Rattle.bp_trail.specs.Script.{latest_pass, WithPass, RowPiece, GivesBack, give_back}
+use Rattle.bp_trail.specs.Script.GivesBack.{none_held, next}
+use Rattle.bp_trail.specs.Trail.{Trail}
+use Rattle.bp_core.specs.CoreView.{CoreView}
+use Rattle.bp_device.specs.Drivers.{with_piece}
+use Rattle.bp_device.specs.Rows.{EndsIn, DrivesRow, GaveBack}
+use Rattle.bp_device.specs.Work.{Reads, Writes, Works, WorksThrough, DoesWork}
+
+-- rows that have no device work
+abbrev pub is_quiet : Step → Bool
+is_quiet (step.Fix page) = false
+is_quiet (step.Flush page) = false
+is_quiet _ = true
+
+module _ {A : Type 0} (reads : Reads A) (writes : Writes A) where
+  through-append : (past xs ys : Trail) (port now after : A) → WorksThrough reads writes past ys port now → WorksThrough reads writes (ys ++ past) xs now after → WorksThrough reads writes past (xs ++ ys) port after
+  through-append past [] ys port now after d e = subst (λ a. WorksThrough reads writes past ys port a) (sym e) d
+  through-append past (x ∷ xs) ys port now after d e =
+      (e.0, through-append past xs ys port now e.0 d e.1, subst (λ es. Works reads writes es x.call x.reply e.0 after) (sym (append_assoc xs ys past)) e.2)
+
+  pub work-join : (old mid new : CoreView) (port now after : A) → DoesWork reads writes old port mid now → DoesWork reads writes mid now new after → DoesWork reads writes old port new after
+  work-join old mid new port now after d e = record {
+    piece = e.piece ++ d.piece;
+    is = e.is ∙ ap (λ core. with_piece core e.piece) d.is ∙ ap (λ es. record old { past = es }) (sym (append_assoc e.piece d.piece old.past));
+    through = through-append old.past e.piece d.piece port now after d.through (subst (λ es. WorksThrough reads writes es e.piece now after) (ap (λ core. core.past) d.is) e.through);
+  }
+
+  one-call-work : (past : Trail) (port : A) (numbers : List ℕ) (client : ℕ) (call : Call) (piece : Trail) (outcome : Outcome) → ((reply : Reply) → Works reads writes past call reply port port)
+      → OneCall numbers client call piece outcome → WorksThrough reads writes past piece port port
+  one-call-work past port numbers client call piece accepted none h = subst (λ es. WorksThrough reads writes past es port port) (sym h.1) (port, refl, none h.0)
+  one-call-work past port numbers client call piece (refused n) none h = subst (λ es. WorksThrough reads writes past es port port) (sym h.1) refl
+
+  with-pass-work : (past : Trail) (port : A) (numbers : List ℕ) (client : ℕ) (call : ℕ → Call) (piece : Trail) (outcome : Outcome) (pass : Option Grant)
+      → ((n : ℕ) (reply : Reply) → Works reads writes past (call n) reply port port) → WithPass numbers client call piece outcome pass → WorksThrough reads writes past piece port port
+  with-pass-work past port numbers client call piece outcome None none h = subst (λ es. WorksThrough reads writes past es port port) (sym h.0) refl
+  with-pass-work past port numbers client call piece outcome (Some g) none h = one-call-work past port numbers client (call g.serial) piece outcome (none g.serial) h
+
+  piece-work : (past said piece : Trail) (port : A) (client : ℕ) (step : Step) (outcome : Outcome) → is_quiet step ≡ true → RowPiece driver said client step piece outcome → WorksThrough reads writes past piece port port
+  piece-work past said piece port client (step.Fix page) outcome quiet h = absurd (let no : false ≡ true = quiet in cc)
+  piece-work past said piece port client (step.Flush page) outcome quiet h = absurd (let no : false ≡ true = quiet in cc)
+  piece-work past said piece port client (step.Unfix page) outcome quiet h = with-pass-work past port [] client (λ n. Unfix n page) piece outcome (latest_pass said client page) (λ n reply. refl) h
+  piece-work past said piece port client (step.Read page) outcome quiet h = with-pass-work past port (20 ∷ 22 ∷ []) client (λ n. Read n page) piece outcome (latest_pass said client page) (λ n reply. refl) h
+  piece-work past said piece port client (step.Write page offset bytes lsn) outcome quiet h =
+      with-pass-work past port (20 ∷ 22 ∷ []) client (λ n. Write n page offset bytes lsn) piece outcome (latest_pass said client page) (λ n reply. refl) h
+  piece-work past said piece port client (step.Tick n) outcome quiet h = one-call-work past port (20 ∷ 21 ∷ 22 ∷ []) client (Tick n) piece outcome (λ reply. refl) h
+  piece-work past said piece port client step.Purge outcome quiet h = one-call-work past port (20 ∷ 22 ∷ []) client Purge piece outcome (λ reply. refl) h
+  piece-work past said piece port client (step.Log lsn) outcome quiet h = one-call-work past port (20 ∷ []) client (Mark lsn) piece outcome (λ reply. refl) h
+
+  pub row-work : (old new : CoreView) (port : A) (client : ℕ) (step : Step) (outcome : Outcome) (held held_after : List Grant) → is_quiet step ≡ true → EndsIn old held
+      → DrivesRow old client step outcome held held_after new → DoesWork reads writes old port new port
+  row-work old new port client step outcome held held_after quiet ends d =
+      record { piece = d.piece; is = d.is; through = piece-work old.past ends.said d.piece port client step outcome quiet (d.of_row ends.said ends.are_held) }
+
+  -- passes that go back
+  record GoesBack (past after : Trail) (port : A) : Type 0 where
+    back : Trail
+    grows : after ≡ back ++ past
+    through : (older : Trail) → WorksThrough reads writes older back port port
+
+  goes-back : (past after : Trail) (port : A) → GivesBack past after → GoesBack past after port
+  goes-back past _ port (none_held none) = record { back = []; grows = refl; through = λ older. refl }
+  goes-back past after port (next g first rest) =
+      let r = goes-back (give_back g ∷ past) after port rest in
+      record {
+        back = r.back ++ give_back g ∷ [];
+        grows = r.grows ∙ sym (append_assoc r.back (give_back g ∷ []) past);
+        through = λ older. through-append older r.back (give_back g ∷ []) port port port (port, refl, refl) (r.through (give_back g ∷ older));
+      }
+
+  pub gave-back-work : (old new : CoreView) (port : A) (held : List Grant) → EndsIn old held → GaveBack old held new → DoesWork reads writes old port new port
+  gave-back-work old new port held ends g =
+      let r = goes-back ends.said (g.back ++ ends.said) port (g.gives_back ends.said ends.are_held) in
+      let same : r.back ≡ g.back = sym (append_cancel_right g.back r.back ends.said r.grows) in
+      record { piece = g.back; is = g.is; through = subst (λ es. WorksThrough reads writes old.past es port port) same (r.through old.past) }

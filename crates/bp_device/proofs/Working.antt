@@ -1,0 +1,111 @@
+-- How the device's work grows, entry by entry.
+use Rattle.std.proofs.Common.{List, ◌≡◌, refl, sym, ◌∙◌, ap, subst, ℕ, true, false, [], ◌∷◌, Option, Some, None, Result, Ok, Err}
+use Rattle.std.specs.Result.{is_ok}
+use Rattle.bp_page.specs.declared.refusals.Refusal.{Refusal}
+use Rattle.bp_page.specs.declared.refusals.Refusal.TheVariants as refusal
+use Rattle.bp_page.specs.declared.refusals.PortFault.{PortFault}
+use Rattle.bp_core.specs.declared.passes.Pass.{Pass}
+use Rattle.bp_core.specs.declared.passes.ReadTicket.{ReadTicket}
+use Rattle.bp_core.specs.declared.passes.WriteTicket.{WriteTicket}
+use Rattle.bp_core.specs.declared.passes.Fix.TheVariants as fixing
+use Rattle.bp_core.specs.declared.passes.Flush.TheVariants as flushing
+use Rattle.bp_core.specs.declared.passes.Ended.{Ended}
+use Rattle.bp_trail.specs.declared.entries.Call.{Call}
+use Rattle.bp_trail.specs.declared.entries.Call.TheVariants.{Fix, ReadEnd, WriteEnd, Flush}
+use Rattle.bp_trail.specs.declared.entries.Reply.{Reply}
+use Rattle.bp_trail.specs.declared.entries.Reply.TheVariants.{Load, WriteFirst, NoVictim, NeedLog, Busy, Fixed, WriteFailed}
+use Rattle.bp_trail.specs.Saved.{top}
+use Rattle.bp_trail.specs.Pieces.{by}
+use Rattle.bp_core.specs.ReadFaults.{read_failure}
+use Rattle.bp_core.specs.CoreView.{CoreView, with_entry}
+use Rattle.bp_core.specs.Outcomes.{FixOutcome, FlushOutcome}
+use Rattle.bp_device.specs.Drivers.{LoadOutcome, SaveOutcome, Ends, ended_reply}
+use Rattle.bp_device.specs.Work.{Reads, Writes, Works, DoesWork}
+
+module _ {A : Type 0} (reads : Reads A) (writes : Writes A) where
+  pub none-yet : (core : CoreView) (port : A) → DoesWork reads writes core port core port
+  none-yet core port = record { piece = []; is = refl; through = refl }
+
+  -- one more entry
+  pub one-more : (old mid new : CoreView) (port now after : A) (client : ℕ) (call : Call) (reply : Reply) → DoesWork reads writes old port mid now → new ≡ with_entry mid client call reply
+      → Works reads writes mid.past call reply now after → DoesWork reads writes old port new after
+  one-more old mid new port now after client call reply d is w = record {
+    piece = by client call reply ∷ d.piece;
+    is = is ∙ ap (λ core. with_entry core client call reply) d.is;
+    through = (now, d.through, subst (λ (core : CoreView). Works reads writes core.past call reply now after) d.is w);
+  }
+
+  same-as : (old mid new : CoreView) (port now : A) → DoesWork reads writes old port mid now → new ≡ mid → DoesWork reads writes old port new now
+  same-as old mid new port now d is = record { piece = d.piece; is = is ∙ d.is; through = d.through }
+
+  -- a fix or a flush that was refused
+  pub refused-fix-work : (old mid new : CoreView) (port now : A) (client page : ℕ) (why : Refusal) → DoesWork reads writes old port mid now → FixOutcome mid client page (Err why) new
+      → DoesWork reads writes old port new now
+  refused-fix-work old mid new port now client page refusal.NoVictim d h = one-more old mid new port now now client (Fix page) NoVictim d h.1.is refl
+  refused-fix-work old mid new port now client page (refusal.NeedLog lsn) d h = one-more old mid new port now now client (Fix page) (NeedLog lsn) d h.1.is refl
+  refused-fix-work old mid new port now client page refusal.Busy d h = one-more old mid new port now now client (Fix page) Busy d h.1.is refl
+  refused-fix-work old mid new port now client page refusal.TrailFull d h = same-as old mid new port now d h.1
+  refused-fix-work old mid new port now client page refusal.OutOfMemory d h = same-as old mid new port now d h.1
+  refused-fix-work old mid new port now client page _ d h = absurd h
+
+  pub refused-flush-work : (old new : CoreView) (port : A) (client page : ℕ) (why : Refusal) → FlushOutcome old client page (Err why) new → DoesWork reads writes old port new port
+  refused-flush-work old new port client page (refusal.NeedLog lsn) h = one-more old old new port port port client (Flush page) (NeedLog lsn) (none-yet old port) h.1.is refl
+  refused-flush-work old new port client page refusal.Busy h = one-more old old new port port port client (Flush page) Busy (none-yet old port) h.1.is refl
+  refused-flush-work old new port client page refusal.TrailFull h = same-as old old new port port (none-yet old port) h.1
+  refused-flush-work old new port client page refusal.OutOfMemory h = same-as old old new port port (none-yet old port) h.1
+  refused-flush-work old new port client page _ h = absurd h
+
+  -- the read of a load, and its end
+  pub loaded-work : (old mid read new : CoreView) (port now after : A) (client page : ℕ) (ticket : ReadTicket) (evicted : Option ℕ) (found : Result (List ℕ) PortFault) (result : Result Pass Refusal)
+      → DoesWork reads writes old port mid now → FixOutcome mid client page (Ok (fixing.Load ticket evicted)) read → LoadOutcome read ticket found result new → reads now page found after
+      → DoesWork reads writes old port new after
+  loaded-work old mid read new port now after client page ticket evicted (Ok image) (Ok pass) d h l gave =
+      one-more old read new port now after ticket.client (ReadEnd ticket.serial ticket.page (Some image)) (Fixed pass.serial)
+      (one-more old mid read port now now client (Fix page) (Load ticket.serial evicted) d h.3.is refl) l.2
+      (record { found = Ok image; gave = subst (λ p. reads now p (Ok image) after) (sym h.2) gave; image_is = refl; answered = tt })
+  loaded-work old mid read new port now after client page ticket evicted (Err fault) (Err why) d h l gave =
+      one-more old read new port now after ticket.client (ReadEnd ticket.serial ticket.page None) (read_failure fault)
+      (one-more old mid read port now now client (Fix page) (Load ticket.serial evicted) d h.3.is refl) l.1
+      (record { found = Err fault; gave = subst (λ p. reads now p (Err fault) after) (sym h.2) gave; image_is = refl; answered = refl })
+  loaded-work old mid read new port now after client page ticket evicted (Ok image) (Err why) d h l gave = absurd l
+  loaded-work old mid read new port now after client page ticket evicted (Err fault) (Ok pass) d h l gave = absurd l
+
+  -- what was written is the ticket's
+  abbrev pub Writes-ticket : A → WriteTicket → Result (Unit {0}) PortFault → A → Type 0
+  Writes-ticket port ticket written after = (p : ℕ) × (image : List ℕ) × (lsn : ℕ) × (p ≡ ticket.page) × (image ≡ ticket.image) × (lsn ≡ ticket.lsn) × writes port p image lsn written after
+
+  gave-ticket : (port after : A) (ticket : WriteTicket) (written : Result (Unit {0}) PortFault) → Writes-ticket port ticket written after → writes port ticket.page ticket.image ticket.lsn written after
+  gave-ticket port after ticket written w =
+      subst (λ n. writes port ticket.page ticket.image n written after) w.5
+      (subst (λ i. writes port ticket.page i w.2 written after) w.4 (subst (λ q. writes port q w.1 w.2 written after) w.3 w.6))
+
+  -- the write of a write-out that has just begun, and its end
+  written-work : (old begun new : CoreView) (port now after : A) (ticket : WriteTicket) (written : Result (Unit {0}) PortFault) (result : Result Ended Refusal)
+      → DoesWork reads writes old port begun now → Ends (WriteFirst ticket.serial ticket.page ticket.image) begun.past → ticket.lsn ≡ top begun.past ticket.page
+      → SaveOutcome begun ticket result new → is_ok result ≡ is_ok written → writes now ticket.page ticket.image ticket.lsn written after → DoesWork reads writes old port new after
+  written-work old begun new port now after ticket written (Ok how) d began lsn s good gave =
+      one-more old begun new port now after ticket.client (WriteEnd ticket.serial ticket.page true) (ended_reply how) d s.is
+      (record { image = ticket.image; began = began; written = written; gave = subst (λ n. writes now ticket.page ticket.image n written after) lsn gave; good_is = good })
+  written-work old begun new port now after ticket written (Err why) d began lsn s good gave =
+      one-more old begun new port now after ticket.client (WriteEnd ticket.serial ticket.page false) WriteFailed d s.1.is
+      (record { image = ticket.image; began = began; written = written; gave = subst (λ n. writes now ticket.page ticket.image n written after) lsn gave; good_is = good })
+
+  -- that of a fix's victim
+  pub victim-work : (old mid begun new : CoreView) (port now after : A) (client page : ℕ) (ticket : WriteTicket) (written : Result (Unit {0}) PortFault) (result : Result Ended Refusal)
+      → DoesWork reads writes old port mid now → FixOutcome mid client page (Ok (fixing.WriteFirst ticket)) begun → SaveOutcome begun ticket result new → is_ok result ≡ is_ok written
+      → Writes-ticket now ticket written after → DoesWork reads writes old port new after
+  victim-work old mid begun new port now after client page ticket written result d h s good gave =
+      written-work old begun new port now after ticket written result
+      (one-more old mid begun port now now client (Fix page) (WriteFirst ticket.serial ticket.page ticket.image) d h.3.is refl)
+      (subst (λ (core : CoreView). Ends (WriteFirst ticket.serial ticket.page ticket.image) core.past) (sym h.3.is) refl)
+      (h.2 ∙ ap (λ (core : CoreView). top core.past ticket.page) (sym h.3.is)) s good (gave-ticket now after ticket written gave)
+
+  -- and that of a flush
+  pub flushed-work : (old begun new : CoreView) (port after : A) (client page : ℕ) (ticket : WriteTicket) (written : Result (Unit {0}) PortFault) (result : Result Ended Refusal)
+      → FlushOutcome old client page (Ok (flushing.WriteFirst ticket)) begun → SaveOutcome begun ticket result new → is_ok result ≡ is_ok written
+      → Writes-ticket port ticket written after → DoesWork reads writes old port new after
+  flushed-work old begun new port after client page ticket written result h s good gave =
+      written-work old begun new port port after ticket written result
+      (one-more old old begun port port port client (Flush page) (WriteFirst ticket.serial ticket.page ticket.image) (none-yet old port) h.4.is refl)
+      (subst (λ (core : CoreView). Ends (WriteFirst ticket.serial ticket.page ticket.image) core.past) (sym h.4.is) refl)
+      (h.3 ∙ ap (λ (core : CoreView). top core.past ticket.page) (sym h.4.is)) s good (gave-ticket port after ticket written gave)
