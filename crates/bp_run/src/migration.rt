@@ -27,11 +27,11 @@ fn ending_of(fault: MigrateFault) -> Ending
     }
 }
 
-/// What is said where the new page file would be the old one.
-fn same_file(alloc: Global) -> Ending
+/// How the program ends where the words name page files between which there is no migration.
+fn words_refused(alloc: Global, why: &str) -> Ending
     ensures { is_help result ≡ false }
 {
-    match Line::of(alloc, "error: OLD and NEW are one file") {
+    match Line::of(alloc, why) {
         Ok(line) => Ending::CommandLine(line),
         Err(_) => Ending::RunRefused(Refusal::OutOfMemory),
     }
@@ -45,8 +45,16 @@ fn is_at<R: Files>(rt: &R, metadata: &Metadata, path: &str) -> bool {
     }
 }
 
-/// Copies the pages, and hands all that was written to the system.
-fn copy_pages<I: Read + Drop, W: Write + Drop, P: Progress>(
+/// Whether something other than a regular file has this name. A link is something else too.
+fn is_no_regular_file<R: Files>(rt: &R, path: &str) -> bool {
+    match fs::symlink_metadata(rt, path) {
+        Ok(metadata) => !metadata.is_file(),
+        Err(_) => false,
+    }
+}
+
+/// Copies the pages, and has the system bring all that was written to its device.
+fn copy_pages<I: Read + Drop, W: Write + OpenFile + Drop, P: Progress>(
     alloc: Global,
     old: I,
     new: W,
@@ -66,10 +74,10 @@ fn copy_pages<I: Read + Drop, W: Write + Drop, P: Progress>(
         Ok(()) => {}
         Err(fault) => return Err(ending_of(fault)),
     }
-    match writer.flush() {
-        Ok(()) => Ok(()),
-        Err(_) => Err(Ending::OutputFailed),
+    if writer.flush().is_err() || writer.get_ref().sync_all().is_err() {
+        return Err(Ending::OutputFailed);
     }
+    Ok(())
 }
 
 /// Makes a new file at a path of its own, which then takes the name of the new page file. Where that fails no file of these is left.
@@ -114,7 +122,7 @@ fn open_old<R: Files>(
         return Err(Ending::PageFileNotOpened);
     };
     if words.old == words.new || is_at(rt, &metadata, words.new) {
-        return Err(same_file(alloc));
+        return Err(words_refused(alloc, "error: OLD and NEW are one file"));
     }
     match geometry_of_file(metadata.len(), words.page_size, Format::Plain) {
         Ok(geometry) => Ok((file, geometry)),
@@ -123,8 +131,10 @@ fn open_old<R: Files>(
 }
 
 /// Writes the page file of version 1 that the words name anew in version 2, each page with its number and LSN 0. The new file is made
-/// beside its path, under its name with `.migrating` after it, and takes that path, and the place of what stood there, once it is whole.
-/// Where somebody watches, the error output shows how far it has come.
+/// beside its path, under its name with `.migrating` after it, and takes that path, and the place of a file that stood there, once it is
+/// whole. Where somebody watches, the error output shows how far it has come.
+///
+/// It is an error where what stands at the new path is no regular file.
 ///
 /// An `Err` is how the program ends otherwise. The old file is as it was, and so is what stands at the new path.
 pub(crate) fn migrate<R: Files, E: Write>(
@@ -142,6 +152,9 @@ pub(crate) fn migrate<R: Files, E: Write>(
         Err(ending) => return Err(ending),
     };
     let new = words.new;
+    if is_no_regular_file(rt, new) {
+        return Err(words_refused(alloc, "error: NEW is no regular file"));
+    }
     let Ok(beside) = format!(in alloc; "{new}.migrating") else {
         return Err(Ending::PageFileRefused(Refusal::OutOfMemory));
     };

@@ -7,6 +7,7 @@ use std::alloc::Global;
 use std::fs::File;
 use std::io::{Read, Write};
 use std::marker::Sync;
+use std::os::unix::fs::symlink;
 use std::process::Abort;
 use std::rt::{Files, Runtime};
 use std::sync::Wait;
@@ -204,6 +205,58 @@ fn files_in_the_way(rt: HostRuntime) -> Result<(), Fail> {
     expect_run(&rt, line, b"", 0, "", "");
     assert_eq!(rt; fs::read(&rt, new)?.as_slice(), two_slots().as_slice());
     fs::remove_file(&rt, old)?;
+    fs::remove_file(&rt, new)?;
+    Ok(())
+}
+
+/// Asserts that a migration of two pages to a name that no regular file has is refused.
+fn expect_no_regular_file(
+    rt: &(impl Runtime<A = Global> + Files<File = File> + Threads + Wait + Sync + Abort),
+    new: &str,
+) -> Result<(), Fail> {
+    let said = "error: NEW is no regular file; try 'bpool --help'\n";
+    expect_fault(rt, "no_regular_file.old", two_pages().as_slice(), new, said)
+}
+
+// Neither a directory, nor a device, nor a link gives way to a page file.
+#[test]
+fn names_that_no_regular_file_has(rt: HostRuntime) -> Result<(), Fail> {
+    let (directory, target, link) = ("no_file.directory", "no_file.target", "no_file.link");
+    fs::create_dir(&rt, directory)?;
+    fs::write(&rt, target, b"is kept".as_slice())?;
+    symlink(&rt, target, link)?;
+    for new in [directory, "/dev/null", link] {
+        expect_no_regular_file(&rt, new)?;
+    }
+    assert!(rt; fs::metadata(&rt, directory)?.is_dir());
+    assert!(rt; !fs::metadata(&rt, "/dev/null")?.is_file());
+    assert!(rt; fs::symlink_metadata(&rt, link)?.is_symlink());
+    assert_eq!(rt; fs::read(&rt, target)?.as_slice(), b"is kept".as_slice());
+    fs::remove_dir(&rt, directory)?;
+    fs::remove_file(&rt, link)?;
+    fs::remove_file(&rt, target)?;
+    Ok(())
+}
+
+// A directory opens, and its length may be that of a page file, but it can't be read.
+#[test]
+fn old_that_cannot_be_read(rt: HostRuntime) -> Result<(), Fail> {
+    let (old, new) = ("cannot_be_read.old", "cannot_be_read.new");
+    fs::create_dir(&rt, old)?;
+    let length = fs::metadata(&rt, old)?.len();
+    let is_page_file = length % 16 == 0 && 0 < length && length <= 16_777_216;
+    let said = if is_page_file {
+        "page file not opened\n"
+    } else {
+        "page file refused 3\n"
+    };
+    fs::write(&rt, new, b"is kept".as_slice())?;
+    let line = "migrate cannot_be_read.old cannot_be_read.new --page-size 16";
+    expect_run(&rt, line, b"", 2, "", said);
+    assert!(rt; fs::metadata(&rt, "cannot_be_read.new.migrating").is_err());
+    assert!(rt; fs::metadata(&rt, old)?.is_dir());
+    assert_eq!(rt; fs::read(&rt, new)?.as_slice(), b"is kept".as_slice());
+    fs::remove_dir(&rt, old)?;
     fs::remove_file(&rt, new)?;
     Ok(())
 }
