@@ -36,7 +36,7 @@ bpool migrate OLD NEW --page-size N
 
 No words at all: run stdin mem:16 --frames 2 --k 1
 
-Status 0: all rows were accepted, or help was asked for. Status 1: some row was refused. \
+Status 0: all rows were accepted, NEW was made, or help was asked for. Status 1: some row was refused. \
 Status 2: one line on standard error says why there is no report, or only a part of it.";
 
 /// How a migration goes, and what its statuses mean.

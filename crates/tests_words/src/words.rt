@@ -233,7 +233,7 @@ fn help_of_the_program(rt: HostRuntime) {
         "\n  OLD               A path: a page file of version 1\n",
         "\n  NEW               A path: the page file of version 2 that is made of it\n",
         "\nNo words at all: run stdin mem:16 --frames 2 --k 1\n",
-        "\nStatus 0: all rows were accepted, or help was asked for. Status 1: some row was refused. Status 2: ",
+        "\nStatus 0: all rows were accepted, NEW was made, or help was asked for. Status 1: some row was refused. Status 2: ",
     ];
     expect_help(&rt, &["help", "--help", "-h"], parts.as_slice());
 }
