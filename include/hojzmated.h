@@ -1,5 +1,5 @@
-/* The buffer pool Hojzmated for C, C++ and whatever calls C: the silent core, with one owner. docs/C.md has the order of
- * calls, what is proved and what is not.
+/* The buffer pool Hojzmated for C, C++ and whatever calls C: the silent core, with one owner. docs/C.md has the order
+ * of calls, what is proved and what is not.
  *
  * The pool does no input or output and takes no lock. Two threads may use one core, in turn, under a lock of yours.
  *
@@ -50,8 +50,8 @@ enum hz_kind {
     HZ_ABSENT = 5,      /* flush: the page is in no frame */
 };
 
-/* A core, or none: one that is all zero bytes has none. Only the calls below may read or write it, and no copy of it may
- * be used. */
+/* A core, or none: one that is all zero bytes has none. Only the calls below may read or write it, and no copy of it
+ * may be used. */
 typedef struct hz_core {
     struct {
         void *pool;
@@ -107,7 +107,8 @@ uint16_t hz_core_free(hz_core *core);
  * its frame, 12 where the victim's log record is not durable yet: out->lsn tells it. */
 uint16_t hz_fix(hz_core *core, uint8_t client, uint64_t page, hz_fixed *out);
 
-/* Ends a read: the page is in a frame, and pass is a pass for it. Refused: 45 where len is not the page size, 22, 16. */
+/* Ends a read: the page is in a frame, and pass is a pass for it. Refused: 45 where len is not the page size, 22,
+ * 16. */
 uint16_t hz_read_end(hz_core *core, const hz_grant *ticket, const uint8_t *image, size_t len, hz_grant *pass);
 
 /* Ends a read that failed, and returns 19 where another page was found, else 17; or 16. */

@@ -17,15 +17,15 @@ cd "$folder"
 words="-std=gnu11 -Wall -Wextra -Werror -I$top/include"
 $cc $words -O2 "$top/peers/c/engine.c" $library -lpthread -o engine
 ./engine
-$cc $words -O1 -g -fsanitize=address,undefined -fno-sanitize-recover=all "$top/peers/c/engine.c" $library -lpthread \
-    -o engine_checked
+checked="-O1 -g -fsanitize=address,undefined -fno-sanitize-recover=all"
+$cc $words $checked "$top/peers/c/engine.c" $library -lpthread -o engine_checked
 ./engine_checked
 if [ "${1:-}" != bench ]; then
     exit 0
 fi
 $cc $words -O2 "$top/peers/c/bench.c" $library -o bench
 $cc $words -O2 -DBERKELEY "$top/peers/c/bench.c" -ldb -lpthread -o bench_berkeley
-$cc $words -O1 -g -fsanitize=address,undefined -fno-sanitize-recover=all "$top/peers/c/bench.c" $library -o bench_checked
+$cc $words $checked "$top/peers/c/bench.c" $library -o bench_checked
 ./bench_checked 0.1 1024 177 1024 1024 > checked
 for round in $(seq "${2:-3}"); do
     for column in "256 256 1024 256" "1024 177 1024 1024" "4096 4096 1024 4096" "16384 2890 1024 16384"; do

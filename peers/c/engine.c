@@ -1,5 +1,5 @@
-/* A little engine over the pool: four threads add to counters that stand in pages, under one mutex, and the pages lie in
- * a file. It ends with status 0 where every count is in the file at the end, and each misuse was refused.
+/* A little engine over the pool: four threads add to counters that stand in pages, under one mutex, and the pages lie
+ * in a file. It ends with status 0 where every count is in the file at the end, and each misuse was refused.
  *
  *     peers/c/check.sh        builds it with the library, as it is and under the sanitizers, and runs it
  */
