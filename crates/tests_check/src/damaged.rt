@@ -185,8 +185,8 @@ fn write_end_says_written_since(rt: HostRuntime) {
     assert_eq!(&rt; judged(&rt, &trail), Some(16));
 }
 
-// The read of page 3 ended without an image: it may tell that it found another page. What comes after stays lawful, since
-// the frame is free either way.
+// The read of page 3 ended without an image: it may tell that it found another page. What comes after stays lawful,
+// since the frame is free either way.
 #[test]
 fn wrong_page_without_an_image(rt: HostRuntime) {
     let trail = with(&rt, 18, read_end(0, 3, 3, None, Reply::WrongPage));

@@ -1,0 +1,119 @@
+//! Page files that are cut after they were opened.
+use bp_device::{FilePort, Port};
+use bp_page::{Format, PageNo, PortFault};
+use std::fs::File;
+use std::path::PathBuf;
+use std::process::Abort;
+use std::rt::{Env, Files};
+use std::sync::Wait;
+use std::{env, fs, process};
+
+/// Four slots of version 2, with pages of 16 zeros. Its first half is four pages of version 1 but for two bytes.
+fn four_slots() -> [u8; 128] {
+    let mut bytes = [0u8; 128];
+    bytes[32] = 1;
+    bytes[64] = 2;
+    bytes[96] = 3;
+    bytes
+}
+
+/// A path that no other test and no other run uses.
+fn scratch<R: Env + Abort + AllocGlobal>(rt: &R, run: u32, test: &str) -> PathBuf {
+    let name = format!(in rt.alloc(); "tests_devices-{run}-{test}").expect(rt, "a name");
+    let folder = env::temp_dir(rt).expect(rt, "a folder");
+    folder.join(rt.alloc(), name.as_str()).expect(rt, "a path")
+}
+
+/// Reads the four pages: those before this number are whole, and each other is a failure.
+fn expect_whole<R: Wait + Abort>(rt: &R, port: &mut FilePort, whole: u64) {
+    for page in 0..4u64 {
+        let before = port.failures();
+        let read = port.read(rt, PageNo::new(page));
+        if page < whole {
+            assert!(rt;
+                read.is_ok() && port.failures() == before,
+                "page {page} of {whole}"
+            );
+        } else {
+            assert!(rt;
+                matches!(read, Err(PortFault::Device)),
+                "page {page} of {whole}"
+            );
+            assert!(rt;
+                port.failures().checked_sub(before) == Some(1),
+                "page {page} of {whole}"
+            );
+        }
+    }
+}
+
+/// Opens a file of four pages, cuts it to so many bytes, and reads.
+fn cut_after_open<R: Files<File = File> + Wait + Abort + AllocGlobal>(
+    rt: &R,
+    path: &str,
+    format: Format,
+    bytes: &[u8],
+    left: usize,
+    whole: u64,
+) {
+    fs::write(rt, path, bytes).expect(rt, "the file");
+    let opened = FilePort::open(rt, rt.alloc(), path, 16, format);
+    let mut port = opened.expect(rt, "the page file");
+    assert!(rt; port.geometry().pages == 4);
+    fs::write(rt, path, &bytes[..left.min(bytes.len())]).expect(rt, "the cut");
+    expect_whole(rt, &mut port, whole);
+}
+
+#[test]
+fn plain_file_cut_after_open(rt: HostRuntime) {
+    let path = scratch(&rt, process::id(rt.process()), "plain");
+    let bytes = [0u8; 64];
+    for (left, whole) in [
+        (64, 4),
+        (63, 3),
+        (49, 3),
+        (48, 3),
+        (47, 2),
+        (16, 1),
+        (15, 0),
+        (0, 0),
+    ] {
+        cut_after_open(
+            &rt,
+            path.as_path().as_str(),
+            Format::Plain,
+            &bytes,
+            left,
+            whole,
+        );
+    }
+    fs::remove_file(&rt, path.as_path()).expect(&rt, "the file is removed");
+}
+
+// A slot of which only the page's own bytes are cut is not whole either.
+#[test]
+fn headed_file_cut_after_open(rt: HostRuntime) {
+    let path = scratch(&rt, process::id(rt.process()), "headed");
+    let bytes = four_slots();
+    for (left, whole) in [
+        (128, 4),
+        (127, 3),
+        (112, 3),
+        (96, 3),
+        (95, 2),
+        (32, 1),
+        (31, 0),
+        (16, 0),
+        (0, 0),
+    ] {
+        cut_after_open(
+            &rt,
+            path.as_path().as_str(),
+            Format::Headed,
+            &bytes,
+            left,
+            whole,
+        );
+    }
+    fs::remove_file(&rt, path.as_path()).expect(&rt, "the file is removed");
+}

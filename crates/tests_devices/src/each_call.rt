@@ -1,0 +1,216 @@
+//! One client, and the n-th call of its port fails, by a driver and by a thread.
+ghost use Rattle.std.specs.Prelude.{◌≡◌, ◌≤◌, All, IsTrue};
+ghost use Rattle.bp_trail.specs.Fits.{RowFits};
+
+use crate::making::{
+    TWO_PAGES, config, device, expect_page_one, fuse, fuses, run, script, starts_with,
+};
+use crate::telling::{content_of, expect_legal, failures_in};
+use bp_core::{Core, Entry, Refused, Row, Step};
+use bp_device::{Port, drive_all};
+use std::marker::Sync;
+use std::process::Abort;
+use std::sync::Wait;
+use std::thread::Threads;
+
+/// What is left where the n-th call fails.
+#[derive(Drop)]
+struct Left<'a> {
+    n: u64,
+    refused: &'a [Refused],
+    /// Whether row 7 reads what row 2 wrote; else it reads nothing.
+    reads_nine: bool,
+    entries: usize,
+    failures: usize,
+    /// The first byte of page 1 on the device, and where a failing write spoils it.
+    on_device: u8,
+    spoiled: u8,
+}
+
+fn refused(row: u64, number: u16) -> Refused {
+    Refused { row, number }
+}
+
+/// Whether the core's parameters allow the row.
+fn fits(core: &Core, row: &Row) -> bool
+    ensures { IsTrue result → RowFits core.now.parameters row.now }
+{
+    let geometry = core.geometry();
+    row.client < core.clients()
+        && match &row.step {
+            Step::Fix(page) | Step::Unfix(page) | Step::Read(page) | Step::Flush(page) => {
+                page.number() < geometry.pages
+            }
+            Step::Write {
+                page,
+                offset,
+                bytes,
+                ..
+            } => {
+                page.number() < geometry.pages
+                    && geometry.fits(*offset as usize, bytes.bytes().len())
+            }
+            Step::Tick(_) | Step::Purge | Step::Log(_) => true,
+        }
+}
+
+/// Whether the core's parameters allow all rows.
+fn all_fit(core: &Core, rows: &[Row]) -> bool
+    ensures { IsTrue result → All (RowFits core.now.parameters) rows.now }
+{
+    rows.iter().all(|row| fits(core, row))
+}
+
+/// Asserts what was refused, what row 7 read, and how much was done.
+fn expect_left<R: Abort>(rt: &R, left: &Left<'_>, refused: &[Refused], trail: &[Entry]) {
+    assert_eq!(rt; refused, left.refused, "call {}", left.n);
+    assert_eq!(rt;
+        (trail.len(), failures_in(trail)),
+        (left.entries, left.failures),
+        "call {}",
+        left.n
+    );
+    let content = trail.iter().find_map(|entry| content_of(entry));
+    match content {
+        Some(image) => assert!(rt; left.reads_nine && starts_with(image, 9, 0)),
+        None => assert!(rt; !left.reads_nine),
+    }
+}
+
+/// Drives the rows over the core, which allows them.
+fn drive<P: Port, R: Wait + Abort + AllocGlobal>(
+    rt: &R,
+    core: &mut Core,
+    port: &mut P,
+    rows: &[Row],
+) -> Vec<Refused> {
+    let same_size = port.geometry().size == core.geometry().size;
+    assert!(rt; same_size);
+    assert!(rt; all_fit(core, rows));
+    drive_all(rt, rt.alloc(), core, port, rows).expect(rt, "the rows are driven")
+}
+
+/// By a driver, over a core of its own.
+fn expect_driven<R: Wait + Abort + AllocGlobal>(rt: &R, left: &Left<'_>, spoil: bool) {
+    let config = config(rt);
+    let device = device(rt, config.geometry);
+    let mut port = fuse(rt, &device, left.n, spoil);
+    let core = Core::new(
+        rt.alloc(),
+        config.geometry,
+        config.settings,
+        config.frames,
+        1,
+        config.room,
+    );
+    let mut core = core.expect(rt, "the core");
+    let rows = script(rt, 0, 1, &TWO_PAGES);
+    let refused = drive(rt, &mut core, &mut port, &rows);
+    expect_left(rt, left, &refused, core.trail());
+    expect_legal(rt, &config, 1, core.trail());
+    assert!(rt; port.failures() == left.failures as u64);
+    expect_page_one(
+        rt,
+        &device,
+        if spoil { left.spoiled } else { left.on_device },
+    );
+}
+
+/// By a thread, over a pool of its own.
+fn expect_run<R: Threads + Wait + Sync + Abort + AllocGlobal>(
+    rt: &R,
+    left: &Left<'_>,
+    spoil: bool,
+) {
+    let config = config(rt);
+    let device = device(rt, config.geometry);
+    let ports = fuses(rt, &device, 1, 0, left.n, spoil);
+    let rows = script(rt, 0, 1, &TWO_PAGES);
+    let scripts = vec![in rt.alloc(); rows].expect(rt, "the scripts");
+    let done = run(rt, config, scripts, ports);
+    expect_left(rt, left, &done.refused, &done.trail);
+    expect_page_one(
+        rt,
+        &device,
+        if spoil { left.spoiled } else { left.on_device },
+    );
+}
+
+fn expect_either<R: Threads + Wait + Sync + Abort + AllocGlobal>(
+    rt: &R,
+    left: &Left<'_>,
+    spoil: bool,
+) {
+    expect_driven(rt, left, spoil);
+    expect_run(rt, left, spoil);
+}
+
+/// The first call reads page 1. With it failing, that page is never here.
+#[test]
+fn first_read_fails(rt: HostRuntime) {
+    let left = Left {
+        n: 1,
+        refused: &[
+            refused(1, 17),
+            refused(2, 14),
+            refused(3, 14),
+            refused(6, 11),
+            refused(7, 14),
+        ],
+        reads_nine: false,
+        entries: 7,
+        failures: 1,
+        on_device: 0,
+        spoiled: 0,
+    };
+    expect_either(&rt, &left, false);
+    expect_either(&rt, &left, true);
+}
+
+/// The second writes page 1 out. With it failing, the page stays in its frame, and is found there.
+#[test]
+fn write_out_fails(rt: HostRuntime) {
+    let left = Left {
+        n: 2,
+        refused: &[refused(5, 18)],
+        reads_nine: true,
+        entries: 10,
+        failures: 1,
+        on_device: 0,
+        spoiled: 255,
+    };
+    expect_either(&rt, &left, false);
+    expect_either(&rt, &left, true);
+}
+
+/// The third reads page 2. With it failing, the frame is free, and page 1 comes back from the device.
+#[test]
+fn second_read_fails(rt: HostRuntime) {
+    let left = Left {
+        n: 3,
+        refused: &[refused(5, 17)],
+        reads_nine: true,
+        entries: 13,
+        failures: 1,
+        on_device: 9,
+        spoiled: 9,
+    };
+    expect_either(&rt, &left, false);
+    expect_either(&rt, &left, true);
+}
+
+/// There is no fourth call: page 2 stays fixed in the only frame.
+#[test]
+fn no_call_fails(rt: HostRuntime) {
+    let left = Left {
+        n: 4,
+        refused: &[refused(6, 11), refused(7, 14)],
+        reads_nine: false,
+        entries: 11,
+        failures: 0,
+        on_device: 9,
+        spoiled: 9,
+    };
+    expect_either(&rt, &left, false);
+    expect_either(&rt, &left, true);
+}
