@@ -1,5 +1,5 @@
 -- What each call answers and leaves, for any client, page and grant that C may pass, by the core's own outcomes.
-use Rattle.std.specs.Prelude.{◌≡◌, ℕ, ◌+◌, ◌<◌, ◌≤◌, ◌⊎◌, Bool, true, false, if◌then◌else◌, List, length, slice_range, Result, Ok, Err, Option, Some, None}
+use Rattle.std.specs.Prelude.{◌≡◌, ℕ, ◌+◌, ◌<◌, ◌≤◌, ◌⊎◌, Bool, true, false, if◌then◌else◌, List, [], length, slice_range, Result, Ok, Err, Option, Some, None}
 use Rattle.bp_page.specs.declared.refusals.Refusal.{Refusal}
 use Rattle.bp_page.specs.declared.refusals.Refusal.TheVariants as refusal
 use Rattle.bp_page.specs.declared.refusals.PortFault.{PortFault}
@@ -15,8 +15,10 @@ use Rattle.bp_core.specs.declared.passes.Flush.{Flush as Flushing}
 use Rattle.bp_core.specs.declared.passes.Flush.TheVariants as flushing
 use Rattle.bp_core.specs.CoreView.{CoreView}
 use Rattle.bp_core.specs.ReadFaults.{read_refusal, read_failure}
-use Rattle.bp_core.specs.Outcomes.{Adds, KnowsPass, StepOutcome, TickOutcome, PurgeOutcome, FixOutcome, FlushOutcome, ReadOutcome, WriteOutcome}
+use Rattle.bp_core.specs.Outcomes.{Adds, KnowsPass, LacksPass, StepOutcome, TickOutcome, PurgeOutcome, FixOutcome, FlushOutcome, ReadOutcome, WriteOutcome}
 use Rattle.bp_trail.specs.Parameters.{Parameters}
+use Rattle.bp_trail.specs.Event.{Grant, grant, same_grant}
+use Rattle.hojzmated_c.specs.declared.kept.KeptWrite.{KeptWrite}
 use Rattle.hojzmated_c.specs.declared.forms.HzConfig.{HzConfig}
 use Rattle.hojzmated_c.specs.declared.forms.HzGrant.{HzGrant}
 use Rattle.hojzmated_c.specs.declared.forms.HzFixed.{HzFixed}
@@ -130,10 +132,17 @@ abbrev pub WritesPart : {A : Type 0} → CoreView → HzGrant → ℕ → List �
 WritesPart old held offset bytes lsn (Ok done) new = WriteOutcome old (pass_of held) offset bytes lsn (Ok done) new
 WritesPart old held offset bytes lsn (Err why) new = WriteOutcome {A = Unit {0}} old (pass_of held) offset bytes lsn (Err why) new ⊎ (new ≡ old)
 
-abbrev pub Unfixes : {A : Type 0} → CoreView → HzGrant → Result A Refusal → CoreView → Type 0
-Unfixes old held (Ok done) new =
+-- whether the table has this pass at its slot
+abbrev pub is_kept : Option Grant → HzGrant → Bool
+is_kept None held = false
+is_kept (Some kept) held = same_grant (grant held.client held.page held.serial) kept
+
+-- a pass that the table has at its slot goes back if it is out; any other is refused
+abbrev pub Unfixes : {A : Type 0} → CoreView → Option Grant → HzGrant → Result A Refusal → CoreView → Type 0
+Unfixes old kept held (Ok done) new =
     KnowsPass old (pass_of held) × Adds old held.client (Unfix held.serial held.page) Done new
-Unfixes old held (Err why) new = (why ≡ refusal.UnknownPass) × (new ≡ old)
+Unfixes old kept held (Err why) new =
+    (why ≡ refusal.UnknownPass) × (new ≡ old) × (is_kept kept held ≡ true → LacksPass old (pass_of held))
 
 -- a core is made as it was asked for
 pub record IsAsAsked (made : Parameters) (asked : HzConfig) : Type 0 where
@@ -145,3 +154,14 @@ pub record IsAsAsked (made : Parameters) (asked : HzConfig) : Type 0 where
   pub k : made.k ≡ asked.k
   pub correlated : made.correlated ≡ asked.correlated
   pub retained : made.retained ≡ asked.retained
+
+-- a core with no entries, as it was asked for
+abbrev pub IsFreshAs : CoreView → HzConfig → Type 0
+IsFreshAs core asked = (core.past ≡ []) × (core.before ≡ []) × IsAsAsked core.parameters asked
+
+-- whether the table has this ticket at its slot, and the copy of its image; a refusal leaves the bytes
+abbrev pub CopiesImage : {A : Type 0} → Option KeptWrite → HzGrant → List ℕ → List ℕ → Result A Refusal → Type 0
+CopiesImage None held before after (Ok done) = ⊥
+CopiesImage (Some kept) held before after (Ok done) =
+    IsGrant held kept.ticket.client kept.ticket.page kept.ticket.serial × (after ≡ kept.ticket.image)
+CopiesImage kept held before after (Err why) = after ≡ before

@@ -5,12 +5,9 @@
 //! handle is one that these calls made, and that each pointer leads to memory of its type.
 #![tactic(auto)]
 
-ghost use Rattle.std.specs.Prelude.{◌≡◌, [], None, IfOk};
-ghost use Rattle.bp_page.specs.Refusals.{number_of};
-ghost use Rattle.bp_page.specs.declared.refusals.Refusal.{Refusal as RefusalValue};
-ghost use Rattle.bp_trail.specs.declared.entries.Call.TheVariants.{Mark};
-ghost use Rattle.hojzmated_c.specs.Outcomes.{Steps, Ticks, Purges, Fixes, Flushes, EndsRead, FailsRead, EndsWrite, ReadsPart, WritesPart, Unfixes, IsAsAsked};
-ghost use Rattle.hojzmated_c.specs.Exports.{code_of, OnPool, Told, Made, or_else, Shows, fault_of};
+ghost use Rattle.std.specs.Prelude.{◌≡◌, None, IfOk};
+ghost use Rattle.hojzmated_c.specs.Outcomes.{IsFreshAs};
+ghost use Rattle.hojzmated_c.specs.Exports.{code_of, Made, Ticked, Marked, Purged, Asked, Flushed, ReadEnded, ReadFailed, ImageCopied, WriteEnded, PartRead, PartWritten, Unfixed, Counted};
 
 mod forms;
 mod handle;
@@ -43,7 +40,7 @@ fn code<T>(answer: &Result<T, Refusal>) -> u16
 
 /// A fresh pool in a block of its own.
 fn boxed(alloc: Global, config: &HzConfig) -> Result<Box<Pool, Global>, Refusal>
-    ensures { IfOk result (λ pool. (pool.value.core.past ≡ []) × (pool.value.core.before ≡ []) × IsAsAsked pool.value.core.parameters config.now) }
+    ensures { IfOk result (λ pool. IsFreshAs pool.value.core config.now) }
 {
     let pool = Pool::new(alloc, config)?;
     match Box::new(alloc, pool) {
@@ -83,7 +80,7 @@ pub extern "C" fn hz_core_free(alloc: Global, core: &mut HzCore) -> u16
 /// Moves the clock on.
 #[unsafe(no_mangle)]
 pub extern "C" fn hz_tick(alloc: Global, core: &mut HzCore, client: u8, n: u64) -> u16
-    ensures { OnPool core.old.seal.pool core.new.seal.pool result (λ old new. Told result (λ r. Ticks {A = Unit {0}} old.core client n r new.core)) }
+    ensures { Ticked core.old.seal.pool core.new.seal.pool client n result }
 {
     let Some(mut pool) = core.take(alloc) else {
         return NO_CORE;
@@ -96,7 +93,7 @@ pub extern "C" fn hz_tick(alloc: Global, core: &mut HzCore, client: u8, n: u64) 
 /// Notes that the log is durable as far as an LSN.
 #[unsafe(no_mangle)]
 pub extern "C" fn hz_mark(alloc: Global, core: &mut HzCore, client: u8, lsn: u64) -> u16
-    ensures { OnPool core.old.seal.pool core.new.seal.pool result (λ old new. Told result (λ r. Steps {A = Unit {0}} old.core client (Mark lsn) r new.core)) }
+    ensures { Marked core.old.seal.pool core.new.seal.pool client lsn result }
 {
     let Some(mut pool) = core.take(alloc) else {
         return NO_CORE;
@@ -109,7 +106,7 @@ pub extern "C" fn hz_mark(alloc: Global, core: &mut HzCore, client: u8, lsn: u64
 /// Forgets old histories, and counts them.
 #[unsafe(no_mangle)]
 pub extern "C" fn hz_purge(alloc: Global, core: &mut HzCore, client: u8, count: &mut u64) -> u16
-    ensures { OnPool core.old.seal.pool core.new.seal.pool result (λ old new. Told result (λ r. Purges old.core client r new.core × (count.new ≡ or_else r count.old))) }
+    ensures { Purged core.old.seal.pool core.new.seal.pool client count.old count.new result }
 {
     let Some(mut pool) = core.take(alloc) else {
         return NO_CORE;
@@ -131,7 +128,7 @@ pub extern "C" fn hz_fix(
     page: u64,
     out: &mut HzFixed,
 ) -> u16
-    ensures { OnPool core.old.seal.pool core.new.seal.pool result (λ old new. Told result (λ r. Fixes old.core client page r new.core × Shows r out.new)) }
+    ensures { Asked core.old.seal.pool core.new.seal.pool client page out.new result }
 {
     let Some(mut pool) = core.take(alloc) else {
         return NO_CORE;
@@ -151,7 +148,7 @@ pub extern "C" fn hz_flush(
     page: u64,
     out: &mut HzFixed,
 ) -> u16
-    ensures { OnPool core.old.seal.pool core.new.seal.pool result (λ old new. Told result (λ r. Flushes old.core client page r new.core × Shows r out.new)) }
+    ensures { Flushed core.old.seal.pool core.new.seal.pool client page out.new result }
 {
     let Some(mut pool) = core.take(alloc) else {
         return NO_CORE;
@@ -171,7 +168,7 @@ pub extern "C" fn hz_read_end(
     image: &[u8],
     pass: &mut HzGrant,
 ) -> u16
-    ensures { OnPool core.old.seal.pool core.new.seal.pool result (λ old new. Told result (λ r. EndsRead old.core ticket.now image.now r new.core × (pass.new ≡ or_else r pass.old))) }
+    ensures { ReadEnded core.old.seal.pool core.new.seal.pool ticket.now image.now pass.old pass.new result }
 {
     let Some(mut pool) = core.take(alloc) else {
         return NO_CORE;
@@ -192,7 +189,7 @@ pub extern "C" fn hz_read_failed(
     ticket: &HzGrant,
     is_wrong_page: bool,
 ) -> u16
-    ensures { OnPool core.old.seal.pool core.new.seal.pool result (λ old new. (why : RefusalValue) × (result ≡ number_of why) × FailsRead old.core ticket.now (fault_of is_wrong_page) why new.core) }
+    ensures { ReadFailed core.old.seal.pool core.new.seal.pool ticket.now is_wrong_page result }
 {
     let Some(mut pool) = core.take(alloc) else {
         return NO_CORE;
@@ -215,7 +212,7 @@ pub extern "C" fn hz_write_image(
     ticket: &HzGrant,
     into: &mut [u8],
 ) -> u16
-    ensures { OnPool core.old.seal.pool core.new.seal.pool result (λ old new. new ≡ old) }
+    ensures { ImageCopied core.old.seal.pool core.new.seal.pool ticket.now into.old into.new result }
 {
     let Some(pool) = core.take(alloc) else {
         return NO_CORE;
@@ -232,17 +229,17 @@ pub extern "C" fn hz_write_end(
     core: &mut HzCore,
     ticket: &HzGrant,
     is_good: bool,
-    is_still_dirty: &mut bool,
+    is_dirty: &mut bool,
 ) -> u16
-    ensures { OnPool core.old.seal.pool core.new.seal.pool result (λ old new. Told result (λ r. EndsWrite old.core ticket.now is_good r new.core × (is_still_dirty.new ≡ or_else r is_still_dirty.old))) }
+    ensures { WriteEnded core.old.seal.pool core.new.seal.pool ticket.now is_good is_dirty.old is_dirty.new result }
 {
     let Some(mut pool) = core.take(alloc) else {
         return NO_CORE;
     };
     let ended = pool.write_end(ticket, is_good);
     *core = HzCore::of(pool);
-    if let Ok(is_dirty) = ended {
-        *is_still_dirty = is_dirty;
+    if let Ok(dirty) = ended {
+        *is_dirty = dirty;
     }
     code(&ended)
 }
@@ -256,7 +253,7 @@ pub extern "C" fn hz_read(
     offset: usize,
     into: &mut [u8],
 ) -> u16
-    ensures { OnPool core.old.seal.pool core.new.seal.pool result (λ old new. Told result (λ r. ReadsPart old.core pass.now offset into.old into.new r new.core)) }
+    ensures { PartRead core.old.seal.pool core.new.seal.pool pass.now offset into.old into.new result }
 {
     let Some(mut pool) = core.take(alloc) else {
         return NO_CORE;
@@ -276,7 +273,7 @@ pub extern "C" fn hz_write(
     bytes: &[u8],
     lsn: u64,
 ) -> u16
-    ensures { OnPool core.old.seal.pool core.new.seal.pool result (λ old new. Told result (λ r. WritesPart {A = Unit {0}} old.core pass.now offset bytes.now lsn r new.core)) }
+    ensures { PartWritten core.old.seal.pool core.new.seal.pool pass.now offset bytes.now lsn result }
 {
     let Some(mut pool) = core.take(alloc) else {
         return NO_CORE;
@@ -289,7 +286,7 @@ pub extern "C" fn hz_write(
 /// Gives a pass back.
 #[unsafe(no_mangle)]
 pub extern "C" fn hz_unfix(alloc: Global, core: &mut HzCore, pass: &HzGrant) -> u16
-    ensures { OnPool core.old.seal.pool core.new.seal.pool result (λ old new. Told result (λ r. Unfixes {A = Unit {0}} old.core pass.now r new.core)) }
+    ensures { Unfixed core.old.seal.pool core.new.seal.pool pass.now result }
 {
     let Some(mut pool) = core.take(alloc) else {
         return NO_CORE;
@@ -302,7 +299,7 @@ pub extern "C" fn hz_unfix(alloc: Global, core: &mut HzCore, pass: &HzGrant) -> 
 /// What was counted.
 #[unsafe(no_mangle)]
 pub extern "C" fn hz_totals_of(alloc: Global, core: &mut HzCore, out: &mut HzTotals) -> u16
-    ensures { OnPool core.old.seal.pool core.new.seal.pool result (λ old new. (new ≡ old) × (out.new ≡ old.totals) × (result ≡ 0)) }
+    ensures { Counted core.old.seal.pool core.new.seal.pool out.new result }
 {
     let Some(pool) = core.take(alloc) else {
         return NO_CORE;

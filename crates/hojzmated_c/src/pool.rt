@@ -1,7 +1,7 @@
 //! A core, and what C's plain structs stand for in it. Every call tests what the core requires.
-ghost use Rattle.std.specs.Prelude.{◌≡◌, [], IfOk};
+ghost use Rattle.std.specs.Prelude.{◌≡◌, IfOk};
 ghost use Rattle.bp_trail.specs.declared.entries.Call.TheVariants.{Mark};
-ghost use Rattle.hojzmated_c.specs.Outcomes.{Steps, Ticks, Purges, IsAsAsked};
+ghost use Rattle.hojzmated_c.specs.Outcomes.{Steps, Ticks, Purges, IsFreshAs};
 
 mod device;
 mod fixing;
@@ -29,7 +29,7 @@ pub struct Pool {
 impl Pool {
     /// A core as the settings say. `BadGeometry` or `BadSettings` where they are out of their limits, `OutOfMemory`.
     pub(crate) fn new(alloc: Global, config: &HzConfig) -> Result<Pool, Refusal>
-        ensures fresh { IfOk result (λ pool. (pool.core.past ≡ []) × (pool.core.before ≡ []) × IsAsAsked pool.core.parameters config.now) }
+        ensures fresh { IfOk result (λ pool. IsFreshAs pool.core config.now) }
     {
         let geometry = Geometry::new(config.pages, config.page_size)?;
         let settings = Settings::new(config.k as usize, config.correlated, config.retained)?;

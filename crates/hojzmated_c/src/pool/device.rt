@@ -1,6 +1,7 @@
 //! The ends of reads and write-outs, by what C holds of their tickets.
 ghost use Rattle.std.specs.Prelude.{◌≡◌, true, false, IfSome, IfNone, IsTrue};
-ghost use Rattle.hojzmated_c.specs.Outcomes.{EndsRead, FailsRead, EndsWrite, EndsWriteOf, IsGrant, ticket_of};
+ghost use Rattle.slab.specs.Slab.{get};
+ghost use Rattle.hojzmated_c.specs.Outcomes.{CopiesImage, EndsRead, FailsRead, EndsWrite, EndsWriteOf, IsGrant, ticket_of};
 
 use crate::forms::HzGrant;
 use crate::kept::{KeptRead, KeptWrite};
@@ -117,7 +118,9 @@ impl Pool {
     }
 
     /// Copies the image that is to be written. `UnknownTicket`, then `OutOfPage` where `into` has another length than a page.
-    pub(crate) fn write_image(&self, held: &HzGrant, into: &mut [u8]) -> Result<(), Refusal> {
+    pub(crate) fn write_image(&self, held: &HzGrant, into: &mut [u8]) -> Result<(), Refusal>
+        ensures { CopiesImage (get self.now.writes held.now.slot) held.now into.old into.new result }
+    {
         let Some(kept) = self.writes.get(held.slot) else {
             return Err(Refusal::UnknownTicket);
         };

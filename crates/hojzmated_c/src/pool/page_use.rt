@@ -1,7 +1,8 @@
 //! Reading, writing and giving back a page by what C holds of its pass.
-ghost use Rattle.std.specs.Prelude.{◌≡◌, IfSome, IsTrue, Ok, length};
-ghost use Rattle.bp_trail.specs.Event.{grant};
-ghost use Rattle.hojzmated_c.specs.Outcomes.{ReadsPart, WritesPart, Unfixes};
+ghost use Rattle.std.specs.Prelude.{◌≡◌, is_some, IfSome, IsTrue};
+ghost use Rattle.slab.specs.Slab.{get};
+ghost use Rattle.bp_trail.specs.Event.{grant, same_grant};
+ghost use Rattle.hojzmated_c.specs.Outcomes.{ReadsPart, WritesPart, Unfixes, is_kept};
 
 use crate::forms::HzGrant;
 use crate::pool::Pool;
@@ -10,22 +11,22 @@ use bp_page::{Bytes, Image, Lsn, Refusal};
 
 /// Whether the note is of this pass.
 fn is_of(note: &PassNote, held: &HzGrant) -> bool
-    ensures { IsTrue result → note.now ≡ grant held.now.client held.now.page held.now.serial }
+    ensures told { result ≡ same_grant (grant held.now.client held.now.page held.now.serial) note.now }
+    ensures same { IsTrue result → note.now ≡ grant held.now.client held.now.page held.now.serial }
 {
-    note.client() == held.client
-        && note.page().number() == held.page
-        && note.serial() == held.serial
+    held.client == note.client()
+        && held.page == note.page().number()
+        && held.serial == note.serial()
 }
 
 impl Pool {
     /// The note of a pass that C holds.
     fn pass_at(&self, held: &HzGrant) -> Option<PassNote>
         ensures same { IfSome result (λ note. note ≡ grant held.now.client held.now.page held.now.serial) }
+        ensures told { is_some result ≡ is_kept (get self.now.passes held.now.slot) held.now }
     {
-        match self.passes.get(held.slot) {
-            Some(note) if is_of(note, held) => Some(*note),
-            _ => None,
-        }
+        let note = self.passes.get(held.slot)?;
+        if is_of(note, held) { Some(*note) } else { None }
     }
 
     /// Copies a part of the page of a pass. `OutOfPage` where it is not within the page, then `UnknownPass`, and what the core
@@ -88,7 +89,7 @@ impl Pool {
 
     /// Gives a pass back. `UnknownPass` where it is not out here, which changes nothing.
     pub(crate) fn unfix(&mut self, held: &HzGrant) -> Result<(), Refusal>
-        ensures outcome { Unfixes self.old.core held.now result self.new.core }
+        ensures outcome { Unfixes self.old.core (get self.old.passes held.now.slot) held.now result self.new.core }
     {
         let Some(note) = self.pass_at(held) else {
             return Err(Refusal::UnknownPass);

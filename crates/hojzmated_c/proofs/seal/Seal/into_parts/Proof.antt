@@ -1,6 +1,6 @@
 -- `into_parts` moves two fields, and what they own goes with them. A seal of no pool is ruled out by what is required.
 use mathlib.Core.Path.{◌≡◌, refl, sym, subst}
-use mathlib.Core.Bool.{Bool, true, false, false≢true}
+use mathlib.Core.Bool.{true, false, false≢true}
 use Rattle.std.specs.Prelude.{Option, Some, None}
 use mathlib.Core.List.{List, [], ◌∷◌, ◌++◌}
 use seplogic.Ra.Ura.{Ura}

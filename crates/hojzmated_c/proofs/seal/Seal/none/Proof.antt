@@ -21,7 +21,6 @@ use types.ByLocal.{alloc_all, pass_all, free_all, look_at, get, sets}
 use denote.Exit.{yes}
 use denote.RattleType.{Valss}
 use denote.RawPtr.{RawPtr, ptr_val, null_ptr}
-use denote.Signature.{plain}
 use denote.Struct.Struct.{within}
 use denote.Struct.Owning.{shape, to}
 use denote.Signature.{type_at}
