@@ -1,0 +1,83 @@
+//! Workers that share pages.
+use crate::making::{PAGES, config, ports};
+use crate::writer::{DURABLE, Writer};
+use bp_audit::agrees;
+use bp_core::{Call, Entry};
+use bp_device::MemPort;
+use bp_page::{Lsn, Refusal};
+use bp_workers::{Run, run_workers};
+use std::process::Abort;
+use std::rt::HostRuntime;
+use std::sync::Wait;
+use std::thread::Threads;
+
+/// So many workers, of which each keeps a pass where `keeps` says so.
+fn run<R: Abort + AllocGlobal + Threads + Wait + Sync>(
+    rt: &R,
+    frames: usize,
+    count: usize,
+    keeps: bool,
+) -> Run<MemPort, Writer> {
+    let mut workers = Vec::new(rt.alloc());
+    for _ in 0..count {
+        let worker = Writer::new(rt.alloc(), 3, keeps);
+        workers.push(worker).expect(rt, "a place");
+    }
+    let ports = ports(rt, PAGES, count);
+    run_workers(rt, rt.alloc(), config(rt, frames), ports, workers).expect(rt, "the run")
+}
+
+fn count_marks(trail: &[Entry]) -> usize {
+    let mut marks = 0usize;
+    for entry in trail {
+        if let Call::Mark(lsn) = &entry.call
+            && *lsn == Lsn::new(DURABLE)
+        {
+            marks = marks.saturating_add(1);
+        }
+    }
+    marks
+}
+
+/// Each list is what the trail has of its client, and the mark that the log writer raised was seen once.
+#[test]
+fn two_workers_share_pages(rt: HostRuntime) {
+    let rt = &rt;
+    let run = run(rt, 4, 2, false);
+    assert_eq!(rt; run.left.len(), 2);
+    for client in 0..run.left.len() {
+        let left = &run.left[client];
+        assert!(rt; agrees(run.core.trail(), &left.said, client as u8));
+        assert_eq!(rt; left.worker.done, 12);
+        assert_eq!(rt; left.worker.refused, 0);
+        assert_eq!(rt; left.held, 0);
+    }
+    assert_eq!(rt; count_marks(run.core.trail()), 1);
+}
+
+/// A pass that a worker still holds when it returns goes back, and is told.
+#[test]
+fn passes_still_held_go_back(rt: HostRuntime) {
+    let rt = &rt;
+    let run = run(rt, 4, 2, true);
+    for left in &run.left {
+        assert_eq!(rt; left.held, 1);
+        assert!(rt; left.is_settled);
+        assert!(rt;
+            matches!(left.said.last(), Some(entry) if matches!(entry.call, Call::Unfix { .. }))
+        );
+    }
+}
+
+/// As many workers as there may be.
+#[test]
+fn sixty_four_workers(rt: HostRuntime) {
+    let rt = &rt;
+    let run = run(rt, 64, 64, false);
+    assert_eq!(rt; run.left.len(), 64);
+    for client in 0..run.left.len() {
+        let left = &run.left[client];
+        assert!(rt; agrees(run.core.trail(), &left.said, client as u8));
+        assert_eq!(rt; left.worker.done, 12);
+    }
+}
