@@ -3,8 +3,9 @@
  *
  * The pool does no input or output and takes no lock. Two threads may use one core, in turn, under a lock of yours.
  *
- * Each call that returns a uint16_t returns 0, or the number of a refusal; hz_text has its text. A refusal leaves what
- * the call would have written as it was, but for hz_fixed, whose kind is then 0. Any client, page, offset, length, pass
+ * Each call that returns a uint16_t returns 0, or the number of a refusal; hz_text has its text. A handle with no core
+ * is refused with 50 by each call but hz_core_new, and then nothing is written. Any other refusal leaves what the call
+ * would have written as it was, but for hz_fixed, whose kind is then 0. Any client, page, offset, length, pass
  * or ticket may be passed: what is not of this core is refused. Each handle has to be zero, or as these calls left it,
  * each pointer not null and of its type, with so many elements where a length follows it, and no two of a call may
  * overlap.
@@ -41,7 +42,7 @@ enum hz_refusal {
     HZ_HAS_CORE = 51,
 };
 
-/* What hz_fixed.kind may be; 0 where the call was refused. */
+/* What hz_fixed.kind may be; 0 where the core refused the call. */
 enum hz_kind {
     HZ_HIT = 1,         /* the page is here: the grant is a pass */
     HZ_LOAD = 2,        /* read the page: the grant is a ticket for hz_read_end or hz_read_failed */

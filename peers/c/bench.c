@@ -76,7 +76,7 @@ static uint8_t *image;
 static void use(uint64_t page)
 {
     static unsigned turn;
-    hz_fixed asked;
+    hz_fixed asked = {0};
     hz_grant pass;
     if (turn++ % 16 == 0 && hz_tick(&core, 0, 1))
         fail("tick");

@@ -33,7 +33,7 @@ static void need(int holds, const char *what, unsigned number)
 static void write_out(const hz_fixed *asked)
 {
     uint8_t image[SIZE];
-    bool dirty;
+    bool dirty = false;
     need(asked->lsn <= log_end, "a page ahead of the log", 0);
     need(hz_write_image(&core, &asked->grant, image, SIZE) == 0, "write_image", 0);
     bool good = pwrite(file, image, SIZE, asked->grant.page * SIZE) == SIZE;
@@ -45,7 +45,7 @@ static void write_out(const hz_fixed *asked)
 static hz_grant fix(uint8_t client, uint64_t page)
 {
     for (;;) {
-        hz_fixed asked;
+        hz_fixed asked = {0};
         unsigned number = hz_fix(&core, client, page, &asked);
         if (number == HZ_NEED_LOG) {
             need(hz_mark(&core, client, log_end) == 0, "mark", 0);
@@ -101,10 +101,10 @@ static void *work(void *number)
 static void misuse(void)
 {
     hz_core none = {0};
-    hz_fixed out;
+    hz_fixed out = {0};
     hz_grant stranger = {.page = 1, .serial = 99, .slot = (size_t)-1, .client = 200}, pass;
     uint8_t image[SIZE] = {0};
-    bool dirty;
+    bool dirty = false;
     need(hz_fix(&none, 0, 0, &out) == HZ_NO_CORE && hz_core_free(&none) == HZ_NO_CORE, "no core", 0);
     need(hz_fix(&core, THREADS, 0, &out) == HZ_BAD_CLIENT && out.kind == 0, "a client that is not here", 0);
     need(hz_fix(&core, 0, PAGES, &out) == HZ_OUT_OF_PAGE, "a page that is not here", 0);
@@ -139,7 +139,7 @@ int main(int argc, char **argv)
         pthread_join(threads[i], NULL);
     need(hz_mark(&core, 0, log_end) == 0, "mark", 0);
     for (uint64_t page = 0; page < PAGES; page++) {
-        hz_fixed asked;
+        hz_fixed asked = {0};
         number = hz_flush(&core, 0, page, &asked);
         need(number == 0, "flush", number);
         if (asked.kind == HZ_WRITE_FIRST)
