@@ -25,6 +25,10 @@ impl Port for DeadPort {
 
     ghost is_headed = { λ _. false };
 
+    ghost read_gives = { λ _ _ _ _. Unit {0} };
+
+    ghost write_gives = { λ _ _ _ _ _ _. Unit {0} };
+
     fn geometry(&self) -> Geometry {
         self.geometry
     }
