@@ -7,7 +7,8 @@ use bp_trail::Entry;
 
 /// Whether this entry stands at the place.
 fn is_next(said: &[Entry], at: usize, e: &Entry) -> bool
-    ensures { IsTrue result ↔ ((at < length said.now) × (slice_index_or said.now at e.now ≡ e.now)) }
+    ensures { IsTrue result ↔ ((at < length said.now) ×
+        (slice_index_or said.now at e.now ≡ e.now)) }
 {
     at < said.len() && same_entry(&said[at], e)
 }

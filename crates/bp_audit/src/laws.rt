@@ -12,18 +12,25 @@ ghost use Rattle.bp_audit.specs.Cut.{InPieceOf, BoundedByItsRow};
 
 /// The entries of one client, in a list that is turned round, are those in the list, turned round.
 pub fn one_client_in_either_order()
-    ensures { (client : ℕ) (entries : List AnEntry) → of_client client (reverse entries) ≡ reverse (of_client client entries) }
+    ensures { (client : ℕ) (entries : List AnEntry) → of_client client (reverse entries) ≡ reverse
+        (of_client client entries) }
 {}
 
 /// The row that `row_at` counts to is the row in whose piece the entry stands, by the very cut that says that the entries
 /// follow the rows.
 pub fn entry_is_in_the_piece_of_its_row()
-    ensures { (m : Manner) (rows : List ARow) (ends : List ℕ) (past newer older : Trail) (e : AnEntry) (refusals : List ARefused) (cut : FollowsBy m rows ends past refusals) → past ≡ newer ++ e ∷ older → InPieceOf m (row_at (reverse ends) (length older)) e older rows ends past refusals cut }
+    ensures { (m : Manner) (rows : List ARow) (ends : List ℕ) (past newer older : Trail)
+        (e : AnEntry) (refusals : List ARefused) (cut : FollowsBy m rows ends past refusals) →
+        past ≡ newer ++ e ∷ older → InPieceOf m (row_at (reverse ends)
+        (length older)) e older rows ends past refusals cut }
 {}
 
 /// What `is_within_log` tests is the bound. Where it holds by the cut by which the entries of client 0 follow its script,
 /// each entry of client 0 that is no unfix stands in the piece of a row, and the greatest LSN marked up to and with that
 /// entry is at most the greatest of the log rows before that row.
 pub fn marks_are_bounded_row_by_row()
-    ensures { (m : Manner) (script : List ARow) (trail newer past said : Trail) (e : AnEntry) (refusals : List ARefused) (cut : Follows m script said refusals) → said ≡ of_client 0 trail → IsWithinLog script cut.ends trail → trail ≡ newer ++ e ∷ past → e.client ≡ 0 → is_unfix e.call ≡ false → BoundedByItsRow m script said refusals cut past e }
+    ensures { (m : Manner) (script : List ARow) (trail newer past said : Trail) (e : AnEntry)
+        (refusals : List ARefused) (cut : Follows m script said refusals) →
+        said ≡ of_client 0 trail → IsWithinLog script cut.ends trail → trail ≡ newer ++ e ∷ past →
+        e.client ≡ 0 → is_unfix e.call ≡ false → BoundedByItsRow m script said refusals cut past e }
 {}

@@ -90,7 +90,8 @@ fn row_for(script: &[Row], ends: &[usize], from: usize, reached: Lsn, place: usi
 
 /// Whether this entry keeps the bound.
 fn is_bounded(e: &Entry, mark: Lsn, reached: Lsn) -> bool
-    ensures { IsTrue result ↔ (e.now.client ≡ 0 → bound.is_unfix e.now.call ≡ false → mark ≤ reached) }
+    ensures { IsTrue result ↔ (e.now.client ≡ 0 → bound.is_unfix e.now.call ≡ false →
+        mark ≤ reached) }
 {
     e.client != 0 || is_unfix(&e.call) || mark.number() <= reached.number()
 }

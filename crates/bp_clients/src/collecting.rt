@@ -46,9 +46,11 @@ fn take_in<N: PoolName, P: Port>(
     refused: &mut Vec<Refused>,
 ) -> Result<(), Refusal>
     ensures told { OnOk result (IsTold trail.now job) }
-    ensures said { OnOk result (lists said.new.items ≡ lists said.old.items ++ reverse job.said ∷ []) }
+    ensures said { OnOk result (lists said.new.items ≡ lists said.old.items ++ reverse job.said ∷
+        []) }
     ensures refused { OnOk result (refused.new.items ≡ refused.old.items ++ job.refused) }
-    ensures fault { OnErr result ((result ≡ Err Refusal.OutOfMemory) ⊎ (result ≡ Err Refusal.Disagree)) }
+    ensures fault { OnErr result ((result ≡ Err Refusal.OutOfMemory) ⊎
+        (result ≡ Err Refusal.Disagree)) }
 {
     let Some(left) = told(trail, job) else {
         return Err(Refusal::Disagree);
@@ -72,8 +74,10 @@ pub(crate) fn collect<N: PoolName, P: Port>(
     refused: &mut Vec<Refused>,
 ) -> Result<(), Refusal>
     requires empty { (said.old.items ≡ []) × (refused.old.items ≡ []) }
-    ensures collected { OnOk result (Collected trail.now jobs.items (lists said.new.items) refused.new.items) }
-    ensures fault { OnErr result ((result ≡ Err Refusal.OutOfMemory) ⊎ (result ≡ Err Refusal.Disagree)) }
+    ensures collected { OnOk result (Collected trail.now jobs.items
+        (lists said.new.items) refused.new.items) }
+    ensures fault { OnErr result ((result ≡ Err Refusal.OutOfMemory) ⊎
+        (result ≡ Err Refusal.Disagree)) }
 {
     for job in jobs {
         match take_in(trail, job, said, refused) {

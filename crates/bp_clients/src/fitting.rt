@@ -19,7 +19,8 @@ fn has_page(geometry: &Geometry, page: PageNo) -> bool
 
 /// Whether the step's page is one of the file's, and its bytes lie within the page.
 fn step_fits(step: &Step, geometry: &Geometry) -> bool
-    ensures { (p : Parameters) → p.pages ≡ geometry.now.pages → p.size ≡ geometry.now.size → (IsTrue result ↔ StepFits p step.now) }
+    ensures { (p : Parameters) → p.pages ≡ geometry.now.pages → p.size ≡ geometry.now.size →
+        (IsTrue result ↔ StepFits p step.now) }
 {
     match step {
         Step::Fix(page) | Step::Unfix(page) | Step::Read(page) | Step::Flush(page) => {
@@ -44,7 +45,8 @@ fn is_no_log(step: &Step) -> bool
 
 /// Whether the row is one that this client may run.
 fn row_fits(row: &Row, client: u8, geometry: &Geometry) -> bool
-    ensures { (p : Parameters) → p.pages ≡ geometry.now.pages → p.size ≡ geometry.now.size → client < p.clients → (IsTrue result ↔ RowFitsClient p client row.now) }
+    ensures { (p : Parameters) → p.pages ≡ geometry.now.pages → p.size ≡ geometry.now.size →
+        client < p.clients → (IsTrue result ↔ RowFitsClient p client row.now) }
 {
     if row.client != client {
         return false;
@@ -57,7 +59,8 @@ fn row_fits(row: &Row, client: u8, geometry: &Geometry) -> bool
 
 /// Whether all rows of a script are ones that this client may run.
 fn script_fits(script: &[Row], client: u8, geometry: &Geometry) -> bool
-    ensures { (p : Parameters) → p.pages ≡ geometry.now.pages → p.size ≡ geometry.now.size → client < p.clients → (IsTrue result ↔ ScriptFits p client script.now) }
+    ensures { (p : Parameters) → p.pages ≡ geometry.now.pages → p.size ≡ geometry.now.size →
+        client < p.clients → (IsTrue result ↔ ScriptFits p client script.now) }
 {
     for row in script {
         if !row_fits(row, client, geometry) {
@@ -70,7 +73,8 @@ fn script_fits(script: &[Row], client: u8, geometry: &Geometry) -> bool
 /// Whether `run_clients` takes these scripts: whether they are 1 to 64, the rows of each of its own client, of pages of the file
 /// and of bytes within a page, with log rows in the first alone. It takes no memory.
 pub fn scripts_fit(config: &Config, scripts: &[Vec<Row>]) -> bool
-    ensures { IsTrue result ↔ ((0 < length scripts.now) × (length scripts.now ≤ 64) × EachScriptFits (run_parameters config.now (length scripts.now)) (lists scripts.now)) }
+    ensures { IsTrue result ↔ ((0 < length scripts.now) × (length scripts.now ≤ 64) ×
+        EachScriptFits (run_parameters config.now (length scripts.now)) (lists scripts.now)) }
 {
     if scripts.is_empty() || scripts.len() > 64 {
         return false;

@@ -72,7 +72,8 @@ fn run_rows<N: PoolName, P: Port, R: Wait>(
     requires ends_room { length script.now ≤ vec_capacity ends.old }
     requires refused_room { length script.now ≤ vec_capacity refused.old }
     ensures client { runner.new.client ≡ runner.old.client }
-    ensures follows { IsTrue result → FollowsBy session (reverse script.now) (reverse ends.new.items) runner.new.said (reverse refused.new.items) }
+    ensures follows { IsTrue result → FollowsBy session (reverse script.now)
+        (reverse ends.new.items) runner.new.said (reverse refused.new.items) }
     ensures known { NoneIsStrange refused.new.items }
     ensures ends_capacity { vec_capacity ends.new ≡ vec_capacity ends.old }
     ensures refused_capacity { vec_capacity refused.new ≡ vec_capacity refused.old }
@@ -122,7 +123,8 @@ impl<N: PoolName, P: Port> Job<N, P> {
 
     /// Whether nothing was run yet.
     fn is_new(&self) -> bool
-        ensures { IsTrue result → (self.now.said ≡ []) × (self.now.ends ≡ []) × (self.now.refused ≡ []) }
+        ensures { IsTrue result → (self.now.said ≡ []) × (self.now.ends ≡ []) ×
+            (self.now.refused ≡ []) }
     {
         self.runner.count() == 0 && self.ends.is_empty() && self.refused.is_empty()
     }
@@ -155,7 +157,8 @@ impl<N: PoolName, P: Port> Job<N, P> {
         ensures said { IfSome result (λ left. reverse left.said.items ≡ self.said) }
         ensures ends { IfSome result (λ left. reverse left.ends.items ≡ self.ends) }
         ensures refused { IfSome result (λ left. left.refused.items ≡ self.refused) }
-        ensures follows { IfSome result (λ left. FollowsCut self.client self.script self.ends self.said self.refused) }
+        ensures follows { IfSome result (λ left. FollowsCut self.client self.script self.ends
+            self.said self.refused) }
     {
         let Job {
             runner,

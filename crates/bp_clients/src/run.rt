@@ -93,7 +93,8 @@ fn run_jobs<N: PoolName + Send + Sync, P: Port + Send, R: Threads + Wait + Sync>
     jobs: &mut [Job<N, P>],
 )
     requires some { 0 < length jobs.old }
-    ensures same { (k : ℕ) (d : _) → k < length jobs.old → SameJob (slice_index_or jobs.old k d) (slice_index_or jobs.new k d) }
+    ensures same { (k : ℕ) (d : _) → k < length jobs.old →
+        SameJob (slice_index_or jobs.old k d) (slice_index_or jobs.new k d) }
 {
     let count = jobs.len();
     thread::for_each_mut(rt, jobs, count, &|_, job| job.run(rt, pool));
@@ -109,8 +110,10 @@ fn joined<N: PoolName, P: Port>(
     requires uncut { core.before ≡ [] }
     requires empty { (said.items ≡ []) × (refused.items ≡ []) }
     ensures legal { IfOk result (λ run. Legal core.parameters (reverse run.trail.items)) }
-    ensures joined { IfOk result (λ run. Joined run.trail.items jobs.items (lists run.said.items) run.refused.items) }
-    ensures refused { OnErr result ((result ≡ Err Refusal.OutOfMemory) ⊎ (result ≡ Err Refusal.Disagree)) }
+    ensures joined { IfOk result (λ run. Joined run.trail.items jobs.items
+        (lists run.said.items) run.refused.items) }
+    ensures refused { OnErr result ((result ≡ Err Refusal.OutOfMemory) ⊎
+        (result ≡ Err Refusal.Disagree)) }
 {
     let mut said = said;
     let mut refused = refused;
@@ -157,7 +160,8 @@ fn run_pool<N: PoolName + Send + Sync, P: Port + Send, R: Threads + Wait + Sync>
     requires some { 0 < vec_len jobs }
     requires uncut { taker.past ≡ [] }
     ensures run { RunsJobs N.parameters jobs.items result }
-    ensures refused { OnErr result ((result ≡ Err Refusal.OutOfMemory) ⊎ (result ≡ Err Refusal.Disagree)) }
+    ensures refused { OnErr result ((result ≡ Err Refusal.OutOfMemory) ⊎
+        (result ≡ Err Refusal.Disagree)) }
 {
     let (said, refused) = match empty_lists(alloc, jobs.len(), count_rows(&jobs)) {
         Ok(empty) => empty,
@@ -189,8 +193,10 @@ fn run_named<N: PoolName + Send + Sync, P: Port + Send, R: Threads + Wait + Sync
     requires ports { vec_len ports ≡ vec_len scripts }
     requires size { All (λ p. (P.geometry_of p).size ≡ N.parameters.size) ports.items }
     requires fits { EachScriptFits N.parameters (lists scripts.items) }
-    ensures run { IfOk result (λ run. IsRun N.parameters (lists scripts.items) run.trail.items (lists run.said.items) run.refused.items) }
-    ensures refused { OnErr result ((result ≡ Err Refusal.OutOfMemory) ⊎ (result ≡ Err Refusal.Disagree)) }
+    ensures run { IfOk result (λ run. IsRun N.parameters (lists scripts.items) run.trail.items
+        (lists run.said.items) run.refused.items) }
+    ensures refused { OnErr result ((result ≡ Err Refusal.OutOfMemory) ⊎
+        (result ≡ Err Refusal.Disagree)) }
 {
     let (mark, end, reader) = parts;
     let (pool, sessions, taker) = match SharedPool::<N>::new(alloc, core, mark, reader, ring) {
@@ -240,11 +246,15 @@ pub fn run_clients<P: Port + Send, R: Threads + Wait + Sync>(
     requires ports { vec_len ports ≡ vec_len scripts }
     requires geometry { All (λ p. P.geometry_of p ≡ config.geometry) ports.items }
     requires fits { EachScriptFits (run_parameters config (vec_len scripts)) (lists scripts.items) }
-    ensures legal { IfOk result (λ run. Legal (run_parameters config (vec_len scripts)) (reverse run.trail.items)) }
-    ensures said { IfOk result (λ run. SaidIsTheirs (vec_len scripts) run.trail.items (lists run.said.items)) }
-    ensures follows { IfOk result (λ run. EachFollows (lists scripts.items) (lists run.said.items) run.refused.items) }
+    ensures legal { IfOk result (λ run. Legal (run_parameters config (vec_len scripts))
+        (reverse run.trail.items)) }
+    ensures said { IfOk result (λ run. SaidIsTheirs (vec_len scripts) run.trail.items
+        (lists run.said.items)) }
+    ensures follows { IfOk result (λ run. EachFollows (lists scripts.items)
+        (lists run.said.items) run.refused.items) }
     ensures known { IfOk result (λ run. NoneIsStrange run.refused.items) }
-    ensures within_log { IfOk result (λ run. MarksWithinLog (lists scripts.items) run.trail.items (lists run.said.items) run.refused.items) }
+    ensures within_log { IfOk result (λ run. MarksWithinLog (lists scripts.items) run.trail.items
+        (lists run.said.items) run.refused.items) }
     ensures answers { RunAnswers (run_parameters config (vec_len scripts)) result }
 {
     let clients = scripts.len() as u8;

@@ -81,8 +81,10 @@ fn post<N: PoolName, R: Wait>(
 ) -> Result<(), Refusal>
     ensures client { session.new.client ≡ session.old.client }
     ensures before { session.new.before ≡ session.old.before }
-    ensures posted { OnOk result ((note.client ≡ session.old.client) × (session.new.said ≡ give_back note ∷ session.old.said)) }
-    ensures refused { OnErr result ((result ≡ Err Refusal.Disagree) × (session.new.said ≡ session.old.said)) }
+    ensures posted { OnOk result ((note.client ≡ session.old.client) ×
+        (session.new.said ≡ give_back note ∷ session.old.said)) }
+    ensures refused { OnErr result ((result ≡ Err Refusal.Disagree) ×
+        (session.new.said ≡ session.old.said)) }
 {
     match pool.unfix(session, note.pass()) {
         Ok(()) => Ok(()),
@@ -147,7 +149,8 @@ impl<N: PoolName, P: Port> Runner<N, P> {
     fn fix<R: Wait>(&mut self, rt: &R, pool: &SharedPool<N>, page: PageNo) -> Result<(), Refusal>
         requires page_in { page < N.parameters.pages }
         ensures client { self.new.client ≡ self.old.client }
-        ensures outcome { StepSaid self.old.client (Step.Fix page) (outcome_of result) self.old.said self.new.said }
+        ensures outcome { StepSaid self.old.client (Step.Fix page)
+            (outcome_of result) self.old.said self.new.said }
     {
         match pool.fix(rt, &mut self.session, &mut self.port, page) {
             Ok(pass) => {
@@ -162,7 +165,8 @@ impl<N: PoolName, P: Port> Runner<N, P> {
     fn flush<R: Wait>(&mut self, rt: &R, pool: &SharedPool<N>, page: PageNo) -> Result<(), Refusal>
         requires page_in { page < N.parameters.pages }
         ensures client { self.new.client ≡ self.old.client }
-        ensures outcome { StepSaid self.old.client (Step.Flush page) (outcome_of result) self.old.said self.new.said }
+        ensures outcome { StepSaid self.old.client (Step.Flush page)
+            (outcome_of result) self.old.said self.new.said }
     {
         match pool.flush(rt, &mut self.session, &mut self.port, page) {
             Ok(_) => Ok(()),
@@ -180,7 +184,8 @@ impl<N: PoolName, P: Port> Runner<N, P> {
     /// `Disagree` where the pool does not know a pass that the client holds.
     fn read<R: Wait>(&mut self, rt: &R, pool: &SharedPool<N>, page: PageNo) -> Result<(), Refusal>
         ensures client { self.new.client ≡ self.old.client }
-        ensures outcome { StepSaid self.old.client (Step.Read page) (outcome_of result) self.old.said self.new.said }
+        ensures outcome { StepSaid self.old.client (Step.Read page)
+            (outcome_of result) self.old.said self.new.said }
     {
         let Some(note) = self.latest(page) else {
             return Err(Refusal::UnknownPass);
@@ -207,7 +212,8 @@ impl<N: PoolName, P: Port> Runner<N, P> {
     ) -> Result<(), Refusal>
         requires fits { offset + length bytes.now ≤ N.parameters.size }
         ensures client { self.new.client ≡ self.old.client }
-        ensures outcome { StepSaid self.old.client (Step.Write page offset bytes.now lsn) (outcome_of result) self.old.said self.new.said }
+        ensures outcome { StepSaid self.old.client (Step.Write page offset bytes.now lsn)
+            (outcome_of result) self.old.said self.new.said }
     {
         let Some(note) = self.latest(page) else {
             return Err(Refusal::UnknownPass);
@@ -223,7 +229,8 @@ impl<N: PoolName, P: Port> Runner<N, P> {
 
     fn unfix<R: Wait>(&mut self, rt: &R, pool: &SharedPool<N>, page: PageNo) -> Result<(), Refusal>
         ensures client { self.new.client ≡ self.old.client }
-        ensures outcome { StepSaid self.old.client (Step.Unfix page) (outcome_of result) self.old.said self.new.said }
+        ensures outcome { StepSaid self.old.client (Step.Unfix page)
+            (outcome_of result) self.old.said self.new.said }
     {
         let Some(note) = self.latest(page) else {
             return Err(Refusal::UnknownPass);
@@ -233,14 +240,16 @@ impl<N: PoolName, P: Port> Runner<N, P> {
 
     fn tick<R: Wait>(&mut self, rt: &R, pool: &SharedPool<N>, n: u64) -> Result<(), Refusal>
         ensures client { self.new.client ≡ self.old.client }
-        ensures outcome { StepSaid self.old.client (Step.Tick n) (outcome_of result) self.old.said self.new.said }
+        ensures outcome { StepSaid self.old.client (Step.Tick n)
+            (outcome_of result) self.old.said self.new.said }
     {
         pool.tick(rt, &mut self.session, n)
     }
 
     fn purge<R: Wait>(&mut self, rt: &R, pool: &SharedPool<N>) -> Result<(), Refusal>
         ensures client { self.new.client ≡ self.old.client }
-        ensures outcome { StepSaid self.old.client Step.Purge (outcome_of result) self.old.said self.new.said }
+        ensures outcome { StepSaid self.old.client Step.Purge
+            (outcome_of result) self.old.said self.new.said }
     {
         match pool.purge(rt, &mut self.session) {
             Ok(_) => Ok(()),
@@ -251,7 +260,8 @@ impl<N: PoolName, P: Port> Runner<N, P> {
     /// Raises the mark. Only client 0 has the log.
     fn log(&mut self, pool: &SharedPool<N>, lsn: Lsn) -> Result<(), Refusal>
         ensures client { self.new.client ≡ self.old.client }
-        ensures outcome { StepSaid self.old.client (Step.Log lsn) (outcome_of result) self.old.said self.new.said }
+        ensures outcome { StepSaid self.old.client (Step.Log lsn)
+            (outcome_of result) self.old.said self.new.said }
     {
         if let Some(log) = &mut self.log {
             log.raise(pool, lsn);
@@ -269,7 +279,8 @@ impl<N: PoolName, P: Port> Runner<N, P> {
     ) -> Result<(), Refusal>
         requires fits { StepFits N.parameters step.now }
         ensures client { self.new.client ≡ self.old.client }
-        ensures outcome { StepSaid self.old.client step.now (outcome_of result) self.old.said self.new.said }
+        ensures outcome { StepSaid self.old.client step.now
+            (outcome_of result) self.old.said self.new.said }
     {
         match step {
             Step::Fix(page) => self.fix(rt, pool, *page),

@@ -52,7 +52,14 @@ impl<K: Keeper> PoolCore<K> {
         clients: u8,
         room: usize,
     ) -> Result<PoolCore<K>, Refusal>
-        ensures outcome { NewOutcome K.MOST_ROOM (parameters_of (record { geometry = geometry; settings = settings; frames = frames; clients = clients; room = room })) result }
+        ensures outcome { NewOutcome K.MOST_ROOM (parameters_of
+            (record {
+              geometry = geometry;
+              settings = settings;
+              frames = frames;
+              clients = clients;
+              room = room;
+            })) result }
     {
         let config = Config::new(geometry, settings, frames, clients, room, K::MOST_ROOM)?;
         let Ok(trail) = K::with_capacity(alloc, room) else {

@@ -73,8 +73,16 @@ impl State {
         requires few { self.old.passes_given < 2 ^ 63 }
         requires newest { self.old.passes.next ≤ self.old.passes_given }
         requires room { 0 < self.old.passes.room }
-        ensures pass { result ≡ record { client = client; page = page; serial = self.old.passes_given } }
-        ensures after { self.new ≡ record self.old { passes_given = self.old.passes_given + 1; passes = with_grant self.old.passes client page self.old.passes_given } }
+        ensures pass { result ≡ record {
+          client = client;
+          page = page;
+          serial =
+              self.old.passes_given;
+        } }
+        ensures after { self.new ≡ record self.old {
+          passes_given = self.old.passes_given + 1;
+          passes = with_grant self.old.passes client page self.old.passes_given;
+        } }
     {
         let serial = self.passes_given;
         self.passes_given += 1;
@@ -91,8 +99,16 @@ impl State {
         requires few { self.old.tickets_given < 2 ^ 63 }
         requires newest { self.old.reads.next ≤ self.old.tickets_given }
         requires room { 0 < self.old.reads.room }
-        ensures ticket { result ≡ record { client = client; page = page; serial = self.old.tickets_given } }
-        ensures after { self.new ≡ record self.old { tickets_given = self.old.tickets_given + 1; reads = with_grant self.old.reads client page self.old.tickets_given } }
+        ensures ticket { result ≡ record {
+          client = client;
+          page = page;
+          serial =
+              self.old.tickets_given;
+        } }
+        ensures after { self.new ≡ record self.old {
+          tickets_given = self.old.tickets_given + 1;
+          reads = with_grant self.old.reads client page self.old.tickets_given;
+        } }
     {
         let serial = self.tickets_given;
         self.tickets_given += 1;
@@ -110,7 +126,10 @@ impl State {
         requires newest { self.old.writes.next ≤ self.old.tickets_given }
         requires room { 0 < self.old.writes.room }
         ensures serial { result ≡ self.old.tickets_given }
-        ensures after { self.new ≡ record self.old { tickets_given = self.old.tickets_given + 1; writes = with_grant self.old.writes client page self.old.tickets_given } }
+        ensures after { self.new ≡ record self.old {
+          tickets_given = self.old.tickets_given + 1;
+          writes = with_grant self.old.writes client page self.old.tickets_given;
+        } }
     {
         let serial = self.tickets_given;
         self.tickets_given += 1;
@@ -132,9 +151,13 @@ pub(crate) fn offer(
     requires here { is_unused ≡ true → some (is_frame_of page) frames.old.frames ≡ true }
     requires apart { is_unused ≡ true → entry_of frames.old.candidates page ≡ None }
     ensures same { frames.new ≡ record frames.old { candidates = frames.new.candidates } }
-    ensures entered { entry_of frames.new.candidates page ≡ (if is_unused then Some (stamp_of histories.now page k, last_of histories.now page) else entry_of frames.old.candidates page) }
-    ensures others { (q : ℕ) → q ≢ page → entry_of frames.new.candidates q ≡ entry_of frames.old.candidates q }
-    ensures pages { NoPageTwice frames.old.candidates.entries → NoPageTwice frames.new.candidates.entries }
+    ensures entered { entry_of frames.new.candidates page ≡ (if is_unused
+        then Some (stamp_of histories.now page k, last_of histories.now page)
+        else entry_of frames.old.candidates page) }
+    ensures others { (q : ℕ) → q ≢ page → entry_of frames.new.candidates q
+        ≡ entry_of frames.old.candidates q }
+    ensures pages { NoPageTwice frames.old.candidates.entries →
+        NoPageTwice frames.new.candidates.entries }
     ensures limits { SameLimits frames.old.candidates frames.new.candidates }
 {
     if is_unused {

@@ -83,7 +83,8 @@ impl FilePort {
         requires size { IsGeometry 1 size }
         ensures opened { IfOk result (λ port. (port.device.size ≡ size) × (port.failures ≡ 0)) }
         ensures headed { IfOk result (λ port. port.headed ≡ has_headers format) }
-        ensures refused { IfErr result (λ fault. (fault ≡ OpenFault.Refused Refusal.BadLength) ⊎ ((fault ≡ OpenFault.Port PortFault.Device) ⊎ (fault ≡ OpenFault.Port PortFault.Memory))) }
+        ensures refused { IfErr result (λ fault. (fault ≡ OpenFault.Refused Refusal.BadLength) ⊎
+            ((fault ≡ OpenFault.Port PortFault.Device) ⊎ (fault ≡ OpenFault.Port PortFault.Memory))) }
     {
         let Ok(file) = OpenOptions::new().read(true).write(true).open(rt, path) else {
             return Err(OpenFault::Port(PortFault::Device));
@@ -121,7 +122,8 @@ impl FilePort {
 /// of another page, else `Memory` where the image can't be had.
 fn image_in(alloc: Global, format: Format, page: PageNo, slot: &[u8]) -> Result<Image, PortFault>
     requires header { has_headers format ≡ true → 16 ≤ length slot.now }
-    ensures wrong { (result ≡ Err PortFault.WrongPage) ↔ ((has_headers format ≡ true) × (page_in slot.now ≢ page)) }
+    ensures wrong { (result ≡ Err PortFault.WrongPage) ↔ ((has_headers format ≡ true) ×
+        (page_in slot.now ≢ page)) }
     ensures size { IfOk result (λ image. slot_size format (length image) ≡ length slot.now) }
     ensures not_counted { result ≢ Err PortFault.Device }
 {

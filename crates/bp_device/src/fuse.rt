@@ -75,10 +75,12 @@ impl<P: Port> Port for FusePort<P> {
     ghost is_headed = { λ p. P.is_headed p.inner };
 
     ghost read_gives = { λ port page found after.
-        FailsOrPasses port.left (IsFailure found × (after.inner ≡ port.inner)) (P.read_gives port.inner page found after.inner) };
+        FailsOrPasses port.left (IsFailure found × (after.inner ≡ port.inner))
+        (P.read_gives port.inner page found after.inner) };
 
     ghost write_gives = { λ port page image lsn written after.
-        FailsOrPasses port.left (IsFailure written) (P.write_gives port.inner page image lsn written after.inner) };
+        FailsOrPasses port.left (IsFailure written)
+        (P.write_gives port.inner page image lsn written after.inner) };
 
     fn geometry(&self) -> Geometry {
         self.inner.geometry()
@@ -95,8 +97,11 @@ impl<P: Port> Port for FusePort<P> {
         ensures alike { P.is_headed self.new.inner ≡ P.is_headed self.old.inner }
         ensures counts { Counts result self.old.count self.new.count }
         ensures left { self.new.left ≡ self.old.left - 1 }
-        ensures fails { self.old.left ≡ 1 → (result ≡ Err PortFault.Device) × (self.new.inner ≡ self.old.inner) }
-        ensures gives { FailsOrPasses self.old.left (IsFailure result × (self.new.inner ≡ self.old.inner)) (P.read_gives self.old.inner page result self.new.inner) }
+        ensures fails { self.old.left ≡ 1 → (result ≡ Err PortFault.Device) ×
+            (self.new.inner ≡ self.old.inner) }
+        ensures gives { FailsOrPasses self.old.left (IsFailure result ×
+            (self.new.inner ≡ self.old.inner)) (P.read_gives self.old.inner page result
+            self.new.inner) }
     {
         if self.blows() {
             return Err(self.count.add());
@@ -118,7 +123,8 @@ impl<P: Port> Port for FusePort<P> {
         ensures counts { Counts result self.old.count self.new.count }
         ensures left { self.new.left ≡ self.old.left - 1 }
         ensures fails { self.old.left ≡ 1 → result ≡ Err PortFault.Device }
-        ensures gives { FailsOrPasses self.old.left (IsFailure result) (P.write_gives self.old.inner page image.now lsn result self.new.inner) }
+        ensures gives { FailsOrPasses self.old.left (IsFailure result)
+            (P.write_gives self.old.inner page image.now lsn result self.new.inner) }
     {
         if self.blows() {
             if let Some(spoiled) = &self.spoiled {

@@ -39,7 +39,8 @@ pub fn latest_pass(held: &[PassNote], client: u8, page: PageNo) -> Option<PassNo
 /// Gives the pass back. Its note stays.
 fn give<K: Keeper>(core: &mut PoolCore<K>, note: PassNote)
     requires known { EachPast core.old (λ past. is_out note (passes_out past) ≡ true) }
-    ensures entry { core.new ≡ with_entry core.old note.client (Call.Unfix note.serial note.page) Reply.Done }
+    ensures entry { core.new ≡ with_entry core.old note.client
+        (Call.Unfix note.serial note.page) Reply.Done }
 {
     match core.unfix(note.pass()) {
         Ok(()) => {}
@@ -59,7 +60,8 @@ fn serials_differ<K: Keeper>(core: &PoolCore<K>, held: &[PassNote])
 /// Where the note with this serial number stands. The one taken latest is looked at first.
 fn place_of(held: &[PassNote], serial: u64) -> Option<usize>
     ensures within { IfSome result (λ place. place < length held.now) }
-    ensures found { IfSome result (λ place. (d : Grant) → (slice_index_or held.now place d).serial ≡ serial) }
+    ensures found { IfSome result (λ place. (d : Grant) →
+        (slice_index_or held.now place d).serial ≡ serial) }
     ensures none { IfNone result (filter (λ g. not (g.serial == serial)) held.now ≡ held.now) }
 {
     let mut place = held.len();
@@ -88,7 +90,8 @@ fn strike(held: &mut Vec<PassNote>, serial: u64)
 pub(crate) fn give_one<K: Keeper>(core: &mut PoolCore<K>, held: &mut Vec<PassNote>, note: PassNote)
     requires ends_in { EndsIn core.old held.old.items }
     requires known { EachPast core.old (λ past. is_out note (passes_out past) ≡ true) }
-    ensures entry { core.new ≡ with_entry core.old note.client (Call.Unfix note.serial note.page) Reply.Done }
+    ensures entry { core.new ≡ with_entry core.old note.client
+        (Call.Unfix note.serial note.page) Reply.Done }
     ensures held { held.new.items ≡ filter (λ g. not (g.serial == note.serial)) held.old.items }
     ensures fewer { vec_len held.new ≤ vec_len held.old }
     ensures capacity { vec_capacity held.new ≡ vec_capacity held.old }
@@ -121,7 +124,8 @@ pub fn next_to_go_back(held: &[PassNote]) -> Option<PassNote>
 fn give_back_of<K: Keeper>(core: &mut PoolCore<K>, held: &[PassNote], client: u8)
     requires ends_in { EndsIn core.old held.now }
     requires least { All (λ g. client ≤ g.client) held.now }
-    ensures outcome { GoingBack core.old held.now (filter (λ g. not (g.client == client)) held.now) core.new }
+    ensures outcome { GoingBack core.old held.now (filter
+        (λ g. not (g.client == client)) held.now) core.new }
 {
     serials_differ(core, held);
     for note in held {

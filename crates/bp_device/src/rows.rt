@@ -21,7 +21,8 @@ fn read_row<K: Keeper>(
     page: PageNo,
 ) -> Result<(), Refusal>
     requires ends_in { EndsIn core.old held.now }
-    ensures outcome { DrivesRow core.old client (Step.Read page) (outcome_of result) held.now held.now core.new }
+    ensures outcome { DrivesRow core.old client (Step.Read page)
+        (outcome_of result) held.now held.now core.new }
 {
     let Some(note) = latest_pass(held, client, page) else {
         return Err(Refusal::UnknownPass);
@@ -48,7 +49,8 @@ fn write_row<K: Keeper>(
 ) -> Result<(), Refusal>
     requires ends_in { EndsIn core.old held.now }
     requires fits { offset + length bytes.now ≤ core.old.parameters.size }
-    ensures outcome { DrivesRow core.old client (Step.Write page offset bytes.now lsn) (outcome_of result) held.now held.now core.new }
+    ensures outcome { DrivesRow core.old client (Step.Write page offset bytes.now lsn)
+        (outcome_of result) held.now held.now core.new }
 {
     let Some(note) = latest_pass(held, client, page) else {
         return Err(Refusal::UnknownPass);
@@ -70,7 +72,8 @@ fn unfix_row<K: Keeper>(
     page: PageNo,
 ) -> Result<(), Refusal>
     requires ends_in { EndsIn core.old held.old.items }
-    ensures outcome { DrivesRow core.old client (Step.Unfix page) (outcome_of result) held.old.items held.new.items core.new }
+    ensures outcome { DrivesRow core.old client (Step.Unfix page)
+        (outcome_of result) held.old.items held.new.items core.new }
     ensures fewer { vec_len held.new ≤ vec_len held.old }
     ensures capacity { vec_capacity held.new ≡ vec_capacity held.old }
 {
@@ -94,7 +97,8 @@ fn fix_row<K: Keeper, P: Port, R: Wait>(
     requires client_in { client < core.old.parameters.clients }
     requires page_in { page < core.old.parameters.pages }
     requires room { vec_len held.old < vec_capacity held.old }
-    ensures outcome { DrivesRow core.old client (Step.Fix page) (outcome_of result) held.old.items held.new.items core.new }
+    ensures outcome { DrivesRow core.old client (Step.Fix page)
+        (outcome_of result) held.old.items held.new.items core.new }
     ensures more { vec_len held.new ≤ vec_len held.old + 1 }
     ensures capacity { vec_capacity held.new ≡ vec_capacity held.old }
     ensures work { DoesWork P.read_gives P.write_gives core.old port.old core.new port.new }
@@ -120,7 +124,8 @@ fn flush_row<K: Keeper, P: Port, R: Wait>(
 ) -> Result<(), Refusal>
     requires client_in { client < core.old.parameters.clients }
     requires page_in { page < core.old.parameters.pages }
-    ensures outcome { DrivesRow core.old client (Step.Flush page) (outcome_of result) held.now held.now core.new }
+    ensures outcome { DrivesRow core.old client (Step.Flush page)
+        (outcome_of result) held.now held.now core.new }
     ensures work { DoesWork P.read_gives P.write_gives core.old port.old core.new port.new }
     ensures geometry { P.geometry_of port.new ≡ P.geometry_of port.old }
 {
@@ -138,7 +143,8 @@ fn tick_row<K: Keeper>(
     n: u64,
 ) -> Result<(), Refusal>
     requires client_in { client < core.old.parameters.clients }
-    ensures outcome { DrivesRow core.old client (Step.Tick n) (outcome_of result) held.now held.now core.new }
+    ensures outcome { DrivesRow core.old client (Step.Tick n)
+        (outcome_of result) held.now held.now core.new }
 {
     core.tick(client, n)
 }
@@ -150,7 +156,8 @@ fn purge_row<K: Keeper>(
     client: u8,
 ) -> Result<(), Refusal>
     requires client_in { client < core.old.parameters.clients }
-    ensures outcome { DrivesRow core.old client Step.Purge (outcome_of result) held.now held.now core.new }
+    ensures outcome { DrivesRow core.old client Step.Purge
+        (outcome_of result) held.now held.now core.new }
 {
     match core.purge(client) {
         Ok(_) => Ok(()),
@@ -166,7 +173,8 @@ fn log_row<K: Keeper>(
     lsn: Lsn,
 ) -> Result<(), Refusal>
     requires client_in { client < core.old.parameters.clients }
-    ensures outcome { DrivesRow core.old client (Step.Log lsn) (outcome_of result) held.now held.now core.new }
+    ensures outcome { DrivesRow core.old client (Step.Log lsn)
+        (outcome_of result) held.now held.now core.new }
 {
     core.mark(client, lsn)
 }
@@ -183,7 +191,8 @@ pub(crate) fn drive_row<K: Keeper, P: Port, R: Wait>(
     requires fits { RowFits core.old.parameters row.now }
     requires room { vec_len held.old < vec_capacity held.old }
     requires ends_in { EndsIn core.old held.old.items }
-    ensures outcome { DrivesRow core.old row.now.client row.now.step (outcome_of result) held.old.items held.new.items core.new }
+    ensures outcome { DrivesRow core.old row.now.client row.now.step
+        (outcome_of result) held.old.items held.new.items core.new }
     ensures more { vec_len held.new ≤ vec_len held.old + 1 }
     ensures capacity { vec_capacity held.new ≡ vec_capacity held.old }
     ensures work { DoesWork P.read_gives P.write_gives core.old port.old core.new port.new }

@@ -17,7 +17,8 @@ use std::sync::Wait;
 /// Notes the refusal of a row, if it has one. It takes no memory.
 pub fn note_refused(refused: &mut Vec<Refused>, row: u64, outcome: Result<(), Refusal>)
     requires room { vec_len refused.old < vec_capacity refused.old }
-    ensures refused { reverse refused.new.items ≡ refused_row row (outcome_of outcome) ++ reverse refused.old.items }
+    ensures refused { reverse refused.new.items ≡ refused_row row
+        (outcome_of outcome) ++ reverse refused.old.items }
     ensures more { vec_len refused.new ≤ vec_len refused.old + 1 }
     ensures capacity { vec_capacity refused.new ≡ vec_capacity refused.old }
 {

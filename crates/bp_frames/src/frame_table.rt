@@ -70,7 +70,16 @@ impl FrameTable {
         settings: Settings,
     ) -> Result<FrameTable, AllocError>
         requires { limit ≤ 65536 }
-        ensures { IfOk result (λ t. t ≡ record { frames = []; spare = 0; size = geometry.size; limit = limit; pages = geometry.pages; candidates = record { frames = limit; correlated = settings.correlated; entries = [] } }) }
+        ensures { IfOk result (λ t. t ≡ record {
+          frames = [];
+          spare = 0;
+          size = geometry.size;
+          limit
+              = limit;
+          pages = geometry.pages;
+          candidates = record
+              { frames = limit; correlated = settings.correlated; entries = [] };
+        }) }
     {
         let pages = geometry.pages as usize;
         Ok(FrameTable {
@@ -187,7 +196,8 @@ impl FrameTable {
         requires in_range { page < self.old.pages }
         requires spare { 0 < self.old.spare }
         requires size { length image.now ≡ self.old.size }
-        ensures frames { IsPermutation (loaded_with page block image.now ∷ self.old.frames) self.new.frames }
+        ensures frames { IsPermutation (loaded_with page block image.now ∷
+            self.old.frames) self.new.frames }
         ensures spare { self.new.spare + 1 ≡ self.old.spare }
         ensures size { self.new.size ≡ self.old.size }
         ensures limit { self.new.limit ≡ self.old.limit }
@@ -203,7 +213,11 @@ impl FrameTable {
     pub fn vacate(&mut self, page: PageNo)
         requires here { some (is_frame_of page) self.old.frames ≡ true }
         requires apart { entry_of self.old.candidates page ≡ None }
-        ensures { self.new ≡ record self.old { frames = without_page page self.old.frames; spare = self.old.spare + 1 } }
+        ensures { self.new ≡ record self.old {
+          frames = without_page page self.old.frames;
+          spare =
+              self.old.spare + 1;
+        } }
     {
         let slot = find(&self.places, page).unwrap();
         self.places[page.number() as usize] = 0;
@@ -217,8 +231,10 @@ impl FrameTable {
         requires apart { entry_of self.old.candidates page ≡ None }
         ensures same { self.new ≡ record self.old { candidates = self.new.candidates } }
         ensures entered { entry_of self.new.candidates page ≡ Some (hist_k, last) }
-        ensures others { (q : ℕ) → q ≢ page → entry_of self.new.candidates q ≡ entry_of self.old.candidates q }
-        ensures pages { NoPageTwice self.old.candidates.entries → NoPageTwice self.new.candidates.entries }
+        ensures others { (q : ℕ) → q ≢ page → entry_of self.new.candidates q
+            ≡ entry_of self.old.candidates q }
+        ensures pages { NoPageTwice self.old.candidates.entries →
+            NoPageTwice self.new.candidates.entries }
         ensures limits { SameLimits self.old.candidates self.new.candidates }
     {
         let slot = find(&self.places, page).unwrap();
@@ -229,8 +245,10 @@ impl FrameTable {
     pub fn withdraw(&mut self, page: PageNo)
         ensures same { self.new ≡ record self.old { candidates = self.new.candidates } }
         ensures left { entry_of self.new.candidates page ≡ None }
-        ensures others { (q : ℕ) → q ≢ page → entry_of self.new.candidates q ≡ entry_of self.old.candidates q }
-        ensures pages { NoPageTwice self.old.candidates.entries → NoPageTwice self.new.candidates.entries }
+        ensures others { (q : ℕ) → q ≢ page → entry_of self.new.candidates q
+            ≡ entry_of self.old.candidates q }
+        ensures pages { NoPageTwice self.old.candidates.entries →
+            NoPageTwice self.new.candidates.entries }
         ensures limits { SameLimits self.old.candidates self.new.candidates }
     {
         if let Some(slot) = find(&self.places, page) {
@@ -242,7 +260,8 @@ impl FrameTable {
     pub fn victim(&mut self, t: u64) -> Option<PageNo>
         ensures same { self.new ≡ self.old }
         ensures found { IfSome result (λ page. IsVictim self.old.candidates t page) }
-        ensures none { IfNone result ((page : ℕ) → IsFalse (is_eligible self.old.candidates t page)) }
+        ensures none { IfNone result ((page : ℕ) → IsFalse
+            (is_eligible self.old.candidates t page)) }
     {
         self.candidates.victim(t)
     }

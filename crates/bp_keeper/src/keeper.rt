@@ -58,7 +58,8 @@ pub trait Keeper: Drop {
     fn record_read(&mut self, pass: Grant, image: &Image, spare: Self::SpareImage)
         requires room { (kept self.old).len < (kept self.old).capacity }
         requires spare { serves_image spare image.now }
-        ensures { kept self.new ≡ with_next (kept self.old) pass.client (read_by pass) (Content image.now) };
+        ensures { kept self.new ≡ with_next (kept self.old) pass.client (read_by pass)
+            (Content image.now) };
 
     /// Adds the entry of a write by a pass, which takes no memory.
     fn record_write(
@@ -71,13 +72,15 @@ pub trait Keeper: Drop {
     )
         requires room { (kept self.old).len < (kept self.old).capacity }
         requires spare { serves_bytes spare bytes.now }
-        ensures { kept self.new ≡ with_next (kept self.old) pass.client (write_by pass offset bytes.now lsn) Done };
+        ensures { kept self.new ≡ with_next (kept self.old) pass.client
+            (write_by pass offset bytes.now lsn) Done };
 
     /// Adds the entry of a call by which a write-out begins, with the ticket that it gives. It takes no memory.
     fn record_begin(&mut self, call: Call, ticket: Grant, image: &Image, spare: Self::SpareImage)
         requires room { (kept self.old).len < (kept self.old).capacity }
         requires spare { serves_image spare image.now }
-        ensures { kept self.new ≡ with_next (kept self.old) ticket.client call (write_first ticket image.now) };
+        ensures { kept self.new ≡ with_next (kept self.old) ticket.client call
+            (write_first ticket image.now) };
 
     /// No serial number overflows within the room.
     ghost few: { MOST_ROOM ≤ 2 ^ 61 };

@@ -192,8 +192,10 @@ impl RecordingKeeper {
         room: usize,
         is_fresh: bool,
     ) -> Result<Vec<Entry>, AllocError>
-        ensures entries { IfOk result (λ entries. reverse entries.items ++ self.old.before ≡ self.old.past) }
-        ensures after { IfOk result (λ entries. self.new ≡ record self.new { before = self.old.past; past = self.old.past; len = 0; fresh = is_fresh }) }
+        ensures entries { IfOk result (λ entries. reverse entries.items ++ self.old.before
+            ≡ self.old.past) }
+        ensures after { IfOk result (λ entries. self.new ≡ record self.new
+            { before = self.old.past; past = self.old.past; len = 0; fresh = is_fresh }) }
         ensures room { IfOk result (λ entries. room ≤ self.new.capacity) }
         ensures len { IfOk result (λ entries. vec_len entries ≡ self.old.len) }
         ensures memory { IfOk result (λ entries. vec_capacity entries ≡ self.old.capacity) }

@@ -116,7 +116,8 @@ impl Candidates {
 
     /// All entries as (K-th stamp, last time, page), from the one that is replaced first.
     pub fn ordered(&self) -> &[(u64, u64, PageNo)]
-        ensures all { (e : Candidate) → (entry_of self.now e.2 ≡ Some (e.0, e.1)) ↔ Contains result.now e }
+        ensures all { (e : Candidate) → (entry_of self.now e.2 ≡ Some
+            (e.0, e.1)) ↔ Contains result.now e }
         ensures in_order { AllPairs (λ a b. IsTrue (is_before a b)) result.now }
         ensures count { length result.now ≡ length self.now.entries }
     {

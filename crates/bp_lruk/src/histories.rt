@@ -334,13 +334,17 @@ impl Histories {
     /// counts them.
     pub fn purge(&mut self, t: u64) -> u64
         requires { IsNow self.old t }
-        ensures forgotten { (page : ℕ) → IsTrue (forgets self.old t page) → HasStampsOf self.new page [] }
-        ensures vanishes { (page : ℕ) → IsTrue (forgets self.old t page) → IsFalse (has_block self.new page) }
-        ensures kept { (page : ℕ) → forgets self.old t page ≡ false → SameAt self.old self.new page }
+        ensures forgotten { (page : ℕ) → IsTrue (forgets self.old t page) →
+            HasStampsOf self.new page [] }
+        ensures vanishes { (page : ℕ) → IsTrue (forgets self.old t page) →
+            IsFalse (has_block self.new page) }
+        ensures kept { (page : ℕ) → forgets self.old t page ≡ false →
+            SameAt self.old self.new page }
         ensures held { (page : ℕ) → is_held self.new page ≡ is_held self.old page }
 
         // Where no page from the bound on has a history, the pages to count are those below it.
-        ensures counted { (bound : ℕ) → ((page : ℕ) → bound ≤ page → last_of self.old page ≡ 0) → result ≡ count_below (forgets self.old t) bound }
+        ensures counted { (bound : ℕ) → ((page : ℕ) → bound ≤ page → last_of self.old page ≡ 0) →
+            result ≡ count_below (forgets self.old t) bound }
         ensures settings { SameSettings self.old self.new }
         ensures places { KeepsPlaces self.old self.new }
     {

@@ -67,7 +67,8 @@ impl PageIndex {
         requires apart { find_entry self.old.entries page ≡ None }
         requires room { length self.old.entries < self.old.frames }
         ensures entered { find_entry self.new.entries page ≡ Some (hist_k, last) }
-        ensures others { (q : ℕ) → q ≢ page → find_entry self.new.entries q ≡ find_entry self.old.entries q }
+        ensures others { (q : ℕ) → q ≢ page → find_entry self.new.entries q
+            ≡ find_entry self.old.entries q }
         ensures count { length self.new.entries ≡ length self.old.entries + 1 }
         ensures frames { self.new.frames ≡ self.old.frames }
     {
@@ -87,7 +88,8 @@ impl PageIndex {
         requires { IsSome (find_entry self.old.entries page) }
         ensures told { find_entry self.old.entries page ≡ Some result }
         ensures left { find_entry self.new.entries page ≡ None }
-        ensures others { (q : ℕ) → q ≢ page → find_entry self.new.entries q ≡ find_entry self.old.entries q }
+        ensures others { (q : ℕ) → q ≢ page → find_entry self.new.entries q
+            ≡ find_entry self.old.entries q }
         ensures count { length self.new.entries + 1 ≡ length self.old.entries }
         ensures frames { self.new.frames ≡ self.old.frames }
     {
@@ -102,7 +104,8 @@ impl PageIndex {
 fn place(entries: &[PageEntry], page: PageNo) -> Result<usize, usize>
     requires { IsByPage entries.now }
     ensures in_range { IfOk result (λ at. at < length entries.now) }
-    ensures here { IfOk result (λ at. (d : PageEntry) → (slice_index_or entries.now at d).page ≡ page) }
+    ensures here { IfOk result (λ at. (d : PageEntry) →
+        (slice_index_or entries.now at d).page ≡ page) }
     ensures gap { IfErr result (λ at. IsGapFor entries.now page at) }
 {
     entries.binary_search_by_key(&page.number(), |entry| entry.page.number())

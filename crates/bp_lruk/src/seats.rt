@@ -60,7 +60,11 @@ impl Candidates {
     /// Seats for as many candidates as there are frames, and nobody there. It fails by want of memory alone; no other
     /// call takes any.
     pub fn new(alloc: Global, frames: usize, settings: Settings) -> Result<Candidates, AllocError>
-        ensures { IfOk result (λ c. c ≡ record { correlated = settings.correlated; seats = replicate frames None }) }
+        ensures { IfOk result (λ c. c ≡ record {
+          correlated = settings.correlated;
+          seats = replicate
+              frames None;
+        }) }
     {
         let tree = Tournament::new(alloc, frames)?;
         Ok(Candidates {
@@ -95,7 +99,8 @@ impl Candidates {
         requires { NoPageTwice (seated_in self.old.seats) }
         ensures same { self.new ≡ self.old }
         ensures found { IfSome result (λ page. IsVictim (entered self.old) t page) }
-        ensures none { IfNone result ((page : ℕ) → IsFalse (is_eligible (entered self.old) t page)) }
+        ensures none { IfNone result ((page : ℕ) → IsFalse
+            (is_eligible (entered self.old) t page)) }
     {
         settle(&mut self.tree, self.left);
         self.left = None;

@@ -30,7 +30,8 @@ fn migrate_page<I: Read, W: Write>(
     page: PageNo,
     buffer: &mut [u8],
 ) -> Result<(), MigrateFault>
-    ensures migrated { OnOk result (MigratesPage page buffer.new (I.remaining reader.old) (I.remaining reader.new) (W.contents writer.old) (W.contents writer.new)) }
+    ensures migrated { OnOk result (MigratesPage page buffer.new (I.remaining reader.old)
+        (I.remaining reader.new) (W.contents writer.old) (W.contents writer.new)) }
 {
     let Ok(()) = reader.read_exact(buffer) else {
         return Err(MigrateFault::Read);
@@ -55,7 +56,8 @@ pub fn migrate_told<I: Read, W: Write, P: Progress>(
     geometry: &Geometry,
     progress: &mut P,
 ) -> Result<(), MigrateFault>
-    ensures migrated { OnOk result (Migrates geometry.now (I.remaining reader.old) (I.remaining reader.new) (W.contents writer.old) (W.contents writer.new)) }
+    ensures migrated { OnOk result (Migrates geometry.now (I.remaining reader.old)
+        (I.remaining reader.new) (W.contents writer.old) (W.contents writer.new)) }
 {
     let Ok(mut buffer) = vec![in alloc; 0u8; geometry.size] else {
         return Err(MigrateFault::Memory);
@@ -81,7 +83,8 @@ pub fn migrate_with<I: Read, W: Write>(
     writer: &mut W,
     geometry: &Geometry,
 ) -> Result<(), MigrateFault>
-    ensures migrated { OnOk result (Migrates geometry.now (I.remaining reader.old) (I.remaining reader.new) (W.contents writer.old) (W.contents writer.new)) }
+    ensures migrated { OnOk result (Migrates geometry.now (I.remaining reader.old)
+        (I.remaining reader.new) (W.contents writer.old) (W.contents writer.new)) }
 {
     migrate_told(alloc, reader, writer, geometry, &mut Untold)
 }

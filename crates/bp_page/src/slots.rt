@@ -111,12 +111,15 @@ pub fn unslot2(alloc: Global, page: PageNo, slot: &[u8]) -> Result<(Lsn, Image),
     requires { 16 ≤ length slot.now }
     // A slot of another page is told, and no other slot is taken for one.
     ensures wrong { (result ≡ Err PortFault.WrongPage) ↔ (page_in slot.now ≢ page) }
-    ensures memory { IfErr result (λ fault. fault ≢ PortFault.WrongPage → fault ≡ PortFault.Memory) }
+    ensures memory { IfErr result (λ fault. fault ≢ PortFault.WrongPage →
+        fault ≡ PortFault.Memory) }
     ensures found { IfOk result (λ found. slot.now ≡ headed_slot page found.0 found.1) }
     ensures size { IfOk result (λ found. length slot.now ≡ 16 + length found.1) }
     // What was written so is read so.
-    ensures written { (lsn : ℕ) (image : List ℕ) → lsn < 2 ^ 64 → slot.now ≡ headed_slot page lsn image
-        → IfOk result (λ found. (found.0 ≡ lsn) × (found.1 ≡ image)) × OnErr result (result ≡ Err PortFault.Memory) }
+    ensures written { (lsn : ℕ) (image : List ℕ) → lsn < 2 ^ 64 →
+        slot.now ≡ headed_slot page lsn image
+        → IfOk result (λ found. (found.0 ≡ lsn) × (found.1 ≡ image)) ×
+        OnErr result (result ≡ Err PortFault.Memory) }
 {
     let (found, lsn) = numbers_in(slot);
     if found.number() != page.number() {

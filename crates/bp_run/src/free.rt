@@ -26,7 +26,8 @@ use std::thread::Threads;
 /// What the pool of a run in free order is made with.
 fn config_of(run: &RunWords<'_>, geometry: Geometry, rows: &[Row]) -> Config
     requires runnable { IsRunnable (told_of run.now) }
-    ensures parameters { run_parameters result (clients_of rows.now) ≡ parameters_for Order.Free (told_of run.now) geometry rows.now }
+    ensures parameters { run_parameters result (clients_of rows.now) ≡ parameters_for Order.Free
+        (told_of run.now) geometry rows.now }
     ensures geometry { result.geometry ≡ geometry }
 {
     let settings = Settings::new(run.k, run.correlated, run.retained).unwrap();
@@ -50,7 +51,8 @@ fn run_threads<P: Port + Send, R: Threads + Wait + Sync>(
     requires ports { vec_len ports ≡ 64 }
     requires alike { All (λ p. P.geometry_of p ≡ config.geometry) ports.items }
     requires fits { All (IsInRange config.geometry) rows.items }
-    ensures run { IfOk result (λ run. IsRun (run_parameters config (clients_of rows.items)) (scripts_of rows.items) run.trail.items (lists run.said.items) run.refused.items) }
+    ensures run { IfOk result (λ run. IsRun (run_parameters config (clients_of rows.items))
+        (scripts_of rows.items) run.trail.items (lists run.said.items) run.refused.items) }
     ensures fault { IfErr result (λ ending. is_help ending ≡ false) }
 {
     let clients = client_count(&rows);
@@ -80,7 +82,9 @@ pub(crate) fn run_free<P: Port + Send, R: Threads + Wait + Sync, W: Write>(
     requires ports { vec_len ports ≡ 64 }
     requires alike { All (λ p. P.geometry_of p ≡ geometry) ports.items }
     requires fits { All (IsInRange geometry) rows.items }
-    ensures reported { IfOk result (λ all_accepted. ReportsFree (parameters_for Order.Free (told_of run.now) geometry rows.items) (scripts_of rows.items) all_accepted (W.contents out.old) (W.contents out.new)) }
+    ensures reported { IfOk result (λ all_accepted. ReportsFree
+        (parameters_for Order.Free (told_of run.now) geometry rows.items)
+        (scripts_of rows.items) all_accepted (W.contents out.old) (W.contents out.new)) }
     ensures fault { IfErr result (λ ending. is_help ending ≡ false) }
 {
     let config = config_of(run, geometry, &rows);

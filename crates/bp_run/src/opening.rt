@@ -23,8 +23,10 @@ pub trait Ports<R> {
     ) -> Result<Vec<Self::P>, OpenFault>
         requires size { IsGeometry 1 size }
         ensures count { IfOk result (λ ports. vec_len ports ≡ clients) }
-        ensures opened { IfOk result (λ ports. AreOpened word.now size (map Self.P.geometry_of ports.items)) }
-        ensures headed { IfOk result (λ ports. All (λ p. Self.P.is_headed p ≡ headed_in (memory_named word.now) format) ports.items) };
+        ensures opened { IfOk result (λ ports. AreOpened word.now size
+            (map Self.P.geometry_of ports.items)) }
+        ensures headed { IfOk result (λ ports. All (λ p.
+            Self.P.is_headed p ≡ headed_in (memory_named word.now) format) ports.items) };
 
     /// Whether somebody watches the program: how far a migration has come is then shown on the error output.
     fn is_watched(&self) -> bool;

@@ -62,7 +62,8 @@ pub(crate) fn print_run<W: Write>(
     refused: &[Refused],
     out: &mut W,
 ) -> Result<(), Ending>
-    ensures written { OnOk result (Appends (W.contents out.old) (W.contents out.new) (report_text entries.now ++ rows_text refused.now)) }
+    ensures written { OnOk result (Appends (W.contents out.old) (W.contents out.new)
+        (report_text entries.now ++ rows_text refused.now)) }
     ensures fault { IfErr result (λ ending. is_help ending ≡ false) }
 {
     if report(entries, out).is_err() || report_rows(refused, out).is_err() || out.flush().is_err() {
@@ -79,7 +80,8 @@ fn new_core(
     rows: &[Row],
 ) -> Result<Core, Ending>
     requires runnable { IsRunnable (told_of run.now) }
-    ensures made { IfOk result (λ core. (core.parameters ≡ parameters_for Order.Trace (told_of run.now) geometry rows.now) × (core.before ≡ []) × (core.past ≡ [])) }
+    ensures made { IfOk result (λ core. (core.parameters ≡ parameters_for Order.Trace
+        (told_of run.now) geometry rows.now) × (core.before ≡ []) × (core.past ≡ [])) }
     ensures fault { IfErr result (λ ending. is_help ending ≡ false) }
 {
     let settings = Settings::new(run.k, run.correlated, run.retained).unwrap();
@@ -107,7 +109,8 @@ fn drive_rows<P: Port, R: Wait, W: Write>(
     requires new { (core.old.before ≡ []) × (core.old.past ≡ []) }
     requires size { (P.geometry_of port.old).size ≡ core.old.parameters.size }
     requires fits { All (RowFits core.old.parameters) rows.now }
-    ensures reported { IfOk result (λ ok. Reports core.old.parameters rows.now ok (W.contents out.old) (W.contents out.new)) }
+    ensures reported { IfOk result (λ ok. Reports core.old.parameters rows.now ok
+        (W.contents out.old) (W.contents out.new)) }
     ensures fault { IfErr result (λ ending. is_help ending ≡ false) }
 {
     let refused = match drive_all(rt, alloc, core, port, rows) {
@@ -132,7 +135,9 @@ fn run_rows<P: Port, R: Wait, W: Write>(
 ) -> Result<bool, Ending>
     requires runnable { IsRunnable (told_of run.now) }
     requires fits { All (IsInRange (P.geometry_of port.old)) rows.now }
-    ensures reported { IfOk result (λ all_accepted. Reports (parameters_for Order.Trace (told_of run.now) (P.geometry_of port.old) rows.now) rows.now all_accepted (W.contents out.old) (W.contents out.new)) }
+    ensures reported { IfOk result (λ all_accepted. Reports
+        (parameters_for Order.Trace (told_of run.now) (P.geometry_of port.old) rows.now) rows.now
+        all_accepted (W.contents out.old) (W.contents out.new)) }
     ensures fault { IfErr result (λ ending. is_help ending ≡ false) }
 {
     let mut core = match new_core(alloc, run, port.geometry(), rows) {
@@ -148,7 +153,8 @@ fn rows_from<I: Read>(
     reader: &mut I,
     geometry: &Geometry,
 ) -> Result<Vec<Row>, Ending>
-    ensures read { IfOk result (λ rows. AreRead from_stdin geometry.now (I.remaining reader.old) rows.items) }
+    ensures read { IfOk result (λ rows. AreRead from_stdin geometry.now
+        (I.remaining reader.old) rows.items) }
     ensures fits { IfOk result (λ rows. All (IsInRange geometry.now) rows.items) }
     ensures fault { IfErr result (λ ending. is_help ending ≡ false) }
 {
@@ -163,7 +169,8 @@ fn rows_of<I: Read, R: Files>(
     reader: &mut I,
     geometry: &Geometry,
 ) -> Result<Vec<Row>, Ending>
-    ensures read { IfOk result (λ rows. AreRead (trace_told trace.entry) geometry.now (I.remaining reader.old) rows.items) }
+    ensures read { IfOk result (λ rows. AreRead (trace_told trace.entry) geometry.now
+        (I.remaining reader.old) rows.items) }
     ensures fits { IfOk result (λ rows. All (IsInRange geometry.now) rows.items) }
     ensures fault { IfErr result (λ ending. is_help ending ≡ false) }
 {
@@ -198,7 +205,8 @@ fn open_ports<R, O: Ports<R>>(
 ) -> Result<Vec<O::P>, Ending>
     requires runnable { IsRunnable (told_of run.now) }
     ensures count { IfOk result (λ opened. vec_len opened ≡ ports_for run.now.order) }
-    ensures opened { IfOk result (λ opened. AreOpened run.now.page_file.now run.now.page_size (map O.P.geometry_of opened.items)) }
+    ensures opened { IfOk result (λ opened. AreOpened run.now.page_file.now run.now.page_size
+        (map O.P.geometry_of opened.items)) }
     ensures fault { IfErr result (λ ending. is_help ending ≡ false) }
 {
     let clients = ports_for(run.order);
@@ -223,7 +231,9 @@ fn run_in_order<P: Port + Send, R: Threads + Wait + Sync, W: Write>(
     requires ports { vec_len ports ≡ ports_for run.now.order }
     requires alike { All (λ p. P.geometry_of p ≡ geometry) ports.items }
     requires fits { All (IsInRange geometry) rows.items }
-    ensures reported { IfOk result (λ all_accepted. ReportsIn run.now.order (parameters_for run.now.order (told_of run.now) geometry rows.items) rows.items all_accepted (W.contents out.old) (W.contents out.new)) }
+    ensures reported { IfOk result (λ all_accepted. ReportsIn run.now.order
+        (parameters_for run.now.order (told_of run.now) geometry rows.items) rows.items all_accepted
+        (W.contents out.old) (W.contents out.new)) }
     ensures fault { IfErr result (λ ending. is_help ending ≡ false) }
 {
     let mut ports = ports;
@@ -245,7 +255,8 @@ fn run_told<R: Files + Threads + Wait + Sync, I: Read, O: Ports<R>, W: Write>(
     out: &mut W,
 ) -> Result<bool, Ending>
     requires runnable { IsRunnable (told_of run.now) }
-    ensures ran { IfOk result (λ all_accepted. Runs (told_of run.now) (I.remaining reader.old) all_accepted (W.contents out.old) (W.contents out.new)) }
+    ensures ran { IfOk result (λ all_accepted. Runs (told_of run.now)
+        (I.remaining reader.old) all_accepted (W.contents out.old) (W.contents out.new)) }
     ensures fault { IfErr result (λ ending. is_help ending ≡ false) }
 {
     let opened = match open_ports(rt, ports, run) {
@@ -287,7 +298,8 @@ pub fn run_with<R: Files + Threads + Wait + Sync, I: Read, O: Ports<R>, W: Write
     err: &mut E,
 ) -> u8
     ensures reported { ¬ AsksForHelp (words_or_default (texts words.entry.now)) → result < 2
-        → DoesWords (words_or_default (texts words.entry.now)) (I.remaining reader.old) result (W.contents out.old) (W.contents out.new) }
+        → DoesWords (words_or_default (texts words.entry.now)) (I.remaining reader.old) result
+        (W.contents out.old) (W.contents out.new) }
     ensures status { result ≤ 2 }
 {
     let done = match decide(alloc, words) {

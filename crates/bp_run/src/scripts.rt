@@ -37,8 +37,10 @@ fn empty_scripts(alloc: Global, clients: usize) -> Result<Vec<Vec<Row>>, Refusal
 fn add_row(scripts: &mut [Vec<Row>], row: Row) -> Result<(), Refusal>
     requires { row.client < length scripts.old }
     ensures count { length scripts.new ≡ length scripts.old }
-    ensures own { OnOk result (list_of row.client (lists scripts.new) ≡ list_of row.client (lists scripts.old) ++ row ∷ []) }
-    ensures others { OnOk result ((c : ℕ) → c ≢ row.client → list_of c (lists scripts.new) ≡ list_of c (lists scripts.old)) }
+    ensures own { OnOk result (list_of row.client (lists scripts.new) ≡ list_of row.client
+        (lists scripts.old) ++ row ∷ []) }
+    ensures others { OnOk result ((c : ℕ) → c ≢ row.client →
+        list_of c (lists scripts.new) ≡ list_of c (lists scripts.old)) }
     ensures refused { OnErr result (result ≡ Err Refusal.OutOfMemory) }
 {
     let script = &mut scripts[row.client as usize];

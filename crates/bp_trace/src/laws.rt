@@ -26,5 +26,6 @@ pub fn written_rows_read_back(geometry: &Geometry, rows: &[Row])
 
 /// The lines of the pieces of a trail, one piece after the other, and then the totals of all, are the report of the pieces joined.
 pub fn pieces_report_as_the_whole()
-    ensures { (pieces : List (List Entry)) → text_of_pieces none_taken pieces ≡ report_text (joined pieces) }
+    ensures { (pieces : List (List Entry)) → text_of_pieces none_taken pieces ≡ report_text
+        (joined pieces) }
 {}

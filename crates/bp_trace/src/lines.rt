@@ -31,7 +31,8 @@ fn page_of(call: &Call) -> u64
 /// Writes bytes in lower case hex.
 fn write_hex<W: Write>(bytes: &[u8], writer: &mut W) -> io::Result<()>
     requires { length bytes.now ≤ SHOWN }
-    ensures { OnOk result (Appends (W.contents writer.old) (W.contents writer.new) (encode_lower bytes.now)) }
+    ensures { OnOk result (Appends (W.contents writer.old) (W.contents writer.new)
+        (encode_lower bytes.now)) }
 {
     let mut digits = [0; 2 * SHOWN];
     let text = &mut digits[..2 * bytes.len()];
@@ -41,7 +42,8 @@ fn write_hex<W: Write>(bytes: &[u8], writer: &mut W) -> io::Result<()>
 
 /// Writes the line of a read: the client, the page and the first bytes of its image.
 fn write_read<W: Write>(client: u8, page: u64, image: &[u8], writer: &mut W) -> io::Result<()>
-    ensures { OnOk result (Appends (W.contents writer.old) (W.contents writer.new) (read_line client page image.now)) }
+    ensures { OnOk result (Appends (W.contents writer.old) (W.contents writer.new)
+        (read_line client page image.now)) }
 {
     let (shown, _) = image.split_at(image.len().min(SHOWN));
     write!(writer, "read {client} {page} ")?;
@@ -51,7 +53,8 @@ fn write_read<W: Write>(client: u8, page: u64, image: &[u8], writer: &mut W) -> 
 
 /// Writes the line of an event at its time, where it has one. A fault of the writer is passed on.
 pub fn write_event<W: Write>(time: u128, entry: &Entry, writer: &mut W) -> io::Result<()>
-    ensures { OnOk result (Appends (W.contents writer.old) (W.contents writer.new) (event_line time entry.now)) }
+    ensures { OnOk result (Appends (W.contents writer.old) (W.contents writer.new)
+        (event_line time entry.now)) }
 {
     let page = page_of(&entry.call);
     match &entry.reply {
@@ -70,7 +73,8 @@ pub fn write_event<W: Write>(time: u128, entry: &Entry, writer: &mut W) -> io::R
 
 /// Writes the line of a refused row. A fault of the writer is passed on.
 pub fn write_refused<W: Write>(refused: &Refused, writer: &mut W) -> io::Result<()>
-    ensures { OnOk result (Appends (W.contents writer.old) (W.contents writer.new) (refused_line refused.now)) }
+    ensures { OnOk result (Appends (W.contents writer.old) (W.contents writer.new)
+        (refused_line refused.now)) }
 {
     let row = refused.row;
     let number = refused.number;

@@ -25,7 +25,8 @@ fn steps_of(call: &Call) -> u64
 
 /// Writes the lines of the events, and counts their replies.
 fn write_events<W: Write>(entries: &[Entry], writer: &mut W) -> io::Result<Totals>
-    ensures lines { OnOk result (Appends (W.contents writer.old) (W.contents writer.new) (lines_after [] entries.now)) }
+    ensures lines { OnOk result (Appends (W.contents writer.old) (W.contents writer.new)
+        (lines_after [] entries.now)) }
     ensures totals { IfOk result (λ totals. totals ≡ totals_of entries.now) }
 {
     // The time is wide enough for any list of entries, legal or not.
@@ -43,7 +44,8 @@ fn write_events<W: Write>(entries: &[Entry], writer: &mut W) -> io::Result<Total
 ///
 /// A fault of the writer is passed on; how much of the report the writer then holds is not told.
 pub fn report<W: Write>(entries: &[Entry], writer: &mut W) -> io::Result<()>
-    ensures { OnOk result (Appends (W.contents writer.old) (W.contents writer.new) (report_text entries.now)) }
+    ensures { OnOk result (Appends (W.contents writer.old) (W.contents writer.new)
+        (report_text entries.now)) }
 {
     let totals = write_events(entries, writer)?;
     totals.write(writer)
@@ -53,7 +55,8 @@ pub fn report<W: Write>(entries: &[Entry], writer: &mut W) -> io::Result<()>
 ///
 /// A fault of the writer is passed on; how many of the lines the writer then holds is not told.
 pub fn report_rows<W: Write>(rows: &[Refused], writer: &mut W) -> io::Result<()>
-    ensures { OnOk result (Appends (W.contents writer.old) (W.contents writer.new) (rows_text rows.now)) }
+    ensures { OnOk result (Appends (W.contents writer.old) (W.contents writer.new)
+        (rows_text rows.now)) }
 {
     for refused in rows {
         write_refused(refused, writer)?;

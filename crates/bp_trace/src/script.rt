@@ -39,7 +39,8 @@ fn fault_at(row: u64, refusal: Refusal) -> TraceFault
 
 /// The rows that the bytes of a trace say, or the first fault.
 fn rows_of(alloc: Global, bytes: &[u8], geometry: &Geometry) -> Result<Vec<Row>, TraceFault>
-    ensures { Answers result (script_from geometry.now 1 (records default_config (strip_bom bytes.now))) }
+    ensures { Answers result (script_from geometry.now 1
+        (records default_config (strip_bom bytes.now))) }
 {
     let mut reader = ReaderBuilder::new()
         .has_headers(false)
@@ -83,7 +84,8 @@ pub fn read_script<R: Read>(
     reader: &mut R,
     geometry: &Geometry,
 ) -> Result<Vec<Row>, TraceFault>
-    ensures script { IfSome (R.remaining reader.old) (λ bytes. Answers result (script_of geometry.now bytes)) }
+    ensures script { IfSome (R.remaining reader.old) (λ bytes.
+        Answers result (script_of geometry.now bytes)) }
     ensures end { OnOk result (IsAtEnd (R.remaining reader.new)) }
 
     // Also of a reader that does not tell its bytes, the rows are those of some records.

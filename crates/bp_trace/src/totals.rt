@@ -54,7 +54,8 @@ impl Totals {
 
     /// Writes the six lines of the totals. A fault of the writer is passed on; how much of them it then holds is not told.
     pub fn write<W: Write>(&self, writer: &mut W) -> io::Result<()>
-        ensures { OnOk result (Appends (W.contents writer.old) (W.contents writer.new) (totals_text self.now)) }
+        ensures { OnOk result (Appends (W.contents writer.old) (W.contents writer.new)
+            (totals_text self.now)) }
     {
         write_total("hits", self.hits, writer)?;
         write_total("faults", self.faults, writer)?;
@@ -68,7 +69,8 @@ impl Totals {
 /// Writes the line of one total.
 #[tactic(auto, unfolding(crate::specs::Totals::total_line))]
 fn write_total<W: Write>(name: &str, count: u64, writer: &mut W) -> io::Result<()>
-    ensures { OnOk result (Appends (W.contents writer.old) (W.contents writer.new) (total_line name.now count)) }
+    ensures { OnOk result (Appends (W.contents writer.old) (W.contents writer.new)
+        (total_line name.now count)) }
 {
     writeln!(writer, "{name} {count}")
 }

@@ -31,17 +31,22 @@ ghost use Rattle.bp_trail.specs.Sentences.{Lasts, AreAfterLast, IsGreatest, evic
 /// flush of that page; a read end is answered with a pass exactly where it brought an image, and else that the read failed
 /// or that it found another page; a write end is good exactly where the write was. So each word on one entry says of its call and its reply what it seems to.
 pub fn words_on_entries()
-    ensures replies { (c : Parameters) (past : Trail) → Legal c past → EachEntry (λ before e. FitsItsCall e) past }
-    ensures words { (c : Parameters) (past : Trail) → Legal c past → EachEntry (λ before e. SaysSo e) past }
+    ensures replies { (c : Parameters) (past : Trail) → Legal c past →
+        EachEntry (λ before e. FitsItsCall e) past }
+    ensures words { (c : Parameters) (past : Trail) → Legal c past →
+        EachEntry (λ before e. SaysSo e) past }
 {}
 
 /// The words by which definitions look back over a trail: `since` is that some entry passes one test and no later entry
 /// another; `after_last` is all that came after the last entry that passes; `greatest` is the greatest of some numbers,
 /// or 0.
 pub fn words_on_trails()
-    ensures since { (start stop : Entry → Bool) (past : Trail) → Decides (since start stop past) (Lasts start stop past) }
-    ensures after_last { (p : Entry → Bool) (past newest : Trail) → AreAfterLast p past newest → newest ≡ after_last p past }
-    ensures some_after_last { (p : Entry → Bool) (past : Trail) → AreAfterLast p past (after_last p past) }
+    ensures since { (start stop : Entry → Bool) (past : Trail) →
+        Decides (since start stop past) (Lasts start stop past) }
+    ensures after_last { (p : Entry → Bool) (past newest : Trail) → AreAfterLast p past newest →
+        newest ≡ after_last p past }
+    ensures some_after_last { (p : Entry → Bool) (past : Trail) →
+        AreAfterLast p past (after_last p past) }
     ensures greatest { (numbers : List ℕ) → IsGreatest numbers (greatest numbers) }
 {}
 
@@ -49,13 +54,23 @@ pub fn words_on_trails()
 /// entry of the trail gives it back: a pass by an unfix, a read ticket by a read end, a write ticket by a write end. The
 /// pins of a page are the passes of it that are out; it is loading, or being written out, where such a ticket of it is out.
 pub fn out_is_given_and_not_ended()
-    ensures passes { (c : Parameters) (past : Trail) (g : Grant) → Legal c past → Decides (is_out g (passes_out past)) (IsUnended pass_of (λ e. pass_back e.call) past g) }
-    ensures reads { (c : Parameters) (past : Trail) (g : Grant) → Legal c past → Decides (is_out g (reads_out past)) (IsUnended read_ticket_of (λ e. read_ticket_back e.call) past g) }
-    ensures writes { (c : Parameters) (past : Trail) (g : Grant) → Legal c past → Decides (is_out g (writes_out past)) (IsUnended write_ticket_of (λ e. write_ticket_back e.call) past g) }
-    ensures list { (c : Parameters) (past : Trail) → Legal c past → passes_out past ≡ unended pass_of (λ e. pass_back e.call) past }
-    ensures pins { (c : Parameters) (past : Trail) (p : ℕ) → Legal c past → pins past p ≡ count (is_of p) (unended pass_of (λ e. pass_back e.call) past) }
-    ensures loading { (c : Parameters) (past : Trail) (p : ℕ) → Legal c past → Decides (loading past p) (HasUnended read_ticket_of (λ e. read_ticket_back e.call) past p) }
-    ensures writing { (c : Parameters) (past : Trail) (p : ℕ) → Legal c past → Decides (writing past p) (HasUnended write_ticket_of (λ e. write_ticket_back e.call) past p) }
+    ensures passes { (c : Parameters) (past : Trail) (g : Grant) → Legal c past →
+        Decides (is_out g (passes_out past)) (IsUnended pass_of (λ e. pass_back e.call) past g) }
+    ensures reads { (c : Parameters) (past : Trail) (g : Grant) → Legal c past →
+        Decides (is_out g (reads_out past)) (IsUnended read_ticket_of
+        (λ e. read_ticket_back e.call) past g) }
+    ensures writes { (c : Parameters) (past : Trail) (g : Grant) → Legal c past →
+        Decides (is_out g (writes_out past)) (IsUnended write_ticket_of
+        (λ e. write_ticket_back e.call) past g) }
+    ensures list { (c : Parameters) (past : Trail) → Legal c past →
+        passes_out past ≡ unended pass_of (λ e. pass_back e.call) past }
+    ensures pins { (c : Parameters) (past : Trail) (p : ℕ) → Legal c past →
+        pins past p ≡ count (is_of p) (unended pass_of (λ e. pass_back e.call) past) }
+    ensures loading { (c : Parameters) (past : Trail) (p : ℕ) → Legal c past →
+        Decides (loading past p) (HasUnended read_ticket_of (λ e. read_ticket_back e.call) past p) }
+    ensures writing { (c : Parameters) (past : Trail) (p : ℕ) → Legal c past →
+        Decides (writing past p) (HasUnended write_ticket_of
+        (λ e. write_ticket_back e.call) past p) }
 {}
 
 /// A page is resident exactly where a read of it ended well and no later entry evicts it.
@@ -68,10 +83,14 @@ pub fn resident_was_read_and_not_evicted()
 pub fn serials_count_the_replies()
     ensures passes { (past : Trail) → passes past ≡ count gives_pass past }
     ensures tickets { (past : Trail) → tickets past ≡ count (λ e. begins_operation e.reply) past }
-    ensures next_pass { (c : Parameters) (past : Trail) → Legal c past → EachEntry (IsNext (λ e. pass_number e.reply) passes) past }
-    ensures next_ticket { (c : Parameters) (past : Trail) → Legal c past → EachEntry (IsNext (λ e. ticket_given e.reply) tickets) past }
-    ensures new_pass { (c : Parameters) (past : Trail) → Legal c past → EachEntry (IsNew (λ e. pass_number e.reply)) past }
-    ensures new_ticket { (c : Parameters) (past : Trail) → Legal c past → EachEntry (IsNew (λ e. ticket_given e.reply)) past }
+    ensures next_pass { (c : Parameters) (past : Trail) → Legal c past →
+        EachEntry (IsNext (λ e. pass_number e.reply) passes) past }
+    ensures next_ticket { (c : Parameters) (past : Trail) → Legal c past →
+        EachEntry (IsNext (λ e. ticket_given e.reply) tickets) past }
+    ensures new_pass { (c : Parameters) (past : Trail) → Legal c past →
+        EachEntry (IsNew (λ e. pass_number e.reply)) past }
+    ensures new_ticket { (c : Parameters) (past : Trail) → Legal c past →
+        EachEntry (IsNew (λ e. ticket_given e.reply)) past }
 {}
 
 /// The references of a page are its hits and good read ends, each with the clock at it, after the last purge that forgot
@@ -79,10 +98,14 @@ pub fn serials_count_the_replies()
 /// references, is neither resident nor loading, and its LAST lies more than the retained period back. Their times never
 /// fall and never pass the clock.
 pub fn references_since_the_last_forgetting()
-    ensures references { (c : Parameters) (past : Trail) (p : ℕ) → Legal c past → references c past p ≡ references_since c past p }
-    ensures known { (c : Parameters) (past : Trail) (p : ℕ) → Legal c past → resident past p ≡ true → references c past p ≢ [] }
-    ensures in_range { (c : Parameters) (past : Trail) (p : ℕ) → Legal c past → references c past p ≢ [] → p < c.pages }
-    ensures forgets { (c : Parameters) (past : Trail) (p : ℕ) → Decides (forgets c past p (references c past p)) (IsForgotten c past p) }
+    ensures references { (c : Parameters) (past : Trail) (p : ℕ) → Legal c past →
+        references c past p ≡ references_since c past p }
+    ensures known { (c : Parameters) (past : Trail) (p : ℕ) → Legal c past →
+        resident past p ≡ true → references c past p ≢ [] }
+    ensures in_range { (c : Parameters) (past : Trail) (p : ℕ) → Legal c past →
+        references c past p ≢ [] → p < c.pages }
+    ensures forgets { (c : Parameters) (past : Trail) (p : ℕ) →
+        Decides (forgets c past p (references c past p)) (IsForgotten c past p) }
     ensures timed { (c : Parameters) (past : Trail) (p : ℕ) → IsTimed (references c past p) }
     ensures by_now { (c : Parameters) (past : Trail) (p : ℕ) → last c past p ≤ clock past }
 {}
@@ -90,20 +113,31 @@ pub fn references_since_the_last_forgetting()
 /// The stamps and LAST of a page are those of its references, however these are cut into bursts (by the law of
 /// `bp_lruk`, there is one such cut).
 pub fn stamps_are_of_the_bursts()
-    ensures stamps { (c : Parameters) (past : Trail) (p place : ℕ) (pieces : List Burst) → IsCut c.correlated (references c past p) pieces → hist c past p (suc place) ≡ (if nat_lt place c.k then burst_stamp pieces place else 0) }
-    ensures last { (c : Parameters) (past : Trail) (p : ℕ) (pieces : List Burst) → IsCut c.correlated (references c past p) pieces → last c past p ≡ last_time (burst_at pieces 0) }
+    ensures stamps { (c : Parameters) (past : Trail) (p place : ℕ) (pieces : List Burst) →
+        IsCut c.correlated (references c past p) pieces →
+        hist c past p (suc place) ≡ (if nat_lt place c.k then burst_stamp pieces place else 0) }
+    ensures last { (c : Parameters) (past : Trail) (p : ℕ) (pieces : List Burst) →
+        IsCut c.correlated (references c past p) pieces →
+        last c past p ≡ last_time (burst_at pieces 0) }
 {}
 
 /// The victim is the candidate that comes before every other one by (HIST(K), LAST, page), so that no candidate is farther
 /// by its backward K-distance; there is none only where there is no candidate. A candidate is resident, has no pins, is not
 /// being written out, and its LAST lies more than the correlated period back.
 pub fn victim_is_the_first_candidate()
-    ensures candidate { (c : Parameters) (past : Trail) (p : ℕ) → Decides (candidate c past p) (IsCandidate c past p) }
-    ensures found { (c : Parameters) (past : Trail) (v : ℕ) → victim c past ≡ Some v → IsFirst c past v }
-    ensures only { (c : Parameters) (past : Trail) (v : ℕ) → IsFirst c past v → victim c past ≡ Some v }
-    ensures none_farther { (c : Parameters) (past : Trail) (v q : ℕ) → victim c past ≡ Some v → IsCandidate c past q → is_farther (backward_distance c past q) (backward_distance c past v) ≡ false }
-    ensures none { (c : Parameters) (past : Trail) (q : ℕ) → victim c past ≡ None → IsCandidate c past q → ⊥ }
-    ensures no_candidate { (c : Parameters) (past : Trail) → ((q : ℕ) → IsCandidate c past q → ⊥) → victim c past ≡ None }
+    ensures candidate { (c : Parameters) (past : Trail) (p : ℕ) →
+        Decides (candidate c past p) (IsCandidate c past p) }
+    ensures found { (c : Parameters) (past : Trail) (v : ℕ) → victim c past ≡ Some v →
+        IsFirst c past v }
+    ensures only { (c : Parameters) (past : Trail) (v : ℕ) → IsFirst c past v →
+        victim c past ≡ Some v }
+    ensures none_farther { (c : Parameters) (past : Trail) (v q : ℕ) → victim c past ≡ Some v →
+        IsCandidate c past q → is_farther (backward_distance c past q)
+        (backward_distance c past v) ≡ false }
+    ensures none { (c : Parameters) (past : Trail) (q : ℕ) → victim c past ≡ None →
+        IsCandidate c past q → ⊥ }
+    ensures no_candidate { (c : Parameters) (past : Trail) → ((q : ℕ) → IsCandidate c past q → ⊥) →
+        victim c past ≡ None }
 {}
 
 /// A page is unsaved exactly where some write of it has no good write-out of it that began after it. Its page LSN is the
@@ -111,54 +145,81 @@ pub fn victim_is_the_first_candidate()
 /// written since a write-out began where some write of it came after that.
 pub fn unsaved_since_the_last_good_write_out()
     ensures unsaved { (past : Trail) (p : ℕ) → Decides (unsaved past p) (IsUnsaved past p) }
-    ensures top { (past newest : Trail) (p : ℕ) → AreAfterLast (loads p) past newest → IsGreatest (filter_map (lsn_written p) newest) (top past p) }
-    ensures written_since { (past newest : Trail) (t p : ℕ) → AreAfterLast (λ e. begins t e.reply) past newest → written_since past t p ≡ some (writes p) newest }
-    ensures durable { (past : Trail) → IsGreatest (filter_map (λ e. marked e.call) past) (durable past) }
+    ensures top { (past newest : Trail) (p : ℕ) → AreAfterLast (loads p) past newest →
+        IsGreatest (filter_map (lsn_written p) newest) (top past p) }
+    ensures written_since { (past newest : Trail) (t p : ℕ) →
+        AreAfterLast (λ e. begins t e.reply) past newest →
+        written_since past t p ≡ some (writes p) newest }
+    ensures durable { (past : Trail) → IsGreatest (filter_map (λ e. marked e.call) past)
+        (durable past) }
 {}
 
 /// A page's held image is that of its last good read end, with the page's later writes applied in order. A resident page
 /// has such a read end, and an image of the page size.
 pub fn held_is_the_last_read_with_later_writes()
-    ensures there { (past : Trail) (p : ℕ) → resident past p ≡ true → Lasts (loads p) (loads p) past }
-    ensures size { (c : Parameters) (past : Trail) (p : ℕ) → Legal c past → resident past p ≡ true → length (held past p) ≡ c.size }
-    ensures image { (later earlier : Trail) (e : Entry) (t p n : ℕ) (image : List ℕ) → e.call ≡ ReadEnd t p (Some image) → e.reply ≡ Fixed n → IsFalse (some (loads p) later) → held (later ++ e ∷ earlier) p ≡ plain_map (λ q. image) later p }
+    ensures there { (past : Trail) (p : ℕ) → resident past p ≡ true →
+        Lasts (loads p) (loads p) past }
+    ensures size { (c : Parameters) (past : Trail) (p : ℕ) → Legal c past → resident past p ≡ true →
+        length (held past p) ≡ c.size }
+    ensures image { (later earlier : Trail) (e : Entry) (t p n : ℕ) (image : List ℕ) →
+        e.call ≡ ReadEnd t p (Some image) → e.reply ≡ Fixed n → IsFalse (some (loads p) later) →
+        held (later ++ e ∷ earlier) p ≡ plain_map (λ q. image) later p }
 {}
 
 /// What a read is due to give: the opening image where no write-out of the page has begun; else the image of the last
 /// one begun, which is known once that one has ended well.
 pub fn due_is_the_last_write_out()
-    ensures opening { (m : ℕ → List ℕ) (past : Trail) (p : ℕ) → IsFalse (some (λ e. begins_of p e.reply) past) → due m past p ≡ Some (m p) }
-    ensures begun { (m : ℕ → List ℕ) (past later earlier : Trail) (e : Entry) (t p : ℕ) (image : List ℕ) → past ≡ later ++ e ∷ earlier → e.reply ≡ WriteFirst t p image → IsFalse (some (λ d. begins_of p d.reply) later) → due m past p ≡ (if some (λ d. ends_well t d.call) past then Some image else None) }
+    ensures opening { (m : ℕ → List ℕ) (past : Trail) (p : ℕ) →
+        IsFalse (some (λ e. begins_of p e.reply) past) → due m past p ≡ Some (m p) }
+    ensures begun { (m : ℕ → List ℕ) (past later earlier : Trail) (e : Entry) (t p : ℕ)
+        (image : List ℕ) → past ≡ later ++ e ∷ earlier → e.reply ≡ WriteFirst t p image →
+        IsFalse (some (λ d. begins_of p d.reply) later) →
+        due m past p ≡ (if some (λ d. ends_well t d.call) past then Some image else None) }
 {}
 
 /// After every legal trail a page stands at most once among the residents, and one that is loading is not among them; a
 /// pinned page and an unsaved page are resident; pages resident and loading are in range, and at most as many as frames.
 pub fn pages_have_one_place()
-    ensures once { (c : Parameters) (past : Trail) (p : ℕ) → Legal c past → count (λ q. q == p) (residents past) ≤ 1 }
-    ensures loading_is_away { (c : Parameters) (past : Trail) (p : ℕ) → Legal c past → loading past p ≡ true → resident past p ≡ false }
-    ensures pinned_is_here { (c : Parameters) (past : Trail) (p : ℕ) → Legal c past → 0 < pins past p → resident past p ≡ true }
-    ensures unsaved_is_here { (c : Parameters) (past : Trail) (p : ℕ) → Legal c past → unsaved past p ≡ true → resident past p ≡ true }
-    ensures resident_in_range { (c : Parameters) (past : Trail) (p : ℕ) → Legal c past → resident past p ≡ true → p < c.pages }
-    ensures loading_in_range { (c : Parameters) (past : Trail) (p : ℕ) → Legal c past → loading past p ≡ true → p < c.pages }
-    ensures within_frames { (c : Parameters) (past : Trail) → Legal c past → length (residents past) + length (reads_out past) ≤ c.frames }
+    ensures once { (c : Parameters) (past : Trail) (p : ℕ) → Legal c past →
+        count (λ q. q == p) (residents past) ≤ 1 }
+    ensures loading_is_away { (c : Parameters) (past : Trail) (p : ℕ) → Legal c past →
+        loading past p ≡ true → resident past p ≡ false }
+    ensures pinned_is_here { (c : Parameters) (past : Trail) (p : ℕ) → Legal c past →
+        0 < pins past p → resident past p ≡ true }
+    ensures unsaved_is_here { (c : Parameters) (past : Trail) (p : ℕ) → Legal c past →
+        unsaved past p ≡ true → resident past p ≡ true }
+    ensures resident_in_range { (c : Parameters) (past : Trail) (p : ℕ) → Legal c past →
+        resident past p ≡ true → p < c.pages }
+    ensures loading_in_range { (c : Parameters) (past : Trail) (p : ℕ) → Legal c past →
+        loading past p ≡ true → p < c.pages }
+    ensures within_frames { (c : Parameters) (past : Trail) → Legal c past →
+        length (residents past) + length (reads_out past) ≤ c.frames }
 {}
 
 /// After every legal trail a page has at most one operation on the device out, a read or a write; what is being written
 /// out is unsaved.
 pub fn one_device_operation_a_page()
-    ensures one { (c : Parameters) (past : Trail) (p : ℕ) → Legal c past → count (is_of p) (reads_out past) + count (is_of p) (writes_out past) ≤ 1 }
-    ensures writing_is_unsaved { (c : Parameters) (past : Trail) (p : ℕ) → Legal c past → writing past p ≡ true → unsaved past p ≡ true }
+    ensures one { (c : Parameters) (past : Trail) (p : ℕ) → Legal c past →
+        count (is_of p) (reads_out past) + count (is_of p) (writes_out past) ≤ 1 }
+    ensures writing_is_unsaved { (c : Parameters) (past : Trail) (p : ℕ) → Legal c past →
+        writing past p ≡ true → unsaved past p ≡ true }
 {}
 
 /// After every legal trail the passes and tickets that are out have serial numbers below the next ones, and each number
 /// is out at most once.
 pub fn serials_out_were_given()
-    ensures passes { (c : Parameters) (past : Trail) (g : Grant) → Legal c past → Contains (passes_out past) g → g.serial < passes past }
-    ensures reads { (c : Parameters) (past : Trail) (g : Grant) → Legal c past → Contains (reads_out past) g → g.serial < tickets past }
-    ensures writes { (c : Parameters) (past : Trail) (g : Grant) → Legal c past → Contains (writes_out past) g → g.serial < tickets past }
-    ensures passes_once { (c : Parameters) (past : Trail) (n : ℕ) → Legal c past → count (λ g. g.serial == n) (passes_out past) ≤ 1 }
-    ensures reads_once { (c : Parameters) (past : Trail) (n : ℕ) → Legal c past → count (λ g. g.serial == n) (reads_out past) ≤ 1 }
-    ensures writes_once { (c : Parameters) (past : Trail) (n : ℕ) → Legal c past → count (λ g. g.serial == n) (writes_out past) ≤ 1 }
+    ensures passes { (c : Parameters) (past : Trail) (g : Grant) → Legal c past →
+        Contains (passes_out past) g → g.serial < passes past }
+    ensures reads { (c : Parameters) (past : Trail) (g : Grant) → Legal c past →
+        Contains (reads_out past) g → g.serial < tickets past }
+    ensures writes { (c : Parameters) (past : Trail) (g : Grant) → Legal c past →
+        Contains (writes_out past) g → g.serial < tickets past }
+    ensures passes_once { (c : Parameters) (past : Trail) (n : ℕ) → Legal c past →
+        count (λ g. g.serial == n) (passes_out past) ≤ 1 }
+    ensures reads_once { (c : Parameters) (past : Trail) (n : ℕ) → Legal c past →
+        count (λ g. g.serial == n) (reads_out past) ≤ 1 }
+    ensures writes_once { (c : Parameters) (past : Trail) (n : ℕ) → Legal c past →
+        count (λ g. g.serial == n) (writes_out past) ≤ 1 }
 {}
 
 /// In every legal trail each read end finds known what the device is due to give; and so would each that may come.
@@ -180,10 +241,16 @@ pub fn pages_hold_the_plain_map()
 /// farther than by its backward K-distance; it has no pins and is not unsaved. A page that is written out first for a fix
 /// is the victim too.
 pub fn evictions_are_safe()
-    ensures safe { (c : Parameters) (past : Trail) → Legal c past → EachEntry (EvictsSafely c) past }
-    ensures first { (c : Parameters) (past : Trail) → Legal c past → EachEntry (λ before e. (t v : ℕ) → e.reply ≡ Load t (Some v) → IsFirst c before v) past }
-    ensures farthest { (c : Parameters) (past : Trail) → Legal c past → EachEntry (λ before e. (t v q : ℕ) → e.reply ≡ Load t (Some v) → IsCandidate c before q → is_farther (backward_distance c before q) (backward_distance c before v) ≡ false) past }
-    ensures written_first { (c : Parameters) (past : Trail) → Legal c past → EachEntry (λ before e. (t v p : ℕ) (image : List ℕ) → e.call ≡ Fix p → e.reply ≡ WriteFirst t v image → IsFirst c before v) past }
+    ensures safe { (c : Parameters) (past : Trail) → Legal c past →
+        EachEntry (EvictsSafely c) past }
+    ensures first { (c : Parameters) (past : Trail) → Legal c past →
+        EachEntry (λ before e. (t v : ℕ) → e.reply ≡ Load t (Some v) → IsFirst c before v) past }
+    ensures farthest { (c : Parameters) (past : Trail) → Legal c past →
+        EachEntry (λ before e. (t v q : ℕ) → e.reply ≡ Load t (Some v) → IsCandidate c before q →
+        is_farther (backward_distance c before q) (backward_distance c before v) ≡ false) past }
+    ensures written_first { (c : Parameters) (past : Trail) → Legal c past →
+        EachEntry (λ before e. (t v p : ℕ) (image : List ℕ) → e.call ≡ Fix p →
+        e.reply ≡ WriteFirst t v image → IsFirst c before v) past }
 {}
 
 /// At each begin of a write-out in a legal trail every earlier write of that page has an LSN of at most the durable mark.
@@ -199,13 +266,17 @@ pub fn legal_trails_are_safe()
 /// A standing decides what may come. Trails that may follow one history may follow each legal one of the same standing, and lead to
 /// the same standing; four numbers tell whether a legal trail leads where no entries do.
 pub fn standings_decide_what_may_come()
-    ensures follows { (c : Parameters) (trail h k : Trail) → Legal c (trail ++ h) → Legal c k → standing c h ≡ standing c k → Precedes c (standing c (trail ++ h)) (trail ++ k) }
-    ensures nowhere { (c : Parameters) (past : Trail) → Legal c past → clock past ≡ 1 → durable past ≡ 0 → passes past ≡ 0 → tickets past ≡ 0 → standing c past ≡ standing c [] }
+    ensures follows { (c : Parameters) (trail h k : Trail) → Legal c (trail ++ h) → Legal c k →
+        standing c h ≡ standing c k → Precedes c (standing c (trail ++ h)) (trail ++ k) }
+    ensures nowhere { (c : Parameters) (past : Trail) → Legal c past → clock past ≡ 1 →
+        durable past ≡ 0 → passes past ≡ 0 → tickets past ≡ 0 → standing c past ≡ standing c [] }
 {}
 
 /// Pieces of a trail, each of which opens where the one before it led, are one legal trail when they are joined. Over a device that was
 /// honest since, the reads of a piece answer by each plain map that begins with the images held at its opening.
 pub fn pieces_are_one_legal_trail()
-    ensures joined { (c : Parameters) (pieces : List Piece) (next : Standing) → Chained c pieces next → Precedes c next (joined pieces) }
-    ensures reads { (c : Parameters) (opening : Standing) (trail : Trail) → AfterEach c opening trail (Legal c) → ReadsSince c opening trail }
+    ensures joined { (c : Parameters) (pieces : List Piece) (next : Standing) →
+        Chained c pieces next → Precedes c next (joined pieces) }
+    ensures reads { (c : Parameters) (opening : Standing) (trail : Trail) →
+        AfterEach c opening trail (Legal c) → ReadsSince c opening trail }
 {}

@@ -123,7 +123,8 @@ fn number_option<'a>(
     default: &'a str,
     help: &'a str,
 ) -> Arg<'a>
-    ensures rule { (low high : _) → numbers.entry ≡ ValueParser.Unsigned low high → rule_of result ≡ spec.number_option id.entry.now low high default.entry.now }
+    ensures rule { (low high : _) → numbers.entry ≡ ValueParser.Unsigned low high →
+        rule_of result ≡ spec.number_option id.entry.now low high default.entry.now }
     ensures local { result.global ≡ false }
 {
     Arg::new(alloc, id)
@@ -141,7 +142,8 @@ fn required_number<'a>(
     numbers: ValueParser<'a>,
     help: &'a str,
 ) -> Arg<'a>
-    ensures rule { (low high : _) → numbers.entry ≡ ValueParser.Unsigned low high → rule_of result ≡ spec.required_number id.entry.now low high }
+    ensures rule { (low high : _) → numbers.entry ≡ ValueParser.Unsigned low high →
+        rule_of result ≡ spec.required_number id.entry.now low high }
     ensures local { result.global ≡ false }
 {
     Arg::new(alloc, id)

@@ -25,8 +25,10 @@ fn default_words<'a>() -> &'a [&'a str]
 /// The words again, if a page may have as many bytes as they say. It is looked at before any page file is opened.
 fn check_size(task: Task<'_>) -> Result<Task<'_>, Ending>
     requires { AreInLimits (asked_of task) }
-    ensures accepted { IfOk result (λ same. (asked_of same ≡ asked_of task.entry) × CanBegin (asked_of same)) }
-    ensures refused { IfErr result (λ e. (e ≡ Ending.PageFileRefused Refusal.BadGeometry) × (size_asked (asked_of task.entry) % 16 ≢ 0)) }
+    ensures accepted { IfOk result (λ same. (asked_of same ≡ asked_of task.entry) ×
+        CanBegin (asked_of same)) }
+    ensures refused { IfErr result (λ e. (e ≡ Ending.PageFileRefused Refusal.BadGeometry) ×
+        (size_asked (asked_of task.entry) % 16 ≢ 0)) }
 {
     match Geometry::new(1, task.page_size()) {
         Ok(_) => Ok(task),

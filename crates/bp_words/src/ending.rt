@@ -76,8 +76,10 @@ impl Ending {
 
     /// Writes help on `out`, and anything else as one line on `err`.
     pub fn say<W: Write, E: Write>(&self, out: &mut W, err: &mut E) -> io::Result<()>
-        ensures out { OnOk result (Appends (W.contents out.old) (W.contents out.new) (on_out self.now)) }
-        ensures err { OnOk result (Appends (E.contents err.old) (E.contents err.new) (on_err self.now)) }
+        ensures out { OnOk result (Appends (W.contents out.old) (W.contents out.new)
+            (on_out self.now)) }
+        ensures err { OnOk result (Appends (E.contents err.old) (E.contents err.new)
+            (on_err self.now)) }
         ensures one_line { is_help self.now ≡ false → is_line (message_of self.now) ≡ true }
         ensures out_kept { is_help self.now ≡ false → out.new ≡ out.old }
         ensures err_kept { is_help self.now ≡ true → err.new ≡ err.old }
@@ -94,7 +96,8 @@ impl Ending {
     ///
     /// A fault of `err` changes nothing. Where help can't be written the output failed: that is said, with status 2.
     pub fn finish<W: Write, E: Write>(&self, out: &mut W, err: &mut E) -> u8
-        ensures help { result ≡ 0 → (is_help self.now ≡ true) × Appends (W.contents out.old) (W.contents out.new) (message_of self.now) }
+        ensures help { result ≡ 0 → (is_help self.now ≡ true) ×
+            Appends (W.contents out.old) (W.contents out.new) (message_of self.now) }
         ensures fault { (result ≡ 0 → ⊥) → result ≡ 2 }
         ensures out_kept { is_help self.now ≡ false → out.new ≡ out.old }
     {

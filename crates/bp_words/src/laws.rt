@@ -11,16 +11,60 @@ use clap::error::ErrorKind;
 
 /// What some words name, as the definition computes.
 pub fn words_by_example()
-    ensures none { asked_by (words_or_default []) ≡ Some (a_run (record { trace = from_stdin; page_file = codes "mem:16"; frames = 2; k = 1; correlated = 0; retained = 1000; size = 64; format = Format.Plain; order = Order.Trace })) }
+    ensures none { asked_by (words_or_default []) ≡ Some
+        (a_run (record {
+          trace = from_stdin;
+          page_file = codes "mem:16";
+          frames = 2;
+          k = 1;
+          correlated = 0;
+          retained = 1000;
+          size = 64;
+          format = Format.Plain;
+          order = Order.Trace;
+        })) }
     ensures defaults { asked_by (codes "run" ∷ codes "stdin" ∷ codes "mem:16" ∷ [])
-        ≡ Some (a_run (record { trace = from_stdin; page_file = codes "mem:16"; frames = 8; k = 2; correlated = 0; retained = 1000; size = 64; format = Format.Plain; order = Order.Trace })) }
-    ensures all { asked_by (codes "run" ∷ codes "--k" ∷ codes "16" ∷ codes "--correlated=4611686018427387904" ∷ codes "t.csv" ∷ codes "--retained" ∷ codes "0" ∷ codes "--frames" ∷ codes "65536" ∷ codes "mem:" ∷ codes "--page-size=16" ∷ codes "--format" ∷ codes "2" ∷ codes "--order" ∷ codes "free" ∷ [])
-        ≡ Some (a_run (record { trace = at_path (codes "t.csv"); page_file = codes "mem:"; frames = 65536; k = 16; correlated = 4611686018427387904; retained = 0; size = 16; format = Format.Headed; order = Order.Free })) }
-    ensures out_of_range { fault_in (codes "run" ∷ codes "stdin" ∷ codes "mem:16" ∷ codes "--k" ∷ codes "17" ∷ []) ≡ ErrorKind.ValueValidation ∷ [] }
-    ensures unknown { fault_in (codes "run" ∷ codes "stdin" ∷ codes "mem:16" ∷ codes "--seed" ∷ codes "1" ∷ []) ≡ ErrorKind.UnknownArgument ∷ [] }
-    ensures no_order { fault_in (codes "run" ∷ codes "stdin" ∷ codes "mem:16" ∷ codes "--order" ∷ codes "Free" ∷ []) ≡ ErrorKind.InvalidValue ∷ [] }
-    ensures no_version { fault_in (codes "run" ∷ codes "stdin" ∷ codes "mem:16" ∷ codes "--format" ∷ codes "3" ∷ []) ≡ ErrorKind.ValueValidation ∷ [] }
-    ensures migration { asked_by (codes "migrate" ∷ codes "a" ∷ codes "b" ∷ codes "--page-size" ∷ codes "16" ∷ []) ≡ Some (a_migration (record { old = codes "a"; new = codes "b"; size = 16 })) }
-    ensures no_size { fault_in (codes "migrate" ∷ codes "a" ∷ codes "b" ∷ []) ≡ ErrorKind.MissingRequiredArgument ∷ [] }
+        ≡ Some (a_run (record {
+          trace = from_stdin;
+          page_file = codes "mem:16";
+          frames = 8;
+          k = 2;
+          correlated = 0;
+          retained = 1000;
+          size = 64;
+          format = Format.Plain;
+          order = Order.Trace;
+        })) }
+    ensures all { asked_by (codes "run" ∷ codes "--k" ∷ codes "16" ∷
+        codes "--correlated=4611686018427387904" ∷ codes "t.csv" ∷ codes "--retained" ∷ codes "0" ∷
+        codes "--frames" ∷ codes "65536" ∷ codes "mem:" ∷ codes "--page-size=16" ∷
+        codes "--format" ∷ codes "2" ∷ codes "--order" ∷ codes "free" ∷ [])
+        ≡ Some (a_run (record {
+          trace = at_path (codes "t.csv");
+          page_file = codes "mem:";
+          frames = 65536;
+          k = 16;
+          correlated = 4611686018427387904;
+          retained = 0;
+          size = 16;
+          format = Format.Headed;
+          order = Order.Free;
+        })) }
+    ensures out_of_range { fault_in (codes "run" ∷ codes "stdin" ∷ codes "mem:16" ∷ codes "--k" ∷
+        codes "17" ∷ []) ≡ ErrorKind.ValueValidation ∷ [] }
+    ensures unknown { fault_in (codes "run" ∷ codes "stdin" ∷ codes "mem:16" ∷ codes "--seed" ∷
+        codes "1" ∷ []) ≡ ErrorKind.UnknownArgument ∷ [] }
+    ensures no_order { fault_in (codes "run" ∷ codes "stdin" ∷ codes "mem:16" ∷ codes "--order" ∷
+        codes "Free" ∷ []) ≡ ErrorKind.InvalidValue ∷ [] }
+    ensures no_version { fault_in (codes "run" ∷ codes "stdin" ∷ codes "mem:16" ∷ codes "--format" ∷
+        codes "3" ∷ []) ≡ ErrorKind.ValueValidation ∷ [] }
+    ensures migration { asked_by (codes "migrate" ∷ codes "a" ∷ codes "b" ∷ codes "--page-size" ∷
+        codes "16" ∷ []) ≡ Some (a_migration (record {
+          old = codes "a";
+          new = codes "b";
+          size = 16;
+        })) }
+    ensures no_size { fault_in (codes "migrate" ∷ codes "a" ∷ codes "b" ∷
+        []) ≡ ErrorKind.MissingRequiredArgument ∷ [] }
     ensures help { fault_in (codes "run" ∷ codes "--help" ∷ []) ≡ ErrorKind.DisplayHelp ∷ [] }
 {}

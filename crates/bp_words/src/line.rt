@@ -14,7 +14,8 @@ fn unindented(line: &str) -> &str
 
 /// The lines of a text before the first blank one.
 fn first_lines<'a>(alloc: Global, text: &'a str) -> Result<Vec<&'a str>, AllocError>
-    ensures { IfOk result (λ lines. map (λ line. line.now) lines.items ≡ spec.first_lines text.entry.now) }
+    ensures { IfOk result (λ lines. map (λ line. line.now) lines.items
+        ≡ spec.first_lines text.entry.now) }
 {
     text.lines()
         .map(unindented)

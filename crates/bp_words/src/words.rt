@@ -130,7 +130,8 @@ fn period_at(matches: &ArgMatches<'_>, id: &str) -> Option<u64>
 
 /// The word that stands for an argument.
 fn word_at<'a>(matches: &ArgMatches<'a>, id: &str) -> Option<&'a str>
-    ensures { option_map (λ word. word.now) result ≡ first_of id.now (rows_of (found_of matches.now)) }
+    ensures { option_map (λ word. word.now) result ≡ first_of id.now
+        (rows_of (found_of matches.now)) }
 {
     matches.get_str(id)
 }

@@ -264,7 +264,8 @@ pub fn run_workers<P: Port + Send, W: Worker<P> + Send, R: Threads + Wait + Sync
         run.core.parameters ≡ run_parameters config (vec_len workers)) }
     ensures left { IfOk result (λ run.
         SideBySide (LeftBy W.leaves run.core.before) 0 workers.items run.left.items) }
-    ensures answers { RunAnswers (CanRun P.geometry_of config ports.items (vec_len workers)) result }
+    ensures answers { RunAnswers (CanRun P.geometry_of config ports.items
+        (vec_len workers)) result }
 {
     if !fit_together(&config, &ports, workers.len()) {
         return Err(Refusal::BadSettings);

@@ -57,7 +57,8 @@ pub trait Worker<P: Port>: Drop {
     )
         requires new { client.old.session ≡ new_session 0 }
         requires unused { upkeep_value upkeep.old ≡ unused_upkeep }
-        ensures leaves { leaves 0 self.old self.new client.new.session (Some (upkeep_value upkeep.new)) };
+        ensures leaves { leaves 0 self.old self.new client.new.session
+            (Some (upkeep_value upkeep.new)) };
 }
 
 /// What a worker left.

@@ -168,7 +168,8 @@ pub extern "C" fn hz_read_end(
     image: &[u8],
     pass: &mut HzGrant,
 ) -> u16
-    ensures { ReadEnded core.old.seal.pool core.new.seal.pool ticket.now image.now pass.old pass.new result }
+    ensures { ReadEnded core.old.seal.pool core.new.seal.pool ticket.now image.now pass.old pass.new
+        result }
 {
     let Some(mut pool) = core.take(alloc) else {
         return NO_CORE;
@@ -231,7 +232,8 @@ pub extern "C" fn hz_write_end(
     is_good: bool,
     is_dirty: &mut bool,
 ) -> u16
-    ensures { WriteEnded core.old.seal.pool core.new.seal.pool ticket.now is_good is_dirty.old is_dirty.new result }
+    ensures { WriteEnded core.old.seal.pool core.new.seal.pool ticket.now is_good is_dirty.old
+        is_dirty.new result }
 {
     let Some(mut pool) = core.take(alloc) else {
         return NO_CORE;
@@ -253,7 +255,8 @@ pub extern "C" fn hz_read(
     offset: usize,
     into: &mut [u8],
 ) -> u16
-    ensures { PartRead core.old.seal.pool core.new.seal.pool pass.now offset into.old into.new result }
+    ensures { PartRead core.old.seal.pool core.new.seal.pool pass.now offset into.old into.new
+        result }
 {
     let Some(mut pool) = core.take(alloc) else {
         return NO_CORE;

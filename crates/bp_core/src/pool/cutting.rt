@@ -31,7 +31,8 @@ impl PoolCore<RecordingKeeper> {
     pub fn cut_into(&mut self, spare: Vec<Entry>) -> Result<Vec<Entry>, Refusal>
         ensures done { IfOk result (λ entries. Cuts self.old entries.items self.new) }
         ensures refused { IfErr result (λ e. CutRefused self.old e self.new) }
-        ensures enough { self.old.parameters.room ≤ vec_capacity spare → OnErr result (result ≡ Err Refusal.ClockFull) }
+        ensures enough { self.old.parameters.room ≤ vec_capacity spare →
+            OnErr result (result ≡ Err Refusal.ClockFull) }
         ensures memory { IfOk result (λ entries. self.old.parameters.room ≤ vec_capacity entries) }
     {
         if self.state.passes_given > SERIALS_END || self.state.tickets_given > SERIALS_END {
@@ -46,7 +47,8 @@ impl PoolCore<RecordingKeeper> {
 
     /// Whether the entries so far lead where no entries do: they gave nothing, and left the clock and the mark.
     fn leads_nowhere(&self) -> bool
-        ensures { EachPast self.now (λ past. Decides result (standing self.now.parameters past ≡ standing self.now.parameters [])) }
+        ensures { EachPast self.now (λ past. Decides result
+            (standing self.now.parameters past ≡ standing self.now.parameters [])) }
     {
         self.state.clock == 1
             && (self.state.durable.number() == 0

@@ -124,11 +124,13 @@ impl<K: Keeper> PoolCore<K> {
 
     /// A read went well: its page is resident, with one pass out.
     fn end_load(&mut self, client: u8, page: PageNo, serial: u64, image: Image) -> Pass
-        requires out { EachPast self.old (λ past. is_out (grant client page serial) (reads_out past) ≡ true) }
+        requires out { EachPast self.old (λ past. is_out (grant client page serial)
+            (reads_out past) ≡ true) }
         requires size { length image ≡ self.old.parameters.size }
         ensures client { result.client ≡ client }
         ensures page { result.page ≡ page }
-        ensures entry { Adds self.old client (Call.ReadEnd serial page (Some image)) (Reply.Fixed result.serial) self.new }
+        ensures entry { Adds self.old client (Call.ReadEnd serial page (Some image))
+            (Reply.Fixed result.serial) self.new }
     {
         self.state.reads.take_back(serial);
         let block = self.state.histories.place(page).unwrap();
@@ -146,8 +148,10 @@ impl<K: Keeper> PoolCore<K> {
 
     /// A read failed: nothing is remembered of it.
     fn fail_load(&mut self, client: u8, page: PageNo, serial: u64, fault: PortFault)
-        requires { EachPast self.old (λ past. is_out (grant client page serial) (reads_out past) ≡ true) }
-        ensures { Adds self.old client (Call.ReadEnd serial page None) (read_failure fault) self.new }
+        requires { EachPast self.old (λ past. is_out (grant client page serial)
+            (reads_out past) ≡ true) }
+        ensures { Adds self.old client (Call.ReadEnd serial page None)
+            (read_failure fault) self.new }
     {
         self.state.reads.take_back(serial);
         self.state.histories.unprepare(page);

@@ -51,7 +51,8 @@ impl<K: Keeper> PoolCore<K> {
 
     /// The frame of a resident page.
     pub(super) fn frame(&self, page: PageNo) -> Option<&Frame>
-        ensures found { IfSome result (λ f. EachPast self.now (λ past. f.now ≡ frame_of past page f.now.block)) }
+        ensures found { IfSome result (λ f. EachPast self.now
+            (λ past. f.now ≡ frame_of past page f.now.block)) }
         ensures here { IfSome result (λ f. EachPast self.now (λ past. resident past page ≡ true)) }
         ensures away { IfNone result (EachPast self.now (λ past. resident past page ≡ false)) }
     {
@@ -62,7 +63,8 @@ impl<K: Keeper> PoolCore<K> {
     pub(super) fn answer(&mut self, client: u8, call: Call, reply: Reply)
         requires quiet { IsQuiet call reply }
         requires client_in { client < self.old.parameters.clients }
-        requires allowed { EachPast self.old (λ past. allowed self.old.parameters past client call ≡ true) }
+        requires allowed { EachPast self.old (λ past. allowed self.old.parameters past client call
+            ≡ true) }
         requires reply { EachPast self.old (λ past. reply ≡ reply_of self.old.parameters past call) }
         requires room { HasRoomFor 1 self.old }
         ensures { Adds self.old client call reply self.new }
@@ -74,8 +76,10 @@ impl<K: Keeper> PoolCore<K> {
     pub(super) fn answer_read(&mut self, pass: Grant, image: &Image, spare: K::SpareImage)
         requires spare { K.serves_image spare image.now }
         requires client_in { pass.client < self.old.parameters.clients }
-        requires allowed { EachPast self.old (λ past. allowed self.old.parameters past pass.client (read_by pass) ≡ true) }
-        requires reply { EachPast self.old (λ past. Content image.now ≡ reply_of self.old.parameters past (read_by pass)) }
+        requires allowed { EachPast self.old (λ past. allowed self.old.parameters past pass.client
+            (read_by pass) ≡ true) }
+        requires reply { EachPast self.old (λ past. Content image.now
+            ≡ reply_of self.old.parameters past (read_by pass)) }
         requires room { HasRoomFor 1 self.old }
         ensures { Adds self.old pass.client (read_by pass) (Content image.now) self.new }
     {

@@ -102,7 +102,8 @@ impl PoolCore<RecordingKeeper> {
         ensures legal { EachPast self.now (Legal self.now.parameters) }
         ensures safe { EachPast self.now (Safe self.now.parameters) }
         ensures before { Legal self.now.parameters self.now.before }
-        ensures leads_on { LeadsOn self.now.parameters (opening self.now) (reverse result.now) (standing self.now.parameters self.now.past) }
+        ensures leads_on { LeadsOn self.now.parameters (opening self.now) (reverse result.now)
+            (standing self.now.parameters self.now.past) }
         ensures reads { ReadsSince self.now.parameters (opening self.now) (reverse result.now) }
         ensures plain { EachPast self.now HeldIsPlain }
         ensures known { EachPast self.now ReadsAreKnown }

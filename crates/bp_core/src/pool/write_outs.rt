@@ -68,9 +68,11 @@ impl<K: Keeper> PoolCore<K> {
     ) -> Result<WriteTicket, Refusal>
         requires begins { IsBegin call }
         requires client_in { client < self.old.parameters.clients }
-        requires allowed { EachPast self.old (λ past. allowed self.old.parameters past client call ≡ true) }
+        requires allowed { EachPast self.old (λ past. allowed self.old.parameters past client call
+            ≡ true) }
         requires here { EachPast self.old (λ past. resident past page ≡ true) }
-        requires reply { EachPast self.old (λ past. WriteFirst (tickets past) page (held past page) ≡ reply_of self.old.parameters past call) }
+        requires reply { EachPast self.old (λ past. WriteFirst (tickets past) page
+            (held past page) ≡ reply_of self.old.parameters past call) }
         requires room { HasRoomFor 2 self.old }
         ensures outcome { BeginOutcome self.old client call page result self.new }
         ensures memory { TakesMemory call self.old }
@@ -141,7 +143,8 @@ impl<K: Keeper> PoolCore<K> {
 
     /// A write-out went well: what was written before it began is saved.
     fn end_write_out(&mut self, client: u8, page: PageNo, serial: u64) -> Ended
-        requires { EachPast self.old (λ past. is_out (grant client page serial) (writes_out past) ≡ true) }
+        requires { EachPast self.old (λ past. is_out (grant client page serial)
+            (writes_out past) ≡ true) }
         ensures { EndedOutcome self.old client page serial result self.new }
     {
         let Some(frame) = self.frame(page) else {
@@ -176,7 +179,8 @@ impl<K: Keeper> PoolCore<K> {
 
     /// A write-out failed: the page stays as unsaved as it is.
     fn fail_write_out(&mut self, client: u8, page: PageNo, serial: u64)
-        requires { EachPast self.old (λ past. is_out (grant client page serial) (writes_out past) ≡ true) }
+        requires { EachPast self.old (λ past. is_out (grant client page serial)
+            (writes_out past) ≡ true) }
         ensures { Adds self.old client (Call.WriteEnd serial page false) Reply.WriteFailed self.new }
     {
         let Some(frame) = self.frame(page) else {

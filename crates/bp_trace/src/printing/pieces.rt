@@ -62,7 +62,8 @@ impl ReportRun {
     fn line<W: Write>(&mut self, entry: &Entry, writer: &mut W) -> io::Result<()>
         requires time { self.old.time + steps_of entry.now.call ≤ 2 ^ 62 }
         requires few { self.old.entries + 1 < 2 ^ 64 }
-        ensures line { OnOk result (Appends (W.contents writer.old) (W.contents writer.new) (event_line self.old.time entry.now)) }
+        ensures line { OnOk result (Appends (W.contents writer.old) (W.contents writer.new)
+            (event_line self.old.time entry.now)) }
         ensures taken { OnOk result (taken_by self.new ≡ and_one entry.now (taken_by self.old)) }
         ensures well { self.new.has_failed ≡ self.old.has_failed }
     {
@@ -79,8 +80,10 @@ impl ReportRun {
     /// A fault of the writer is passed on; after one there is a fault from each later call, and nothing more is written.
     pub fn lines<W: Write>(&mut self, entries: &[Entry], writer: &mut W) -> io::Result<()>
         requires taken { MayTake (taken_by self.old) entries.now }
-        ensures lines { OnOk result (Appends (W.contents writer.old) (W.contents writer.new) (lines_from self.old.time entries.now)) }
-        ensures taken { OnOk result (taken_by self.new ≡ and_taken (taken_by self.old) entries.now) }
+        ensures lines { OnOk result (Appends (W.contents writer.old) (W.contents writer.new)
+            (lines_from self.old.time entries.now)) }
+        ensures taken { OnOk result (taken_by self.new ≡ and_taken
+            (taken_by self.old) entries.now) }
         ensures well { OnOk result (self.new.has_failed ≡ false) }
         ensures refused { OnOk result (self.old.has_failed ≡ false) }
         ensures fault { OnErr result (self.new.has_failed ≡ true) }
@@ -103,7 +106,8 @@ impl ReportRun {
 
     /// Writes the six totals of all pieces. A fault of the writer is passed on.
     pub fn totals<W: Write>(self, writer: &mut W) -> io::Result<()>
-        ensures written { OnOk result (Appends (W.contents writer.old) (W.contents writer.new) (totals_text self.totals)) }
+        ensures written { OnOk result (Appends (W.contents writer.old) (W.contents writer.new)
+            (totals_text self.totals)) }
         ensures well { OnOk result (self.has_failed ≡ false) }
         ensures silent { self.has_failed ≡ true → writer.new ≡ writer.old }
     {

@@ -49,7 +49,8 @@ impl Pool {
 
     /// Takes out a ticket to write that C holds.
     fn take_write(&mut self, held: &HzGrant) -> Option<WriteTicket>
-        ensures ticket { IfSome result (λ ticket. IsGrant held.now ticket.client ticket.page ticket.serial) }
+        ensures ticket { IfSome result (λ ticket. IsGrant held.now ticket.client ticket.page
+            ticket.serial) }
         ensures same { self.new ≡ record self.old { writes = self.new.writes } }
         ensures none { IfNone result (self.new ≡ self.old) }
     {

@@ -63,7 +63,8 @@ impl Pool {
         requires { HasRoomFor self.old.passes 1 }
         ensures grant { IsGrant result pass.client pass.page pass.serial }
         ensures core { self.new.core ≡ self.old.core }
-        ensures kept { get self.new.passes result.slot ≡ Some (grant pass.client pass.page pass.serial) }
+        ensures kept { get self.new.passes result.slot ≡ Some
+            (grant pass.client pass.page pass.serial) }
     {
         let note = pass.note();
         let slot = self.passes.insert_reserved(note);

@@ -11,7 +11,8 @@ use bp_page::{Bytes, Image, Lsn, Refusal};
 
 /// Whether the note is of this pass.
 fn is_of(note: &PassNote, held: &HzGrant) -> bool
-    ensures told { result ≡ same_grant (grant held.now.client held.now.page held.now.serial) note.now }
+    ensures told { result ≡ same_grant (grant held.now.client held.now.page held.now.serial)
+        note.now }
     ensures same { IsTrue result → note.now ≡ grant held.now.client held.now.page held.now.serial }
 {
     held.client == note.client()
@@ -22,7 +23,8 @@ fn is_of(note: &PassNote, held: &HzGrant) -> bool
 impl Pool {
     /// The note of a pass that C holds.
     fn pass_at(&self, held: &HzGrant) -> Option<PassNote>
-        ensures same { IfSome result (λ note. note ≡ grant held.now.client held.now.page held.now.serial) }
+        ensures same { IfSome result (λ note. note ≡ grant held.now.client held.now.page
+            held.now.serial) }
         ensures told { is_some result ≡ is_kept (get self.now.passes held.now.slot) held.now }
     {
         let note = self.passes.get(held.slot)?;
@@ -37,7 +39,8 @@ impl Pool {
         offset: usize,
         into: &mut [u8],
     ) -> Result<Image, Refusal>
-        ensures outcome { ReadsPart self.old.core held.now offset into.old into.new result self.new.core }
+        ensures outcome { ReadsPart self.old.core held.now offset into.old into.new result
+            self.new.core }
     {
         if !self.core.geometry().fits(offset, into.len()) {
             return Err(Refusal::OutOfPage);
@@ -89,7 +92,8 @@ impl Pool {
 
     /// Gives a pass back. `UnknownPass` where it is not out here, which changes nothing.
     pub(crate) fn unfix(&mut self, held: &HzGrant) -> Result<(), Refusal>
-        ensures outcome { Unfixes self.old.core (get self.old.passes held.now.slot) held.now result self.new.core }
+        ensures outcome { Unfixes self.old.core (get self.old.passes held.now.slot) held.now result
+            self.new.core }
     {
         let Some(note) = self.pass_at(held) else {
             return Err(Refusal::UnknownPass);
