@@ -7,6 +7,8 @@ use std::io;
 use std::io::Read;
 use std::process::Abort;
 
+mod cuts;
+
 /// Gives its bytes in pieces. The read call of a number, from 1, or each from then on, fails in its place.
 #[derive(Drop)]
 struct Pieces<'a> {
