@@ -1,4 +1,5 @@
 //! Input that no run takes, and devices that fail for ever.
+use crate::judging::{expect_legal, setup_of};
 use crate::making::{PAGES, config, ports};
 use crate::writer::Writer;
 use bp_device::{MemPort, Port};
@@ -116,6 +117,7 @@ fn dead_ports_end_no_run(rt: HostRuntime) {
         ports.push(port).expect(rt, "a place");
     }
     let run = run_workers(rt, rt.alloc(), config, ports, workers).expect(rt, "the run");
+    expect_legal(rt, &setup_of(&run.core), run.core.trail());
     for left in &run.left {
         assert_eq!(rt; left.worker.done, 0);
         assert_eq!(rt; left.worker.refused, 13);

@@ -1,4 +1,5 @@
-//! Tests of runs of workers. What is asserted of them holds whatever the schedule.
+//! Tests of runs of workers. What is asserted of them holds whatever the schedule. The trail of each run goes to the
+//! judge.
 //!
 //! They stand here, on top of the crate that they call, so that it is not proved once more for its tests. The library
 //! itself has no item.
@@ -6,6 +7,8 @@
 
 #[cfg(test)]
 mod bad_input;
+#[cfg(test)]
+mod judging;
 #[cfg(test)]
 mod making;
 #[cfg(test)]

@@ -1,4 +1,5 @@
 //! Workers that share pages.
+use crate::judging::{expect_legal, setup_of};
 use crate::making::{PAGES, config, ports};
 use crate::writer::{DURABLE, Writer};
 use bp_audit::agrees;
@@ -11,7 +12,7 @@ use std::rt::HostRuntime;
 use std::sync::Wait;
 use std::thread::Threads;
 
-/// So many workers, of which each keeps a pass where `keeps` says so.
+/// So many workers, of which each keeps a pass where `keeps` says so. The judge finds their trail legal.
 fn run<R: Abort + AllocGlobal + Threads + Wait + Sync>(
     rt: &R,
     frames: usize,
@@ -24,7 +25,10 @@ fn run<R: Abort + AllocGlobal + Threads + Wait + Sync>(
         workers.push(worker).expect(rt, "a place");
     }
     let ports = ports(rt, PAGES, count);
-    run_workers(rt, rt.alloc(), config(rt, frames), ports, workers).expect(rt, "the run")
+    let run = run_workers(rt, rt.alloc(), config(rt, frames), ports, workers);
+    let run = run.expect(rt, "the run");
+    expect_legal(rt, &setup_of(&run.core), run.core.trail());
+    run
 }
 
 fn count_marks(trail: &[Entry]) -> usize {

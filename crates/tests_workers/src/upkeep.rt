@@ -1,7 +1,9 @@
 //! What client 0 does besides: it cuts the trail. And a ring that is full.
 ghost use Rattle.std.specs.Prelude.{◌<◌};
 
+use crate::judging::{expect_legal, setup_of};
 use crate::making::{config, ports};
+use bp_core::Entry;
 use bp_device::{MemPort, Port};
 use bp_page::PageNo;
 use bp_shared::{PoolName, SharedPool};
@@ -19,7 +21,7 @@ const PASSES: usize = 33;
 struct Hoarder {
     taken: usize,
     given: usize,
-    cut: usize,
+    cut: Vec<Entry>,
 }
 
 impl Hoarder {
@@ -86,7 +88,7 @@ impl<P: Port> Worker<P> for Hoarder {
         };
         self.take(rt, pool, client, page);
         if let Ok(piece) = pool.cut(rt, &mut upkeep.taker) {
-            self.cut = piece.len();
+            self.cut = piece;
         }
         self.give(rt, pool, client);
     }
@@ -101,12 +103,30 @@ fn run<R: Abort + AllocGlobal + Threads + Wait + Sync>(
         let worker = Hoarder {
             taken: 0,
             given: 0,
-            cut: 0,
+            cut: Vec::new(rt.alloc()),
         };
         workers.push(worker).expect(rt, "a place");
     }
     let ports = ports(rt, 4, count);
     run_workers(rt, rt.alloc(), config(rt, 4), ports, workers).expect(rt, "the run")
+}
+
+/// Adds a piece to what was cut before it.
+fn join(rt: &impl Abort, trail: &mut Vec<Entry>, piece: Vec<Entry>) {
+    for entry in piece {
+        trail.push(entry).expect(rt, "a place");
+    }
+}
+
+/// Asserts that what the workers cut, of which client 0 alone did, and what is left are a legal trail.
+fn expect_legal_pieces(rt: &(impl AllocGlobal + Abort), run: Run<MemPort, Hoarder>) {
+    let setup = setup_of(&run.core);
+    let mut trail = Vec::new(rt.alloc());
+    for left in run.left {
+        join(rt, &mut trail, left.worker.cut);
+    }
+    join(rt, &mut trail, run.core.into_trail());
+    expect_legal(rt, &setup, &trail);
 }
 
 /// The last of the passes finds the ring full, which is then emptied.
@@ -119,9 +139,10 @@ fn full_ring_is_settled(rt: HostRuntime) {
         assert_eq!(rt; left.worker.given, PASSES);
         assert_eq!(rt; left.held, 0);
     }
+    expect_legal_pieces(rt, run);
 }
 
-/// What client 0 cut and what is left are, together, the entries of all lists.
+/// What client 0 cut and what is left are, together, the entries of all lists, and a legal trail.
 #[test]
 fn cut_trail_goes_on(rt: HostRuntime) {
     let rt = &rt;
@@ -130,8 +151,9 @@ fn cut_trail_goes_on(rt: HostRuntime) {
     let mut cut = 0usize;
     for left in &run.left {
         said = said.saturating_add(left.said.len());
-        cut = cut.saturating_add(left.worker.cut);
+        cut = cut.saturating_add(left.worker.cut.len());
     }
     assert!(rt; cut > PASSES);
     assert_eq!(rt; run.core.trail().len().saturating_add(cut), said);
+    expect_legal_pieces(rt, run);
 }
