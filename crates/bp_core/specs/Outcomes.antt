@@ -4,7 +4,7 @@ use Rattle.bp_page.specs.declared.refusals.Refusal.{Refusal}
 use Rattle.bp_page.specs.declared.refusals.Refusal.TheVariants as refusal
 use Rattle.bp_page.specs.declared.refusals.PortFault.{PortFault}
 use Rattle.bp_trail.specs.Parameters.{Parameters}
-use Rattle.bp_trail.specs.Event.{grant}
+use Rattle.bp_trail.specs.Event.{Grant, grant}
 use Rattle.bp_trail.specs.Clock.{clock}
 use Rattle.bp_trail.specs.Passes.{passes, tickets, passes_out, reads_out, writes_out}
 use Rattle.bp_trail.specs.Saved.{top}
@@ -195,6 +195,29 @@ WriteEndOutcome old ticket (Err fault) (Err (end_refusal.Failed refusal.WriteFai
 WriteEndOutcome old ticket outcome (Err (end_refusal.Unknown same back)) new =
     (same ≡ ticket) × (back ≡ outcome) × LacksWrite old ticket × (new ≡ old)
 WriteEndOutcome old ticket _ _ new = ⊥
+
+-- the same ends, by what their tickets were given as
+abbrev pub ReadEndByOutcome : CoreView → Grant → Result (List ℕ) PortFault → Result Pass (EndRefusal Grant (Result (List ℕ) PortFault)) → CoreView → Type 0
+ReadEndByOutcome old ticket (Ok image) (Ok pass) new =
+    (pass.client ≡ ticket.client) × (pass.page ≡ ticket.page) × EachPast old (λ past. is_out ticket (reads_out past) ≡ true)
+    × Adds old ticket.client (ReadEnd ticket.serial ticket.page (Some image)) (Fixed pass.serial) new
+ReadEndByOutcome old ticket (Err fault) (Err (end_refusal.Failed why)) new =
+    (why ≡ read_refusal fault) × EachPast old (λ past. is_out ticket (reads_out past) ≡ true)
+    × Adds old ticket.client (ReadEnd ticket.serial ticket.page None) (read_failure fault) new
+ReadEndByOutcome old ticket outcome (Err (end_refusal.Unknown same back)) new =
+    (same ≡ ticket) × (back ≡ outcome) × EachPast old (λ past. is_out ticket (reads_out past) ≡ false) × (new ≡ old)
+ReadEndByOutcome old ticket _ _ new = ⊥
+
+abbrev pub WriteEndByOutcome : CoreView → Grant → Result (Unit {0}) PortFault → Result Ended (EndRefusal Grant (Result (Unit {0}) PortFault)) → CoreView → Type 0
+WriteEndByOutcome old ticket (Ok done) (Ok ended.Cleaned) new =
+    EachPast old (λ past. is_out ticket (writes_out past) ≡ true) × Adds old ticket.client (WriteEnd ticket.serial ticket.page true) Cleaned new
+WriteEndByOutcome old ticket (Ok done) (Ok ended.StillDirty) new =
+    EachPast old (λ past. is_out ticket (writes_out past) ≡ true) × Adds old ticket.client (WriteEnd ticket.serial ticket.page true) StillDirty new
+WriteEndByOutcome old ticket (Err fault) (Err (end_refusal.Failed refusal.WriteFailed)) new =
+    EachPast old (λ past. is_out ticket (writes_out past) ≡ true) × Adds old ticket.client (WriteEnd ticket.serial ticket.page false) WriteFailed new
+WriteEndByOutcome old ticket outcome (Err (end_refusal.Unknown same back)) new =
+    (same ≡ ticket) × (back ≡ outcome) × EachPast old (λ past. is_out ticket (writes_out past) ≡ false) × (new ≡ old)
+WriteEndByOutcome old ticket _ _ new = ⊥
 
 abbrev pub ReadOutcome : CoreView → Pass → Result (List ℕ) Refusal → CoreView → Type 0
 ReadOutcome old pass (Ok image) new = HasRoomFor 1 old × KnowsPass old pass × Adds old pass.client (Read pass.serial pass.page) (Content image) new

@@ -149,6 +149,17 @@ impl Pass {
 }
 
 impl PassNote {
+    /// A note of the pass with this client, page and serial number. Whether it was given, a core tells.
+    pub fn of(client: u8, page: PageNo, serial: u64) -> PassNote
+        ensures { result ≡ grant client page serial }
+    {
+        PassNote {
+            client,
+            page,
+            serial,
+        }
+    }
+
     /// Whose pass it stands for.
     pub fn client(&self) -> u8
         ensures { result ≡ self.now.client }

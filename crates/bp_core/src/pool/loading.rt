@@ -11,7 +11,7 @@ ghost use Rattle.bp_trail.specs.PageMap.{has_free_frame};
 ghost use Rattle.bp_frames.specs.GrantLists.{GivesAsMuch};
 ghost use Rattle.bp_core.specs.CoreView.{EachPast, HasRoomFor};
 ghost use Rattle.bp_core.specs.ReadFaults.{read_failure};
-ghost use Rattle.bp_core.specs.Outcomes.{FixOutcome, ReadEndOutcome, Adds, TakesMemory};
+ghost use Rattle.bp_core.specs.Outcomes.{FixOutcome, ReadEndOutcome, ReadEndByOutcome, Adds, TakesMemory};
 
 use crate::faults::{refusal_of_read, reply_of_read};
 use crate::passes::{EndRefusal, Fix, Pass, ReadTicket};
@@ -20,7 +20,7 @@ use bp_frames::GrantList;
 use bp_keeper::Keeper;
 use bp_lruk::Histories;
 use bp_page::{Image, PageNo, PortFault, Refusal};
-use bp_trail::{Call, Reply};
+use bp_trail::{Call, Grant, Reply};
 use std::alloc::AllocError;
 
 impl<K: Keeper> PoolCore<K> {
@@ -118,6 +118,33 @@ impl<K: Keeper> PoolCore<K> {
             Err(fault) => {
                 self.fail_load(client, page, serial, fault);
                 Err(EndRefusal::Failed(refusal_of_read(fault)))
+            }
+        }
+    }
+
+    /// Ends a read as `read_end` does, by what its ticket was given as: for callers that keep no tickets.
+    pub fn read_end_by(
+        &mut self,
+        ticket: Grant,
+        read: Result<Image, PortFault>,
+    ) -> Result<Pass, EndRefusal<Grant, Result<Image, PortFault>>>
+        requires size { IfOk read (λ image. length image ≡ self.old.parameters.size) }
+        ensures outcome { ReadEndByOutcome self.old ticket read result self.new }
+    {
+        let Grant {
+            client,
+            page,
+            serial,
+        } = ticket;
+        if !self.state.reads.has(client, page, serial) {
+            return Err(EndRefusal::Unknown(ticket, read));
+        }
+        match read {
+            Ok(image) => Ok(self.end_load(client, page, serial, image)),
+            Err(fault) => {
+                self.fail_load(client, page, serial, fault);
+                let why = refusal_of_read(fault);
+                Err(EndRefusal::Failed(why))
             }
         }
     }

@@ -3,7 +3,8 @@ ghost use Rattle.std.specs.Prelude.{◌≡◌, ◌<◌, true, false, IfSome, IfN
 ghost use Rattle.bp_trail.specs.declared.entries.Reply.TheVariants.{Content};
 ghost use Rattle.bp_trail.specs.Places.{loading, resident};
 ghost use Rattle.bp_trail.specs.PageMap.{has_free_frame, reply_of};
-ghost use Rattle.bp_trail.specs.Legal.{allowed};
+ghost use Rattle.bp_trail.specs.Legal.{allowed, is_out};
+ghost use Rattle.bp_trail.specs.Passes.{reads_out};
 ghost use Rattle.bp_keeper.specs.Kept.{read_by};
 ghost use Rattle.bp_core.specs.Agreement.{frame_of};
 ghost use Rattle.bp_core.specs.CoreView.{EachPast, HasRoomFor, room_after};
@@ -18,7 +19,7 @@ use bp_trail::{Call, Grant, Reply};
 
 impl<K: Keeper> PoolCore<K> {
     /// The room that no entry has taken, nor any pass or ticket for the entries that will end it.
-    pub(super) fn free(&self) -> usize
+    pub fn free(&self) -> usize
         ensures { EachPast self.now (λ past. result ≡ room_after self.now past) }
     {
         let owed = self.state.passes.len() + self.state.writes.len() + 2 * self.state.reads.len();
@@ -36,10 +37,19 @@ impl<K: Keeper> PoolCore<K> {
     }
 
     /// Whether the pass is out here.
-    pub(super) fn knows(&self, pass: &Pass) -> bool
+    pub fn knows(&self, pass: &Pass) -> bool
         ensures { EachPast self.now (λ past. result ≡ pass_is_out pass.now past) }
     {
         self.state.passes.has(pass.client, pass.page, pass.serial)
+    }
+
+    /// Whether a ticket to read, named by what it was given as, is out here.
+    pub fn knows_read(&self, ticket: Grant) -> bool
+        ensures { EachPast self.now (λ past. result ≡ is_out ticket (reads_out past)) }
+    {
+        self.state
+            .reads
+            .has(ticket.client, ticket.page, ticket.serial)
     }
 
     /// Whether a page may be loaded with none evicted.

@@ -1,5 +1,5 @@
 //! Reading, writing and giving back a page by its pass.
-ghost use Rattle.std.specs.Prelude.{◌+◌, ◌≤◌, length};
+ghost use Rattle.std.specs.Prelude.{◌≡◌, ◌+◌, ◌≤◌, length, IfOk};
 ghost use Rattle.bp_core.specs.Outcomes.{ReadOutcome, WriteOutcome, UnfixOutcome};
 
 use crate::passes::Pass;
@@ -10,10 +10,11 @@ use bp_page::{Bytes, Image, Lsn, Refusal};
 use bp_trail::{Call, Grant, Reply};
 
 impl<K: Keeper> PoolCore<K> {
-    /// A copy of the image of the page of a pass. `TrailFull` where no entry is free, else `UnknownPass` where the pass is not out
+    /// A copy of the image of the page of a pass, which has the page size. `TrailFull` where no entry is free, else `UnknownPass` where the pass is not out
     /// here, else `OutOfMemory`; all three change nothing.
     pub fn read(&mut self, pass: &Pass) -> Result<Image, Refusal>
         ensures outcome { ReadOutcome self.old pass.now result self.new }
+        ensures size { IfOk result (λ image. length image ≡ self.old.parameters.size) }
     {
         if self.free() < 1 {
             return Err(Refusal::TrailFull);

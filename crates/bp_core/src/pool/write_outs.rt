@@ -8,7 +8,7 @@ ghost use Rattle.bp_trail.specs.Passes.{tickets, writes_out};
 ghost use Rattle.bp_trail.specs.PageMap.{reply_of};
 ghost use Rattle.bp_trail.specs.Places.{resident};
 ghost use Rattle.bp_core.specs.CoreView.{EachPast, HasRoomFor};
-ghost use Rattle.bp_core.specs.Outcomes.{IsBegin, BeginOutcome, EndedOutcome, FlushOutcome, WriteEndOutcome, Adds, TakesMemory};
+ghost use Rattle.bp_core.specs.Outcomes.{IsBegin, BeginOutcome, EndedOutcome, FlushOutcome, WriteEndOutcome, WriteEndByOutcome, Adds, TakesMemory};
 
 use crate::passes::{EndRefusal, Ended, Flush, WriteTicket};
 use crate::pool::PoolCore;
@@ -132,6 +132,31 @@ impl<K: Keeper> PoolCore<K> {
             image: _,
             lsn: _,
         } = ticket;
+        match write {
+            Ok(()) => Ok(self.end_write_out(client, page, serial)),
+            Err(_) => {
+                self.fail_write_out(client, page, serial);
+                Err(EndRefusal::Failed(Refusal::WriteFailed))
+            }
+        }
+    }
+
+    /// Ends a write-out as `write_end` does, by what its ticket was given as: for callers that keep no tickets.
+    pub fn write_end_by(
+        &mut self,
+        ticket: Grant,
+        write: Result<(), PortFault>,
+    ) -> Result<Ended, EndRefusal<Grant, Result<(), PortFault>>>
+        ensures outcome { WriteEndByOutcome self.old ticket write result self.new }
+    {
+        let Grant {
+            client,
+            page,
+            serial,
+        } = ticket;
+        if !self.state.writes.has(client, page, serial) {
+            return Err(EndRefusal::Unknown(ticket, write));
+        }
         match write {
             Ok(()) => Ok(self.end_write_out(client, page, serial)),
             Err(_) => {
