@@ -6,9 +6,9 @@
  * Each call that returns a uint16_t returns 0, or the number of a refusal; hz_text has its text. A handle with no core
  * is refused with 50 by each call but hz_core_new, and then nothing is written. Any other refusal leaves what the call
  * would have written as it was, but for hz_fixed, whose kind is then 0. Any client, page, offset, length, pass
- * or ticket may be passed: what is not of this core is refused. Each handle has to be zero, or as these calls left it,
- * each pointer not null and of its type, with so many elements where a length follows it, and no two of a call may
- * overlap.
+ * or ticket may be passed: what is not of this core is refused. Where a call may be refused for several reasons, the
+ * first of those listed with it is told. Each handle has to be zero, or as these calls left it, each pointer not null
+ * and of its type, with so many elements where a length follows it, and no two of a call may overlap.
  */
 #ifndef HOJZMATED_H
 #define HOJZMATED_H
@@ -46,7 +46,7 @@ enum hz_refusal {
 enum hz_kind {
     HZ_HIT = 1,         /* the page is here: the grant is a pass */
     HZ_LOAD = 2,        /* read the page: the grant is a ticket for hz_read_end or hz_read_failed */
-    HZ_WRITE_FIRST = 3, /* write a page out: the grant is a ticket for hz_write_image and hz_write_end */
+    HZ_WRITE_FIRST = 3, /* write a page out: the grant is a ticket for hz_write_end, and the buffer has the image */
     HZ_CLEAN = 4,       /* flush: the page has nothing to write */
     HZ_ABSENT = 5,      /* flush: the page is in no frame */
 };
@@ -76,7 +76,6 @@ typedef struct hz_config {
 typedef struct hz_grant {
     uint64_t page;
     uint64_t serial;
-    size_t slot;
     uint8_t client;
 } hz_grant;
 
@@ -89,7 +88,7 @@ typedef struct hz_fixed {
     bool has_evicted;
 } hz_fixed;
 
-/* What was counted since the core was made. */
+/* What was counted since the core was made. A count that reaches 2^64 - 1 stays there. */
 typedef struct hz_totals {
     uint64_t hits;      /* fixes that found their page in a frame */
     uint64_t faults;    /* reads that went well */
@@ -98,25 +97,24 @@ typedef struct hz_totals {
     uint64_t failed;    /* reads and write-outs that failed */
 } hz_totals;
 
-/* Makes a core in a handle that has none. Refused: 1, 2, 22, 51. */
+/* Makes a core in a handle that has none. Refused: 51, 1, 2, 22. */
 uint16_t hz_core_new(const hz_config *config, hz_core *core);
 
 /* Frees it, with all passes and tickets that are out. Refused: 50. */
 uint16_t hz_core_free(hz_core *core);
 
-/* Fixes a page, which pins it. Refused: 41, 45, 22, 20; 13 where a read of it is under way, 11 where no page may leave
- * its frame, 12 where the victim's log record is not durable yet: out->lsn tells it. */
-uint16_t hz_fix(hz_core *core, uint8_t client, uint64_t page, hz_fixed *out);
+/* Fixes a page, which pins it. The buffer has the page size: where a page is to be written out first, its image is
+ * copied there, and else it stays as it was. Refused: 41; 45 where the page is not of the file or len is not the page
+ * size; 20; 13 where a read of the page is under way, 11 where no page may leave its frame, 12 where the victim's log
+ * record is not durable yet: out->lsn tells it; 22 where the page is here, or is to be read or written. */
+uint16_t hz_fix(hz_core *core, uint8_t client, uint64_t page, uint8_t *buffer, size_t len, hz_fixed *out);
 
-/* Ends a read: the page is in a frame, and pass is a pass for it. Refused: 45 where len is not the page size, 22,
- * 16. */
+/* Ends a read: the page is in a frame, and pass is a pass for it. Refused: 45 where len is not the page size, 16,
+ * 22. */
 uint16_t hz_read_end(hz_core *core, const hz_grant *ticket, const uint8_t *image, size_t len, hz_grant *pass);
 
 /* Ends a read that failed, and returns 19 where another page was found, else 17; or 16. */
 uint16_t hz_read_failed(hz_core *core, const hz_grant *ticket, bool is_wrong_page);
-
-/* Copies the image that is to be written. Refused: 16, and 45 where len is not the page size. */
-uint16_t hz_write_image(hz_core *core, const hz_grant *ticket, uint8_t *into, size_t len);
 
 /* Ends a write-out. is_still_dirty tells whether the page was written to since it began. Refused: 18 where it was not
  * good, which ends it too; 16. */
@@ -125,10 +123,10 @@ uint16_t hz_write_end(hz_core *core, const hz_grant *ticket, bool is_good, bool 
 /* Gives a pass back. Refused: 14. */
 uint16_t hz_unfix(hz_core *core, const hz_grant *pass);
 
-/* Copies len bytes of the page from the offset on. Refused: 45, 14, 20, 22. */
+/* Copies len bytes of the page from the offset on. Refused: 45, 20, 14, 22. */
 uint16_t hz_read(hz_core *core, const hz_grant *pass, size_t offset, uint8_t *into, size_t len);
 
-/* Puts len bytes into the page from the offset on, under the log record lsn. Refused: 45, 14, 22, 20. */
+/* Puts len bytes into the page from the offset on, under the log record lsn. Refused: 45, 20, 14, 22. */
 uint16_t hz_write(hz_core *core, const hz_grant *pass, size_t offset, const uint8_t *bytes, size_t len, uint64_t lsn);
 
 /* Moves the clock on by n. Refused: 41, 20, 21. */
@@ -137,8 +135,9 @@ uint16_t hz_tick(hz_core *core, uint8_t client, uint64_t n);
 /* Notes that the log is durable as far as lsn. Refused: 41, 20. */
 uint16_t hz_mark(hz_core *core, uint8_t client, uint64_t lsn);
 
-/* Asks that a page be written out if it is unsaved: kind 3, 4 or 5. Refused: 41, 45, 22, 20, 13, 12. */
-uint16_t hz_flush(hz_core *core, uint8_t client, uint64_t page, hz_fixed *out);
+/* Asks that a page be written out if it is unsaved: kind 3, 4 or 5, with the buffer as in hz_fix. Refused: 41, 45, 20,
+ * 13 where the page is being read or written, 12 as in hz_fix, 22 where it is to be written. */
+uint16_t hz_flush(hz_core *core, uint8_t client, uint64_t page, uint8_t *buffer, size_t len, hz_fixed *out);
 
 /* Forgets pages that are away and whose newest reference is older than the retained period. Refused: 41, 20. */
 uint16_t hz_purge(hz_core *core, uint8_t client, uint64_t *count);

@@ -1,105 +1,121 @@
--- What the exported functions answer and leave in a handle.
-use Rattle.std.specs.Prelude.{◌≡◌, ℕ, Bool, true, false, [], List, Option, Some, None, Result, Ok, Err}
+-- What the exported functions answer and leave in a handle, and in the memory that C passes.
+use Rattle.std.specs.Prelude.{◌≡◌, ℕ, Bool, true, false, List, Option, Some, None, Result, Ok, Err, if◌then◌else◌}
 use Rattle.bp_page.specs.declared.refusals.Refusal.{Refusal}
-use Rattle.bp_page.specs.declared.refusals.Refusal.TheVariants as refusal
 use Rattle.bp_page.specs.declared.refusals.PortFault.{PortFault}
-use Rattle.bp_page.specs.declared.refusals.PortFault.TheVariants as fault
 use Rattle.bp_page.specs.Refusals.{number_of}
+use Rattle.bp_trail.specs.Event.{Grant}
+use Rattle.bp_core.specs.declared.passes.Pass.{Pass}
+use Rattle.bp_core.specs.declared.passes.Ended.{Ended}
+use Rattle.bp_core.specs.declared.passes.Ended.TheVariants as ended
+use Rattle.bp_core.specs.declared.passes.EndRefusal.{EndRefusal}
+use Rattle.bp_core.specs.EndRefusals.{number_of_end}
+use Rattle.bp_core.specs.CoreView.{CoreView}
+use Rattle.bp_core.specs.Outcomes.{WriteEndByOutcome, UnfixOutcome}
 use Rattle.hojzmated_c.specs.declared.forms.HzConfig.{HzConfig}
 use Rattle.hojzmated_c.specs.declared.forms.HzFixed.{HzFixed}
-use Rattle.hojzmated_c.specs.declared.pool.Pool.{Pool}
-use Rattle.slab.specs.Slab.{get}
-use Rattle.bp_trail.specs.declared.entries.Call.TheVariants.{Mark}
 use Rattle.hojzmated_c.specs.declared.forms.HzGrant.{HzGrant}
 use Rattle.hojzmated_c.specs.declared.forms.HzTotals.{HzTotals}
-use Rattle.hojzmated_c.specs.Outcomes.{IsAsAsked, Ticks, Steps, Purges, Fixes, Flushes, EndsRead, FailsRead, CopiesImage, EndsWrite, ReadsPart, WritesPart, Unfixes}
+use Rattle.hojzmated_c.specs.Forms.{grant_of, pass_of, shown_refusal, fault_of, write_of}
+use Rattle.hojzmated_c.specs.Totals.{totals_of}
+use Rattle.hojzmated_c.specs.Outcomes.{Opens, Ticks, Marks, Purges, Fixes, Flushes, EndsRead, FailsRead, ReadsPart, WritesPart}
 
 -- 0, or the number of the refusal
 abbrev pub code_of : {A : Type 0} → Result A Refusal → ℕ
 code_of (Ok done) = 0
 code_of (Err why) = number_of why
 
--- a handle that has a pool has one afterwards, as P says; one that has none stays so, and the number is 50
-abbrev pub OnPool : Option Pool → Option Pool → ℕ → (Pool → Pool → Type 0) → Type 0
-OnPool None new number P = (number ≡ 50) × (new ≡ None)
-OnPool (Some old) None number P = ⊥
-OnPool (Some old) (Some new) number P = P old new
-
 -- the number is that of a result of which P holds
 abbrev pub Told : {A : Type 0} → ℕ → (Result A Refusal → Type 0) → Type 0
 Told {A} number P = (r : Result A Refusal) × (number ≡ code_of r) × P r
 
--- a handle with no pool gets a fresh one as it was asked for, or stays as it is
-abbrev pub Made : Option Pool → Option Pool → HzConfig → ℕ → Type 0
+-- a handle that has a core has one afterwards, as P says; one that has none stays so, the number is 50, and C's memory is as it was
+abbrev pub OnCore : Option CoreView → Option CoreView → ℕ → Type 0 → (CoreView → CoreView → Type 0) → Type 0
+OnCore None new number Kept P = (number ≡ 50) × (new ≡ None) × Kept
+OnCore (Some old) None number Kept P = ⊥
+OnCore (Some old) (Some new) number Kept P = P old new
+
+-- a handle with no core gets a fresh one as it was asked for, or stays as it is
+abbrev pub Made : Option CoreView → Option CoreView → HzConfig → ℕ → Type 0
 Made (Some old) new asked number = (number ≡ 51) × (new ≡ Some old)
-Made None None asked number = (why : Refusal) × (number ≡ number_of why)
-Made None (Some new) asked number =
-    (number ≡ 0) × (new.core.past ≡ []) × (new.core.before ≡ []) × IsAsAsked new.core.parameters asked
+Made None None asked number = (why : Refusal) × (number ≡ number_of why) × Opens asked (Err why)
+Made None (Some new) asked number = (number ≡ 0) × Opens asked (Ok new)
 
 -- what a place has that is written only where the result is good
 abbrev pub or_else : {A : Type 0} → Result A Refusal → A → A
 or_else (Ok x) old = x
 or_else (Err why) old = old
 
--- a refusal has kind 0, and tells the LSN that the log needs
-abbrev pub Shows : Result HzFixed Refusal → HzFixed → Type 0
-Shows (Ok fixed) out = out ≡ fixed
-Shows (Err (refusal.NeedLog lsn)) out = (out.kind ≡ 0) × (out.lsn ≡ lsn)
-Shows (Err _) out = out.kind ≡ 0
+abbrev pub shown_fix : ℕ → ℕ → Result HzFixed Refusal → HzFixed
+shown_fix client page (Ok fixed) = fixed
+shown_fix client page (Err why) = shown_refusal client page why
 
-abbrev pub fault_of : Bool → PortFault
-fault_of true = fault.WrongPage
-fault_of false = fault.Device
+-- what each exported function leaves of the core of its handle, and answers
+abbrev pub Ticked : Option CoreView → Option CoreView → ℕ → ℕ → ℕ → Type 0
+Ticked old new client n number = OnCore old new number (Unit {0}) (λ old new. Told number (λ r. Ticks {A = Unit {0}} old client n r new))
 
--- what each exported function leaves of the pool of its handle, and answers
-abbrev pub Ticked : Option Pool → Option Pool → ℕ → ℕ → ℕ → Type 0
-Ticked old new client n number =
-    OnPool old new number (λ old new. Told number (λ r. Ticks {A = Unit {0}} old.core client n r new.core))
-
-abbrev pub Marked : Option Pool → Option Pool → ℕ → ℕ → ℕ → Type 0
-Marked old new client lsn number =
-    OnPool old new number (λ old new. Told number (λ r. Steps {A = Unit {0}} old.core client (Mark lsn) r new.core))
+abbrev pub Marked : Option CoreView → Option CoreView → ℕ → ℕ → ℕ → Type 0
+Marked old new client lsn number = OnCore old new number (Unit {0}) (λ old new. Told number (λ r. Marks {A = Unit {0}} old client lsn r new))
 
 -- count is the place for how many pages were forgotten
-abbrev pub Purged : Option Pool → Option Pool → ℕ → ℕ → ℕ → ℕ → Type 0
+abbrev pub Purged : Option CoreView → Option CoreView → ℕ → ℕ → ℕ → ℕ → Type 0
 Purged old new client count count' number =
-    OnPool old new number (λ old new. Told number (λ r. Purges old.core client r new.core × (count' ≡ or_else r count)))
+    OnCore old new number (count' ≡ count) (λ old new. Told number (λ r. Purges old client r new × (count' ≡ or_else r count)))
 
-abbrev pub Asked : Option Pool → Option Pool → ℕ → ℕ → HzFixed → ℕ → Type 0
-Asked old new client page out number =
-    OnPool old new number (λ old new. Told number (λ r. Fixes old.core client page r new.core × Shows r out))
+-- the image is the buffer for that of a page to write out
+abbrev pub Asked : Option CoreView → Option CoreView → ℕ → ℕ → List ℕ → List ℕ → HzFixed → HzFixed → ℕ → Type 0
+Asked old new client page image image' out out' number =
+    OnCore old new number ((image' ≡ image) × (out' ≡ out))
+    (λ old new. Told number (λ r. Fixes old client page image r image' new × (out' ≡ shown_fix client page r)))
 
-abbrev pub Flushed : Option Pool → Option Pool → ℕ → ℕ → HzFixed → ℕ → Type 0
-Flushed old new client page out number =
-    OnPool old new number (λ old new. Told number (λ r. Flushes old.core client page r new.core × Shows r out))
+abbrev pub Flushed : Option CoreView → Option CoreView → ℕ → ℕ → List ℕ → List ℕ → HzFixed → HzFixed → ℕ → Type 0
+Flushed old new client page image image' out out' number =
+    OnCore old new number ((image' ≡ image) × (out' ≡ out))
+    (λ old new. Told number (λ r. Flushes old client page image r image' new × (out' ≡ shown_fix client page r)))
 
-abbrev pub ReadEnded : Option Pool → Option Pool → HzGrant → List ℕ → HzGrant → HzGrant → ℕ → Type 0
+abbrev pub ReadEnded : Option CoreView → Option CoreView → HzGrant → List ℕ → HzGrant → HzGrant → ℕ → Type 0
 ReadEnded old new ticket image pass pass' number =
-    OnPool old new number (λ old new. Told number (λ r. EndsRead old.core ticket image r new.core × (pass' ≡ or_else r pass)))
+    OnCore old new number (pass' ≡ pass) (λ old new. Told number (λ r. EndsRead old ticket image r new × (pass' ≡ or_else r pass)))
 
-abbrev pub ReadFailed : Option Pool → Option Pool → HzGrant → Bool → ℕ → Type 0
+abbrev pub ReadFailed : Option CoreView → Option CoreView → HzGrant → Bool → ℕ → Type 0
 ReadFailed old new ticket is_wrong_page number =
-    OnPool old new number (λ old new. (why : Refusal) × (number ≡ number_of why) × FailsRead old.core ticket (fault_of is_wrong_page) why new.core)
+    OnCore old new number (Unit {0}) (λ old new. FailsRead old ticket (fault_of is_wrong_page) number new)
 
-abbrev pub ImageCopied : Option Pool → Option Pool → HzGrant → List ℕ → List ℕ → ℕ → Type 0
-ImageCopied old new ticket into into' number =
-    OnPool old new number (λ old new. (new ≡ old) × Told number (λ r. CopiesImage {A = Unit {0}} (get old.writes ticket.slot) ticket into into' r))
+abbrev pub code_of_end : {T R : Type 0} → Result Ended (EndRefusal T R) → ℕ
+code_of_end (Ok how) = 0
+code_of_end (Err why) = number_of_end why
 
-abbrev pub WriteEnded : Option Pool → Option Pool → HzGrant → Bool → Bool → Bool → ℕ → Type 0
+-- whether the page is still unsaved, which is written only where the end is good
+abbrev pub dirty_or_else : {T R : Type 0} → Result Ended (EndRefusal T R) → Bool → Bool
+dirty_or_else (Ok ended.Cleaned) old = false
+dirty_or_else (Ok ended.StillDirty) old = true
+dirty_or_else (Err why) old = old
+
+-- the core's outcome of a write-out that went well, or did not
+abbrev pub WriteEnded : Option CoreView → Option CoreView → HzGrant → Bool → Bool → Bool → ℕ → Type 0
 WriteEnded old new ticket is_good dirty dirty' number =
-    OnPool old new number (λ old new. Told number (λ r. EndsWrite old.core ticket is_good r new.core × (dirty' ≡ or_else r dirty)))
+    OnCore old new number (dirty' ≡ dirty)
+    (λ old new.
+    (r : Result Ended (EndRefusal Grant (Result (Unit {0}) PortFault))) × (number ≡ code_of_end r)
+    × WriteEndByOutcome old (grant_of ticket) (write_of is_good) r new × (dirty' ≡ dirty_or_else r dirty))
 
-abbrev pub PartRead : Option Pool → Option Pool → HzGrant → ℕ → List ℕ → List ℕ → ℕ → Type 0
+abbrev pub PartRead : Option CoreView → Option CoreView → HzGrant → ℕ → List ℕ → List ℕ → ℕ → Type 0
 PartRead old new pass offset into into' number =
-    OnPool old new number (λ old new. Told number (λ r. ReadsPart old.core pass offset into into' r new.core))
+    OnCore old new number (into' ≡ into) (λ old new. Told number (λ r. ReadsPart {A = Unit {0}} old pass offset into r into' new))
 
-abbrev pub PartWritten : Option Pool → Option Pool → HzGrant → ℕ → List ℕ → ℕ → ℕ → Type 0
+abbrev pub PartWritten : Option CoreView → Option CoreView → HzGrant → ℕ → List ℕ → ℕ → ℕ → Type 0
 PartWritten old new pass offset bytes lsn number =
-    OnPool old new number (λ old new. Told number (λ r. WritesPart {A = Unit {0}} old.core pass offset bytes lsn r new.core))
+    OnCore old new number (Unit {0}) (λ old new. Told number (λ r. WritesPart {A = Unit {0}} old pass offset bytes lsn r new))
 
-abbrev pub Unfixed : Option Pool → Option Pool → HzGrant → ℕ → Type 0
+-- a pass goes back, or is not out here, which is 14
+abbrev pub code_of_unfix : {A : Type 0} → Result A Pass → ℕ
+code_of_unfix (Ok done) = 0
+code_of_unfix (Err pass) = 14
+
+abbrev pub Unfixed : Option CoreView → Option CoreView → HzGrant → ℕ → Type 0
 Unfixed old new pass number =
-    OnPool old new number (λ old new. Told number (λ r. Unfixes {A = Unit {0}} old.core (get old.passes pass.slot) pass r new.core))
+    OnCore old new number (Unit {0})
+    (λ old new. (r : Result (Unit {0}) Pass) × (number ≡ code_of_unfix r) × UnfixOutcome old (pass_of pass) r new)
 
-abbrev pub Counted : Option Pool → Option Pool → HzTotals → ℕ → Type 0
-Counted old new out number = OnPool old new number (λ old new. (new ≡ old) × (out ≡ old.totals) × (number ≡ 0))
+abbrev pub Counted : Option CoreView → Option CoreView → HzTotals → HzTotals → ℕ → Type 0
+Counted old new out out' number =
+    OnCore old new number (out' ≡ out) (λ old new. (number ≡ 0) × (new ≡ old) × (out' ≡ totals_of old.past))

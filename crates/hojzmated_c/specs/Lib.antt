@@ -1,3 +1,5 @@
 pub mod Owned
+pub mod Forms
+pub mod Totals
 pub mod Outcomes
 pub mod Exports

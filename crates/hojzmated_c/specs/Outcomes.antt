@@ -1,27 +1,31 @@
--- What each call answers and leaves, for any client, page and grant that C may pass, by the core's own outcomes.
-use Rattle.std.specs.Prelude.{◌≡◌, ℕ, ◌+◌, ◌<◌, ◌≤◌, ◌⊎◌, Bool, true, false, if◌then◌else◌, List, [], length, slice_range, Result, Ok, Err, Option, Some, None}
+-- What each call answers and leaves, for any client, page, grant and length that C may pass: the core's own outcome, or the refusal
+-- of what the core requires exactly where that does not hold.
+use Rattle.std.specs.Prelude.{◌≡◌, ◌≢◌, ℕ, ◌+◌, ◌^◌, ◌<◌, ◌≤◌, Bool, true, false, List, [], length, slice_range, Result, Ok, Err, OnErr, Option, Some, None}
 use Rattle.bp_page.specs.declared.refusals.Refusal.{Refusal}
 use Rattle.bp_page.specs.declared.refusals.Refusal.TheVariants as refusal
 use Rattle.bp_page.specs.declared.refusals.PortFault.{PortFault}
+use Rattle.bp_page.specs.Limits.{IsGeometry}
+use Rattle.bp_lruk.specs.Limits.{IsWithinLimits}
 use Rattle.bp_trail.specs.declared.entries.Call.{Call}
-use Rattle.bp_trail.specs.declared.entries.Call.TheVariants.{ReadEnd, WriteEnd, Unfix}
-use Rattle.bp_trail.specs.declared.entries.Reply.TheVariants.{Done, Fixed, Cleaned, StillDirty, WriteFailed}
+use Rattle.bp_trail.specs.declared.entries.Call.TheVariants as call
+use Rattle.bp_trail.specs.Event.{Grant, grant}
+use Rattle.bp_trail.specs.Passes.{reads_out}
+use Rattle.bp_trail.specs.Legal.{is_out}
 use Rattle.bp_core.specs.declared.passes.Pass.{Pass}
+use Rattle.bp_core.specs.declared.passes.Fix.{Fix}
+use Rattle.bp_core.specs.declared.passes.Fix.TheVariants as fixing
+use Rattle.bp_core.specs.declared.passes.Flush.{Flush}
+use Rattle.bp_core.specs.declared.passes.Flush.TheVariants as flushing
 use Rattle.bp_core.specs.declared.passes.ReadTicket.{ReadTicket}
 use Rattle.bp_core.specs.declared.passes.WriteTicket.{WriteTicket}
-use Rattle.bp_core.specs.declared.passes.Fix.{Fix as Fixing}
-use Rattle.bp_core.specs.declared.passes.Fix.TheVariants as fixing
-use Rattle.bp_core.specs.declared.passes.Flush.{Flush as Flushing}
-use Rattle.bp_core.specs.declared.passes.Flush.TheVariants as flushing
-use Rattle.bp_core.specs.CoreView.{CoreView}
-use Rattle.bp_core.specs.ReadFaults.{read_refusal, read_failure}
-use Rattle.bp_core.specs.Outcomes.{Adds, KnowsPass, LacksPass, StepOutcome, TickOutcome, PurgeOutcome, FixOutcome, FlushOutcome, ReadOutcome, WriteOutcome}
-use Rattle.bp_trail.specs.Parameters.{Parameters}
-use Rattle.bp_trail.specs.Event.{Grant, grant, same_grant}
-use Rattle.hojzmated_c.specs.declared.kept.KeptWrite.{KeptWrite}
+use Rattle.bp_core.specs.declared.passes.EndRefusal.{EndRefusal}
+use Rattle.bp_core.specs.EndRefusals.{number_of_end}
+use Rattle.bp_core.specs.CoreView.{CoreView, EachPast}
+use Rattle.bp_core.specs.Outcomes.{IsFitUpTo, TakesMemory, StepOutcome, TickOutcome, PurgeOutcome, FixOutcome, FlushOutcome, ReadEndByOutcome, ReadOutcome, WriteOutcome}
 use Rattle.hojzmated_c.specs.declared.forms.HzConfig.{HzConfig}
 use Rattle.hojzmated_c.specs.declared.forms.HzGrant.{HzGrant}
 use Rattle.hojzmated_c.specs.declared.forms.HzFixed.{HzFixed}
+use Rattle.hojzmated_c.specs.Forms.{grant_of, pass_of, shown, shown_grant, parameters_asked}
 
 -- refused, with nothing changed
 abbrev pub IsRefused : {A : Type 0} → Refusal → CoreView → Result A Refusal → CoreView → Type 0
@@ -32,136 +36,121 @@ abbrev pub ForClient : {A : Type 0} → CoreView → ℕ → Result A Refusal �
 ForClient old client result new P =
     (client < old.parameters.clients → P) × (old.parameters.clients ≤ client → IsRefused refusal.BadClient old result new)
 
--- P for a client and a page of this core, and else BadClient or OutOfPage
-abbrev pub ForPage : {A : Type 0} → CoreView → ℕ → ℕ → Result A Refusal → CoreView → Type 0 → Type 0
-ForPage old client page result new P =
-    ForClient old client result new
-    ((page < old.parameters.pages → P) × (old.parameters.pages ≤ page → IsRefused refusal.OutOfPage old result new))
+-- P for a page of this core's file, and for any other OutOfPage
+abbrev pub ForPage : {A : Type 0} → CoreView → ℕ → Result A Refusal → CoreView → Type 0 → Type 0
+ForPage old page result new P =
+    (page < old.parameters.pages → P) × (old.parameters.pages ≤ page → IsRefused refusal.OutOfPage old result new)
+
+-- P for as many bytes as a page has, and for any other number OutOfPage
+abbrev pub ForImage : {A : Type 0} → CoreView → List ℕ → Result A Refusal → CoreView → Type 0 → Type 0
+ForImage old image result new P =
+    (length image ≡ old.parameters.size → P) × (length image ≢ old.parameters.size → IsRefused refusal.OutOfPage old result new)
+
+-- P for bytes within a page, and for others OutOfPage
+abbrev pub ForPart : {A : Type 0} → CoreView → ℕ → ℕ → Result A Refusal → CoreView → Type 0 → Type 0
+ForPart old offset len result new P =
+    (offset + len ≤ old.parameters.size → P) × (old.parameters.size < offset + len → IsRefused refusal.OutOfPage old result new)
+
+-- a core with no entries, as it was asked for, or why not
+abbrev pub Opens : HzConfig → Result CoreView Refusal → Type 0
+Opens asked (Ok core) =
+    IsGeometry asked.pages asked.page_size × IsWithinLimits asked.k asked.correlated asked.retained × IsFitUpTo (2 ^ 61) (parameters_asked asked)
+    × (core ≡ record { parameters = parameters_asked asked; before = []; past = [] })
+Opens asked (Err refusal.BadGeometry) = ¬ IsGeometry asked.pages asked.page_size
+Opens asked (Err refusal.BadSettings) =
+    IsGeometry asked.pages asked.page_size
+    × ¬ (IsWithinLimits asked.k asked.correlated asked.retained × IsFitUpTo (2 ^ 61) (parameters_asked asked))
+Opens asked (Err refusal.OutOfMemory) =
+    IsGeometry asked.pages asked.page_size × IsWithinLimits asked.k asked.correlated asked.retained × IsFitUpTo (2 ^ 61) (parameters_asked asked)
+Opens asked (Err _) = ⊥
 
 abbrev pub Ticks : {A : Type 0} → CoreView → ℕ → ℕ → Result A Refusal → CoreView → Type 0
 Ticks old client n result new = ForClient old client result new (TickOutcome old client n result new)
 
-abbrev pub Steps : {A : Type 0} → CoreView → ℕ → Call → Result A Refusal → CoreView → Type 0
-Steps old client call result new = ForClient old client result new (StepOutcome old client call result new)
+abbrev pub Marks : {A : Type 0} → CoreView → ℕ → ℕ → Result A Refusal → CoreView → Type 0
+Marks old client lsn result new = ForClient old client result new (StepOutcome old client (call.Mark lsn) result new)
 
 abbrev pub Purges : CoreView → ℕ → Result ℕ Refusal → CoreView → Type 0
 Purges old client result new = ForClient old client result new (PurgeOutcome old client result new)
 
--- the grant is that of a pass or a ticket with these numbers
-abbrev pub IsGrant : HzGrant → ℕ → ℕ → ℕ → Type 0
-IsGrant held client page serial = (held.client ≡ client) × (held.page ≡ page) × (held.serial ≡ serial)
+-- a page to write out: the answer, and the image, which goes into the buffer
+abbrev pub Sends : WriteTicket → HzFixed → List ℕ → Type 0
+Sends ticket fixed image =
+    (fixed ≡ record (shown 3 (grant ticket.client ticket.page ticket.serial)) { lsn = ticket.lsn }) × (image ≡ ticket.image)
 
-abbrev pub pass_of : HzGrant → Pass
-pass_of held = record { client = held.client; page = held.page; serial = held.serial }
-
-abbrev pub ticket_of : HzGrant → ReadTicket
-ticket_of held = record { client = held.client; page = held.page; serial = held.serial }
-
-abbrev pub IsEvicted : Bool → ℕ → Option ℕ → Type 0
-IsEvicted has page None = has ≡ false
-IsEvicted has page (Some gone) = (has ≡ true) × (page ≡ gone)
+-- a page to read, and the one that left its frame for it
+abbrev pub ShowsLoad : ReadTicket → Option ℕ → HzFixed → Type 0
+ShowsLoad ticket None fixed = fixed ≡ shown 2 (grant ticket.client ticket.page ticket.serial)
+ShowsLoad ticket (Some gone) fixed =
+    fixed ≡ record (shown 2 (grant ticket.client ticket.page ticket.serial)) { evicted = gone; has_evicted = true }
 
 -- what a fix gave, as C sees it: 1 is a pass, 2 a page to read, 3 one to write out first
-abbrev pub TellsFix : HzFixed → Fixing → Type 0
-TellsFix fixed (fixing.Hit pass) = (fixed.kind ≡ 1) × IsGrant fixed.grant pass.client pass.page pass.serial
-TellsFix fixed (fixing.Load ticket gone) =
-    (fixed.kind ≡ 2) × IsGrant fixed.grant ticket.client ticket.page ticket.serial × IsEvicted fixed.has_evicted fixed.evicted gone
-TellsFix fixed (fixing.WriteFirst ticket) =
-    (fixed.kind ≡ 3) × IsGrant fixed.grant ticket.client ticket.page ticket.serial × (fixed.lsn ≡ ticket.lsn)
+abbrev pub ShowsFix : Fix → List ℕ → HzFixed → List ℕ → Type 0
+ShowsFix (fixing.Hit pass) before fixed image = (fixed ≡ shown 1 (grant pass.client pass.page pass.serial)) × (image ≡ before)
+ShowsFix (fixing.Load ticket gone) before fixed image = ShowsLoad ticket gone fixed × (image ≡ before)
+ShowsFix (fixing.WriteFirst ticket) before fixed image = Sends ticket fixed image
 
-abbrev pub FixTold : CoreView → ℕ → ℕ → Result HzFixed Refusal → CoreView → Type 0
-FixTold old client page (Ok fixed) new = (given : Fixing) × FixOutcome old client page (Ok given) new × TellsFix fixed given
-FixTold old client page (Err why) new = FixOutcome old client page (Err why) new ⊎ ((why ≡ refusal.OutOfMemory) × (new ≡ old))
+abbrev pub FixTold : CoreView → ℕ → ℕ → List ℕ → Result HzFixed Refusal → List ℕ → CoreView → Type 0
+FixTold old client page before (Ok fixed) image new =
+    (given : Fix) × FixOutcome old client page (Ok given) new × ShowsFix given before fixed image
+FixTold old client page before (Err why) image new =
+    FixOutcome old client page (Err why) new × (why ≡ refusal.OutOfMemory → TakesMemory (call.Fix page) old)
 
-abbrev pub Fixes : CoreView → ℕ → ℕ → Result HzFixed Refusal → CoreView → Type 0
-Fixes old client page result new = ForPage old client page result new (FixTold old client page result new)
+-- a refusal leaves the buffer
+abbrev pub Fixes : CoreView → ℕ → ℕ → List ℕ → Result HzFixed Refusal → List ℕ → CoreView → Type 0
+Fixes old client page before result image new =
+    ForClient old client result new
+    (ForPage old page result new
+    (ForImage old before result new (FixTold old client page before result image new)))
+    × OnErr result (image ≡ before)
 
 -- what a flush gave: 4 is a page with nothing to write, 5 one that is in no frame
-abbrev pub TellsFlush : HzFixed → Flushing → Type 0
-TellsFlush fixed flushing.Clean = fixed.kind ≡ 4
-TellsFlush fixed flushing.Absent = fixed.kind ≡ 5
-TellsFlush fixed (flushing.WriteFirst ticket) =
-    (fixed.kind ≡ 3) × IsGrant fixed.grant ticket.client ticket.page ticket.serial × (fixed.lsn ≡ ticket.lsn)
+abbrev pub ShowsFlush : ℕ → ℕ → Flush → List ℕ → HzFixed → List ℕ → Type 0
+ShowsFlush client page flushing.Clean before fixed image = (fixed ≡ shown 4 (grant client page 0)) × (image ≡ before)
+ShowsFlush client page flushing.Absent before fixed image = (fixed ≡ shown 5 (grant client page 0)) × (image ≡ before)
+ShowsFlush client page (flushing.WriteFirst ticket) before fixed image = Sends ticket fixed image
 
-abbrev pub FlushTold : CoreView → ℕ → ℕ → Result HzFixed Refusal → CoreView → Type 0
-FlushTold old client page (Ok fixed) new = (given : Flushing) × FlushOutcome old client page (Ok given) new × TellsFlush fixed given
-FlushTold old client page (Err why) new = FlushOutcome old client page (Err why) new ⊎ ((why ≡ refusal.OutOfMemory) × (new ≡ old))
+abbrev pub FlushTold : CoreView → ℕ → ℕ → List ℕ → Result HzFixed Refusal → List ℕ → CoreView → Type 0
+FlushTold old client page before (Ok fixed) image new =
+    (given : Flush) × FlushOutcome old client page (Ok given) new × ShowsFlush client page given before fixed image
+FlushTold old client page before (Err why) image new =
+    FlushOutcome old client page (Err why) new × (why ≡ refusal.OutOfMemory → TakesMemory (call.Flush page) old)
 
-abbrev pub Flushes : CoreView → ℕ → ℕ → Result HzFixed Refusal → CoreView → Type 0
-Flushes old client page result new = ForPage old client page result new (FlushTold old client page result new)
+abbrev pub Flushes : CoreView → ℕ → ℕ → List ℕ → Result HzFixed Refusal → List ℕ → CoreView → Type 0
+Flushes old client page before result image new =
+    ForClient old client result new
+    (ForPage old page result new
+    (ForImage old before result new (FlushTold old client page before result image new)))
+    × OnErr result (image ≡ before)
 
--- a read that went well gives a pass; a refusal changes nothing
+-- a read that went well gives a pass: a ticket that is not out is unknown, and memory may be wanting for the image of one that is
+abbrev pub ReadTold : CoreView → HzGrant → List ℕ → Result HzGrant Refusal → CoreView → Type 0
+ReadTold old held image (Ok pass) new =
+    (given : Pass) × ReadEndByOutcome old (grant_of held) (Ok image) (Ok given) new
+    × (pass ≡ shown_grant (grant given.client given.page given.serial))
+ReadTold old held image (Err refusal.UnknownTicket) new = EachPast old (λ past. is_out (grant_of held) (reads_out past) ≡ false) × (new ≡ old)
+ReadTold old held image (Err refusal.OutOfMemory) new = EachPast old (λ past. is_out (grant_of held) (reads_out past) ≡ true) × (new ≡ old)
+ReadTold old held image (Err _) new = ⊥
+
 abbrev pub EndsRead : CoreView → HzGrant → List ℕ → Result HzGrant Refusal → CoreView → Type 0
-EndsRead old held image (Ok pass) new =
-    (pass.client ≡ held.client) × (pass.page ≡ held.page)
-    × Adds old held.client (ReadEnd held.serial held.page (Some image)) (Fixed pass.serial) new
-EndsRead old held image (Err why) new = new ≡ old
+EndsRead old held image result new = ForImage old image result new (ReadTold old held image result new)
 
-abbrev pub FailsRead : CoreView → HzGrant → PortFault → Refusal → CoreView → Type 0
-FailsRead old held fault result new =
-    ((result ≡ read_refusal fault) × Adds old held.client (ReadEnd held.serial held.page None) (read_failure fault) new)
-    ⊎ ((result ≡ refusal.UnknownTicket) × (new ≡ old))
+-- the core's outcome of a read that failed, by the number of why
+abbrev pub FailsRead : CoreView → HzGrant → PortFault → ℕ → CoreView → Type 0
+FailsRead old held fault number new =
+    (why : EndRefusal Grant (Result (List ℕ) PortFault)) × (number ≡ number_of_end why)
+    × ReadEndByOutcome old (grant_of held) (Err fault) (Err why) new
 
-abbrev pub EndsWriteAs : CoreView → ℕ → ℕ → ℕ → Bool → Result Bool Refusal → CoreView → Type 0
-EndsWriteAs old client serial page good (Ok still_dirty) new =
-    (good ≡ true) × Adds old client (WriteEnd serial page true) (if still_dirty then StillDirty else Cleaned) new
-EndsWriteAs old client serial page good (Err refusal.WriteFailed) new =
-    (good ≡ false) × Adds old client (WriteEnd serial page false) WriteFailed new
-EndsWriteAs old client serial page good (Err refusal.UnknownTicket) new = new ≡ old
-EndsWriteAs old client serial page good (Err _) new = ⊥
+-- a part of the image that the core's read gives; a refusal leaves the bytes
+abbrev pub PartTold : {A : Type 0} → CoreView → HzGrant → ℕ → List ℕ → Result A Refusal → List ℕ → CoreView → Type 0
+PartTold old held offset before (Ok done) after new =
+    (image : List ℕ) × ReadOutcome old (pass_of held) (Ok image) new × (after ≡ slice_range image offset (offset + length before))
+PartTold old held offset before (Err why) after new = ReadOutcome old (pass_of held) (Err why) new
 
--- a write-out that went well, or did not
-abbrev pub EndsWrite : CoreView → HzGrant → Bool → Result Bool Refusal → CoreView → Type 0
-EndsWrite old held good result new = EndsWriteAs old held.client held.serial held.page good result new
-
-abbrev pub EndsWriteOf : CoreView → WriteTicket → Bool → Result Bool Refusal → CoreView → Type 0
-EndsWriteOf old ticket good result new = EndsWriteAs old ticket.client ticket.serial ticket.page good result new
-
--- the core gave an image that is shorter than this, which none is
-abbrev pub ReadsShort : CoreView → HzGrant → ℕ → CoreView → Type 0
-ReadsShort old held end new = (image : List ℕ) × ReadOutcome old (pass_of held) (Ok image) new × (length image < end)
-
--- the part is that of the image that the core's read gives; a refusal leaves the bytes
-abbrev pub ReadsPart : CoreView → HzGrant → ℕ → List ℕ → List ℕ → Result (List ℕ) Refusal → CoreView → Type 0
-ReadsPart old held offset before after (Ok image) new =
-    ReadOutcome old (pass_of held) (Ok image) new × (after ≡ slice_range image offset (offset + length before))
-ReadsPart old held offset before after (Err why) new =
-    (after ≡ before) × (ReadOutcome old (pass_of held) (Err why) new ⊎ ((new ≡ old) ⊎ ReadsShort old held (offset + length before) new))
+abbrev pub ReadsPart : {A : Type 0} → CoreView → HzGrant → ℕ → List ℕ → Result A Refusal → List ℕ → CoreView → Type 0
+ReadsPart old held offset before result after new =
+    ForPart old offset (length before) result new (PartTold old held offset before result after new) × OnErr result (after ≡ before)
 
 abbrev pub WritesPart : {A : Type 0} → CoreView → HzGrant → ℕ → List ℕ → ℕ → Result A Refusal → CoreView → Type 0
-WritesPart old held offset bytes lsn (Ok done) new = WriteOutcome old (pass_of held) offset bytes lsn (Ok done) new
-WritesPart old held offset bytes lsn (Err why) new = WriteOutcome {A = Unit {0}} old (pass_of held) offset bytes lsn (Err why) new ⊎ (new ≡ old)
-
--- whether the table has this pass at its slot
-abbrev pub is_kept : Option Grant → HzGrant → Bool
-is_kept None held = false
-is_kept (Some kept) held = same_grant (grant held.client held.page held.serial) kept
-
--- a pass that the table has at its slot goes back if it is out; any other is refused
-abbrev pub Unfixes : {A : Type 0} → CoreView → Option Grant → HzGrant → Result A Refusal → CoreView → Type 0
-Unfixes old kept held (Ok done) new =
-    KnowsPass old (pass_of held) × Adds old held.client (Unfix held.serial held.page) Done new
-Unfixes old kept held (Err why) new =
-    (why ≡ refusal.UnknownPass) × (new ≡ old) × (is_kept kept held ≡ true → LacksPass old (pass_of held))
-
--- a core is made as it was asked for
-pub record IsAsAsked (made : Parameters) (asked : HzConfig) : Type 0 where
-  pub pages : made.pages ≡ asked.pages
-  pub size : made.size ≡ asked.page_size
-  pub frames : made.frames ≡ asked.frames
-  pub clients : made.clients ≡ asked.clients
-  pub room : made.room ≡ asked.room
-  pub k : made.k ≡ asked.k
-  pub correlated : made.correlated ≡ asked.correlated
-  pub retained : made.retained ≡ asked.retained
-
--- a core with no entries, as it was asked for
-abbrev pub IsFreshAs : CoreView → HzConfig → Type 0
-IsFreshAs core asked = (core.past ≡ []) × (core.before ≡ []) × IsAsAsked core.parameters asked
-
--- whether the table has this ticket at its slot, and the copy of its image; a refusal leaves the bytes
-abbrev pub CopiesImage : {A : Type 0} → Option KeptWrite → HzGrant → List ℕ → List ℕ → Result A Refusal → Type 0
-CopiesImage None held before after (Ok done) = ⊥
-CopiesImage (Some kept) held before after (Ok done) =
-    IsGrant held kept.ticket.client kept.ticket.page kept.ticket.serial × (after ≡ kept.ticket.image)
-CopiesImage kept held before after (Err why) = after ≡ before
+WritesPart old held offset bytes lsn result new =
+    ForPart old offset (length bytes) result new (WriteOutcome old (pass_of held) offset bytes lsn result new)

@@ -1,8 +1,12 @@
 //! The plain structs that cross to C. The header has the same ones, field by field.
 ghost use Rattle.std.specs.Prelude.{◌≡◌};
-ghost use Rattle.hojzmated_c.specs.Exports.{Shows};
+ghost use Rattle.bp_trail.specs.Event.{grant};
+ghost use Rattle.hojzmated_c.specs.Forms.{grant_of, pass_of, shown, shown_grant, shown_refusal};
+ghost use Rattle.hojzmated_c.specs.Totals.{no_counts, one_more};
 
-use bp_page::Refusal;
+use bp_core::{Pass, PassNote};
+use bp_page::{PageNo, Refusal};
+use bp_trail::Grant;
 
 /// What a core is made with.
 #[repr(C)]
@@ -18,13 +22,12 @@ pub struct HzConfig {
     pub clients: u8,
 }
 
-/// A pass or a ticket as C holds it, with the slot under which the pool keeps it.
+/// A pass or a ticket as C holds it.
 #[repr(C)]
 #[derive(Clone, Copy)]
 pub struct HzGrant {
     pub page: u64,
     pub serial: u64,
-    pub slot: usize,
     pub client: u8,
 }
 
@@ -65,16 +68,46 @@ pub const CLEAN: u8 = 4;
 /// A flush found the page in no frame.
 pub const ABSENT: u8 = 5;
 
+impl HzGrant {
+    /// What the pass or the ticket was given as.
+    pub(crate) fn grant(&self) -> Grant
+        ensures { result ≡ grant_of self.now }
+    {
+        Grant {
+            client: self.client,
+            page: PageNo::new(self.page),
+            serial: self.serial,
+        }
+    }
+
+    /// The pass.
+    pub(crate) fn pass(&self) -> Pass
+        ensures { result ≡ pass_of self.now }
+    {
+        PassNote::of(self.client, PageNo::new(self.page), self.serial).pass()
+    }
+
+    /// What C holds of a pass.
+    pub(crate) fn of(note: PassNote) -> HzGrant
+        ensures { result ≡ shown_grant note }
+    {
+        HzGrant {
+            page: note.page().number(),
+            serial: note.serial(),
+            client: note.client(),
+        }
+    }
+}
+
 impl HzFixed {
-    /// An answer with no grant.
-    pub(crate) fn bare(client: u8, page: u64, kind: u8) -> HzFixed
-        ensures kind { result.kind ≡ kind }
+    /// An answer of this kind with this grant, where no page moves.
+    pub(crate) fn of(kind: u8, client: u8, page: PageNo, serial: u64) -> HzFixed
+        ensures { result ≡ shown kind (grant client page serial) }
     {
         HzFixed {
             grant: HzGrant {
-                page,
-                serial: 0,
-                slot: 0,
+                page: page.number(),
+                serial,
                 client,
             },
             lsn: 0,
@@ -84,17 +117,39 @@ impl HzFixed {
         }
     }
 
-    /// What a call's result shows. A refusal has kind 0, and tells the LSN that the log needs.
-    pub(crate) fn of(client: u8, page: u64, outcome: &Result<HzFixed, Refusal>) -> HzFixed
-        ensures { Shows outcome.now result }
+    /// A refusal has kind 0, names the client and the page, and tells the LSN that the log needs.
+    pub(crate) fn refused(client: u8, page: u64, why: &Refusal) -> HzFixed
+        ensures { result ≡ shown_refusal client page why.now }
     {
-        match outcome {
-            Ok(fixed) => *fixed,
-            Err(Refusal::NeedLog(lsn)) => HzFixed {
+        let bare = HzFixed::of(0, client, PageNo::new(page), 0);
+        match why {
+            Refusal::NeedLog(lsn) => HzFixed {
                 lsn: lsn.number(),
-                ..HzFixed::bare(client, page, 0)
+                ..bare
             },
-            Err(_) => HzFixed::bare(client, page, 0),
+            _ => bare,
         }
     }
+}
+
+impl HzTotals {
+    /// Nothing was counted.
+    pub(crate) fn new() -> HzTotals
+        ensures { result ≡ no_counts }
+    {
+        HzTotals {
+            hits: 0,
+            faults: 0,
+            evictions: 0,
+            writes: 0,
+            failed: 0,
+        }
+    }
+}
+
+/// Counts one more, up to the end.
+pub(crate) fn count(total: &mut u64)
+    ensures { total.new ≡ one_more total.old }
+{
+    *total = total.saturating_add(1);
 }

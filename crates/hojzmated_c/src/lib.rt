@@ -5,13 +5,12 @@
 //! handle is one that these calls made, and that each pointer leads to memory of its type.
 #![tactic(auto)]
 
-ghost use Rattle.std.specs.Prelude.{◌≡◌, None, IfOk};
-ghost use Rattle.hojzmated_c.specs.Outcomes.{IsFreshAs};
-ghost use Rattle.hojzmated_c.specs.Exports.{code_of, Made, Ticked, Marked, Purged, Asked, Flushed, ReadEnded, ReadFailed, ImageCopied, WriteEnded, PartRead, PartWritten, Unfixed, Counted};
+ghost use Rattle.std.specs.Prelude.{◌≡◌, None, is_some, if◌then◌else◌, Ok, Err, IfOk, IfErr};
+ghost use Rattle.hojzmated_c.specs.Outcomes.{Opens};
+ghost use Rattle.hojzmated_c.specs.Exports.{code_of, Made, Ticked, Marked, Purged, Asked, Flushed, ReadEnded, ReadFailed, WriteEnded, PartRead, PartWritten, Unfixed, Counted, shown_fix};
 
 mod forms;
 mod handle;
-mod kept;
 mod pool;
 mod seal;
 mod texts;
@@ -19,7 +18,8 @@ mod texts;
 use crate::forms::{HzConfig, HzFixed, HzGrant, HzTotals};
 pub use crate::handle::HzCore;
 use crate::pool::Pool;
-use bp_page::{PortFault, Refusal};
+use bp_core::{EndRefusal, Ended};
+use bp_page::Refusal;
 use std::alloc::Global;
 
 /// The handle has no core.
@@ -38,9 +38,20 @@ fn code<T>(answer: &Result<T, Refusal>) -> u16
     }
 }
 
+/// What C sees of a fix or a flush.
+fn shown(client: u8, page: u64, answer: &Result<HzFixed, Refusal>) -> HzFixed
+    ensures { result ≡ shown_fix client page answer.now }
+{
+    match answer {
+        Ok(fixed) => *fixed,
+        Err(refusal) => HzFixed::refused(client, page, refusal),
+    }
+}
+
 /// A fresh pool in a block of its own.
 fn boxed(alloc: Global, config: &HzConfig) -> Result<Box<Pool, Global>, Refusal>
-    ensures { IfOk result (λ pool. IsFreshAs pool.value.core config.now) }
+    ensures made { IfOk result (λ pool. Opens config.now (Ok pool.value)) }
+    ensures refused { IfErr result (λ why. Opens config.now (Err why)) }
 {
     let pool = Pool::new(alloc, config)?;
     match Box::new(alloc, pool) {
@@ -69,7 +80,8 @@ pub extern "C" fn hz_core_new(alloc: Global, config: &HzConfig, core: &mut HzCor
 /// Frees a core: 0, or 50 where there is none. The handle has none afterwards.
 #[unsafe(no_mangle)]
 pub extern "C" fn hz_core_free(alloc: Global, core: &mut HzCore) -> u16
-    ensures { core.new.seal.pool ≡ None }
+    ensures gone { core.new.seal.pool ≡ None }
+    ensures number { result ≡ (if is_some core.old.seal.pool then 0 else 50) }
 {
     match core.take(alloc) {
         Some(_whole) => 0,
@@ -119,43 +131,47 @@ pub extern "C" fn hz_purge(alloc: Global, core: &mut HzCore, client: u8, count: 
     code(&purged)
 }
 
-/// Asks for a page.
+/// Asks for a page. Where another one is to be written out first, `image` takes the bytes to write.
 #[unsafe(no_mangle)]
 pub extern "C" fn hz_fix(
     alloc: Global,
     core: &mut HzCore,
     client: u8,
     page: u64,
+    image: &mut [u8],
     out: &mut HzFixed,
 ) -> u16
-    ensures { Asked core.old.seal.pool core.new.seal.pool client page out.new result }
+    ensures { Asked core.old.seal.pool core.new.seal.pool client page image.old image.new out.old
+        out.new result }
 {
     let Some(mut pool) = core.take(alloc) else {
         return NO_CORE;
     };
-    let fixed = pool.fix(client, page);
+    let fixed = pool.fix(client, page, image);
     *core = HzCore::of(pool);
-    *out = HzFixed::of(client, page, &fixed);
+    *out = shown(client, page, &fixed);
     code(&fixed)
 }
 
-/// Asks that a page be written out if it is unsaved.
+/// Asks that a page be written out if it is unsaved: `image` then takes the bytes to write.
 #[unsafe(no_mangle)]
 pub extern "C" fn hz_flush(
     alloc: Global,
     core: &mut HzCore,
     client: u8,
     page: u64,
+    image: &mut [u8],
     out: &mut HzFixed,
 ) -> u16
-    ensures { Flushed core.old.seal.pool core.new.seal.pool client page out.new result }
+    ensures { Flushed core.old.seal.pool core.new.seal.pool client page image.old image.new out.old
+        out.new result }
 {
     let Some(mut pool) = core.take(alloc) else {
         return NO_CORE;
     };
-    let flushed = pool.flush(client, page);
+    let flushed = pool.flush(client, page, image);
     *core = HzCore::of(pool);
-    *out = HzFixed::of(client, page, &flushed);
+    *out = shown(client, page, &flushed);
     code(&flushed)
 }
 
@@ -195,32 +211,9 @@ pub extern "C" fn hz_read_failed(
     let Some(mut pool) = core.take(alloc) else {
         return NO_CORE;
     };
-    let fault = if is_wrong_page {
-        PortFault::WrongPage
-    } else {
-        PortFault::Device
-    };
-    let why = pool.read_failed(ticket, fault);
+    let number = pool.read_failed(ticket, is_wrong_page);
     *core = HzCore::of(pool);
-    why.number()
-}
-
-/// Copies the image that a ticket is to write.
-#[unsafe(no_mangle)]
-pub extern "C" fn hz_write_image(
-    alloc: Global,
-    core: &mut HzCore,
-    ticket: &HzGrant,
-    into: &mut [u8],
-) -> u16
-    ensures { ImageCopied core.old.seal.pool core.new.seal.pool ticket.now into.old into.new result }
-{
-    let Some(pool) = core.take(alloc) else {
-        return NO_CORE;
-    };
-    let copied = pool.write_image(ticket, into);
-    *core = HzCore::of(pool);
-    code(&copied)
+    number
 }
 
 /// Ends a write-out.
@@ -240,10 +233,18 @@ pub extern "C" fn hz_write_end(
     };
     let ended = pool.write_end(ticket, is_good);
     *core = HzCore::of(pool);
-    if let Ok(dirty) = ended {
-        *is_dirty = dirty;
+    match ended {
+        Ok(Ended::Cleaned) => {
+            *is_dirty = false;
+            0
+        }
+        Ok(Ended::StillDirty) => {
+            *is_dirty = true;
+            0
+        }
+        Err(EndRefusal::Failed(why)) => why.number(),
+        Err(EndRefusal::Unknown(_, _)) => Refusal::UnknownTicket.number(),
     }
-    code(&ended)
 }
 
 /// Copies a part of a page.
@@ -296,13 +297,19 @@ pub extern "C" fn hz_unfix(alloc: Global, core: &mut HzCore, pass: &HzGrant) -> 
     };
     let unfixed = pool.unfix(pass);
     *core = HzCore::of(pool);
-    code(&unfixed)
+    match unfixed {
+        Ok(()) => 0,
+        Err(pass) => {
+            pass.note();
+            Refusal::UnknownPass.number()
+        }
+    }
 }
 
 /// What was counted.
 #[unsafe(no_mangle)]
 pub extern "C" fn hz_totals_of(alloc: Global, core: &mut HzCore, out: &mut HzTotals) -> u16
-    ensures { Counted core.old.seal.pool core.new.seal.pool out.new result }
+    ensures { Counted core.old.seal.pool core.new.seal.pool out.old out.new result }
 {
     let Some(pool) = core.take(alloc) else {
         return NO_CORE;

@@ -1,6 +1,6 @@
 //! A pool in a block of its own, or none, as a value that crosses to C: one pointer.
 ghost use Rattle.std.specs.Prelude.{◌≡◌, Option, Some, None, IsSome};
-ghost use Rattle.hojzmated_c.specs.declared.pool.Pool.{Pool as PoolValue};
+ghost use Rattle.bp_core.specs.CoreView.{CoreView};
 ghost use Rattle.hojzmated_c.specs.Owned.{pool_owns, pool_coded};
 
 mod parts;
@@ -16,7 +16,7 @@ use std::marker::{Model, Send};
 pub struct Seal {
     ptr: *mut u8,
     alloc: Global,
-    pub ghost pool: { Option PoolValue } by { pool_coded },
+    pub ghost pool: { Option CoreView } by { pool_coded },
 }
 
 impl Model for Seal {

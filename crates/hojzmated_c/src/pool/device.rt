@@ -1,189 +1,97 @@
-//! The ends of reads and write-outs, by what C holds of their tickets.
-ghost use Rattle.std.specs.Prelude.{◌≡◌, true, false, IfSome, IfNone, IsTrue};
-ghost use Rattle.slab.specs.Slab.{get};
-ghost use Rattle.hojzmated_c.specs.Outcomes.{CopiesImage, EndsRead, FailsRead, EndsWrite, EndsWriteOf, IsGrant, ticket_of};
+//! The ends of reads and write-outs, by what their tickets were given as.
+ghost use Rattle.std.specs.Prelude.{◌≡◌};
+ghost use Rattle.bp_core.specs.Outcomes.{WriteEndByOutcome};
+ghost use Rattle.hojzmated_c.specs.Forms.{grant_of, fault_of, write_of};
+ghost use Rattle.hojzmated_c.specs.Outcomes.{EndsRead, FailsRead};
 
-use crate::forms::HzGrant;
-use crate::kept::{KeptRead, KeptWrite};
+use crate::forms::{HzGrant, count};
 use crate::pool::Pool;
-use bp_core::{EndRefusal, Ended, ReadTicket, WriteTicket};
+use bp_core::{EndRefusal, Ended};
 use bp_page::{Image, PortFault, Refusal};
+use bp_trail::Grant;
 
-/// Whether the ticket is the one that C holds.
-fn is_read(ticket: &ReadTicket, held: &HzGrant) -> bool
-    ensures { IsTrue result → ticket.now ≡ ticket_of held.now }
+/// What an operation of the device found that failed.
+fn fault(is_wrong_page: bool) -> PortFault
+    ensures { result ≡ fault_of is_wrong_page }
 {
-    ticket.client() == held.client
-        && ticket.page().number() == held.page
-        && ticket.serial() == held.serial
+    if is_wrong_page {
+        PortFault::WrongPage
+    } else {
+        PortFault::Device
+    }
 }
 
-/// Whether the ticket is the one that C holds.
-fn is_write(ticket: &WriteTicket, held: &HzGrant) -> bool
-    ensures { IsTrue result → IsGrant held.now ticket.now.client ticket.now.page ticket.now.serial }
+/// How a write went.
+fn written(is_good: bool) -> Result<(), PortFault>
+    ensures { result ≡ write_of is_good }
 {
-    ticket.client() == held.client
-        && ticket.page().number() == held.page
-        && ticket.serial() == held.serial
+    if is_good {
+        Ok(())
+    } else {
+        Err(PortFault::Device)
+    }
 }
 
 impl Pool {
-    /// Takes out a ticket to read that C holds.
-    fn take_read(&mut self, held: &HzGrant) -> Option<ReadTicket>
-        ensures ticket { IfSome result (λ ticket. ticket ≡ ticket_of held.now) }
-        ensures same { self.new ≡ record self.old { reads = self.new.reads } }
-        ensures none { IfNone result (self.new ≡ self.old) }
-    {
-        let is_here = match self.reads.get(held.slot) {
-            Some(kept) => is_read(&kept.ticket, held),
-            None => false,
-        };
-        if !is_here {
-            return None;
-        }
-        match self.reads.try_remove(held.slot) {
-            Some(kept) => Some(kept.into_ticket()),
-            None => None,
-        }
-    }
-
-    /// Takes out a ticket to write that C holds.
-    fn take_write(&mut self, held: &HzGrant) -> Option<WriteTicket>
-        ensures ticket { IfSome result (λ ticket. IsGrant held.now ticket.client ticket.page
-            ticket.serial) }
-        ensures same { self.new ≡ record self.old { writes = self.new.writes } }
-        ensures none { IfNone result (self.new ≡ self.old) }
-    {
-        let is_here = match self.writes.get(held.slot) {
-            Some(kept) => is_write(&kept.ticket, held),
-            None => false,
-        };
-        if !is_here {
-            return None;
-        }
-        match self.writes.try_remove(held.slot) {
-            Some(kept) => Some(kept.into_ticket()),
-            None => None,
-        }
-    }
-
     /// Ends a read that went well, and gives the pass. `OutOfPage` where the image has another length than a page, then
-    /// `OutOfMemory`, then `UnknownTicket`; all three change nothing.
+    /// `UnknownTicket`, then `OutOfMemory`; all three change nothing.
     pub(crate) fn read_end(&mut self, held: &HzGrant, image: &[u8]) -> Result<HzGrant, Refusal>
-        ensures outcome { EndsRead self.old.core held.now image.now result self.new.core }
+        ensures { EndsRead self.old held.now image.now result self.new }
     {
         if image.len() != self.core.geometry().size {
             return Err(Refusal::OutOfPage);
         }
+        if !self.core.knows_read(held.grant()) {
+            return Err(Refusal::UnknownTicket);
+        }
         let Ok(own) = Image::of(self.alloc, image) else {
             return Err(Refusal::OutOfMemory);
         };
-        if self.passes.reserve(1).is_err() {
-            return Err(Refusal::OutOfMemory);
-        }
-        let Some(ticket) = self.take_read(held) else {
-            return Err(Refusal::UnknownTicket);
-        };
-        match self.core.read_end(ticket, Ok(own)) {
+        match self.core.read_end_by(held.grant(), Ok(own)) {
             Ok(pass) => {
-                self.totals.faults = self.totals.faults.saturating_add(1);
-                Ok(self.keep_pass(pass))
+                count(&mut self.totals.faults);
+                Ok(HzGrant::of(pass.note()))
             }
-            Err(EndRefusal::Failed(refusal)) => Err(refusal),
-            Err(EndRefusal::Unknown(ticket, _)) => {
-                ticket.forfeit();
-                Err(Refusal::UnknownTicket)
-            }
+            Err(EndRefusal::Unknown(_, _)) => Err(Refusal::UnknownTicket),
+            Err(EndRefusal::Failed(why)) => Err(why),
         }
     }
 
-    /// Ends a read that failed, and tells how: `WrongPage` where another page was found, and else `ReadFailed`. `UnknownTicket`,
-    /// which changes nothing.
-    pub(crate) fn read_failed(&mut self, held: &HzGrant, fault: PortFault) -> Refusal
-        ensures outcome { FailsRead self.old.core held.now fault result self.new.core }
+    /// Ends a read that failed, and tells the number of why: `WrongPage` or `ReadFailed`, or `UnknownTicket`, which changes nothing.
+    pub(crate) fn read_failed(&mut self, held: &HzGrant, is_wrong_page: bool) -> u16
+        ensures { FailsRead self.old held.now (fault_of is_wrong_page) result self.new }
     {
-        let Some(ticket) = self.take_read(held) else {
-            return Refusal::UnknownTicket;
-        };
-        match self.core.read_end(ticket, Err(fault)) {
-            Err(EndRefusal::Failed(refusal)) => {
-                self.totals.failed = self.totals.failed.saturating_add(1);
-                refusal
+        match self
+            .core
+            .read_end_by(held.grant(), Err(fault(is_wrong_page)))
+        {
+            Err(EndRefusal::Failed(why)) => {
+                count(&mut self.totals.failed);
+                why.number()
             }
-            Err(EndRefusal::Unknown(ticket, _)) => {
-                ticket.forfeit();
-                Refusal::UnknownTicket
-            }
+            Err(EndRefusal::Unknown(_, _)) => Refusal::UnknownTicket.number(),
             Ok(_pass) => unreachable!(),
         }
     }
 
-    /// Copies the image that is to be written. `UnknownTicket`, then `OutOfPage` where `into` has another length than a page.
-    pub(crate) fn write_image(&self, held: &HzGrant, into: &mut [u8]) -> Result<(), Refusal>
-        ensures { CopiesImage (get self.now.writes held.now.slot) held.now into.old into.new result }
+    /// Ends a write-out: what the core says of it.
+    pub(crate) fn write_end(
+        &mut self,
+        held: &HzGrant,
+        is_good: bool,
+    ) -> Result<Ended, EndRefusal<Grant, Result<(), PortFault>>>
+        ensures { WriteEndByOutcome self.old (grant_of held.now) (write_of is_good) result self.new }
     {
-        let Some(kept) = self.writes.get(held.slot) else {
-            return Err(Refusal::UnknownTicket);
-        };
-        if !is_write(&kept.ticket, held) {
-            return Err(Refusal::UnknownTicket);
-        }
-        let bytes = kept.ticket.image().bytes();
-        if bytes.len() != into.len() {
-            return Err(Refusal::OutOfPage);
-        }
-        into.copy_from_slice(bytes);
-        Ok(())
-    }
-
-    /// Ends a write-out, and tells whether the page is still unsaved. `WriteFailed` where it did not go well; `UnknownTicket`, which
-    /// changes nothing.
-    pub(crate) fn write_end(&mut self, held: &HzGrant, is_good: bool) -> Result<bool, Refusal>
-        ensures outcome { EndsWrite self.old.core held.now is_good result self.new.core }
-    {
-        let Some(ticket) = self.take_write(held) else {
-            return Err(Refusal::UnknownTicket);
-        };
-        if is_good {
-            self.end_write(ticket)
-        } else {
-            self.fail_write(ticket)
-        }
-    }
-
-    fn end_write(&mut self, ticket: WriteTicket) -> Result<bool, Refusal>
-        ensures outcome { EndsWriteOf self.old.core ticket true result self.new.core }
-    {
-        match self.core.write_end(ticket, Ok(())) {
-            Ok(Ended::Cleaned) => {
-                self.totals.writes = self.totals.writes.saturating_add(1);
-                Ok(false)
+        match self.core.write_end_by(held.grant(), written(is_good)) {
+            Ok(how) => {
+                count(&mut self.totals.writes);
+                Ok(how)
             }
-            Ok(Ended::StillDirty) => {
-                self.totals.writes = self.totals.writes.saturating_add(1);
-                Ok(true)
+            Err(EndRefusal::Failed(why)) => {
+                count(&mut self.totals.failed);
+                Err(EndRefusal::Failed(why))
             }
-            Err(EndRefusal::Unknown(ticket, _)) => {
-                ticket.forfeit();
-                Err(Refusal::UnknownTicket)
-            }
-            Err(EndRefusal::Failed(refusal)) => Err(refusal),
-        }
-    }
-
-    fn fail_write(&mut self, ticket: WriteTicket) -> Result<bool, Refusal>
-        ensures outcome { EndsWriteOf self.old.core ticket false result self.new.core }
-    {
-        match self.core.write_end(ticket, Err(PortFault::Device)) {
-            Err(EndRefusal::Unknown(ticket, _)) => {
-                ticket.forfeit();
-                Err(Refusal::UnknownTicket)
-            }
-            Err(EndRefusal::Failed(refusal)) => {
-                self.totals.failed = self.totals.failed.saturating_add(1);
-                Err(refusal)
-            }
-            Ok(_) => unreachable!(),
+            Err(EndRefusal::Unknown(ticket, write)) => Err(EndRefusal::Unknown(ticket, write)),
         }
     }
 }

@@ -1,68 +1,36 @@
-//! Reading, writing and giving back a page by what C holds of its pass.
-ghost use Rattle.std.specs.Prelude.{◌≡◌, is_some, IfSome, IsTrue};
-ghost use Rattle.slab.specs.Slab.{get};
-ghost use Rattle.bp_trail.specs.Event.{grant, same_grant};
-ghost use Rattle.hojzmated_c.specs.Outcomes.{ReadsPart, WritesPart, Unfixes, is_kept};
+//! Reading, writing and giving back a page by what its pass was given as.
+ghost use Rattle.bp_core.specs.Outcomes.{UnfixOutcome};
+ghost use Rattle.hojzmated_c.specs.Forms.{pass_of};
+ghost use Rattle.hojzmated_c.specs.Outcomes.{ReadsPart, WritesPart};
 
 use crate::forms::HzGrant;
 use crate::pool::Pool;
-use bp_core::PassNote;
-use bp_page::{Bytes, Image, Lsn, Refusal};
-
-/// Whether the note is of this pass.
-fn is_of(note: &PassNote, held: &HzGrant) -> bool
-    ensures told { result ≡ same_grant (grant held.now.client held.now.page held.now.serial)
-        note.now }
-    ensures same { IsTrue result → note.now ≡ grant held.now.client held.now.page held.now.serial }
-{
-    held.client == note.client()
-        && held.page == note.page().number()
-        && held.serial == note.serial()
-}
+use bp_core::Pass;
+use bp_page::{Bytes, Lsn, Refusal};
 
 impl Pool {
-    /// The note of a pass that C holds.
-    fn pass_at(&self, held: &HzGrant) -> Option<PassNote>
-        ensures same { IfSome result (λ note. note ≡ grant held.now.client held.now.page
-            held.now.serial) }
-        ensures told { is_some result ≡ is_kept (get self.now.passes held.now.slot) held.now }
-    {
-        let note = self.passes.get(held.slot)?;
-        if is_of(note, held) { Some(*note) } else { None }
-    }
-
-    /// Copies a part of the page of a pass. `OutOfPage` where it is not within the page, then `UnknownPass`, and what the core
-    /// refuses.
+    /// Copies a part of the page of a pass. `OutOfPage` where it is not within the page, and what the core refuses.
     pub(crate) fn read(
         &mut self,
         held: &HzGrant,
         offset: usize,
         into: &mut [u8],
-    ) -> Result<Image, Refusal>
-        ensures outcome { ReadsPart self.old.core held.now offset into.old into.new result
-            self.new.core }
+    ) -> Result<(), Refusal>
+        ensures { ReadsPart self.old held.now offset into.old result into.new self.new }
     {
         if !self.core.geometry().fits(offset, into.len()) {
             return Err(Refusal::OutOfPage);
         }
-        let Some(note) = self.pass_at(held) else {
-            return Err(Refusal::UnknownPass);
-        };
-        let pass = note.pass();
+        let pass = held.pass();
         let read = self.core.read(&pass);
         pass.note();
         let image = read?;
         let end = offset + into.len();
-        let bytes = image.bytes();
-        if end > bytes.len() {
-            return Err(Refusal::OutOfPage);
-        }
-        into.copy_from_slice(&bytes[offset..end]);
-        Ok(image)
+        into.copy_from_slice(&image.bytes()[offset..end]);
+        Ok(())
     }
 
-    /// Puts bytes into the page of a pass. `OutOfPage` where they are not within the page, then `UnknownPass`, `OutOfMemory`, and
-    /// what the core refuses.
+    /// Puts bytes into the page of a pass. `OutOfPage` where they are not within the page, and what the core refuses.
     pub(crate) fn write(
         &mut self,
         held: &HzGrant,
@@ -70,43 +38,32 @@ impl Pool {
         from: &[u8],
         lsn: u64,
     ) -> Result<(), Refusal>
-        ensures outcome { WritesPart self.old.core held.now offset from.now lsn result self.new.core }
+        ensures { WritesPart self.old held.now offset from.now lsn result self.new }
     {
         if !self.core.geometry().fits(offset, from.len()) {
             return Err(Refusal::OutOfPage);
         }
-        let Ok(start) = u32::try_from(offset) else {
-            return Err(Refusal::OutOfPage);
-        };
-        let Some(note) = self.pass_at(held) else {
+        if self.core.free() < 1 {
+            return Err(Refusal::TrailFull);
+        }
+        let pass = held.pass();
+        if !self.core.knows(&pass) {
+            pass.note();
             return Err(Refusal::UnknownPass);
-        };
+        }
         let Ok(bytes) = Bytes::of(self.alloc, from) else {
+            pass.note();
             return Err(Refusal::OutOfMemory);
         };
-        let pass = note.pass();
-        let written = self.core.write(&pass, start, &bytes, Lsn::new(lsn));
+        let written = self.core.write(&pass, offset as u32, &bytes, Lsn::new(lsn));
         pass.note();
         written
     }
 
-    /// Gives a pass back. `UnknownPass` where it is not out here, which changes nothing.
-    pub(crate) fn unfix(&mut self, held: &HzGrant) -> Result<(), Refusal>
-        ensures outcome { Unfixes self.old.core (get self.old.passes held.now.slot) held.now result
-            self.new.core }
+    /// Gives a pass back. Where it is not out here it comes back, and nothing changes.
+    pub(crate) fn unfix(&mut self, held: &HzGrant) -> Result<(), Pass>
+        ensures { UnfixOutcome self.old (pass_of held.now) result self.new }
     {
-        let Some(note) = self.pass_at(held) else {
-            return Err(Refusal::UnknownPass);
-        };
-        match self.core.unfix(note.pass()) {
-            Ok(()) => {
-                self.passes.try_remove(held.slot);
-                Ok(())
-            }
-            Err(pass) => {
-                pass.note();
-                Err(Refusal::UnknownPass)
-            }
-        }
+        self.core.unfix(held.pass())
     }
 }
