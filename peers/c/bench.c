@@ -77,10 +77,10 @@ static void use(uint64_t page)
 {
     static unsigned turn;
     hz_fixed asked = {0};
-    hz_grant pass;
+    hz_grant pass = {0};
     if (turn++ % 16 == 0 && hz_tick(&core, 0, 1))
         fail("tick");
-    if (hz_fix(&core, 0, page, &asked))
+    if (hz_fix(&core, 0, page, image, size, &asked))
         fail("fix");
     pass = asked.grant;
     if (asked.kind == HZ_LOAD) {

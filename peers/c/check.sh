@@ -1,6 +1,7 @@
 #!/bin/sh
-# Links the library with C and runs the engine: as it is, and with the C code under the address and undefined behaviour
-# sanitizers. With `bench` it then runs the benchmark beside Berkeley DB's memory pool (libdb5.3-dev).
+# Links the library with C and runs the engine, as it is and with the C code under the address and undefined behaviour
+# sanitizers, and the benchmark under the sanitizers. With `bench` it then measures beside Berkeley DB's memory pool
+# (libdb5.3-dev), in rounds of which each runs both pools.
 #
 #     (cd crates/hojzmated_c && rt lib)        builds the library
 #     peers/c/check.sh [bench [ROUNDS]]
@@ -20,13 +21,13 @@ $cc $words -O2 "$top/peers/c/engine.c" $library -lpthread -o engine
 checked="-O1 -g -fsanitize=address,undefined -fno-sanitize-recover=all"
 $cc $words $checked "$top/peers/c/engine.c" $library -lpthread -o engine_checked
 ./engine_checked
+$cc $words $checked "$top/peers/c/bench.c" $library -o bench_checked
+./bench_checked 0.1 1024 256 1024 1024
 if [ "${1:-}" != bench ]; then
     exit 0
 fi
 $cc $words -O2 "$top/peers/c/bench.c" $library -o bench
 $cc $words -O2 -DBERKELEY "$top/peers/c/bench.c" -ldb -lpthread -o bench_berkeley
-$cc $words $checked "$top/peers/c/bench.c" $library -o bench_checked
-./bench_checked 0.1 1024 177 1024 1024 > checked
 for round in $(seq "${2:-3}"); do
     for column in "256 256 1024 256" "1024 177 1024 1024" "4096 4096 1024 4096" "16384 2890 1024 16384"; do
         ours="$column"
