@@ -1,5 +1,5 @@
 -- What is counted of a core's entries.
-use Rattle.std.specs.Prelude.{ℕ, ◌+◌, min, List, [], ◌∷◌, Some}
+use Rattle.std.specs.Prelude.{ℕ, ◌+◌, min, [], ◌∷◌, Some}
 use Rattle.bp_trail.specs.Trail.{Trail}
 use Rattle.bp_trail.specs.declared.entries.Reply.{Reply}
 use Rattle.bp_trail.specs.declared.entries.Reply.TheVariants.{Hit, Load, Fixed, ReadFailed, WrongPage, Cleaned, StillDirty, WriteFailed}
