@@ -76,20 +76,20 @@ static uint8_t *image;
 static void use(uint64_t page)
 {
     static unsigned turn;
-    hz_fixed asked = {0};
-    hz_grant pass = {0};
+    hz_fixed asked;
+    hz_grant loaded, *pass = &asked.grant;
     if (turn++ % 16 == 0 && hz_tick(&core, 0, 1))
         fail("tick");
     if (hz_fix(&core, 0, page, image, size, &asked))
         fail("fix");
-    pass = asked.grant;
     if (asked.kind == HZ_LOAD) {
         if (pread(file, image, size, (off_t)page * size) != (ssize_t)size)
             fail("pread");
-        if (hz_read_end(&core, &asked.grant, image, size, &pass))
+        if (hz_read_end(&core, &asked.grant, image, size, &loaded))
             fail("read_end");
+        pass = &loaded;
     }
-    if (hz_unfix(&core, &pass))
+    if (hz_unfix(&core, pass))
         fail("unfix");
 }
 
