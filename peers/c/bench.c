@@ -76,8 +76,9 @@ static uint8_t *image;
 static void use(uint64_t page)
 {
     static unsigned turn;
-    hz_fixed asked;
-    hz_grant loaded, *pass = &asked.grant;
+    static hz_fixed asked;
+    static hz_grant loaded;
+    const hz_grant *pass = &asked.grant;
     if (turn++ % 16 == 0 && hz_tick(&core, 0, 1))
         fail("tick");
     if (hz_fix(&core, 0, page, image, size, &asked))
