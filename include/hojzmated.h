@@ -33,7 +33,8 @@ enum hz_refusal {
     HZ_READ_FAILED = 17,
     HZ_WRITE_FAILED = 18,
     HZ_WRONG_PAGE = 19,
-    HZ_TRAIL_FULL = 20,
+    HZ_TRAIL_FULL = 20, /* the room left is less than 3 for hz_fix, 2 for hz_flush, 1 for the others. A pass or a ticket
+                           to write that is out keeps 1 for its end, a ticket to read 2: so no end is refused */
     HZ_CLOCK_FULL = 21,
     HZ_OUT_OF_MEMORY = 22,
     HZ_BAD_CLIENT = 41,
@@ -65,7 +66,7 @@ typedef struct hz_config {
     uint64_t pages;      /* of the file: 1 to 1,048,576 */
     size_t page_size;    /* 16 to 65,536 bytes, a multiple of 16 */
     size_t frames;       /* 1 to 65,536 */
-    size_t room;         /* how many calls there may be in all: 1 to 2^61 */
+    size_t room;         /* how many calls the core may answer in all: 1 to 2^61. See HZ_TRAIL_FULL */
     uint64_t correlated; /* the two periods of LRU-K, in ticks: 0 to 2^62 */
     uint64_t retained;
     uint8_t k;       /* 1 to 16 */
@@ -85,7 +86,7 @@ typedef struct hz_fixed {
     uint64_t lsn;     /* kind 3: the page LSN of the image; refusal 12: how far the log has to be durable first */
     uint64_t evicted; /* the page that left its frame, where has_evicted */
     uint8_t kind;
-    bool has_evicted;
+    uint8_t has_evicted; /* 0 or 1 */
 } hz_fixed;
 
 /* What was counted since the core was made. A count that reaches 2^64 - 1 stays there. */
@@ -97,28 +98,29 @@ typedef struct hz_totals {
     uint64_t failed;    /* reads and write-outs that failed */
 } hz_totals;
 
-/* Makes a core in a handle that has none. Refused: 51, 1, 2, 22. */
+/* Makes a core in a handle that has none. Refused: 51; 1 for pages and page_size, 2 for the rest; 22. */
 uint16_t hz_core_new(const hz_config *config, hz_core *core);
 
 /* Frees it, with all passes and tickets that are out. Refused: 50. */
 uint16_t hz_core_free(hz_core *core);
 
 /* Fixes a page, which pins it. The buffer has the page size: where a page is to be written out first, its image is
- * copied there, and else it stays as it was. Refused: 41; 45 where the page is not of the file or len is not the page
- * size; 20; 13 where a read of the page is under way, 11 where no page may leave its frame, 12 where the victim's log
- * record is not durable yet: out->lsn tells it; 22 where the page is here, or is to be read or written. */
+ * copied there, and else it stays as it was. Refused: 41. 45 where the page is not of the file or len is not the page
+ * size. 20. 13 where a read of the page is under way. 11 where no page may leave its frame: each is pinned, being
+ * written out, or was referenced within the correlated period. 12 where the victim's log record is not durable yet:
+ * out->lsn tells it. 22 where the page is here, or is to be read or written. */
 uint16_t hz_fix(hz_core *core, uint8_t client, uint64_t page, uint8_t *buffer, size_t len, hz_fixed *out);
 
-/* Ends a read: the page is in a frame, and pass is a pass for it. Refused: 45 where len is not the page size, 16,
- * 22. */
+/* Ends a read: the page is in a frame, and pass is a pass for it. Refused: 45 where len is not the page size; 16; 22,
+ * after which the ticket is still out. */
 uint16_t hz_read_end(hz_core *core, const hz_grant *ticket, const uint8_t *image, size_t len, hz_grant *pass);
 
 /* Ends a read that failed, and returns 19 where another page was found, else 17; or 16. */
 uint16_t hz_read_failed(hz_core *core, const hz_grant *ticket, bool is_wrong_page);
 
-/* Ends a write-out. is_still_dirty tells whether the page was written to since it began. Refused: 18 where it was not
- * good, which ends it too; 16. */
-uint16_t hz_write_end(hz_core *core, const hz_grant *ticket, bool is_good, bool *is_still_dirty);
+/* Ends a write-out. is_still_dirty gets 1 where the page was written to since it began, else 0. Refused: 18 where it
+ * was not good, which ends it too; 16. */
+uint16_t hz_write_end(hz_core *core, const hz_grant *ticket, bool is_good, uint8_t *is_still_dirty);
 
 /* Gives a pass back. Refused: 14. */
 uint16_t hz_unfix(hz_core *core, const hz_grant *pass);
@@ -129,7 +131,7 @@ uint16_t hz_read(hz_core *core, const hz_grant *pass, size_t offset, uint8_t *in
 /* Puts len bytes into the page from the offset on, under the log record lsn. Refused: 45, 20, 14, 22. */
 uint16_t hz_write(hz_core *core, const hz_grant *pass, size_t offset, const uint8_t *bytes, size_t len, uint64_t lsn);
 
-/* Moves the clock on by n. Refused: 41, 20, 21. */
+/* Moves the clock on by n. It starts at 1. Refused: 41; 20; 21 where it would pass 2^62. */
 uint16_t hz_tick(hz_core *core, uint8_t client, uint64_t n);
 
 /* Notes that the log is durable as far as lsn. Refused: 41, 20. */
@@ -139,7 +141,8 @@ uint16_t hz_mark(hz_core *core, uint8_t client, uint64_t lsn);
  * 13 where the page is being read or written, 12 as in hz_fix, 22 where it is to be written. */
 uint16_t hz_flush(hz_core *core, uint8_t client, uint64_t page, uint8_t *buffer, size_t len, hz_fixed *out);
 
-/* Forgets pages that are away and whose newest reference is older than the retained period. Refused: 41, 20. */
+/* Forgets pages that are away and whose newest reference is older than the retained period. count gets how many.
+ * Refused: 41, 20. */
 uint16_t hz_purge(hz_core *core, uint8_t client, uint64_t *count);
 
 /* Tells what was counted. Refused: 50. */

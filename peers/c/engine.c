@@ -30,7 +30,8 @@ static void want(unsigned wanted, unsigned number, const char *what)
 /* Writes a page out by its ticket. */
 static void write_out(const hz_fixed *asked, const uint8_t *image)
 {
-    bool dirty = false, good = pwrite(file, image, SIZE, asked->grant.page * SIZE) == SIZE;
+    uint8_t dirty = 0;
+    bool good = pwrite(file, image, SIZE, asked->grant.page * SIZE) == SIZE;
     want(true, asked->lsn <= log_end, "a page behind the log");
     want(0, hz_write_end(&core, &asked->grant, good, &dirty), "write_end");
 }
@@ -88,7 +89,7 @@ static void misuse(void)
     hz_fixed out = {0};
     hz_grant stranger = {.page = 1, .serial = 99, .client = 200}, pass;
     uint8_t image[SIZE] = {0};
-    bool dirty = false;
+    uint8_t dirty = 0;
     hz_config again = {.pages = 1, .page_size = 17, .frames = 1, .room = 1, .k = 1, .clients = 1};
     want(HZ_NO_CORE, hz_fix(&none, 0, 0, image, SIZE, &out), "a fix with no core");
     want(HZ_NO_CORE, hz_core_free(&none), "no core to free");

@@ -1,5 +1,5 @@
 -- What the exported functions answer and leave in a handle, and in the memory that C passes.
-use Rattle.std.specs.Prelude.{◌≡◌, ℕ, Bool, true, false, List, Option, Some, None, Result, Ok, Err}
+use Rattle.std.specs.Prelude.{◌≡◌, ℕ, Bool, List, Option, Some, None, Result, Ok, Err}
 use Rattle.bp_page.specs.declared.refusals.Refusal.{Refusal}
 use Rattle.bp_page.specs.declared.refusals.PortFault.{PortFault}
 use Rattle.bp_page.specs.Refusals.{number_of}
@@ -85,13 +85,13 @@ code_of_end (Ok how) = 0
 code_of_end (Err why) = number_of_end why
 
 -- whether the page is still unsaved, which is written only where the end is good
-abbrev pub dirty_or_else : {T R : Type 0} → Result Ended (EndRefusal T R) → Bool → Bool
-dirty_or_else (Ok ended.Cleaned) old = false
-dirty_or_else (Ok ended.StillDirty) old = true
+abbrev pub dirty_or_else : {T R : Type 0} → Result Ended (EndRefusal T R) → ℕ → ℕ
+dirty_or_else (Ok ended.Cleaned) old = 0
+dirty_or_else (Ok ended.StillDirty) old = 1
 dirty_or_else (Err why) old = old
 
 -- the core's outcome of a write-out that went well, or did not
-abbrev pub WriteEnded : Option CoreView → Option CoreView → HzGrant → Bool → Bool → Bool → ℕ → Type 0
+abbrev pub WriteEnded : Option CoreView → Option CoreView → HzGrant → Bool → ℕ → ℕ → ℕ → Type 0
 WriteEnded old new ticket is_good dirty dirty' number =
     OnCore old new number (dirty' ≡ dirty)
     (λ old new.

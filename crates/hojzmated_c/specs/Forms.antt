@@ -23,7 +23,7 @@ shown_grant g = record { page = g.page; serial = g.serial; client = g.client }
 
 -- an answer of this kind, where no page moves
 abbrev pub shown : ℕ → Grant → HzFixed
-shown kind g = record { grant = shown_grant g; lsn = 0; evicted = 0; kind = kind; has_evicted = false }
+shown kind g = record { grant = shown_grant g; lsn = 0; evicted = 0; kind = kind; has_evicted = 0 }
 
 -- a refusal has kind 0, and tells the LSN that the log needs
 abbrev pub shown_refusal : ℕ → ℕ → Refusal → HzFixed

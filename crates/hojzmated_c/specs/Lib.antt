@@ -3,3 +3,4 @@ pub mod Forms
 pub mod Totals
 pub mod Outcomes
 pub mod Exports
+pub mod Texts

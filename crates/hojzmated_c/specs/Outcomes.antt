@@ -81,7 +81,7 @@ Sends ticket fixed image =
 abbrev pub ShowsLoad : ReadTicket → Option ℕ → HzFixed → Type 0
 ShowsLoad ticket None fixed = fixed ≡ shown 2 (grant ticket.client ticket.page ticket.serial)
 ShowsLoad ticket (Some gone) fixed =
-    fixed ≡ record (shown 2 (grant ticket.client ticket.page ticket.serial)) { evicted = gone; has_evicted = true }
+    fixed ≡ record (shown 2 (grant ticket.client ticket.page ticket.serial)) { evicted = gone; has_evicted = 1 }
 
 -- what a fix gave, as C sees it: 1 is a pass, 2 a page to read, 3 one to write out first
 abbrev pub ShowsFix : Fix → List ℕ → HzFixed → List ℕ → Type 0

@@ -39,7 +39,7 @@ pub struct HzFixed {
     pub lsn: u64,
     pub evicted: u64,
     pub kind: u8,
-    pub has_evicted: bool,
+    pub has_evicted: u8,
 }
 
 /// What was counted since the core was made. A count that reaches its end stays there.
@@ -113,7 +113,7 @@ impl HzFixed {
             lsn: 0,
             evicted: 0,
             kind,
-            has_evicted: false,
+            has_evicted: 0,
         }
     }
 

@@ -5,7 +5,8 @@
 //! handle is one that these calls made, and that each pointer leads to memory of its type.
 #![tactic(auto)]
 
-ghost use Rattle.std.specs.Prelude.{◌≡◌, None, is_some, if◌then◌else◌, Ok, Err, IfOk, IfErr};
+ghost use Rattle.std.specs.Prelude.{◌≡◌, None, is_some, if◌then◌else◌, Ok, Err, IfOk, IfErr, length};
+ghost use Rattle.hojzmated_c.specs.Texts.{begun_with, text_of};
 ghost use Rattle.hojzmated_c.specs.Outcomes.{Opens};
 ghost use Rattle.hojzmated_c.specs.Exports.{code_of, Made, Ticked, Marked, Purged, Asked, Flushed, ReadEnded, ReadFailed, WriteEnded, PartRead, PartWritten, Unfixed, Counted, shown_fix};
 
@@ -223,7 +224,7 @@ pub extern "C" fn hz_write_end(
     core: &mut HzCore,
     ticket: &HzGrant,
     is_good: bool,
-    is_dirty: &mut bool,
+    is_dirty: &mut u8,
 ) -> u16
     ensures { WriteEnded core.old.seal.pool core.new.seal.pool ticket.now is_good is_dirty.old
         is_dirty.new result }
@@ -235,11 +236,11 @@ pub extern "C" fn hz_write_end(
     *core = HzCore::of(pool);
     match ended {
         Ok(Ended::Cleaned) => {
-            *is_dirty = false;
+            *is_dirty = 0;
             0
         }
         Ok(Ended::StillDirty) => {
-            *is_dirty = true;
+            *is_dirty = 1;
             0
         }
         Err(EndRefusal::Failed(why)) => why.number(),
@@ -321,7 +322,10 @@ pub extern "C" fn hz_totals_of(alloc: Global, core: &mut HzCore, out: &mut HzTot
 
 /// Writes the text of a refusal's number, as much of it as there is room for, and returns its whole length.
 #[unsafe(no_mangle)]
-pub extern "C" fn hz_text(number: u16, into: &mut [u8]) -> usize {
+pub extern "C" fn hz_text(number: u16, into: &mut [u8]) -> usize
+    ensures length { result ≡ length (text_of number) }
+    ensures bytes { into.new ≡ begun_with (text_of number) into.old }
+{
     let text = texts::text_of(number).as_bytes();
     let len = text.len().min(into.len());
     into[..len].copy_from_slice(&text[..len]);

@@ -1,14 +1,19 @@
 //! The text of each number.
+ghost use Rattle.std.specs.Prelude.{◌≡◌};
+ghost use Rattle.hojzmated_c.specs.Texts.{text_of};
 
 /// What a number says. One that no call answers is unknown.
-pub(crate) fn text_of(number: u16) -> &'static str {
+#[tactic(auto, unfolding(crate::specs::Texts::text_of))]
+pub(crate) fn text_of(number: u16) -> &'static str
+    ensures { result.now ≡ text_of number }
+{
     match number {
         0 => "done",
         1 => "the number of pages or the page size is out of its limits",
         2 => "a setting of the pool is out of its limits",
         11 => "no page may leave its frame",
         12 => "the log must first be durable up to the LSN that is told",
-        13 => "another client's device operation on the page is under way",
+        13 => "a device operation on the page is under way",
         14 => "no such pass is out",
         16 => "no such ticket is out",
         17 => "the page could not be read",

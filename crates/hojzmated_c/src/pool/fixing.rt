@@ -26,7 +26,7 @@ fn load(ticket: ReadTicket, gone: Option<PageNo>) -> HzFixed
     match gone {
         Some(page) => HzFixed {
             evicted: page.number(),
-            has_evicted: true,
+            has_evicted: 1,
             ..fixed
         },
         None => fixed,
