@@ -1,0 +1,109 @@
+//! Ports whose device work goes on only when a test lets it.
+use bp_device::Port;
+use bp_page::{Geometry, Image, Lsn, PageNo, PortFault};
+use std::alloc::Global;
+use std::process::Abort;
+use std::sync::{Arc, Mutex, Wait};
+use std::thread;
+
+/// How far the device work of a port is.
+#[derive(Clone, Copy, Drop)]
+struct Stage {
+    has_begun: bool,
+    may_go_on: bool,
+}
+
+/// What a port and a test share.
+#[derive(Drop)]
+pub(crate) struct Gate {
+    stage: Arc<Mutex<Stage>, Global>,
+}
+
+impl Gate {
+    /// A gate to which no device work has come. It is open or shut.
+    pub(crate) fn new<R: Abort + AllocGlobal>(rt: &R, is_open: bool) -> Gate {
+        let stage = Mutex::new(Stage {
+            has_begun: false,
+            may_go_on: is_open,
+        });
+        Gate {
+            stage: Arc::new(rt.alloc(), stage).expect(rt, "the gate"),
+        }
+    }
+
+    /// The same gate, for somebody else.
+    pub(crate) fn again<R: Abort>(&self, rt: &R) -> Gate {
+        Gate {
+            stage: Arc::try_clone(&self.stage).expect(rt, "the gate"),
+        }
+    }
+
+    pub(crate) fn open<R: Wait>(&self, rt: &R) {
+        self.stage.lock(rt).may_go_on = true;
+    }
+
+    /// Returns once some device work has come here.
+    pub(crate) fn wait_for_work<R: Wait>(&self, rt: &R) {
+        for _ in rt.forever() {
+            if self.stage.lock(rt).has_begun {
+                return;
+            }
+            thread::yield_now();
+        }
+    }
+
+    /// Device work comes here, and goes on once the gate is open.
+    fn pass<R: Wait>(&self, rt: &R) {
+        self.stage.lock(rt).has_begun = true;
+        for _ in rt.forever() {
+            if self.stage.lock(rt).may_go_on {
+                return;
+            }
+            thread::yield_now();
+        }
+    }
+}
+
+/// A port over another one, behind a gate.
+#[derive(Drop)]
+pub(crate) struct HeldPort<P: Port> {
+    pub(crate) inner: P,
+    pub(crate) gate: Gate,
+}
+
+impl<P: Port> Port for HeldPort<P> {
+    ghost geometry_of = { λ p. P.geometry_of p.inner };
+
+    ghost failures_of = { λ p. P.failures_of p.inner };
+
+    ghost is_headed = { λ p. P.is_headed p.inner };
+
+    ghost read_gives = { λ port page found after. P.read_gives port.inner page found after.inner };
+
+    ghost write_gives = { λ port page image lsn written after.
+        P.write_gives port.inner page image lsn written after.inner };
+
+    fn geometry(&self) -> Geometry {
+        self.inner.geometry()
+    }
+
+    fn failures(&self) -> u64 {
+        self.inner.failures()
+    }
+
+    fn read<R: Wait>(&mut self, rt: &R, page: PageNo) -> Result<Image, PortFault> {
+        self.gate.pass(rt);
+        self.inner.read(rt, page)
+    }
+
+    fn write<R: Wait>(
+        &mut self,
+        rt: &R,
+        page: PageNo,
+        image: &Image,
+        lsn: Lsn,
+    ) -> Result<(), PortFault> {
+        self.gate.pass(rt);
+        self.inner.write(rt, page, image, lsn)
+    }
+}

@@ -1,0 +1,85 @@
+//! A device in memory, and a driver over it.
+ghost use Rattle.std.specs.Prelude.{◌≡◌};
+
+use crate::judging::{expect_legal, setup_of};
+use crate::scripts::{NO_VICTIM_NO_PASS, expect_counted, fits, two_pages};
+use bp_core::{Core, Refused, Row};
+use bp_device::{MemDevice, MemPort, drive_all};
+use bp_lruk::Settings;
+use bp_page::{Geometry, Refusal};
+use std::process::Abort;
+use std::sync::Wait;
+
+/// A device of zeros: four pages of 16 bytes.
+pub(crate) fn device<R: Abort + AllocGlobal>(rt: &R, geometry: Geometry) -> MemDevice
+    ensures { result ≡ geometry }
+{
+    match MemDevice::new(rt.alloc(), geometry) {
+        Ok(device) => device,
+        Err(refusal) => {
+            assert!(rt; refusal == Refusal::OutOfMemory);
+            MemDevice::new(rt.alloc(), geometry).expect(rt, "the device, with memory")
+        }
+    }
+}
+
+pub(crate) fn port_of<R: Abort>(rt: &R, device: &MemDevice) -> MemPort
+    ensures { result.device ≡ device.now }
+{
+    match device.port() {
+        Ok(port) => port,
+        Err(refusal) => {
+            assert!(rt; refusal == Refusal::OutOfMemory);
+            device.port().expect(rt, "the port, with memory")
+        }
+    }
+}
+
+/// A core of one frame for one client, with one stamp and no periods.
+fn one_frame<R: Abort + AllocGlobal>(rt: &R, geometry: Geometry) -> Core
+    ensures { result.parameters.size ≡ geometry.size }
+{
+    let settings = Settings::new(1, 0, 0).expect(rt, "the settings");
+    match Core::new(rt.alloc(), geometry, settings, 1, 1, 100) {
+        Ok(core) => core,
+        Err(_) => {
+            let again = Core::new(rt.alloc(), geometry, settings, 1, 1, 100);
+            again.expect(rt, "the core, with memory")
+        }
+    }
+}
+
+/// Drives the rows, and once more where that was refused before the first row.
+fn drive<R: Wait + Abort + AllocGlobal>(
+    rt: &R,
+    core: &mut Core,
+    port: &mut MemPort,
+    rows: &[Row],
+) -> Vec<Refused>
+    requires size { port.old.device.size ≡ core.old.parameters.size }
+{
+    assert!(rt; fits(core, rows));
+    match drive_all(rt, rt.alloc(), core, port, rows) {
+        Ok(refused) => refused,
+        Err(refusal) => {
+            assert!(rt; refusal == Refusal::OutOfMemory && core.trail().is_empty());
+            assert!(rt; fits(core, rows));
+            let again = drive_all(rt, rt.alloc(), core, port, rows);
+            again.expect(rt, "the rows are driven, with memory")
+        }
+    }
+}
+
+#[test]
+fn rows_by_a_driver(rt: HostRuntime) {
+    let geometry = Geometry::new(4, 16).expect(&rt, "the geometry");
+    let device = device(&rt, geometry);
+    let mut port = port_of(&rt, &device);
+    let mut core = one_frame(&rt, geometry);
+    let rows = two_pages(&rt);
+    let refused = drive(&rt, &mut core, &mut port, &rows);
+    if !expect_counted(&rt, &rows, &refused, core.trail()) {
+        assert_eq!(&rt; refused.as_slice(), NO_VICTIM_NO_PASS.as_slice());
+    }
+    expect_legal(&rt, &setup_of(&core), core.trail());
+}
