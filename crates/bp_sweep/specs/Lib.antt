@@ -1,0 +1,3 @@
+-- What a list of references says, and what a cell of a sweep counts.
+pub mod Counts
+pub mod References

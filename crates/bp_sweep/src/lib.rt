@@ -1,0 +1,8 @@
+//! A sweep: the same references over pools of several sizes, for several K of LRU-K, and the optimum beside them.
+#![tactic(auto)]
+
+mod counts;
+mod references;
+
+pub use counts::Counts;
+pub use references::{ReferenceFault, read_references};
