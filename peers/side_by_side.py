@@ -5,12 +5,13 @@
     (cd crates/bench_pool && rt run)       builds a bench; with no argument it does nothing
     (cd crates/bench_threads && rt run)    the same; with no argument it does little
     peers/side_by_side.py ROUNDS [ROOM ..]
-    peers/side_by_side.py ROUNDS threads
+    peers/side_by_side.py ROUNDS threads [silent]
 
 For each ROOM the trail has that room and is cut when half full; ROOM 0 is a trail that is never cut, and ROOM
 `silent` one that is only counted. Each number is in fixes and unfixes a second of processor time. With `threads` it
-is in those of all client threads together, a second of wall clock time. A ratio is of one round, above 1 where the
-proved pool is faster. The median of the rounds comes first, and then the least and the greatest.
+is in those of all client threads together, a second of wall clock time, over a pool that is cut as they go; with
+`silent` too each round has a silent pool as well. A ratio is of one round, above 1 where the proved pool is faster.
+The median of the rounds comes first, and then the least and the greatest.
 """
 import os
 import re
@@ -49,8 +50,8 @@ def ours(pages, room, folder):
     return [int(it) for it in re.findall(r"pages: (\d+) fixes", said(words, folder))]
 
 
-def ours_in_threads(pages, folder):
-    return [int(it) for it in re.findall(r"pages: (\d+) fixes", said([BENCH_THREADS, pages], folder))]
+def ours_in_threads(pages, kind, folder):
+    return [int(it) for it in re.findall(r"pages: (\d+) fixes", said([BENCH_THREADS, pages, kind], folder))]
 
 
 def mpool_said(mpool, threads, pages, frames, hot, folder):
@@ -87,7 +88,8 @@ def print_table(title, names, runs, peer):
 
 
 def main():
-    rounds, in_threads = int(sys.argv[1]), sys.argv[2:] == ["threads"]
+    rounds, in_threads = int(sys.argv[1]), sys.argv[2:3] == ["threads"]
+    kinds = ["recording"] + sys.argv[3:4] if in_threads else []
     rooms = [] if in_threads else [it if it == "silent" else int(it) for it in sys.argv[2:]] or [0]
     with tempfile.TemporaryDirectory(prefix="side-by-side-") as folder:
         mpool, pages = f"{folder}/mpool", f"{folder}/pages.bin"
@@ -95,19 +97,20 @@ def main():
         with open(pages, "wb") as it:
             it.write(bytes(FILE_BYTES))
         runs = {room: [] for room in rooms}
-        peer, of_threads = [], []
+        peer, of_threads = [], {kind: [] for kind in kinds}
         for _ in range(rounds):
             peer.append((theirs_in_threads if in_threads else theirs)(mpool, folder))
             for room in rooms:
                 runs[room].append(ours(pages, room, folder))
-            if in_threads:
-                of_threads.append(ours_in_threads(pages, folder))
+            for kind in kinds:
+                of_threads[kind].append(ours_in_threads(pages, kind, folder))
     for room in rooms:
         titles = {0: "never cut", "silent": "only counted"}
         title = titles.get(room, f"room {room}, cut when half full")
         print_table(title, [name for name, *_ in COLUMNS], runs[room], peer)
-    if in_threads:
-        print_table("client threads, cut as they go", [name for name, *_ in THREAD_COLUMNS], of_threads, peer)
+    for kind in kinds:
+        title = {"recording": "client threads, cut as they go", "silent": "client threads, only counted"}[kind]
+        print_table(title, [name for name, *_ in THREAD_COLUMNS], of_threads[kind], peer)
 
 
 if __name__ == "__main__":

@@ -2,6 +2,7 @@
 ghost use Rattle.std.specs.Prelude.{◌≡◌, ◌<◌, ◌≤◌};
 ghost use Rattle.bench_threads.specs.declared.TheConstants.{FILE_PAGES};
 
+use crate::kinds::Kind;
 use crate::{FILE_PAGES, FRAMES};
 use bp_core::{Entry, Pass};
 use bp_device::Port;
@@ -9,13 +10,13 @@ use bp_page::PageNo;
 use bp_shared::{PoolName, Session, SharedPool, Taker};
 use std::alloc::Global;
 use std::sync::{Mutex, Wait};
+use std::thread;
 use std::thread::Threads;
-use std::{mem, thread};
 
 // The clock moves once in so many fixes of a thread: a page may leave only once it was last referenced before the present tick.
 const FIXES_A_TICK: u64 = 16;
 
-// The fixes of a thread between two of its cuts. Four threads then stay within the trail's room.
+// The fixes of a thread between two of its cuts, where its pool is cut. Four threads then stay within the trail's room.
 const FIXES_A_CUT: u64 = 1024;
 
 /// So many threads, each with so many fixes over the first pages.
@@ -39,9 +40,9 @@ pub(crate) struct Takings<N: PoolName> {
 
 /// One client.
 #[derive(Drop)]
-pub(crate) struct Job<N: PoolName, P: Port> {
+pub(crate) struct Job<N: PoolName, P: Port, K: Kind> {
     pub(crate) alloc: Global,
-    pub(crate) session: Session<N>,
+    pub(crate) session: Session<N, K>,
     pub(crate) port: P,
     /// The state of its generator of numbers.
     pub(crate) state: u64,
@@ -50,6 +51,7 @@ pub(crate) struct Job<N: PoolName, P: Port> {
     /// The list that was cut last: the session's goes on in its memory.
     pub(crate) spare: Vec<Entry>,
     ghost port_is: { (P.geometry_of port).size ≡ N.parameters.size },
+    ghost pages_are: { N.parameters.pages ≡ FILE_PAGES },
 }
 
 // The next number of a linear congruential generator.
@@ -59,25 +61,11 @@ fn next(state: u64) -> u64 {
         .wrapping_add(1442695040888963407)
 }
 
-// Drops the last piece of the trail, and takes the next.
-fn cut_trail<N: PoolName, R: Wait>(
-    rt: &R,
-    alloc: Global,
-    pool: &SharedPool<N>,
-    takings: &Mutex<Takings<N>>,
-) {
-    let mut takings = takings.lock(rt);
-    let spare = mem::replace(&mut takings.spare, Vec::new(alloc));
-    if let Ok(piece) = pool.cut_into(rt, &mut takings.taker, spare) {
-        takings.spare = piece;
-    }
-}
-
 // Gives a pass back, by way of an emptied ring if need be.
-fn give_back<N: PoolName, R: Wait>(
+fn give_back<N: PoolName, K: Kind, R: Wait>(
     rt: &R,
-    pool: &SharedPool<N>,
-    session: &mut Session<N>,
+    pool: &SharedPool<N, K>,
+    session: &mut Session<N, K>,
     pass: Pass,
 ) {
     if let Err((pass, _)) = pool.unfix(session, pass) {
@@ -88,22 +76,14 @@ fn give_back<N: PoolName, R: Wait>(
     }
 }
 
-impl<N: PoolName, P: Port> Job<N, P> {
+impl<N: PoolName, P: Port, K: Kind> Job<N, P, K> {
     ghost use Rattle.std.specs.Prelude.{◌≡◌, ◌<◌, ◌≤◌};
 
-    // Drops the last piece of the list, and cuts the next.
-    fn cut_list(&mut self) {
-        let spare = mem::replace(&mut self.spare, Vec::new(self.alloc));
-        if let Ok(list) = self.session.cut_into(spare) {
-            self.spare = list;
-        }
-    }
-
-    // Moves the clock and cuts, where these are due.
+    // Moves the clock and lets go of entries, where these are due.
     fn keep_up<R: Wait>(
         &mut self,
         rt: &R,
-        pool: &SharedPool<N>,
+        pool: &SharedPool<N, K>,
         takings: &Mutex<Takings<N>>,
         call: u64,
     ) {
@@ -111,13 +91,19 @@ impl<N: PoolName, P: Port> Job<N, P> {
             let _ = pool.tick(rt, &mut self.session, 1);
         }
         if call % FIXES_A_CUT == 0 {
-            cut_trail(rt, self.alloc, pool, takings);
-            self.cut_list();
+            K::let_go(
+                rt,
+                self.alloc,
+                pool,
+                takings,
+                &mut self.session,
+                &mut self.spare,
+            );
         }
     }
 
     // Fixes a page, and gives it back. Counts that where it was not refused.
-    fn use_page<R: Wait>(&mut self, rt: &R, pool: &SharedPool<N>, page: PageNo)
+    fn use_page<R: Wait>(&mut self, rt: &R, pool: &SharedPool<N, K>, page: PageNo)
         requires page_in { page < N.parameters.pages }
     {
         if let Ok(pass) = pool.fix(rt, &mut self.session, &mut self.port, page) {
@@ -130,11 +116,9 @@ impl<N: PoolName, P: Port> Job<N, P> {
     pub(crate) fn fill<R: Wait>(
         &mut self,
         rt: &R,
-        pool: &SharedPool<N>,
+        pool: &SharedPool<N, K>,
         takings: &Mutex<Takings<N>>,
-    )
-        requires pages { N.parameters.pages ≡ FILE_PAGES }
-    {
+    ) {
         for page in 0..FRAMES as u64 {
             self.keep_up(rt, pool, takings, page);
             self.use_page(rt, pool, PageNo::new(page));
@@ -146,12 +130,10 @@ impl<N: PoolName, P: Port> Job<N, P> {
     fn run<R: Wait>(
         &mut self,
         rt: &R,
-        pool: &SharedPool<N>,
+        pool: &SharedPool<N, K>,
         takings: &Mutex<Takings<N>>,
         work: Work,
-    )
-        requires pages { N.parameters.pages ≡ FILE_PAGES }
-    {
+    ) {
         for call in 0..work.calls {
             self.state = next(self.state);
             self.keep_up(rt, pool, takings, call);
@@ -161,15 +143,18 @@ impl<N: PoolName, P: Port> Job<N, P> {
 }
 
 /// One thread for each job. All have ended at the return.
-pub(crate) fn run_jobs<N: PoolName + Send + Sync, P: Port + Send, R: Threads + Wait + Sync>(
+pub(crate) fn run_jobs<
+    N: PoolName + Send + Sync,
+    P: Port + Send,
+    K: Kind,
+    R: Threads + Wait + Sync,
+>(
     rt: &R,
-    pool: &SharedPool<N>,
+    pool: &SharedPool<N, K>,
     takings: &Mutex<Takings<N>>,
-    jobs: &mut [Job<N, P>],
+    jobs: &mut [Job<N, P, K>],
     work: Work,
-)
-    requires pages { N.parameters.pages ≡ FILE_PAGES }
-{
+) {
     let count = jobs.len();
     if count > 0 {
         thread::for_each_mut(rt, jobs, count, &|_, job| job.run(rt, pool, takings, work));
@@ -177,7 +162,7 @@ pub(crate) fn run_jobs<N: PoolName + Send + Sync, P: Port + Send, R: Threads + W
 }
 
 /// How many fixes were not refused.
-pub(crate) fn done_by<N: PoolName, P: Port>(jobs: &[Job<N, P>]) -> u64 {
+pub(crate) fn done_by<N: PoolName, P: Port, K: Kind>(jobs: &[Job<N, P, K>]) -> u64 {
     let mut done: u64 = 0;
     for job in jobs {
         done = done.saturating_add(job.done);

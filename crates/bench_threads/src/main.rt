@@ -1,14 +1,18 @@
-//! Times fix and unfix of client threads over one shared pool, where its argument is the path of a page file. With no argument
-//! four threads use a pool for a moment, over pages in memory. docs/BENCHMARKS.md has its numbers.
+//! Times fix and unfix of client threads over one shared pool, where its argument is the path of a page file. The pool has
+//! its trail and its lists in memory, but only counts their entries where a second argument is `silent`. With no argument
+//! four threads use a pool of each kind for a moment, over pages in memory. docs/BENCHMARKS.md has the numbers.
 #![tactic(auto)]
 
 ghost use Rattle.std.specs.Prelude.{◌≡◌, ◌<◌, ◌≤◌, []};
 
 mod jobs;
+mod kinds;
 mod pools;
 
 use crate::jobs::Work;
+use crate::kinds::Kind;
 use crate::pools::{Outcome, file_ports, memory_ports, run_work};
+use bp_keeper::{RecordingKeeper, SilentKeeper};
 use std::alloc::Global;
 use std::env;
 use std::fs::File;
@@ -31,13 +35,13 @@ fn calls_a_second(nanos: u128, calls: u64) -> u128 {
 }
 
 // Times threads over pages of a file.
-fn time_work<R: Runtime<A = Global> + Clock + Files<File = File> + Threads + Wait + Sync>(
+fn time_work<K: Kind, R: Runtime<A = Global> + Clock + Files<File = File> + Threads + Wait + Sync>(
     rt: &R,
     path: &str,
     work: Work,
 ) -> Result<(), anyhow::Error> {
     let ports = file_ports(rt, path, work.threads)?;
-    let Outcome { nanos, done } = run_work(rt, ports, work)?;
+    let Outcome { nanos, done } = run_work::<K, _, R>(rt, ports, work)?;
     let Work {
         threads,
         pages,
@@ -52,27 +56,26 @@ fn time_work<R: Runtime<A = Global> + Clock + Files<File = File> + Threads + Wai
 }
 
 // Times hits over few pages, and evictions over four times as many pages as there are frames.
-fn time_threads<R: Runtime<A = Global> + Clock + Files<File = File> + Threads + Wait + Sync>(
-    rt: &R,
-    path: &str,
-    threads: u8,
-) -> Result<(), anyhow::Error> {
+fn time_threads<
+    K: Kind,
+    R: Runtime<A = Global> + Clock + Files<File = File> + Threads + Wait + Sync,
+>(rt: &R, path: &str, threads: u8) -> Result<(), anyhow::Error> {
     let hits = Work {
         threads,
         pages: HOT_PAGES,
         calls: 1000000,
     };
-    time_work(rt, path, hits)?;
+    time_work::<K, R>(rt, path, hits)?;
     let evictions = Work {
         threads,
         pages: FILE_PAGES,
         calls: 100000,
     };
-    time_work(rt, path, evictions)
+    time_work::<K, R>(rt, path, evictions)
 }
 
 // Says how many fixes of four threads were not refused.
-fn try_threads<R: Runtime<A = Global> + Clock + Threads + Wait + Sync>(
+fn try_threads<K: Kind, R: Runtime<A = Global> + Clock + Threads + Wait + Sync>(
     rt: &R,
 ) -> Result<(), anyhow::Error> {
     let work = Work {
@@ -81,21 +84,37 @@ fn try_threads<R: Runtime<A = Global> + Clock + Threads + Wait + Sync>(
         calls: 1000,
     };
     let ports = memory_ports(rt.alloc(), work.threads)?;
-    let outcome = run_work(rt, ports, work)?;
+    let outcome = run_work::<K, _, R>(rt, ports, work)?;
     println!(rt;
-        "4 threads: {} of 4000 fixes were not refused",
+        "4 threads over a {} pool: {} of 4000 fixes were not refused",
+        K::name(),
         outcome.done
     )?;
+    Ok(())
+}
+
+// Times one thread, two and four.
+fn time_kind<K: Kind, R: Runtime<A = Global> + Clock + Files<File = File> + Threads + Wait + Sync>(
+    rt: &R,
+    path: &str,
+) -> Result<(), anyhow::Error> {
+    println!(rt; "a {} pool", K::name())?;
+    for threads in [1, 2, 4] {
+        time_threads::<K, R>(rt, path, threads)?;
+    }
     Ok(())
 }
 
 fn main(rt: HostRuntime) -> Result<(), anyhow::Error> {
     let mut words = env::args(&rt)?.skip(1);
     let Some(path) = words.next() else {
-        return try_threads(&rt);
+        try_threads::<RecordingKeeper, _>(&rt)?;
+        return try_threads::<SilentKeeper, _>(&rt);
     };
-    for threads in [1, 2, 4] {
-        time_threads(&rt, path.as_str(), threads)?;
+    match words.next() {
+        Some(word) if word.as_str() == "silent" => {
+            time_kind::<SilentKeeper, _>(&rt, path.as_str())
+        }
+        _ => time_kind::<RecordingKeeper, _>(&rt, path.as_str()),
     }
-    Ok(())
 }

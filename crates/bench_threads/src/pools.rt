@@ -4,8 +4,9 @@ ghost use Rattle.bench_threads.specs.declared.TheConstants.{FILE_PAGES};
 ghost use Rattle.bench_threads.specs.declared.pools.TheConstants.{SIZE};
 
 use crate::jobs::{Job, Takings, Work, done_by, run_jobs};
+use crate::kinds::Kind;
 use crate::{FILE_PAGES, FRAMES};
-use bp_core::Core;
+use bp_core::PoolCore;
 use bp_device::{FilePort, MemDevice, MemPort, Port};
 use bp_lruk::Settings;
 use bp_lruk::settings::MAX_PERIOD;
@@ -22,11 +23,9 @@ use std::time::Instant;
 
 const SIZE: usize = 1024;
 
-const ROOM: usize = 65536;
-
 /// What a pool is made of.
-struct Made {
-    core: Core,
+struct Made<K: Kind> {
+    core: PoolCore<K>,
     mark: Mark,
     reader: Reader,
     ring: TrailRing,
@@ -37,12 +36,12 @@ struct Made {
 }
 
 // A core of K 2 and no periods for so many clients.
-fn make(alloc: Global, clients: u8) -> Result<Made, Refusal> {
+fn make<K: Kind>(alloc: Global, clients: u8) -> Result<Made<K>, Refusal> {
     let geometry = Geometry::new(FILE_PAGES, SIZE)?;
     let settings = Settings::new(2, 0, MAX_PERIOD)?;
     let (mark, _, reader) = Mark::new(alloc)?;
     let ring = TrailRing::new(alloc)?;
-    let core = Core::new(alloc, geometry, settings, FRAMES, clients, ROOM)?;
+    let core = PoolCore::new(alloc, geometry, settings, FRAMES, clients, K::room())?;
     Ok(Made {
         core,
         mark,
@@ -61,7 +60,12 @@ pub(crate) struct Outcome {
 }
 
 // A job of this session, whose port has pages of the pool's size.
-fn job_of<N: PoolName, P: Port>(alloc: Global, session: Session<N>, port: P) -> Job<N, P>
+fn job_of<N: PoolName, P: Port, K: Kind>(
+    alloc: Global,
+    session: Session<N, K>,
+    port: P,
+) -> Job<N, P, K>
+    requires pages { N.parameters.pages ≡ FILE_PAGES }
     requires size { (P.geometry_of port).size ≡ N.parameters.size }
 {
     let state = u64::from(session.client())
@@ -78,11 +82,12 @@ fn job_of<N: PoolName, P: Port>(alloc: Global, session: Session<N>, port: P) -> 
 }
 
 // A job for each session. `BadLength` where there are fewer, since a port lacks or has pages of another size.
-fn make_jobs<N: PoolName, P: Port>(
+fn make_jobs<N: PoolName, P: Port, K: Kind>(
     alloc: Global,
-    sessions: Vec<Session<N>>,
+    sessions: Vec<Session<N, K>>,
     ports: Vec<P>,
-) -> Result<Vec<Job<N, P>>, Refusal>
+) -> Result<Vec<Job<N, P, K>>, Refusal>
+    requires pages { N.parameters.pages ≡ FILE_PAGES }
     requires size { N.parameters.size ≡ SIZE }
 {
     let count = sessions.len();
@@ -106,16 +111,15 @@ fn make_jobs<N: PoolName, P: Port>(
 fn time_jobs<
     N: PoolName + Send + Sync,
     P: Port + Send,
+    K: Kind,
     R: Runtime<A = Global> + Clock + Threads + Wait + Sync,
 >(
     rt: &R,
-    pool: &SharedPool<N>,
+    pool: &SharedPool<N, K>,
     takings: &Mutex<Takings<N>>,
-    jobs: &mut [Job<N, P>],
+    jobs: &mut [Job<N, P, K>],
     work: Work,
-) -> Result<Outcome, anyhow::Error>
-    requires pages { N.parameters.pages ≡ FILE_PAGES }
-{
+) -> Result<Outcome, anyhow::Error> {
     if let Some(job) = jobs.first_mut() {
         job.fill(rt, pool, takings);
     }
@@ -132,8 +136,9 @@ fn time_jobs<
 fn time_work<
     N: PoolName + Send + Sync,
     P: Port + Send,
+    K: Kind,
     R: Runtime<A = Global> + Clock + Threads + Wait + Sync,
->(rt: &R, made: Made, ports: Vec<P>, work: Work) -> Result<Outcome, anyhow::Error>
+>(rt: &R, made: Made<K>, ports: Vec<P>, work: Work) -> Result<Outcome, anyhow::Error>
     requires mark { made.mark ≡ N.mark }
     requires parameters { made.core.parameters ≡ N.parameters }
     requires before { made.core.before ≡ N.before }
@@ -145,7 +150,7 @@ fn time_work<
         reader,
         ring,
     } = made;
-    let (pool, sessions, taker) = SharedPool::<N>::new(rt.alloc(), core, mark, reader, ring)?;
+    let (pool, sessions, taker) = SharedPool::<N, K>::new(rt.alloc(), core, mark, reader, ring)?;
     let mut jobs = make_jobs(rt.alloc(), sessions, ports)?;
     let takings = Mutex::new(Takings {
         taker,
@@ -155,13 +160,13 @@ fn time_work<
 }
 
 /// Times threads over a pool of their own, each with one of the ports.
-pub(crate) fn run_work<P: Port + Send, R: Runtime<A = Global> + Clock + Threads + Wait + Sync>(
-    rt: &R,
-    ports: Vec<P>,
-    work: Work,
-) -> Result<Outcome, anyhow::Error> {
-    let made = make(rt.alloc(), work.threads)?;
-    time_work::<Brand, P, R>(rt, made, ports, work)
+pub(crate) fn run_work<
+    K: Kind,
+    P: Port + Send,
+    R: Runtime<A = Global> + Clock + Threads + Wait + Sync,
+>(rt: &R, ports: Vec<P>, work: Work) -> Result<Outcome, anyhow::Error> {
+    let made = make::<K>(rt.alloc(), work.threads)?;
+    time_work::<Brand, P, K, R>(rt, made, ports, work)
 }
 
 /// Ports of one device in memory.

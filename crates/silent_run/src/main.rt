@@ -1,5 +1,6 @@
 //! Ten thousand fixes, reads and writes of pages of 64 KiB over a core that only counts its entries. The images that go by
 //! come to two gigabytes; what the program has in memory at the end is told. The file `stdout` was worked out by hand.
+//! With two arguments it does so many rounds of four in place of 2,500, over pages of so many bytes.
 #![tactic(auto)]
 
 ghost use Rattle.std.specs.Prelude.{◌≡◌, ◌<◌, ◌+◌, ◌≤◌, length};
@@ -9,11 +10,11 @@ use bp_device::{MemDevice, MemPort, Port, drive_fix};
 use bp_lruk::Settings;
 use bp_page::{Bytes, Geometry, Image, Lsn, PageNo, Refusal};
 use std::alloc::Global;
-use std::fs;
 use std::rt::{Files, Runtime};
 use std::sync::Wait;
+use std::{env, fs};
 
-// The greatest size of a page.
+// The greatest size of a page, where none is given.
 const SIZE: usize = 65536;
 
 const PAGES: u64 = 4;
@@ -21,6 +22,7 @@ const PAGES: u64 = 4;
 // Half as many as pages, so that each fix brings its page in, and another that was changed goes out.
 const FRAMES: usize = 2;
 
+// Where no number is given.
 const ROUNDS: u64 = 2500;
 
 // So much of 64 MiB, in blocks of 4 KiB.
@@ -113,12 +115,13 @@ fn use_pages(
     }
 }
 
-/// Runs all rounds.
+/// Runs so many rounds.
 fn run_rounds(
     rt: &impl Wait,
     alloc: Global,
     core: &mut SilentCore,
     port: &mut MemPort,
+    rounds: u64,
 ) -> Result<Counts, Refusal>
     requires size { port.old.device.size ≡ core.old.parameters.size }
     requires client { 0 < core.old.parameters.clients }
@@ -130,7 +133,7 @@ fn run_rounds(
         as_written: 0,
         refused: 0,
     };
-    for round in 1..=ROUNDS {
+    for round in 1..=rounds {
         let Ok(bytes) = Bytes::of(alloc, &[byte_of(round)]) else {
             return Err(Refusal::OutOfMemory);
         };
@@ -140,14 +143,18 @@ fn run_rounds(
 }
 
 /// What was counted, with the clock and the durable mark at the end.
-fn run(rt: &(impl Runtime<A = Global> + Wait)) -> Result<(Counts, u64, u64), Refusal> {
+fn run(
+    rt: &(impl Runtime<A = Global> + Wait),
+    rounds: u64,
+    size: usize,
+) -> Result<(Counts, u64, u64), Refusal> {
     let alloc = rt.alloc();
-    let geometry = Geometry::new(PAGES, SIZE)?;
+    let geometry = Geometry::new(PAGES, size)?;
     let settings = Settings::new(2, 0, 0)?;
     let device = MemDevice::new(alloc, geometry)?;
     let mut port = device.port()?;
     let mut core = SilentCore::new(alloc, geometry, settings, FRAMES, 1, 1 << 61)?;
-    let counts = run_rounds(rt, alloc, &mut core, &mut port)?;
+    let counts = run_rounds(rt, alloc, &mut core, &mut port, rounds)?;
     Ok((counts, core.clock(), core.durable().number()))
 }
 
@@ -160,7 +167,15 @@ fn resident(rt: &(impl Runtime<A = Global> + Files)) -> Option<u64> {
 }
 
 fn main(rt: HostRuntime) -> Result<(), anyhow::Error> {
-    let (counts, clock, durable) = run(&rt)?;
+    let mut words = env::args(&rt)?.skip(1);
+    let (rounds, size) = match (words.next(), words.next()) {
+        (Some(rounds), Some(size)) => (
+            rounds.as_str().parse::<u64>()?,
+            size.as_str().parse::<usize>()?,
+        ),
+        _ => (ROUNDS, SIZE),
+    };
+    let (counts, clock, durable) = run(&rt, rounds, size)?;
     println!(&rt;
         "{} pages used, {} of them as the round before wrote them, {} refused",
         counts.used, counts.as_written, counts.refused
