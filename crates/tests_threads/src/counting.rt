@@ -10,8 +10,6 @@ pub(crate) struct Counts {
     pub(crate) faults: usize,
     /// Passes that went back.
     pub(crate) unfixes: usize,
-    /// Marks of client 1.
-    pub(crate) marks: usize,
 }
 
 pub(crate) fn count(trail: &[Entry]) -> Counts {
@@ -19,7 +17,6 @@ pub(crate) fn count(trail: &[Entry]) -> Counts {
         hits: 0,
         faults: 0,
         unfixes: 0,
-        marks: 0,
     };
     for entry in trail {
         match entry.reply {
@@ -29,7 +26,6 @@ pub(crate) fn count(trail: &[Entry]) -> Counts {
         }
         match entry.call {
             Call::Unfix { .. } => counts.unfixes = counts.unfixes.saturating_add(1),
-            Call::Mark(_) if entry.client == 1 => counts.marks = counts.marks.saturating_add(1),
             _ => {}
         }
     }

@@ -1,10 +1,13 @@
-//! Tests of the public calls by which threads share a pool.
+//! Tests of threads that share a pool.
 //!
 //! They stand here, on top of the crates that they call, so that none of those is proved once more for its tests.
-//! The library itself has no item. What is asserted holds whatever the schedule.
+//! The library itself has no item. What is asserted holds whatever the schedule. All entries of each pool go to the
+//! judge, but for a million of the long run, which would take it too long.
 #![tactic(auto)]
 
 #[cfg(test)]
 mod counting;
+#[cfg(test)]
+mod judging;
 #[cfg(test)]
 mod sessions;

@@ -1,9 +1,4 @@
-//! Sessions in turn, and in threads of their own.
-mod cuts;
+//! Sessions in threads of their own.
 mod long_runs;
 mod making;
-mod pairs;
-mod rings;
-mod strangers;
 mod threads;
-mod turns;

@@ -2,11 +2,11 @@
 ghost use Rattle.std.specs.Prelude.{◌≡◌, ◌<◌, []};
 ghost use Rattle.bp_trail.specs.Parameters.{Parameters};
 
-use bp_core::{Core, PassNote};
+use bp_core::Core;
 use bp_device::Port;
 use bp_lruk::Settings;
 use bp_mark::{LogEnd, Mark, Reader};
-use bp_page::{Bytes, Geometry, Image, Lsn, PageNo, PortFault, Refusal};
+use bp_page::{Geometry, Image, Lsn, PageNo, PortFault};
 use bp_shared::{PoolName, Session, SharedPool, Taker, TrailRing};
 use std::alloc::Global;
 use std::process::Abort;
@@ -145,112 +145,5 @@ pub(super) fn client_of<N: PoolName>(
     Client {
         session,
         port: Zeros { alloc, geometry },
-    }
-}
-
-impl<N: PoolName> Client<N> {
-    ghost use Rattle.std.specs.Prelude.{◌≡◌, ◌<◌};
-
-    /// Fixes a page. It stays fixed until its note is given back.
-    pub(super) fn fix<R: Wait>(
-        &mut self,
-        rt: &R,
-        pool: &SharedPool<N>,
-        page: PageNo,
-    ) -> Result<PassNote, Refusal>
-        requires page_in { page < N.parameters.pages }
-    {
-        match pool.fix(rt, &mut self.session, &mut self.port, page) {
-            Ok(pass) => Ok(pass.note()),
-            Err(refusal) => Err(refusal),
-        }
-    }
-
-    /// Gives a pass back. Where it is refused, there is also the serial number of the pass that comes back.
-    pub(super) fn post(
-        &mut self,
-        pool: &SharedPool<N>,
-        note: PassNote,
-    ) -> Result<(), (Refusal, u64)> {
-        match pool.unfix(&mut self.session, note.pass()) {
-            Ok(()) => Ok(()),
-            Err((back, refusal)) => Err((refusal, back.note().serial())),
-        }
-    }
-
-    /// Gives a pass back.
-    pub(super) fn unfix(&mut self, pool: &SharedPool<N>, note: PassNote) -> Result<(), Refusal> {
-        match self.post(pool, note) {
-            Ok(()) => Ok(()),
-            Err((refusal, _)) => Err(refusal),
-        }
-    }
-
-    /// Why a read by this pass is refused, if it is.
-    pub(super) fn read_refused<R: Wait>(
-        &mut self,
-        rt: &R,
-        pool: &SharedPool<N>,
-        note: PassNote,
-    ) -> Option<Refusal> {
-        let pass = note.pass();
-        let read = pool.read(rt, &mut self.session, &pass);
-        pass.note();
-        read.err()
-    }
-
-    /// Writes the byte 5 at the front of a pass's page, at LSN 3.
-    pub(super) fn write_five<R: Wait>(
-        &mut self,
-        rt: &R,
-        alloc: Global,
-        pool: &SharedPool<N>,
-        note: PassNote,
-    ) -> Result<(), Refusal>
-        requires size { N.parameters.size ≡ 16 }
-    {
-        let Ok(five) = Bytes::of(alloc, &[5]) else {
-            return Err(Refusal::OutOfMemory);
-        };
-        let pass = note.pass();
-        let wrote = pool.write(rt, &mut self.session, &pass, 0, &five, Lsn::new(3));
-        pass.note();
-        wrote
-    }
-}
-
-/// Two clients of a pool.
-#[derive(Drop)]
-pub(super) struct Pair<N: PoolName> {
-    pub(super) pool: SharedPool<N>,
-    pub(super) taker: Taker<N>,
-    pub(super) end: LogEnd,
-    pub(super) first: Client<N>,
-    pub(super) second: Client<N>,
-    ghost end_is: { end.mark ≡ N.mark },
-}
-
-/// A pool over what was made, with its last two clients.
-pub(super) fn open_pair<N: PoolName, R: Abort + AllocGlobal>(rt: &R, made: Made) -> Pair<N>
-    requires mark { made.mark ≡ N.mark }
-    requires parameters { made.core.parameters ≡ N.parameters }
-    requires before { made.core.before ≡ N.before }
-    requires ring { made.ring ≡ N.ring }
-{
-    let Opened {
-        pool,
-        mut sessions,
-        taker,
-        end,
-        geometry,
-    } = open::<N, R>(rt, made);
-    let second = sessions.pop().expect(rt, "the second client");
-    let first = sessions.pop().expect(rt, "the first client");
-    Pair {
-        pool,
-        taker,
-        end,
-        first: client_of(rt.alloc(), geometry, first),
-        second: client_of(rt.alloc(), geometry, second),
     }
 }

@@ -3,6 +3,7 @@ ghost use Rattle.std.specs.Prelude.{◌≡◌, ◌<◌};
 
 use super::making::{Client, Made, Opened, client_of, make, open};
 use crate::counting::{Counts, count};
+use crate::judging::{expect_legal, setup_of};
 use bp_audit::agrees;
 use bp_core::{Entry, Pass};
 use bp_page::{Geometry, PageNo};
@@ -141,7 +142,7 @@ fn tally_of<N: PoolName>(trail: &[Entry], jobs: &[Job<N>]) -> Tally {
     tally
 }
 
-// Threads take passes and post them back.
+// Threads take passes and post them back. The judge finds their trail legal.
 fn run_together<N: PoolName + Send + Sync, R: Threads + Wait + Abort + Sync + AllocGlobal>(
     rt: &R,
     opened: Opened<N>,
@@ -159,6 +160,7 @@ fn run_together<N: PoolName + Send + Sync, R: Threads + Wait + Abort + Sync + Al
     let mut jobs = make_jobs(rt, geometry, sessions, spread);
     run_jobs(rt, &pool, &mut jobs);
     let (core, _, _) = pool.finish(taker);
+    expect_legal(rt, &setup_of(&core), core.trail());
     tally_of(core.trail(), &jobs)
 }
 

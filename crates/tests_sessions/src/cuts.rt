@@ -4,7 +4,7 @@ ghost use Rattle.std.specs.Prelude.{◌≡◌};
 use super::making::Client;
 use super::pairs::{Turn, play};
 use bp_audit::agrees;
-use bp_core::PassNote;
+use bp_core::{Entry, PassNote};
 use bp_page::{PageNo, Refusal};
 use bp_shared::{PoolName, SharedPool, Taker};
 use std::process::Abort;
@@ -26,42 +26,46 @@ fn fix_for_both<N: PoolName, R: Wait>(
 }
 
 // Takes the trail since the last cut, and the two lists, which are the trail's entries of either client: how many
-// entries each has.
+// entries each has. What was taken of the trail goes on those before it.
 fn cut_all<N: PoolName, R: Wait + Abort>(
     rt: &R,
     pool: &SharedPool<N>,
     taker: &mut Taker<N>,
     first: &mut Client<N>,
     second: &mut Client<N>,
+    taken: &mut Vec<Entry>,
 ) -> Result<(usize, usize, usize), Refusal> {
-    let trail = pool.cut(rt, taker)?;
+    let mut trail = pool.cut(rt, taker)?;
     let one = first.session.cut()?;
     let two = second.session.cut()?;
     assert!(rt; agrees(&trail, &one, 0) && agrees(&trail, &two, 1));
-    Ok((trail.len(), one.len(), two.len()))
+    let sizes = (trail.len(), one.len(), two.len());
+    taken.append(&mut trail).expect(rt, "the entries");
+    Ok(sizes)
 }
 
-/// Cuts while a pass is out, after it went back, and once more.
+/// Cuts while a pass is out, after it went back, and once more: what was taken is all that the trail had.
 pub(super) fn cut_thrice<N: PoolName, R: Wait + Abort>(
     rt: &R,
     pool: &SharedPool<N>,
     taker: &mut Taker<N>,
     first: &mut Client<N>,
     second: &mut Client<N>,
+    taken: &mut Vec<Entry>,
 ) -> Result<(), Refusal>
     requires pages { N.parameters.pages ≡ 4 }
 {
     let held = fix_for_both(rt, pool, first, second)?;
     // The unfix that was posted is drained by the cut.
-    let sizes = cut_all(rt, pool, taker, first, second);
+    let sizes = cut_all(rt, pool, taker, first, second, taken);
     assert_eq!(rt; sizes, Ok((4, 2, 2)));
     assert!(rt; first.session.held().len() == 1);
     let unknown = first.read_refused(rt, pool, held);
     assert!(rt; unknown.is_none());
     first.unfix(pool, held)?;
-    let sizes = cut_all(rt, pool, taker, first, second);
+    let sizes = cut_all(rt, pool, taker, first, second, taken);
     assert!(rt; sizes == Ok((2, 2, 0)));
-    let sizes = cut_all(rt, pool, taker, first, second);
+    let sizes = cut_all(rt, pool, taker, first, second, taken);
     assert!(rt; sizes == Ok((0, 0, 0)));
     Ok(())
 }

@@ -1,5 +1,5 @@
 -- The pool that was just made.
-use Rattle.tests_threads.proofs.sessions.strangers.pass_of_another_pool.Given as goal
+use Rattle.tests_sessions.proofs.strangers.pass_of_another_pool.Given as goal
 
 abbrev pub ghosts-stranger : goal.ghosts-stranger
 ghosts-stranger g a = record {

@@ -3,7 +3,8 @@ ghost use Rattle.std.specs.Prelude.{◌≡◌};
 
 use super::making::{Client, Made, Pair, make, open_pair};
 use super::{cuts, rings, strangers, turns};
-use bp_core::{Core, PassNote};
+use crate::judging::{expect_legal, setup_of};
+use bp_core::{Core, Entry, PassNote};
 use bp_mark::LogEnd;
 use bp_page::Refusal;
 use bp_shared::{PoolName, SharedPool, Taker};
@@ -31,6 +32,7 @@ fn act<N: PoolName, R: Wait + Abort>(
     end: &mut LogEnd,
     first: &mut Client<N>,
     second: &mut Client<N>,
+    taken: &mut Vec<Entry>,
     turn: &Turn,
 ) -> Result<(), Refusal>
     requires end { end.old.mark ≡ N.mark }
@@ -38,7 +40,7 @@ fn act<N: PoolName, R: Wait + Abort>(
     requires size { N.parameters.size ≡ 16 }
 {
     match turn {
-        Turn::Cuts => cuts::cut_thrice(rt, pool, taker, first, second),
+        Turn::Cuts => cuts::cut_thrice(rt, pool, taker, first, second, taken),
         Turn::FullRing => rings::fill_a_ring(rt, alloc, pool, first),
         Turn::AnotherClientsPass => { strangers::use_another_clients_pass(rt, pool, first, second) }
         Turn::AnotherPoolsPass(stranger) => {
@@ -85,6 +87,7 @@ fn play_over<N: PoolName, R: Wait + Abort + AllocGlobal>(rt: &R, made: Made, tur
         mut first,
         mut second,
     } = open_pair::<N, R>(rt, made);
+    let mut taken = Vec::new(rt.alloc());
     let acted = act(
         rt,
         rt.alloc(),
@@ -93,10 +96,16 @@ fn play_over<N: PoolName, R: Wait + Abort + AllocGlobal>(rt: &R, made: Made, tur
         &mut end,
         &mut first,
         &mut second,
+        &mut taken,
         turn,
     );
     acted.expect(rt, "the turn");
     let (core, _, _) = pool.finish(taker);
+    let setup = setup_of(&core);
+    expect_legal(rt, &setup, &taken);
+    if taken.is_empty() {
+        expect_legal(rt, &setup, core.trail());
+    }
     see(rt, &core, &first, &second, turn);
 }
 

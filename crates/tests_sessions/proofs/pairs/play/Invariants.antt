@@ -1,5 +1,5 @@
 -- The pool that was just made.
-use Rattle.tests_threads.proofs.sessions.pairs.play.Given as goal
+use Rattle.tests_sessions.proofs.pairs.play.Given as goal
 
 abbrev pub ghosts-play_over : goal.ghosts-play_over
 ghosts-play_over g a = record {

@@ -1,0 +1,22 @@
+//! Tests of two sessions of a pool in turn.
+//!
+//! They stand here, on top of the crates that they call, so that none of those is proved once more for its tests. The
+//! library itself has no item. All entries of each pool go to the judge.
+#![tactic(auto)]
+
+#[cfg(test)]
+mod counting;
+#[cfg(test)]
+mod cuts;
+#[cfg(test)]
+mod judging;
+#[cfg(test)]
+mod making;
+#[cfg(test)]
+mod pairs;
+#[cfg(test)]
+mod rings;
+#[cfg(test)]
+mod strangers;
+#[cfg(test)]
+mod turns;
