@@ -1,1 +1,4 @@
 pub mod Lines
+pub mod Tally
+pub mod Steps
+pub mod Fixing

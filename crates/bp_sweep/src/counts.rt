@@ -1,8 +1,9 @@
 //! How many replies of each kind a pool gave.
-ghost use Rattle.std.specs.Prelude.{◌≡◌};
+ghost use Rattle.std.specs.Prelude.{◌≡◌, ℕ};
+ghost use Rattle.bp_trail.specs.declared.entries.Reply.TheVariants as reply;
 ghost use Rattle.bp_sweep.specs.Counts.{HasRoom, counted, no_counts};
 
-use bp_trail::Reply;
+use bp_page::PageNo;
 
 /// How many replies of each kind there are, as the totals of a run's report have them.
 #[derive(Clone, Copy, PartialEq, Eq, Debug, Drop)]
@@ -36,22 +37,46 @@ impl Counts {
         }
     }
 
-    /// Counts one more reply.
-    pub(crate) fn note(&mut self, reply: &Reply)
+    /// Counts a page that was found in a frame.
+    pub(crate) fn add_hit(&mut self)
         requires { HasRoom self.old }
-        ensures { self.new ≡ counted reply.now self.old }
+        ensures { (pass : ℕ) → self.new ≡ counted (reply.Hit pass) self.old }
     {
-        match reply {
-            Reply::Hit(_) => self.hits += 1,
-            Reply::Fixed(_) => self.faults += 1,
-            Reply::Load {
-                evicted: Some(_),
-                ..
-            } => self.evictions += 1,
-            Reply::Cleaned | Reply::StillDirty => self.writes += 1,
-            Reply::ReadFailed | Reply::WrongPage | Reply::WriteFailed => self.failed += 1,
-            Reply::NoVictim | Reply::NeedLog(_) | Reply::Busy => self.refused += 1,
-            _ => {}
+        self.hits += 1;
+    }
+
+    /// Counts a read that begins, before which a page may have left its frame.
+    pub(crate) fn add_load(&mut self, evicted: Option<PageNo>)
+        requires { HasRoom self.old }
+        ensures { (ticket : ℕ) → self.new ≡ counted (reply.Load ticket evicted) self.old }
+    {
+        match evicted {
+            Some(_) => self.evictions += 1,
+            None => {}
         }
+    }
+
+    /// Counts a page that was read.
+    pub(crate) fn add_fault(&mut self)
+        requires { HasRoom self.old }
+        ensures { (pass : ℕ) → self.new ≡ counted (reply.Fixed pass) self.old }
+    {
+        self.faults += 1;
+    }
+
+    /// Counts a read that failed.
+    pub(crate) fn add_failure(&mut self)
+        requires { HasRoom self.old }
+        ensures { self.new ≡ counted reply.ReadFailed self.old }
+    {
+        self.failed += 1;
+    }
+
+    /// Counts a call that was refused.
+    pub(crate) fn add_refusal(&mut self)
+        requires { HasRoom self.old }
+        ensures { self.new ≡ counted reply.NoVictim self.old }
+    {
+        self.refused += 1;
     }
 }

@@ -48,8 +48,10 @@ fn next_reference<I: BufRead>(
     number: u64,
     geometry: &Geometry,
 ) -> Result<Option<u32>, ReferenceFault>
-    ensures found { IfSome (I.remaining reader.old) (λ text. FindsLine geometry.now.pages number text result) }
-    ensures rest { IfOk result (λ _. DropsThrough (I.remaining reader.old) (I.remaining reader.new) 10) }
+    ensures found { IfSome (I.remaining reader.old)
+        (λ text. FindsLine geometry.now.pages number text result) }
+    ensures rest { IfOk result
+        (λ _. DropsThrough (I.remaining reader.old) (I.remaining reader.new) 10) }
     ensures in_range { IfOk result (λ found. IfSome found (λ page. page < geometry.now.pages)) }
     ensures few { IfOk result (λ found. IfSome found (λ _. number ≤ MAX_REFERENCES)) }
 {
@@ -84,7 +86,8 @@ pub fn read_references<I: BufRead>(
     geometry: &Geometry,
 ) -> Result<Vec<u32>, ReferenceFault>
     ensures read { IfSome (I.remaining reader.old) (IsList result geometry.now.pages) }
-    ensures in_range { IfOk result (λ references. All (λ page. page < geometry.now.pages) references.items) }
+    ensures in_range { IfOk result
+        (λ references. All (λ page. page < geometry.now.pages) references.items) }
 {
     let mut references = Vec::new(alloc);
     let mut line = Vec::new(alloc);

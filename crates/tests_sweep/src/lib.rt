@@ -1,0 +1,9 @@
+//! Tests of a sweep: lists of references, and what its cells count, reckoned by hand.
+//!
+//! They stand apart from the crates that they call, so that none of these is proved a second time with its tests.
+#![tactic(auto)]
+
+#[cfg(test)]
+mod cells;
+#[cfg(test)]
+mod lists;
