@@ -83,6 +83,11 @@ ShowsLoad ticket None fixed = fixed ≡ shown 2 (grant ticket.client ticket.page
 ShowsLoad ticket (Some gone) fixed =
     fixed ≡ record (shown 2 (grant ticket.client ticket.page ticket.serial)) { evicted = gone; has_evicted = 1 }
 
+-- an answer that was told where it is good
+abbrev pub told : {A B : Type 0} → Result A Refusal → B → Result B Refusal
+told (Ok done) answer = Ok answer
+told (Err why) answer = Err why
+
 -- what a fix gave, as C sees it: 1 is a pass, 2 a page to read, 3 one to write out first
 abbrev pub ShowsFix : Fix → List ℕ → HzFixed → List ℕ → Type 0
 ShowsFix (fixing.Hit pass) before fixed image = (fixed ≡ shown 1 (grant pass.client pass.page pass.serial)) × (image ≡ before)

@@ -7,7 +7,7 @@
 
 ghost use Rattle.std.specs.Prelude.{◌≡◌, None, is_some, if◌then◌else◌, Ok, Err, IfOk, IfErr, length};
 ghost use Rattle.hojzmated_c.specs.Texts.{begun_with, text_of};
-ghost use Rattle.hojzmated_c.specs.Outcomes.{Opens};
+ghost use Rattle.hojzmated_c.specs.Outcomes.{Opens, told};
 ghost use Rattle.hojzmated_c.specs.Exports.{code_of, Made, Ticked, Marked, Purged, Asked, Flushed, ReadEnded, ReadFailed, WriteEnded, PartRead, PartWritten, Unfixed, Counted, shown_fix};
 
 mod forms;
@@ -39,13 +39,12 @@ fn code<T>(answer: &Result<T, Refusal>) -> u16
     }
 }
 
-/// What C sees of a fix or a flush.
-fn shown(client: u8, page: u64, answer: &Result<HzFixed, Refusal>) -> HzFixed
-    ensures { result ≡ shown_fix client page answer.now }
+/// What C sees of a fix or a flush: what was told, or the refusal.
+fn shown(client: u8, page: u64, answer: &Result<(), Refusal>, out: &mut HzFixed)
+    ensures { out.new ≡ shown_fix client page (told answer.now out.old) }
 {
-    match answer {
-        Ok(fixed) => *fixed,
-        Err(refusal) => HzFixed::refused(client, page, refusal),
+    if let Err(refusal) = answer {
+        *out = HzFixed::refused(client, page, refusal);
     }
 }
 
@@ -148,9 +147,9 @@ pub extern "C" fn hz_fix(
     let Some(mut pool) = core.take(alloc) else {
         return NO_CORE;
     };
-    let fixed = pool.fix(client, page, image);
+    let fixed = pool.fix(client, page, image, out);
     *core = HzCore::of(pool);
-    *out = shown(client, page, &fixed);
+    shown(client, page, &fixed, out);
     code(&fixed)
 }
 
@@ -170,9 +169,9 @@ pub extern "C" fn hz_flush(
     let Some(mut pool) = core.take(alloc) else {
         return NO_CORE;
     };
-    let flushed = pool.flush(client, page, image);
+    let flushed = pool.flush(client, page, image, out);
     *core = HzCore::of(pool);
-    *out = shown(client, page, &flushed);
+    shown(client, page, &flushed, out);
     code(&flushed)
 }
 

@@ -2,7 +2,7 @@
 ghost use Rattle.std.specs.Prelude.{◌≡◌, length, Option};
 ghost use Rattle.bp_trail.specs.Event.{grant};
 ghost use Rattle.hojzmated_c.specs.Forms.{shown};
-ghost use Rattle.hojzmated_c.specs.Outcomes.{Fixes, Flushes, Sends, ShowsLoad};
+ghost use Rattle.hojzmated_c.specs.Outcomes.{Fixes, Flushes, Sends, ShowsLoad, told};
 
 use crate::forms::{ABSENT, CLEAN, HIT, HzFixed, LOAD, WRITE_FIRST, count};
 use crate::pool::Pool;
@@ -46,14 +46,16 @@ fn send(ticket: WriteTicket, image: &mut [u8]) -> HzFixed
 }
 
 impl Pool {
-    /// Asks for a page. `BadClient`, `OutOfPage` also where the buffer has another length than a page, and what the core refuses.
+    /// Asks for a page, and tells in `out` what it gave. `BadClient`, `OutOfPage` also where the buffer has another length
+    /// than a page, and what the core refuses: nothing is told then.
     pub(crate) fn fix(
         &mut self,
         client: u8,
         page: u64,
         image: &mut [u8],
-    ) -> Result<HzFixed, Refusal>
-        ensures { Fixes self.old client page image.old result image.new self.new }
+        out: &mut HzFixed,
+    ) -> Result<(), Refusal>
+        ensures { Fixes self.old client page image.old (told result out.new) image.new self.new }
     {
         if client >= self.core.clients() {
             return Err(Refusal::BadClient);
@@ -67,26 +69,28 @@ impl Pool {
         match self.core.fix(client, page)? {
             Fix::Hit(pass) => {
                 count(&mut self.totals.hits);
-                Ok(hit(pass))
+                *out = hit(pass);
             }
             Fix::Load(ticket, gone) => {
                 if gone.is_some() {
                     count(&mut self.totals.evictions);
                 }
-                Ok(load(ticket, gone))
+                *out = load(ticket, gone);
             }
-            Fix::WriteFirst(ticket) => Ok(send(ticket, image)),
+            Fix::WriteFirst(ticket) => *out = send(ticket, image),
         }
+        Ok(())
     }
 
-    /// Asks that a page be written out. It refuses as `fix` does.
+    /// Asks that a page be written out. It tells and refuses as `fix` does.
     pub(crate) fn flush(
         &mut self,
         client: u8,
         page: u64,
         image: &mut [u8],
-    ) -> Result<HzFixed, Refusal>
-        ensures { Flushes self.old client page image.old result image.new self.new }
+        out: &mut HzFixed,
+    ) -> Result<(), Refusal>
+        ensures { Flushes self.old client page image.old (told result out.new) image.new self.new }
     {
         if client >= self.core.clients() {
             return Err(Refusal::BadClient);
@@ -98,9 +102,10 @@ impl Pool {
             return Err(Refusal::OutOfPage);
         }
         match self.core.flush(client, page)? {
-            Flush::Clean => Ok(HzFixed::of(CLEAN, client, page, 0)),
-            Flush::Absent => Ok(HzFixed::of(ABSENT, client, page, 0)),
-            Flush::WriteFirst(ticket) => Ok(send(ticket, image)),
+            Flush::Clean => *out = HzFixed::of(CLEAN, client, page, 0),
+            Flush::Absent => *out = HzFixed::of(ABSENT, client, page, 0),
+            Flush::WriteFirst(ticket) => *out = send(ticket, image),
         }
+        Ok(())
     }
 }
