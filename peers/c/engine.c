@@ -15,7 +15,9 @@ enum { PAGES = 64, SIZE = 256, FRAMES = 8, THREADS = 4, ROUNDS = 5000 };
 static hz_core core;
 static pthread_mutex_t lock = PTHREAD_MUTEX_INITIALIZER;
 static int file;
-static uint64_t log_end;
+static uint64_t log_end;         /* the LSN of the newest log record */
+static uint64_t durable;         /* as far as which the log is */
+static uint64_t page_lsn[PAGES]; /* of the newest write of each page */
 
 /* The engine ends where a call does not answer the number that is wanted. */
 static void want(unsigned wanted, unsigned number, const char *what)
@@ -27,12 +29,20 @@ static void want(unsigned wanted, unsigned number, const char *what)
     exit(1);
 }
 
-/* Writes a page out by its ticket. */
+/* The log is durable up to an LSN, and no further. */
+static void sync_log(uint8_t client, uint64_t lsn)
+{
+    durable = lsn;
+    want(0, hz_mark(&core, client, lsn), "mark");
+}
+
+/* Writes a page out by its ticket: with the LSN of its newest write, which has to be durable. */
 static void write_out(const hz_fixed *asked, const uint8_t *image)
 {
     uint8_t dirty = 0;
     bool good = pwrite(file, image, SIZE, asked->grant.page * SIZE) == SIZE;
-    want(true, asked->lsn <= log_end, "a page behind the log");
+    want(true, asked->lsn <= durable, "a page ahead of the log");
+    want(true, asked->lsn == page_lsn[asked->grant.page], "the page LSN");
     want(0, hz_write_end(&core, &asked->grant, good, &dirty), "write_end");
 }
 
@@ -45,7 +55,8 @@ static hz_grant fix(uint8_t client, uint64_t page)
     for (;;) {
         unsigned number = hz_fix(&core, client, page, image, SIZE, &asked);
         if (number == HZ_NEED_LOG) {
-            want(0, hz_mark(&core, client, log_end), "mark");
+            want(true, asked.lsn > durable, "a log that is durable so far");
+            sync_log(client, asked.lsn);
         } else if (number == HZ_NO_VICTIM) {
             want(0, hz_tick(&core, client, 1), "tick");
         } else {
@@ -58,7 +69,8 @@ static hz_grant fix(uint8_t client, uint64_t page)
         }
     }
     bool good = pread(file, image, SIZE, page * SIZE) == SIZE;
-    want(0, good ? hz_read_end(&core, &asked.grant, image, SIZE, &pass) : hz_read_failed(&core, &asked.grant, false), "read");
+    want(true, good, "the device");
+    want(0, hz_read_end(&core, &asked.grant, image, SIZE, &pass), "read_end");
     return pass;
 }
 
@@ -70,10 +82,12 @@ static void *work(void *number)
     for (int i = 0; i < ROUNDS; i++) {
         state = state * 6364136223846793005u + 1442695040888963407u;
         pthread_mutex_lock(&lock);
-        hz_grant pass = fix(client, (state >> 33) % PAGES);
+        uint64_t page = (state >> 33) % PAGES;
+        hz_grant pass = fix(client, page);
         want(0, hz_read(&core, &pass, 8, (uint8_t *)&count, sizeof count), "read of a part");
         count++;
-        want(0, hz_write(&core, &pass, 8, (const uint8_t *)&count, sizeof count, ++log_end), "write of a part");
+        page_lsn[page] = ++log_end;
+        want(0, hz_write(&core, &pass, 8, (const uint8_t *)&count, sizeof count, log_end), "write of a part");
         want(0, hz_unfix(&core, &pass), "unfix");
         want(HZ_UNKNOWN_PASS, hz_unfix(&core, &pass), "a pass given back twice");
         want(0, hz_tick(&core, client, 1), "tick");
@@ -112,7 +126,7 @@ static uint64_t settled(void)
     uint64_t sum = 0, count;
     uint8_t image[SIZE];
     hz_fixed asked = {0};
-    want(0, hz_mark(&core, 0, log_end), "mark");
+    sync_log(0, log_end);
     for (uint64_t page = 0; page < PAGES; page++) {
         want(0, hz_flush(&core, 0, page, image, SIZE, &asked), "flush");
         if (asked.kind == HZ_WRITE_FIRST)
@@ -135,9 +149,9 @@ int main(void)
     want(0, hz_core_new(&config, &core), "core_new");
     misuse();
     for (uintptr_t i = 0; i < THREADS; i++)
-        pthread_create(&threads[i], NULL, work, (void *)i);
+        want(0, (unsigned)pthread_create(&threads[i], NULL, work, (void *)i), "a thread");
     for (int i = 0; i < THREADS; i++)
-        pthread_join(threads[i], NULL);
+        want(0, (unsigned)pthread_join(threads[i], NULL), "the end of a thread");
     want(THREADS * ROUNDS, (unsigned)settled(), "the counts");
     want(0, hz_totals_of(&core, &totals), "totals");
     want(THREADS * ROUNDS, (unsigned)(totals.hits + totals.faults), "hits and faults");
