@@ -1,5 +1,7 @@
 -- What a core keeps, and that it agrees with the trail.
-use Rattle.std.specs.Prelude.{◌≡◌, ℕ, Decides, ◌+◌, ◌*◌, ◌^◌, ◌≤◌, ◌==◌, Bool, not, ◌&&◌, ◌||◌, true, false, List, [], length, All, Option, Some, None, IsSome, if◌then◌else◌}
+use Rattle.std.specs.Prelude.{◌≡◌, ℕ, Decides, ◌+◌, ◌*◌, ◌^◌, ◌≤◌, ◌==◌, Bool, not, ◌&&◌, ◌||◌}
+use Rattle.std.specs.Prelude.{true, false, List, [], length, All, Option, Some, None, IsSome}
+use Rattle.std.specs.Prelude.{if◌then◌else◌}
 use Rattle.bp_lruk.specs.Histories.{Blocks, HasStampsOf, is_held, place_of}
 use Rattle.bp_lruk.specs.Candidates.{Entered, entry_of, NoPageTwice}
 use Rattle.bp_core.specs.declared.config.Config.{Config}
@@ -38,7 +40,17 @@ rewritten past p = since (writes p) (λ e. begins_of p e.reply) past
 
 -- what the frame of a page holds, whose references have this block
 abbrev pub frame_of : Trail → ℕ → Option ℕ → Frame
-frame_of past p block = record { page = p; block = block; pins = pins past p; is_unsaved = unsaved past p; is_rewritten = rewritten past p; is_writing = writing past p; top = top past p; image = held past p }
+frame_of past p block =
+    record {
+      page = p;
+      block = block;
+      pins = pins past p;
+      is_unsaved = unsaved past p;
+      is_rewritten = rewritten past p;
+      is_writing = writing past p;
+      top = top past p;
+      image = held past p;
+    }
 
 -- what a core keeps beside its trail, but for the room of its lists; passes and tickets newest first
 pub record Parts : Type 0 where
@@ -79,7 +91,8 @@ Observed c past x = record {
   reads_is : x.reads ≡ reads_out past;
   writes_is : x.writes ≡ writes_out past;
   -- in any order: each test passes as many frames as it passes of those that the resident pages have
-  frames_is : (test : Frame → Bool) → count test x.frames ≡ count (λ p. test (frame_of past p (x.places p))) (residents past);
+  frames_is : (test : Frame → Bool)
+      → count test x.frames ≡ count (λ p. test (frame_of past p (x.places p))) (residents past);
   stamps_are : (p : ℕ) → HasStampsOf x.blocks p (references c past p);
   held_is : (p : ℕ) → is_held x.blocks p ≡ (resident past p || loading past p);
 }
@@ -97,7 +110,9 @@ pub record HasTrailRoom (c : Parameters) (trail : Kept) : Type 0 where
   pub small : c.room ≤ 2 ^ 61
   pub reserved : c.room ≤ trail.capacity
   pub counted : trail.len + length trail.before ≡ length trail.past
-  pub owed : trail.len + length (passes_out trail.past) + length (writes_out trail.past) + 2 * length (reads_out trail.past) ≤ c.room
+  pub owed :
+      trail.len + length (passes_out trail.past) + length (writes_out trail.past)
+      + 2 * length (reads_out trail.past) ≤ c.room
   pub passes_fit : passes trail.past ≤ 2 ^ 62 + trail.len
   pub tickets_fit : tickets trail.past ≤ 2 ^ 62 + trail.len
 
@@ -150,9 +165,11 @@ pub record IsCore (c : Parameters) (trail : Kept) (x : State) : Type 0 where
   pub trail_room : HasTrailRoom c trail
   pub opening : OpensFresh c trail
   pub placed : ArePlaced x.histories
-  pub numbers : HasNextNumbers x.passes.next x.reads.next x.writes.next x.passes_given x.tickets_given
+  pub numbers :
+      HasNextNumbers x.passes.next x.reads.next x.writes.next x.passes_given x.tickets_given
   pub pass_room : HasPassRoom (length x.reads.out) x.passes.room
-  pub frame_room : HasFrameRoom c (length x.reads.out) x.frames.spare x.frames.size x.frames.limit x.frames.pages
+  pub frame_room :
+      HasFrameRoom c (length x.reads.out) x.frames.spare x.frames.size x.frames.limit x.frames.pages
 
 abbrev pub view_of : Parameters → Kept → CoreView
 view_of c trail = record { parameters = c; before = trail.before; past = trail.past }
@@ -166,8 +183,18 @@ pub record IsFirst (c : Parameters) (x : State) : Type 0 where
   pub passes : x.passes.out ≡ []
   pub reads : x.reads.out ≡ []
   pub writes : x.writes.out ≡ []
-  pub numbers : HasNextNumbers x.passes.next x.reads.next x.writes.next x.passes_given x.tickets_given
-  pub frames : x.frames ≡ record { frames = []; spare = 0; size = c.size; limit = c.frames; pages = c.pages; candidates = record { frames = c.frames; correlated = c.correlated; entries = [] } }
+  pub numbers :
+      HasNextNumbers x.passes.next x.reads.next x.writes.next x.passes_given x.tickets_given
+  pub frames :
+      x.frames
+      ≡ record {
+        frames = [];
+        spare = 0;
+        size = c.size;
+        limit = c.frames;
+        pages = c.pages;
+        candidates = record { frames = c.frames; correlated = c.correlated; entries = [] };
+      }
   pub k : x.histories.k ≡ c.k
   pub correlated : x.histories.correlated ≡ c.correlated
   pub retained : x.histories.retained ≡ c.retained

@@ -1,5 +1,5 @@
--- What a caller sees of a core: what it was made with, and its entries so far, newest first. Those that cuts have handed out are
--- among them; the others are its trail. None of those that were handed out is kept.
+-- What a caller sees of a core: what it was made with, and its entries so far, newest first. Those that cuts have
+-- handed out are among them; the others are its trail. None of those that were handed out is kept.
 use Rattle.std.specs.Prelude.{ℕ, ◌-◌, ◌≤◌, ◌<◌, ◌∷◌, length}
 use Rattle.bp_trail.specs.declared.entries.Call.{Call}
 use Rattle.bp_trail.specs.declared.entries.Reply.{Reply}
@@ -23,7 +23,8 @@ EachPast core P = P core.past
 
 -- the same core with one more entry
 abbrev pub with_entry : CoreView → ℕ → Call → Reply → CoreView
-with_entry core client call reply = record core { past = record { client = client; call = call; reply = reply } ∷ core.past }
+with_entry core client call reply =
+    record core { past = record { client = client; call = call; reply = reply } ∷ core.past }
 
 -- the room that is left after these entries, of which only those of the trail take any
 abbrev pub room_after : CoreView → Trail → ℕ

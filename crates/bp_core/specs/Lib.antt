@@ -1,4 +1,5 @@
--- What a caller sees of a core, what each of its calls answers and leaves, and how its frames agree with the entries so far.
+-- What a caller sees of a core, what each of its calls answers and leaves, and how its frames
+-- agree with the entries so far.
 pub mod CoreView
 pub mod ReadFaults
 pub mod Outcomes

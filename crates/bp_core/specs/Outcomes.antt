@@ -1,5 +1,6 @@
 -- What each call answers and leaves.
-use Rattle.std.specs.Prelude.{◌≡◌, ℕ, ◌+◌, ◌^◌, ◌<◌, ◌≤◌, Bool, true, false, List, [], ◌++◌, ◌⊎◌, reverse, Some, None, Result, Ok, Err}
+use Rattle.std.specs.Prelude.{◌≡◌, ℕ, ◌+◌, ◌^◌, ◌<◌, ◌≤◌, Bool, true, false, List, [], ◌++◌, ◌⊎◌}
+use Rattle.std.specs.Prelude.{reverse, Some, None, Result, Ok, Err}
 use Rattle.bp_page.specs.declared.refusals.Refusal.{Refusal}
 use Rattle.bp_page.specs.declared.refusals.Refusal.TheVariants as refusal
 use Rattle.bp_page.specs.declared.refusals.PortFault.{PortFault}
@@ -14,11 +15,16 @@ use Rattle.bp_trail.specs.Trail.{Trail}
 use Rattle.bp_trail.specs.Cuts.{LeadsOn}
 use Rattle.bp_trail.specs.declared.entries.Entry.{Entry}
 use Rattle.bp_core.specs.ReadFaults.{read_refusal, read_failure}
-use Rattle.bp_core.specs.CoreView.{CoreView, opening, EachPast, with_entry, HasRoomFor, LacksRoomFor}
+use Rattle.bp_core.specs.CoreView.{CoreView, opening, EachPast, with_entry, HasRoomFor}
+use Rattle.bp_core.specs.CoreView.{LacksRoomFor}
 use Rattle.bp_trail.specs.declared.entries.Call.{Call}
-use Rattle.bp_trail.specs.declared.entries.Call.TheVariants.{Tick, Fix, ReadEnd, WriteEnd, Read, Write, Unfix, Flush, Purge}
+use Rattle.bp_trail.specs.declared.entries.Call.TheVariants.{Tick, Fix, ReadEnd, WriteEnd, Read}
+use Rattle.bp_trail.specs.declared.entries.Call.TheVariants.{Write, Unfix, Flush, Purge}
 use Rattle.bp_trail.specs.declared.entries.Reply.{Reply}
-use Rattle.bp_trail.specs.declared.entries.Reply.TheVariants.{Done, Hit, Load, WriteFirst, NoVictim, NeedLog, Busy, Fixed, Cleaned, StillDirty, WriteFailed, Content, Clean, Absent, Forgot}
+use Rattle.bp_trail.specs.declared.entries.Reply.TheVariants.{Done, Hit, Load, WriteFirst, NoVictim}
+use Rattle.bp_trail.specs.declared.entries.Reply.TheVariants.{NeedLog, Busy, Fixed, Cleaned}
+use Rattle.bp_trail.specs.declared.entries.Reply.TheVariants.{StillDirty, WriteFailed, Content}
+use Rattle.bp_trail.specs.declared.entries.Reply.TheVariants.{Clean, Absent, Forgot}
 use Rattle.bp_core.specs.declared.passes.Pass.{Pass}
 use Rattle.bp_core.specs.declared.passes.ReadTicket.{ReadTicket}
 use Rattle.bp_core.specs.declared.passes.WriteTicket.{WriteTicket}
@@ -40,10 +46,12 @@ takes_memory _ = false
 
 -- the lawful reply to a call is one of them
 abbrev pub TakesMemory : Call → CoreView → Type 0
-TakesMemory call core = EachPast core (λ past. takes_memory (reply_of core.parameters past call) ≡ true)
+TakesMemory call core =
+    EachPast core (λ past. takes_memory (reply_of core.parameters past call) ≡ true)
 
 -- one more entry, of a legal trail
-pub record Adds (old : CoreView) (client : ℕ) (call : Call) (reply : Reply) (new : CoreView) : Type 0 where
+pub record Adds (old : CoreView) (client : ℕ) (call : Call) (reply : Reply) (new : CoreView)
+    : Type 0 where
   pub is : new ≡ with_entry old client call reply
   pub legal : EachPast new (Legal new.parameters)
 
@@ -96,13 +104,17 @@ pub data IsBegin : Call → Type 0 where
 
 abbrev pub BeginOutcome : CoreView → ℕ → Call → ℕ → Result WriteTicket Refusal → CoreView → Type 0
 BeginOutcome old client call page (Ok ticket) new =
-    (ticket.client ≡ client) × (ticket.page ≡ page) × EachPast old (λ past. ticket.lsn ≡ top past page) × Adds old client call (WriteFirst ticket.serial ticket.page ticket.image) new
+    (ticket.client ≡ client) × (ticket.page ≡ page)
+    × EachPast old (λ past. ticket.lsn ≡ top past page)
+    × Adds old client call (WriteFirst ticket.serial ticket.page ticket.image) new
 BeginOutcome old client call page (Err refusal.OutOfMemory) new = new ≡ old
 BeginOutcome old client call page (Err _) new = ⊥
 
 abbrev pub EndedOutcome : CoreView → ℕ → ℕ → ℕ → Ended → CoreView → Type 0
-EndedOutcome old client page serial ended.Cleaned new = Adds old client (WriteEnd serial page true) Cleaned new
-EndedOutcome old client page serial ended.StillDirty new = Adds old client (WriteEnd serial page true) StillDirty new
+EndedOutcome old client page serial ended.Cleaned new =
+    Adds old client (WriteEnd serial page true) Cleaned new
+EndedOutcome old client page serial ended.StillDirty new =
+    Adds old client (WriteEnd serial page true) StillDirty new
 
 -- what a core may be made with, whose keeper has room for so many entries at most
 pub record IsFitUpTo (most_room : ℕ) (c : Parameters) : Type 0 where
@@ -118,7 +130,8 @@ abbrev pub IsFit : Parameters → Type 0
 IsFit c = IsFitUpTo 16777216 c
 
 abbrev pub NewOutcome : ℕ → Parameters → Result CoreView Refusal → Type 0
-NewOutcome most_room c (Ok core) = IsFitUpTo most_room c × (core ≡ record { parameters = c; before = []; past = [] })
+NewOutcome most_room c (Ok core) =
+    IsFitUpTo most_room c × (core ≡ record { parameters = c; before = []; past = [] })
 NewOutcome most_room c (Err refusal.BadSettings) = ¬ IsFitUpTo most_room c
 NewOutcome most_room c (Err refusal.OutOfMemory) = IsFitUpTo most_room c
 NewOutcome most_room c (Err _) = ⊥
@@ -133,8 +146,11 @@ pub record Cuts (old : CoreView) (entries : List Entry) (new : CoreView) : Type 
   pub legal : EachPast new (Legal new.parameters)
 
 abbrev pub CutRefused : CoreView → Refusal → CoreView → Type 0
-CutRefused old refusal.ClockFull new = EachPast old (λ past. (2 ^ 62 < passes past) ⊎ (2 ^ 62 < tickets past)) × (new ≡ old)
-CutRefused old refusal.OutOfMemory new = EachPast old (λ past. passes past ≤ 2 ^ 62) × EachPast old (λ past. tickets past ≤ 2 ^ 62) × (new ≡ old)
+CutRefused old refusal.ClockFull new =
+    EachPast old (λ past. (2 ^ 62 < passes past) ⊎ (2 ^ 62 < tickets past)) × (new ≡ old)
+CutRefused old refusal.OutOfMemory new =
+    EachPast old (λ past. passes past ≤ 2 ^ 62) × EachPast old (λ past. tickets past ≤ 2 ^ 62)
+    × (new ≡ old)
 CutRefused old _ new = ⊥
 
 -- a call that is refused for want of room alone
@@ -144,40 +160,58 @@ StepOutcome old client call (Err refusal.TrailFull) new = LacksRoomFor 1 old × 
 StepOutcome old client call (Err _) new = ⊥
 
 abbrev pub TickOutcome : {A : Type 0} → CoreView → ℕ → ℕ → Result A Refusal → CoreView → Type 0
-TickOutcome old client n (Ok done) new = HasRoomFor 1 old × EachPast old (λ past. clock past + n ≤ 2 ^ 62) × Adds old client (Tick n) Done new
+TickOutcome old client n (Ok done) new =
+    HasRoomFor 1 old × EachPast old (λ past. clock past + n ≤ 2 ^ 62)
+    × Adds old client (Tick n) Done new
 TickOutcome old client n (Err refusal.TrailFull) new = LacksRoomFor 1 old × (new ≡ old)
-TickOutcome old client n (Err refusal.ClockFull) new = HasRoomFor 1 old × EachPast old (λ past. 2 ^ 62 < clock past + n) × (new ≡ old)
+TickOutcome old client n (Err refusal.ClockFull) new =
+    HasRoomFor 1 old × EachPast old (λ past. 2 ^ 62 < clock past + n) × (new ≡ old)
 TickOutcome old client n (Err _) new = ⊥
 
 abbrev pub FixOutcome : CoreView → ℕ → ℕ → Result Fixing Refusal → CoreView → Type 0
 FixOutcome old client page (Ok (fixing.Hit pass)) new =
-    HasRoomFor 3 old × (pass.client ≡ client) × (pass.page ≡ page) × Adds old client (Fix page) (Hit pass.serial) new
+    HasRoomFor 3 old × (pass.client ≡ client) × (pass.page ≡ page)
+    × Adds old client (Fix page) (Hit pass.serial) new
 FixOutcome old client page (Ok (fixing.Load ticket evicted)) new =
-    HasRoomFor 3 old × (ticket.client ≡ client) × (ticket.page ≡ page) × Adds old client (Fix page) (Load ticket.serial evicted) new
+    HasRoomFor 3 old × (ticket.client ≡ client) × (ticket.page ≡ page)
+    × Adds old client (Fix page) (Load ticket.serial evicted) new
 FixOutcome old client page (Ok (fixing.WriteFirst ticket)) new =
-    HasRoomFor 3 old × (ticket.client ≡ client) × EachPast old (λ past. ticket.lsn ≡ top past ticket.page) × Adds old client (Fix page) (WriteFirst ticket.serial ticket.page ticket.image) new
-FixOutcome old client page (Err refusal.NoVictim) new = HasRoomFor 3 old × Adds old client (Fix page) NoVictim new
-FixOutcome old client page (Err (refusal.NeedLog lsn)) new = HasRoomFor 3 old × Adds old client (Fix page) (NeedLog lsn) new
-FixOutcome old client page (Err refusal.Busy) new = HasRoomFor 3 old × Adds old client (Fix page) Busy new
+    HasRoomFor 3 old × (ticket.client ≡ client)
+    × EachPast old (λ past. ticket.lsn ≡ top past ticket.page)
+    × Adds old client (Fix page) (WriteFirst ticket.serial ticket.page ticket.image) new
+FixOutcome old client page (Err refusal.NoVictim) new =
+    HasRoomFor 3 old × Adds old client (Fix page) NoVictim new
+FixOutcome old client page (Err (refusal.NeedLog lsn)) new =
+    HasRoomFor 3 old × Adds old client (Fix page) (NeedLog lsn) new
+FixOutcome old client page (Err refusal.Busy) new =
+    HasRoomFor 3 old × Adds old client (Fix page) Busy new
 FixOutcome old client page (Err refusal.TrailFull) new = LacksRoomFor 3 old × (new ≡ old)
 FixOutcome old client page (Err refusal.OutOfMemory) new = HasRoomFor 3 old × (new ≡ old)
 FixOutcome old client page (Err _) new = ⊥
 
 abbrev pub FlushOutcome : CoreView → ℕ → ℕ → Result Flushing Refusal → CoreView → Type 0
-FlushOutcome old client page (Ok flushing.Clean) new = HasRoomFor 2 old × Adds old client (Flush page) Clean new
-FlushOutcome old client page (Ok flushing.Absent) new = HasRoomFor 2 old × Adds old client (Flush page) Absent new
+FlushOutcome old client page (Ok flushing.Clean) new =
+    HasRoomFor 2 old × Adds old client (Flush page) Clean new
+FlushOutcome old client page (Ok flushing.Absent) new =
+    HasRoomFor 2 old × Adds old client (Flush page) Absent new
 FlushOutcome old client page (Ok (flushing.WriteFirst ticket)) new =
-    HasRoomFor 2 old × (ticket.client ≡ client) × (ticket.page ≡ page) × EachPast old (λ past. ticket.lsn ≡ top past ticket.page) × Adds old client (Flush page) (WriteFirst ticket.serial ticket.page ticket.image) new
-FlushOutcome old client page (Err (refusal.NeedLog lsn)) new = HasRoomFor 2 old × Adds old client (Flush page) (NeedLog lsn) new
-FlushOutcome old client page (Err refusal.Busy) new = HasRoomFor 2 old × Adds old client (Flush page) Busy new
+    HasRoomFor 2 old × (ticket.client ≡ client) × (ticket.page ≡ page)
+    × EachPast old (λ past. ticket.lsn ≡ top past ticket.page)
+    × Adds old client (Flush page) (WriteFirst ticket.serial ticket.page ticket.image) new
+FlushOutcome old client page (Err (refusal.NeedLog lsn)) new =
+    HasRoomFor 2 old × Adds old client (Flush page) (NeedLog lsn) new
+FlushOutcome old client page (Err refusal.Busy) new =
+    HasRoomFor 2 old × Adds old client (Flush page) Busy new
 FlushOutcome old client page (Err refusal.TrailFull) new = LacksRoomFor 2 old × (new ≡ old)
 FlushOutcome old client page (Err refusal.OutOfMemory) new = HasRoomFor 2 old × (new ≡ old)
 FlushOutcome old client page (Err _) new = ⊥
 
-abbrev pub ReadEndOutcome : CoreView → ReadTicket → Result (List ℕ) PortFault → Result Pass (EndRefusal ReadTicket (Result (List ℕ) PortFault)) → CoreView → Type 0
+abbrev pub ReadEndOutcome : CoreView → ReadTicket → Result (List ℕ) PortFault
+    → Result Pass (EndRefusal ReadTicket (Result (List ℕ) PortFault)) → CoreView → Type 0
 ReadEndOutcome old ticket (Ok image) (Ok pass) new =
     (pass.client ≡ ticket.client) × (pass.page ≡ ticket.page) × KnowsRead old ticket
-    × Adds old ticket.client (ReadEnd ticket.serial ticket.page (Some image)) (Fixed pass.serial) new
+    × Adds old ticket.client (ReadEnd ticket.serial ticket.page (Some image)) (Fixed pass.serial)
+    new
 ReadEndOutcome old ticket (Err fault) (Err (end_refusal.Failed why)) new =
     (why ≡ read_refusal fault) × KnowsRead old ticket
     × Adds old ticket.client (ReadEnd ticket.serial ticket.page None) (read_failure fault) new
@@ -185,57 +219,80 @@ ReadEndOutcome old ticket outcome (Err (end_refusal.Unknown same back)) new =
     (same ≡ ticket) × (back ≡ outcome) × LacksRead old ticket × (new ≡ old)
 ReadEndOutcome old ticket _ _ new = ⊥
 
-abbrev pub WriteEndOutcome : CoreView → WriteTicket → Result (Unit {0}) PortFault → Result Ended (EndRefusal WriteTicket (Result (Unit {0}) PortFault)) → CoreView → Type 0
+abbrev pub WriteEndOutcome : CoreView → WriteTicket → Result (Unit {0}) PortFault
+    → Result Ended (EndRefusal WriteTicket (Result (Unit {0}) PortFault)) → CoreView → Type 0
 WriteEndOutcome old ticket (Ok done) (Ok ended.Cleaned) new =
-    KnowsWrite old ticket × Adds old ticket.client (WriteEnd ticket.serial ticket.page true) Cleaned new
+    KnowsWrite old ticket
+    × Adds old ticket.client (WriteEnd ticket.serial ticket.page true) Cleaned new
 WriteEndOutcome old ticket (Ok done) (Ok ended.StillDirty) new =
-    KnowsWrite old ticket × Adds old ticket.client (WriteEnd ticket.serial ticket.page true) StillDirty new
+    KnowsWrite old ticket
+    × Adds old ticket.client (WriteEnd ticket.serial ticket.page true) StillDirty new
 WriteEndOutcome old ticket (Err fault) (Err (end_refusal.Failed refusal.WriteFailed)) new =
-    KnowsWrite old ticket × Adds old ticket.client (WriteEnd ticket.serial ticket.page false) WriteFailed new
+    KnowsWrite old ticket
+    × Adds old ticket.client (WriteEnd ticket.serial ticket.page false) WriteFailed new
 WriteEndOutcome old ticket outcome (Err (end_refusal.Unknown same back)) new =
     (same ≡ ticket) × (back ≡ outcome) × LacksWrite old ticket × (new ≡ old)
 WriteEndOutcome old ticket _ _ new = ⊥
 
 -- the same ends, by what their tickets were given as
-abbrev pub ReadEndByOutcome : CoreView → Grant → Result (List ℕ) PortFault → Result Pass (EndRefusal Grant (Result (List ℕ) PortFault)) → CoreView → Type 0
+abbrev pub ReadEndByOutcome : CoreView → Grant → Result (List ℕ) PortFault
+    → Result Pass (EndRefusal Grant (Result (List ℕ) PortFault)) → CoreView → Type 0
 ReadEndByOutcome old ticket (Ok image) (Ok pass) new =
-    (pass.client ≡ ticket.client) × (pass.page ≡ ticket.page) × EachPast old (λ past. is_out ticket (reads_out past) ≡ true)
-    × Adds old ticket.client (ReadEnd ticket.serial ticket.page (Some image)) (Fixed pass.serial) new
+    (pass.client ≡ ticket.client) × (pass.page ≡ ticket.page)
+    × EachPast old (λ past. is_out ticket (reads_out past) ≡ true)
+    × Adds old ticket.client (ReadEnd ticket.serial ticket.page (Some image)) (Fixed pass.serial)
+    new
 ReadEndByOutcome old ticket (Err fault) (Err (end_refusal.Failed why)) new =
     (why ≡ read_refusal fault) × EachPast old (λ past. is_out ticket (reads_out past) ≡ true)
     × Adds old ticket.client (ReadEnd ticket.serial ticket.page None) (read_failure fault) new
 ReadEndByOutcome old ticket outcome (Err (end_refusal.Unknown same back)) new =
-    (same ≡ ticket) × (back ≡ outcome) × EachPast old (λ past. is_out ticket (reads_out past) ≡ false) × (new ≡ old)
+    (same ≡ ticket) × (back ≡ outcome)
+    × EachPast old (λ past. is_out ticket (reads_out past) ≡ false) × (new ≡ old)
 ReadEndByOutcome old ticket _ _ new = ⊥
 
-abbrev pub WriteEndByOutcome : CoreView → Grant → Result (Unit {0}) PortFault → Result Ended (EndRefusal Grant (Result (Unit {0}) PortFault)) → CoreView → Type 0
+abbrev pub WriteEndByOutcome : CoreView → Grant → Result (Unit {0}) PortFault
+    → Result Ended (EndRefusal Grant (Result (Unit {0}) PortFault)) → CoreView → Type 0
 WriteEndByOutcome old ticket (Ok done) (Ok ended.Cleaned) new =
-    EachPast old (λ past. is_out ticket (writes_out past) ≡ true) × Adds old ticket.client (WriteEnd ticket.serial ticket.page true) Cleaned new
+    EachPast old (λ past. is_out ticket (writes_out past) ≡ true)
+    × Adds old ticket.client (WriteEnd ticket.serial ticket.page true) Cleaned new
 WriteEndByOutcome old ticket (Ok done) (Ok ended.StillDirty) new =
-    EachPast old (λ past. is_out ticket (writes_out past) ≡ true) × Adds old ticket.client (WriteEnd ticket.serial ticket.page true) StillDirty new
+    EachPast old (λ past. is_out ticket (writes_out past) ≡ true)
+    × Adds old ticket.client (WriteEnd ticket.serial ticket.page true) StillDirty new
 WriteEndByOutcome old ticket (Err fault) (Err (end_refusal.Failed refusal.WriteFailed)) new =
-    EachPast old (λ past. is_out ticket (writes_out past) ≡ true) × Adds old ticket.client (WriteEnd ticket.serial ticket.page false) WriteFailed new
+    EachPast old (λ past. is_out ticket (writes_out past) ≡ true)
+    × Adds old ticket.client (WriteEnd ticket.serial ticket.page false) WriteFailed new
 WriteEndByOutcome old ticket outcome (Err (end_refusal.Unknown same back)) new =
-    (same ≡ ticket) × (back ≡ outcome) × EachPast old (λ past. is_out ticket (writes_out past) ≡ false) × (new ≡ old)
+    (same ≡ ticket) × (back ≡ outcome)
+    × EachPast old (λ past. is_out ticket (writes_out past) ≡ false) × (new ≡ old)
 WriteEndByOutcome old ticket _ _ new = ⊥
 
 abbrev pub ReadOutcome : CoreView → Pass → Result (List ℕ) Refusal → CoreView → Type 0
-ReadOutcome old pass (Ok image) new = HasRoomFor 1 old × KnowsPass old pass × Adds old pass.client (Read pass.serial pass.page) (Content image) new
-ReadOutcome old pass (Err refusal.UnknownPass) new = HasRoomFor 1 old × LacksPass old pass × (new ≡ old)
+ReadOutcome old pass (Ok image) new =
+    HasRoomFor 1 old × KnowsPass old pass
+    × Adds old pass.client (Read pass.serial pass.page) (Content image) new
+ReadOutcome old pass (Err refusal.UnknownPass) new =
+    HasRoomFor 1 old × LacksPass old pass × (new ≡ old)
 ReadOutcome old pass (Err refusal.TrailFull) new = LacksRoomFor 1 old × (new ≡ old)
-ReadOutcome old pass (Err refusal.OutOfMemory) new = HasRoomFor 1 old × KnowsPass old pass × (new ≡ old)
+ReadOutcome old pass (Err refusal.OutOfMemory) new =
+    HasRoomFor 1 old × KnowsPass old pass × (new ≡ old)
 ReadOutcome old pass (Err _) new = ⊥
 
-abbrev pub WriteOutcome : {A : Type 0} → CoreView → Pass → ℕ → List ℕ → ℕ → Result A Refusal → CoreView → Type 0
+abbrev pub WriteOutcome : {A : Type 0} → CoreView → Pass → ℕ → List ℕ → ℕ → Result A Refusal
+    → CoreView → Type 0
 WriteOutcome old pass offset bytes lsn (Ok done) new =
-    HasRoomFor 1 old × KnowsPass old pass × Adds old pass.client (Write pass.serial pass.page offset bytes lsn) Done new
-WriteOutcome old pass offset bytes lsn (Err refusal.UnknownPass) new = HasRoomFor 1 old × LacksPass old pass × (new ≡ old)
-WriteOutcome old pass offset bytes lsn (Err refusal.TrailFull) new = LacksRoomFor 1 old × (new ≡ old)
-WriteOutcome old pass offset bytes lsn (Err refusal.OutOfMemory) new = HasRoomFor 1 old × KnowsPass old pass × (new ≡ old)
+    HasRoomFor 1 old × KnowsPass old pass
+    × Adds old pass.client (Write pass.serial pass.page offset bytes lsn) Done new
+WriteOutcome old pass offset bytes lsn (Err refusal.UnknownPass) new =
+    HasRoomFor 1 old × LacksPass old pass × (new ≡ old)
+WriteOutcome old pass offset bytes lsn (Err refusal.TrailFull) new =
+    LacksRoomFor 1 old × (new ≡ old)
+WriteOutcome old pass offset bytes lsn (Err refusal.OutOfMemory) new =
+    HasRoomFor 1 old × KnowsPass old pass × (new ≡ old)
 WriteOutcome old pass offset bytes lsn (Err _) new = ⊥
 
 abbrev pub UnfixOutcome : {A : Type 0} → CoreView → Pass → Result A Pass → CoreView → Type 0
-UnfixOutcome old pass (Ok done) new = KnowsPass old pass × Adds old pass.client (Unfix pass.serial pass.page) Done new
+UnfixOutcome old pass (Ok done) new =
+    KnowsPass old pass × Adds old pass.client (Unfix pass.serial pass.page) Done new
 UnfixOutcome old pass (Err same) new = (same ≡ pass) × LacksPass old pass × (new ≡ old)
 
 abbrev pub PurgeOutcome : CoreView → ℕ → Result ℕ Refusal → CoreView → Type 0

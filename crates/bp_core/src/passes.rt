@@ -140,11 +140,7 @@ impl Pass {
             page,
             serial,
         } = self;
-        PassNote {
-            client,
-            page,
-            serial,
-        }
+        PassNote::of(client, page, serial)
     }
 }
 
@@ -217,6 +213,17 @@ impl ReadTicket {
         self.serial
     }
 
+    /// What it was given as.
+    pub(crate) fn grant(&self) -> Grant
+        ensures { result ≡ grant self.now.client self.now.page self.now.serial }
+    {
+        Grant {
+            client: self.client,
+            page: self.page,
+            serial: self.serial,
+        }
+    }
+
     /// Spends the ticket. No core is asked: where one knows the ticket, its read stays in flight.
     pub fn forfeit(self) {
         let ReadTicket {
@@ -261,6 +268,17 @@ impl WriteTicket {
         ensures { result ≡ self.now.lsn }
     {
         self.lsn
+    }
+
+    /// What it was given as.
+    pub(crate) fn grant(&self) -> Grant
+        ensures { result ≡ grant self.now.client self.now.page self.now.serial }
+    {
+        Grant {
+            client: self.client,
+            page: self.page,
+            serial: self.serial,
+        }
     }
 
     /// Spends the ticket. No core is asked: where one knows the ticket, its write-out stays in flight.

@@ -101,23 +101,15 @@ impl<K: Keeper> PoolCore<K> {
         requires size { IfOk read (λ image. length image ≡ self.old.parameters.size) }
         ensures outcome { ReadEndOutcome self.old ticket read result self.new }
     {
-        let is_out = self
-            .state
-            .reads
-            .has(ticket.client, ticket.page, ticket.serial);
-        if !is_out {
-            return Err(EndRefusal::Unknown(ticket, read));
-        }
-        let ReadTicket {
-            client,
-            page,
-            serial,
-        } = ticket;
-        match read {
-            Ok(image) => Ok(self.end_load(client, page, serial, image)),
-            Err(fault) => {
-                self.fail_load(client, page, serial, fault);
-                Err(EndRefusal::Failed(refusal_of_read(fault)))
+        match self.read_end_by(ticket.grant(), read) {
+            Ok(pass) => {
+                ticket.forfeit();
+                Ok(pass)
+            }
+            Err(EndRefusal::Unknown(_, read)) => Err(EndRefusal::Unknown(ticket, read)),
+            Err(EndRefusal::Failed(why)) => {
+                ticket.forfeit();
+                Err(EndRefusal::Failed(why))
             }
         }
     }
@@ -143,8 +135,7 @@ impl<K: Keeper> PoolCore<K> {
             Ok(image) => Ok(self.end_load(client, page, serial, image)),
             Err(fault) => {
                 self.fail_load(client, page, serial, fault);
-                let why = refusal_of_read(fault);
-                Err(EndRefusal::Failed(why))
+                Err(EndRefusal::Failed(refusal_of_read(fault)))
             }
         }
     }

@@ -118,25 +118,15 @@ impl<K: Keeper> PoolCore<K> {
     ) -> Result<Ended, EndRefusal<WriteTicket, Result<(), PortFault>>>
         ensures outcome { WriteEndOutcome self.old ticket write result self.new }
     {
-        let is_out = self
-            .state
-            .writes
-            .has(ticket.client, ticket.page, ticket.serial);
-        if !is_out {
-            return Err(EndRefusal::Unknown(ticket, write));
-        }
-        let WriteTicket {
-            client,
-            page,
-            serial,
-            image: _,
-            lsn: _,
-        } = ticket;
-        match write {
-            Ok(()) => Ok(self.end_write_out(client, page, serial)),
-            Err(_) => {
-                self.fail_write_out(client, page, serial);
-                Err(EndRefusal::Failed(Refusal::WriteFailed))
+        match self.write_end_by(ticket.grant(), write) {
+            Ok(how) => {
+                ticket.forfeit();
+                Ok(how)
+            }
+            Err(EndRefusal::Unknown(_, write)) => Err(EndRefusal::Unknown(ticket, write)),
+            Err(EndRefusal::Failed(why)) => {
+                ticket.forfeit();
+                Err(EndRefusal::Failed(why))
             }
         }
     }
