@@ -17,7 +17,8 @@ use Rattle.hojzmated_c.specs.declared.forms.HzGrant.{HzGrant}
 use Rattle.hojzmated_c.specs.declared.forms.HzTotals.{HzTotals}
 use Rattle.hojzmated_c.specs.Forms.{grant_of, pass_of, shown_refusal, fault_of, write_of}
 use Rattle.hojzmated_c.specs.Totals.{totals_of}
-use Rattle.hojzmated_c.specs.Outcomes.{Opens, Ticks, Marks, Purges, Fixes, Flushes, EndsRead, FailsRead, ReadsPart, WritesPart}
+use Rattle.hojzmated_c.specs.Outcomes.{Opens, Ticks, Marks, Purges, Fixes, Flushes, EndsRead}
+use Rattle.hojzmated_c.specs.Outcomes.{FailsRead, ReadsPart, WritesPart}
 
 -- 0, or the number of the refusal
 abbrev pub code_of : {A : Type 0} → Result A Refusal → ℕ
@@ -28,8 +29,10 @@ code_of (Err why) = number_of why
 abbrev pub Told : {A : Type 0} → ℕ → (Result A Refusal → Type 0) → Type 0
 Told {A} number P = (r : Result A Refusal) × (number ≡ code_of r) × P r
 
--- a handle that has a core has one afterwards, as P says; one that has none stays so, the number is 50, and C's memory is as it was
-abbrev pub OnCore : Option CoreView → Option CoreView → ℕ → Type 0 → (CoreView → CoreView → Type 0) → Type 0
+-- a handle that has a core has one afterwards, as P says; one that has none stays so, the number is 50, and C's
+-- memory is as it was
+abbrev pub OnCore : Option CoreView → Option CoreView → ℕ → Type 0 → (CoreView → CoreView → Type 0)
+    → Type 0
 OnCore None new number Kept P = (number ≡ 50) × (new ≡ None) × Kept
 OnCore (Some old) None number Kept P = ⊥
 OnCore (Some old) (Some new) number Kept P = P old new
@@ -51,34 +54,48 @@ shown_fix client page (Err why) = shown_refusal client page why
 
 -- what each exported function leaves of the core of its handle, and answers
 abbrev pub Ticked : Option CoreView → Option CoreView → ℕ → ℕ → ℕ → Type 0
-Ticked old new client n number = OnCore old new number (Unit {0}) (λ old new. Told number (λ r. Ticks {A = Unit {0}} old client n r new))
+Ticked old new client n number =
+    OnCore old new number (Unit {0})
+    (λ old new. Told number (λ r. Ticks {A = Unit {0}} old client n r new))
 
 abbrev pub Marked : Option CoreView → Option CoreView → ℕ → ℕ → ℕ → Type 0
-Marked old new client lsn number = OnCore old new number (Unit {0}) (λ old new. Told number (λ r. Marks {A = Unit {0}} old client lsn r new))
+Marked old new client lsn number =
+    OnCore old new number (Unit {0})
+    (λ old new. Told number (λ r. Marks {A = Unit {0}} old client lsn r new))
 
 -- count is the place for how many pages were forgotten
 abbrev pub Purged : Option CoreView → Option CoreView → ℕ → ℕ → ℕ → ℕ → Type 0
 Purged old new client count count' number =
-    OnCore old new number (count' ≡ count) (λ old new. Told number (λ r. Purges old client r new × (count' ≡ or_else r count)))
+    OnCore old new number (count' ≡ count)
+    (λ old new. Told number (λ r. Purges old client r new × (count' ≡ or_else r count)))
 
 -- the image is the buffer for that of a page to write out
-abbrev pub Asked : Option CoreView → Option CoreView → ℕ → ℕ → List ℕ → List ℕ → HzFixed → HzFixed → ℕ → Type 0
+abbrev pub Asked : Option CoreView → Option CoreView → ℕ → ℕ → List ℕ → List ℕ → HzFixed → HzFixed
+    → ℕ → Type 0
 Asked old new client page image image' out out' number =
     OnCore old new number ((image' ≡ image) × (out' ≡ out))
-    (λ old new. Told number (λ r. Fixes old client page image r image' new × (out' ≡ shown_fix client page r)))
+    (λ old new.
+    Told number
+    (λ r. Fixes old client page image r image' new × (out' ≡ shown_fix client page r)))
 
-abbrev pub Flushed : Option CoreView → Option CoreView → ℕ → ℕ → List ℕ → List ℕ → HzFixed → HzFixed → ℕ → Type 0
+abbrev pub Flushed : Option CoreView → Option CoreView → ℕ → ℕ → List ℕ → List ℕ → HzFixed → HzFixed
+    → ℕ → Type 0
 Flushed old new client page image image' out out' number =
     OnCore old new number ((image' ≡ image) × (out' ≡ out))
-    (λ old new. Told number (λ r. Flushes old client page image r image' new × (out' ≡ shown_fix client page r)))
+    (λ old new.
+    Told number
+    (λ r. Flushes old client page image r image' new × (out' ≡ shown_fix client page r)))
 
-abbrev pub ReadEnded : Option CoreView → Option CoreView → HzGrant → List ℕ → HzGrant → HzGrant → ℕ → Type 0
+abbrev pub ReadEnded : Option CoreView → Option CoreView → HzGrant → List ℕ → HzGrant → HzGrant → ℕ
+    → Type 0
 ReadEnded old new ticket image pass pass' number =
-    OnCore old new number (pass' ≡ pass) (λ old new. Told number (λ r. EndsRead old ticket image r new × (pass' ≡ or_else r pass)))
+    OnCore old new number (pass' ≡ pass)
+    (λ old new. Told number (λ r. EndsRead old ticket image r new × (pass' ≡ or_else r pass)))
 
 abbrev pub ReadFailed : Option CoreView → Option CoreView → HzGrant → Bool → ℕ → Type 0
 ReadFailed old new ticket is_wrong_page number =
-    OnCore old new number (Unit {0}) (λ old new. FailsRead old ticket (fault_of is_wrong_page) number new)
+    OnCore old new number (Unit {0})
+    (λ old new. FailsRead old ticket (fault_of is_wrong_page) number new)
 
 abbrev pub code_of_end : {T R : Type 0} → Result Ended (EndRefusal T R) → ℕ
 code_of_end (Ok how) = 0
@@ -96,15 +113,18 @@ WriteEnded old new ticket is_good dirty dirty' number =
     OnCore old new number (dirty' ≡ dirty)
     (λ old new.
     (r : Result Ended (EndRefusal Grant (Result (Unit {0}) PortFault))) × (number ≡ code_of_end r)
-    × WriteEndByOutcome old (grant_of ticket) (write_of is_good) r new × (dirty' ≡ dirty_or_else r dirty))
+    × WriteEndByOutcome old (grant_of ticket) (write_of is_good) r new
+    × (dirty' ≡ dirty_or_else r dirty))
 
 abbrev pub PartRead : Option CoreView → Option CoreView → HzGrant → ℕ → List ℕ → List ℕ → ℕ → Type 0
 PartRead old new pass offset into into' number =
-    OnCore old new number (into' ≡ into) (λ old new. Told number (λ r. ReadsPart {A = Unit {0}} old pass offset into r into' new))
+    OnCore old new number (into' ≡ into)
+    (λ old new. Told number (λ r. ReadsPart {A = Unit {0}} old pass offset into r into' new))
 
 abbrev pub PartWritten : Option CoreView → Option CoreView → HzGrant → ℕ → List ℕ → ℕ → ℕ → Type 0
 PartWritten old new pass offset bytes lsn number =
-    OnCore old new number (Unit {0}) (λ old new. Told number (λ r. WritesPart {A = Unit {0}} old pass offset bytes lsn r new))
+    OnCore old new number (Unit {0})
+    (λ old new. Told number (λ r. WritesPart {A = Unit {0}} old pass offset bytes lsn r new))
 
 -- a pass goes back, or is not out here, which is 14
 abbrev pub code_of_unfix : {A : Type 0} → Result A Pass → ℕ
@@ -114,8 +134,11 @@ code_of_unfix (Err pass) = 14
 abbrev pub Unfixed : Option CoreView → Option CoreView → HzGrant → ℕ → Type 0
 Unfixed old new pass number =
     OnCore old new number (Unit {0})
-    (λ old new. (r : Result (Unit {0}) Pass) × (number ≡ code_of_unfix r) × UnfixOutcome old (pass_of pass) r new)
+    (λ old new.
+    (r : Result (Unit {0}) Pass) × (number ≡ code_of_unfix r)
+    × UnfixOutcome old (pass_of pass) r new)
 
 abbrev pub Counted : Option CoreView → Option CoreView → HzTotals → HzTotals → ℕ → Type 0
 Counted old new out out' number =
-    OnCore old new number (out' ≡ out) (λ old new. (number ≡ 0) × (new ≡ old) × (out' ≡ totals_of old.past))
+    OnCore old new number (out' ≡ out)
+    (λ old new. (number ≡ 0) × (new ≡ old) × (out' ≡ totals_of old.past))

@@ -27,7 +27,8 @@ shown kind g = record { grant = shown_grant g; lsn = 0; evicted = 0; kind = kind
 
 -- a refusal has kind 0, and tells the LSN that the log needs
 abbrev pub shown_refusal : ℕ → ℕ → Refusal → HzFixed
-shown_refusal client page (refusal.NeedLog lsn) = record (shown 0 (grant client page 0)) { lsn = lsn }
+shown_refusal client page (refusal.NeedLog lsn) =
+    record (shown 0 (grant client page 0)) { lsn = lsn }
 shown_refusal client page _ = shown 0 (grant client page 0)
 
 -- how an operation of the device went

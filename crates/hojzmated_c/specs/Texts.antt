@@ -19,7 +19,8 @@ text_of number =
     else if number == 21 then codes "the clock would pass its end"
     else if number == 22 then codes "out of memory"
     else if number == 41 then codes "no client has this number here"
-    else if number == 45 then codes "the page is not of the file, or the bytes are not within the page"
+    else if number == 45
+    then codes "the page is not of the file, or the bytes are not within the page"
     else if number == 50 then codes "the handle has no core"
     else if number == 51 then codes "the handle has a core already"
     else codes "unknown number"

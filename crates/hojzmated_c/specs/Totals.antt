@@ -2,7 +2,9 @@
 use Rattle.std.specs.Prelude.{ℕ, ◌+◌, min, [], ◌∷◌, Some}
 use Rattle.bp_trail.specs.Trail.{Trail}
 use Rattle.bp_trail.specs.declared.entries.Reply.{Reply}
-use Rattle.bp_trail.specs.declared.entries.Reply.TheVariants.{Hit, Load, Fixed, ReadFailed, WrongPage, Cleaned, StillDirty, WriteFailed}
+use Rattle.bp_trail.specs.declared.entries.Reply.TheVariants.{Hit, Load, Fixed, ReadFailed}
+use Rattle.bp_trail.specs.declared.entries.Reply.TheVariants.{WrongPage, Cleaned, StillDirty}
+use Rattle.bp_trail.specs.declared.entries.Reply.TheVariants.{WriteFailed}
 use Rattle.hojzmated_c.specs.declared.forms.HzTotals.{HzTotals}
 
 abbrev pub no_counts : HzTotals

@@ -68,6 +68,15 @@ pub const CLEAN: u8 = 4;
 /// A flush found the page in no frame.
 pub const ABSENT: u8 = 5;
 
+// As the header has them.
+const _: () = prove!(size_of::<HzConfig>() == 56);
+
+const _: () = prove!(size_of::<HzGrant>() == 24);
+
+const _: () = prove!(size_of::<HzFixed>() == 48);
+
+const _: () = prove!(size_of::<HzTotals>() == 40);
+
 impl HzGrant {
     /// What the pass or the ticket was given as.
     pub(crate) fn grant(&self) -> Grant

@@ -15,6 +15,9 @@ pub struct HzCore {
     pub ghost agrees: { is_live ≡ is_some seal.pool },
 }
 
+// As the header has it.
+const _: () = prove!(size_of::<HzCore>() == 16);
+
 impl HzCore {
     /// The handle of a pool.
     pub(crate) fn of(pool: Box<Pool, Global>) -> HzCore
