@@ -4,7 +4,8 @@
  *     peers/c/bench SECONDS PAGES FRAMES PAGESIZE HOT
  *
  * A file of PAGES pages is made and filled. Pages of the first HOT ones are then fixed and given back, by the generator
- * of numbers of peers/mpool.c. The clock of this pool moves once in 16 fixes.
+ * of numbers of peers/mpool.c. The clock of this pool moves once in 16 fixes. No page is written to after the file was
+ * filled: none is unsaved, and none goes out.
  *
  * Printed: fixes and unfixes a second of processor time, and the hit rate.
  */

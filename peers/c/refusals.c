@@ -1,6 +1,7 @@
 /* Each refusal and each field of an answer, once at least, with what the header says of them. The whole is then done
  * again with one request for memory refused, the first, then the second and so on: the call that is refused for it
- * is made again, and has to answer what it had to answer at first.
+ * is made again, and has to answer what it had to answer at first. Only what makes a core, or gives a pass, a ticket or
+ * a copy, takes memory.
  *
  *     peers/c/check.sh        builds it with the library and the linker's --wrap of malloc and realloc, and runs it
  */
@@ -30,7 +31,8 @@ void *__wrap_realloc(void *old, size_t n)
 /* The calls that may be refused for want of memory, and which of them were. */
 static const char *const takers[] = {"hz_core_new", "hz_fix", "hz_read_end", "hz_read(", "hz_write(", "hz_flush"};
 enum { TAKERS = sizeof takers / sizeof *takers };
-static bool was_refused[TAKERS];
+static bool was_refused[TAKERS], is_again; /* is_again: the newest answer came the second time */
+static bool kinds_again[HZ_ABSENT + 1];    /* the kinds of answer that came so */
 
 static void found_wrong(int line, const char *what, unsigned long long found)
 {
@@ -60,7 +62,8 @@ static void note_refusal(int line, const char *call)
 #define CALL(wanted, call)                        \
     do {                                          \
         unsigned number = (call);                 \
-        if (number == HZ_OUT_OF_MEMORY) {         \
+        is_again = number == HZ_OUT_OF_MEMORY;    \
+        if (is_again) {                           \
             note_refusal(__LINE__, #call);        \
             number = (call);                      \
         }                                         \
@@ -81,6 +84,7 @@ static hz_fixed out;
         SAME(lsn_, out.lsn);                                                  \
         SAME(has_evicted_, out.has_evicted);                                  \
         SAME(evicted_, out.evicted);                                          \
+        kinds_again[out.kind] |= is_again;                                    \
     } while (0)
 
 /* A pass or a ticket with each of its fields. */
@@ -102,8 +106,8 @@ static bool is_filled(const void *memory, size_t len, uint8_t with)
 
 static hz_config usual(size_t room)
 {
-    return (hz_config){.pages = 8, .page_size = SIZE, .frames = 2, .room = room, .correlated = 0, .retained = 10, .k = 1,
-                       .clients = 2};
+    return (hz_config){.pages = 8, .page_size = SIZE, .frames = 2, .room = room,
+                       .correlated = 0, .retained = 10, .k = 1, .clients = 2};
 }
 
 /* The handle of no core is refused by each call but hz_core_new, and nothing is written. */
@@ -496,6 +500,8 @@ int main(void)
     for (size_t i = 0; i < TAKERS; i++)
         if (!was_refused[i])
             found_wrong(__LINE__, takers[i], 0);
+    SAME(true, kinds_again[HZ_HIT] && kinds_again[HZ_LOAD] && kinds_again[HZ_WRITE_FIRST]);
+    SAME(false, kinds_again[HZ_CLEAN] || kinds_again[HZ_ABSENT] || kinds_again[0]);
     printf("every refusal came; %lu requests for memory were refused in turn\n", refused - 2);
     return 0;
 }
