@@ -14,6 +14,8 @@ mod forms;
 mod handle;
 mod pool;
 mod seal;
+#[cfg(test)]
+mod tests;
 mod texts;
 
 use crate::forms::{HzConfig, HzFixed, HzGrant, HzTotals};
