@@ -49,8 +49,8 @@ fn told_of(histories: &Histories, page: PageNo) -> Told {
 }
 
 impl Timed {
-    /// Holds a page. Where memory is refused, nothing that is told of any page has changed, and it is held once there is
-    /// memory.
+    /// Holds a page. Where memory is refused, nothing that is told of any page has changed, and it is held once there
+    /// is memory.
     fn prepare(&mut self, rt: &impl Abort, page: PageNo) {
         let before = all_told(&self.histories);
         assert!(rt; !self.histories.holds(page));
