@@ -2,36 +2,13 @@
 ghost use Rattle.std.specs.Prelude.{◌≡◌, ◌<◌, length};
 
 use crate::judging::{expect_legal, setup_of};
-use bp_core::{Core, EndRefusal, Ended, Fix, Flush, PassNote, ReadTicket, WriteTicket};
+use crate::telling::{Told, text_of, told_of};
+use bp_core::{
+    Call, Core, EndRefusal, Ended, Entry, Fix, Flush, PassNote, ReadTicket, Reply, WriteTicket,
+};
 use bp_lruk::Settings;
 use bp_page::{Bytes, Geometry, Image, Lsn, PageNo, PortFault, Refusal};
 use std::process::Abort;
-
-/// What a core tells.
-#[derive(Clone, Copy, PartialEq, Eq, Debug, Drop)]
-struct Told {
-    entries: usize,
-    clock: u64,
-    durable: u64,
-    /// The two stamps and the newest reference of page 1, and of page 2.
-    one: [u64; 3],
-    two: [u64; 3],
-}
-
-fn stamps(core: &Core, page: u64) -> [u64; 3] {
-    let page = PageNo::new(page);
-    [core.stamp(page, 1), core.stamp(page, 2), core.last(page)]
-}
-
-fn told_of(core: &Core) -> Told {
-    Told {
-        entries: core.trail().len(),
-        clock: core.clock(),
-        durable: core.durable().number(),
-        one: stamps(core, 1),
-        two: stamps(core, 2),
-    }
-}
 
 /// A core over four pages of 16 bytes.
 #[derive(Drop)]
@@ -101,14 +78,15 @@ impl Pool {
     ghost use Rattle.std.specs.Prelude.{◌≡◌, ◌<◌};
 
     /// A fix. Where memory is refused nothing that is told has changed, and it is made once more.
-    fn fix<R: Abort>(&mut self, rt: &R, page: PageNo) -> Fix
+    fn fix<R: Abort + AllocGlobal>(&mut self, rt: &R, page: PageNo) -> Fix
         requires page_in { page < 4 }
     {
-        let before = told_of(&self.core);
+        let before = told_of(rt, &self.core);
         match self.core.fix(0, page) {
             Ok(fix) => fix,
             Err(refusal) => {
-                assert!(rt; refusal == Refusal::OutOfMemory && told_of(&self.core) == before);
+                assert!(rt; refusal == Refusal::OutOfMemory);
+                assert_eq!(rt; told_of(rt, &self.core), before);
                 self.core.fix(0, page).expect(rt, "the fix, with memory")
             }
         }
@@ -138,7 +116,7 @@ impl Pool {
     }
 
     /// Fixes a page that is here.
-    fn find<R: Abort>(&mut self, rt: &R, page: PageNo) -> PassNote
+    fn find<R: Abort + AllocGlobal>(&mut self, rt: &R, page: PageNo) -> PassNote
         requires page_in { page < 4 }
     {
         match self.fix(rt, page) {
@@ -157,11 +135,11 @@ impl Pool {
     /// A write of one byte to the front, at LSN 1.
     fn write<R: Abort + AllocGlobal>(&mut self, rt: &R, note: PassNote, first: u8) {
         let bytes = byte(rt, first);
-        let before = told_of(&self.core);
+        let before = told_of(rt, &self.core);
         let pass = note.pass();
         let mut wrote = self.core.write(&pass, 0, &bytes, Lsn::new(1));
         if wrote == Err(Refusal::OutOfMemory) {
-            assert!(rt; told_of(&self.core) == before);
+            assert_eq!(rt; told_of(rt, &self.core), before);
             wrote = self.core.write(&pass, 0, &bytes, Lsn::new(1));
         }
         pass.note();
@@ -169,12 +147,13 @@ impl Pool {
     }
 
     /// The first byte of a page.
-    fn read<R: Abort>(&mut self, rt: &R, note: PassNote) -> Option<u8> {
-        let before = told_of(&self.core);
+    fn read<R: Abort + AllocGlobal>(&mut self, rt: &R, note: PassNote) -> Option<u8> {
+        let before = told_of(rt, &self.core);
         let pass = note.pass();
         let mut read = self.core.read(&pass);
-        if read.is_err() {
-            assert!(rt; told_of(&self.core) == before);
+        if let Err(refusal) = &read {
+            assert!(rt; *refusal == Refusal::OutOfMemory);
+            assert_eq!(rt; told_of(rt, &self.core), before);
             read = self.core.read(&pass);
         }
         pass.note();
@@ -192,14 +171,15 @@ impl Pool {
     }
 
     /// The ticket of a flush by client 1.
-    fn flush<R: Abort>(&mut self, rt: &R, page: PageNo) -> WriteTicket
+    fn flush<R: Abort + AllocGlobal>(&mut self, rt: &R, page: PageNo) -> WriteTicket
         requires page_in { page < 4 }
     {
-        let before = told_of(&self.core);
+        let before = told_of(rt, &self.core);
         let flush = match self.core.flush(1, page) {
             Ok(flush) => flush,
             Err(refusal) => {
-                assert!(rt; refusal == Refusal::OutOfMemory && told_of(&self.core) == before);
+                assert!(rt; refusal == Refusal::OutOfMemory);
+                assert_eq!(rt; told_of(rt, &self.core), before);
                 self.core
                     .flush(1, page)
                     .expect(rt, "the flush, with memory")
@@ -238,53 +218,90 @@ impl Pool {
         self.core.mark(0, Lsn::new(1)).expect(rt, "the mark");
     }
 
-    /// All has so many entries, which the judge finds legal.
-    fn end<R: Abort + AllocGlobal>(self, rt: &R, entries: usize) {
+    /// All has so many entries, which the judge finds legal. It tells what the core tells at the end.
+    fn end<R: Abort + AllocGlobal>(self, rt: &R, entries: usize) -> Told {
         let Pool { core } = self;
         assert_eq!(rt; core.trail().len(), entries);
         expect_legal(rt, &setup_of(&core), core.trail());
+        told_of(rt, &core)
     }
 }
 
 /// Page 1 is written while it is written out, and has to be written out once more before it makes way.
-#[test]
-fn write_during_a_write_out(rt: HostRuntime) {
+fn write_and_write_out<R: Abort + AllocGlobal>(rt: &R) -> Told {
     let (one, two) = (PageNo::new(1), PageNo::new(2));
-    let mut pool = new_core(&rt);
-    let note = pool.load(&rt, one);
-    pool.write(&rt, note, 1);
-    pool.mark(&rt);
-    let ticket = pool.flush(&rt, one);
-    pool.write(&rt, note, 2);
-    let ended = pool.end_write(&rt, ticket, Ok(()));
+    let mut pool = new_core(rt);
+    let note = pool.load(rt, one);
+    pool.write(rt, note, 1);
+    pool.mark(rt);
+    let ticket = pool.flush(rt, one);
+    pool.write(rt, note, 2);
+    let ended = pool.end_write(rt, ticket, Ok(()));
     assert_eq!(rt; ended, Ok(Ended::StillDirty));
-    pool.unfix(&rt, note);
-    pool.tick(&rt);
-    let fix = pool.fix(&rt, two);
-    let ticket = to_write(&rt, fix);
-    let ended = pool.end_write(&rt, ticket, Ok(()));
+    pool.unfix(rt, note);
+    pool.tick(rt);
+    let fix = pool.fix(rt, two);
+    let ticket = to_write(rt, fix);
+    let ended = pool.end_write(rt, ticket, Ok(()));
     assert!(rt; ended == Ok(Ended::Cleaned));
-    let note = pool.load(&rt, two);
-    pool.unfix(&rt, note);
-    pool.end(&rt, 14);
+    let note = pool.load(rt, two);
+    pool.unfix(rt, note);
+    pool.end(rt, 14)
 }
 
-/// The page keeps what was written to it.
+/// One request is refused at most. So one of the two cores was refused nothing, and the other has answered as it did.
+#[test]
+fn write_during_a_write_out(rt: HostRuntime) {
+    let told = write_and_write_out(&rt);
+    assert_eq!(rt; write_and_write_out(&rt), told);
+}
+
+/// The write-out of page 1 fails, so that the page keeps what was written to it.
+fn fail_a_write_out<R: Abort + AllocGlobal>(rt: &R) -> Told {
+    let (one, two) = (PageNo::new(1), PageNo::new(2));
+    let mut pool = new_core(rt);
+    let note = pool.load(rt, one);
+    pool.write(rt, note, 9);
+    pool.unfix(rt, note);
+    pool.tick(rt);
+    pool.mark(rt);
+    let fix = pool.fix(rt, two);
+    let ticket = to_write(rt, fix);
+    let ended = pool.end_write(rt, ticket, Err(PortFault::Device));
+    assert_eq!(rt; ended, Err(Refusal::WriteFailed));
+    let note = pool.find(rt, one);
+    assert_eq!(rt; pool.read(rt, note), Some(9));
+    pool.unfix(rt, note);
+    pool.end(rt, 11)
+}
+
 #[test]
 fn failed_write_out_stays_unsaved(rt: HostRuntime) {
-    let (one, two) = (PageNo::new(1), PageNo::new(2));
-    let mut pool = new_core(&rt);
-    let note = pool.load(&rt, one);
-    pool.write(&rt, note, 9);
-    pool.unfix(&rt, note);
-    pool.tick(&rt);
-    pool.mark(&rt);
-    let fix = pool.fix(&rt, two);
-    let ticket = to_write(&rt, fix);
-    let ended = pool.end_write(&rt, ticket, Err(PortFault::Device));
-    assert_eq!(rt; ended, Err(Refusal::WriteFailed));
-    let note = pool.find(&rt, one);
-    assert_eq!(rt; pool.read(&rt, note), Some(9));
-    pool.unfix(&rt, note);
-    pool.end(&rt, 11);
+    let told = fail_a_write_out(&rt);
+    assert_eq!(rt; fail_a_write_out(&rt), told);
+}
+
+/// An entry that brought this byte and others.
+fn content<R: Abort + AllocGlobal>(rt: &R, last: u8) -> Entry {
+    let bytes = [7, 7, last];
+    let image = match Image::of(rt.alloc(), &bytes) {
+        Ok(image) => image,
+        Err(_) => Image::of(rt.alloc(), &bytes).expect(rt, "the image"),
+    };
+    Entry {
+        client: 0,
+        call: Call::Read {
+            pass: 1,
+            page: PageNo::new(2),
+        },
+        reply: Reply::Content(image),
+    }
+}
+
+/// Texts of entries differ where one byte of an image does.
+#[test]
+fn texts_tell_entries_apart(rt: HostRuntime) {
+    let text = text_of(&rt, &[content(&rt, 1)]);
+    assert!(rt; text == text_of(&rt, &[content(&rt, 1)]));
+    assert!(rt; text != text_of(&rt, &[content(&rt, 2)]));
 }

@@ -26,6 +26,15 @@ struct Told {
     last: u64,
 }
 
+/// What is told of each page.
+fn all_told(histories: &Histories) -> [Told; 20] {
+    let mut told = [told_of(histories, PageNo::new(0)); 20];
+    for (number, page) in told.iter_mut().enumerate() {
+        *page = told_of(histories, PageNo::new(number as u64));
+    }
+    told
+}
+
 fn told_of(histories: &Histories, page: PageNo) -> Told {
     Told {
         is_held: histories.holds(page),
@@ -40,15 +49,13 @@ fn told_of(histories: &Histories, page: PageNo) -> Told {
 }
 
 impl Timed {
-    /// Holds a page. Where memory is refused, nothing that is told of it or of page 1 has changed, and it is held once
-    /// there is memory.
+    /// Holds a page. Where memory is refused, nothing that is told of any page has changed, and it is held once there
+    /// is memory.
     fn prepare(&mut self, rt: &impl Abort, page: PageNo) {
-        let first = told_of(&self.histories, PageNo::new(1));
-        let before = told_of(&self.histories, page);
+        let before = all_told(&self.histories);
         assert!(rt; !self.histories.holds(page));
         if self.histories.prepare(page) == Err(Refusal::OutOfMemory) {
-            assert_eq!(rt; told_of(&self.histories, page), before);
-            assert!(rt; told_of(&self.histories, PageNo::new(1)) == first);
+            assert_eq!(rt; all_told(&self.histories), before);
             assert!(rt; !self.histories.holds(page));
             let again = self.histories.prepare(page);
             again.expect(rt, "the block, with memory");
@@ -103,19 +110,24 @@ fn victim_of_a_plain_list(rt: HostRuntime) {
     let settings = Settings::new(2, 0, 1000).expect(&rt, "the settings");
     let mut list = match scan::Candidates::new(rt.alloc(), 3, settings) {
         Ok(list) => list,
-        Err(_) => scan::Candidates::new(rt.alloc(), 3, settings).expect(&rt, "the list"),
+        Err(refusal) => {
+            assert!(rt; refusal == Refusal::OutOfMemory);
+            scan::Candidates::new(rt.alloc(), 3, settings).expect(&rt, "the list")
+        }
     };
     for (page, hist_k, last) in [(7, 0, 4), (5, 0, 3), (2, 1, 1)] {
         let page = PageNo::new(page);
         assert!(rt; !list.is_full() && !list.contains(page));
         list.enter(page, hist_k, last);
     }
+    assert_eq!(rt; list.victim(4), Some(PageNo::new(5)));
     for page in ORDER {
         let page = PageNo::new(page);
         assert_eq!(rt; list.victim(5), Some(page));
         assert!(rt; list.contains(page));
         list.leave(page);
     }
+    assert!(rt; list.victim(5).is_none());
 }
 
 #[test]
@@ -123,17 +135,22 @@ fn victim_of_an_ordered_list(rt: HostRuntime) {
     let settings = Settings::new(2, 0, 1000).expect(&rt, "the settings");
     let mut index = match Candidates::new(rt.alloc(), 3, settings) {
         Ok(index) => index,
-        Err(_) => Candidates::new(rt.alloc(), 3, settings).expect(&rt, "the index"),
+        Err(refusal) => {
+            assert!(rt; refusal == Refusal::OutOfMemory);
+            Candidates::new(rt.alloc(), 3, settings).expect(&rt, "the index")
+        }
     };
     for (page, hist_k, last) in [(7, 0, 4), (5, 0, 3), (2, 1, 1)] {
         let page = PageNo::new(page);
         assert!(rt; !index.is_full() && !index.contains(page));
         index.enter(page, hist_k, last);
     }
+    assert_eq!(rt; index.victim(4), Some(PageNo::new(5)));
     for page in ORDER {
         let page = PageNo::new(page);
         assert_eq!(rt; index.victim(5), Some(page));
         assert!(rt; index.contains(page));
         index.leave(page);
     }
+    assert!(rt; index.victim(5).is_none());
 }

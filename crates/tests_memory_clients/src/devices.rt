@@ -1,8 +1,9 @@
 //! A device in memory, and a driver over it.
 ghost use Rattle.std.specs.Prelude.{◌≡◌};
 
+use crate::answers::expect_counted;
 use crate::judging::{expect_legal, setup_of};
-use crate::scripts::{NO_VICTIM_NO_PASS, expect_counted, fits, two_pages};
+use crate::scripts::{NO_VICTIM_NO_PASS, fits, two_pages};
 use bp_core::{Core, Refused, Row};
 use bp_device::{MemDevice, MemPort, drive_all};
 use bp_lruk::Settings;
@@ -42,7 +43,8 @@ fn one_frame<R: Abort + AllocGlobal>(rt: &R, geometry: Geometry) -> Core
     let settings = Settings::new(1, 0, 0).expect(rt, "the settings");
     match Core::new(rt.alloc(), geometry, settings, 1, 1, 100) {
         Ok(core) => core,
-        Err(_) => {
+        Err(refusal) => {
+            assert!(rt; refusal == Refusal::OutOfMemory);
             let again = Core::new(rt.alloc(), geometry, settings, 1, 1, 100);
             again.expect(rt, "the core, with memory")
         }

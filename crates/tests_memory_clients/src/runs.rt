@@ -1,9 +1,11 @@
 //! Runs of one client thread.
 ghost use Rattle.std.specs.Prelude.{◌≡◌, All, vec_len};
 
+use crate::answers::expect_counted;
+use crate::counting::count;
 use crate::devices::{device, port_of};
 use crate::judging::expect_legal;
-use crate::scripts::{NO_VICTIM_NO_PASS, expect_counted, two_flushes, two_pages};
+use crate::scripts::{NO_VICTIM_NO_PASS, two_flushes, two_pages};
 use bp_audit::agrees;
 use bp_check::Setup;
 use bp_clients::{Config, Outcome, run_clients, scripts_fit};
@@ -68,14 +70,16 @@ fn try_run<R: Threads + Wait + Sync + Abort + AllocGlobal>(
     }
 }
 
-/// Asserts of a run what its contract says: the judge finds its trail legal, the client's list has all entries, and each
-/// row that was not refused has its answer. Where no row was refused for want of memory, just these were refused.
+/// Asserts of a run what its contract says: the judge finds its trail legal, the client's list has all entries, and
+/// each row that was not refused has its answer. Where no row was refused for want of memory, just these were refused,
+/// and there are so many faults, with one write-out and no hit.
 fn expect_run<R: Abort + AllocGlobal>(
     rt: &R,
     config: &Config,
     rows: &[Row],
     done: &Outcome,
     refused: &[Refused],
+    faults: usize,
 ) {
     let setup = Setup {
         geometry: config.geometry,
@@ -87,6 +91,11 @@ fn expect_run<R: Abort + AllocGlobal>(
     assert!(rt; done.said.len() == 1 && done.said.iter().all(|said| agrees(&done.trail, said, 0)));
     if !expect_counted(rt, rows, &done.refused, &done.trail) {
         assert_eq!(rt; done.refused.as_slice(), refused);
+        let counts = count(&done.trail);
+        assert_eq!(rt;
+            (counts.hits, counts.faults, counts.write_outs),
+            (0, faults, 1)
+        );
     }
 }
 
@@ -98,7 +107,7 @@ fn two_pages_by_a_client(rt: HostRuntime) {
         Some(done) => done,
         None => try_run(&rt, config, two_pages(&rt)).expect(&rt, "the run, with memory"),
     };
-    expect_run(&rt, &config, &rows, &done, &NO_VICTIM_NO_PASS);
+    expect_run(&rt, &config, &rows, &done, &NO_VICTIM_NO_PASS, 2);
 }
 
 #[test]
@@ -109,5 +118,5 @@ fn two_flushes_by_a_client(rt: HostRuntime) {
         Some(done) => done,
         None => try_run(&rt, config, two_flushes(&rt)).expect(&rt, "the run, with memory"),
     };
-    expect_run(&rt, &config, &rows, &done, &[]);
+    expect_run(&rt, &config, &rows, &done, &[], 1);
 }

@@ -4,6 +4,8 @@ ghost use Rattle.std.specs.Prelude.{◌≡◌, [], length};
 use crate::counting::{Counts, count};
 use crate::devices::{device, port_of};
 use crate::judging::{expect_legal, setup_of};
+use crate::marks::mark_of;
+use crate::telling::{failed_reads, no_ticket_is_out, text_of};
 use bp_audit::agrees;
 use bp_core::{Core, PassNote};
 use bp_device::{Flushed, MemDevice, MemPort};
@@ -40,22 +42,10 @@ fn core_of<R: Abort + AllocGlobal>(rt: &R, geometry: Geometry) -> Core
     let settings = Settings::new(2, 0, 1000).expect(rt, "the settings");
     match Core::new(rt.alloc(), geometry, settings, 1, 2, 200) {
         Ok(core) => core,
-        Err(_) => {
-            let again = Core::new(rt.alloc(), geometry, settings, 1, 2, 200);
-            again.expect(rt, "the core, with memory")
-        }
-    }
-}
-
-fn mark_of<R: Abort + AllocGlobal>(rt: &R) -> (Mark, LogEnd, Reader)
-    ensures end { result.1.mark ≡ result.0 }
-    ensures reader { result.2.mark ≡ result.0 }
-{
-    match Mark::new(rt.alloc()) {
-        Ok(made) => made,
         Err(refusal) => {
             assert!(rt; refusal == Refusal::OutOfMemory);
-            Mark::new(rt.alloc()).expect(rt, "the mark, with memory")
+            let again = Core::new(rt.alloc(), geometry, settings, 1, 2, 200);
+            again.expect(rt, "the core, with memory")
         }
     }
 }
@@ -144,6 +134,13 @@ fn client_of<N: PoolName, R: Abort>(rt: &R, device: &MemDevice, session: Session
     }
 }
 
+/// What a client's list had before a call.
+#[derive(Drop)]
+struct Before {
+    entries: usize,
+    text: String,
+}
+
 /// Whether it is for want of memory: of the pool, or of the port at the end of a read.
 fn is_for_memory(refusal: Refusal) -> bool {
     refusal == Refusal::OutOfMemory || refusal == Refusal::ReadFailed
@@ -166,17 +163,45 @@ impl<N: PoolName> Client<N> {
         }
     }
 
+    /// The list, as text.
+    fn told<R: Abort + AllocGlobal>(&self, rt: &R) -> String {
+        text_of(rt, self.session.said())
+    }
+
+    /// Asserts of a fix that was refused for want of memory: no pass was given, what the list had still stands there,
+    /// and all tickets went back. Where the list has more, memory was wanted after the first event.
+    fn expect_no_pass<R: Abort + AllocGlobal>(&self, rt: &R, passes: usize, before: &Before) {
+        assert!(rt; self.session.held().len() == passes);
+        let said = self.session.said();
+        let earlier = said.get(..before.entries).expect(rt, "the earlier entries");
+        assert_eq!(rt; text_of(rt, earlier), before.text);
+        assert!(rt; no_ticket_is_out(said));
+    }
+
+    /// What the list has now.
+    fn before<R: Abort + AllocGlobal>(&self, rt: &R) -> Before {
+        Before {
+            entries: self.session.said().len(),
+            text: self.told(rt),
+        }
+    }
+
     /// Fixes a page. Where memory was refused, what was done before stands in the list, and no pass was given.
-    fn fix<R: Wait + Abort>(&mut self, rt: &R, pool: &SharedPool<N>, page: PageNo) -> PassNote
+    fn fix<R: Wait + Abort + AllocGlobal>(
+        &mut self,
+        rt: &R,
+        pool: &SharedPool<N>,
+        page: PageNo,
+    ) -> PassNote
         requires page_in { page < N.parameters.pages }
     {
         let held = self.session.held().len();
-        let said = self.session.said().len();
+        let before = self.before(rt);
         match self.try_fix(rt, pool, page) {
             Ok(note) => note,
             Err(refusal) => {
                 assert!(rt; is_for_memory(refusal), "{refusal}");
-                assert!(rt; self.session.held().len() == held && self.session.said().len() >= said);
+                self.expect_no_pass(rt, held, &before);
                 self.try_fix(rt, pool, page)
                     .expect(rt, "the fix, with memory")
             }
@@ -210,40 +235,60 @@ impl<N: PoolName> Client<N> {
     }
 
     /// Writes the byte 5 at the front of a pass's page, at LSN 3. Where memory was refused, the list is as it was.
-    fn write<R: Wait + Abort>(&mut self, rt: &R, pool: &SharedPool<N>, note: PassNote, five: &Bytes)
+    fn write<R: Wait + Abort + AllocGlobal>(
+        &mut self,
+        rt: &R,
+        pool: &SharedPool<N>,
+        note: PassNote,
+        five: &Bytes,
+    )
         requires fits { length five.now ≤ N.parameters.size }
     {
-        let said = self.session.said().len();
+        let said = self.told(rt);
         if let Err(refusal) = self.try_write(rt, pool, note, five) {
-            assert!(rt; refusal == Refusal::OutOfMemory && self.session.said().len() == said);
+            assert!(rt; refusal == Refusal::OutOfMemory && self.told(rt) == said);
             let again = self.try_write(rt, pool, note, five);
             again.expect(rt, "the write, with memory");
         }
     }
 
     /// Moves the clock. Where memory was refused, the list is as it was.
-    fn tick<R: Wait + Abort>(&mut self, rt: &R, pool: &SharedPool<N>) {
-        let said = self.session.said().len();
+    fn tick<R: Wait + Abort + AllocGlobal>(&mut self, rt: &R, pool: &SharedPool<N>) {
+        let said = self.told(rt);
         if let Err(refusal) = pool.tick(rt, &mut self.session, 1) {
-            assert!(rt; refusal == Refusal::OutOfMemory && self.session.said().len() == said);
+            assert!(rt; refusal == Refusal::OutOfMemory && self.told(rt) == said);
             let again = pool.tick(rt, &mut self.session, 1);
             again.expect(rt, "the clock, with memory");
         }
     }
 
-    /// Flushes a page that is away.
-    fn flush<R: Wait + Abort>(&mut self, rt: &R, pool: &SharedPool<N>, page: PageNo) -> Flushed
+    /// Flushes a page that is away. Where memory was refused, the list is as it was.
+    fn flush<R: Wait + Abort + AllocGlobal>(
+        &mut self,
+        rt: &R,
+        pool: &SharedPool<N>,
+        page: PageNo,
+    ) -> Flushed
         requires page_in { page < N.parameters.pages }
     {
+        let said = self.told(rt);
         match pool.flush(rt, &mut self.session, &mut self.port, page) {
             Ok(flushed) => flushed,
             Err(refusal) => {
-                assert!(rt; refusal == Refusal::OutOfMemory);
+                assert!(rt; refusal == Refusal::OutOfMemory && self.told(rt) == said);
                 let again = pool.flush(rt, &mut self.session, &mut self.port, page);
                 again.expect(rt, "the flush, with memory")
             }
         }
     }
+}
+
+/// What a pool's trail tells at the end.
+#[derive(Drop)]
+struct Done {
+    counts: Counts,
+    failed_reads: usize,
+    trail: String,
 }
 
 /// What the two clients do.
@@ -255,7 +300,7 @@ enum Turn {
 }
 
 /// The first client fixes page 1 so often.
-fn fix_often<N: PoolName, R: Wait + Abort>(
+fn fix_often<N: PoolName, R: Wait + Abort + AllocGlobal>(
     rt: &R,
     pool: &SharedPool<N>,
     client: &mut Client<N>,
@@ -296,7 +341,7 @@ fn fill_a_ring<N: PoolName, R: Wait + Abort + AllocGlobal>(
 }
 
 /// The first client posts its pass, and the second one takes the frame.
-fn post_before_a_fix<N: PoolName, R: Wait + Abort>(
+fn post_before_a_fix<N: PoolName, R: Wait + Abort + AllocGlobal>(
     rt: &R,
     pool: &SharedPool<N>,
     first: &mut Client<N>,
@@ -369,14 +414,14 @@ fn act<N: PoolName, R: Wait + Abort + AllocGlobal>(
 }
 
 /// Ends the pool: each list has the trail's entries of its client, which are all legal, and all passes and tickets went
-/// back. It tells what the trail counts up to.
+/// back. It tells what the trail counts up to, and the whole trail as text.
 fn end_of<N: PoolName, R: Abort + AllocGlobal>(
     rt: &R,
     pool: SharedPool<N>,
     taker: Taker<N>,
     first: &Client<N>,
     second: &Client<N>,
-) -> Counts {
+) -> Done {
     let (core, _, _) = pool.finish(taker);
     let trail = core.trail();
     assert!(rt; agrees(trail, first.session.said(), 0));
@@ -384,15 +429,25 @@ fn end_of<N: PoolName, R: Abort + AllocGlobal>(
     expect_legal(rt, &setup_of(&core), trail);
     let counts = count(trail);
     assert!(rt; counts.given == counts.back);
-    counts
+    let said = first
+        .session
+        .said()
+        .len()
+        .checked_add(second.session.said().len());
+    assert!(rt; said == Some(trail.len()));
+    Done {
+        counts,
+        failed_reads: failed_reads(trail),
+        trail: text_of(rt, trail),
+    }
 }
 
-/// What the trail counts up to, or nothing where no pool could be made.
+/// What the trail tells, or nothing where no pool could be made.
 fn play_over<N: PoolName, R: Wait + Abort + AllocGlobal>(
     rt: &R,
     made: Made,
     turn: Turn,
-) -> Option<Counts>
+) -> Option<Done>
     requires mark { made.mark ≡ N.mark }
     requires parameters { made.core.parameters ≡ N.parameters }
     requires before { made.core.before ≡ N.before }
@@ -416,17 +471,41 @@ fn play_over<N: PoolName, R: Wait + Abort + AllocGlobal>(
     Some(end_of(rt, pool, taker, &first, &second))
 }
 
-fn try_play<R: Wait + Abort + AllocGlobal>(rt: &R, turn: Turn) -> Option<Counts> {
+fn try_play<R: Wait + Abort + AllocGlobal>(rt: &R, turn: Turn) -> Option<Done> {
     let made = make(rt);
     play_over::<Brand, R>(rt, made, turn)
 }
 
 /// A turn of the two clients of a new pool, of which another is made where the first was refused memory.
-fn play<R: Wait + Abort + AllocGlobal>(rt: &R, turn: Turn) -> Counts {
+fn play_once<R: Wait + Abort + AllocGlobal>(rt: &R, turn: Turn) -> Done {
     match try_play(rt, turn) {
-        Some(counts) => counts,
+        Some(done) => done,
         None => try_play(rt, turn).expect(rt, "the pool, with memory"),
     }
+}
+
+/// The same turn over two pools. One request is refused at most, so one of the pools was refused nothing. The trail of
+/// the other is the same, but for a read that its port refused.
+fn play<R: Wait + Abort + AllocGlobal>(rt: &R, turn: Turn) -> Counts {
+    let first = play_once(rt, turn);
+    let second = play_once(rt, turn);
+    let failed = first.failed_reads.saturating_add(second.failed_reads);
+    assert!(rt; failed <= 1);
+    if failed == 0 {
+        assert_eq!(rt; first.trail, second.trail);
+    }
+    let Counts {
+        hits,
+        faults,
+        write_outs,
+        ..
+    } = second.counts;
+    let counts = first.counts;
+    assert_eq!(rt;
+        (counts.hits, counts.faults, counts.write_outs),
+        (hits, faults, write_outs)
+    );
+    counts
 }
 
 #[test]

@@ -3,7 +3,8 @@ ghost use Rattle.std.specs.Prelude.{◌≡◌, ◌<◌};
 
 use super::making::{Client, Made, Opened, client_of, make, open};
 use super::threads::{page_for, run_once};
-use bp_core::Entry;
+use crate::judging::{expect_legal, setup_of};
+use bp_core::{Core, Entry};
 use bp_page::{Geometry, PageNo};
 use bp_shared::{PoolName, Session, SharedPool, Taker};
 use std::alloc::Global;
@@ -13,8 +14,14 @@ use std::sync::{Mutex, Wait};
 use std::thread::Threads;
 use std::{mem, thread};
 
-/// The rounds of a thread, each of four entries.
-const ROUNDS: usize = 125000;
+/// How long a run is.
+#[derive(Clone, Copy, Drop)]
+struct Length {
+    /// The rounds of a thread, each of four entries.
+    rounds: usize,
+    /// Whether all entries are kept, for the judge.
+    keeps: bool,
+}
 
 /// The rounds of a thread between two of its cuts. Two threads then stay within a room of 4,096 entries.
 const ROUNDS_A_CUT: usize = 250;
@@ -28,15 +35,20 @@ struct Pieces {
     entries: usize,
     /// The most entries for which a piece had memory.
     capacity: usize,
+    keeps: bool,
+    /// The pieces joined, where they are kept.
+    kept: Vec<Entry>,
 }
 
 impl Pieces {
-    fn none(alloc: Global) -> Pieces {
+    fn none(alloc: Global, keeps: bool) -> Pieces {
         Pieces {
             spare: Vec::new(alloc),
             cuts: 0,
             entries: 0,
             capacity: 0,
+            keeps,
+            kept: Vec::new(alloc),
         }
     }
 
@@ -45,11 +57,14 @@ impl Pieces {
         mem::replace(&mut self.spare, Vec::new(alloc))
     }
 
-    // Counts a piece, and keeps it for its memory.
-    fn keep(&mut self, piece: Vec<Entry>) {
+    // Counts a piece, and keeps it for its memory. Where memory for its entries is refused, they are lost.
+    fn keep(&mut self, mut piece: Vec<Entry>) {
         self.cuts = self.cuts.saturating_add(1);
         self.entries = self.entries.saturating_add(piece.len());
         self.capacity = self.capacity.max(piece.capacity());
+        if self.keeps {
+            let _ = self.kept.append(&mut piece);
+        }
         self.spare = piece;
     }
 }
@@ -66,6 +81,7 @@ struct Takings<N: PoolName> {
 struct Runner<N: PoolName> {
     client: Client<N>,
     page: PageNo,
+    rounds: usize,
     passes: usize,
     pieces: Pieces,
     ghost page_in: { page < N.parameters.pages },
@@ -96,7 +112,7 @@ impl<N: PoolName> Runner<N> {
 
     // A round has four entries: a fix, a read, an unfix and a tick.
     fn run<R: Wait>(&mut self, rt: &R, pool: &SharedPool<N>, takings: &Mutex<Takings<N>>) {
-        for round in 0..ROUNDS {
+        for round in 0..self.rounds {
             if run_once(rt, pool, &mut self.client, self.page) {
                 self.passes = self.passes.saturating_add(1);
             }
@@ -114,6 +130,7 @@ fn make_runners<N: PoolName, R: Abort + AllocGlobal>(
     rt: &R,
     geometry: Geometry,
     sessions: Vec<Session<N>>,
+    rounds: usize,
 ) -> Vec<Runner<N>>
     requires pages { N.parameters.pages ≡ 4 }
     requires size { geometry.size ≡ N.parameters.size }
@@ -125,8 +142,9 @@ fn make_runners<N: PoolName, R: Abort + AllocGlobal>(
         let runner = Runner {
             client: client_of(alloc, geometry, session),
             page,
+            rounds,
             passes: 0,
-            pieces: Pieces::none(alloc),
+            pieces: Pieces::none(alloc, false),
         };
         runners.push(runner).expect(rt, "the runner");
     }
@@ -193,10 +211,19 @@ fn tally_of<N: PoolName>(pieces: &Pieces, left: usize, runners: &[Runner<N>]) ->
     tally
 }
 
+// The judge finds all entries of a pool legal: those that were cut, joined, and those that were left.
+fn expect_all_legal<R: Abort + AllocGlobal>(rt: &R, mut entries: Vec<Entry>, core: Core) {
+    let setup = setup_of(&core);
+    let mut left = core.into_trail();
+    entries.append(&mut left).expect(rt, "the entries");
+    expect_legal(rt, &setup, &entries);
+}
+
 // Threads use the pool, and cut as they go.
 fn run_long<N: PoolName + Send + Sync, R: Threads + Wait + Abort + Sync + AllocGlobal>(
     rt: &R,
     opened: Opened<N>,
+    length: Length,
 ) -> Tally
     requires pages { N.parameters.pages ≡ 4 }
 {
@@ -207,28 +234,49 @@ fn run_long<N: PoolName + Send + Sync, R: Threads + Wait + Abort + Sync + AllocG
         end: _,
         geometry,
     } = opened;
-    let mut runners = make_runners(rt, geometry, sessions);
+    let mut runners = make_runners(rt, geometry, sessions, length.rounds);
     let takings = Mutex::new(Takings {
         taker,
-        pieces: Pieces::none(rt.alloc()),
+        pieces: Pieces::none(rt.alloc(), length.keeps),
     });
     run_all(rt, &pool, &takings, &mut runners);
     let Takings { taker, pieces } = takings.into_inner();
     let (core, _, _) = pool.finish(taker);
-    tally_of(&pieces, core.trail().len(), &runners)
+    let tally = tally_of(&pieces, core.trail().len(), &runners);
+    if length.keeps {
+        assert_eq!(rt; pieces.kept.len(), pieces.entries);
+        expect_all_legal(rt, pieces.kept, core);
+    }
+    tally
 }
 
 fn see_long<N: PoolName + Send + Sync, R: Threads + Wait + Abort + Sync + AllocGlobal>(
     rt: &R,
     made: Made,
-)
+    length: Length,
+) -> Tally
     requires mark { made.mark ≡ N.mark }
     requires parameters { made.core.parameters ≡ N.parameters }
     requires before { made.core.before ≡ N.before }
     requires ring { made.ring ≡ N.ring }
     requires pages { N.parameters.pages ≡ 4 }
 {
-    let tally = run_long(rt, open::<N, R>(rt, made));
+    run_long(rt, open::<N, R>(rt, made), length)
+}
+
+// Two threads over two frames, and what came of them.
+fn run_two<R: Threads + Wait + Abort + Sync + AllocGlobal>(rt: &R, length: Length) -> Tally {
+    let made = make(rt, 2, 2);
+    see_long::<Brand, R>(rt, made, length)
+}
+
+#[test]
+fn a_million_entries_in_little_room(rt: HostRuntime) {
+    let length = Length {
+        rounds: 125000,
+        keeps: false,
+    };
+    let tally = run_two(&rt, length);
     assert_eq!(rt; tally.passes, 250000);
     // Each round has four entries, and a client's first fix has one more.
     assert_eq!(rt; (tally.entries, tally.told), (1000002, 1000002));
@@ -237,8 +285,16 @@ fn see_long<N: PoolName + Send + Sync, R: Threads + Wait + Abort + Sync + AllocG
     assert_eq!(rt; tally.capacity, 4096);
 }
 
+/// A hundredth of that run. The judge would take too long over the whole of it.
 #[test]
-fn a_million_entries_in_little_room(rt: HostRuntime) {
-    let made = make(&rt, 2, 2);
-    see_long::<Brand, _>(&rt, made);
+fn pieces_that_threads_cut_are_legal(rt: HostRuntime) {
+    let length = Length {
+        rounds: 1250,
+        keeps: true,
+    };
+    let tally = run_two(&rt, length);
+    assert_eq!(rt; tally.passes, 2500);
+    assert_eq!(rt; (tally.entries, tally.told), (10002, 10002));
+    assert_eq!(rt; (tally.cuts, tally.list_cuts), (10, 10));
+    assert_eq!(rt; tally.capacity, 4096);
 }

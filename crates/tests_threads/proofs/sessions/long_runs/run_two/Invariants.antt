@@ -1,5 +1,5 @@
 -- The pool that was just made.
-use Rattle.tests_threads.proofs.sessions.long_runs.a_million_entries_in_little_room.Given as goal
+use Rattle.tests_threads.proofs.sessions.long_runs.run_two.Given as goal
 
 abbrev pub ghosts-see_long : goal.ghosts-see_long
 ghosts-see_long g a = record {
