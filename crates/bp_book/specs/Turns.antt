@@ -21,6 +21,7 @@ use Rattle.bp_trail.specs.Clock.{durable}
 use Rattle.bp_core.specs.CoreView.{CoreView}
 use Rattle.bp_trail.specs.Pieces.{by}
 use Rattle.bp_device.specs.Drivers.{ended_reply}
+use Rattle.bp_device.specs.Work.{Reads, Writes}
 
 -- the list has a mark more
 abbrev pub Marked : ℕ → ℕ → Trail → Trail → Type 0
@@ -135,11 +136,14 @@ EndWriteOutcome ticket (Err fault) (Err refusal.WriteFailed) said after = after 
 EndWriteOutcome ticket write (Err refusal.UnknownTicket) said after = after ≡ said
 EndWriteOutcome ticket _ _ said after = ⊥
 
--- device work was done, and it ended with this answer
-pub record LoadOutcome (ticket : ReadTicket) (answer : Result Pass Refusal) (said after : Trail) : Type 0 where
+-- the ticket's page was read, or its page written with its image and its page LSN, and the end of that has this answer; what a port says of
+-- its reads and writes leads from it, as it was, to it, as it is
+pub record LoadOutcome {A : Type 0} (reads : Reads A) (ticket : ReadTicket) (answer : Result Pass Refusal) (said after : Trail) (port kept : A) : Type 0 where
   pub read : Result (List ℕ) PortFault
+  pub gave : reads port ticket.page read kept
   pub ended : EndReadOutcome ticket read answer said after
 
-pub record WriteOutOutcome (ticket : WriteTicket) (answer : Result Ended Refusal) (said after : Trail) : Type 0 where
+pub record WriteOutOutcome {A : Type 0} (writes : Writes A) (ticket : WriteTicket) (answer : Result Ended Refusal) (said after : Trail) (port kept : A) : Type 0 where
   pub written : Result (Unit {0}) PortFault
+  pub gave : writes port ticket.page ticket.image ticket.lsn written kept
   pub ended : EndWriteOutcome ticket written answer said after

@@ -1,5 +1,5 @@
 -- What a port says of itself.
-use Rattle.std.specs.Prelude.{◌≡◌, ◌≢◌, ◌⊎◌, ℕ, Bool, true, false, ◌<◌, ◌^◌, ◌+◌, Result, Ok, Err}
+use Rattle.std.specs.Prelude.{◌≡◌, ◌≢◌, ◌⊎◌, ℕ, Bool, true, false, ◌<◌, ◌≤◌, ◌^◌, ◌+◌, List, [], length, Result, Ok, Err}
 use Rattle.bp_page.specs.declared.limits.Geometry.{Geometry}
 use Rattle.bp_page.specs.declared.refusals.PortFault.{PortFault}
 use Rattle.bp_page.specs.declared.slots.Format.{Format}
@@ -21,18 +21,34 @@ Counts (Err Device) old new = IsCounted old new
 abbrev pub IsFailure : {A : Type 0} → Result A PortFault → Type 0
 IsFailure result = result ≡ Err Device
 
+-- it failed, and the port below was not asked
+abbrev pub IsUnasked : {A P : Type 0} → Result A PortFault → P → P → Type 0
+IsUnasked result inner after = IsFailure result × (after ≡ inner)
+
 -- of a port that counts its calls down and fails once, at 1: that call fails so, and each other one passes
 abbrev pub FailsOrPasses : ℕ → Type 0 → Type 0 → Type 0
 FailsOrPasses left fails passes = (left ≡ 1 → fails) × (left ≢ 1 → passes)
 
--- what a caller sees of a port: its device's pages and their size, the failures that it has counted, and whether the pages stand with their numbers
+-- what a caller sees of a port: its device's pages and their size, the failures that it has counted, whether the pages stand with their
+-- numbers, and the bytes of the slot that it moved last, where it keeps one
 pub record PortView : Type 0 where
   pub device : Geometry
   pub failures : ℕ
   pub headed : Bool
+  pub slot : List ℕ
 
 abbrev pub new_port : Geometry → PortView
-new_port geometry = record { device = geometry; failures = 0; headed = false }
+new_port geometry = record { device = geometry; failures = 0; headed = false; slot = [] }
+
+-- a read by a port to these pages: a failure is counted, and a page that the device lacks is one
+abbrev pub ReadsPage : PortView → ℕ → Result (List ℕ) PortFault → PortView → Type 0
+ReadsPage port page found after = Counts found port.failures after.failures × (port.device.pages ≤ page → IsFailure found)
+
+-- a write by such a port: it takes no memory, and an image that is no page of the device is a failure too
+abbrev pub WritesPage : PortView → ℕ → List ℕ → Result (Unit {0}) PortFault → PortView → Type 0
+WritesPage port page image written after =
+    Counts written port.failures after.failures × (written ≢ Err Memory) × (port.device.pages ≤ page → IsFailure written)
+    × (length image ≢ port.device.size → IsFailure written)
 
 -- whether pages stand with their numbers in a file of this version
 abbrev pub has_headers : Format → Bool

@@ -2,8 +2,8 @@
 ghost use Rattle.std.specs.Prelude.{◌≡◌, ◌≢◌, ◌≤◌, ◌⊎◌, ◌*◌, ◌↔◌, true, IsOk, IfOk, IfErr, OnErr, length, vec_len};
 ghost use Rattle.bp_page.specs.Limits.{IsGeometry};
 ghost use Rattle.bp_page.specs.Slots.{page_in, slot_size};
-ghost use Rattle.bp_device.specs.Ports.{Counts, PortView, has_headers};
-ghost use Rattle.bp_device.specs.Files.{IsFileLength};
+ghost use Rattle.bp_device.specs.Ports.{PortView, has_headers};
+ghost use Rattle.bp_device.specs.Files.{FoundIn, IsFileLength, ReadsFile, WritesFile};
 
 use crate::failures::Failures;
 use crate::places::start_of;
@@ -46,7 +46,7 @@ pub struct FilePort {
 impl Model for FilePort {
     ghost Value = { PortView };
 
-    ghost view = { λ p. record { device = p.device; failures = p.count; headed = has_headers p.format } };
+    ghost view = { λ p. record { device = p.device; failures = p.count; headed = has_headers p.format; slot = p.buffer.items } };
 }
 
 /// The geometry of a page file of so many bytes and this version, with pages of this size. `BadLength` where they are no whole slots,
@@ -111,7 +111,7 @@ impl FilePort {
     /// The image in the buffer, which was read as the slot of this page.
     fn image_read(&self, page: PageNo) -> Result<Image, PortFault>
         ensures size { IfOk result (λ image. length image ≡ self.now.device.size) }
-        ensures wrong { result ≡ Err PortFault.WrongPage → self.now.headed ≡ true }
+        ensures found { FoundIn self.now.headed page self.now.slot result }
         ensures not_counted { result ≢ Err PortFault.Device }
     {
         image_in(self.alloc, self.format, page, &self.buffer)
@@ -122,8 +122,7 @@ impl FilePort {
 /// of another page, else `Memory` where the image can't be had.
 fn image_in(alloc: Global, format: Format, page: PageNo, slot: &[u8]) -> Result<Image, PortFault>
     requires header { has_headers format ≡ true → 16 ≤ length slot.now }
-    ensures wrong { (result ≡ Err PortFault.WrongPage) ↔ ((has_headers format ≡ true) ×
-        (page_in slot.now ≢ page)) }
+    ensures found { FoundIn (has_headers format) page slot.now result }
     ensures size { IfOk result (λ image. slot_size format (length image) ≡ length slot.now) }
     ensures not_counted { result ≢ Err PortFault.Device }
 {
@@ -143,9 +142,9 @@ impl Port for FilePort {
 
     ghost is_headed = { λ p. p.headed };
 
-    ghost read_gives = { λ port page found after. Counts found port.failures after.failures };
+    ghost read_gives = { ReadsFile };
 
-    ghost write_gives = { λ port page image lsn written after. Counts written port.failures after.failures };
+    ghost write_gives = { WritesFile };
 
     fn geometry(&self) -> Geometry {
         self.device

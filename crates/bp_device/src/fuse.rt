@@ -1,6 +1,7 @@
 //! A port that fails once, for tests of what a failing device leaves.
-ghost use Rattle.std.specs.Prelude.{◌≡◌, ◌≢◌, true, ◌-◌, ◌↔◌, IsTrue, IfOk, OnErr, length};
-ghost use Rattle.bp_device.specs.Ports.{Counts, FailsOrPasses, IsFailure};
+ghost use Rattle.std.specs.Prelude.{◌≡◌, ◌≢◌, true, ◌-◌, ◌↔◌, IsTrue, IfOk, OnErr, length, replicate};
+ghost use Rattle.bp_device.specs.Ports.{Counts, FailsOrPasses, IsFailure, IsUnasked};
+ghost use Rattle.bp_device.specs.Fuses.{IsNext, Spoils, spoiled_page};
 
 use crate::failures::Failures;
 use crate::port::Port;
@@ -25,6 +26,8 @@ impl<P: Port> FusePort<P> {
     pub fn new(alloc: Global, inner: P, n: u64, spoil: bool) -> Result<FusePort<P>, Refusal>
         ensures inner { IfOk result (λ port. port.inner ≡ inner) }
         ensures left { IfOk result (λ port. port.left ≡ n) }
+        ensures spoiled { IfOk result (λ port. port.spoiled ≡
+            spoiled_page spoil (P.geometry_of inner).size) }
         ensures count { IfOk result (λ port. port.count ≡ 0) }
         ensures memory { OnErr result (result ≡ Err Refusal.OutOfMemory) }
     {
@@ -44,7 +47,7 @@ impl<P: Port> FusePort<P> {
     /// Whether this call fails. Counts the call down.
     fn blows(&mut self) -> bool
         ensures now { IsTrue result ↔ (self.old.left ≡ 1) }
-        ensures left { self.new.left ≡ self.old.left - 1 }
+        ensures next { IsNext self.old.left self.old.spoiled self.new.left self.new.spoiled }
         ensures inner { self.new.inner ≡ self.old.inner }
         ensures count { self.new.count ≡ self.old.count }
     {
@@ -56,7 +59,8 @@ impl<P: Port> FusePort<P> {
 
 /// A page of bytes 255.
 fn page_of_ones(alloc: Global, size: usize) -> Result<Image, Refusal>
-    ensures { OnErr result (result ≡ Err Refusal.OutOfMemory) }
+    ensures ones { IfOk result (λ page. page ≡ replicate size 255) }
+    ensures memory { OnErr result (result ≡ Err Refusal.OutOfMemory) }
 {
     let Ok(ones) = vec![in alloc; 255u8; size] else {
         return Err(Refusal::OutOfMemory);
@@ -75,11 +79,14 @@ impl<P: Port> Port for FusePort<P> {
     ghost is_headed = { λ p. P.is_headed p.inner };
 
     ghost read_gives = { λ port page found after.
-        FailsOrPasses port.left (IsFailure found × (after.inner ≡ port.inner))
+        IsNext port.left port.spoiled after.left after.spoiled ×
+        FailsOrPasses port.left (IsUnasked found port.inner after.inner)
         (P.read_gives port.inner page found after.inner) };
 
     ghost write_gives = { λ port page image lsn written after.
-        FailsOrPasses port.left (IsFailure written)
+        IsNext port.left port.spoiled after.left after.spoiled ×
+        FailsOrPasses port.left (IsFailure written ×
+        Spoils (λ spoiled. P.write_gives port.inner page spoiled lsn) port.spoiled port.inner after.inner)
         (P.write_gives port.inner page image lsn written after.inner) };
 
     fn geometry(&self) -> Geometry {
@@ -96,12 +103,10 @@ impl<P: Port> Port for FusePort<P> {
         ensures same { P.geometry_of self.new.inner ≡ P.geometry_of self.old.inner }
         ensures alike { P.is_headed self.new.inner ≡ P.is_headed self.old.inner }
         ensures counts { Counts result self.old.count self.new.count }
-        ensures left { self.new.left ≡ self.old.left - 1 }
-        ensures fails { self.old.left ≡ 1 → (result ≡ Err PortFault.Device) ×
-            (self.new.inner ≡ self.old.inner) }
-        ensures gives { FailsOrPasses self.old.left (IsFailure result ×
-            (self.new.inner ≡ self.old.inner)) (P.read_gives self.old.inner page result
-            self.new.inner) }
+        ensures next { IsNext self.old.left self.old.spoiled self.new.left self.new.spoiled }
+        ensures fails { self.old.left ≡ 1 → IsUnasked result self.old.inner self.new.inner }
+        ensures passes { self.old.left ≢ 1 →
+            P.read_gives self.old.inner page result self.new.inner }
     {
         if self.blows() {
             return Err(self.count.add());
@@ -121,10 +126,12 @@ impl<P: Port> Port for FusePort<P> {
         ensures same { P.geometry_of self.new.inner ≡ P.geometry_of self.old.inner }
         ensures alike { P.is_headed self.new.inner ≡ P.is_headed self.old.inner }
         ensures counts { Counts result self.old.count self.new.count }
-        ensures left { self.new.left ≡ self.old.left - 1 }
-        ensures fails { self.old.left ≡ 1 → result ≡ Err PortFault.Device }
-        ensures gives { FailsOrPasses self.old.left (IsFailure result)
-            (P.write_gives self.old.inner page image.now lsn result self.new.inner) }
+        ensures next { IsNext self.old.left self.old.spoiled self.new.left self.new.spoiled }
+        ensures fails { self.old.left ≡ 1 → IsFailure result ×
+            Spoils (λ spoiled. P.write_gives self.old.inner page spoiled lsn) self.old.spoiled
+            self.old.inner self.new.inner }
+        ensures passes { self.old.left ≢ 1 →
+            P.write_gives self.old.inner page image.now lsn result self.new.inner }
     {
         if self.blows() {
             if let Some(spoiled) = &self.spoiled {

@@ -1,6 +1,6 @@
 //! Ports in pairs that wait for one another, for tests that the device work of two clients overlaps.
 ghost use Rattle.std.specs.Prelude.{◌≡◌, ◌≢◌, ◌⊎◌, true, ◌<◌, IsTrue, IfOk, OnErr, length};
-ghost use Rattle.bp_device.specs.Ports.{Counts, IsFailure};
+ghost use Rattle.bp_device.specs.Ports.{Counts, IsUnasked};
 
 use crate::failures::Failures;
 use crate::port::Port;
@@ -124,11 +124,11 @@ impl<P: Port> Port for GatePort<P> {
     ghost is_headed = { λ p. P.is_headed p.inner };
 
     ghost read_gives = { λ port page found after.
-        (IsFailure found × (after.inner ≡ port.inner)) ⊎
+        IsUnasked found port.inner after.inner ⊎
         P.read_gives port.inner page found after.inner };
 
     ghost write_gives = { λ port page image lsn written after.
-        (IsFailure written × (after.inner ≡ port.inner)) ⊎
+        IsUnasked written port.inner after.inner ⊎
         P.write_gives port.inner page image lsn written after.inner };
 
     fn geometry(&self) -> Geometry {
@@ -146,10 +146,9 @@ impl<P: Port> Port for GatePort<P> {
         ensures alike { P.is_headed self.new.inner ≡ P.is_headed self.old.inner }
         ensures counts { Counts result self.old.count self.new.count }
         ensures turns { self.new.turns ≡ self.old.turns }
-        ensures shut { self.old.turns ≡ 0 → (result ≡ Err PortFault.Device) ×
-            (self.new.inner ≡ self.old.inner) }
-        ensures gives { (IsFailure result × (self.new.inner ≡ self.old.inner)) ⊎ P.read_gives
-            self.old.inner page result self.new.inner }
+        ensures shut { self.old.turns ≡ 0 → IsUnasked result self.old.inner self.new.inner }
+        ensures gives { IsUnasked result self.old.inner self.new.inner ⊎
+            P.read_gives self.old.inner page result self.new.inner }
     {
         if !self.reads.opens(rt, self.turns) {
             return Err(self.count.add());
@@ -170,10 +169,9 @@ impl<P: Port> Port for GatePort<P> {
         ensures alike { P.is_headed self.new.inner ≡ P.is_headed self.old.inner }
         ensures counts { Counts result self.old.count self.new.count }
         ensures turns { self.new.turns ≡ self.old.turns }
-        ensures shut { self.old.turns ≡ 0 → (result ≡ Err PortFault.Device) ×
-            (self.new.inner ≡ self.old.inner) }
-        ensures gives { (IsFailure result × (self.new.inner ≡ self.old.inner)) ⊎ P.write_gives
-            self.old.inner page image.now lsn result self.new.inner }
+        ensures shut { self.old.turns ≡ 0 → IsUnasked result self.old.inner self.new.inner }
+        ensures gives { IsUnasked result self.old.inner self.new.inner ⊎
+            P.write_gives self.old.inner page image.now lsn result self.new.inner }
     {
         if !self.writes.opens(rt, self.turns) {
             return Err(self.count.add());

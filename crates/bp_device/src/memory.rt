@@ -1,7 +1,7 @@
 //! A device in memory, and the ports on it.
-ghost use Rattle.std.specs.Prelude.{◌≡◌, ◌*◌, false, IfOk, OnErr};
+ghost use Rattle.std.specs.Prelude.{◌≡◌, ◌*◌, false, [], IfOk, OnErr};
 ghost use Rattle.bp_page.specs.declared.limits.Geometry.{Geometry};
-ghost use Rattle.bp_device.specs.Ports.{Counts, PortView, new_port};
+ghost use Rattle.bp_device.specs.Ports.{PortView, ReadsPage, WritesPage, new_port};
 
 use crate::failures::Failures;
 use crate::places::start_of;
@@ -74,7 +74,7 @@ pub struct MemPort {
 impl Model for MemPort {
     ghost Value = { PortView };
 
-    ghost view = { λ p. record { device = p.device; failures = p.count; headed = false } };
+    ghost view = { λ p. record { device = p.device; failures = p.count; headed = false; slot = [] } };
 }
 
 impl Port for MemPort {
@@ -84,9 +84,9 @@ impl Port for MemPort {
 
     ghost is_headed = { λ p. p.headed };
 
-    ghost read_gives = { λ port page found after. Counts found port.failures after.failures };
+    ghost read_gives = { ReadsPage };
 
-    ghost write_gives = { λ port page image lsn written after. Counts written port.failures after.failures };
+    ghost write_gives = { λ port page image lsn written after. WritesPage port page image written after };
 
     fn geometry(&self) -> Geometry {
         self.device

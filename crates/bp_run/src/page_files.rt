@@ -23,8 +23,7 @@ pub enum AnyPort {
 }
 
 impl Port for AnyPort {
-    ghost use Rattle.bp_device.specs.Ports.{Counts};
-    ghost use Rattle.bp_run.specs.AnyPort.{device_of, failures_of_any, is_headed_any};
+    ghost use Rattle.bp_run.specs.AnyPort.{ReadsAny, WritesAny, device_of, failures_of_any, is_headed_any};
 
     ghost geometry_of = { device_of };
 
@@ -32,9 +31,9 @@ impl Port for AnyPort {
 
     ghost is_headed = { is_headed_any };
 
-    ghost read_gives = { λ port page found after. Counts found (failures_of_any port) (failures_of_any after) };
+    ghost read_gives = { ReadsAny };
 
-    ghost write_gives = { λ port page image lsn written after. Counts written (failures_of_any port) (failures_of_any after) };
+    ghost write_gives = { WritesAny };
 
     fn geometry(&self) -> Geometry {
         match self {

@@ -24,6 +24,7 @@ use Rattle.bp_book.specs.Turns.{is_busy, FixTurn, EndReadOutcome, EndWriteOutcom
 use Rattle.bp_shared.proofs.Turning.{FixWaits, FixTurns, fix_marked}
 use Rattle.bp_shared.specs.Sessions.{FixSaid}
 use Rattle.bp_device.specs.Drivers.{Gives}
+use Rattle.bp_device.specs.Work.{Reads, Writes}
 
 goes_on-append : (client page : ℕ) (xs ys : Trail) → FixGoesOn session client page xs → FixGoesOn session client page ys → FixGoesOn session client page (xs ++ ys)
 goes_on-append client page _ ys begins q = q
@@ -96,9 +97,9 @@ pub owes_write : (client page : ℕ) (ticket : WriteTicket) (said after : Trail)
 owes_write client page ticket said after t = record { call = Fix page; before = t.marked; whose = t.asks.0; gave = t.asks.1 }
 
 -- the read and its end
-pub load_said : (client page : ℕ) (ticket : ReadTicket) (evicted : Option ℕ) (answer : Result Pass Refusal) (said mid after : Trail) → FixTurns client page (Ok (fixing.Load ticket evicted)) said mid
-    → LoadOutcome ticket answer mid after → FixSaid client page answer said after
-load_said client page ticket evicted answer said mid after t l = go l.read answer l.ended
+pub load_said : {A : Type 0} (reads : Reads A) (port kept : A) (client page : ℕ) (ticket : ReadTicket) (evicted : Option ℕ) (answer : Result Pass Refusal) (said mid after : Trail) → FixTurns client page (Ok (fixing.Load ticket evicted)) said mid
+    → LoadOutcome reads ticket answer mid after port kept → FixSaid client page answer said after
+load_said reads port kept client page ticket evicted answer said mid after t l = go l.read answer l.ended
   where
     w : FixWaits client page said t.marked
     w = t.waits
@@ -142,8 +143,8 @@ load_said client page ticket evicted answer said mid after t l = go l.read answe
     go _ _ h = absurd h
 
 -- the victim's write-out and its end
-pub written_waits : (client page : ℕ) (ticket : WriteTicket) (how : Ended) (said mid after : Trail) → FixTurns client page (Ok (fixing.WriteFirst ticket)) said mid → WriteOutOutcome ticket (Ok how) mid after → FixWaits client page said after
-written_waits client page ticket how said mid after t o = go o.written how o.ended
+pub written_waits : {A : Type 0} (writes : Writes A) (port kept : A) (client page : ℕ) (ticket : WriteTicket) (how : Ended) (said mid after : Trail) → FixTurns client page (Ok (fixing.WriteFirst ticket)) said mid → WriteOutOutcome writes ticket (Ok how) mid after port kept → FixWaits client page said after
+written_waits writes port kept client page ticket how said mid after t o = go o.written how o.ended
   where
     w : FixWaits client page said t.marked
     w = t.waits
@@ -160,8 +161,8 @@ written_waits client page ticket how said mid after t o = go o.written how o.end
         record { piece = end client ∷ e ∷ w.piece; goes_on = still_dirty ticket.serial ticket.page ticket.image w.goes_on; grows = h ∙ ap (λ c. end c ∷ mid) t.asks.0 ∙ ap (λ es. end client ∷ es) (t.asks.1 ∙ ap (λ es. e ∷ es) w.grows) }
     go (Err fault) _ h = absurd h
 
-pub unwritten_said : (client page : ℕ) (ticket : WriteTicket) (why : Refusal) (said mid after : Trail) → FixTurns client page (Ok (fixing.WriteFirst ticket)) said mid → WriteOutOutcome ticket (Err why) mid after → FixSaid client page (Err why) said after
-unwritten_said client page ticket why said mid after t o = go o.written why o.ended
+pub unwritten_said : {A : Type 0} (writes : Writes A) (port kept : A) (client page : ℕ) (ticket : WriteTicket) (why : Refusal) (said mid after : Trail) → FixTurns client page (Ok (fixing.WriteFirst ticket)) said mid → WriteOutOutcome writes ticket (Err why) mid after port kept → FixSaid client page (Err why) said after
+unwritten_said writes port kept client page ticket why said mid after t o = go o.written why o.ended
   where
     w : FixWaits client page said t.marked
     w = t.waits

@@ -22,6 +22,7 @@ use Rattle.bp_book.specs.Turns.{is_busy, FlushTurn, EndWriteOutcome, WriteOutOut
 use Rattle.bp_shared.proofs.Turning.{FlushWaits, FlushTurns, flush_marked}
 use Rattle.bp_shared.specs.Sessions.{FlushSaid}
 use Rattle.bp_device.specs.Drivers.{Gives, ended_reply, flushed_reply}
+use Rattle.bp_device.specs.Work.{Writes}
 use Rattle.bp_shared.proofs.Fixing.{is-busy}
 
 goes_on-append : (client page : ℕ) (xs ys : Trail) → FlushGoesOn session client page xs → FlushGoesOn session client page ys → FlushGoesOn session client page (xs ++ ys)
@@ -117,9 +118,9 @@ module _ (client page : ℕ) (ticket : WriteTicket) (said mid after : Trail) (t 
   lost_said (Err fault) refusal.UnknownTicket h = record { piece = e ∷ w.piece; grows = h ∙ grown; of_row = (lost_write ticket.serial ticket.image refl w.goes_on, tt); gives = gives_none client page w.piece w.goes_on }
   lost_said _ _ h = absurd h
 
-pub flushed_said : (client page : ℕ) (ticket : WriteTicket) (how : Ended) (answer : Flushed) (said mid after : Trail) → FlushTurns client page (Ok (flushing.WriteFirst ticket)) said mid → flushed_reply answer ≡ ended_reply how
-    → WriteOutOutcome ticket (Ok how) mid after → FlushSaid client page (Ok answer) said after
-flushed_said client page ticket how answer said mid after t is o = ended_said client page ticket said mid after t how answer o.written is o.ended
+pub flushed_said : {A : Type 0} (writes : Writes A) (port kept : A) (client page : ℕ) (ticket : WriteTicket) (how : Ended) (answer : Flushed) (said mid after : Trail) → FlushTurns client page (Ok (flushing.WriteFirst ticket)) said mid → flushed_reply answer ≡ ended_reply how
+    → WriteOutOutcome writes ticket (Ok how) mid after port kept → FlushSaid client page (Ok answer) said after
+flushed_said writes port kept client page ticket how answer said mid after t is o = ended_said client page ticket said mid after t how answer o.written is o.ended
 
-pub unflushed_said : (client page : ℕ) (ticket : WriteTicket) (why : Refusal) (said mid after : Trail) → FlushTurns client page (Ok (flushing.WriteFirst ticket)) said mid → WriteOutOutcome ticket (Err why) mid after → FlushSaid client page (Err why) said after
-unflushed_said client page ticket why said mid after t o = lost_said client page ticket said mid after t o.written why o.ended
+pub unflushed_said : {A : Type 0} (writes : Writes A) (port kept : A) (client page : ℕ) (ticket : WriteTicket) (why : Refusal) (said mid after : Trail) → FlushTurns client page (Ok (flushing.WriteFirst ticket)) said mid → WriteOutOutcome writes ticket (Err why) mid after port kept → FlushSaid client page (Err why) said after
+unflushed_said writes port kept client page ticket why said mid after t o = lost_said client page ticket said mid after t o.written why o.ended

@@ -1,5 +1,6 @@
 pub mod Stepping
 pub mod Turning
+pub mod Working
 pub mod Taking
 pub mod Fixing
 pub mod Making

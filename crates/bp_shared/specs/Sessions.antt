@@ -17,6 +17,7 @@ use Rattle.bp_trail.specs.Pieces.Outcome.{accepted, refused}
 use Rattle.bp_book.specs.Books.{owed}
 use Rattle.bp_device.specs.declared.drivers.Flushed.{Flushed}
 use Rattle.bp_device.specs.Drivers.{Gives, Ends, flushed_reply}
+use Rattle.bp_device.specs.Work.{Reads, Writes, WorksThrough}
 
 -- whose session it is, and its list: what cuts handed out, and all of it; in how many places of its ring it knows no pass;
 -- and for how many entries the list has room beyond all that it owes
@@ -64,6 +65,16 @@ FixSaid client page (Err why) said after = Says (λ piece. FixPiece session clie
 abbrev pub FlushSaid : ℕ → ℕ → Result Flushed Refusal → Trail → Trail → Type 0
 FlushSaid client page (Ok how) said after = Says (λ piece. FlushPiece session client page piece accepted × Ends (flushed_reply how) piece) None said after
 FlushSaid client page (Err why) said after = Says (λ piece. FlushPiece session client page piece (refused (number_of why)) × Repeats why piece) None said after
+
+-- a write with some page LSN, which the trail has under the lock
+abbrev pub WithSomeLsn : {A : Type 0} → Writes A → Writes A
+WithSomeLsn writes port page image hidden written after = (lsn : ℕ) × writes port page image lsn written after
+
+-- the device did the work of the entries that the list got, in their order, and nothing else
+pub record DoesWorkSaid {A : Type 0} (reads : Reads A) (writes : Writes A) (said after : Trail) (port kept : A) : Type 0 where
+  pub piece : Trail
+  pub grows : after ≡ piece ++ said
+  pub through : WorksThrough reads (WithSomeLsn writes) said piece port kept
 
 -- a pass that the list leaves out is posted, or finds the ring full: then the session knew of no free place, and nothing changes;
 -- any other is unknown

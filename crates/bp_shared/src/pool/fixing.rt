@@ -13,10 +13,10 @@ use bp_page::{PageNo, Refusal};
 use std::sync::Wait;
 
 impl<N: PoolName, K: ListKeeper> SharedPool<N, K> {
-    ghost use Rattle.std.specs.Prelude.{◌≡◌, ◌<◌};
+    ghost use Rattle.std.specs.Prelude.{◌≡◌, ◌≢◌, ◌<◌};
     ghost use Rattle.bp_book.specs.Books.{OwesRead, OwesWrite};
     ghost use Rattle.bp_book.specs.Turns.{FixTurn, LoadOutcome, WriteOutOutcome};
-    ghost use Rattle.bp_shared.specs.Sessions.{FixSaid};
+    ghost use Rattle.bp_shared.specs.Sessions.{DoesWorkSaid, FixSaid};
 
     /// Reads a page with no lock held, ends the read, and wakes all that wait.
     fn load<P: Port, R: Wait>(
@@ -32,7 +32,8 @@ impl<N: PoolName, K: ListKeeper> SharedPool<N, K> {
         ensures before { session.new.before ≡ session.old.before }
         ensures free { session.new.free ≡ session.old.free }
         ensures port { P.geometry_of port.new ≡ P.geometry_of port.old }
-        ensures outcome { LoadOutcome ticket result session.old.said session.new.said }
+        ensures outcome { LoadOutcome P.read_gives ticket result session.old.said session.new.said
+            port.old port.new }
     {
         let read = port.read(rt, ticket.page());
         let mut state = locked(rt, &self.state);
@@ -56,7 +57,8 @@ impl<N: PoolName, K: ListKeeper> SharedPool<N, K> {
         ensures before { session.new.before ≡ session.old.before }
         ensures free { session.new.free ≡ session.old.free }
         ensures port { P.geometry_of port.new ≡ P.geometry_of port.old }
-        ensures outcome { WriteOutOutcome ticket result session.old.said session.new.said }
+        ensures outcome { WriteOutOutcome P.write_gives ticket result session.old.said
+            session.new.said port.old port.new }
     {
         let written = port.write(rt, ticket.page(), ticket.image(), ticket.lsn());
         let mut state = locked(rt, &self.state);
@@ -99,7 +101,8 @@ impl<N: PoolName, K: ListKeeper> SharedPool<N, K> {
 
     /// Fixes a page: gives a pass of it, once it is in a frame. The page is read, and an unsaved victim written out first, through the
     /// port and with no lock held; where another client has the page in flight, the call waits for the end of some device work and
-    /// asks again. Before each fix of the core it looks at the mark once.
+    /// asks again. Before each fix of the core it looks at the mark once. The device does the work of the entries that the list gets, and
+    /// nothing else: each read is of the page, each write of the victim's, with its image.
     ///
     /// The session's list gets the events as the trail does. `NoVictim`, `NeedLog`, `ReadFailed`, `WrongPage` and `WriteFailed` are the
     /// reply of the last one. `TrailFull` and `OutOfMemory` make no event, and those made before stand; `UnknownTicket` is the pool's
@@ -118,6 +121,8 @@ impl<N: PoolName, K: ListKeeper> SharedPool<N, K> {
         ensures free { session.new.free ≡ session.old.free }
         ensures port { P.geometry_of port.new ≡ P.geometry_of port.old }
         ensures outcome { FixSaid session.old.client page result session.old.said session.new.said }
+        ensures work { result ≢ Err Refusal.UnknownTicket → DoesWorkSaid P.read_gives P.write_gives
+            session.old.said session.new.said port.old port.new }
     {
         for _ in rt.forever() {
             match self.ask_fix(rt, session, page) {

@@ -24,9 +24,9 @@ fn flushed_by(ended: Ended) -> Flushed
 }
 
 impl<N: PoolName, K: ListKeeper> SharedPool<N, K> {
-    ghost use Rattle.std.specs.Prelude.{◌≡◌, ◌<◌};
+    ghost use Rattle.std.specs.Prelude.{◌≡◌, ◌≢◌, ◌<◌};
     ghost use Rattle.bp_book.specs.Turns.{FlushTurn};
-    ghost use Rattle.bp_shared.specs.Sessions.{FlushSaid};
+    ghost use Rattle.bp_shared.specs.Sessions.{DoesWorkSaid, FlushSaid};
 
     /// Takes the memory for one more event, and asks that a page be written out in one critical section. `Busy` and `OutOfMemory` as
     /// from `ask_fix`.
@@ -59,7 +59,8 @@ impl<N: PoolName, K: ListKeeper> SharedPool<N, K> {
     }
 
     /// Writes a page out if it is unsaved, through the port and with no lock held. Where the page is being read or written out, the call
-    /// waits for the end of some device work and asks again. Before each flush of the core it looks at the mark once.
+    /// waits for the end of some device work and asks again. Before each flush of the core it looks at the mark once. The device does the
+    /// work of the entries that the list gets, as in `fix`.
     ///
     /// The session's list gets the events as the trail does. `NeedLog` and `WriteFailed` are the reply of the last one; `TrailFull`,
     /// `OutOfMemory` and `UnknownTicket` as from `fix`.
@@ -77,6 +78,8 @@ impl<N: PoolName, K: ListKeeper> SharedPool<N, K> {
         ensures port { P.geometry_of port.new ≡ P.geometry_of port.old }
         ensures outcome { FlushSaid session.old.client page result
             session.old.said session.new.said }
+        ensures work { result ≢ Err Refusal.UnknownTicket → DoesWorkSaid P.read_gives P.write_gives
+            session.old.said session.new.said port.old port.new }
     {
         for _ in rt.forever() {
             match self.ask_flush(rt, session, page) {
