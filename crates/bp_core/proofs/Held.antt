@@ -1,4 +1,4 @@
--- Of the pages that are away, those are held that are being read.
+-- Of the pages that are away, those are held that are being read, and none is unsaved.
 use Rattle.std.proofs.Common.{◌≡◌, ℕ, true, false, sym, ap, ◌∙◌}
 use Rattle.std.specs.Prelude.{◌||◌}
 use Rattle.std.proofs.lemmas.Bool.{true≢false, false_from_ne_true}
@@ -6,6 +6,8 @@ use Rattle.bp_lruk.specs.Histories.{is_held}
 use Rattle.bp_trail.specs.Parameters.{Parameters}
 use Rattle.bp_trail.specs.Trail.{Trail}
 use Rattle.bp_trail.specs.Places.{loading, resident}
+use Rattle.bp_trail.specs.Saved.{unsaved}
+use Rattle.bp_trail.specs.Legal.{Legal}
 use Rattle.bp_trail.proofs.Places.{places}
 use Rattle.bp_core.specs.Agreement.{Parts, Agrees}
 
@@ -15,3 +17,6 @@ module _ (c : Parameters) (past : Trail) (x : Parts) (a : Agrees c past x) (p : 
 
   pub away-held : resident past p ≡ false → is_held x.blocks p ≡ loading past p
   away-held away = a.observed.held_is p ∙ ap (λ b. b || loading past p) away
+
+pub away-saved : (c : Parameters) (past : Trail) → Legal c past → (p : ℕ) → resident past p ≡ false → false ≡ unsaved past p
+away-saved c past legal p away = sym (false_from_ne_true (unsaved past p) (λ u. true≢false (sym ((places c past legal).dirty p u) ∙ away)))

@@ -5,3 +5,4 @@ pub mod ReadFaults
 pub mod Outcomes
 pub mod EndRefusals
 pub mod Agreement
+pub mod Unsaved

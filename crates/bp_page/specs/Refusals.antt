@@ -1,5 +1,5 @@
--- The number of each refusal.
-use Rattle.std.specs.Prelude.{ℕ}
+-- The number of each refusal, and how far one wants the log.
+use Rattle.std.specs.Prelude.{ℕ, Option, Some, None}
 use Rattle.bp_page.specs.declared.refusals.Refusal.{Refusal}
 use Rattle.bp_page.specs.declared.refusals.Refusal.TheVariants.{BadGeometry, BadSettings, BadLength, NoVictim, NeedLog, Busy, UnknownPass, UnknownTicket, ReadFailed, WriteFailed, WrongPage, TrailFull, ClockFull, OutOfMemory, RingFull, Disagree, BadShape, BadClient, BadOp, BadNumber, BadHex, OutOfPage, TooLong, ReadFault}
 
@@ -28,3 +28,8 @@ number_of BadHex = 44
 number_of OutOfPage = 45
 number_of TooLong = 46
 number_of ReadFault = 47
+
+-- the LSN up to which the log must be durable before the call is made again
+abbrev pub needed_by : Refusal → Option ℕ
+needed_by (NeedLog lsn) = Some lsn
+needed_by _ = None

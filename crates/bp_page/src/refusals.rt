@@ -1,6 +1,6 @@
 //! Why a call is refused, and why a device operation failed.
 ghost use Rattle.std.specs.Prelude.{◌≡◌};
-ghost use Rattle.bp_page.specs.Refusals.{number_of};
+ghost use Rattle.bp_page.specs.Refusals.{needed_by, number_of};
 
 use crate::numbers::Lsn;
 use thiserror::Error;
@@ -88,6 +88,16 @@ impl Refusal {
             Refusal::OutOfPage => 45,
             Refusal::TooLong => 46,
             Refusal::ReadFault => 47,
+        }
+    }
+
+    /// The LSN up to which the log must be durable before the call is made again. `NeedLog` names one, and no other refusal does.
+    pub fn needed(self) -> Option<Lsn>
+        ensures { result ≡ needed_by self }
+    {
+        match self {
+            Refusal::NeedLog(lsn) => Some(lsn),
+            _ => None,
         }
     }
 }

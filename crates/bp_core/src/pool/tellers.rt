@@ -7,7 +7,9 @@ ghost use Rattle.bp_trail.specs.Safety.{Safe};
 ghost use Rattle.bp_trail.specs.Claims.{HeldIsPlain, ReadsAreKnown};
 ghost use Rattle.bp_trail.specs.Cuts.{LeadsOn, ReadsSince};
 ghost use Rattle.bp_trail.specs.Standing.{standing};
+ghost use Rattle.bp_trail.specs.Saved.{unsaved};
 ghost use Rattle.bp_core.specs.CoreView.{EachPast, opening};
+ghost use Rattle.bp_core.specs.Unsaved.{FindsUnsaved};
 
 use crate::pool::PoolCore;
 use bp_keeper::{Keeper, RecordingKeeper};
@@ -91,6 +93,33 @@ impl<K: Keeper> PoolCore<K> {
         ensures { EachPast self.now (λ past. result ≡ hist self.now.parameters past page i) }
     {
         self.state.histories.stamp(page, i)
+    }
+
+    /// Whether some write of the page has not gone out.
+    pub fn is_unsaved(&self, page: PageNo) -> bool
+        ensures { EachPast self.now (λ past. result ≡ unsaved past page) }
+    {
+        // An unsaved page is in a frame.
+        self.vouch();
+        match self.frame(page) {
+            Some(frame) => frame.is_unsaved,
+            None => false,
+        }
+    }
+
+    /// The first page from this number on that is unsaved, if there is one. It looks at each page of the file up to that one, and
+    /// adds no entry.
+    pub fn next_unsaved(&self, from: u64) -> Option<PageNo>
+        ensures { EachPast self.now (λ past.
+            FindsUnsaved self.now.parameters.pages from past result) }
+    {
+        for number in from..self.config.geometry.pages {
+            let page = PageNo::new(number);
+            if self.is_unsaved(page) {
+                return Some(page);
+            }
+        }
+        None
     }
 }
 
