@@ -14,8 +14,6 @@ mod forms;
 mod handle;
 mod pool;
 mod seal;
-#[cfg(test)]
-mod tests;
 mod texts;
 
 use crate::forms::{HzConfig, HzFixed, HzGrant, HzTotals};
