@@ -91,7 +91,8 @@ impl Refusal {
         }
     }
 
-    /// The LSN up to which the log must be durable before the call is made again. `NeedLog` names one, and no other refusal does.
+    /// The LSN up to which the log must be durable before the call is made again. `NeedLog` names one, and no other
+    /// refusal does.
     pub fn needed(self) -> Option<Lsn>
         ensures { result ≡ needed_by self }
     {

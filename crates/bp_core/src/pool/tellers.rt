@@ -107,8 +107,8 @@ impl<K: Keeper> PoolCore<K> {
         }
     }
 
-    /// The first page from this number on that is unsaved, if there is one. It looks at each page of the file up to that one, and
-    /// adds no entry.
+    /// The first page from this number on that is unsaved, if there is one. It looks at each page of the file up to
+    /// that one, and adds no entry.
     pub fn next_unsaved(&self, from: u64) -> Option<PageNo>
         ensures { EachPast self.now (λ past.
             FindsUnsaved self.now.parameters.pages from past result) }
