@@ -1,6 +1,5 @@
 -- What the calls of a set do to its keys.
-use Rattle.std.proofs.Common.{◌≡◌, refl, sym, ap, ◌∙◌, subst, rules, ℕ, ◌+◌, ◌-◌, ◌<◌, ◌≤◌, arith, Bool, true, false, not, ◌==◌, if◌then◌else◌, cond, ◌⊎◌, inl, inr, IsTrue, List, length}
-use Rattle.std.proofs.lemmas.Bool.{cases_eq, eq-eqb, ne_eqb}
+use Rattle.std.proofs.Common.{◌≡◌, refl, sym, ap, ◌∙◌, subst, ℕ, ◌+◌, ◌-◌, ◌≤◌, arith, Bool, true, false, not, ◌==◌, if◌then◌else◌, cond, IsTrue, length}
 use Rattle.std.proofs.lemmas.Grind.{common_steps}
 use Rattle.std.proofs.lemmas.Map.Keys.{ge_from_not_lt}
 use Rattle.std.specs.Ordering.{nat_cmp}
@@ -8,7 +7,7 @@ use Rattle.std.specs.BTreeMap.{is_at}
 use Rattle.std.specs.List.{list_any}
 use Rattle.std.specs.BTreeSet.{BTreeSet, contains, btree_set_len, Updates, IsUpperBound}
 use Rattle.bp_optimum.specs.declared.farthest.Optimum.{Optimum}
-use Rattle.bp_optimum.specs.Optimum.{Held, with_one, without_one, one_hit, one_load, one_exchange}
+use Rattle.bp_optimum.specs.Optimum.{Held, with_one, without_one}
 use Rattle.bp_optimum.specs.Keys.{keys_of, IsGreatest, Steps}
 use Rattle.bp_optimum.specs.Keys.Steps.{a_hit, a_load, an_exchange}
 

@@ -1,6 +1,6 @@
 -- How the keys stand for the pages in frames, from one reference to the next.
 use Rattle.std.proofs.Common.{◌≡◌, refl, sym, ap, ◌∙◌, subst, ℕ, ◌+◌, ◌-◌, ◌<◌, ◌≤◌, arith, Bool, true, false, ◌==◌, if◌then◌else◌, List, [], ◌∷◌, ◌⊎◌, inl, inr}
-use Rattle.std.proofs.lemmas.Bool.{cases_eq, eq-eqb, ne_eqb, eqb-true, eqb-false, true≢false}
+use Rattle.std.proofs.lemmas.Bool.{cases_eq, eq-eqb, ne_eqb, eqb-false, true≢false}
 use Rattle.bp_optimum.specs.declared.farthest.Optimum.{Optimum}
 use Rattle.bp_optimum.specs.Due.{due}
 use Rattle.bp_optimum.specs.Optimum.{Held, nothing_held, with_one, without_one, IsLast, nobody_counted, one_hit, one_load, one_exchange, Comes}

@@ -29,8 +29,8 @@ fn after_all(alloc: Global, pages: usize, count: usize) -> Result<Vec<u64>, Allo
     Ok(latest)
 }
 
-/// For each reference, when its page is due next: the index of the next reference of the same page, or the number of references and
-/// the page's number where there is none.
+/// For each reference, when its page is due next: the index of the next reference of the same page, or the number of
+/// references and the page's number where there is none.
 pub(crate) fn next_due(
     alloc: Global,
     references: &[u32],

@@ -52,7 +52,8 @@ fn drop_last(held: &mut BTreeSet<u64>)
     };
 }
 
-/// One reference, at the time `now`, to a page that is due next at `next`. A page in a frame is known by when it is due.
+/// One reference, at the time `now`, to a page that is due next at `next`. A page in a frame is known by when it is
+/// due.
 fn refer(
     held: &mut BTreeSet<u64>,
     frames: usize,
@@ -86,11 +87,12 @@ fn refer(
     Ok(())
 }
 
-/// Counts what a pool of so many frames does with the references where the page that leaves is the one that is due last: of all pages
-/// in frames, its next reference is the farthest. Each page is brought in where it is referred to. No pool that does so has fewer faults,
-/// as Belady found; that is not proved here.
+/// Counts what a pool of so many frames does with the references where the page that leaves is the one that is due
+/// last: of all pages in frames, its next reference is the farthest. Each page is brought in where it is referred to.
+/// No pool that does so has fewer faults, as Belady found; that is not proved here.
 ///
-/// It takes eight bytes of memory for each reference, and eight for each page up to the greatest. `AllocError` where there is no memory.
+/// It takes eight bytes of memory for each reference, and eight for each page up to the greatest. `AllocError` where
+/// there is no memory.
 pub fn count_optimum(
     alloc: Global,
     references: &[u32],

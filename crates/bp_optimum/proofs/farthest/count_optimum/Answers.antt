@@ -1,5 +1,5 @@
 -- One reference after the other.
-use Rattle.std.proofs.Common.{◌≡◌, ◌∙◌, ◌+◌, ◌<◌, subst, rules, arith, length, slice_index, drop}
+use Rattle.std.proofs.Common.{◌∙◌, ◌+◌, ◌<◌, subst, rules, arith, length, slice_index, drop}
 use Rattle.std.proofs.lemmas.Grind.{get_or_default_zero}
 use Rattle.bp_optimum.specs.Keys.{keys_of}
 use Rattle.bp_optimum.proofs.Dues.{cut-at, none-left}

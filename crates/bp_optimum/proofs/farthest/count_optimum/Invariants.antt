@@ -1,4 +1,4 @@
-use Rattle.std.proofs.Common.{◌≡◌, ◌+◌, ◌≤◌, ℕ, drop}
+use Rattle.std.proofs.Common.{◌≤◌, drop}
 use Rattle.bp_optimum.specs.Keys.{keys_of}
 use Rattle.bp_optimum.proofs.Walk.{Stands}
 use Rattle.bp_optimum.proofs.farthest.count_optimum.Given as goal
