@@ -3,3 +3,4 @@ pub mod Counts
 pub mod References
 pub mod Cells
 pub mod Referring
+pub mod Sweeping

@@ -2,9 +2,11 @@
 #![tactic(auto)]
 
 mod cell;
+mod cells;
 mod counts;
 mod references;
 
 pub use cell::count_references;
+pub use cells::{Plan, count_cells};
 pub use counts::Counts;
 pub use references::{ReferenceFault, read_references};
