@@ -87,6 +87,20 @@ impl<N: PoolName, K: ListKeeper> Session<N, K> {
         self.book.held()
     }
 
+    /// Ends the session and gives what it kept for itself: its own list, and the passes that it holds. It takes no memory.
+    pub fn into_book(self) -> Book<K>
+        ensures client { result.client ≡ self.client }
+        ensures before { result.before ≡ self.before }
+        ensures said { result.said ≡ self.said }
+    {
+        let Session {
+            book,
+            producer: _,
+            of: _,
+        } = self;
+        book
+    }
+
     /// Puts a pass on the ring, with no lock and no memory. Where the list does not give it, or gives it back already, this is
     /// `UnknownPass`; where the ring has 32 passes in it, `RingFull`. Both hand the pass back, and change nothing.
     pub(crate) fn post(&mut self, pass: Pass) -> Result<(), (Pass, Refusal)>

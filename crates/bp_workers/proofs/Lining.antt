@@ -1,11 +1,13 @@
 -- Lists side by side: workers, their jobs and what these leave.
 use Rattle.std.proofs.Common.{◌≡◌, refl, sym, ◌∙◌, ap, subst, ℕ, zero, suc, ◌+◌, ◌<◌, arith, List, [], ◌∷◌, ◌++◌, All, length, take, drop, get_or, Option, Some, None}
-use Rattle.std.specs.Prelude.{IsSome, reverse}
+use Rattle.std.specs.Prelude.{IsSome}
 use Rattle.std.proofs.lemmas.List.{append_assoc, append-nil}
 use Rattle.std.proofs.lemmas.List.Elements.{All-nil, All-cons}
 use Rattle.bp_trail.specs.Trail.{Trail}
+use Rattle.bp_trail.specs.Script.{held_passes}
 use Rattle.bp_shared.specs.Sessions.{SessionValue, new_session, new_sessions}
 use Rattle.bp_workers.specs.declared.worker.Left.{Left}
+use Rattle.bp_workers.specs.Giving.{GoBack}
 use Rattle.bp_workers.specs.Lists.{SideBySide}
 use Rattle.bp_workers.specs.Workers.{UpkeepValue, new_upkeep}
 use Rattle.bp_workers.specs.Jobs.{JobValue, IsReady, Ran, IsLeftOf, taken_by, taken_of}
@@ -106,7 +108,7 @@ still_takes Leaves (j ∷ olds) [] len ran is = absurd (omega (arith, len))
 still_takes Leaves (j ∷ olds) (k ∷ news) len ran is = still_some j.upkeep k.upkeep (ran 0 j (omega arith)).upkeep is
 
 -- what one job left is what its client's worker left
-left_by : {W P : Type 0} (Leaves : ℕ → W → W → SessionValue → Option UpkeepValue → Type 0) (before : Trail) (client : ℕ) (worker : W) (old new : JobValue W) (left : Left P W)
+left_by : {W P K I B S : Type 0} (Leaves : ℕ → W → W → SessionValue → Option UpkeepValue → Type 0) (before : Trail) (client : ℕ) (worker : W) (old new : JobValue W) (left : Left P W K I B S)
     → IsNewJob client worker old → Ran Leaves old new → IsLeftOf new left → (client ≡ 0 → taken_of new.upkeep ≡ Some before) → LeftBy Leaves before client worker left
 left_by Leaves before client worker old new left is ran leaves taken = record {
   returned = ran.returned;
@@ -115,13 +117,12 @@ left_by Leaves before client worker old new left is ran leaves taken = record {
       (subst (λ w. Leaves old.session.client w left.worker ran.returned new.upkeep) is.worker_is (subst (λ w. Leaves old.session.client old.worker w ran.returned new.upkeep) (sym leaves.worker) ran.leaves));
   taken = taken;
   held = leaves.held ∙ ran.held;
-  after = new.session.said;
-  back = ran.back;
-  settled = (λ yes. ran.settled.0 (sym leaves.settled ∙ yes), λ none. leaves.settled ∙ ran.settled.1 none);
-  said = ap (λ b. reverse left.said.items ++ b) (sym ran.before) ∙ leaves.said;
+  back = subst (GoBack ran.returned.said) (sym leaves.said) ran.back;
+  settled = (λ yes. ap held_passes leaves.said ∙ ran.settled.0 (sym leaves.settled ∙ yes), λ none. leaves.settled ∙ ran.settled.1 (sym (ap held_passes leaves.said) ∙ none));
+  cut = leaves.before ∙ ran.before;
 }
 
-each_left : {W P : Type 0} (Leaves : ℕ → W → W → SessionValue → Option UpkeepValue → Type 0) (before : Trail) (n : ℕ) (workers : List W) (olds news : List (JobValue W)) (lefts : List (Left P W))
+each_left : {W P K I B S : Type 0} (Leaves : ℕ → W → W → SessionValue → Option UpkeepValue → Type 0) (before : Trail) (n : ℕ) (workers : List W) (olds news : List (JobValue W)) (lefts : List (Left P W K I B S))
     → SideBySide IsNewJob n workers olds → length news ≡ length olds → EachRan Leaves olds news → SideBySide (λ _. IsLeftOf) n news lefts → (n ≡ 0 → 0 < length news → taken_by news ≡ Some before) → SideBySide (LeftBy Leaves before) n workers lefts
 each_left Leaves before n [] [] [] [] new len ran left taken = tt
 each_left Leaves before n (w ∷ workers) (o ∷ olds) (j ∷ news) (l ∷ lefts) new len ran left taken = (
@@ -135,7 +136,7 @@ each_left Leaves before n [] [] [] (l ∷ lefts) new len ran left taken = absurd
 each_left Leaves before n (w ∷ workers) (o ∷ olds) [] lefts new len ran left taken = absurd (omega (arith, len))
 each_left Leaves before n (w ∷ workers) (o ∷ olds) (j ∷ news) [] new len ran left taken = absurd left
 
-pub all_left_by : {W P : Type 0} (Leaves : ℕ → W → W → SessionValue → Option UpkeepValue → Type 0) (taken before : Trail) (workers : List W) (olds news : List (JobValue W)) (lefts : List (Left P W))
+pub all_left_by : {W P K I B S : Type 0} (Leaves : ℕ → W → W → SessionValue → Option UpkeepValue → Type 0) (taken before : Trail) (workers : List W) (olds news : List (JobValue W)) (lefts : List (Left P W K I B S))
     → SideBySide IsNewJob 0 workers olds → length news ≡ length olds → EachRan Leaves olds news → SideBySide (λ _. IsLeftOf) 0 news lefts → taken_by news ≡ Some taken → before ≡ taken → SideBySide (LeftBy Leaves before) 0 workers lefts
 all_left_by Leaves taken before workers olds news lefts new len ran left is whole =
     each_left Leaves before 0 workers olds news lefts new len ran left (λ _ _. is ∙ ap Some (sym whole))

@@ -1,5 +1,5 @@
 -- What one worker's thread is given, and what it leaves.
-use Rattle.std.specs.Prelude.{◌≡◌, ◌↔◌, ℕ, Bool, true, List, [], ◌∷◌, ◌++◌, reverse, length, Option, Some, None, IsSome}
+use Rattle.std.specs.Prelude.{◌≡◌, ◌↔◌, ℕ, Bool, true, List, [], ◌∷◌, length, Option, Some, None, IsSome}
 use Rattle.bp_trail.specs.Trail.{Trail}
 use Rattle.bp_trail.specs.Script.{held_passes}
 use Rattle.bp_shared.specs.Sessions.{SessionValue, new_session}
@@ -29,10 +29,11 @@ pub record Ran {W : Type 0} (Leaves : ℕ → W → W → SessionValue → Optio
   pub settled : (new.is_settled ≡ true) ↔ (held_passes new.session.said ≡ [])
   pub upkeep : IsSome old.upkeep → IsSome new.upkeep
 
--- what it leaves, with what cuts left of its list
-pub record IsLeftOf {P W : Type 0} (j : JobValue W) (left : Left P W) : Type 0 where
+-- what it leaves, with its list, and what cuts handed out of that
+pub record IsLeftOf {P W K I B S : Type 0} (j : JobValue W) (left : Left P W K I B S) : Type 0 where
   pub worker : left.worker ≡ j.worker
-  pub said : reverse left.said.items ++ j.session.before ≡ j.session.said
+  pub before : left.book.before ≡ j.session.before
+  pub said : left.book.said ≡ j.session.said
   pub held : left.held ≡ j.held
   pub settled : left.is_settled ≡ j.is_settled
 

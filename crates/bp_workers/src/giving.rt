@@ -5,6 +5,7 @@ ghost use Rattle.bp_shared.specs.Sessions.{UnfixSaid};
 ghost use Rattle.bp_workers.specs.Giving.{GoBack};
 
 use bp_core::Pass;
+use bp_keeper::ListKeeper;
 use bp_page::Refusal;
 use bp_shared::{PoolName, Session, SharedPool};
 use std::sync::Wait;
@@ -13,10 +14,10 @@ use std::sync::Wait;
 ///
 /// `UnknownPass` where the session's own list does not give this pass, or gave it back already; else `RingFull` where
 /// the ring is full still. Both hand the pass back and change nothing.
-pub fn give_back<N: PoolName, R: Wait>(
+pub fn give_back<N: PoolName, K: ListKeeper, R: Wait>(
     rt: &R,
-    pool: &SharedPool<N>,
-    session: &mut Session<N>,
+    pool: &SharedPool<N, K>,
+    session: &mut Session<N, K>,
     pass: Pass,
 ) -> Result<(), (Pass, Refusal)>
     ensures client { session.new.client ≡ session.old.client }
@@ -33,7 +34,11 @@ pub fn give_back<N: PoolName, R: Wait>(
 }
 
 /// Gives the pass back that a session took first of those that it holds, if it holds one and can.
-fn give_first_back<N: PoolName, R: Wait>(rt: &R, pool: &SharedPool<N>, session: &mut Session<N>)
+fn give_first_back<N: PoolName, K: ListKeeper, R: Wait>(
+    rt: &R,
+    pool: &SharedPool<N, K>,
+    session: &mut Session<N, K>,
+)
     ensures client { session.new.client ≡ session.old.client }
     ensures before { session.new.before ≡ session.old.before }
     ensures back { GoBack session.old.said session.new.said }
@@ -50,10 +55,10 @@ fn give_first_back<N: PoolName, R: Wait>(rt: &R, pool: &SharedPool<N>, session: 
 }
 
 /// Gives back all passes that a session holds, in the order taken. Whether it could.
-pub(crate) fn give_back_all<N: PoolName, R: Wait>(
+pub(crate) fn give_back_all<N: PoolName, K: ListKeeper, R: Wait>(
     rt: &R,
-    pool: &SharedPool<N>,
-    session: &mut Session<N>,
+    pool: &SharedPool<N, K>,
+    session: &mut Session<N, K>,
 ) -> bool
     ensures client { session.new.client ≡ session.old.client }
     ensures before { session.new.before ≡ session.old.before }

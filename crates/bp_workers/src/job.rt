@@ -3,21 +3,22 @@
 use crate::giving::give_back_all;
 use crate::worker::{Client, Left, Upkeep, Worker};
 use bp_device::Port;
+use bp_keeper::ListKeeper;
 use bp_shared::{PoolName, SharedPool};
 use std::marker::Model;
 use std::sync::Wait;
 
 /// What one worker's thread is given, and what it leaves.
 #[derive(Drop)]
-pub(crate) struct Job<N: PoolName, P: Port, W: Worker<P>> {
+pub(crate) struct Job<N: PoolName, P: Port, K: ListKeeper, W: Worker<P, K>> {
     worker: W,
-    client: Client<N, P>,
+    client: Client<N, P, K>,
     upkeep: Option<Upkeep<N>>,
     held: usize,
     is_settled: bool,
 }
 
-impl<N: PoolName, P: Port, W: Worker<P>> Model for Job<N, P, W> {
+impl<N: PoolName, P: Port, K: ListKeeper, W: Worker<P, K>> Model for Job<N, P, K, W> {
     ghost use Rattle.bp_workers.specs.Workers.{held_upkeep};
     ghost use Rattle.bp_workers.specs.Jobs.{JobValue};
 
@@ -32,12 +33,16 @@ impl<N: PoolName, P: Port, W: Worker<P>> Model for Job<N, P, W> {
     } };
 }
 
-impl<N: PoolName, P: Port, W: Worker<P>> Job<N, P, W> {
+impl<N: PoolName, P: Port, K: ListKeeper, W: Worker<P, K>> Job<N, P, K, W> {
     ghost use Rattle.std.specs.Prelude.{◌≡◌};
     ghost use Rattle.bp_workers.specs.Workers.{held_upkeep};
     ghost use Rattle.bp_workers.specs.Jobs.{IsReady, Ran, IsLeftOf};
 
-    pub(crate) fn new(worker: W, client: Client<N, P>, upkeep: Option<Upkeep<N>>) -> Job<N, P, W>
+    pub(crate) fn new(
+        worker: W,
+        client: Client<N, P, K>,
+        upkeep: Option<Upkeep<N>>,
+    ) -> Job<N, P, K, W>
         ensures worker { result.worker ≡ worker }
         ensures session { result.session ≡ client.session }
         ensures upkeep { result.upkeep ≡ held_upkeep upkeep }
@@ -52,7 +57,7 @@ impl<N: PoolName, P: Port, W: Worker<P>> Job<N, P, W> {
     }
 
     /// Lets the worker do its work, and then gives back the passes that it still holds.
-    pub(crate) fn run<R: Wait>(&mut self, rt: &R, pool: &SharedPool<N>)
+    pub(crate) fn run<R: Wait>(&mut self, rt: &R, pool: &SharedPool<N, K>)
         requires ready { IsReady self.old }
         ensures ran { Ran W.leaves self.old self.new }
     {
@@ -65,7 +70,7 @@ impl<N: PoolName, P: Port, W: Worker<P>> Job<N, P, W> {
     }
 
     /// What the job left, and its upkeep. It takes no memory.
-    pub(crate) fn into_left(self) -> (Left<P, W>, Option<Upkeep<N>>)
+    pub(crate) fn into_left(self) -> (Left<P, W, K>, Option<Upkeep<N>>)
         ensures left { IsLeftOf self result.0 }
         ensures upkeep { held_upkeep result.1 ≡ self.upkeep }
     {
@@ -80,7 +85,7 @@ impl<N: PoolName, P: Port, W: Worker<P>> Job<N, P, W> {
         let left = Left {
             worker,
             port,
-            said: session.into_said(),
+            book: session.into_book(),
             held,
             is_settled,
         };

@@ -1,16 +1,19 @@
 //! Workers over one buffer pool: a thread, a session and a port for each.
 //!
 //! `run_workers` picks the name on which pool, sessions and mark agree, so that its callers need not. What it answers
-//! is the workers, their lists and the core, whose trail is one legal history.
+//! is the workers, their lists and the core, whose trail is one legal history. `run_workers_over` does so over a pool of
+//! any kind.
 #![tactic(auto)]
 
 mod giving;
 mod job;
+pub mod kinds;
 mod log_writer;
 pub mod run;
 pub mod worker;
 
 pub use giving::give_back;
+pub use kinds::Kind;
 pub use log_writer::LogWriter;
-pub use run::{Config, Run, run_workers};
+pub use run::{Config, Run, run_workers, run_workers_over};
 pub use worker::{Client, Left, Upkeep, Worker};

@@ -1,6 +1,7 @@
 //! The one who says how far the log of a pool is durable.
 ghost use Rattle.std.specs.Prelude.{◌≡◌};
 
+use bp_keeper::ListKeeper;
 use bp_mark::LogEnd;
 use bp_page::Lsn;
 use bp_shared::{PoolName, SharedPool};
@@ -49,7 +50,7 @@ impl<N: PoolName> LogWriter<N> {
     ///
     /// Call it only once the log is durable so far, for the pool then lets pages of that LSN go out. After a start call
     /// it with the LSN of the log's last durable record.
-    pub fn raise(&mut self, pool: &SharedPool<N>, lsn: Lsn)
+    pub fn raise<K: ListKeeper>(&mut self, pool: &SharedPool<N, K>, lsn: Lsn)
         ensures { self.new ≡ max self.old lsn }
     {
         self.end.raise(pool.mark(), lsn);

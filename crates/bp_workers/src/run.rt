@@ -7,13 +7,15 @@ ghost use Rattle.bp_shared.specs.Sessions.{new_sessions};
 ghost use Rattle.bp_workers.specs.Workers.{upkeep_value, unused_upkeep};
 ghost use Rattle.bp_workers.specs.Jobs.{IsReady, Ran, IsLeftOf, taken_by};
 ghost use Rattle.bp_workers.specs.Lists.{SideBySide};
-ghost use Rattle.bp_workers.specs.Runs.{run_parameters, FitTogether, CanRun, RunAnswers, LeftBy, IsNewJob, IsOfPool};
+ghost use Rattle.bp_workers.specs.Runs.{run_parameters, FitTogether, CanRun, CanRunUpTo, RunAnswers, LeftBy, IsNewJob, IsOfPool};
 
 use crate::job::Job;
+use crate::kinds::Kind;
 use crate::log_writer::LogWriter;
 use crate::worker::{Client, Left, Upkeep, Worker};
-use bp_core::Core;
+use bp_core::PoolCore;
 use bp_device::Port;
+use bp_keeper::{ListKeeper, RecordingKeeper};
 use bp_lruk::Settings;
 use bp_mark::{LogEnd, Mark, Reader};
 use bp_page::{Geometry, Refusal};
@@ -36,21 +38,21 @@ pub struct Config {
 
 /// What is there after all workers have returned.
 #[derive(Drop)]
-pub struct Run<P: Port, W: Worker<P>> {
+pub struct Run<P: Port, W: Drop, K: ListKeeper = RecordingKeeper> {
     /// The core of the pool. Its trail has all entries that the worker of client 0 did not cut.
-    pub core: Core,
+    pub core: PoolCore<K>,
     /// What each worker left, in the order in which they were given.
-    pub left: Vec<Left<P, W>>,
+    pub left: Vec<Left<P, W, K>>,
 }
 
 /// A job for each session, with the port and the worker of the same number. The first has the upkeep.
-fn make_jobs<N: PoolName, P: Port, W: Worker<P>>(
+fn make_jobs<N: PoolName, P: Port, K: ListKeeper, W: Worker<P, K>>(
     alloc: Global,
-    sessions: Vec<Session<N>>,
+    sessions: Vec<Session<N, K>>,
     ports: Vec<P>,
     workers: Vec<W>,
     upkeep: Upkeep<N>,
-) -> Result<Vec<Job<N, P, W>>, Refusal>
+) -> Result<Vec<Job<N, P, K, W>>, Refusal>
     requires sessions { sessions.items ≡ new_sessions (vec_len workers) }
     requires ports { vec_len ports ≡ vec_len workers }
     requires of_pool { All (λ p. IsOfPool N.parameters (P.geometry_of p)) ports.items }
@@ -82,9 +84,10 @@ fn make_jobs<N: PoolName, P: Port, W: Worker<P>>(
 fn run_jobs<
     N: PoolName + Send + Sync,
     P: Port + Send,
-    W: Worker<P> + Send,
+    K: Kind,
+    W: Worker<P, K> + Send,
     R: Threads + Wait + Sync,
->(rt: &R, pool: &SharedPool<N>, jobs: &mut [Job<N, P, W>])
+>(rt: &R, pool: &SharedPool<N, K>, jobs: &mut [Job<N, P, K, W>])
     requires some { 0 < length jobs.old }
     requires ready { All IsReady jobs.old }
     ensures counted { length jobs.new ≡ length jobs.old }
@@ -96,10 +99,10 @@ fn run_jobs<
 }
 
 /// What the jobs left, and the taker that the first had. There is room for it, so that no memory is taken.
-fn all_left<N: PoolName, P: Port, W: Worker<P>>(
-    jobs: Vec<Job<N, P, W>>,
-    left: Vec<Left<P, W>>,
-) -> (Taker<N>, Vec<Left<P, W>>)
+fn all_left<N: PoolName, P: Port, K: ListKeeper, W: Worker<P, K>>(
+    jobs: Vec<Job<N, P, K, W>>,
+    left: Vec<Left<P, W, K>>,
+) -> (Taker<N>, Vec<Left<P, W, K>>)
     requires upkeep { IsSome (taken_by jobs.items) }
     requires empty { left.items ≡ [] }
     requires room { vec_len jobs ≤ vec_capacity left }
@@ -128,9 +131,15 @@ fn all_left<N: PoolName, P: Port, W: Worker<P>>(
 fn run_pool<
     N: PoolName + Send + Sync,
     P: Port + Send,
-    W: Worker<P> + Send,
+    K: Kind,
+    W: Worker<P, K> + Send,
     R: Threads + Wait + Sync,
->(rt: &R, alloc: Global, pool: SharedPool<N>, jobs: Vec<Job<N, P, W>>) -> Result<Run<P, W>, Refusal>
+>(
+    rt: &R,
+    alloc: Global,
+    pool: SharedPool<N, K>,
+    jobs: Vec<Job<N, P, K, W>>,
+) -> Result<Run<P, W, K>, Refusal>
     requires some { 0 < vec_len jobs }
     requires ready { All IsReady jobs.items }
     requires upkeep { IsSome (taken_by jobs.items) }
@@ -153,17 +162,18 @@ fn run_pool<
 fn run_named<
     N: PoolName + Send + Sync,
     P: Port + Send,
-    W: Worker<P> + Send,
+    K: Kind,
+    W: Worker<P, K> + Send,
     R: Threads + Wait + Sync,
 >(
     rt: &R,
     alloc: Global,
-    core: Core,
+    core: PoolCore<K>,
     parts: (Mark, LogEnd, Reader),
     ring: TrailRing,
     ports: Vec<P>,
     workers: Vec<W>,
-) -> Result<Run<P, W>, Refusal>
+) -> Result<Run<P, W, K>, Refusal>
     requires mark { (parts.0 ≡ N.mark) × (parts.1.mark ≡ N.mark) × (parts.2.mark ≡ N.mark) }
     requires raised { parts.1.frontier ≡ 0 }
     requires parameters { core.parameters ≡ N.parameters }
@@ -180,7 +190,7 @@ fn run_named<
     ensures refused { OnErr result (result ≡ Err Refusal.OutOfMemory) }
 {
     let (mark, end, reader) = parts;
-    let (pool, sessions, taker) = match SharedPool::<N>::new(alloc, core, mark, reader, ring) {
+    let (pool, sessions, taker) = match SharedPool::<N, K>::new(alloc, core, mark, reader, ring) {
         Ok(made) => made,
         Err(refusal) => return Err(refusal),
     };
@@ -241,17 +251,61 @@ fn fit_together<P: Port>(config: &Config, ports: &[P], workers: usize) -> bool
 
 /// Runs workers over one pool, each in a thread of its own with a session and a port: `workers[c]` is client c and has
 /// `ports[c]`. The worker of client 0 has the log writer and the taker of the trail too. It waits until all have
-/// returned, and gives back the passes that they still hold.
+/// returned, and gives back the passes that they still hold. The pool is of the kind that K says.
 ///
 /// It takes 1 to 64 workers, and as many ports on devices of the configuration's geometry. At `Ok` each worker did its
 /// work, and what it left stands at its place. The core's entries, those that were cut and its trail, are one legal
 /// history.
 ///
 /// `BadSettings` where the workers are not 1 to 64, the ports are not as many or one is of another geometry, the frames
-/// are not 1 to 65,536 or the room is not 1 to 16,777,216; `OutOfMemory` where memory is wanted. Both come before any
-/// thread starts, and all that was given is dropped. Device faults and the pool's refusals go to the worker that
-/// called, and end no run.
-pub fn run_workers<P: Port + Send, W: Worker<P> + Send, R: Threads + Wait + Sync>(
+/// are not 1 to 65,536 or the room not 1 to its keeper's most, which is 16,777,216 entries in memory, or a count of
+/// 2^61; `OutOfMemory` where memory is wanted. Both come before any thread starts, and all that was given is dropped.
+/// Device faults and the pool's refusals go to the worker that called, and end no run.
+pub fn run_workers_over<K: Kind, P: Port + Send, W: Worker<P, K> + Send, R: Threads + Wait + Sync>(
+    rt: &R,
+    alloc: Global,
+    config: Config,
+    ports: Vec<P>,
+    workers: Vec<W>,
+) -> Result<Run<P, W, K>, Refusal>
+    ensures legal { IfOk result (λ run.
+        Legal (run_parameters config (vec_len workers)) run.core.past) }
+    ensures parameters { IfOk result (λ run.
+        run.core.parameters ≡ run_parameters config (vec_len workers)) }
+    ensures left { IfOk result (λ run.
+        SideBySide (LeftBy W.leaves run.core.before) 0 workers.items run.left.items) }
+    ensures answers { RunAnswers (CanRunUpTo K.MOST_ROOM P.geometry_of config ports.items
+        (vec_len workers)) result }
+{
+    if !fit_together(&config, &ports, workers.len()) {
+        return Err(Refusal::BadSettings);
+    }
+    let clients = workers.len() as u8;
+    let core = match PoolCore::<K>::new(
+        alloc,
+        config.geometry,
+        config.settings,
+        config.frames,
+        clients,
+        config.room,
+    ) {
+        Ok(core) => core,
+        Err(refusal) => return Err(refusal),
+    };
+    let (parts, ring) = match new_parts(alloc) {
+        Ok(made) => made,
+        Err(refusal) => return Err(refusal),
+    };
+    let ran = run_named::<Brand, P, K, W, R>(rt, alloc, core, parts, ring, ports, workers);
+    if let Ok(run) = &ran {
+        run.core.vouch();
+    }
+    ran
+}
+
+/// Runs workers over a pool that has its trail and the sessions' lists in memory, as `run_workers_over` does: the room
+/// is 1 to 16,777,216.
+pub fn run_workers<P: Port + Send, W: Worker<P, RecordingKeeper> + Send, R: Threads + Wait + Sync>(
     rt: &R,
     alloc: Global,
     config: Config,
@@ -267,28 +321,5 @@ pub fn run_workers<P: Port + Send, W: Worker<P> + Send, R: Threads + Wait + Sync
     ensures answers { RunAnswers (CanRun P.geometry_of config ports.items
         (vec_len workers)) result }
 {
-    if !fit_together(&config, &ports, workers.len()) {
-        return Err(Refusal::BadSettings);
-    }
-    let clients = workers.len() as u8;
-    let core = match Core::new(
-        alloc,
-        config.geometry,
-        config.settings,
-        config.frames,
-        clients,
-        config.room,
-    ) {
-        Ok(core) => core,
-        Err(refusal) => return Err(refusal),
-    };
-    let (parts, ring) = match new_parts(alloc) {
-        Ok(made) => made,
-        Err(refusal) => return Err(refusal),
-    };
-    let ran = run_named::<Brand, P, W, R>(rt, alloc, core, parts, ring, ports, workers);
-    if let Ok(run) = &ran {
-        run.core.vouch();
-    }
-    ran
+    run_workers_over::<RecordingKeeper, P, W, R>(rt, alloc, config, ports, workers)
 }

@@ -2,15 +2,17 @@
 ghost use Rattle.std.specs.Prelude.{◌≡◌};
 
 use crate::log_writer::LogWriter;
+use bp_book::Book;
 use bp_core::Entry;
 use bp_device::Port;
+use bp_keeper::{ListKeeper, RecordingKeeper};
 use bp_shared::{PoolName, Session, SharedPool, Taker};
 use std::sync::Wait;
 
 /// One client of a pool: its session, and its port on a device of the pool's pages.
 #[derive(Drop)]
-pub struct Client<N: PoolName, P: Port> {
-    pub session: Session<N>,
+pub struct Client<N: PoolName, P: Port, K: ListKeeper = RecordingKeeper> {
+    pub session: Session<N, K>,
     pub port: P,
     pub ghost pages_are: { (P.geometry_of port).pages ≡ N.parameters.pages },
     pub ghost size_is: { (P.geometry_of port).size ≡ N.parameters.size },
@@ -23,11 +25,12 @@ pub struct Upkeep<N: PoolName> {
     pub taker: Taker<N>,
 }
 
-/// What one client of a pool does, in a thread of its own.
+/// What one client of a pool does, in a thread of its own. The pool is of the kind that K says: over `RecordingKeeper` or
+/// `SilentKeeper`. A worker that serves both is generic over K.
 ///
 /// A refusal is the worker's own to note. Passes that it holds when it returns are given back for it. It has to return,
 /// since the run waits for all workers.
-pub trait Worker<P: Port>: Drop {
+pub trait Worker<P: Port, K: ListKeeper>: Drop {
     ghost use Rattle.std.specs.Prelude.{◌≡◌, ◌<◌, ℕ, Option, Some, None};
     ghost use Rattle.bp_shared.specs.Sessions.{SessionValue, new_session};
     ghost use Rattle.bp_workers.specs.Workers.{UpkeepValue, upkeep_value, unused_upkeep};
@@ -40,8 +43,8 @@ pub trait Worker<P: Port>: Drop {
     fn work<N: PoolName, R: Wait>(
         &mut self,
         rt: &R,
-        pool: &SharedPool<N>,
-        client: &mut Client<N, P>,
+        pool: &SharedPool<N, K>,
+        client: &mut Client<N, P, K>,
     )
         requires new { client.old.session ≡ new_session client.old.session.client }
         requires other { 0 < client.old.session.client }
@@ -51,8 +54,8 @@ pub trait Worker<P: Port>: Drop {
     fn lead<N: PoolName, R: Wait>(
         &mut self,
         rt: &R,
-        pool: &SharedPool<N>,
-        client: &mut Client<N, P>,
+        pool: &SharedPool<N, K>,
+        client: &mut Client<N, P, K>,
         upkeep: &mut Upkeep<N>,
     )
         requires new { client.old.session ≡ new_session 0 }
@@ -63,13 +66,24 @@ pub trait Worker<P: Port>: Drop {
 
 /// What a worker left.
 #[derive(Drop)]
-pub struct Left<P: Port, W: Worker<P>> {
+pub struct Left<P: Port, W: Drop, K: ListKeeper = RecordingKeeper> {
     pub worker: W,
     pub port: P,
-    /// What the worker's cuts left of its session's list, in order.
-    pub said: Vec<Entry>,
+    /// What its session kept for itself: its list, and the passes that did not go back.
+    pub book: Book<K>,
     /// How many passes it held when it returned. They were given back for it.
     pub held: usize,
     /// Whether all of them went back.
     pub is_settled: bool,
+}
+
+impl<P: Port, W: Drop> Left<P, W, RecordingKeeper> {
+    ghost use Rattle.std.specs.Prelude.{◌≡◌, ◌++◌, reverse};
+
+    /// What the worker's cuts left of its session's list, in order.
+    pub fn said(&self) -> &[Entry]
+        ensures { reverse result.now ++ self.now.book.before ≡ self.now.book.said }
+    {
+        self.book.said()
+    }
 }

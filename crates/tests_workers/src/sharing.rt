@@ -51,7 +51,7 @@ fn two_workers_share_pages(rt: HostRuntime) {
     assert_eq!(rt; run.left.len(), 2);
     for client in 0..run.left.len() {
         let left = &run.left[client];
-        assert!(rt; agrees(run.core.trail(), &left.said, client as u8));
+        assert!(rt; agrees(run.core.trail(), left.said(), client as u8));
         assert_eq!(rt; left.worker.done, 12);
         assert_eq!(rt; left.worker.refused, 0);
         assert_eq!(rt; left.held, 0);
@@ -68,7 +68,7 @@ fn passes_still_held_go_back(rt: HostRuntime) {
         assert_eq!(rt; left.held, 1);
         assert!(rt; left.is_settled);
         assert!(rt;
-            matches!(left.said.last(), Some(entry) if matches!(entry.call, Call::Unfix { .. }))
+            matches!(left.said().last(), Some(entry) if matches!(entry.call, Call::Unfix { .. }))
         );
     }
 }
@@ -81,7 +81,7 @@ fn sixty_four_workers(rt: HostRuntime) {
     assert_eq!(rt; run.left.len(), 64);
     for client in 0..run.left.len() {
         let left = &run.left[client];
-        assert!(rt; agrees(run.core.trail(), &left.said, client as u8));
+        assert!(rt; agrees(run.core.trail(), left.said(), client as u8));
         assert_eq!(rt; left.worker.done, 12);
     }
 }

@@ -3,7 +3,7 @@ ghost use Rattle.std.specs.Prelude.{◌<◌};
 
 use crate::judging::{expect_legal, setup_of};
 use crate::making::{config, ports};
-use bp_core::Entry;
+use bp_core::{Entry, RecordingKeeper};
 use bp_device::{MemPort, Port};
 use bp_page::PageNo;
 use bp_shared::{PoolName, SharedPool};
@@ -62,7 +62,7 @@ impl Hoarder {
     }
 }
 
-impl<P: Port> Worker<P> for Hoarder {
+impl<P: Port> Worker<P, RecordingKeeper> for Hoarder {
     fn work<N: PoolName, R: Wait>(
         &mut self,
         rt: &R,
@@ -150,7 +150,7 @@ fn cut_trail_goes_on(rt: HostRuntime) {
     let mut said = 0usize;
     let mut cut = 0usize;
     for left in &run.left {
-        said = said.saturating_add(left.said.len());
+        said = said.saturating_add(left.said().len());
         cut = cut.saturating_add(left.worker.cut.len());
     }
     assert!(rt; cut > PASSES);

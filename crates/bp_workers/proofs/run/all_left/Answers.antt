@@ -1,7 +1,8 @@
 -- What one more job left.
-use Rattle.std.proofs.Common.{arith, refl, ap, length}
+use Rattle.std.proofs.Common.{arith, refl, ap, length, rules}
+use Rattle.std.specs.Vec.Iter.{into_iter_items}
 use Rattle.bp_workers.specs.Jobs.{IsLeftOf}
-use Rattle.bp_workers.proofs.Lining.{one_beside}
+use Rattle.bp_workers.proofs.Lining.{one_beside, all_beside}
 use Rattle.bp_workers.proofs.run.all_left.Goals as goal
 
 pub loop-job-preserved : goal.loop-job-preserved
@@ -9,3 +10,7 @@ loop-job-preserved g c = record {
   made = one_beside (λ _. IsLeftOf) _ _ _ _ _ c.in-Some-job.job _ _ c.loop-job.invariant.made c.in-Some-job.ensures.steps.0 c.push_reserved-in-loop-job.ensures.items refl c.into_left-one-in-loop-job.ensures.left;
   room = omega (arith, c.loop-job.invariant.room, ap length c.in-Some-job.ensures.steps.0, c.push_reserved-in-loop-job.ensures.len, c.push_reserved-in-loop-job.ensures.capacity);
 }
+
+pub returns-clause-left : goal.returns-clause-left
+returns-clause-left g c =
+    all_beside (λ _. IsLeftOf) c.args.jobs.items (into_iter_items c.loop-job.job-iterator) c.loop-job.left.items c.loop-job.invariant.made (search (rules, c.in-None.ensures.steps))

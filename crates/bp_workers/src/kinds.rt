@@ -1,0 +1,34 @@
+//! The kinds of pool that workers may share.
+use bp_keeper::{GhostImage, ListKeeper, RecordingKeeper, SilentKeeper};
+use bp_page::{Bytes, Image};
+use std::marker::Send;
+
+/// A keeper whose pool many threads may share. What it works with may go to another thread, and is named for that.
+pub trait Kind: ListKeeper<
+    SpareImage = <Self as Kind>::SentImage,
+    SpareBytes = <Self as Kind>::SentBytes,
+    Blank = <Self as Kind>::SentBlank,
+>
+    + Send {
+    type SentImage: Drop + Send;
+
+    type SentBytes: Drop + Send;
+
+    type SentBlank: Drop + Send;
+}
+
+impl Kind for RecordingKeeper {
+    type SentImage = Image;
+
+    type SentBytes = Bytes;
+
+    type SentBlank = Image;
+}
+
+impl Kind for SilentKeeper {
+    type SentImage = GhostImage;
+
+    type SentBytes = ();
+
+    type SentBlank = ();
+}
