@@ -1,5 +1,5 @@
 -- A port to the pages of a run, in memory or on disk.
-use Rattle.std.specs.Prelude.{◌≡◌, ⊥, ℕ, Bool, List, length, All, Result}
+use Rattle.std.specs.Prelude.{◌≡◌, ℕ, Bool, List, length, All, Result}
 use Rattle.bp_page.specs.declared.refusals.PortFault.{PortFault}
 use Rattle.bp_device.specs.Ports.{ReadsPage, WritesPage}
 use Rattle.bp_device.specs.Files.{ReadsFile, WritesFile}
