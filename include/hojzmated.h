@@ -8,7 +8,7 @@
  * would have written as it was, but for hz_fixed, whose kind is then 0. Any client, page, offset, length, pass
  * or ticket may be passed: what is not of this core is refused. Where a call may be refused for several reasons, the
  * first of those listed with it is told. Each handle has to be zero, or as these calls left it, each pointer not null
- * and of its type, with so many elements where a length follows it, and no two of a call may overlap.
+ * and of its type, with so many elements where a length follows it, and no two of a call may overlap. A bool is 0 or 1.
  */
 #ifndef HOJZMATED_H
 #define HOJZMATED_H
@@ -34,7 +34,8 @@ enum hz_refusal {
     HZ_WRITE_FAILED = 18,
     HZ_WRONG_PAGE = 19,
     HZ_TRAIL_FULL = 20, /* the room left is less than 3 for hz_fix, 2 for hz_flush, 1 for the others. A pass or a ticket
-                           to write that is out keeps 1 for its end, a ticket to read 2: so no end is refused */
+                           to write that is out keeps 1 for its end, a ticket to read 2: so no end is refused for want
+                           of room */
     HZ_CLOCK_FULL = 21,
     HZ_OUT_OF_MEMORY = 22,
     HZ_BAD_CLIENT = 41,
@@ -106,9 +107,9 @@ uint16_t hz_core_free(hz_core *core);
 
 /* Fixes a page, which pins it. The buffer has the page size: where a page is to be written out first, its image is
  * copied there, and else it stays as it was. Refused: 41. 45 where the page is not of the file or len is not the page
- * size. 20. 13 where a read of the page is under way. 11 where no page may leave its frame: each is pinned, being
- * written out, or was referenced within the correlated period. 12 where the victim's log record is not durable yet:
- * out->lsn tells it. 22 where the page is here, or is to be read or written. */
+ * size. 20. 13 where a read of the page is under way. 11 where no page may leave its frame: each is being read, pinned,
+ * being written out, or was referenced within the correlated period. 12 where the victim's log record is not durable
+ * yet: out->lsn tells it. 22 where the page is here, or is to be read or written. */
 uint16_t hz_fix(hz_core *core, uint8_t client, uint64_t page, uint8_t *buffer, size_t len, hz_fixed *out);
 
 /* Ends a read: the page is in a frame, and pass is a pass for it. Refused: 45 where len is not the page size; 16; 22,
