@@ -1,4 +1,4 @@
-/* Each refusal and each field of an answer, once at least, with what the header says of them. The whole is then done
+/* Each refusal, and each field of an answer of each kind, once at least, with what the header says of them. The whole is then done
  * again with one request for memory refused, the first, then the second and so on: the call that is refused for it
  * is made again, and has to answer what it had to answer at first. Only what makes a core, or gives a pass, a ticket or
  * a copy, takes memory.
@@ -220,7 +220,13 @@ static void strangers(void)
     CALL(HZ_OUT_OF_PAGE, hz_read_end(&core, &stranger, image, SIZE - 1, &pass));
     CALL(HZ_OUT_OF_PAGE, hz_read(&core, &stranger, 9, image, 8));
     CALL(HZ_OUT_OF_PAGE, hz_read(&core, &stranger, SIZE_MAX, image, 1));
+    CALL(HZ_OUT_OF_PAGE, hz_read(&core, &stranger, SIZE + 1, image, 0));
     CALL(HZ_OUT_OF_PAGE, hz_write(&core, &stranger, 17, image, 0, 1));
+    CALL(HZ_OUT_OF_PAGE, hz_write(&core, &stranger, SIZE_MAX, image, 1, 1));
+    CALL(HZ_OUT_OF_PAGE, hz_fix(&core, 0, 1ull << 32, image, SIZE, &out));
+    CALL(HZ_OUT_OF_PAGE, hz_fix(&core, 0, UINT64_MAX, image, SIZE, &out));
+    CALL(HZ_OUT_OF_PAGE, hz_fix(&core, 0, 7, image, 0, &out));
+    CALL(HZ_BAD_CLIENT, hz_tick(&core, 255, 1));
     CALL(HZ_UNKNOWN_PASS, hz_read(&core, &stranger, 0, image, SIZE));
     CALL(HZ_UNKNOWN_PASS, hz_write(&core, &stranger, 0, image, SIZE, 1));
     CALL(HZ_UNKNOWN_PASS, hz_unfix(&core, &stranger));
@@ -232,14 +238,39 @@ static void strangers(void)
     SAME(ODD, count);
 }
 
+/* What differs in one field from a pass or a ticket that is out is a stranger. */
+static void nearly(const hz_grant *own)
+{
+    const hz_grant others[] = {
+        {.page = own->page, .serial = own->serial, .client = !own->client},
+        {.page = own->page, .serial = own->serial, .client = 255},
+        {.page = own->page + (1ull << 32), .serial = own->serial, .client = own->client},
+        {.page = UINT64_MAX, .serial = own->serial, .client = own->client},
+        {.page = own->page, .serial = own->serial + (1ull << 32), .client = own->client},
+        {.page = own->page, .serial = UINT64_MAX, .client = own->client},
+    };
+    uint8_t image[SIZE] = {0}, dirty;
+    hz_grant pass;
+    for (size_t i = 0; i < sizeof others / sizeof *others; i++) {
+        CALL(HZ_UNKNOWN_TICKET, hz_read_end(&core, &others[i], image, SIZE, &pass));
+        CALL(HZ_UNKNOWN_TICKET, hz_read_failed(&core, &others[i], false));
+        CALL(HZ_UNKNOWN_TICKET, hz_write_end(&core, &others[i], true, &dirty));
+        CALL(HZ_UNKNOWN_PASS, hz_unfix(&core, &others[i]));
+        CALL(HZ_UNKNOWN_PASS, hz_read(&core, &others[i], 0, image, SIZE));
+        CALL(HZ_UNKNOWN_PASS, hz_write(&core, &others[i], 0, image, SIZE, 1));
+    }
+}
+
 /* Page 3 is read: twice in vain, and then well. Tickets 0 to 2. Gives its pass 0. */
 static hz_grant loads(void)
 {
-    uint8_t image[SIZE];
+    uint8_t image[SIZE], dirty;
     filled(image, ODD);
     CALL(HZ_DONE, hz_fix(&core, 0, 3, image, SIZE, &out));
     GAVE(HZ_LOAD, 0, 3, 0, 0, 0, 0);
     hz_grant ticket = out.grant;
+    nearly(&ticket);
+    CALL(HZ_UNKNOWN_TICKET, hz_write_end(&core, &ticket, true, &dirty));
     CALL(HZ_BUSY, hz_fix(&core, 1, 3, image, SIZE, &out));
     GAVE(0, 1, 3, 0, 0, 0, 0);
     CALL(HZ_BUSY, hz_flush(&core, 1, 3, image, SIZE, &out));
@@ -264,6 +295,7 @@ static void parts(const hz_grant *pass)
 {
     uint8_t image[SIZE], part[4] = {1, 2, 3, 4};
     filled(image, ODD);
+    nearly(pass);
     CALL(HZ_DONE, hz_fix(&core, 1, 3, image, SIZE, &out));
     GAVE(HZ_HIT, 1, 3, 1, 0, 0, 0);
     SAME(true, is_filled(image, SIZE, ODD));
@@ -272,6 +304,7 @@ static void parts(const hz_grant *pass)
     CALL(HZ_DONE, hz_read(&core, &other, 11, image, 5));
     SAME(true, image[0] == 0x33 && !memcmp(image + 1, part, sizeof part) && is_filled(image + 5, SIZE - 5, ODD));
     CALL(HZ_DONE, hz_read(&core, &other, SIZE, image, 0));
+    CALL(HZ_DONE, hz_write(&core, &other, SIZE, image, 0, 7));
     CALL(HZ_DONE, hz_unfix(&core, &other));
     CALL(HZ_UNKNOWN_PASS, hz_unfix(&core, &other));
     CALL(HZ_UNKNOWN_PASS, hz_read(&core, &other, 0, image, SIZE));
@@ -294,7 +327,9 @@ static void flushes(const hz_grant *pass)
     memset(last, 0x33, 12);
     memcpy(last + 12, (uint8_t[]){1, 2, 3, 4}, 4);
     SAME(0, memcmp(image, last, SIZE));
-    hz_grant ticket = out.grant;
+    hz_grant ticket = out.grant, none;
+    nearly(&ticket);
+    CALL(HZ_UNKNOWN_TICKET, hz_read_end(&core, &ticket, image, SIZE, &none));
     CALL(HZ_BUSY, hz_flush(&core, 0, 3, image, SIZE, &out));
     CALL(HZ_WRITE_FAILED, hz_write_end(&core, &ticket, false, &dirty));
     CALL(HZ_UNKNOWN_TICKET, hz_write_end(&core, &ticket, true, &dirty));
@@ -495,6 +530,9 @@ int main(void)
     do {
         requests = refusals = 0;
         all();
+        /* A refused request is told by the one call that met it. */
+        if (refused && requests >= refused)
+            SAME(1, refusals);
         refused++;
     } while (refused == 1 || requests >= refused - 1);
     for (size_t i = 0; i < TAKERS; i++)
