@@ -1,6 +1,6 @@
 //! Workers that write to all pages in turn.
-use bp_core::RecordingKeeper;
 use bp_device::Port;
+use bp_keeper::ListKeeper;
 use bp_page::{Bytes, Lsn, Refusal};
 use bp_shared::{PoolName, SharedPool};
 use bp_workers::{Client, Upkeep, Worker, give_back};
@@ -46,11 +46,11 @@ impl Writer {
         }
     }
 
-    fn run<N: PoolName, P: Port, R: Wait>(
+    fn run<N: PoolName, P: Port, K: ListKeeper, R: Wait>(
         &mut self,
         rt: &R,
-        pool: &SharedPool<N>,
-        client: &mut Client<N, P>,
+        pool: &SharedPool<N, K>,
+        client: &mut Client<N, P, K>,
     ) {
         for round in 0..self.rounds {
             for number in 0..client.port.geometry().pages {
@@ -66,12 +66,12 @@ impl Writer {
     }
 }
 
-impl<P: Port> Worker<P, RecordingKeeper> for Writer {
+impl<P: Port, K: ListKeeper> Worker<P, K> for Writer {
     fn work<N: PoolName, R: Wait>(
         &mut self,
         rt: &R,
-        pool: &SharedPool<N>,
-        client: &mut Client<N, P>,
+        pool: &SharedPool<N, K>,
+        client: &mut Client<N, P, K>,
     ) {
         self.run(rt, pool, client);
     }
@@ -79,8 +79,8 @@ impl<P: Port> Worker<P, RecordingKeeper> for Writer {
     fn lead<N: PoolName, R: Wait>(
         &mut self,
         rt: &R,
-        pool: &SharedPool<N>,
-        client: &mut Client<N, P>,
+        pool: &SharedPool<N, K>,
+        client: &mut Client<N, P, K>,
         upkeep: &mut Upkeep<N>,
     ) {
         upkeep.log.raise(pool, Lsn::new(DURABLE));
@@ -89,10 +89,10 @@ impl<P: Port> Worker<P, RecordingKeeper> for Writer {
 }
 
 /// Fixes page 0, and forgets that it did.
-fn keep_first<N: PoolName, P: Port, R: Wait>(
+fn keep_first<N: PoolName, P: Port, K: ListKeeper, R: Wait>(
     rt: &R,
-    pool: &SharedPool<N>,
-    client: &mut Client<N, P>,
+    pool: &SharedPool<N, K>,
+    client: &mut Client<N, P, K>,
 ) -> Result<(), Refusal> {
     let Some(page) = client.port.geometry().page(0) else {
         return Err(Refusal::OutOfPage);
@@ -107,11 +107,11 @@ fn keep_first<N: PoolName, P: Port, R: Wait>(
 }
 
 /// Writes the client's number to the front of a page.
-fn write_page<N: PoolName, P: Port, R: Wait>(
+fn write_page<N: PoolName, P: Port, K: ListKeeper, R: Wait>(
     rt: &R,
     alloc: Global,
-    pool: &SharedPool<N>,
-    client: &mut Client<N, P>,
+    pool: &SharedPool<N, K>,
+    client: &mut Client<N, P, K>,
     number: u64,
     lsn: u64,
 ) -> Result<(), Refusal> {
