@@ -89,10 +89,10 @@ fn refer(
 
 /// Counts what a pool of so many frames does with the references where the page that leaves is the one that is due
 /// last: of all pages in frames, its next reference is the farthest. Each page is brought in where it is referred to.
-/// No pool that does so has fewer faults, as Belady found; that is not proved here.
+/// No other choice of the pages that leave gives fewer faults, as Belady found; that is not proved here.
 ///
-/// It takes eight bytes of memory for each reference, and eight for each page up to the greatest. `AllocError` where
-/// there is no memory.
+/// It takes eight bytes of memory for each reference, eight for each page up to the greatest, and a tree of the pages in
+/// frames. `AllocError` where there is no memory.
 pub fn count_optimum(
     alloc: Global,
     references: &[u32],

@@ -87,7 +87,8 @@ impl<N: PoolName, K: ListKeeper> Session<N, K> {
         self.book.held()
     }
 
-    /// Ends the session and gives what it kept for itself: its own list, and the passes that it holds. It takes no memory.
+    /// Ends the session and gives what it kept for itself: its own list, and the passes that it holds. It takes no
+    /// memory.
     pub fn into_book(self) -> Book<K>
         ensures client { result.client ≡ self.client }
         ensures before { result.before ≡ self.before }

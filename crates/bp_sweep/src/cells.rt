@@ -20,8 +20,8 @@ pub struct Plan {
 }
 
 /// Counts the cell of each plan, in order: the references over a new pool with its frames and settings, as
-/// `count_references` does. It stops at the first that is refused, with that refusal; `OutOfMemory` too where there
-/// is no memory for the counts.
+/// `count_references` does. It stops at a cell that is refused, with its refusal; which one that is, is not promised.
+/// `OutOfMemory` too where there is no memory for the counts.
 #[tactic(auto, using(crate::proofs::Sweeping::cell_refuses))]
 pub fn count_cells<P: Port, R: Wait>(
     rt: &R,

@@ -3,7 +3,8 @@ use bp_keeper::{GhostImage, ListKeeper, RecordingKeeper, SilentKeeper};
 use bp_page::{Bytes, Image};
 use std::marker::Send;
 
-/// A keeper whose pool many threads may share. What it works with may go to another thread, and is named for that.
+/// A keeper whose pool many threads may share: its images, bytes and blanks may go to another thread. The three types
+/// name them.
 pub trait Kind: ListKeeper<
     SpareImage = <Self as Kind>::SentImage,
     SpareBytes = <Self as Kind>::SentBytes,

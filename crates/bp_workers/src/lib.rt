@@ -1,8 +1,8 @@
 //! Workers over one buffer pool: a thread, a session and a port for each.
 //!
 //! `run_workers` picks the name on which pool, sessions and mark agree, so that its callers need not. What it answers
-//! is the workers, their lists and the core, whose trail is one legal history. `run_workers_over` does so over a pool of
-//! any kind.
+//! is the workers, their lists and the core, whose trail is one legal history. `run_workers_over` does so over a pool
+//! of any kind.
 #![tactic(auto)]
 
 mod giving;

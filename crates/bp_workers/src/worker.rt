@@ -25,8 +25,8 @@ pub struct Upkeep<N: PoolName> {
     pub taker: Taker<N>,
 }
 
-/// What one client of a pool does, in a thread of its own. The pool is of the kind that K says: over `RecordingKeeper` or
-/// `SilentKeeper`. A worker that serves both is generic over K.
+/// What one client of a pool does, in a thread of its own. The pool is of the kind that K says: over `RecordingKeeper`
+/// or `SilentKeeper`. A worker that serves both is generic over K.
 ///
 /// A refusal is the worker's own to note. Passes that it holds when it returns are given back for it. It has to return,
 /// since the run waits for all workers.

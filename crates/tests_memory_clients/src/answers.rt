@@ -134,7 +134,7 @@ fn follows_from_another(refused: &Refused) -> bool {
 
 /// Asserts that each row which was not refused has its answer in the trail, once and in order, that all passes and
 /// tickets went back, and that nothing was marked, since no row is of the log. One row at most was refused for want of
-/// memory, and others for that alone. It tells whether there was such a row.
+/// memory; the others had no frame or no pass. It tells whether there was such a row.
 pub(crate) fn expect_counted<R: Abort + AllocGlobal>(
     rt: &R,
     rows: &[Row],

@@ -101,8 +101,9 @@ impl<N: PoolName, K: ListKeeper> SharedPool<N, K> {
 
     /// Fixes a page: gives a pass of it, once it is in a frame. The page is read, and an unsaved victim written out first, through the
     /// port and with no lock held; where another client has the page in flight, the call waits for the end of some device work and
-    /// asks again. Before each fix of the core it looks at the mark once. The device does the work of the entries that the list gets, and
-    /// nothing else: each read is of the page, each write of the victim's, with its image.
+    /// asks again. Before each fix of the core it looks at the mark once. The device does the work of the entries that
+    /// the list gets, and nothing else: each read is of the page, each write of the victim's, with its image. This is not
+    /// said where the call answers `UnknownTicket`.
     ///
     /// The session's list gets the events as the trail does. `NoVictim`, `NeedLog`, `ReadFailed`, `WrongPage` and `WriteFailed` are the
     /// reply of the last one. `TrailFull` and `OutOfMemory` make no event, and those made before stand; `UnknownTicket` is the pool's

@@ -59,8 +59,8 @@ impl<N: PoolName, K: ListKeeper> SharedPool<N, K> {
     }
 
     /// Writes a page out if it is unsaved, through the port and with no lock held. Where the page is being read or written out, the call
-    /// waits for the end of some device work and asks again. Before each flush of the core it looks at the mark once. The device does the
-    /// work of the entries that the list gets, as in `fix`.
+    /// waits for the end of some device work and asks again. Before each flush of the core it looks at the mark once.
+    /// The device does the work of the entries that the list gets, as in `fix`.
     ///
     /// The session's list gets the events as the trail does. `NeedLog` and `WriteFailed` are the reply of the last one; `TrailFull`,
     /// `OutOfMemory` and `UnknownTicket` as from `fix`.
