@@ -1,5 +1,6 @@
 -- What a session keeps for itself, and the room in which it keeps what it owes.
-use Rattle.std.specs.Prelude.{◌≡◌, ◌⊎◌, ℕ, ◌+◌, ◌-◌, ◌*◌, ◌≤◌, Bool, true, false, List, [], ◌∷◌, length, filter_map, All, Option, Some, None}
+use Rattle.std.specs.Prelude.{◌≡◌, ◌⊎◌, ℕ, ◌+◌, ◌-◌, ◌*◌, ◌≤◌, Bool, true, false, List, [], ◌∷◌, length, reverse, filter_map, All, Option, Some, None}
+use Rattle.bp_core.specs.declared.passes.Pass.{Pass}
 use Rattle.bp_core.specs.declared.passes.ReadTicket.{ReadTicket}
 use Rattle.bp_core.specs.declared.passes.WriteTicket.{WriteTicket}
 use Rattle.bp_trail.specs.declared.entries.Call.{Call}
@@ -8,6 +9,7 @@ use Rattle.bp_trail.specs.declared.entries.Reply.{Reply}
 use Rattle.bp_trail.specs.declared.entries.Reply.TheVariants.{Hit, Load, WriteFirst, Fixed}
 use Rattle.bp_trail.specs.declared.entries.Entry.{Entry}
 use Rattle.bp_trail.specs.Event.{Grant, grant}
+use Rattle.bp_trail.specs.Legal.{is_out}
 use Rattle.bp_trail.specs.Trail.{Trail}
 use Rattle.bp_trail.specs.Pieces.{by}
 use Rattle.bp_trail.specs.Script.{held_passes}
@@ -23,6 +25,10 @@ pub record BookValue : Type 0 where
   pub entries : ℕ
   pub passes : ℕ
   pub copies : ℕ
+
+-- the pass is among those held
+abbrev pub is_held : Pass → List Grant → Bool
+is_held pass held = is_out (grant pass.client pass.page pass.serial) (reverse held)
 
 -- the passes that a list holds, in the order taken, and how many more may be held with no memory taken
 pub record HeldValue : Type 0 where

@@ -1,10 +1,9 @@
 //! The passes that a list gave and that did not go back.
 ghost use Rattle.std.specs.Prelude.{◌≡◌, ◌≤◌, ◌<◌, ◌+◌, ◌^◌, ◌∷◌, ◌++◌, [], ◌==◌, true, not, filter, drop, length, reverse, IfSome, OnOk, vec_len, vec_capacity};
 ghost use Rattle.bp_trail.specs.Event.{Grant, grant, same_grant};
-ghost use Rattle.bp_trail.specs.Legal.{is_out};
 ghost use Rattle.std.specs.List.{remove};
 ghost use Rattle.bp_frames.specs.Rising.{IsRisingBy, IsPlaceFor, IsPlaceOf};
-ghost use Rattle.bp_book.specs.Books.{MayRise};
+ghost use Rattle.bp_book.specs.Books.{MayRise, is_held};
 
 use bp_core::{Pass, PassNote};
 use std::alloc::{AllocError, Global};
@@ -56,8 +55,7 @@ fn differs(note: &PassNote, serial: u64) -> bool
 
 /// Whether a pass is among those held. The one taken latest is looked at first.
 fn is_held(held: &[PassNote], pass: &Pass) -> bool
-    ensures { result
-        ≡ is_out (grant pass.now.client pass.now.page pass.now.serial) (reverse held.now) }
+    ensures { result ≡ is_held pass.now held.now }
 {
     held.iter().rev().any(|note| is_of(note, pass))
 }
@@ -167,8 +165,7 @@ impl Held {
 
     /// Whether this pass is held.
     pub(crate) fn has(&self, pass: &Pass) -> bool
-        ensures { result
-            ≡ is_out (grant pass.now.client pass.now.page pass.now.serial) (reverse self.now.passes) }
+        ensures { result ≡ is_held pass.now self.now.passes }
     {
         if !self.is_rising {
             return is_held(self.notes(), pass);

@@ -10,7 +10,7 @@ use Rattle.bp_trail.specs.Clock.{clock}
 use Rattle.bp_trail.specs.Passes.{passes, tickets, passes_out, reads_out, writes_out}
 use Rattle.bp_trail.specs.Saved.{top}
 use Rattle.bp_trail.specs.Legal.{is_out, Legal}
-use Rattle.bp_trail.specs.PageMap.{reply_of}
+use Rattle.bp_trail.specs.PageMap.{has_free_frame, reply_of}
 use Rattle.bp_trail.specs.Trail.{Trail}
 use Rattle.bp_trail.specs.Cuts.{LeadsOn}
 use Rattle.bp_trail.specs.declared.entries.Entry.{Entry}
@@ -48,6 +48,17 @@ takes_memory _ = false
 abbrev pub TakesMemory : Call → CoreView → Type 0
 TakesMemory call core =
     EachPast core (λ past. takes_memory (reply_of core.parameters past call) ≡ true)
+
+-- some frame holds no page, and none is to be read into it; or there is none such
+abbrev pub HasFreeFrame : CoreView → Type 0
+HasFreeFrame core = EachPast core (λ past. has_free_frame core.parameters past ≡ true)
+
+abbrev pub IsFull : CoreView → Type 0
+IsFull core = EachPast core (λ past. has_free_frame core.parameters past ≡ false)
+
+-- the lawful reply to a call
+abbrev pub IsReply : CoreView → Call → Reply → Type 0
+IsReply core call reply = EachPast core (λ past. reply ≡ reply_of core.parameters past call)
 
 -- one more entry, of a legal trail
 pub record Adds (old : CoreView) (client : ℕ) (call : Call) (reply : Reply) (new : CoreView)
@@ -109,6 +120,11 @@ BeginOutcome old client call page (Ok ticket) new =
     × Adds old client call (WriteFirst ticket.serial ticket.page ticket.image) new
 BeginOutcome old client call page (Err refusal.OutOfMemory) new = new ≡ old
 BeginOutcome old client call page (Err _) new = ⊥
+
+-- a write-out failed
+abbrev pub AddsFailure : CoreView → ℕ → ℕ → ℕ → CoreView → Type 0
+AddsFailure old client page serial new =
+    Adds old client (WriteEnd serial page false) WriteFailed new
 
 abbrev pub EndedOutcome : CoreView → ℕ → ℕ → ℕ → Ended → CoreView → Type 0
 EndedOutcome old client page serial ended.Cleaned new =

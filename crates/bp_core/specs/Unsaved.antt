@@ -9,5 +9,6 @@ AreSaved from end past = (p : ℕ) → from ≤ p → p < end → unsaved past p
 
 -- the first unsaved page from this number on, or none of so many pages
 abbrev pub FindsUnsaved : ℕ → ℕ → Trail → Option ℕ → Type 0
-FindsUnsaved pages from past (Some page) = (from ≤ page) × (page < pages) × (unsaved past page ≡ true) × AreSaved from page past
+FindsUnsaved pages from past (Some page) =
+    (from ≤ page) × (page < pages) × (unsaved past page ≡ true) × AreSaved from page past
 FindsUnsaved pages from past None = AreSaved from pages past

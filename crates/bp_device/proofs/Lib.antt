@@ -3,6 +3,7 @@ pub mod ClientPasses
 pub mod Driving
 pub mod GivingBack
 pub mod PieceSteps
+pub mod RowCauses
 pub mod RowsWork
 pub mod ScriptSteps
 pub mod SecondTry

@@ -28,7 +28,7 @@ pub rows-none : (core : CoreView) → DrivesRows core [] [] [] core
 rows-none core = record { said = []; ends = []; is = refl; are_held = refl; follows = (refl, refl) }
 
 -- what a piece adds to a core that had one added
-two-pieces : (old mid new : CoreView) (said piece : Trail) → mid ≡ with_piece old said → new ≡ with_piece mid piece → new ≡ with_piece old (piece ++ said)
+pub two-pieces : (old mid new : CoreView) (said piece : Trail) → mid ≡ with_piece old said → new ≡ with_piece mid piece → new ≡ with_piece old (piece ++ said)
 two-pieces old mid new said piece first second = second ∙ ap (λ core. with_piece core piece) first ∙ ap (λ past. let v : CoreView = record old { past = past } in v) (sym (append_assoc piece said old.past))
 
 pub rows-step : (old mid new : CoreView) (rows : List Row) (row : Row) (outcome : Outcome) (refused refused_after : List Refused) (held held_after : List Grant) → DrivesRows old rows refused held mid

@@ -1,8 +1,11 @@
 -- Files that are page files, and what a port to one reads and writes.
-use Rattle.std.specs.Prelude.{◌≡◌, ◌≢◌, ℕ, Bool, true, false, ◌≤◌, ◌/◌, ◌%◌, List, Result, Ok, Err}
+use Rattle.std.specs.Prelude.{◌≡◌, ◌≢◌, ◌⊎◌, ℕ, Bool, true, false, ◌≤◌, ◌/◌, ◌%◌, List, Result, Ok, Err}
 use Rattle.bp_page.specs.Slots.{raw_slot, headed_slot, page_in}
 use Rattle.bp_page.specs.declared.refusals.PortFault.{PortFault}
 use Rattle.bp_page.specs.declared.refusals.PortFault.TheVariants.{Device, Memory, WrongPage}
+use Rattle.bp_page.specs.declared.refusals.Refusal.TheVariants.{BadLength}
+use Rattle.bp_device.specs.declared.files.OpenFault.{OpenFault}
+use Rattle.bp_device.specs.declared.files.OpenFault.TheVariants as open_fault
 use Rattle.bp_device.specs.Ports.{PortView, ReadsPage, WritesPage}
 
 -- a length of whole pages of this size: one at least, and no more than a file may have
@@ -10,6 +13,10 @@ pub record IsFileLength (size bytes : ℕ) : Type 0 where
   pub whole : bytes % size ≡ 0
   pub some_pages : 1 ≤ bytes / size
   pub few_pages : bytes / size ≤ 1048576
+
+-- why a page file is not opened: its length, or what the system answers
+abbrev pub IsOpenFault : OpenFault → Type 0
+IsOpenFault fault = (fault ≡ open_fault.Refused BadLength) ⊎ (fault ≡ open_fault.Port Device) ⊎ (fault ≡ open_fault.Port Memory)
 
 -- what the slot that was read in a page's place gives, where pages stand with their numbers or not: an image is the slot's, and another
 -- page's number in it is told, before memory is asked for

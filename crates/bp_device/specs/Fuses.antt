@@ -1,6 +1,7 @@
 -- A port that fails once: what it leaves on the port below.
 use Rattle.std.specs.Prelude.{◌≡◌, ℕ, Bool, true, false, ◌-◌, List, replicate, Option, Some, None, Result}
 use Rattle.bp_page.specs.declared.refusals.PortFault.{PortFault}
+use Rattle.bp_device.specs.Ports.{IsFailure}
 
 -- the page that a failing write leaves, where one is wanted: all its bytes are 255
 abbrev pub spoiled_page : Bool → ℕ → Option (List ℕ)
@@ -15,6 +16,10 @@ Writing P = List ℕ → Result (Unit {0}) PortFault → P → Type 0
 abbrev pub Spoils : {P : Type 0} → Writing P → Option (List ℕ) → P → P → Type 0
 Spoils writes (Some page) inner after = (written : Result (Unit {0}) PortFault) × writes page written after
 Spoils writes None inner after = after ≡ inner
+
+-- the write that fails: the device's failure, and what it leaves below
+abbrev pub FailsSpoiling : {P : Type 0} → Writing P → Option (List ℕ) → Result (Unit {0}) PortFault → P → P → Type 0
+FailsSpoiling writes spoiled written inner after = IsFailure written × Spoils writes spoiled inner after
 
 -- a call was counted down, and the spoiled page kept
 abbrev pub IsNext : ℕ → Option (List ℕ) → ℕ → Option (List ℕ) → Type 0

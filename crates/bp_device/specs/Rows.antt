@@ -1,12 +1,19 @@
--- What the rows of a script add to a driver's core, and which passes are then held.
-use Rattle.std.specs.Prelude.{◌≡◌, ◌≤◌, ℕ, ◌==◌, List, ◌++◌, reverse}
+-- What the rows of a script add to a driver's core, which passes are then held, and why a row is refused.
+use Rattle.std.specs.Prelude.{◌≡◌, ◌≤◌, ◌<◌, ◌+◌, ◌^◌, ℕ, ◌==◌, List, [], ◌∷◌, ◌++◌, reverse}
+use Rattle.bp_page.specs.declared.refusals.Refusal.{Refusal}
+use Rattle.bp_page.specs.declared.refusals.Refusal.TheVariants as refusal
+use Rattle.bp_page.specs.Refusals.{number_of}
+use Rattle.bp_trail.specs.declared.entries.Call.TheVariants as call
 use Rattle.bp_trail.specs.declared.scripts.Row.{Row}
 use Rattle.bp_trail.specs.declared.scripts.Refused.{Refused}
 use Rattle.bp_trail.specs.declared.scripts.Step.{Step}
+use Rattle.bp_trail.specs.declared.scripts.Step.TheVariants as step
 use Rattle.bp_trail.specs.Lists.{count}
 use Rattle.bp_trail.specs.Event.{Grant}
 use Rattle.bp_trail.specs.Trail.{Trail}
-use Rattle.bp_core.specs.CoreView.{CoreView}
+use Rattle.bp_trail.specs.Clock.{clock}
+use Rattle.bp_core.specs.CoreView.{CoreView, EachPast, HasRoomFor, LacksRoomFor}
+use Rattle.bp_core.specs.Outcomes.{TakesMemory}
 use Rattle.bp_trail.specs.Pieces.{Outcome}
 use Rattle.bp_trail.specs.Pieces.Manner.{driver}
 use Rattle.bp_trail.specs.Script.{held_passes, RowPiece, FollowsBy, GivesBack, Follows}
@@ -60,3 +67,51 @@ pub record AddsScript (old : CoreView) (script : List Row) (refused : List Refus
   pub said : Trail
   pub is : new ≡ with_piece old said
   pub follows : Follows driver script said refused
+
+-- how much room the call of a row asks for
+abbrev pub room_asked : Step → ℕ
+room_asked (step.Fix page) = 3
+room_asked (step.Flush page) = 2
+room_asked _ = 1
+
+-- the clock would pass its limit; only a tick is refused for that
+abbrev pub IsLate : Step → CoreView → Type 0
+IsLate (step.Tick n) core = EachPast core (λ past. 2 ^ 62 < clock past + n)
+IsLate _ core = Unit {0}
+
+-- the row takes memory
+abbrev pub WantsMemory : Step → CoreView → Type 0
+WantsMemory (step.Fix page) core = TakesMemory (call.Fix page) core
+WantsMemory (step.Flush page) core = TakesMemory (call.Flush page) core
+WantsMemory (step.Read page) core = Unit {0}
+WantsMemory (step.Write page offset bytes lsn) core = Unit {0}
+WantsMemory _ core = ⊥
+
+-- why a row is refused, by the core that it leaves: 20 where that lacks the room, 21 where the clock would pass its limit, and 22 where it
+-- has the room and the row takes memory
+abbrev pub RowCaused : Step → Refusal → CoreView → Type 0
+RowCaused s refusal.TrailFull core = LacksRoomFor (room_asked s) core
+RowCaused s refusal.ClockFull core = IsLate s core
+RowCaused s refusal.OutOfMemory core = HasRoomFor (room_asked s) core × WantsMemory s core
+RowCaused s _ core = Unit {0}
+
+-- the rows and their refusals, each newest first, and the entries so far: each refused row had its cause when it ended
+pub data CausedRows (old : CoreView) : List Row → Trail → List Refused → Type 0 where
+  none : CausedRows old [] [] []
+  accepted : {rows : List Row} {said : Trail} {refusals : List Refused} (row : Row) (piece : Trail) → CausedRows old rows said refusals
+      → CausedRows old (row ∷ rows) (piece ++ said) refusals
+  refused : {rows : List Row} {said : Trail} {refusals : List Refused} (row : Row) (piece : Trail) (why : Refusal) → CausedRows old rows said refusals
+      → RowCaused row.step why (with_piece old (piece ++ said)) → CausedRows old (row ∷ rows) (piece ++ said) (record { row = row.row; number = number_of why } ∷ refusals)
+
+-- the rows were driven, each with its cause where it was refused
+pub record DrivesRowsCaused (old : CoreView) (rows : List Row) (refused : List Refused) (held : List Grant) (new : CoreView) : Type 0 where
+  pub driven : DrivesRows old rows refused held new
+  pub caused : CausedRows old (reverse rows) driven.said (reverse refused)
+
+-- the rows of a script had their causes, after which the passes still held went back
+pub record ScriptCaused (old : CoreView) (script : List Row) (refused : List Refused) (new : CoreView) : Type 0 where
+  pub by_rows : Trail
+  pub said : Trail
+  pub is : new ≡ with_piece old said
+  pub caused : CausedRows old (reverse script) by_rows (reverse refused)
+  pub gives_back : GivesBack by_rows said

@@ -1,9 +1,9 @@
 //! A page file, and the port on it.
-ghost use Rattle.std.specs.Prelude.{◌≡◌, ◌≢◌, ◌≤◌, ◌⊎◌, ◌*◌, ◌↔◌, true, IsOk, IfOk, IfErr, OnErr, length, vec_len};
+ghost use Rattle.std.specs.Prelude.{◌≡◌, ◌≢◌, ◌≤◌, ◌*◌, ◌↔◌, true, IsOk, IfOk, IfErr, OnErr, length, vec_len};
 ghost use Rattle.bp_page.specs.Limits.{IsGeometry};
 ghost use Rattle.bp_page.specs.Slots.{page_in, slot_size};
 ghost use Rattle.bp_device.specs.Ports.{PortView, has_headers};
-ghost use Rattle.bp_device.specs.Files.{FoundIn, IsFileLength, ReadsFile, WritesFile};
+ghost use Rattle.bp_device.specs.Files.{FoundIn, IsFileLength, IsOpenFault, ReadsFile, WritesFile};
 
 use crate::failures::Failures;
 use crate::places::start_of;
@@ -83,8 +83,7 @@ impl FilePort {
         requires size { IsGeometry 1 size }
         ensures opened { IfOk result (λ port. (port.device.size ≡ size) × (port.failures ≡ 0)) }
         ensures headed { IfOk result (λ port. port.headed ≡ has_headers format) }
-        ensures refused { IfErr result (λ fault. (fault ≡ OpenFault.Refused Refusal.BadLength) ⊎
-            ((fault ≡ OpenFault.Port PortFault.Device) ⊎ (fault ≡ OpenFault.Port PortFault.Memory))) }
+        ensures refused { IfErr result IsOpenFault }
     {
         let Ok(file) = OpenOptions::new().read(true).write(true).open(rt, path) else {
             return Err(OpenFault::Port(PortFault::Device));

@@ -1,7 +1,7 @@
 //! A port that fails once, for tests of what a failing device leaves.
 ghost use Rattle.std.specs.Prelude.{◌≡◌, ◌≢◌, true, ◌-◌, ◌↔◌, IsTrue, IfOk, OnErr, length, replicate};
-ghost use Rattle.bp_device.specs.Ports.{Counts, FailsOrPasses, IsFailure, IsUnasked};
-ghost use Rattle.bp_device.specs.Fuses.{IsNext, Spoils, spoiled_page};
+ghost use Rattle.bp_device.specs.Ports.{Counts, FailsOrPasses, IsUnasked};
+ghost use Rattle.bp_device.specs.Fuses.{FailsSpoiling, IsNext, spoiled_page};
 
 use crate::failures::Failures;
 use crate::port::Port;
@@ -85,8 +85,8 @@ impl<P: Port> Port for FusePort<P> {
 
     ghost write_gives = { λ port page image lsn written after.
         IsNext port.left port.spoiled after.left after.spoiled ×
-        FailsOrPasses port.left (IsFailure written ×
-        Spoils (λ spoiled. P.write_gives port.inner page spoiled lsn) port.spoiled port.inner after.inner)
+        FailsOrPasses port.left (FailsSpoiling (λ spoiled. P.write_gives port.inner page spoiled lsn)
+        port.spoiled written port.inner after.inner)
         (P.write_gives port.inner page image lsn written after.inner) };
 
     fn geometry(&self) -> Geometry {
@@ -127,9 +127,9 @@ impl<P: Port> Port for FusePort<P> {
         ensures alike { P.is_headed self.new.inner ≡ P.is_headed self.old.inner }
         ensures counts { Counts result self.old.count self.new.count }
         ensures next { IsNext self.old.left self.old.spoiled self.new.left self.new.spoiled }
-        ensures fails { self.old.left ≡ 1 → IsFailure result ×
-            Spoils (λ spoiled. P.write_gives self.old.inner page spoiled lsn) self.old.spoiled
-            self.old.inner self.new.inner }
+        ensures fails { self.old.left ≡ 1 →
+            FailsSpoiling (λ spoiled. P.write_gives self.old.inner page spoiled lsn)
+            self.old.spoiled result self.old.inner self.new.inner }
         ensures passes { self.old.left ≢ 1 →
             P.write_gives self.old.inner page image.now lsn result self.new.inner }
     {

@@ -1,9 +1,9 @@
 //! What each row of a script does.
-ghost use Rattle.std.specs.Prelude.{◌+◌, ◌≡◌, ◌<◌, ◌≤◌, length, vec_len, vec_capacity};
+ghost use Rattle.std.specs.Prelude.{◌+◌, ◌≡◌, ◌<◌, ◌≤◌, IfErr, length, vec_len, vec_capacity};
 ghost use Rattle.bp_trail.specs.declared.scripts.Step.TheVariants as Step;
 ghost use Rattle.bp_trail.specs.Fits.{RowFits};
 ghost use Rattle.bp_trail.specs.Pieces.{outcome_of};
-ghost use Rattle.bp_device.specs.Rows.{EndsIn, DrivesRow};
+ghost use Rattle.bp_device.specs.Rows.{EndsIn, DrivesRow, RowCaused};
 ghost use Rattle.bp_device.specs.Work.{DoesWork};
 
 use crate::drivers::{drive_fix, drive_flush};
@@ -23,6 +23,7 @@ fn read_row<K: Keeper>(
     requires ends_in { EndsIn core.old held.now }
     ensures outcome { DrivesRow core.old client (Step.Read page)
         (outcome_of result) held.now held.now core.new }
+    ensures cause { IfErr result (λ why. RowCaused (Step.Read page) why core.new) }
 {
     let Some(note) = latest_pass(held, client, page) else {
         return Err(Refusal::UnknownPass);
@@ -51,6 +52,8 @@ fn write_row<K: Keeper>(
     requires fits { offset + length bytes.now ≤ core.old.parameters.size }
     ensures outcome { DrivesRow core.old client (Step.Write page offset bytes.now lsn)
         (outcome_of result) held.now held.now core.new }
+    ensures cause { IfErr result
+        (λ why. RowCaused (Step.Write page offset bytes.now lsn) why core.new) }
 {
     let Some(note) = latest_pass(held, client, page) else {
         return Err(Refusal::UnknownPass);
@@ -74,6 +77,7 @@ fn unfix_row<K: Keeper>(
     requires ends_in { EndsIn core.old held.old.items }
     ensures outcome { DrivesRow core.old client (Step.Unfix page)
         (outcome_of result) held.old.items held.new.items core.new }
+    ensures cause { IfErr result (λ why. RowCaused (Step.Unfix page) why core.new) }
     ensures fewer { vec_len held.new ≤ vec_len held.old }
     ensures capacity { vec_capacity held.new ≡ vec_capacity held.old }
 {
@@ -99,6 +103,7 @@ fn fix_row<K: Keeper, P: Port, R: Wait>(
     requires room { vec_len held.old < vec_capacity held.old }
     ensures outcome { DrivesRow core.old client (Step.Fix page)
         (outcome_of result) held.old.items held.new.items core.new }
+    ensures cause { IfErr result (λ why. RowCaused (Step.Fix page) why core.new) }
     ensures more { vec_len held.new ≤ vec_len held.old + 1 }
     ensures capacity { vec_capacity held.new ≡ vec_capacity held.old }
     ensures work { DoesWork P.read_gives P.write_gives core.old port.old core.new port.new }
@@ -126,6 +131,7 @@ fn flush_row<K: Keeper, P: Port, R: Wait>(
     requires page_in { page < core.old.parameters.pages }
     ensures outcome { DrivesRow core.old client (Step.Flush page)
         (outcome_of result) held.now held.now core.new }
+    ensures cause { IfErr result (λ why. RowCaused (Step.Flush page) why core.new) }
     ensures work { DoesWork P.read_gives P.write_gives core.old port.old core.new port.new }
     ensures geometry { P.geometry_of port.new ≡ P.geometry_of port.old }
 {
@@ -145,6 +151,7 @@ fn tick_row<K: Keeper>(
     requires client_in { client < core.old.parameters.clients }
     ensures outcome { DrivesRow core.old client (Step.Tick n)
         (outcome_of result) held.now held.now core.new }
+    ensures cause { IfErr result (λ why. RowCaused (Step.Tick n) why core.new) }
 {
     core.tick(client, n)
 }
@@ -158,6 +165,7 @@ fn purge_row<K: Keeper>(
     requires client_in { client < core.old.parameters.clients }
     ensures outcome { DrivesRow core.old client Step.Purge
         (outcome_of result) held.now held.now core.new }
+    ensures cause { IfErr result (λ why. RowCaused Step.Purge why core.new) }
 {
     match core.purge(client) {
         Ok(_) => Ok(()),
@@ -175,6 +183,7 @@ fn log_row<K: Keeper>(
     requires client_in { client < core.old.parameters.clients }
     ensures outcome { DrivesRow core.old client (Step.Log lsn)
         (outcome_of result) held.now held.now core.new }
+    ensures cause { IfErr result (λ why. RowCaused (Step.Log lsn) why core.new) }
 {
     core.mark(client, lsn)
 }
@@ -193,6 +202,7 @@ pub(crate) fn drive_row<K: Keeper, P: Port, R: Wait>(
     requires ends_in { EndsIn core.old held.old.items }
     ensures outcome { DrivesRow core.old row.now.client row.now.step
         (outcome_of result) held.old.items held.new.items core.new }
+    ensures cause { IfErr result (λ why. RowCaused row.now.step why core.new) }
     ensures more { vec_len held.new ≤ vec_len held.old + 1 }
     ensures capacity { vec_capacity held.new ≡ vec_capacity held.old }
     ensures work { DoesWork P.read_gives P.write_gives core.old port.old core.new port.new }

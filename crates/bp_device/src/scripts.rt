@@ -3,7 +3,7 @@ ghost use Rattle.std.specs.Prelude.{OnErr, All, reverse, ◌+◌, ◌≡◌, ◌
 ghost use Rattle.bp_trail.specs.Fits.{RowFits};
 ghost use Rattle.bp_trail.specs.Pieces.{outcome_of};
 ghost use Rattle.bp_trail.specs.Script.{refused_row};
-ghost use Rattle.bp_device.specs.Rows.{AddsScript, DrivesRows};
+ghost use Rattle.bp_device.specs.Rows.{AddsScript, DrivesRowsCaused, ScriptCaused};
 ghost use Rattle.bp_device.specs.Work.{DoesWork};
 
 use crate::held_passes::give_back_all;
@@ -45,7 +45,8 @@ fn drive_rows<K: Keeper, P: Port, R: Wait>(
     requires none_refused { refused.old.items ≡ [] }
     requires held_room { length rows.now ≤ vec_capacity held.old }
     requires refused_room { length rows.now ≤ vec_capacity refused.old }
-    ensures outcome { DrivesRows core.old rows.now refused.new.items held.new.items core.new }
+    ensures outcome { DrivesRowsCaused core.old rows.now refused.new.items
+        held.new.items core.new }
     ensures work { DoesWork P.read_gives P.write_gives core.old port.old core.new port.new }
     ensures geometry { P.geometry_of port.new ≡ P.geometry_of port.old }
 {
@@ -56,7 +57,8 @@ fn drive_rows<K: Keeper, P: Port, R: Wait>(
 }
 
 /// Runs the rows in order over a core that nobody else uses, and gives back the passes that are then held: client by client, from the
-/// lowest, in the order taken. The refused rows come back, in order, each with the number of its refusal.
+/// lowest, in the order taken. The refused rows come back, in order, each with the number of its refusal: 20 only where the core then
+/// lacked the room, 21 where the clock would have passed its limit, and 22 where the row takes memory.
 ///
 /// `OutOfMemory` comes only where a list of its own could not be made, before any row was run; it changes nothing.
 pub fn drive_all<K: Keeper, P: Port, R: Wait>(
@@ -69,6 +71,8 @@ pub fn drive_all<K: Keeper, P: Port, R: Wait>(
     requires size { (P.geometry_of port.old).size ≡ core.old.parameters.size }
     requires fits { All (RowFits core.old.parameters) rows.now }
     ensures follows { IfOk result (λ refused. AddsScript core.old rows.now refused.items core.new) }
+    ensures caused { IfOk result (λ refused. ScriptCaused core.old rows.now refused.items
+        core.new) }
     ensures refused { OnErr result (result ≡ Err Refusal.OutOfMemory) }
     ensures unchanged { OnErr result (core.new ≡ core.old) }
     ensures work { DoesWork P.read_gives P.write_gives core.old port.old core.new port.new }

@@ -10,14 +10,14 @@ use Rattle.bp_core.specs.declared.passes.Ended.TheVariants as ended
 use Rattle.bp_core.specs.declared.passes.EndRefusal.{EndRefusal}
 use Rattle.bp_core.specs.EndRefusals.{number_of_end}
 use Rattle.bp_core.specs.CoreView.{CoreView}
-use Rattle.bp_core.specs.Outcomes.{WriteEndByOutcome, UnfixOutcome}
+use Rattle.bp_core.specs.Outcomes.{UnfixOutcome}
 use Rattle.hojzmated_c.specs.declared.forms.HzConfig.{HzConfig}
 use Rattle.hojzmated_c.specs.declared.forms.HzFixed.{HzFixed}
 use Rattle.hojzmated_c.specs.declared.forms.HzGrant.{HzGrant}
 use Rattle.hojzmated_c.specs.declared.forms.HzTotals.{HzTotals}
-use Rattle.hojzmated_c.specs.Forms.{grant_of, pass_of, shown_refusal, fault_of, write_of}
+use Rattle.hojzmated_c.specs.Forms.{pass_of, shown_refusal, fault_of}
 use Rattle.hojzmated_c.specs.Totals.{totals_of}
-use Rattle.hojzmated_c.specs.Outcomes.{Opens, Ticks, Marks, Purges, Fixes, Flushes, EndsRead}
+use Rattle.hojzmated_c.specs.Outcomes.{Opens, Ticks, Marks, Purges, Fixes, Flushes, EndsRead, EndsWrite}
 use Rattle.hojzmated_c.specs.Outcomes.{FailsRead, ReadsPart, WritesPart}
 
 -- 0, or the number of the refusal
@@ -113,7 +113,7 @@ WriteEnded old new ticket is_good dirty dirty' number =
     OnCore old new number (dirty' ≡ dirty)
     (λ old new.
     (r : Result Ended (EndRefusal Grant (Result (Unit {0}) PortFault))) × (number ≡ code_of_end r)
-    × WriteEndByOutcome old (grant_of ticket) (write_of is_good) r new
+    × EndsWrite old ticket is_good r new
     × (dirty' ≡ dirty_or_else r dirty))
 
 abbrev pub PartRead : Option CoreView → Option CoreView → HzGrant → ℕ → List ℕ → List ℕ → ℕ → Type 0
@@ -121,8 +121,8 @@ PartRead old new pass offset into into' number =
     OnCore old new number (into' ≡ into)
     (λ old new. Told number (λ r. ReadsPart {A = Unit {0}} old pass offset into r into' new))
 
-abbrev pub PartWritten : Option CoreView → Option CoreView → HzGrant → ℕ → List ℕ → ℕ → ℕ → Type 0
-PartWritten old new pass offset bytes lsn number =
+abbrev pub PartWrote : Option CoreView → Option CoreView → HzGrant → ℕ → List ℕ → ℕ → ℕ → Type 0
+PartWrote old new pass offset bytes lsn number =
     OnCore old new number (Unit {0})
     (λ old new. Told number (λ r. WritesPart {A = Unit {0}} old pass offset bytes lsn r new))
 

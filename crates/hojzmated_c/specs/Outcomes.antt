@@ -1,6 +1,6 @@
 -- What each call answers and leaves, for any client, page, grant and length that C may pass: the core's own outcome, or
 -- the refusal of what the core requires exactly where that does not hold.
-use Rattle.std.specs.Prelude.{◌≡◌, ◌≢◌, ℕ, ◌+◌, ◌^◌, ◌<◌, ◌≤◌, true, false, List, [], length}
+use Rattle.std.specs.Prelude.{◌≡◌, ◌≢◌, ℕ, ◌+◌, ◌^◌, ◌<◌, ◌≤◌, Bool, true, false, List, [], length}
 use Rattle.std.specs.Prelude.{slice_range, Result, Ok, Err, OnErr, Option, Some, None}
 use Rattle.bp_page.specs.declared.refusals.Refusal.{Refusal}
 use Rattle.bp_page.specs.declared.refusals.Refusal.TheVariants as refusal
@@ -18,16 +18,17 @@ use Rattle.bp_core.specs.declared.passes.Flush.{Flush}
 use Rattle.bp_core.specs.declared.passes.Flush.TheVariants as flushing
 use Rattle.bp_core.specs.declared.passes.ReadTicket.{ReadTicket}
 use Rattle.bp_core.specs.declared.passes.WriteTicket.{WriteTicket}
+use Rattle.bp_core.specs.declared.passes.Ended.{Ended}
 use Rattle.bp_core.specs.declared.passes.EndRefusal.{EndRefusal}
 use Rattle.bp_core.specs.EndRefusals.{number_of_end}
 use Rattle.bp_core.specs.CoreView.{CoreView, EachPast}
 use Rattle.bp_core.specs.Outcomes.{IsFitUpTo, TakesMemory, StepOutcome, TickOutcome, PurgeOutcome}
 use Rattle.bp_core.specs.Outcomes.{FixOutcome, FlushOutcome, ReadEndByOutcome, ReadOutcome}
-use Rattle.bp_core.specs.Outcomes.{WriteOutcome}
+use Rattle.bp_core.specs.Outcomes.{WriteEndByOutcome, WriteOutcome}
 use Rattle.hojzmated_c.specs.declared.forms.HzConfig.{HzConfig}
 use Rattle.hojzmated_c.specs.declared.forms.HzGrant.{HzGrant}
 use Rattle.hojzmated_c.specs.declared.forms.HzFixed.{HzFixed}
-use Rattle.hojzmated_c.specs.Forms.{grant_of, pass_of, shown, shown_grant, parameters_asked}
+use Rattle.hojzmated_c.specs.Forms.{grant_of, pass_of, write_of, shown, shown_grant, parameters_asked}
 
 -- refused, with nothing changed
 abbrev pub IsRefused : {A : Type 0} → Refusal → CoreView → Result A Refusal → CoreView → Type 0
@@ -174,6 +175,12 @@ abbrev pub FailsRead : CoreView → HzGrant → PortFault → ℕ → CoreView �
 FailsRead old held fault number new =
     (why : EndRefusal Grant (Result (List ℕ) PortFault)) × (number ≡ number_of_end why)
     × ReadEndByOutcome old (grant_of held) (Err fault) (Err why) new
+
+-- the core's outcome of a write-out that went well, or did not
+abbrev pub EndsWrite : CoreView → HzGrant → Bool
+    → Result Ended (EndRefusal Grant (Result (Unit {0}) PortFault)) → CoreView → Type 0
+EndsWrite old held is_good result new =
+    WriteEndByOutcome old (grant_of held) (write_of is_good) result new
 
 -- a part of the image that the core's read gives; a refusal leaves the bytes
 abbrev pub PartTold : {A : Type 0} → CoreView → HzGrant → ℕ → List ℕ → Result A Refusal → List ℕ

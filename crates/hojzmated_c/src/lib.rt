@@ -8,7 +8,7 @@
 ghost use Rattle.std.specs.Prelude.{◌≡◌, None, is_some, if◌then◌else◌, Ok, Err, IfOk, IfErr, length};
 ghost use Rattle.hojzmated_c.specs.Texts.{begun_with, text_of};
 ghost use Rattle.hojzmated_c.specs.Outcomes.{Opens, told};
-ghost use Rattle.hojzmated_c.specs.Exports.{code_of, Made, Ticked, Marked, Purged, Asked, Flushed, ReadEnded, ReadFailed, WriteEnded, PartRead, PartWritten, Unfixed, Counted, shown_fix};
+ghost use Rattle.hojzmated_c.specs.Exports.{code_of, Made, Ticked, Marked, Purged, Asked, Flushed, ReadEnded, ReadFailed, WriteEnded, PartRead, PartWrote, Unfixed, Counted, shown_fix};
 
 mod forms;
 mod handle;
@@ -277,7 +277,7 @@ pub extern "C" fn hz_write(
     bytes: &[u8],
     lsn: u64,
 ) -> u16
-    ensures { PartWritten core.old.seal.pool core.new.seal.pool pass.now offset bytes.now lsn result }
+    ensures { PartWrote core.old.seal.pool core.new.seal.pool pass.now offset bytes.now lsn result }
 {
     let Some(mut pool) = core.take(alloc) else {
         return NO_CORE;

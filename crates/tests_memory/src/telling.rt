@@ -21,11 +21,18 @@ pub(crate) struct Told {
     fresh: bool,
     /// The two stamps and the newest reference of each page.
     pages: [[u64; 3]; 4],
+    /// Which pages are unsaved, and the number of the first.
+    unsaved: [bool; 4],
+    next_unsaved: Option<u64>,
 }
 
 fn stamps(core: &Core, page: u64) -> [u64; 3] {
     let page = PageNo::new(page);
     [core.stamp(page, 1), core.stamp(page, 2), core.last(page)]
+}
+
+fn is_unsaved(core: &Core, page: u64) -> bool {
+    core.is_unsaved(PageNo::new(page))
 }
 
 pub(crate) fn told_of<R: Abort + AllocGlobal>(rt: &R, core: &Core) -> Told {
@@ -41,5 +48,12 @@ pub(crate) fn told_of<R: Abort + AllocGlobal>(rt: &R, core: &Core) -> Told {
             stamps(core, 2),
             stamps(core, 3),
         ],
+        unsaved: [
+            is_unsaved(core, 0),
+            is_unsaved(core, 1),
+            is_unsaved(core, 2),
+            is_unsaved(core, 3),
+        ],
+        next_unsaved: core.next_unsaved(0).map(|page| page.number()),
     }
 }

@@ -2,9 +2,8 @@
 ghost use Rattle.std.specs.Prelude.{◌≡◌, ◌<◌, true, false};
 ghost use Rattle.bp_trail.specs.Places.{loading, resident};
 ghost use Rattle.bp_trail.specs.Victim.{victim};
-ghost use Rattle.bp_trail.specs.PageMap.{has_free_frame};
 ghost use Rattle.bp_core.specs.CoreView.{EachPast, HasRoomFor};
-ghost use Rattle.bp_core.specs.Outcomes.{FixOutcome, TakesMemory};
+ghost use Rattle.bp_core.specs.Outcomes.{FixOutcome, IsFull, TakesMemory};
 
 use crate::passes::Fix;
 use crate::pool::PoolCore;
@@ -70,7 +69,7 @@ impl<K: Keeper> PoolCore<K> {
         requires page_in { page < self.old.parameters.pages }
         requires idle { EachPast self.old (λ past. loading past page ≡ false) }
         requires away { EachPast self.old (λ past. resident past page ≡ false) }
-        requires full { EachPast self.old (λ past. has_free_frame self.old.parameters past ≡ false) }
+        requires full { IsFull self.old }
         requires room { HasRoomFor 3 self.old }
         ensures outcome { FixOutcome self.old client page result self.new }
         ensures memory { result ≡ Err Refusal.OutOfMemory → TakesMemory (Call.Fix page) self.old }

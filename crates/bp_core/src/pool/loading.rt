@@ -7,11 +7,10 @@ ghost use Rattle.bp_trail.specs.Passes.{reads_out};
 ghost use Rattle.bp_trail.specs.Places.{loading, resident};
 ghost use Rattle.bp_trail.specs.Saved.{unsaved};
 ghost use Rattle.bp_trail.specs.Victim.{victim};
-ghost use Rattle.bp_trail.specs.PageMap.{has_free_frame};
 ghost use Rattle.bp_frames.specs.GrantLists.{GivesAsMuch};
 ghost use Rattle.bp_core.specs.CoreView.{EachPast, HasRoomFor};
 ghost use Rattle.bp_core.specs.ReadFaults.{read_failure};
-ghost use Rattle.bp_core.specs.Outcomes.{FixOutcome, ReadEndOutcome, ReadEndByOutcome, Adds, TakesMemory};
+ghost use Rattle.bp_core.specs.Outcomes.{FixOutcome, HasFreeFrame, IsFull, ReadEndOutcome, ReadEndByOutcome, Adds, TakesMemory};
 
 use crate::faults::{refusal_of_read, reply_of_read};
 use crate::passes::{EndRefusal, Fix, Pass, ReadTicket};
@@ -30,7 +29,7 @@ impl<K: Keeper> PoolCore<K> {
         requires page_in { page < self.old.parameters.pages }
         requires idle { EachPast self.old (λ past. loading past page ≡ false) }
         requires away { EachPast self.old (λ past. resident past page ≡ false) }
-        requires frame { EachPast self.old (λ past. has_free_frame self.old.parameters past ≡ true) }
+        requires frame { HasFreeFrame self.old }
         requires room { HasRoomFor 3 self.old }
         ensures outcome { FixOutcome self.old client page result self.new }
         ensures memory { TakesMemory (Call.Fix page) self.old }
@@ -62,7 +61,7 @@ impl<K: Keeper> PoolCore<K> {
         requires page_in { page < self.old.parameters.pages }
         requires idle { EachPast self.old (λ past. loading past page ≡ false) }
         requires away { EachPast self.old (λ past. resident past page ≡ false) }
-        requires full { EachPast self.old (λ past. has_free_frame self.old.parameters past ≡ false) }
+        requires full { IsFull self.old }
         requires chosen { EachPast self.old (λ past. victim self.old.parameters past ≡ Some gone) }
         requires saved { EachPast self.old (λ past. unsaved past gone ≡ false) }
         requires room { HasRoomFor 3 self.old }

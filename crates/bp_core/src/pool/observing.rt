@@ -8,7 +8,7 @@ ghost use Rattle.bp_trail.specs.Passes.{reads_out};
 ghost use Rattle.bp_keeper.specs.Kept.{read_by};
 ghost use Rattle.bp_core.specs.Agreement.{frame_of};
 ghost use Rattle.bp_core.specs.CoreView.{EachPast, HasRoomFor, room_after};
-ghost use Rattle.bp_core.specs.Outcomes.{Adds, IsQuiet, pass_is_out};
+ghost use Rattle.bp_core.specs.Outcomes.{Adds, IsQuiet, IsReply, pass_is_out};
 
 use crate::passes::Pass;
 use crate::pool::PoolCore;
@@ -75,7 +75,7 @@ impl<K: Keeper> PoolCore<K> {
         requires client_in { client < self.old.parameters.clients }
         requires allowed { EachPast self.old (λ past. allowed self.old.parameters past client call
             ≡ true) }
-        requires reply { EachPast self.old (λ past. reply ≡ reply_of self.old.parameters past call) }
+        requires reply { IsReply self.old call reply }
         requires room { HasRoomFor 1 self.old }
         ensures { Adds self.old client call reply self.new }
     {

@@ -8,7 +8,7 @@ ghost use Rattle.bp_trail.specs.Passes.{tickets, writes_out};
 ghost use Rattle.bp_trail.specs.PageMap.{reply_of};
 ghost use Rattle.bp_trail.specs.Places.{resident};
 ghost use Rattle.bp_core.specs.CoreView.{EachPast, HasRoomFor};
-ghost use Rattle.bp_core.specs.Outcomes.{IsBegin, BeginOutcome, EndedOutcome, FlushOutcome, WriteEndOutcome, WriteEndByOutcome, Adds, TakesMemory};
+ghost use Rattle.bp_core.specs.Outcomes.{IsBegin, BeginOutcome, EndedOutcome, FlushOutcome, WriteEndOutcome, WriteEndByOutcome, Adds, AddsFailure, TakesMemory};
 
 use crate::passes::{EndRefusal, Ended, Flush, WriteTicket};
 use crate::pool::PoolCore;
@@ -196,7 +196,7 @@ impl<K: Keeper> PoolCore<K> {
     fn fail_write_out(&mut self, client: u8, page: PageNo, serial: u64)
         requires { EachPast self.old (λ past. is_out (grant client page serial)
             (writes_out past) ≡ true) }
-        ensures { Adds self.old client (Call.WriteEnd serial page false) Reply.WriteFailed self.new }
+        ensures { AddsFailure self.old client page serial self.new }
     {
         let Some(frame) = self.frame(page) else {
             unreachable!()

@@ -1,8 +1,7 @@
 //! The ends of reads and write-outs, by what their tickets were given as.
 ghost use Rattle.std.specs.Prelude.{◌≡◌};
-ghost use Rattle.bp_core.specs.Outcomes.{WriteEndByOutcome};
-ghost use Rattle.hojzmated_c.specs.Forms.{grant_of, fault_of, write_of};
-ghost use Rattle.hojzmated_c.specs.Outcomes.{EndsRead, FailsRead};
+ghost use Rattle.hojzmated_c.specs.Forms.{fault_of, write_of};
+ghost use Rattle.hojzmated_c.specs.Outcomes.{EndsRead, EndsWrite, FailsRead};
 
 use crate::forms::{HzGrant, count};
 use crate::pool::Pool;
@@ -80,7 +79,7 @@ impl Pool {
         held: &HzGrant,
         is_good: bool,
     ) -> Result<Ended, EndRefusal<Grant, Result<(), PortFault>>>
-        ensures { WriteEndByOutcome self.old (grant_of held.now) (write_of is_good) result self.new }
+        ensures { EndsWrite self.old held.now is_good result self.new }
     {
         match self.core.write_end_by(held.grant(), written(is_good)) {
             Ok(how) => {

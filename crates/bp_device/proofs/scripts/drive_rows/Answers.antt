@@ -1,15 +1,16 @@
 -- Each row adds its piece to those of the rows before it.
 use Rattle.std.proofs.Common.{◌≡◌, refl, sym, ◌∙◌, ap, subst, ◌+◌, ◌++◌, ◌∷◌, [], take, add-one, length, arith}
 use Rattle.std.proofs.Math.Seq.{take-suc}
-use Rattle.bp_device.specs.Rows.{DrivesRows}
-use Rattle.bp_device.proofs.ScriptSteps.{rows-none, rows-parameters, rows-step}
+use Rattle.bp_device.specs.Rows.{DrivesRowsCaused}
+use Rattle.bp_device.proofs.ScriptSteps.{rows-parameters}
+use Rattle.bp_device.proofs.RowCauses.{caused-none, caused-step}
 use Rattle.bp_device.proofs.Working.{none-yet}
 use Rattle.bp_device.proofs.RowsWork.{work-join}
 use Rattle.bp_device.proofs.scripts.drive_rows.Goals as goal
 
 pub loop-row-init : goal.loop-row-init
 loop-row-init g c = record {
-  driven = subst (λ refused. DrivesRows c.args.core.now [] refused c.args.held.now.items c.args.core.now) (sym c.requires.none_refused) (subst (λ held. DrivesRows c.args.core.now [] [] held c.args.core.now) (sym c.requires.none_held) (rows-none c.args.core.now));
+  driven = subst (λ refused. DrivesRowsCaused c.args.core.now [] refused c.args.held.now.items c.args.core.now) (sym c.requires.none_refused) (subst (λ held. DrivesRowsCaused c.args.core.now [] [] held c.args.core.now) (sym c.requires.none_held) (caused-none c.args.core.now));
   few_held = omega (arith, ap length c.requires.none_held, c.args.held.now.ok);
   few_refused = omega (arith, ap length c.requires.none_refused, c.args.refused.now.ok);
   held_room = refl;
@@ -24,8 +25,8 @@ loop-row-preserved g c =
     let more : take (c.loop-row.row-index + 1) c.args.rows.now ≡ take c.loop-row.row-index c.args.rows.now ++ row ∷ [] =
     rw add-one (take-suc c.args.rows.now c.loop-row.row-index row (omega (arith, c.loop-row-test.true)) ∙ ap (λ r. take c.loop-row.row-index c.args.rows.now ++ r ∷ []) (sym c.row-item.is)) in
     record {
-      driven = subst (λ rows. DrivesRows c.args.core.now rows c.note_refused.new.refused.items c.drive_row-outcome.new.held.items c.drive_row-outcome.new.core) (sym more)
-          (rows-step _ c.loop-row.core _ _ row _ _ _ _ _ c.loop-row.invariant.driven c.drive_row-outcome.ensures.outcome c.note_refused.ensures.refused);
+      driven = subst (λ rows. DrivesRowsCaused c.args.core.now rows c.note_refused.new.refused.items c.drive_row-outcome.new.held.items c.drive_row-outcome.new.core) (sym more)
+          (caused-step _ c.loop-row.core _ _ row _ _ _ _ _ c.loop-row.invariant.driven c.drive_row-outcome.ensures.outcome c.drive_row-outcome.ensures.cause c.note_refused.ensures.refused);
       few_held = omega (arith, c.drive_row-outcome.ensures.more, c.loop-row.invariant.few_held);
       few_refused = omega (arith, c.note_refused.ensures.more, c.loop-row.invariant.few_refused);
       held_room = c.drive_row-outcome.ensures.capacity ∙ c.loop-row.invariant.held_room;
@@ -36,7 +37,7 @@ loop-row-preserved g c =
 
 pub drive_row-outcome-requires-clause-size : goal.drive_row-outcome-requires-clause-size
 drive_row-outcome-requires-clause-size g c =
-    ap (λ g. g.size) c.loop-row.invariant.geometry ∙ c.requires.size ∙ ap (λ p. p.size) (sym (rows-parameters _ _ _ _ _ c.loop-row.invariant.driven))
+    ap (λ g. g.size) c.loop-row.invariant.geometry ∙ c.requires.size ∙ ap (λ p. p.size) (sym (rows-parameters _ _ _ _ _ c.loop-row.invariant.driven.driven))
 
 pub returns-clause-geometry : goal.returns-clause-geometry
 returns-clause-geometry g c = c.loop-row.invariant.geometry

@@ -1,12 +1,12 @@
 use Rattle.std.proofs.Common.{◌≡◌, ◌≤◌, vec_len, vec_capacity}
 use Rattle.std.specs.Prelude.{take}
-use Rattle.bp_device.specs.Rows.{DrivesRows}
+use Rattle.bp_device.specs.Rows.{DrivesRowsCaused}
 use Rattle.bp_device.specs.Work.{DoesWork}
 use Rattle.bp_device.proofs.scripts.drive_rows.Given as goal
 
 abbrev pub invariant-loop-row : goal.invariant-loop-row
 invariant-loop-row g l = record {
-  driven : DrivesRows l.initial.core (take l.row-index l.rows) l.refused.items l.held.items l.core;
+  driven : DrivesRowsCaused l.initial.core (take l.row-index l.rows) l.refused.items l.held.items l.core;
   few_held : vec_len l.held ≤ l.row-index;
   few_refused : vec_len l.refused ≤ l.row-index;
   held_room : vec_capacity l.held ≡ vec_capacity l.initial.held;

@@ -1,0 +1,87 @@
+-- Why a row is refused, and that each refused row of a script had its cause.
+use Rattle.std.proofs.Common.{List, ◌≡◌, refl, sym, ap, subst, ℕ, ◌++◌, ◌∷◌, [], Result, Ok, Err}
+use Rattle.std.specs.Prelude.{IfErr, reverse}
+use Rattle.bp_page.specs.declared.refusals.Refusal.{Refusal}
+use Rattle.bp_page.specs.declared.refusals.Refusal.TheVariants as refusal
+use Rattle.bp_core.specs.declared.passes.Pass.{Pass}
+use Rattle.bp_trail.specs.declared.entries.Call.TheVariants.{Fix, Flush, Mark}
+use Rattle.bp_trail.specs.declared.scripts.Row.{Row}
+use Rattle.bp_trail.specs.declared.scripts.Refused.{Refused}
+use Rattle.bp_trail.specs.declared.scripts.Step.TheVariants as step
+use Rattle.bp_trail.specs.Event.{Grant}
+use Rattle.bp_trail.specs.Pieces.{outcome_of}
+use Rattle.bp_trail.specs.Script.{refused_row}
+use Rattle.bp_trail.proofs.Counting.{reverse-push}
+use Rattle.bp_core.specs.CoreView.{CoreView, HasRoomFor, LacksRoomFor}
+use Rattle.bp_core.specs.Outcomes.{ReadOutcome, WriteOutcome, TickOutcome, StepOutcome, PurgeOutcome}
+use Rattle.bp_device.specs.Drivers.{IsCaused, with_piece}
+use Rattle.bp_device.specs.Rows.{DrivesRow, GaveBack, RowCaused, IsLate, CausedRows, DrivesRowsCaused, ScriptCaused}
+use Rattle.bp_device.specs.Rows.CausedRows.{none, accepted, refused}
+use Rattle.bp_device.proofs.ScriptSteps.{rows-none, rows-step, two-pieces}
+
+pub fix-row-caused : (core : CoreView) (page : ℕ) (why : Refusal) → IsCaused 3 (Fix page) why core → RowCaused (step.Fix page) why core
+fix-row-caused core page refusal.TrailFull h = h
+fix-row-caused core page refusal.OutOfMemory h = h
+fix-row-caused core page refusal.ClockFull h = tt
+fix-row-caused core page _ h = tt
+
+pub flush-row-caused : (core : CoreView) (page : ℕ) (why : Refusal) → IsCaused 2 (Flush page) why core → RowCaused (step.Flush page) why core
+flush-row-caused core page refusal.TrailFull h = h
+flush-row-caused core page refusal.OutOfMemory h = h
+flush-row-caused core page refusal.ClockFull h = tt
+flush-row-caused core page _ h = tt
+
+pub read-row-caused : (old new : CoreView) (page : ℕ) (pass : Pass) (why : Refusal) → ReadOutcome old pass (Err why) new → RowCaused (step.Read page) why new
+read-row-caused old new page pass refusal.UnknownPass h = tt
+read-row-caused old new page pass refusal.TrailFull h = subst (LacksRoomFor 1) (sym h.1) h.0
+read-row-caused old new page pass refusal.OutOfMemory h = (subst (HasRoomFor 1) (sym h.2) h.0, tt)
+read-row-caused old new page pass _ h = absurd h
+
+pub write-row-caused : (old new : CoreView) (page offset : ℕ) (bytes : List ℕ) (lsn : ℕ) (pass : Pass) (why : Refusal) → WriteOutcome {A = Unit {0}} old pass offset bytes lsn (Err why) new
+    → RowCaused (step.Write page offset bytes lsn) why new
+write-row-caused old new page offset bytes lsn pass refusal.UnknownPass h = tt
+write-row-caused old new page offset bytes lsn pass refusal.TrailFull h = subst (LacksRoomFor 1) (sym h.1) h.0
+write-row-caused old new page offset bytes lsn pass refusal.OutOfMemory h = (subst (HasRoomFor 1) (sym h.2) h.0, tt)
+write-row-caused old new page offset bytes lsn pass _ h = absurd h
+
+pub tick-row-caused : (old new : CoreView) (client n : ℕ) (result : Result (Unit {0}) Refusal) → TickOutcome old client n result new → IfErr result (λ why. RowCaused (step.Tick n) why new)
+tick-row-caused old new client n (Ok done) h = tt
+tick-row-caused old new client n (Err refusal.TrailFull) h = subst (LacksRoomFor 1) (sym h.1) h.0
+tick-row-caused old new client n (Err refusal.ClockFull) h = subst (IsLate (step.Tick n)) (sym h.2) h.1
+tick-row-caused old new client n (Err _) h = absurd h
+
+pub log-row-caused : (old new : CoreView) (client lsn : ℕ) (result : Result (Unit {0}) Refusal) → StepOutcome old client (Mark lsn) result new → IfErr result (λ why. RowCaused (step.Log lsn) why new)
+log-row-caused old new client lsn (Ok done) h = tt
+log-row-caused old new client lsn (Err refusal.TrailFull) h = subst (LacksRoomFor 1) (sym h.1) h.0
+log-row-caused old new client lsn (Err _) h = absurd h
+
+pub purge-row-caused : (old new : CoreView) (client : ℕ) (why : Refusal) → PurgeOutcome old client (Err why) new → RowCaused step.Purge why new
+purge-row-caused old new client refusal.TrailFull h = subst (LacksRoomFor 1) (sym h.1) h.0
+purge-row-caused old new client _ h = absurd h
+
+pub caused-none : (core : CoreView) → DrivesRowsCaused core [] [] [] core
+unfolding rows-none
+caused-none core = record { driven = rows-none core; caused = none }
+
+pub caused-step : (old mid new : CoreView) (rows : List Row) (row : Row) (outcome : Result (Unit {0}) Refusal) (refusals refusals_after : List Refused) (held held_after : List Grant)
+    → DrivesRowsCaused old rows refusals held mid → DrivesRow mid row.client row.step (outcome_of outcome) held held_after new → IfErr outcome (λ why. RowCaused row.step why new)
+    → reverse refusals_after ≡ refused_row row.row (outcome_of outcome) ++ reverse refusals → DrivesRowsCaused old (rows ++ row ∷ []) refusals_after held_after new
+unfolding rows-step
+caused-step old mid new rows row outcome refusals refusals_after held held_after before adds cause noted = record {
+  driven = rows-step old mid new rows row (outcome_of outcome) refusals refusals_after held held_after before.driven adds noted;
+  caused = subst (λ rs. CausedRows old rs (adds.piece ++ before.driven.said) (reverse refusals_after)) (sym (reverse-push rows row))
+      (subst (λ rs. CausedRows old (row ∷ reverse rows) (adds.piece ++ before.driven.said) rs) (sym noted) (go outcome cause));
+}
+  where
+    go : (o : Result (Unit {0}) Refusal) → IfErr o (λ why. RowCaused row.step why new) → CausedRows old (row ∷ reverse rows) (adds.piece ++ before.driven.said) (refused_row row.row (outcome_of o) ++ reverse refusals)
+    go (Ok done) c = accepted row adds.piece before.caused
+    go (Err why) c = refused row adds.piece why before.caused (subst (RowCaused row.step why) (two-pieces old mid new before.driven.said adds.piece before.driven.is adds.is) c)
+
+pub script-caused : (old mid new : CoreView) (rows : List Row) (refusals : List Refused) (held : List Grant) → DrivesRowsCaused old rows refusals held mid → GaveBack mid held new → ScriptCaused old rows refusals new
+script-caused old mid new rows refusals held h gave = record {
+  by_rows = h.driven.said;
+  said = gave.back ++ h.driven.said;
+  is = two-pieces old mid new h.driven.said gave.back h.driven.is gave.is;
+  caused = h.caused;
+  gives_back = gave.gives_back h.driven.said h.driven.are_held;
+}
