@@ -1,5 +1,5 @@
 -- Why a row is refused, and that each refused row of a script had its cause.
-use Rattle.std.proofs.Common.{List, ◌≡◌, refl, sym, ap, subst, ℕ, ◌++◌, ◌∷◌, [], Result, Ok, Err}
+use Rattle.std.proofs.Common.{List, ◌≡◌, refl, sym, ap, subst, ℕ, ◌++◌, ◌∷◌, [], length, Result, Ok, Err}
 use Rattle.std.specs.Prelude.{IfErr, reverse}
 use Rattle.bp_page.specs.declared.refusals.Refusal.{Refusal}
 use Rattle.bp_page.specs.declared.refusals.Refusal.TheVariants as refusal
@@ -69,19 +69,24 @@ pub caused-step : (old mid new : CoreView) (rows : List Row) (row : Row) (outcom
 unfolding rows-step
 caused-step old mid new rows row outcome refusals refusals_after held held_after before adds cause noted = record {
   driven = rows-step old mid new rows row (outcome_of outcome) refusals refusals_after held held_after before.driven adds noted;
-  caused = subst (λ rs. CausedRows old rs (adds.piece ++ before.driven.said) (reverse refusals_after)) (sym (reverse-push rows row))
-      (subst (λ rs. CausedRows old (row ∷ reverse rows) (adds.piece ++ before.driven.said) rs) (sym noted) (go outcome cause));
+  caused = subst (λ rs. CausedRows old rs ends (adds.piece ++ before.driven.said) (reverse refusals_after)) (sym (reverse-push rows row))
+      (subst (λ rs. CausedRows old (row ∷ reverse rows) ends (adds.piece ++ before.driven.said) rs) (sym noted) (go outcome cause));
 }
   where
-    go : (o : Result (Unit {0}) Refusal) → IfErr o (λ why. RowCaused row.step why new) → CausedRows old (row ∷ reverse rows) (adds.piece ++ before.driven.said) (refused_row row.row (outcome_of o) ++ reverse refusals)
+    ends : List ℕ
+    ends = length (adds.piece ++ before.driven.said) ∷ before.driven.ends
+
+    go : (o : Result (Unit {0}) Refusal) → IfErr o (λ why. RowCaused row.step why new) → CausedRows old (row ∷ reverse rows) ends (adds.piece ++ before.driven.said) (refused_row row.row (outcome_of o) ++ reverse refusals)
     go (Ok done) c = accepted row adds.piece before.caused
     go (Err why) c = refused row adds.piece why before.caused (subst (RowCaused row.step why) (two-pieces old mid new before.driven.said adds.piece before.driven.is adds.is) c)
 
 pub script-caused : (old mid new : CoreView) (rows : List Row) (refusals : List Refused) (held : List Grant) → DrivesRowsCaused old rows refusals held mid → GaveBack mid held new → ScriptCaused old rows refusals new
 script-caused old mid new rows refusals held h gave = record {
   by_rows = h.driven.said;
+  ends = h.driven.ends;
   said = gave.back ++ h.driven.said;
   is = two-pieces old mid new h.driven.said gave.back h.driven.is gave.is;
-  caused = h.caused;
+  pieces = h.driven.follows;
   gives_back = gave.gives_back h.driven.said h.driven.are_held;
+  caused = h.caused;
 }

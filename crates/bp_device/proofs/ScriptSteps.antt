@@ -24,14 +24,14 @@ use Rattle.bp_device.specs.Rows.{AreHeld, EndsIn, DrivesRow, DrivesRows, GoingBa
 use Rattle.bp_device.proofs.GivingBack.{fewer-without}
 use Rattle.bp_device.proofs.PieceSteps.{find-there, known-there}
 
-pub rows-none : (core : CoreView) → DrivesRows core [] [] [] core
+unfoldable pub rows-none : (core : CoreView) → DrivesRows core [] [] [] core
 rows-none core = record { said = []; ends = []; is = refl; are_held = refl; follows = (refl, refl) }
 
 -- what a piece adds to a core that had one added
 pub two-pieces : (old mid new : CoreView) (said piece : Trail) → mid ≡ with_piece old said → new ≡ with_piece mid piece → new ≡ with_piece old (piece ++ said)
 two-pieces old mid new said piece first second = second ∙ ap (λ core. with_piece core piece) first ∙ ap (λ past. let v : CoreView = record old { past = past } in v) (sym (append_assoc piece said old.past))
 
-pub rows-step : (old mid new : CoreView) (rows : List Row) (row : Row) (outcome : Outcome) (refused refused_after : List Refused) (held held_after : List Grant) → DrivesRows old rows refused held mid
+unfoldable pub rows-step : (old mid new : CoreView) (rows : List Row) (row : Row) (outcome : Outcome) (refused refused_after : List Refused) (held held_after : List Grant) → DrivesRows old rows refused held mid
     → DrivesRow mid row.client row.step outcome held held_after new → reverse refused_after ≡ refused_row row.row outcome ++ reverse refused → DrivesRows old (rows ++ row ∷ []) refused_after held_after new
 rows-step old mid new rows row outcome refused refused_after held held_after before adds noted = record {
   said = adds.piece ++ before.said;

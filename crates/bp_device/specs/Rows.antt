@@ -1,5 +1,5 @@
 -- What the rows of a script add to a driver's core, which passes are then held, and why a row is refused.
-use Rattle.std.specs.Prelude.{◌≡◌, ◌≤◌, ◌<◌, ◌+◌, ◌^◌, ℕ, ◌==◌, List, [], ◌∷◌, ◌++◌, reverse}
+use Rattle.std.specs.Prelude.{◌≡◌, ◌≤◌, ◌<◌, ◌+◌, ◌^◌, ℕ, ◌==◌, List, [], ◌∷◌, ◌++◌, length, reverse}
 use Rattle.bp_page.specs.declared.refusals.Refusal.{Refusal}
 use Rattle.bp_page.specs.declared.refusals.Refusal.TheVariants as refusal
 use Rattle.bp_page.specs.Refusals.{number_of}
@@ -95,23 +95,26 @@ RowCaused s refusal.ClockFull core = IsLate s core
 RowCaused s refusal.OutOfMemory core = HasRoomFor (room_asked s) core × WantsMemory s core
 RowCaused s _ core = Unit {0}
 
--- the rows and their refusals, each newest first, and the entries so far: each refused row had its cause when it ended
-pub data CausedRows (old : CoreView) : List Row → Trail → List Refused → Type 0 where
-  none : CausedRows old [] [] []
-  accepted : {rows : List Row} {said : Trail} {refusals : List Refused} (row : Row) (piece : Trail) → CausedRows old rows said refusals
-      → CausedRows old (row ∷ rows) (piece ++ said) refusals
-  refused : {rows : List Row} {said : Trail} {refusals : List Refused} (row : Row) (piece : Trail) (why : Refusal) → CausedRows old rows said refusals
-      → RowCaused row.step why (with_piece old (piece ++ said)) → CausedRows old (row ∷ rows) (piece ++ said) (record { row = row.row; number = number_of why } ∷ refusals)
+-- the rows, where the piece of each ends, the entries so far and the refusals, each newest first: a refused row had its cause where its piece ends
+pub data CausedRows (old : CoreView) : List Row → List ℕ → Trail → List Refused → Type 0 where
+  none : CausedRows old [] [] [] []
+  accepted : {rows : List Row} {ends : List ℕ} {said : Trail} {refusals : List Refused} (row : Row) (piece : Trail) → CausedRows old rows ends said refusals
+      → CausedRows old (row ∷ rows) (length (piece ++ said) ∷ ends) (piece ++ said) refusals
+  refused : {rows : List Row} {ends : List ℕ} {said : Trail} {refusals : List Refused} (row : Row) (piece : Trail) (why : Refusal) → CausedRows old rows ends said refusals
+      → RowCaused row.step why (with_piece old (piece ++ said))
+      → CausedRows old (row ∷ rows) (length (piece ++ said) ∷ ends) (piece ++ said) (record { row = row.row; number = number_of why } ∷ refusals)
 
 -- the rows were driven, each with its cause where it was refused
 pub record DrivesRowsCaused (old : CoreView) (rows : List Row) (refused : List Refused) (held : List Grant) (new : CoreView) : Type 0 where
   pub driven : DrivesRows old rows refused held new
-  pub caused : CausedRows old (reverse rows) driven.said (reverse refused)
+  pub caused : CausedRows old (reverse rows) driven.ends driven.said (reverse refused)
 
--- the rows of a script had their causes, after which the passes still held went back
+-- by the cut by which what was added follows the script, each refused row had its cause
 pub record ScriptCaused (old : CoreView) (script : List Row) (refused : List Refused) (new : CoreView) : Type 0 where
   pub by_rows : Trail
+  pub ends : List ℕ
   pub said : Trail
   pub is : new ≡ with_piece old said
-  pub caused : CausedRows old (reverse script) by_rows (reverse refused)
+  pub pieces : FollowsBy driver (reverse script) ends by_rows (reverse refused)
   pub gives_back : GivesBack by_rows said
+  pub caused : CausedRows old (reverse script) ends by_rows (reverse refused)

@@ -1,5 +1,6 @@
 -- Each row adds its piece to those of the rows before it.
 use Rattle.std.proofs.Common.{◌≡◌, refl, sym, ◌∙◌, ap, subst, ◌+◌, ◌++◌, ◌∷◌, [], take, add-one, length, arith}
+use Rattle.std.proofs.lemmas.List.{take_all}
 use Rattle.std.proofs.Math.Seq.{take-suc}
 use Rattle.bp_device.specs.Rows.{DrivesRowsCaused}
 use Rattle.bp_device.proofs.ScriptSteps.{rows-parameters}
@@ -41,3 +42,7 @@ drive_row-outcome-requires-clause-size g c =
 
 pub returns-clause-geometry : goal.returns-clause-geometry
 returns-clause-geometry g c = c.loop-row.invariant.geometry
+
+pub returns-clause-outcome : goal.returns-clause-outcome
+returns-clause-outcome g c =
+    subst (λ rows. DrivesRowsCaused c.args.core.now rows c.loop-row.refused.items c.loop-row.held.items c.loop-row.core) (take_all c.loop-row.row-index c.args.rows.now (omega (arith, c.loop-row-test.false))) c.loop-row.invariant.driven
