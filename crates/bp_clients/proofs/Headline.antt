@@ -19,7 +19,8 @@ use Rattle.bp_trail.specs.Script.{FollowsBy, GivesBack, Follows}
 use Rattle.bp_audit.specs.Clients.{of_client}
 use Rattle.bp_audit.specs.Log.{IsWithinLog}
 use Rattle.bp_clients.specs.Jobs.{list_of, lists, NoneIsStrange, JobValue, SameJob, new_job, new_jobs, IsTold}
-use Rattle.bp_clients.specs.Runs.{SaidIsTheirs, EachFollows, IsRun, Joined}
+use Rattle.bp_clients.specs.Runs.{SaidIsTheirs, EachFollows, MarksWithinLog, IsRun, Joined}
+use Rattle.bp_clients.proofs.Ruling.{rules-kept, marks-by-rows}
 
 -- the job of client c, with its script
 pub record IsJobOf (c : ℕ) (rows : List Row) (j : JobValue) : Type 0 where
@@ -113,15 +114,19 @@ run_is c scripts trail jobs said refused some legal are j =
       joined = subst (λ (all : List Refused). IsPermutation all refused) (j.collected.refused_are ∙ sym (flat_map-map (λ (rs : List Refused). rs) (λ (k : JobValue). k.refused) jobs)) j.same;
       in_order = j.in_order;
     } in
+    let of_each : SaidIsTheirs (length scripts) trail said = record {
+      counted = ap length is ∙ length-map jobs (λ k. reverse k.said) ∙ are.0;
+      each = λ k below. ap (list_of k) is ∙ theirs scripts trail jobs are told k below;
+    } in
+    let log : MarksWithinLog scripts trail said refused = record { follows = followed; some = some; within = within scripts trail jobs are told some } in
     record {
       legal = legal;
-      theirs = record {
-        counted = ap length is ∙ length-map jobs (λ k. reverse k.said) ∙ are.0;
-        each = λ k below. ap (list_of k) is ∙ theirs scripts trail jobs are told k below;
-      };
+      rules = rules-kept c trail legal;
+      theirs = of_each;
       follows = followed;
       known = All-permutation (λ r. r.number ≢ 16) j.one_by_one refused j.same (subst NoneIsStrange (sym j.collected.refused_are) (known-all trail jobs told));
-      within_log = record { follows = followed; some = some; within = within scripts trail jobs are told some };
+      within_log = log;
+      by_rows = marks-by-rows scripts trail said refused log of_each;
     }
 
 -- the same of a run's answer
@@ -130,8 +135,3 @@ pub run_all : (p q : Parameters) (scripts : List (List Row)) (jobs : List JobVal
     → IfOk answer (λ run. IsRun p scripts run.trail.items (lists run.said.items) run.refused.items)
 run_all p q scripts jobs (Ok run) some are same legal joined = run_is p scripts _ jobs _ _ some (subst (λ c. Legal c (reverse run.trail.items)) same legal) are joined
 run_all p q scripts jobs (Err why) some are same legal joined = tt
-
-pub answer-said : (p : Parameters) (scripts : List (List Row)) (n : ℕ) (answer : Result Outcome Refusal) → length scripts ≡ n
-    → IfOk answer (λ run. IsRun p scripts run.trail.items (lists run.said.items) run.refused.items) → IfOk answer (λ run. SaidIsTheirs n run.trail.items (lists run.said.items))
-answer-said p scripts n (Ok run) count is = subst (λ m. SaidIsTheirs m run.trail.items (lists run.said.items)) count is.theirs
-answer-said p scripts n (Err why) count is = tt

@@ -1,6 +1,7 @@
 -- Lemmas.
 pub mod Headline
 pub mod Pieces
+pub mod Ruling
 pub mod Stepping
 pub mod Following
 pub mod TakingIn

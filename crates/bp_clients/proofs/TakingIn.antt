@@ -1,12 +1,14 @@
 -- What the jobs left, one after the other.
-use Rattle.std.proofs.Common.{◌≡◌, refl, sym, ◌∙◌, ap, subst, List, [], ◌∷◌, ◌++◌, reverse, length, arith}
-use Rattle.std.specs.Prelude.{flat_map}
+use Rattle.std.proofs.Common.{◌≡◌, ◌⊎◌, inl, inr, refl, sym, ◌∙◌, ap, subst, Result, Ok, Err, List, [], ◌∷◌, ◌++◌, reverse, length, arith}
+use Rattle.std.specs.Prelude.{flat_map, IfErr, OnErr}
+use Rattle.bp_page.specs.declared.refusals.Refusal.{Refusal}
+use Rattle.bp_page.specs.declared.refusals.Refusal.TheVariants as refusal
 use Rattle.std.proofs.lemmas.List.{map-append, append_assoc, append-nil, reverse-reverse}
 use Rattle.std.proofs.lemmas.List.Elements.{All-nil, All-push}
 use Rattle.std.proofs.lemmas.Grind.{flat_map-append}
 use Rattle.bp_trail.specs.declared.entries.Entry.{Entry}
 use Rattle.bp_trail.specs.declared.scripts.Refused.{Refused}
-use Rattle.bp_clients.specs.Jobs.{JobValue, IsTold, Collected}
+use Rattle.bp_clients.specs.Jobs.{JobValue, IsTold, IsUntold, SomeUntold, NotTaken, Collected}
 
 -- some of the jobs were taken in, and these are left
 pub record SoFar (trail : List Entry) (all left : List JobValue) (said : List (List Entry)) (refused : List Refused) : Type 0 where
@@ -38,3 +40,16 @@ all_taken trail all [] said refused s none = subst (λ js. Collected trail js sa
 -- two lists that are the same turned round
 pub same_reversed : {X : Type 0} (xs ys past : List X) → reverse xs ≡ past → reverse ys ≡ past → xs ≡ ys
 same_reversed xs ys past x_is y_is = sym (reverse-reverse xs) ∙ ap reverse (x_is ∙ sym y_is) ∙ reverse-reverse ys
+
+-- a job that is not taken in is one of them
+pub not-taken : (trail : List Entry) (all rest left : List JobValue) (j : JobValue) (said : List (List Entry)) (refused : List Refused) (why : Refusal) → SoFar trail all rest said refused → rest ≡ j ∷ left
+    → NotTaken (IsUntold trail j) why → NotTaken (SomeUntold trail all) why
+not-taken trail all rest left j said refused refusal.OutOfMemory s next untold = tt
+not-taken trail all rest left j said refused refusal.Disagree s next untold = (s.taken, left, j, sym s.joined ∙ ap (λ js. s.taken ++ js) next, untold)
+not-taken trail all rest left j said refused _ s next untold = absurd untold
+
+pub memory-or-disagree : {A : Type 0} (untold : Type 0) (result : Result A Refusal) → IfErr result (NotTaken untold) → OnErr result ((result ≡ Err refusal.OutOfMemory) ⊎ (result ≡ Err refusal.Disagree))
+memory-or-disagree untold (Ok done) h = tt
+memory-or-disagree untold (Err refusal.OutOfMemory) h = inl refl
+memory-or-disagree untold (Err refusal.Disagree) h = inr refl
+memory-or-disagree untold (Err _) h = absurd h

@@ -1,6 +1,8 @@
 -- What one client's thread is given, and what it leaves.
-use Rattle.std.specs.Prelude.{◌≡◌, ◌≢◌, ℕ, zero, suc, ◌<◌, ◌≤◌, Bool, true, false, List, [], ◌∷◌, All, reverse, length, map, flat_map, slice_index_or, None}
+use Rattle.std.specs.Prelude.{◌≡◌, ◌≢◌, ◌⊎◌, ℕ, zero, suc, ◌<◌, ◌≤◌, Bool, true, false, List, [], ◌∷◌, ◌++◌, All, reverse, length, map, flat_map, slice_index_or, None}
 use Rattle.std.specs.declared.vec.Vec.{Vec}
+use Rattle.bp_page.specs.declared.refusals.Refusal.{Refusal}
+use Rattle.bp_page.specs.declared.refusals.Refusal.TheVariants as refusal
 use Rattle.bp_trail.specs.declared.entries.Entry.{Entry}
 use Rattle.bp_trail.specs.declared.scripts.Row.{Row}
 use Rattle.bp_trail.specs.declared.scripts.Refused.{Refused}
@@ -84,6 +86,20 @@ pub record IsTold (trail : List Entry) (j : JobValue) : Type 0 where
   pub follows : FollowsCut j.client j.script j.ends j.said j.refused
   pub said : reverse j.said ≡ of_client j.client trail
   pub within : j.client ≡ 0 → IsWithinLog j.script j.ends (reverse trail)
+
+-- a comparison fails: the script was not run whole, the list is not what the trail has of the client, or the log does not bound the marks
+abbrev pub IsUntold : List Entry → JobValue → Type 0
+IsUntold trail j = (j.is_done ≡ false) ⊎ (reverse j.said ≢ of_client j.client trail) ⊎ ((j.client ≡ 0) × (¬ IsWithinLog j.script j.ends (reverse trail)))
+
+-- some comparison fails
+abbrev pub SomeUntold : List Entry → List JobValue → Type 0
+SomeUntold trail jobs = (earlier later : List JobValue) × (j : JobValue) × (jobs ≡ earlier ++ j ∷ later) × IsUntold trail j
+
+-- why the jobs are not taken in: memory is wanted, or a comparison fails
+abbrev pub NotTaken : Type 0 → Refusal → Type 0
+NotTaken untold refusal.OutOfMemory = Unit {0}
+NotTaken untold refusal.Disagree = untold
+NotTaken untold _ = ⊥
 
 -- the lists of some jobs, in order, and their refused rows
 pub record Collected (trail : List Entry) (jobs : List JobValue) (said : List (List Entry)) (refused : List Refused) : Type 0 where

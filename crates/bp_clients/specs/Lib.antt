@@ -1,4 +1,5 @@
 -- A run of client threads.
 pub mod Steps
 pub mod Jobs
+pub mod Rules
 pub mod Runs

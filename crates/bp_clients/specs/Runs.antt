@@ -1,5 +1,5 @@
 -- What holds after a run of client threads. A trail and a client's list are in the order of time here, and so are scripts and refused rows.
-use Rattle.std.specs.Prelude.{◌≡◌, ℕ, ◌<◌, List, [], ◌∷◌, ◌++◌, reverse, length, flat_map, Result, Ok, Err, IfOk}
+use Rattle.std.specs.Prelude.{◌≡◌, ℕ, ◌<◌, false, List, [], ◌∷◌, ◌++◌, reverse, length, flat_map, Result, Ok, Err, IfOk}
 use Rattle.std.specs.List.Sorted.{IsPermutation, IsNonDecreasingBy}
 use Rattle.bp_page.specs.declared.refusals.Refusal.{Refusal}
 use Rattle.bp_page.specs.declared.refusals.Refusal.TheVariants as refusal
@@ -13,9 +13,11 @@ use Rattle.bp_trail.specs.Script.{Follows}
 use Rattle.bp_trail.specs.Legal.{Legal}
 use Rattle.bp_core.specs.Outcomes.{IsFit}
 use Rattle.bp_audit.specs.Clients.{of_client}
-use Rattle.bp_audit.specs.Log.{IsWithinLog}
+use Rattle.bp_audit.specs.Log.{IsWithinLog, is_unfix}
+use Rattle.bp_audit.specs.Cut.{BoundedByItsRow}
 use Rattle.bp_clients.specs.declared.run.Config.{Config}
 use Rattle.bp_clients.specs.declared.run.Outcome.{Outcome}
+use Rattle.bp_clients.specs.Rules.{KeepsRules}
 use Rattle.bp_clients.specs.Jobs.{list_of, lists, new_jobs, NoneIsStrange, JobValue, Collected}
 
 -- there is one list for each client, with the trail's entries of that client, in order, and no others
@@ -37,13 +39,23 @@ pub record MarksWithinLog (scripts : List (List Row)) (trail : List Entry) (said
   pub some : 0 < length scripts
   pub within : IsWithinLog (list_of 0 scripts) (follows.each 0 some).ends (reverse trail)
 
--- the trail is one legal history; it holds each client's calls once and in that client's order, as its script asks for them; and no mark is ahead of the log
+-- each entry of client 0 that is no unfix stands in the piece of a row, by that cut, and the greatest LSN marked up to and with it is at most
+-- the greatest of the log rows before that row
+abbrev pub MarksByRows : (scripts : List (List Row)) (trail : List Entry) (said : List (List Entry)) (refused : List Refused) → MarksWithinLog scripts trail said refused → Type 0
+MarksByRows scripts trail said refused log =
+    (newer past : Trail) (e : Entry) → reverse trail ≡ newer ++ e ∷ past → e.client ≡ 0 → is_unfix e.call ≡ false
+    → BoundedByItsRow session (list_of 0 scripts) (reverse (list_of 0 said)) (list_of 0 log.follows.refusals) (log.follows.each 0 log.some) past e
+
+-- the trail is one legal history, by the rules of the pool; it holds each client's calls once and in that client's order, as its script asks
+-- for them; and no mark is ahead of the log
 pub record IsRun (c : Parameters) (scripts : List (List Row)) (trail : List Entry) (said : List (List Entry)) (refused : List Refused) : Type 0 where
   pub legal : Legal c (reverse trail)
+  pub rules : KeepsRules c trail
   pub theirs : SaidIsTheirs (length scripts) trail said
   pub follows : EachFollows scripts said refused
   pub known : NoneIsStrange refused
   pub within_log : MarksWithinLog scripts trail said refused
+  pub by_rows : MarksByRows scripts trail said refused within_log
 
 -- whichever scripts the new jobs are of, the answer is a run of those, where it is one
 abbrev pub RunsJobs : Parameters → List JobValue → Result Outcome Refusal → Type 0

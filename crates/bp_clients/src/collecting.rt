@@ -1,7 +1,7 @@
 //! What is compared once all threads have ended.
-ghost use Rattle.std.specs.Prelude.{◌≡◌, ◌⊎◌, OnOk, OnErr, [], ◌∷◌, ◌++◌, IfSome, reverse};
+ghost use Rattle.std.specs.Prelude.{◌≡◌, OnOk, OnErr, [], ◌∷◌, ◌++◌, IfErr, IfNone, IfSome, reverse};
 ghost use Rattle.bp_page.specs.declared.refusals.Refusal.TheVariants as Refusal;
-ghost use Rattle.bp_clients.specs.Jobs.{lists, IsTold, Collected};
+ghost use Rattle.bp_clients.specs.Jobs.{lists, IsTold, IsUntold, SomeUntold, NotTaken, Collected};
 
 use crate::job::{Job, Left};
 use bp_audit::{agrees, is_within_log};
@@ -16,6 +16,7 @@ fn told<N: PoolName, P: Port>(trail: &[Entry], job: Job<N, P>) -> Option<Left>
     ensures told { IfSome result (λ left. IsTold trail.now job) }
     ensures said { IfSome result (λ left. left.said.items ≡ reverse job.said) }
     ensures refused { IfSome result (λ left. left.refused.items ≡ job.refused) }
+    ensures none { IfNone result (IsUntold trail.now job) }
 {
     let left = job.into_left()?;
     if !agrees(trail, &left.said, left.client) {
@@ -49,8 +50,7 @@ fn take_in<N: PoolName, P: Port>(
     ensures said { OnOk result (lists said.new.items ≡ lists said.old.items ++ reverse job.said ∷
         []) }
     ensures refused { OnOk result (refused.new.items ≡ refused.old.items ++ job.refused) }
-    ensures fault { OnErr result ((result ≡ Err Refusal.OutOfMemory) ⊎
-        (result ≡ Err Refusal.Disagree)) }
+    ensures fault { IfErr result (NotTaken (IsUntold trail.now job)) }
 {
     let Some(left) = told(trail, job) else {
         return Err(Refusal::Disagree);
@@ -76,8 +76,7 @@ pub(crate) fn collect<N: PoolName, P: Port>(
     requires empty { (said.old.items ≡ []) × (refused.old.items ≡ []) }
     ensures collected { OnOk result (Collected trail.now jobs.items
         (lists said.new.items) refused.new.items) }
-    ensures fault { OnErr result ((result ≡ Err Refusal.OutOfMemory) ⊎
-        (result ≡ Err Refusal.Disagree)) }
+    ensures fault { IfErr result (NotTaken (SomeUntold trail.now jobs.items)) }
 {
     for job in jobs {
         match take_in(trail, job, said, refused) {

@@ -90,7 +90,7 @@ fn run_rows<N: PoolName, P: Port, R: Wait>(
 }
 
 impl<N: PoolName, P: Port> Job<N, P> {
-    ghost use Rattle.std.specs.Prelude.{◌≡◌, IfOk, IfSome, IsTrue, [], length, reverse};
+    ghost use Rattle.std.specs.Prelude.{◌≡◌, false, IfNone, IfOk, IfSome, IsTrue, [], length, reverse};
     ghost use Rattle.bp_clients.specs.Jobs.{ScriptFits, FollowsCut, new_job};
 
     /// The job of a script.
@@ -159,6 +159,7 @@ impl<N: PoolName, P: Port> Job<N, P> {
         ensures refused { IfSome result (λ left. left.refused.items ≡ self.refused) }
         ensures follows { IfSome result (λ left. FollowsCut self.client self.script self.ends
             self.said self.refused) }
+        ensures undone { IfNone result (self.is_done ≡ false) }
     {
         let Job {
             runner,

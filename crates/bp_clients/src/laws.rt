@@ -1,24 +1,13 @@
 //! What every run has besides, since its trail is legal. Each function does nothing: its contract is the law.
-ghost use Rattle.std.specs.Prelude.{◌≡◌, ℕ, false, List, [], map, ◌∷◌, ◌++◌, length, reverse, Some};
-ghost use Rattle.bp_lruk.specs.Distance.{is_farther};
+ghost use Rattle.std.specs.Prelude.{◌≡◌, ℕ, List, [], map, length, reverse};
 ghost use Rattle.bp_trail.specs.declared.entries.Entry.{Entry as AnEntry};
-ghost use Rattle.bp_trail.specs.declared.entries.Reply.TheVariants.{Load};
 ghost use Rattle.bp_trail.specs.declared.scripts.Row.{Row as ARow};
 ghost use Rattle.bp_trail.specs.declared.scripts.Refused.{Refused as ARefused};
 ghost use Rattle.bp_trail.specs.Parameters.{Parameters};
-ghost use Rattle.bp_trail.specs.Lists.{EachEntry};
-ghost use Rattle.bp_trail.specs.Trail.{Trail};
-ghost use Rattle.bp_trail.specs.PageMap.{MayReply};
-ghost use Rattle.bp_trail.specs.Victim.{backward_distance};
-ghost use Rattle.bp_trail.specs.Sentences.{IsCandidate, IsFirst};
 ghost use Rattle.bp_trail.specs.Legal.{Legal};
-ghost use Rattle.bp_trail.specs.Safety.{EvictsSafely, WritesAreDurable};
-ghost use Rattle.bp_trail.specs.Claims.{AnswersPlain};
-ghost use Rattle.bp_trail.specs.Pieces.Manner.{session};
-ghost use Rattle.bp_audit.specs.Log.{is_unfix};
-ghost use Rattle.bp_audit.specs.Cut.{BoundedByItsRow};
-ghost use Rattle.bp_clients.specs.Jobs.{list_of, NoneIsStrange};
-ghost use Rattle.bp_clients.specs.Runs.{MarksWithinLog, SaidIsTheirs, IsRun, after_lists, joined_lists, PiecesAreTheirs};
+ghost use Rattle.bp_clients.specs.Jobs.{NoneIsStrange};
+ghost use Rattle.bp_clients.specs.Rules.{KeepsRules};
+ghost use Rattle.bp_clients.specs.Runs.{MarksByRows, MarksWithinLog, SaidIsTheirs, IsRun, after_lists, joined_lists, PiecesAreTheirs};
 
 /// In the trail of every run each reply is what the page map answers there from the calls before it, or that a read without an image
 /// found a wrong page; each page that leaves has no
@@ -26,21 +15,7 @@ ghost use Rattle.bp_clients.specs.Runs.{MarksWithinLog, SaidIsTheirs, IsRun, aft
 /// goes out before the log is durable as far as every earlier write of its page; and over a device that gives back what was written
 /// each content is the plain map's.
 pub fn runs_keep_the_rules_of_the_pool()
-    ensures replies { (c : Parameters) (trail : List AnEntry) → Legal c (reverse trail) →
-        EachEntry (λ before e. MayReply c before e.call e.reply) (reverse trail) }
-    ensures evictions { (c : Parameters) (trail : List AnEntry) → Legal c (reverse trail) →
-        EachEntry (EvictsSafely c) (reverse trail) }
-    ensures victims { (c : Parameters) (trail : List AnEntry) → Legal c (reverse trail) →
-        EachEntry (λ before e. (t v : ℕ) → e.reply ≡ Load t (Some v) →
-        IsFirst c before v) (reverse trail) }
-    ensures farthest { (c : Parameters) (trail : List AnEntry) → Legal c (reverse trail) →
-        EachEntry (λ before e. (t v q : ℕ) → e.reply ≡ Load t (Some v) → IsCandidate c before q →
-        is_farther (backward_distance c before q) (backward_distance c before v) ≡ false)
-        (reverse trail) }
-    ensures write_outs { (c : Parameters) (trail : List AnEntry) → Legal c (reverse trail) →
-        EachEntry WritesAreDurable (reverse trail) }
-    ensures contents { (c : Parameters) (trail : List AnEntry) → Legal c (reverse trail) →
-        EachEntry AnswersPlain (reverse trail) }
+    ensures { (c : Parameters) (trail : List AnEntry) → Legal c (reverse trail) → KeepsRules c trail }
 {}
 
 /// Where each client's list is the trail's entries of it and no mark is ahead of the log rows, each entry of client 0 that is no
@@ -48,12 +23,8 @@ pub fn runs_keep_the_rules_of_the_pool()
 /// and with that entry is at most the greatest of the log rows before that row.
 pub fn marks_keep_to_the_log_rows()
     ensures { (scripts : List (List ARow)) (trail : List AnEntry) (said : List (List AnEntry))
-        (refused : List ARefused) (newer past : Trail) (e : AnEntry)
-        (log : MarksWithinLog scripts trail said refused) →
-        SaidIsTheirs (length scripts) trail said → reverse trail ≡ newer ++ e ∷ past →
-        e.client ≡ 0 → is_unfix e.call ≡ false → BoundedByItsRow session (list_of 0 scripts)
-        (reverse (list_of 0 said)) (list_of 0 log.follows.refusals)
-        (log.follows.each 0 log.some) past e }
+        (refused : List ARefused) (log : MarksWithinLog scripts trail said refused) →
+        SaidIsTheirs (length scripts) trail said → MarksByRows scripts trail said refused log }
 {}
 
 /// A trail that is taken in pieces, and lists that are cut in pieces, are a run's when they are joined: what each cut says of its piece

@@ -1,8 +1,8 @@
 //! A run: one thread for each client, and the comparisons once all have ended.
-ghost use Rattle.std.specs.Prelude.{◌≡◌, ◌⊎◌, ◌≤◌, ◌<◌, ℕ, IfOk, OnErr, All, [], map, reverse, length, vec_len, slice_index_or};
+ghost use Rattle.std.specs.Prelude.{◌≡◌, ◌⊎◌, ◌≤◌, ◌<◌, ℕ, IfErr, IfOk, OnErr, All, [], map, reverse, length, vec_len, slice_index_or};
 ghost use Rattle.bp_trail.specs.Legal.{Legal};
-ghost use Rattle.bp_clients.specs.Jobs.{EachScriptFits, NoneIsStrange, SameJob, sessions_from, new_jobs, lists};
-ghost use Rattle.bp_clients.specs.Runs.{run_parameters, RunAnswers, SaidIsTheirs, EachFollows, MarksWithinLog, Joined, IsRun, RunsJobs};
+ghost use Rattle.bp_clients.specs.Jobs.{EachScriptFits, NotTaken, SameJob, SomeUntold, sessions_from, new_jobs, lists};
+ghost use Rattle.bp_clients.specs.Runs.{run_parameters, RunAnswers, Joined, IsRun, RunsJobs};
 
 use crate::collecting::collect;
 use crate::job::Job;
@@ -109,11 +109,12 @@ fn joined<N: PoolName, P: Port>(
 ) -> Result<Outcome, Refusal>
     requires uncut { core.before ≡ [] }
     requires empty { (said.items ≡ []) × (refused.items ≡ []) }
+    ensures own { IfOk result (λ run. reverse run.trail.items ≡ core.past) }
     ensures legal { IfOk result (λ run. Legal core.parameters (reverse run.trail.items)) }
+    ensures room { IfOk result (λ run. vec_len run.trail ≤ core.parameters.room) }
     ensures joined { IfOk result (λ run. Joined run.trail.items jobs.items
         (lists run.said.items) run.refused.items) }
-    ensures refused { OnErr result ((result ≡ Err Refusal.OutOfMemory) ⊎
-        (result ≡ Err Refusal.Disagree)) }
+    ensures refused { IfErr result (NotTaken (SomeUntold (reverse core.past) jobs.items)) }
 {
     let mut said = said;
     let mut refused = refused;
@@ -160,6 +161,7 @@ fn run_pool<N: PoolName + Send + Sync, P: Port + Send, R: Threads + Wait + Sync>
     requires some { 0 < vec_len jobs }
     requires uncut { taker.past ≡ [] }
     ensures run { RunsJobs N.parameters jobs.items result }
+    ensures room { IfOk result (λ run. vec_len run.trail ≤ N.parameters.room) }
     ensures refused { OnErr result ((result ≡ Err Refusal.OutOfMemory) ⊎
         (result ≡ Err Refusal.Disagree)) }
 {
@@ -195,6 +197,7 @@ fn run_named<N: PoolName + Send + Sync, P: Port + Send, R: Threads + Wait + Sync
     requires fits { EachScriptFits N.parameters (lists scripts.items) }
     ensures run { IfOk result (λ run. IsRun N.parameters (lists scripts.items) run.trail.items
         (lists run.said.items) run.refused.items) }
+    ensures room { IfOk result (λ run. vec_len run.trail ≤ N.parameters.room) }
     ensures refused { OnErr result ((result ≡ Err Refusal.OutOfMemory) ⊎
         (result ≡ Err Refusal.Disagree)) }
 {
@@ -231,8 +234,8 @@ fn new_parts(alloc: Global) -> Result<((Mark, LogEnd, Reader), TrailRing), Refus
 /// It takes 1 to 64 scripts and as many ports, whose pages are those of the configuration. A script has rows of its own client, of
 /// pages of the file and of bytes within a page, and log rows stand in script 0 alone.
 ///
-/// At `Ok` the trail is one legal history, each client's list is the trail's entries of that client and follows its script, and no
-/// mark is ahead of the log rows of client 0. `BadSettings` where the frames are not 1 to 65,536 or the room not 1 to 16,777,216,
+/// At `Ok` the trail is one legal history of at most `config.room` entries, by the rules of the pool; each client's list is the trail's
+/// entries of that client and follows its script; and no mark is ahead of the log rows of client 0. `BadSettings` where the frames are not 1 to 65,536 or the room not 1 to 16,777,216,
 /// before any thread starts. `OutOfMemory` where memory is wanted outside a row. `Disagree` where a client was given what the pool
 /// did not know, or what it saw is not what the trail has of it. Threads have ended at every return.
 pub fn run_clients<P: Port + Send, R: Threads + Wait + Sync>(
@@ -246,15 +249,9 @@ pub fn run_clients<P: Port + Send, R: Threads + Wait + Sync>(
     requires ports { vec_len ports ≡ vec_len scripts }
     requires geometry { All (λ p. P.geometry_of p ≡ config.geometry) ports.items }
     requires fits { EachScriptFits (run_parameters config (vec_len scripts)) (lists scripts.items) }
-    ensures legal { IfOk result (λ run. Legal (run_parameters config (vec_len scripts))
-        (reverse run.trail.items)) }
-    ensures said { IfOk result (λ run. SaidIsTheirs (vec_len scripts) run.trail.items
-        (lists run.said.items)) }
-    ensures follows { IfOk result (λ run. EachFollows (lists scripts.items)
-        (lists run.said.items) run.refused.items) }
-    ensures known { IfOk result (λ run. NoneIsStrange run.refused.items) }
-    ensures within_log { IfOk result (λ run. MarksWithinLog (lists scripts.items) run.trail.items
-        (lists run.said.items) run.refused.items) }
+    ensures run { IfOk result (λ run. IsRun (run_parameters config (vec_len scripts))
+        (lists scripts.items) run.trail.items (lists run.said.items) run.refused.items) }
+    ensures room { IfOk result (λ run. vec_len run.trail ≤ config.room) }
     ensures answers { RunAnswers (run_parameters config (vec_len scripts)) result }
 {
     let clients = scripts.len() as u8;

@@ -13,10 +13,9 @@ use Rattle.bp_audit.specs.Log.{log_of}
 use Rattle.bp_trace.specs.InRange.{IsInRange, SpeaksForLog}
 use Rattle.bp_trail.specs.declared.entries.Entry.{Entry}
 use Rattle.bp_trail.specs.declared.scripts.Refused.{Refused}
-use Rattle.bp_trail.specs.Legal.{Legal}
 use Rattle.bp_clients.specs.declared.run.Config.{Config}
-use Rattle.bp_clients.specs.Jobs.{EachScriptFits, NoneIsStrange, RowFitsClient, list_of}
-use Rattle.bp_clients.specs.Runs.{EachFollows, IsRun, MarksWithinLog, SaidIsTheirs, run_parameters}
+use Rattle.bp_clients.specs.Jobs.{EachScriptFits, RowFitsClient, list_of}
+use Rattle.bp_clients.specs.Runs.{IsRun, run_parameters}
 use Rattle.bp_run.specs.Scripts.{clients_of, rows_of, scripts_for, scripts_of}
 
 no_log : (client : ℕ) (step : Step) → SpeaksForLog client step → 0 < client → log_of step ≡ None
@@ -62,15 +61,9 @@ script_count rows scripts are = ap length are ∙ length-map-range_with_len (λ 
 
 -- a run of some scripts is one of the scripts that they are
 pub run_of : (config : Config) (n : ℕ) (scripts : List (List Row)) (rows : List Row) (trail : List Entry) (said : List (List Entry)) (refused : List Refused) → n ≡ clients_of rows → scripts ≡ scripts_of rows
-    → Legal (run_parameters config n) (reverse trail) → SaidIsTheirs n trail said → EachFollows scripts said refused → NoneIsStrange refused → MarksWithinLog scripts trail said refused
-    → IsRun (run_parameters config (clients_of rows)) (scripts_of rows) trail said refused
-run_of config n scripts rows trail said refused count are legal theirs follows known within = record {
-  legal = subst (λ m. Legal (run_parameters config m) (reverse trail)) count legal;
-  theirs = subst (λ m. SaidIsTheirs m trail said) (count ∙ sym (script_count rows (scripts_of rows) refl)) theirs;
-  follows = subst (λ s. EachFollows s said refused) are follows;
-  known = known;
-  within_log = subst (λ s. MarksWithinLog s trail said refused) are within;
-}
+    → IsRun (run_parameters config n) scripts trail said refused → IsRun (run_parameters config (clients_of rows)) (scripts_of rows) trail said refused
+run_of config n scripts rows trail said refused count are run =
+    subst (λ m. IsRun (run_parameters config m) (scripts_of rows) trail said refused) count (subst (λ s. IsRun (run_parameters config n) s trail said refused) are run)
 
 -- the scripts that the rows were split into are those of their clients
 pub record AreScripts (rows : List Row) (n : ℕ) (scripts : List (List Row)) : Type 0 where

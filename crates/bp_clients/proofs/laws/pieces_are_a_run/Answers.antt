@@ -1,7 +1,9 @@
 -- Piece after piece.
-use Rattle.std.proofs.Common.{subst, length}
+use Rattle.std.proofs.Common.{subst, length, map}
 use Rattle.bp_trail.specs.Legal.{Legal}
+use Rattle.bp_clients.specs.Runs.{joined_lists}
 use Rattle.bp_clients.proofs.Pieces.{whole, theirs}
+use Rattle.bp_clients.proofs.Ruling.{rules-kept, marks-by-rows}
 use Rattle.bp_clients.proofs.laws.pieces_are_a_run.Goals as goal
 
 pub returns-clause-whole : goal.returns-clause-whole
@@ -16,8 +18,10 @@ returns-clause-theirs a clients trail said are = theirs clients trail said are
 pub returns-clause-run : goal.returns-clause-run
 returns-clause-run a c scripts trail said refused legal are known log = record {
   legal = subst (Legal c) (whole trail) legal;
+  rules = rules-kept c (joined_lists trail) (subst (Legal c) (whole trail) legal);
   theirs = theirs (length scripts) trail said are;
   follows = log.follows;
   known = known;
   within_log = log;
+  by_rows = marks-by-rows scripts (joined_lists trail) (map joined_lists said) refused log (theirs (length scripts) trail said are);
 }

@@ -1,11 +1,11 @@
 -- What was taken in, with the refused rows put in order. No cut was made, so the trail is all entries.
-use Rattle.std.proofs.Common.{◌≡◌, List, [], ◌++◌, reverse, rules, refl, sym, ap, subst, ◌∙◌}
-use Rattle.std.proofs.lemmas.List.{append-nil, append_cancel_right}
+use Rattle.std.proofs.Common.{◌≡◌, List, [], ◌++◌, reverse, length, arith, rules, refl, sym, ap, subst, ◌∙◌}
+use Rattle.std.proofs.lemmas.List.{append-nil, append_cancel_right, reverse-reverse}
 use Rattle.std.proofs.lemmas.List.Sorted.{IsNonDecreasingBy-from_sort_by_key}
 use Rattle.bp_trail.specs.declared.entries.Entry.{Entry}
 use Rattle.bp_trail.specs.Trail.{Trail}
 use Rattle.bp_trail.specs.Legal.{Legal}
-use Rattle.bp_clients.specs.Jobs.{lists, Collected}
+use Rattle.bp_clients.specs.Jobs.{lists, NotTaken, SomeUntold, Collected}
 use Rattle.bp_clients.proofs.TakingIn.{same_reversed}
 use Rattle.bp_clients.proofs.run.joined.Goals as goal
 
@@ -20,6 +20,18 @@ pub returns-clause-legal : goal.returns-clause-legal
 returns-clause-legal g c =
     let core = c.args.core in
     subst (Legal core.parameters) (all_told c.into_trail.result.items core.before core.past c.into_trail.ensures.entries c.requires.uncut) c.trail.ensures.legal
+
+pub returns-clause-own : goal.returns-clause-own
+returns-clause-own g c = sym (all_told c.into_trail.result.items c.args.core.before c.args.core.past c.into_trail.ensures.entries c.requires.uncut)
+
+pub returns-clause-room : goal.returns-clause-room
+returns-clause-room g c =
+    omega (arith, c.trail.ensures.room, c.into_trail.result.ok, ap length (same_told c.trail.result.now c.into_trail.result.items _ _ c.trail.ensures.entries c.into_trail.ensures.entries))
+
+pub returns-in-Err-clause-refused : goal.returns-in-Err-clause-refused
+returns-in-Err-clause-refused g c =
+    let all = all_told c.trail.result.now c.args.core.before c.args.core.past c.trail.ensures.entries c.requires.uncut in
+    subst (λ trail. NotTaken (SomeUntold trail c.args.jobs.items) c.in-Err.refusal) (sym (ap reverse all ∙ reverse-reverse c.trail.result.now)) c.in-Err.ensures.fault
 
 pub returns-clause-joined : goal.returns-clause-joined
 returns-clause-joined g c = record {

@@ -2,6 +2,7 @@
 use Rattle.std.proofs.Common.{◌≡◌, ◌<◌, rules, arith, ap, length}
 use Rattle.bp_clients.proofs.Making.{lent_back}
 use Rattle.bp_clients.proofs.Headline.{length-new_jobs, same_jobs, run_all}
+use Rattle.bp_clients.proofs.TakingIn.{memory-or-disagree}
 use Rattle.bp_clients.proofs.run.run_pool.Goals as goal
 
 pub run_jobs-requires-clause-some : goal.run_jobs-requires-clause-some
@@ -18,3 +19,6 @@ returns-clause-run g c scripts are =
     let some : 0 < length scripts = omega (arith, ap length are, length-new_jobs 0 scripts, c.requires.some, c.args.jobs.ok) in
     run_all g.N.PoolName.parameters _ scripts new c.joined.result some (same_jobs scripts old new are kept (rw lent at c.run_jobs.ensures.same)) c.finish-core.ensures.parameters
     c.joined.ensures.legal (rw back at c.joined.ensures.joined)
+
+pub returns-clause-refused : goal.returns-clause-refused
+returns-clause-refused g c = memory-or-disagree _ c.joined.result c.joined.ensures.refused

@@ -36,4 +36,4 @@ returns-in-Ok-run_clients-clause-run g c =
     let is = scripts_are c.args.rows.items c.deref.result.now c.client_count-clients.result (lists c.in-Ok.scripts.items) c.client_count-clients.ensures c.deref.ensures.value c.in-Ok.ensures.scripts in
     let e = c.in-Ok-run_clients.ensures in
     run_of c.args.config c.in-Ok.scripts.len (lists c.in-Ok.scripts.items) c.args.rows.items c.in-Ok-run_clients.outcome.trail.items (lists c.in-Ok-run_clients.outcome.said.items) c.in-Ok-run_clients.outcome.refused.items
-    (omega (arith, is.counted, length-map c.in-Ok.scripts.items (λ v. v.items), c.in-Ok.scripts.ok)) is.are e.legal e.said e.follows e.known e.within_log
+    (omega (arith, is.counted, length-map c.in-Ok.scripts.items (λ v. v.items), c.in-Ok.scripts.ok)) is.are e.run
