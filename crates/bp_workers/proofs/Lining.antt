@@ -3,6 +3,8 @@ use Rattle.std.proofs.Common.{◌≡◌, refl, sym, ◌∙◌, ap, subst, ℕ, z
 use Rattle.std.specs.Prelude.{IsSome}
 use Rattle.std.proofs.lemmas.List.{append_assoc, append-nil}
 use Rattle.std.proofs.lemmas.List.Elements.{All-nil, All-cons}
+use Rattle.bp_page.specs.declared.limits.Geometry.{Geometry}
+use Rattle.bp_trail.specs.Parameters.{Parameters}
 use Rattle.bp_trail.specs.Trail.{Trail}
 use Rattle.bp_trail.specs.Script.{held_passes}
 use Rattle.bp_shared.specs.Sessions.{SessionValue, new_session, new_sessions}
@@ -108,38 +110,41 @@ still_takes Leaves (j ∷ olds) [] len ran is = absurd (omega (arith, len))
 still_takes Leaves (j ∷ olds) (k ∷ news) len ran is = still_some j.upkeep k.upkeep (ran 0 j (omega arith)).upkeep is
 
 -- what one job left is what its client's worker left
-left_by : {W P K I B S : Type 0} (Leaves : ℕ → W → W → SessionValue → Option UpkeepValue → Type 0) (before : Trail) (client : ℕ) (worker : W) (old new : JobValue W) (left : Left P W K I B S)
-    → IsNewJob client worker old → Ran Leaves old new → IsLeftOf new left → (client ≡ 0 → taken_of new.upkeep ≡ Some before) → LeftBy Leaves before client worker left
-left_by Leaves before client worker old new left is ran leaves taken = record {
+left_by : {W P K I B S : Type 0} (p : Parameters) (geometry_of : P → Geometry) (Leaves : ℕ → W → W → SessionValue → Option UpkeepValue → Type 0) (before : Trail) (client : ℕ) (worker : W) (old new : JobValue W) (left : Left P W K I B S)
+    → IsNewJob client worker old → Ran Leaves old new → IsLeftOf p geometry_of new left → (client ≡ 0 → taken_of new.upkeep ≡ Some before) → LeftBy p geometry_of Leaves before client worker left
+left_by p geometry_of Leaves before client worker old new left is ran leaves taken = record {
   returned = ran.returned;
   upkeep = new.upkeep;
   leaves = subst (λ (c : ℕ). Leaves c worker left.worker ran.returned new.upkeep) (ap (λ (s : SessionValue). s.client) is.session)
       (subst (λ w. Leaves old.session.client w left.worker ran.returned new.upkeep) is.worker_is (subst (λ w. Leaves old.session.client old.worker w ran.returned new.upkeep) (sym leaves.worker) ran.leaves));
   taken = taken;
+  of_pool = leaves.of_pool;
+  client_is = leaves.client ∙ ran.client;
   held = leaves.held ∙ ran.held;
   back = subst (GoBack ran.returned.said) (sym leaves.said) ran.back;
   settled = (λ yes. ap held_passes leaves.said ∙ ran.settled.0 (sym leaves.settled ∙ yes), λ none. leaves.settled ∙ ran.settled.1 (sym (ap held_passes leaves.said) ∙ none));
   cut = leaves.before ∙ ran.before;
 }
 
-each_left : {W P K I B S : Type 0} (Leaves : ℕ → W → W → SessionValue → Option UpkeepValue → Type 0) (before : Trail) (n : ℕ) (workers : List W) (olds news : List (JobValue W)) (lefts : List (Left P W K I B S))
-    → SideBySide IsNewJob n workers olds → length news ≡ length olds → EachRan Leaves olds news → SideBySide (λ _. IsLeftOf) n news lefts → (n ≡ 0 → 0 < length news → taken_by news ≡ Some before) → SideBySide (LeftBy Leaves before) n workers lefts
-each_left Leaves before n [] [] [] [] new len ran left taken = tt
-each_left Leaves before n (w ∷ workers) (o ∷ olds) (j ∷ news) (l ∷ lefts) new len ran left taken = (
-  left_by Leaves before n w o j l new.0 (ran 0 j (omega arith)) left.0 (λ none. taken none (omega arith)),
-  each_left Leaves before (suc n) workers olds news lefts new.1 (omega (arith, len)) (λ k d below. ran (suc k) d (omega (arith, below))) left.1 (λ none _. absurd (omega (arith, none))),
+each_left : {W P K I B S : Type 0} (p : Parameters) (geometry_of : P → Geometry) (Leaves : ℕ → W → W → SessionValue → Option UpkeepValue → Type 0) (before : Trail) (n : ℕ) (workers : List W) (olds news : List (JobValue W)) (lefts : List (Left P W K I B S))
+    → SideBySide IsNewJob n workers olds → length news ≡ length olds → EachRan Leaves olds news → SideBySide (λ _. IsLeftOf p geometry_of) n news lefts → (n ≡ 0 → 0 < length news → taken_by news ≡ Some before) → SideBySide (LeftBy p geometry_of Leaves before) n workers lefts
+each_left p geometry_of Leaves before n [] [] [] [] new len ran left taken = tt
+each_left p geometry_of Leaves before n (w ∷ workers) (o ∷ olds) (j ∷ news) (l ∷ lefts) new len ran left taken = (
+  left_by p geometry_of Leaves before n w o j l new.0 (ran 0 j (omega arith)) left.0 (λ none. taken none (omega arith)),
+  each_left p geometry_of Leaves before (suc n) workers olds news lefts new.1 (omega (arith, len)) (λ k d below. ran (suc k) d (omega (arith, below))) left.1 (λ none _. absurd (omega (arith, none))),
 )
-each_left Leaves before n [] (o ∷ olds) news lefts new len ran left taken = absurd new
-each_left Leaves before n (w ∷ workers) [] news lefts new len ran left taken = absurd new
-each_left Leaves before n [] [] (j ∷ news) lefts new len ran left taken = absurd (omega (arith, len))
-each_left Leaves before n [] [] [] (l ∷ lefts) new len ran left taken = absurd left
-each_left Leaves before n (w ∷ workers) (o ∷ olds) [] lefts new len ran left taken = absurd (omega (arith, len))
-each_left Leaves before n (w ∷ workers) (o ∷ olds) (j ∷ news) [] new len ran left taken = absurd left
+each_left p geometry_of Leaves before n [] (o ∷ olds) news lefts new len ran left taken = absurd new
+each_left p geometry_of Leaves before n (w ∷ workers) [] news lefts new len ran left taken = absurd new
+each_left p geometry_of Leaves before n [] [] (j ∷ news) lefts new len ran left taken = absurd (omega (arith, len))
+each_left p geometry_of Leaves before n [] [] [] (l ∷ lefts) new len ran left taken = absurd left
+each_left p geometry_of Leaves before n (w ∷ workers) (o ∷ olds) [] lefts new len ran left taken = absurd (omega (arith, len))
+each_left p geometry_of Leaves before n (w ∷ workers) (o ∷ olds) (j ∷ news) [] new len ran left taken = absurd left
 
-pub all_left_by : {W P K I B S : Type 0} (Leaves : ℕ → W → W → SessionValue → Option UpkeepValue → Type 0) (taken before : Trail) (workers : List W) (olds news : List (JobValue W)) (lefts : List (Left P W K I B S))
-    → SideBySide IsNewJob 0 workers olds → length news ≡ length olds → EachRan Leaves olds news → SideBySide (λ _. IsLeftOf) 0 news lefts → taken_by news ≡ Some taken → before ≡ taken → SideBySide (LeftBy Leaves before) 0 workers lefts
-all_left_by Leaves taken before workers olds news lefts new len ran left is whole =
-    each_left Leaves before 0 workers olds news lefts new len ran left (λ _ _. is ∙ ap Some (sym whole))
+pub all_left_by : {W P K I B S : Type 0} (p : Parameters) (geometry_of : P → Geometry) (q : Parameters) (Leaves : ℕ → W → W → SessionValue → Option UpkeepValue → Type 0) (taken before : Trail) (workers : List W) (olds news : List (JobValue W)) (lefts : List (Left P W K I B S))
+    → SideBySide IsNewJob 0 workers olds → length news ≡ length olds → EachRan Leaves olds news → SideBySide (λ _. IsLeftOf p geometry_of) 0 news lefts → taken_by news ≡ Some taken → before ≡ taken → p ≡ q → SideBySide (LeftBy q geometry_of Leaves before) 0 workers lefts
+all_left_by p geometry_of q Leaves taken before workers olds news lefts new len ran left is whole same =
+    subst (λ q. SideBySide (LeftBy q geometry_of Leaves before) 0 workers lefts) same
+    (each_left p geometry_of Leaves before 0 workers olds news lefts new len ran left (λ _ _. is ∙ ap Some (sym whole)))
 
 -- a slice that is written back to the vector that lent it
 pub lent_back : {J : Type 0} (n : ℕ) (new old : List J) → length new ≡ n → take n (new ++ drop (length new) old) ≡ new

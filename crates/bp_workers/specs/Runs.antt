@@ -12,7 +12,7 @@ use Rattle.bp_workers.specs.declared.run.Config.{Config}
 use Rattle.bp_workers.specs.declared.worker.Left.{Left}
 use Rattle.bp_workers.specs.Giving.{GoBack}
 use Rattle.bp_workers.specs.Workers.{UpkeepValue, new_upkeep}
-use Rattle.bp_workers.specs.Jobs.{JobValue, taken_of}
+use Rattle.bp_workers.specs.Jobs.{IsOfPool, JobValue, taken_of}
 
 -- what the core of a run is made with
 abbrev pub run_parameters : Config → ℕ → Parameters
@@ -26,11 +26,6 @@ run_parameters config clients = record {
   clients = clients;
   room = config.room;
 }
-
--- the device has the pages of the pool's file
-pub record IsOfPool (p : Parameters) (g : Geometry) : Type 0 where
-  pub pages : g.pages ≡ p.pages
-  pub size : g.size ≡ p.size
 
 -- there are 1 to 64 workers, and as many ports, on devices of the geometry
 pub record FitTogether {P : Type 0} (geometry_of : P → Geometry) (config : Config) (ports : List P) (workers : ℕ) : Type 0 where
@@ -55,13 +50,15 @@ RunAnswers can_run (Err refusal.BadSettings) = ¬ can_run
 RunAnswers can_run (Err refusal.OutOfMemory) = can_run
 RunAnswers can_run (Err _) = ⊥
 
--- what a client's worker left, by its own word; then the passes go back that it held; its list is handed over, less what was cut;
--- and what client 0's worker had taken of the trail is what comes before the core's
-pub record LeftBy {P W K I B S : Type 0} (Leaves : ℕ → W → W → SessionValue → Option UpkeepValue → Type 0) (before : Trail) (client : ℕ) (given : W) (left : Left P W K I B S) : Type 0 where
+-- what a client's worker left, by its own word; then the passes go back that it held; the list of the session that it left is handed over, less
+-- what was cut; its port is still one to the pool's pages; and what client 0's worker had taken of the trail is what comes before the core's
+pub record LeftBy {P W K I B S : Type 0} (p : Parameters) (geometry_of : P → Geometry) (Leaves : ℕ → W → W → SessionValue → Option UpkeepValue → Type 0) (before : Trail) (client : ℕ) (given : W) (left : Left P W K I B S) : Type 0 where
   pub returned : SessionValue
   pub upkeep : Option UpkeepValue
   pub leaves : Leaves client given left.worker returned upkeep
   pub taken : client ≡ 0 → taken_of upkeep ≡ Some before
+  pub of_pool : IsOfPool p (geometry_of left.port)
+  pub client_is : left.book.client ≡ returned.client
   pub held : left.held ≡ length (held_passes returned.said)
   pub back : GoBack returned.said left.book.said
   pub settled : (left.is_settled ≡ true) ↔ (held_passes left.book.said ≡ [])

@@ -71,7 +71,7 @@ impl<N: PoolName, P: Port, K: ListKeeper, W: Worker<P, K>> Job<N, P, K, W> {
 
     /// What the job left, and its upkeep. It takes no memory.
     pub(crate) fn into_left(self) -> (Left<P, W, K>, Option<Upkeep<N>>)
-        ensures left { IsLeftOf self result.0 }
+        ensures left { IsLeftOf N.parameters P.geometry_of self result.0 }
         ensures upkeep { held_upkeep result.1 ≡ self.upkeep }
     {
         let Job {

@@ -5,9 +5,9 @@ ghost use Rattle.bp_page.specs.declared.refusals.Refusal.TheVariants as Refusal;
 ghost use Rattle.bp_trail.specs.Legal.{Legal};
 ghost use Rattle.bp_shared.specs.Sessions.{new_sessions};
 ghost use Rattle.bp_workers.specs.Workers.{upkeep_value, unused_upkeep};
-ghost use Rattle.bp_workers.specs.Jobs.{IsReady, Ran, IsLeftOf, taken_by};
+ghost use Rattle.bp_workers.specs.Jobs.{IsReady, Ran, IsLeftOf, IsOfPool, taken_by};
 ghost use Rattle.bp_workers.specs.Lists.{SideBySide};
-ghost use Rattle.bp_workers.specs.Runs.{run_parameters, FitTogether, CanRun, CanRunUpTo, RunAnswers, LeftBy, IsNewJob, IsOfPool};
+ghost use Rattle.bp_workers.specs.Runs.{run_parameters, FitTogether, CanRun, CanRunUpTo, RunAnswers, LeftBy, IsNewJob};
 
 use crate::job::Job;
 use crate::kinds::Kind;
@@ -107,7 +107,8 @@ fn all_left<N: PoolName, P: Port, K: ListKeeper, W: Worker<P, K>>(
     requires empty { left.items ≡ [] }
     requires room { vec_len jobs ≤ vec_capacity left }
     ensures taken { taken_by jobs.items ≡ Some result.0.past }
-    ensures left { SideBySide (λ _. IsLeftOf) 0 jobs.items result.1.items }
+    ensures left { SideBySide (λ _. IsLeftOf N.parameters P.geometry_of) 0 jobs.items
+        result.1.items }
 {
     let mut left = left;
     let mut jobs = jobs.into_iter();
@@ -145,7 +146,8 @@ fn run_pool<
     requires upkeep { IsSome (taken_by jobs.items) }
     ensures parameters { IfOk result (λ run. run.core.parameters ≡ N.parameters) }
     ensures left { (workers : _) → SideBySide IsNewJob 0 workers jobs.items → IfOk result (λ run.
-        SideBySide (LeftBy W.leaves run.core.before) 0 workers run.left.items) }
+        SideBySide (LeftBy run.core.parameters P.geometry_of W.leaves run.core.before) 0 workers
+        run.left.items) }
     ensures refused { OnErr result (result ≡ Err Refusal.OutOfMemory) }
 {
     let Ok(left) = Vec::with_capacity(alloc, jobs.len()) else {
@@ -186,7 +188,8 @@ fn run_named<
     requires of_pool { All (λ p. IsOfPool N.parameters (P.geometry_of p)) ports.items }
     ensures parameters { IfOk result (λ run. run.core.parameters ≡ N.parameters) }
     ensures left { IfOk result (λ run.
-        SideBySide (LeftBy W.leaves run.core.before) 0 workers.items run.left.items) }
+        SideBySide (LeftBy run.core.parameters P.geometry_of W.leaves run.core.before) 0
+        workers.items run.left.items) }
     ensures refused { OnErr result (result ≡ Err Refusal.OutOfMemory) }
 {
     let (mark, end, reader) = parts;
@@ -273,7 +276,8 @@ pub fn run_workers_over<K: Kind, P: Port + Send, W: Worker<P, K> + Send, R: Thre
     ensures parameters { IfOk result (λ run.
         run.core.parameters ≡ run_parameters config (vec_len workers)) }
     ensures left { IfOk result (λ run.
-        SideBySide (LeftBy W.leaves run.core.before) 0 workers.items run.left.items) }
+        SideBySide (LeftBy run.core.parameters P.geometry_of W.leaves run.core.before) 0
+        workers.items run.left.items) }
     ensures answers { RunAnswers (CanRunUpTo K.MOST_ROOM P.geometry_of config ports.items
         (vec_len workers)) result }
 {
@@ -317,7 +321,8 @@ pub fn run_workers<P: Port + Send, W: Worker<P, RecordingKeeper> + Send, R: Thre
     ensures parameters { IfOk result (λ run.
         run.core.parameters ≡ run_parameters config (vec_len workers)) }
     ensures left { IfOk result (λ run.
-        SideBySide (LeftBy W.leaves run.core.before) 0 workers.items run.left.items) }
+        SideBySide (LeftBy run.core.parameters P.geometry_of W.leaves run.core.before) 0
+        workers.items run.left.items) }
     ensures answers { RunAnswers (CanRun P.geometry_of config ports.items
         (vec_len workers)) result }
 {

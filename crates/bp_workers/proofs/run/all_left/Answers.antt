@@ -7,10 +7,10 @@ use Rattle.bp_workers.proofs.run.all_left.Goals as goal
 
 pub loop-job-preserved : goal.loop-job-preserved
 loop-job-preserved g c = record {
-  made = one_beside (λ _. IsLeftOf) _ _ _ _ _ c.in-Some-job.job _ _ c.loop-job.invariant.made c.in-Some-job.ensures.steps.0 c.push_reserved-in-loop-job.ensures.items refl c.into_left-one-in-loop-job.ensures.left;
+  made = one_beside (λ _. IsLeftOf g.N.PoolName.parameters g.P.Port.geometry_of) _ _ _ _ _ c.in-Some-job.job _ _ c.loop-job.invariant.made c.in-Some-job.ensures.steps.0 c.push_reserved-in-loop-job.ensures.items refl c.into_left-one-in-loop-job.ensures.left;
   room = omega (arith, c.loop-job.invariant.room, ap length c.in-Some-job.ensures.steps.0, c.push_reserved-in-loop-job.ensures.len, c.push_reserved-in-loop-job.ensures.capacity);
 }
 
 pub returns-clause-left : goal.returns-clause-left
 returns-clause-left g c =
-    all_beside (λ _. IsLeftOf) c.args.jobs.items (into_iter_items c.loop-job.job-iterator) c.loop-job.left.items c.loop-job.invariant.made (search (rules, c.in-None.ensures.steps))
+    all_beside (λ _. IsLeftOf g.N.PoolName.parameters g.P.Port.geometry_of) c.args.jobs.items (into_iter_items c.loop-job.job-iterator) c.loop-job.left.items c.loop-job.invariant.made (search (rules, c.in-None.ensures.steps))

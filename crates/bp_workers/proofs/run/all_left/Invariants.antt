@@ -7,6 +7,6 @@ use Rattle.bp_workers.proofs.run.all_left.Given as goal
 
 abbrev pub invariant-loop-job : goal.invariant-loop-job
 invariant-loop-job g l = record {
-  made : Beside (λ _. IsLeftOf) l.fn.jobs.items (into_iter_items l.job-iterator) l.left.items;
+  made : Beside (λ _. IsLeftOf g.N.PoolName.parameters g.P.Port.geometry_of) l.fn.jobs.items (into_iter_items l.job-iterator) l.left.items;
   room : vec_len l.left + length (into_iter_items l.job-iterator) ≤ vec_capacity l.left;
 }

@@ -3,7 +3,8 @@ use Rattle.std.proofs.Common.{◌≡◌, sym, ◌∙◌, ap, suc, length, vec_le
 use Rattle.std.proofs.lemmas.List.Elements.{All-head, All-tail, All-same}
 use Rattle.std.specs.Vec.Iter.{into_iter_items}
 use Rattle.bp_workers.specs.Workers.{held_upkeep, new_upkeep}
-use Rattle.bp_workers.specs.Runs.{IsNewJob, IsOfPool}
+use Rattle.bp_workers.specs.Jobs.{IsOfPool}
+use Rattle.bp_workers.specs.Runs.{IsNewJob}
 use Rattle.bp_workers.proofs.Lining.{none_beside, one_beside, sessions_from, in_order, next_session}
 use Rattle.bp_workers.proofs.run.make_jobs.Goals as goal
 

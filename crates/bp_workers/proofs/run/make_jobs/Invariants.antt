@@ -2,7 +2,8 @@
 use Rattle.std.proofs.Common.{◌≡◌, All, length, vec_len}
 use Rattle.std.specs.Vec.Iter.{into_iter_items}
 use Rattle.bp_workers.specs.Workers.{held_upkeep, new_upkeep}
-use Rattle.bp_workers.specs.Runs.{IsNewJob, IsOfPool}
+use Rattle.bp_workers.specs.Jobs.{IsOfPool}
+use Rattle.bp_workers.specs.Runs.{IsNewJob}
 use Rattle.bp_workers.proofs.Lining.{Beside, sessions_from}
 use Rattle.bp_workers.proofs.run.make_jobs.Given as goal
 

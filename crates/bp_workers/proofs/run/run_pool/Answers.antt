@@ -21,5 +21,5 @@ returns-clause-left g c workers are =
     let lent : c.as_mut_slice.result.now ≡ old = c.as_mut_slice.ensures.value in
     let kept : length new ≡ length old = c.run_jobs.ensures.counted ∙ ap length lent in
     let back = lent_back c.args.jobs.len new old (omega (arith, kept, c.args.jobs.ok)) in
-    all_left_by g.W.Worker.leaves c.all_left-taker.result.0.past c.finish-core.result.0.before workers old new c.all_left-taker.result.1.items are kept (rw lent at c.run_jobs.ensures.ran) (rw back at c.all_left-taker.ensures.left)
-    (rw back at c.all_left-taker.ensures.taken) c.finish-core.ensures.before
+    all_left_by g.N.PoolName.parameters g.P.Port.geometry_of c.finish-core.result.0.parameters g.W.Worker.leaves c.all_left-taker.result.0.past c.finish-core.result.0.before workers old new c.all_left-taker.result.1.items are kept (rw lent at c.run_jobs.ensures.ran) (rw back at c.all_left-taker.ensures.left)
+    (rw back at c.all_left-taker.ensures.taken) c.finish-core.ensures.before (sym c.finish-core.ensures.parameters)
