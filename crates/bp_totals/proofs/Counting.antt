@@ -28,3 +28,23 @@ totals_of-room entries i h few = record {
   where
     room : (test : Reply → Bool) → replies test (take i entries) + 1 < 2 ^ 64
     room test = omega (arith, count_by-le-length (λ e. test e.reply) (take i entries), length-take i entries)
+
+-- those of two lists, one after the other
+module _ (test : Reply → Bool) where
+  replies-append : (xs ys : List Entry) → replies test (xs ++ ys) ≡ replies test xs + replies test ys
+  replies-append [] ys = omega arith
+  replies-append (e ∷ xs) ys =
+      let whole = sum_by-cons (λ (x : Entry). cond (test x.reply) 1 0) e (xs ++ ys) in
+      let part = sum_by-cons (λ (x : Entry). cond (test x.reply) 1 0) e xs in
+      omega (arith, whole, part, replies-append xs ys)
+
+pub totals_of-append : (xs ys : List Entry) → totals_of (xs ++ ys) ≡ both (totals_of xs) (totals_of ys)
+unfolding totals_of
+totals_of-append xs ys = λ i. record {
+  hits = replies-append is_hit xs ys i;
+  faults = replies-append is_fault xs ys i;
+  evictions = replies-append is_eviction xs ys i;
+  writes = replies-append is_write xs ys i;
+  failed = replies-append is_failure xs ys i;
+  refused = replies-append is_refusal xs ys i;
+}
