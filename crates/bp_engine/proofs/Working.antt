@@ -1,0 +1,35 @@
+-- The device's work of one part of a list after that of another.
+use Rattle.std.proofs.Common.{◌≡◌, refl, sym, ap, subst, ◌∙◌, ℕ, Bool, List, [], ◌∷◌, ◌++◌, append_assoc, inl, inr}
+use Rattle.bp_trail.specs.declared.entries.Entry.{Entry}
+use Rattle.bp_trail.specs.declared.entries.Call.TheVariants.{Tick}
+use Rattle.bp_trail.specs.declared.entries.Reply.TheVariants.{Done}
+use Rattle.bp_trail.specs.Trail.{Trail}
+use Rattle.bp_trail.specs.Pieces.{by}
+use Rattle.bp_device.specs.Work.{Reads, Writes, Works, WorksThrough}
+use Rattle.bp_shared.specs.Sessions.{WithSomeLsn, DoesWorkSaid}
+use Rattle.bp_engine.specs.Tries.{GoesOn}
+
+module _ {A : Type 0} (reads : Reads A) (writes : Writes A) where
+  works-append : (past p q : Trail) (port now kept : A) → WorksThrough reads writes past p port now → WorksThrough reads writes (p ++ past) q now kept → WorksThrough reads writes past (q ++ p) port kept
+  works-append past p [] port now kept first then = subst (λ k. WorksThrough reads writes past p port k) (sym then) first
+  works-append past p (e ∷ q) port now kept first then =
+      (then.0, works-append past p q port now then.0 first then.1, subst (λ es. Works reads writes es e.call e.reply then.0 kept) (sym (append_assoc q p past)) then.2)
+
+module _ {A : Type 0} (reads : Reads A) (writes : Writes A) where
+  pub work-on : (said mid after : Trail) (port now kept : A) → DoesWorkSaid reads writes said mid port now → DoesWorkSaid reads writes mid after now kept → DoesWorkSaid reads writes said after port kept
+  work-on said mid after port now kept w v = record {
+    piece = v.piece ++ w.piece;
+    grows = v.grows ∙ ap (λ es. v.piece ++ es) w.grows ∙ sym (append_assoc v.piece w.piece said);
+    through = works-append reads (WithSomeLsn writes) said w.piece v.piece port now kept w.through
+        (subst (λ es. WorksThrough reads (WithSomeLsn writes) es v.piece now kept) w.grows v.through);
+  }
+
+  -- a client that goes on has no work done
+  pub goes-on-work : (client steps : ℕ) (ticked next : Bool) (said mid after : Trail) (port now : A) → DoesWorkSaid reads writes said mid port now → GoesOn client steps ticked next mid after
+      → DoesWorkSaid reads writes said after port now
+  goes-on-work client steps ticked next said mid after port now w (inl same) = record { piece = w.piece; grows = same.1 ∙ w.grows; through = w.through }
+  goes-on-work client steps ticked next said mid after port now w (inr tick) = record {
+    piece = by client (Tick steps) Done ∷ w.piece;
+    grows = tick.2 ∙ ap (λ es. by client (Tick steps) Done ∷ es) w.grows;
+    through = (now, w.through, refl);
+  }

@@ -1,0 +1,2 @@
+-- What an engine's calls add to their client's list.
+pub mod Tries

@@ -1,0 +1,9 @@
+//! What a storage engine needs of its pool besides its calls: fixes that wait for the log, page files that are made, and
+//! a checkpoint's flushes.
+#![tactic(auto)]
+
+pub mod durable;
+pub mod page_files;
+
+pub use durable::{DurableLog, Leading, Log, Patience, fix_durably};
+pub use page_files::create_page_file;

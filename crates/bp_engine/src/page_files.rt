@@ -1,0 +1,95 @@
+//! Page files that are made.
+ghost use Rattle.std.specs.Prelude.{◌≡◌, ◌⊎◌, IfOk, IfErr};
+ghost use Rattle.bp_device.specs.Ports.{has_headers};
+
+use bp_device::{FilePort, OpenFault, Port};
+use bp_page::{Format, Geometry, Image, Lsn, PageNo, PortFault, Refusal};
+use std::alloc::Global;
+use std::fs;
+use std::fs::File;
+use std::rt::Files;
+use std::sync::Wait;
+
+/// Writes each page out with bytes 0 and LSN 0. In a file of version 2 each page has its number then.
+fn blank_pages<R: Wait>(
+    rt: &R,
+    alloc: Global,
+    port: &mut FilePort,
+    geometry: &Geometry,
+) -> Result<(), OpenFault>
+    ensures device { port.new.device ≡ port.old.device }
+    ensures headed { port.new.headed ≡ port.old.headed }
+    ensures refused { IfErr result (λ fault. (fault ≡ OpenFault.Port PortFault.Device) ⊎
+        (fault ≡ OpenFault.Port PortFault.Memory)) }
+{
+    let Ok(blank) = Image::blank(alloc, geometry) else {
+        return Err(OpenFault::Port(PortFault::Memory));
+    };
+    for page in 0..geometry.pages {
+        let Ok(()) = port.write(rt, PageNo::new(page), &blank, Lsn::new(0)) else {
+            return Err(OpenFault::Port(PortFault::Device));
+        };
+    }
+    Ok(())
+}
+
+/// Fills the new file at this path with blank pages, and opens it.
+fn fill<R: Files<File = File> + Wait>(
+    rt: &R,
+    alloc: Global,
+    file: File,
+    path: &str,
+    geometry: Geometry,
+    format: Format,
+) -> Result<FilePort, OpenFault>
+    ensures made { IfOk result (λ port. (port.device.pages ≡ geometry.pages)
+        × (port.device.size ≡ geometry.size)) }
+    ensures headed { IfOk result (λ port. port.headed ≡ has_headers format) }
+{
+    let bytes = geometry.pages * format.slot_size(geometry.size) as u64;
+    let Ok(()) = file.set_len(bytes) else {
+        return Err(OpenFault::Port(PortFault::Device));
+    };
+    let mut port = match FilePort::open(rt, alloc, path, geometry.size, format) {
+        Ok(port) => port,
+        Err(fault) => return Err(fault),
+    };
+    // Another program may have had the file meanwhile.
+    if port.geometry().pages != geometry.pages {
+        return Err(OpenFault::Refused(Refusal::BadLength));
+    }
+    match blank_pages(rt, alloc, &mut port, &geometry) {
+        Ok(()) => {}
+        Err(fault) => return Err(fault),
+    }
+    match file.sync_all() {
+        Ok(()) => Ok(port),
+        Err(_) => Err(OpenFault::Port(PortFault::Device)),
+    }
+}
+
+/// Makes a new page file of this version, whose pages have bytes 0, and opens it. What was written of it is synced.
+///
+/// `Port(Device)` where something stands at the path, which is then left as it is, or where the file can't be made, be
+/// written or be synced, and `Port(Memory)` where a page's bytes can't be had; `Refused(BadLength)` where somebody else
+/// changed its length meanwhile. A file that was begun is removed.
+pub fn create_page_file<R: Files<File = File> + Wait>(
+    rt: &R,
+    alloc: Global,
+    path: &str,
+    geometry: Geometry,
+    format: Format,
+) -> Result<FilePort, OpenFault>
+    ensures made { IfOk result (λ port. (port.device.pages ≡ geometry.pages)
+        × (port.device.size ≡ geometry.size)) }
+    ensures headed { IfOk result (λ port. port.headed ≡ has_headers format) }
+{
+    let Ok(file) = File::create_new(rt, path) else {
+        return Err(OpenFault::Port(PortFault::Device));
+    };
+    let made = fill(rt, alloc, file, path, geometry, format);
+    if made.is_err() {
+        let _ = fs::remove_file(rt, path);
+    }
+    made
+}

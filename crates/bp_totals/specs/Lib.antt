@@ -1,0 +1,2 @@
+-- How many replies of each kind a list of entries has.
+pub mod Totals
