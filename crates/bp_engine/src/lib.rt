@@ -1,5 +1,5 @@
-//! What a storage engine needs of its pool besides its calls: fixes that wait for the log, page files that are made, and
-//! a checkpoint's flushes.
+//! What a storage engine needs of its pool besides its calls: fixes that wait for the log and for a victim, and page files
+//! that are made.
 #![tactic(auto)]
 
 pub mod durable;
