@@ -1,3 +1,6 @@
+pub mod Naming
 pub mod Opened
 pub mod Splitting
+pub mod Stopping
 pub mod Threads
+pub mod Working

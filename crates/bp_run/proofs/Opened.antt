@@ -1,39 +1,38 @@
--- What a run does over the ports that were opened for it.
-use Rattle.std.proofs.Common.{◌≡◌, ◌∙◌, sym, ap, subst, ℕ, ◌<◌, arith, Bool, List, map, length, get_or, All, Option, Result, Ok, Err}
-use Rattle.std.proofs.lemmas.List.{get_or-map, length-map}
+-- What a run does over the page file that was opened for it.
+use Rattle.std.proofs.Common.{◌≡◌, ◌∙◌, ◌⊎◌, inl, inr, refl, sym, ap, subst, ℕ, ◌<◌, arith, Bool, List, [], ◌∷◌, length, get_or, All, Option, Some, Result, Ok, Err}
 use Rattle.std.proofs.lemmas.List.Elements.{All-get_or}
-use Rattle.std.specs.Prelude.{IfOk}
+use Rattle.std.specs.Prelude.{IfErr, IfOk, Vec}
+use Rattle.std.specs.declared.alloc.Global.{Global}
+use Rattle.clap.specs.Words.{Text}
 use Rattle.bp_page.specs.declared.limits.Geometry.{Geometry}
 use Rattle.bp_trail.specs.declared.scripts.Row.{Row}
 use Rattle.bp_trail.specs.Fits.{RowFits}
 use Rattle.bp_trail.specs.Parameters.{Parameters}
+use Rattle.bp_device.specs.Work.{Reads, Writes}
 use Rattle.bp_trace.specs.InRange.{IsInRange}
 use Rattle.bp_words.specs.declared.ending.Ending.{Ending}
 use Rattle.bp_words.specs.declared.words.Order.{Order}
 use Rattle.bp_words.specs.declared.words.Order.TheVariants as order
-use Rattle.bp_run.specs.PageFile.{HasPages, memory_named}
+use Rattle.bp_words.specs.Words.{Told, TraceAt, at_path}
+use Rattle.bp_run.specs.PageFile.{IsNamed}
 use Rattle.bp_run.specs.Scripts.{scripts_of}
-use Rattle.bp_words.specs.Words.{Told}
-use Rattle.bp_run.specs.Run.{AreRead, Reports, ReportsFree, ReportsIn, Runs, parameters_for, ports_for}
+use Rattle.bp_run.specs.Ways.{Ways}
+use Rattle.bp_run.specs.Run.{AreRead, AreRowsOf, Reports, ReportsFree, ReportsIn, Runs, parameters_for, ports_for}
+use Rattle.bp_run.specs.Stops.{HasNoRows, NotConnected, NotRead, NotReported, StopsRun}
 
 -- a run asks for a port
-pub some_ports : (o : Order) → 0 < ports_for o
-some_ports order.Trace = omega arith
-some_ports order.Free = omega arith
-
--- ports of one geometry have that of the first
-pub first_is : {X : Type 0} (f : X → Geometry) (ports : List X) (x : X) (g : Geometry) → All (λ h. h ≡ g) (map f ports) → 0 < length ports → x ≡ get_or ports 0 x → f x ≡ g
-first_is f ports x g alike some is =
-    let within : 0 < length (map f ports) = subst (λ n. 0 < n) (sym (length-map ports f)) some in
-    ap f is ∙ sym (get_or-map f ports 0 x (f x) some) ∙ All-get_or (λ h. h ≡ g) (map f ports) 0 (f x) within alike
+pub some_ports : (o : Order) (rows : List Row) → 0 < ports_for o rows
+some_ports order.Trace rows = omega arith
+some_ports order.Free rows = omega arith
 
 pub port_is : {X : Type 0} (f : X → Geometry) (ports : List X) (x : X) (g : Geometry) → All (λ p. f p ≡ g) ports → 0 < length ports → x ≡ get_or ports 0 x → f x ≡ g
 port_is f ports x g alike some is = ap f is ∙ All-get_or (λ p. f p ≡ g) ports 0 x some alike
 
-pub alike_are : {X : Type 0} (f : X → Geometry) (ports : List X) (g h : Geometry) → All (λ h. h ≡ g) (map f ports) → h ≡ g → All (λ p. f p ≡ h) ports
-alike_are f ports g h alike same k d below =
-    let within : k < length (map f ports) = subst (λ n. k < n) (sym (length-map ports f)) below in
-    sym (get_or-map f ports k d (f d) below) ∙ All-get_or (λ h. h ≡ g) (map f ports) k (f d) within alike ∙ sym same
+-- the first of one is all
+only_one : {X : Type 0} (ports : List X) (x : X) → length ports ≡ 1 → x ≡ get_or ports 0 x → ports ≡ x ∷ []
+only_one [] x one is = absurd (omega (arith, one))
+only_one (p ∷ []) x one is = ap (λ y. y ∷ []) (sym is)
+only_one (p ∷ q ∷ ports) x one is = absurd (omega (arith, one))
 
 -- rows that are in range of the pages fit the core of a run in the order of the trace
 pub rows_fit : (t : Told) (g h : Geometry) (rows : List Row) (c : Parameters) → All (IsInRange g) rows → h ≡ g → c ≡ parameters_for order.Trace t h rows → All (RowFits c) rows
@@ -42,30 +41,77 @@ rows_fit t g h rows c in_range same made k d inside =
     row.fits c (ap (λ (q : Parameters). q.pages) made ∙ ap (λ (q : Geometry). q.pages) same) (ap (λ (q : Parameters). q.size) made ∙ ap (λ (q : Geometry). q.size) same)
     (omega (arith, row.client, ap (λ (q : Parameters). q.clients) made))
 
--- a run in the order of the trace over the first of the ports
-pub in_trace : (o : Order) (t : Told) (g h : Geometry) (rows said : List Row) (old new : Option (List ℕ)) (result : Result Bool Ending) → o ≡ order.Trace → h ≡ g → said ≡ rows
-    → IfOk result (λ all_accepted. Reports (parameters_for order.Trace t h said) said all_accepted old new) → IfOk result (λ all_accepted. ReportsIn o (parameters_for o t g rows) rows all_accepted old new)
-in_trace order.Trace t g h rows said old new result is same are reports =
-    subst (λ rows. IfOk result (λ all_accepted. Reports (parameters_for order.Trace t g rows) rows all_accepted old new)) are
-    (subst (λ g. IfOk result (λ all_accepted. Reports (parameters_for order.Trace t g said) said all_accepted old new)) same reports)
-in_trace order.Free t g h rows said old new result is same are reports = cc
+-- a run in the order of the trace over the one port
+pub in_trace : {P : Type 0} (reads : Reads P) (writes : Writes P) (o : Order) (t : Told) (g h : Geometry) (ports : List P) (port : P) (rows said : List Row) (old new : Option (List ℕ)) (result : Result Bool Ending)
+    → o ≡ order.Trace → h ≡ g → said ≡ rows → length ports ≡ ports_for o rows → port ≡ get_or ports 0 port → IfOk result (λ ok. Reports reads writes (parameters_for order.Trace t h said) port said ok old new)
+    → IfOk result (λ ok. ReportsIn reads writes o (parameters_for o t g rows) ports rows ok old new)
+in_trace reads writes order.Trace t g h ports port rows said old new (Ok ok) is same are one first reports = (
+  port,
+  only_one ports port one first,
+  subst (λ rows. Reports reads writes (parameters_for order.Trace t g rows) port rows ok old new) are
+      (subst (λ g. Reports reads writes (parameters_for order.Trace t g said) port said ok old new) same reports),
+)
+in_trace reads writes order.Trace t g h ports port rows said old new (Err ended) is same are one first reports = tt
+in_trace reads writes order.Free t g h ports port rows said old new result is same are one first reports = cc
 
 -- and a run in free order over all of them
-pub in_free : (o : Order) (t : Told) (g : Geometry) (rows : List Row) (old new : Option (List ℕ)) (result : Result Bool Ending) → o ≡ order.Free
-    → IfOk result (λ all_accepted. ReportsFree (parameters_for order.Free t g rows) (scripts_of rows) all_accepted old new) → IfOk result (λ all_accepted. ReportsIn o (parameters_for o t g rows) rows all_accepted old new)
-in_free order.Free t g rows old new result is reports = reports
-in_free order.Trace t g rows old new result is reports = cc
+pub in_free : {P : Type 0} (reads : Reads P) (writes : Writes P) (o : Order) (t : Told) (g : Geometry) (ports : List P) (rows : List Row) (old new : Option (List ℕ)) (result : Result Bool Ending) → o ≡ order.Free
+    → IfOk result (λ ok. ReportsFree (parameters_for order.Free t g rows) (scripts_of rows) ok old new) → IfOk result (λ ok. ReportsIn reads writes o (parameters_for o t g rows) ports rows ok old new)
+in_free reads writes order.Free t g ports rows old new result is reports = reports
+in_free reads writes order.Trace t g ports rows old new result is reports = cc
 
--- what is reported over the opened page file
-pub over_pages : (t : Told) (bytes old new : Option (List ℕ)) (result : Result Bool Ending) (g h : Geometry) (rows : List Row) → HasPages (memory_named t.page_file) g.pages → g.size ≡ t.size
-    → h ≡ g → AreRead t.trace h bytes rows → IfOk result (λ all_accepted. ReportsIn t.order (parameters_for t.order t h rows) rows all_accepted old new)
-    → IfOk result (λ all_accepted. Runs t bytes all_accepted old new)
-over_pages t bytes old new (Ok all_accepted) g h rows pages size same read reports = record {
-  geometry = h;
-  pages = subst (λ g. HasPages (memory_named t.page_file) g.pages) (sym same) pages;
-  size = ap (λ g. g.size) same ∙ size;
+-- what is reported over the page file that was opened
+pub over_pages : {F P T : Type 0} (ways : Ways F P T) (bytes_of : T → Option (List ℕ)) (reads : Reads P) (writes : Writes P) (t : Told) (bytes old new : Option (List ℕ)) (result : Result Bool Ending)
+    (file : F) (h : Geometry) (rows lent : List Row) (ports : Vec P Global)
+    → ways.opens t.page_file t.size t.format (Ok file) → IsNamed t.page_file t.size t.format (ways.memory file) (ways.geometry file) (ways.headed file)
+    → h ≡ ways.geometry file → lent ≡ rows → AreRead ways.traces bytes_of t.trace h bytes rows → ways.connects file (ports_for t.order lent) (Ok ports)
+    → IfOk result (λ ok. ReportsIn reads writes t.order (parameters_for t.order t h rows) ports.items rows ok old new)
+    → IfOk result (λ ok. Runs ways bytes_of reads writes t bytes ok old new)
+over_pages ways bytes_of reads writes t bytes old new (Ok ok) file h rows lent ports opened named same are read connected reports = record {
+  file = file;
+  opened = opened;
+  named = named;
   rows = rows;
-  read = read;
-  reports = reports;
+  read = subst (λ g. AreRead ways.traces bytes_of t.trace g bytes rows) same read;
+  ports = ports;
+  connected = subst (λ rows. ways.connects file (ports_for t.order rows) (Ok ports)) are connected;
+  reports = subst (λ g. ReportsIn reads writes t.order (parameters_for t.order t g rows) ports.items rows ok old new) same reports;
 }
-over_pages t bytes old new (Err ending) g h rows pages size same read reports = tt
+over_pages ways bytes_of reads writes t bytes old new (Err ended) file h rows lent ports opened named same are read connected reports = tt
+
+-- ---- why there is no report
+
+pub stopped_at_trace : {F P T : Type 0} (ways : Ways F P T) (bytes_of : T → Option (List ℕ)) (t : Told) (bytes : Option (List ℕ)) (ended : Ending) (file : F) (h : Geometry)
+    → ways.opens t.page_file t.size t.format (Ok file) → h ≡ ways.geometry file → NotRead ways.traces bytes_of t.trace h bytes ended → StopsRun ways bytes_of t bytes ended
+stopped_at_trace ways bytes_of t bytes ended file h opened same not =
+    inr (inl (record { file = file; opened = opened; not_read = subst (λ g. NotRead ways.traces bytes_of t.trace g bytes ended) same not }))
+
+stopped_after : {F P T : Type 0} (ways : Ways F P T) (bytes_of : T → Option (List ℕ)) (t : Told) (bytes : Option (List ℕ)) (ended : Ending) (file : F) (h : Geometry) (rows : List Row)
+    → ways.opens t.page_file t.size t.format (Ok file) → h ≡ ways.geometry file → AreRead ways.traces bytes_of t.trace h bytes rows
+    → NotConnected ways file (ports_for t.order rows) ended ⊎ NotReported t.order ended → StopsRun ways bytes_of t bytes ended
+stopped_after ways bytes_of t bytes ended file h rows opened same read stopped =
+    inr (inr (record { file = file; opened = opened; rows = rows; read = subst (λ g. AreRead ways.traces bytes_of t.trace g bytes rows) same read; stopped = stopped }))
+
+pub stopped_at_ports : {F P T : Type 0} (ways : Ways F P T) (bytes_of : T → Option (List ℕ)) (t : Told) (bytes : Option (List ℕ)) (ended : Ending) (file : F) (h : Geometry) (rows lent : List Row)
+    → ways.opens t.page_file t.size t.format (Ok file) → h ≡ ways.geometry file → lent ≡ rows → AreRead ways.traces bytes_of t.trace h bytes rows
+    → NotConnected ways file (ports_for t.order lent) ended → StopsRun ways bytes_of t bytes ended
+stopped_at_ports ways bytes_of t bytes ended file h rows lent opened same are read not =
+    stopped_after ways bytes_of t bytes ended file h rows opened same read (inl (subst (λ rows. NotConnected ways file (ports_for t.order rows) ended) are not))
+
+pub stopped_in_run : {F P T : Type 0} (ways : Ways F P T) (bytes_of : T → Option (List ℕ)) (t : Told) (bytes : Option (List ℕ)) (result : Result Bool Ending) (file : F) (h : Geometry) (rows : List Row)
+    → ways.opens t.page_file t.size t.format (Ok file) → h ≡ ways.geometry file → AreRead ways.traces bytes_of t.trace h bytes rows
+    → IfErr result (NotReported t.order) → IfErr result (StopsRun ways bytes_of t bytes)
+stopped_in_run ways bytes_of t bytes (Ok ok) file h rows opened same read not = tt
+stopped_in_run ways bytes_of t bytes (Err ended) file h rows opened same read not = stopped_after ways bytes_of t bytes ended file h rows opened same read (inr not)
+
+-- ---- a trace at a path
+
+pub read_at : {T : Type 0} (traces : Text → Option T → Type 0) (bytes_of : T → Option (List ℕ)) (at : TraceAt) (path : Text) (g : Geometry) (bytes : Option (List ℕ)) (file : T) (result : Result (Vec Row Global) Ending)
+    → at ≡ at_path path → traces path (Some file) → IfOk result (λ rows. AreRowsOf g (bytes_of file) rows.items) → IfOk result (λ rows. AreRead traces bytes_of at g bytes rows.items)
+read_at traces bytes_of at path g bytes file (Ok rows) is opened read = subst (λ at. AreRead traces bytes_of at g bytes rows.items) (sym is) (file, opened, read)
+read_at traces bytes_of at path g bytes file (Err ended) is opened read = tt
+
+pub not_read_at : {T : Type 0} (traces : Text → Option T → Type 0) (bytes_of : T → Option (List ℕ)) (at : TraceAt) (path : Text) (g : Geometry) (bytes : Option (List ℕ)) (file : T) (result : Result (Vec Row Global) Ending)
+    → at ≡ at_path path → traces path (Some file) → IfErr result (HasNoRows g (bytes_of file)) → IfErr result (NotRead traces bytes_of at g bytes)
+not_read_at traces bytes_of at path g bytes file (Ok rows) is opened not = tt
+not_read_at traces bytes_of at path g bytes file (Err ended) is opened not = subst (λ at. NotRead traces bytes_of at g bytes ended) (sym is) (inr (file, opened, not))

@@ -1,10 +1,15 @@
 -- What the word of a page file names.
-use Rattle.std.specs.Prelude.{◌≡◌, ℕ, Bool, false, if◌then◌else◌, List, drop, take, codes, Option, Some, None, All}
+use Rattle.std.specs.Prelude.{◌≡◌, ◌⊎◌, ℕ, Bool, false, if◌then◌else◌, drop, take, codes, Option, Some, None}
 use Rattle.std.specs.Str.{bytes_eq}
 use Rattle.clap.specs.Words.{Text}
+use Rattle.bp_page.specs.Limits.{IsGeometry}
 use Rattle.bp_page.specs.declared.limits.Geometry.{Geometry}
 use Rattle.bp_page.specs.declared.slots.Format.{Format}
+use Rattle.bp_page.specs.declared.refusals.Refusal.TheVariants.{BadGeometry, BadLength, OutOfMemory}
+use Rattle.bp_page.specs.declared.refusals.PortFault.TheVariants.{Device, Memory}
 use Rattle.bp_device.specs.Ports.{has_headers}
+use Rattle.bp_device.specs.declared.files.OpenFault.{OpenFault}
+use Rattle.bp_device.specs.declared.files.OpenFault.TheVariants.{Refused, Port}
 use Rattle.bp_trace.specs.Numbers.{number_in}
 
 -- `mem:` with a number after it is so many pages in memory, and any other word is a path
@@ -21,9 +26,23 @@ abbrev pub headed_in : Option ℕ → Format → Bool
 headed_in (Some n) format = false
 headed_in None format = has_headers format
 
--- ports of one geometry, with pages of so many bytes, as many as the word says
-pub record AreOpened (word : Text) (size : ℕ) (geometries : List Geometry) : Type 0 where
-  pub geometry : Geometry
-  pub alike : All (λ g. g ≡ geometry) geometries
+-- what a word names, with pages of so many bytes in a version: the pages in memory, if it names so many, the geometry, and whether pages stand with their numbers
+pub record IsNamed (word : Text) (size : ℕ) (format : Format) (memory : Option ℕ) (geometry : Geometry) (headed : Bool) : Type 0 where
+  pub memory_is : memory ≡ memory_named word
   pub pages : HasPages (memory_named word) geometry.pages
   pub size_is : geometry.size ≡ size
+  pub headed_is : headed ≡ headed_in (memory_named word) format
+
+-- ---- why a page file is not opened, or not as often as asked
+
+abbrev pub IsForMemory : OpenFault → Type 0
+IsForMemory fault = (fault ≡ Refused OutOfMemory) ⊎ (fault ≡ Port Memory)
+
+-- the file's length is none of whole pages, or the device failed
+abbrev pub IsOfFile : OpenFault → Type 0
+IsOfFile fault = (fault ≡ Refused BadLength) ⊎ (fault ≡ Port Device)
+
+-- of pages in memory: their number or size is out of its limits; of a path: its file is at fault; and of both: memory is wanted
+abbrev pub IsOpenFault : Option ℕ → ℕ → OpenFault → Type 0
+IsOpenFault (Some n) size fault = IsForMemory fault ⊎ ((fault ≡ Refused BadGeometry) × ¬ IsGeometry n size)
+IsOpenFault None size fault = IsForMemory fault ⊎ IsOfFile fault

@@ -1,5 +1,6 @@
 -- What a run of rows over a new core reports.
-use Rattle.std.specs.Prelude.{◌≡◌, ◌⊎◌, ℕ, ◌+◌, ◌*◌, ◌==◌, min, Bool, List, [], ◌++◌, length, reverse, Option, Some, IfSome, Ok, if◌then◌else◌}
+use Rattle.std.specs.Prelude.{◌≡◌, ◌⊎◌, ℕ, ◌+◌, ◌*◌, ◌==◌, min, Bool, List, [], ◌∷◌, ◌++◌, length, reverse, Option, Some, IfSome, Ok, Vec, if◌then◌else◌}
+use Rattle.std.specs.declared.alloc.Global.{Global}
 use Rattle.std.specs.Io.KnownBytes.{Appends}
 use Rattle.bp_page.specs.declared.limits.Geometry.{Geometry}
 use Rattle.bp_trail.specs.declared.entries.Entry.{Entry}
@@ -9,7 +10,8 @@ use Rattle.bp_trail.specs.Parameters.{Parameters}
 use Rattle.bp_trail.specs.Legal.{Legal}
 use Rattle.bp_trail.specs.Pieces.Manner.{driver}
 use Rattle.bp_trail.specs.Script.{Follows}
-use Rattle.bp_trace.specs.Script.{script_of}
+use Rattle.bp_device.specs.Work.{Reads, Writes, WorksThrough}
+use Rattle.bp_trace.specs.Script.{IsScriptOfSome, script_of}
 use Rattle.bp_trace.specs.Report.{report_text, rows_text}
 use Rattle.bp_clients.specs.Runs.{IsRun}
 use Rattle.clap.specs.Words.{Text}
@@ -19,7 +21,8 @@ use Rattle.bp_run.specs.Scripts.{clients_of, scripts_of}
 use Rattle.bp_words.specs.Words.{Told, TraceAt, from_stdin, at_path}
 use Rattle.bp_words.specs.Asked.{Migration, asked_by}
 use Rattle.bp_words.specs.Asked.Asked.{a_run, a_migration}
-use Rattle.bp_run.specs.PageFile.{HasPages, memory_named}
+use Rattle.bp_run.specs.PageFile.{IsNamed}
+use Rattle.bp_run.specs.Ways.{Ways}
 
 -- the room of a trail for so many rows
 abbrev pub room_for : Order → ℕ → ℕ
@@ -31,10 +34,10 @@ abbrev pub clients_for : Order → List Row → ℕ
 clients_for order.Trace rows = 64
 clients_for order.Free rows = clients_of rows
 
--- how many ports a run asks for, before its rows are known
-abbrev pub ports_for : Order → ℕ
-ports_for order.Trace = 1
-ports_for order.Free = 64
+-- how many ports a run of these rows has
+abbrev pub ports_for : Order → List Row → ℕ
+ports_for order.Trace rows = 1
+ports_for order.Free rows = clients_of rows
 
 -- what the core of a run in this order is made with, over a page file of this geometry, for these rows
 abbrev pub parameters_for : Order → Told → Geometry → List Row → Parameters
@@ -49,12 +52,15 @@ parameters_for in_order told g rows = record {
   room = room_for in_order (length rows);
 }
 
--- what was written is the report of a legal trail and of refused rows, both of which follow the script
-pub record Reports (c : Parameters) (script : List Row) (all_accepted : Bool) (old new : Option (List ℕ)) : Type 0 where
+-- what was written is the report of a legal trail and of refused rows, both of which follow the script; the trail's device work was done
+-- by the port, in the trail's order, and nothing else was
+pub record Reports {P : Type 0} (reads : Reads P) (writes : Writes P) (c : Parameters) (port : P) (script : List Row) (all_accepted : Bool) (old new : Option (List ℕ)) : Type 0 where
   pub trail : List Entry
   pub refused : List Refused
   pub legal : Legal c (reverse trail)
   pub follows : Follows driver script (reverse trail) refused
+  pub after : P
+  pub work : WorksThrough reads writes [] (reverse trail) port after
   pub accepted : all_accepted ≡ (length refused == 0)
   pub written : Appends old new (report_text trail ++ rows_text refused)
 
@@ -67,31 +73,38 @@ pub record ReportsFree (c : Parameters) (scripts : List (List Row)) (all_accepte
   pub accepted : all_accepted ≡ (length refused == 0)
   pub written : Appends old new (report_text trail ++ rows_text refused)
 
--- the rows were run in the order of the trace, or the clients as threads, each with its own rows
-abbrev pub ReportsIn : Order → Parameters → List Row → Bool → Option (List ℕ) → Option (List ℕ) → Type 0
-ReportsIn order.Trace c rows = Reports c rows
-ReportsIn order.Free c rows = ReportsFree c (scripts_of rows)
+-- the rows were run over the one port in the order of the trace, or the clients as threads, each with its own rows
+abbrev pub ReportsIn : {P : Type 0} → Reads P → Writes P → Order → Parameters → List P → List Row → Bool → Option (List ℕ) → Option (List ℕ) → Type 0
+ReportsIn {P} reads writes order.Trace c ports rows all_accepted old new = (port : P) × (ports ≡ port ∷ []) × Reports reads writes c port rows all_accepted old new
+ReportsIn reads writes order.Free c ports rows all_accepted old new = ReportsFree c (scripts_of rows) all_accepted old new
 
--- the rows are those that the bytes of standard input say, where the trace is read there
-abbrev pub AreRead : TraceAt → Geometry → Option (List ℕ) → List Row → Type 0
-AreRead from_stdin g bytes rows = IfSome bytes (λ bytes. script_of g bytes ≡ Ok rows)
-AreRead (at_path path) g bytes rows = Unit {0}
+-- the rows are those that the bytes say, where these are known, and those of some records in any case
+pub record AreRowsOf (g : Geometry) (bytes : Option (List ℕ)) (rows : List Row) : Type 0 where
+  pub said : IfSome bytes (λ bytes. script_of g bytes ≡ Ok rows)
+  pub some : IsScriptOfSome g rows
 
--- what was written is the report of such a run of the rows of the trace, over the page file that the word names
-pub record Runs (told : Told) (bytes : Option (List ℕ)) (all_accepted : Bool) (old new : Option (List ℕ)) : Type 0 where
-  pub geometry : Geometry
-  pub pages : HasPages (memory_named told.page_file) geometry.pages
-  pub size : geometry.size ≡ told.size
+-- the trace is standard input, with these bytes, or what was opened at its path
+abbrev pub AreRead : {T : Type 0} → (Text → Option T → Type 0) → (T → Option (List ℕ)) → TraceAt → Geometry → Option (List ℕ) → List Row → Type 0
+AreRead traces bytes_of from_stdin g bytes rows = AreRowsOf g bytes rows
+AreRead {T} traces bytes_of (at_path path) g bytes rows = (file : T) × traces path (Some file) × AreRowsOf g (bytes_of file) rows
+
+-- what was written is the report of such a run of the rows of the trace, over ports to the page file that was opened as the words name it
+pub record Runs {F P T : Type 0} (ways : Ways F P T) (bytes_of : T → Option (List ℕ)) (reads : Reads P) (writes : Writes P) (told : Told) (bytes : Option (List ℕ)) (all_accepted : Bool) (old new : Option (List ℕ)) : Type 0 where
+  pub file : F
+  pub opened : ways.opens told.page_file told.size told.format (Ok file)
+  pub named : IsNamed told.page_file told.size told.format (ways.memory file) (ways.geometry file) (ways.headed file)
   pub rows : List Row
-  pub read : AreRead told.trace geometry bytes rows
-  pub reports : ReportsIn told.order (parameters_for told.order told geometry rows) rows all_accepted old new
+  pub read : AreRead ways.traces bytes_of told.trace (ways.geometry file) bytes rows
+  pub ports : Vec P Global
+  pub connected : ways.connects file (ports_for told.order rows) (Ok ports)
+  pub reports : ReportsIn reads writes told.order (parameters_for told.order told (ways.geometry file) rows) ports.items rows all_accepted old new
 
 -- what was written is the report of such a run, with what the words name; the status is 0 where all rows were accepted, else 1
-pub record RunsWords (words : List Text) (bytes : Option (List ℕ)) (status : ℕ) (old new : Option (List ℕ)) : Type 0 where
+pub record RunsWords {F P T : Type 0} (ways : Ways F P T) (bytes_of : T → Option (List ℕ)) (reads : Reads P) (writes : Writes P) (words : List Text) (bytes : Option (List ℕ)) (status : ℕ) (old new : Option (List ℕ)) : Type 0 where
   pub told : Told
   pub named : asked_by words ≡ Some (a_run told)
   pub all_accepted : Bool
-  pub runs : Runs told bytes all_accepted old new
+  pub runs : Runs ways bytes_of reads writes told bytes all_accepted old new
   pub status_is : status ≡ (if all_accepted then 0 else 1)
 
 -- the words name a migration; nothing was written here, and the status is 0
@@ -102,5 +115,6 @@ pub record MigratesWords (words : List Text) (status : ℕ) (old new : Option (L
   pub status_is : status ≡ 0
 
 -- what the words name was done
-abbrev pub DoesWords : List Text → Option (List ℕ) → ℕ → Option (List ℕ) → Option (List ℕ) → Type 0
-DoesWords words bytes status old new = RunsWords words bytes status old new ⊎ MigratesWords words status old new
+abbrev pub DoesWords : {F P T : Type 0} → Ways F P T → (T → Option (List ℕ)) → Reads P → Writes P → List Text → Option (List ℕ) → ℕ → Option (List ℕ) → Option (List ℕ) → Type 0
+DoesWords ways bytes_of reads writes words bytes status old new =
+    RunsWords ways bytes_of reads writes words bytes status old new ⊎ MigratesWords words status old new

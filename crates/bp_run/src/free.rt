@@ -1,12 +1,13 @@
 //! A run in free order: one thread for each client.
-ghost use Rattle.std.specs.Prelude.{◌≡◌, All, IfErr, IfOk, false, vec_len};
+ghost use Rattle.std.specs.Prelude.{◌≡◌, ◌≢◌, All, IfErr, IfOk, vec_len};
+ghost use Rattle.bp_core.specs.Outcomes.{IsFit};
 ghost use Rattle.bp_clients.specs.Jobs.{lists};
 ghost use Rattle.bp_clients.specs.Runs.{IsRun, run_parameters};
 ghost use Rattle.bp_trace.specs.InRange.{IsInRange};
 ghost use Rattle.bp_words.specs.Decision.{IsRunnable};
-ghost use Rattle.bp_words.specs.Ending.{is_help};
 ghost use Rattle.bp_run.specs.Run.{ReportsFree, parameters_for};
 ghost use Rattle.bp_run.specs.Scripts.{clients_of, scripts_of};
+ghost use Rattle.bp_run.specs.Stops.{NotReported};
 ghost use Rattle.bp_words.specs.Words.{told_of};
 
 use crate::run::{print_run, room_for};
@@ -39,8 +40,7 @@ fn config_of(run: &RunWords<'_>, geometry: Geometry, rows: &[Row]) -> Config
     }
 }
 
-/// Runs the rows by one thread for each client, each with the rows of its own over a port of its own. The ports are the first of
-/// those that were opened.
+/// Runs the rows by one thread for each client, each with the rows of its own over a port of its own.
 fn run_threads<P: Port + Send, R: Threads + Wait + Sync>(
     rt: &R,
     alloc: Global,
@@ -48,20 +48,19 @@ fn run_threads<P: Port + Send, R: Threads + Wait + Sync>(
     ports: Vec<P>,
     rows: Vec<Row>,
 ) -> Result<Outcome, Ending>
-    requires ports { vec_len ports ≡ 64 }
+    requires ports { vec_len ports ≡ clients_of rows.items }
     requires alike { All (λ p. P.geometry_of p ≡ config.geometry) ports.items }
     requires fits { All (IsInRange config.geometry) rows.items }
+    requires fit { IsFit (run_parameters config (clients_of rows.items)) }
     ensures run { IfOk result (λ run. IsRun (run_parameters config (clients_of rows.items))
         (scripts_of rows.items) run.trail.items (lists run.said.items) run.refused.items) }
-    ensures fault { IfErr result (λ ending. is_help ending ≡ false) }
+    ensures fault { IfErr result (NotReported Order.Free) }
 {
     let clients = client_count(&rows);
     let scripts = match split(alloc, rows, clients) {
         Ok(scripts) => scripts,
         Err(refusal) => return Err(Ending::RunRefused(refusal)),
     };
-    let mut ports = ports;
-    ports.truncate(clients);
     match run_clients(rt, alloc, config, scripts, ports) {
         Ok(outcome) => Ok(outcome),
         Err(refusal) => Err(Ending::RunRefused(refusal)),
@@ -79,13 +78,14 @@ pub(crate) fn run_free<P: Port + Send, R: Threads + Wait + Sync, W: Write>(
     out: &mut W,
 ) -> Result<bool, Ending>
     requires runnable { IsRunnable (told_of run.now) }
-    requires ports { vec_len ports ≡ 64 }
+    requires ports { vec_len ports ≡ clients_of rows.items }
     requires alike { All (λ p. P.geometry_of p ≡ geometry) ports.items }
     requires fits { All (IsInRange geometry) rows.items }
     ensures reported { IfOk result (λ all_accepted. ReportsFree
         (parameters_for Order.Free (told_of run.now) geometry rows.items)
         (scripts_of rows.items) all_accepted (W.contents out.old) (W.contents out.new)) }
-    ensures fault { IfErr result (λ ending. is_help ending ≡ false) }
+    ensures fault { IfErr result (NotReported Order.Free) }
+    ensures kept { IfErr result (λ ended. ended ≢ Ending.OutputFailed → out.new ≡ out.old) }
 {
     let config = config_of(run, geometry, &rows);
     let outcome = match run_threads(rt, alloc, config, ports, rows) {

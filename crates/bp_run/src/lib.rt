@@ -3,14 +3,18 @@
 //! The contract of `run_with` is the promise of the whole program.
 #![tactic(auto)]
 
+mod awaiting;
 mod free;
 mod meter;
 mod migration;
+mod open_pages;
 mod opening;
 mod page_files;
 mod run;
 mod scripts;
 
+pub use awaiting::Awaiting;
+pub use open_pages::{OpenFile, OpenMemory, OpenPages};
 pub use opening::Ports;
 pub use page_files::{AnyPort, PageFiles};
-pub use run::run_with;
+pub use run::{carry_out, run_with};

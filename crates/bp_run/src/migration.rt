@@ -2,7 +2,7 @@
 ghost use Rattle.std.specs.Prelude.{◌≡◌, IfErr, false};
 ghost use Rattle.bp_words.specs.Asked.{migration_of};
 ghost use Rattle.bp_words.specs.Decision.{IsMigratable};
-ghost use Rattle.bp_words.specs.Ending.{is_help};
+ghost use Rattle.bp_run.specs.Stops.{StopsMigration};
 
 use crate::meter::Meter;
 use bp_device::geometry_of_file;
@@ -18,7 +18,7 @@ use std::rt::Files;
 
 /// How the program ends where a migration failed.
 fn ending_of(fault: MigrateFault) -> Ending
-    ensures { is_help result ≡ false }
+    ensures { StopsMigration result }
 {
     match fault {
         MigrateFault::Read => Ending::PageFileNotOpened,
@@ -29,7 +29,7 @@ fn ending_of(fault: MigrateFault) -> Ending
 
 /// How the program ends where the words name page files between which there is no migration.
 fn words_refused(alloc: Global, why: &str) -> Ending
-    ensures { is_help result ≡ false }
+    ensures { StopsMigration result }
 {
     match Line::of(alloc, why) {
         Ok(line) => Ending::CommandLine(line),
@@ -61,7 +61,7 @@ fn copy_pages<I: Read + Drop, W: Write + OpenFile + Drop, P: Progress>(
     geometry: &Geometry,
     progress: &mut P,
 ) -> Result<(), Ending>
-    ensures fault { IfErr result (λ ending. is_help ending ≡ false) }
+    ensures fault { IfErr result StopsMigration }
 {
     let no_memory = Ending::PageFileRefused(Refusal::OutOfMemory);
     let Ok(mut reader) = BufReader::new(alloc, old) else {
@@ -90,7 +90,7 @@ fn make_file<R: Files, P: Progress>(
     new: &str,
     progress: &mut P,
 ) -> Result<(), Ending>
-    ensures fault { IfErr result (λ ending. is_help ending ≡ false) }
+    ensures fault { IfErr result StopsMigration }
 {
     let Ok(file) = File::create_new(rt, beside) else {
         return Err(Ending::OutputFailed);
@@ -113,7 +113,7 @@ fn open_old<R: Files>(
     words: &MigrationWords<'_>,
 ) -> Result<(R::File, Geometry), Ending>
     requires possible { IsMigratable (migration_of words.now) }
-    ensures fault { IfErr result (λ ending. is_help ending ≡ false) }
+    ensures fault { IfErr result StopsMigration }
 {
     let Ok(file) = fs::open(rt, words.old) else {
         return Err(Ending::PageFileNotOpened);
@@ -145,7 +145,8 @@ pub(crate) fn migrate<R: Files, E: Write>(
     err: &mut E,
 ) -> Result<(), Ending>
     requires possible { IsMigratable (migration_of words.now) }
-    ensures fault { IfErr result (λ ending. is_help ending ≡ false) }
+    ensures fault { IfErr result StopsMigration }
+    ensures err_kept { is_watched ≡ false → err.new ≡ err.old }
 {
     let (old, geometry) = match open_old(rt, alloc, words) {
         Ok(opened) => opened,

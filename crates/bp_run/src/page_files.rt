@@ -1,14 +1,17 @@
 //! Page files in memory and on disk.
-ghost use Rattle.std.specs.Prelude.{◌≡◌, false, IfOk, IfSome};
-ghost use Rattle.bp_run.specs.PageFile.{memory_named};
+ghost use Rattle.std.specs.Prelude.{◌≡◌, ◌⊎◌, false, IfErr, IfOk, IfSome, string_bytes};
+ghost use Rattle.bp_page.specs.Limits.{IsGeometry};
 ghost use Rattle.bp_device.specs.Ports.{has_headers};
+ghost use Rattle.bp_run.specs.PageFile.{IsForMemory, IsOfFile, memory_named};
 ghost use Rattle.bp_run.specs.AnyPort.{IsPortTo, AreOf};
 
+use crate::open_pages::{OpenFile, OpenMemory, OpenPages};
 use crate::opening::Ports;
 use bp_device::{FilePort, MemDevice, MemPort, OpenFault, Port};
-use bp_page::{Format, Geometry, Image, Lsn, PageNo, PortFault};
+use bp_page::{Format, Geometry, Image, Lsn, PageNo, PortFault, Refusal};
 use bp_trace::numbers::parse_number;
 use std::alloc::Global;
+use std::fs;
 use std::fs::File;
 use std::rt::Files;
 use std::sync::Wait;
@@ -79,15 +82,60 @@ fn memory_named(word: &str) -> Option<u64>
         .and_then(parse_number)
 }
 
-/// Ports to a new device in memory, one for each client.
+/// So many pages of zero bytes in memory.
+fn open_memory(alloc: Global, pages: u64, size: usize) -> Result<OpenMemory, OpenFault>
+    ensures pages { IfOk result (λ memory. memory.geometry.pages ≡ pages) }
+    ensures size { IfOk result (λ memory. memory.geometry.size ≡ size) }
+    ensures refused { IfErr result (λ fault. IsForMemory fault ⊎
+        ((fault ≡ OpenFault.Refused Refusal.BadGeometry) × ¬ IsGeometry pages size)) }
+{
+    let geometry = match Geometry::new(pages, size) {
+        Ok(geometry) => geometry,
+        Err(refusal) => return Err(OpenFault::Refused(refusal)),
+    };
+    match MemDevice::new(alloc, geometry) {
+        Ok(device) => Ok(OpenMemory { geometry, device }),
+        Err(refusal) => Err(OpenFault::Refused(refusal)),
+    }
+}
+
+/// The page file at a path, opened once.
+fn open_path<R: Files<File = File>>(
+    rt: &R,
+    alloc: Global,
+    path: &str,
+    size: usize,
+    format: Format,
+) -> Result<OpenFile, OpenFault>
+    requires size { IsGeometry 1 size }
+    ensures path { IfOk result (λ file. string_bytes file.path ≡ path.now) }
+    ensures format { IfOk result (λ file. file.format ≡ format) }
+    ensures size { IfOk result (λ file. file.first.device.size ≡ size) }
+    ensures refused { IfErr result (λ fault. IsForMemory fault ⊎ IsOfFile fault) }
+{
+    let first = match FilePort::open(rt, alloc, path, size, format) {
+        Ok(first) => first,
+        Err(fault) => return Err(fault),
+    };
+    let Ok(path) = String::from_str(alloc, path) else {
+        return Err(OpenFault::Port(PortFault::Memory));
+    };
+    Ok(OpenFile {
+        path,
+        format,
+        first,
+    })
+}
+
+/// Ports to a device in memory, one for each client.
 fn memory_ports(
     alloc: Global,
-    geometry: Geometry,
+    device: &MemDevice,
     clients: usize,
 ) -> Result<Vec<AnyPort>, OpenFault>
-    ensures ports { IfOk result (λ ports. AreOf geometry false clients ports.items) }
+    ensures ports { IfOk result (λ ports. AreOf device.now false clients ports.items) }
+    ensures refused { IfErr result IsForMemory }
 {
-    let device = MemDevice::new(alloc, geometry).map_err(OpenFault::Refused)?;
     let Ok(mut ports) = Vec::with_capacity(alloc, clients) else {
         return Err(OpenFault::Port(PortFault::Memory));
     };
@@ -109,8 +157,12 @@ fn reopen<R: Files<File = File>>(
     geometry: Geometry,
 ) -> Result<AnyPort, OpenFault>
     ensures same { IfOk result (λ port. IsPortTo geometry (has_headers format) port) }
+    ensures refused { IfErr result (λ fault. IsForMemory fault ⊎ IsOfFile fault) }
 {
-    let port = FilePort::open(rt, alloc, path, geometry.size, format)?;
+    let port = match FilePort::open(rt, alloc, path, geometry.size, format) {
+        Ok(port) => port,
+        Err(fault) => return Err(fault),
+    };
     if port.geometry().pages != geometry.pages {
         return Err(OpenFault::Port(PortFault::Device));
     }
@@ -129,6 +181,7 @@ fn next_port<R: Files<File = File>>(
     requires first { IfSome first.old (λ port. IsPortTo geometry (has_headers format) port) }
     ensures port { IfOk result (λ port. IsPortTo geometry (has_headers format) port) }
     ensures first { IfSome first.new (λ port. IsPortTo geometry (has_headers format) port) }
+    ensures refused { IfErr result (λ fault. IsForMemory fault ⊎ IsOfFile fault) }
 {
     match first.take() {
         Some(port) => Ok(port),
@@ -150,16 +203,39 @@ fn file_ports<R: Files<File = File>>(
     requires geometry { first.device ≡ geometry }
     requires headed { first.headed ≡ has_headers format }
     ensures ports { IfOk result (λ ports. AreOf geometry (has_headers format) clients ports.items) }
+    ensures refused { IfErr result (λ fault. IsForMemory fault ⊎ IsOfFile fault) }
 {
     let mut first = Some(AnyPort::File(first));
     let Ok(mut ports) = Vec::with_capacity(alloc, clients) else {
         return Err(OpenFault::Port(PortFault::Memory));
     };
     for _ in 0..clients {
-        let port = next_port(rt, alloc, path, format, geometry, &mut first)?;
-        ports.push_reserved(port);
+        match next_port(rt, alloc, path, format, geometry, &mut first) {
+            Ok(port) => ports.push_reserved(port),
+            Err(fault) => return Err(fault),
+        }
     }
     Ok(ports)
+}
+
+/// Ports to the page file at a path that is open.
+fn connect_file<R: Files<File = File>>(
+    rt: &R,
+    alloc: Global,
+    file: OpenFile,
+    clients: usize,
+) -> Result<Vec<AnyPort>, OpenFault>
+    ensures ports { IfOk result (λ ports.
+        AreOf file.first.device file.first.headed clients ports.items) }
+    ensures refused { IfErr result (λ fault. IsForMemory fault ⊎ IsOfFile fault) }
+{
+    let OpenFile {
+        path,
+        format,
+        first,
+    } = file;
+    let geometry = first.geometry();
+    file_ports(rt, alloc, path.as_str(), format, geometry, first, clients)
 }
 
 /// Opens the page files that words name.
@@ -188,7 +264,17 @@ impl PageFiles {
 }
 
 impl<R: Files<File = File>> Ports<R> for PageFiles {
+    ghost use Rattle.bp_run.specs.AnyPort.{pages_ways};
+
+    type F = OpenPages;
+
     type P = AnyPort;
+
+    type T = File;
+
+    ghost ways = { pages_ways };
+
+    ghost watched = { λ files. files.is_watched };
 
     fn open(
         &mut self,
@@ -196,21 +282,40 @@ impl<R: Files<File = File>> Ports<R> for PageFiles {
         word: &str,
         size: usize,
         format: Format,
-        clients: usize,
-    ) -> Result<Vec<AnyPort>, OpenFault> {
+    ) -> Result<OpenPages, OpenFault> {
         match memory_named(word) {
-            Some(pages) => match Geometry::new(pages, size) {
-                Ok(geometry) => memory_ports(self.alloc, geometry, clients),
-                Err(refusal) => Err(OpenFault::Refused(refusal)),
+            Some(pages) => match open_memory(self.alloc, pages, size) {
+                Ok(memory) => Ok(OpenPages::Mem(memory)),
+                Err(fault) => Err(fault),
             },
-            None => match FilePort::open(rt, self.alloc, word, size, format) {
-                Ok(first) => {
-                    let geometry = first.geometry();
-                    file_ports(rt, self.alloc, word, format, geometry, first, clients)
-                }
+            None => match open_path(rt, self.alloc, word, size, format) {
+                Ok(file) => Ok(OpenPages::File(file)),
                 Err(fault) => Err(fault),
             },
         }
+    }
+
+    fn geometry(&self, file: &OpenPages) -> Geometry {
+        match file {
+            OpenPages::Mem(memory) => memory.geometry,
+            OpenPages::File(file) => file.first.geometry(),
+        }
+    }
+
+    fn connect(
+        &mut self,
+        rt: &R,
+        file: OpenPages,
+        clients: usize,
+    ) -> Result<Vec<AnyPort>, OpenFault> {
+        match file {
+            OpenPages::Mem(memory) => memory_ports(self.alloc, &memory.device, clients),
+            OpenPages::File(file) => connect_file(rt, self.alloc, file, clients),
+        }
+    }
+
+    fn trace(&mut self, rt: &R, path: &str) -> Option<File> {
+        fs::open(rt, path).ok()
     }
 
     fn is_watched(&self) -> bool {

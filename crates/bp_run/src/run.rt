@@ -1,20 +1,23 @@
 //! A run: the rows of a trace over a new core and a page file, and the report of what it did.
-ghost use Rattle.std.specs.Prelude.{◌≡◌, ◌++◌, ◌<◌, ◌≤◌, All, IfErr, IfOk, OnOk, [], false, if◌then◌else◌, map, vec_len};
+ghost use Rattle.std.specs.Prelude.{◌≡◌, ◌≢◌, ◌⊎◌, ◌++◌, ◌<◌, ◌≤◌, All, IfErr, IfOk, OnOk, [], if◌then◌else◌, vec_len};
 ghost use Rattle.std.specs.Io.KnownBytes.{Appends};
 ghost use Rattle.clap.specs.Walk.{texts};
 ghost use Rattle.bp_trail.specs.Fits.{RowFits};
 ghost use Rattle.bp_trace.specs.InRange.{IsInRange};
 ghost use Rattle.bp_trace.specs.Report.{report_text, rows_text};
 ghost use Rattle.bp_words.specs.Decision.{AsksForHelp, IsRunnable};
-ghost use Rattle.bp_words.specs.Ending.{is_help};
+ghost use Rattle.bp_words.specs.Words.{told_of, trace_told, words_or_default};
 ghost use Rattle.bp_run.specs.Opening.{ending_of};
-ghost use Rattle.bp_run.specs.PageFile.{AreOpened};
-ghost use Rattle.bp_words.specs.Words.{from_stdin, told_of, trace_told, words_or_default};
-ghost use Rattle.bp_run.specs.Run.{AreRead, Reports, ReportsIn, Runs, DoesWords, parameters_for, ports_for, room_for};
+ghost use Rattle.bp_run.specs.PageFile.{IsNamed};
+ghost use Rattle.bp_run.specs.Run.{AreRead, AreRowsOf, Reports, ReportsIn, Runs, DoesWords};
+ghost use Rattle.bp_run.specs.Run.{parameters_for, ports_for, room_for};
+ghost use Rattle.bp_run.specs.Stops.{Ended, EndsBy, HasNoRows, IsShown, NotConnected, NotOpened};
+ghost use Rattle.bp_run.specs.Stops.{NotRead, NotReported, Prints, StopsRun};
 
 use crate::free::run_free;
 use crate::migration::migrate;
 use crate::opening::Ports;
+use crate::scripts::client_count;
 use bp_core::{Core, Entry, Refused, Row};
 use bp_device::{OpenFault, Port, drive_all};
 use bp_lruk::Settings;
@@ -22,7 +25,6 @@ use bp_page::{Geometry, PortFault, Refusal};
 use bp_trace::{read_script, report, report_rows};
 use bp_words::{Ending, Order, RunWords, Task, TraceSource, decide};
 use std::alloc::Global;
-use std::fs;
 use std::io::{Read, Write};
 use std::marker::{Send, Sync};
 use std::rt::Files;
@@ -46,13 +48,13 @@ pub(crate) fn room_for(order: Order, rows: usize) -> usize
     room.min(MAX_ROOM)
 }
 
-/// How many ports a run asks for. In free order each client has one, and the clients are not known before the page file is open.
-fn ports_for(order: Order) -> usize
-    ensures { result ≡ ports_for order }
+/// How many ports a run of these rows has: in free order one for each client, as each is a thread.
+fn ports_for(order: Order, rows: &[Row]) -> usize
+    ensures { result ≡ ports_for order rows.now }
 {
     match order {
         Order::Trace => 1,
-        Order::Free => CLIENTS as usize,
+        Order::Free => client_count(rows),
     }
 }
 
@@ -64,7 +66,7 @@ pub(crate) fn print_run<W: Write>(
 ) -> Result<(), Ending>
     ensures written { OnOk result (Appends (W.contents out.old) (W.contents out.new)
         (report_text entries.now ++ rows_text refused.now)) }
-    ensures fault { IfErr result (λ ending. is_help ending ≡ false) }
+    ensures fault { IfErr result (λ ended. ended ≡ Ending.OutputFailed) }
 {
     if report(entries, out).is_err() || report_rows(refused, out).is_err() || out.flush().is_err() {
         return Err(Ending::OutputFailed);
@@ -82,18 +84,20 @@ fn new_core(
     requires runnable { IsRunnable (told_of run.now) }
     ensures made { IfOk result (λ core. (core.parameters ≡ parameters_for Order.Trace
         (told_of run.now) geometry rows.now) × (core.before ≡ []) × (core.past ≡ [])) }
-    ensures fault { IfErr result (λ ending. is_help ending ≡ false) }
+    ensures fault { IfErr result (λ ended. ended ≡ Ending.RunRefused Refusal.OutOfMemory) }
 {
     let settings = Settings::new(run.k, run.correlated, run.retained).unwrap();
-    let core = Core::new(
+    match Core::new(
         alloc,
         geometry,
         settings,
         run.frames,
         CLIENTS,
         room_for(Order::Trace, rows.len()),
-    );
-    core.map_err(Ending::RunRefused)
+    ) {
+        Ok(core) => Ok(core),
+        Err(refusal) => Err(Ending::RunRefused(refusal)),
+    }
 }
 
 /// Runs the rows over a new core and the port, and writes the report and the refused rows. Answers whether all rows were
@@ -109,9 +113,10 @@ fn drive_rows<P: Port, R: Wait, W: Write>(
     requires new { (core.old.before ≡ []) × (core.old.past ≡ []) }
     requires size { (P.geometry_of port.old).size ≡ core.old.parameters.size }
     requires fits { All (RowFits core.old.parameters) rows.now }
-    ensures reported { IfOk result (λ ok. Reports core.old.parameters rows.now ok
-        (W.contents out.old) (W.contents out.new)) }
-    ensures fault { IfErr result (λ ending. is_help ending ≡ false) }
+    ensures reported { IfOk result (λ ok. Reports P.read_gives P.write_gives core.old.parameters
+        port.old rows.now ok (W.contents out.old) (W.contents out.new)) }
+    ensures fault { IfErr result (NotReported Order.Trace) }
+    ensures kept { IfErr result (λ ended. ended ≢ Ending.OutputFailed → out.new ≡ out.old) }
 {
     let refused = match drive_all(rt, alloc, core, port, rows) {
         Ok(refused) => refused,
@@ -135,10 +140,11 @@ fn run_rows<P: Port, R: Wait, W: Write>(
 ) -> Result<bool, Ending>
     requires runnable { IsRunnable (told_of run.now) }
     requires fits { All (IsInRange (P.geometry_of port.old)) rows.now }
-    ensures reported { IfOk result (λ all_accepted. Reports
-        (parameters_for Order.Trace (told_of run.now) (P.geometry_of port.old) rows.now) rows.now
-        all_accepted (W.contents out.old) (W.contents out.new)) }
-    ensures fault { IfErr result (λ ending. is_help ending ≡ false) }
+    ensures reported { IfOk result (λ ok. Reports P.read_gives P.write_gives
+        (parameters_for Order.Trace (told_of run.now) (P.geometry_of port.old) rows.now)
+        port.old rows.now ok (W.contents out.old) (W.contents out.new)) }
+    ensures fault { IfErr result (NotReported Order.Trace) }
+    ensures kept { IfErr result (λ ended. ended ≢ Ending.OutputFailed → out.new ≡ out.old) }
 {
     let mut core = match new_core(alloc, run, port.geometry(), rows) {
         Ok(core) => core,
@@ -153,31 +159,36 @@ fn rows_from<I: Read>(
     reader: &mut I,
     geometry: &Geometry,
 ) -> Result<Vec<Row>, Ending>
-    ensures read { IfOk result (λ rows. AreRead from_stdin geometry.now
+    ensures read { IfOk result (λ rows. AreRowsOf geometry.now
         (I.remaining reader.old) rows.items) }
     ensures fits { IfOk result (λ rows. All (IsInRange geometry.now) rows.items) }
-    ensures fault { IfErr result (λ ending. is_help ending ≡ false) }
+    ensures fault { IfErr result (HasNoRows geometry.now (I.remaining reader.old)) }
 {
-    read_script(alloc, reader, geometry).map_err(Ending::TraceRefused)
+    match read_script(alloc, reader, geometry) {
+        Ok(rows) => Ok(rows),
+        Err(fault) => Err(Ending::TraceRefused(fault)),
+    }
 }
 
 /// The rows of the trace: of standard input, or of the file at its path.
-fn rows_of<I: Read, R: Files>(
+fn rows_of<I: Read, R, O: Ports<R>>(
     rt: &R,
     alloc: Global,
     trace: TraceSource<'_>,
     reader: &mut I,
+    ports: &mut O,
     geometry: &Geometry,
 ) -> Result<Vec<Row>, Ending>
-    ensures read { IfOk result (λ rows. AreRead (trace_told trace.entry) geometry.now
-        (I.remaining reader.old) rows.items) }
+    ensures read { IfOk result (λ rows. AreRead O.ways.traces O.T.remaining
+        (trace_told trace.entry) geometry.now (I.remaining reader.old) rows.items) }
     ensures fits { IfOk result (λ rows. All (IsInRange geometry.now) rows.items) }
-    ensures fault { IfErr result (λ ending. is_help ending ≡ false) }
+    ensures fault { IfErr result (NotRead O.ways.traces O.T.remaining
+        (trace_told trace.entry) geometry.now (I.remaining reader.old)) }
 {
     match trace {
         TraceSource::Stdin => rows_from(alloc, reader, geometry),
         TraceSource::Path(path) => {
-            let Ok(mut file) = fs::open(rt, path) else {
+            let Some(mut file) = ports.trace(rt, path) else {
                 return Err(Ending::TraceNotOpened);
             };
             rows_from(alloc, &mut file, geometry)
@@ -197,20 +208,38 @@ fn ending_of(fault: OpenFault) -> Ending
     }
 }
 
-/// Ports to the page file that the words name, as many as a run in their order asks for.
-fn open_ports<R, O: Ports<R>>(
+/// The page file that the words name.
+fn open_file<R, O: Ports<R>>(rt: &R, ports: &mut O, run: &RunWords<'_>) -> Result<O::F, Ending>
+    requires runnable { IsRunnable (told_of run.now) }
+    ensures gave { IfOk result (λ file. O.ways.opens run.now.page_file.now run.now.page_size
+        run.now.format (Ok file)) }
+    ensures named { IfOk result (λ file. IsNamed run.now.page_file.now run.now.page_size
+        run.now.format (O.ways.memory file) (O.ways.geometry file) (O.ways.headed file)) }
+    ensures fault { IfErr result (NotOpened O.ways (told_of run.now)) }
+{
+    match ports.open(rt, run.page_file, run.page_size, run.format) {
+        Ok(file) => Ok(file),
+        Err(fault) => Err(ending_of(fault)),
+    }
+}
+
+/// Ports to the page file, as many as a run of these rows has.
+fn connect<R, O: Ports<R>>(
     rt: &R,
     ports: &mut O,
-    run: &RunWords<'_>,
+    order: Order,
+    file: O::F,
+    rows: &[Row],
 ) -> Result<Vec<O::P>, Ending>
-    requires runnable { IsRunnable (told_of run.now) }
-    ensures count { IfOk result (λ opened. vec_len opened ≡ ports_for run.now.order) }
-    ensures opened { IfOk result (λ opened. AreOpened run.now.page_file.now run.now.page_size
-        (map O.P.geometry_of opened.items)) }
-    ensures fault { IfErr result (λ ending. is_help ending ≡ false) }
+    ensures gave { IfOk result (λ opened. O.ways.connects file (ports_for order rows.now)
+        (Ok opened)) }
+    ensures count { IfOk result (λ opened. vec_len opened ≡ ports_for order rows.now) }
+    ensures alike { IfOk result (λ opened. All (λ p.
+        O.P.geometry_of p ≡ O.ways.geometry file) opened.items) }
+    ensures fault { IfErr result (NotConnected O.ways file (ports_for order rows.now)) }
 {
-    let clients = ports_for(run.order);
-    match ports.open(rt, run.page_file, run.page_size, run.format, clients) {
+    let clients = ports_for(order, rows);
+    match ports.connect(rt, file, clients) {
         Ok(opened) => Ok(opened),
         Err(fault) => Err(ending_of(fault)),
     }
@@ -228,13 +257,14 @@ fn run_in_order<P: Port + Send, R: Threads + Wait + Sync, W: Write>(
     out: &mut W,
 ) -> Result<bool, Ending>
     requires runnable { IsRunnable (told_of run.now) }
-    requires ports { vec_len ports ≡ ports_for run.now.order }
+    requires ports { vec_len ports ≡ ports_for run.now.order rows.items }
     requires alike { All (λ p. P.geometry_of p ≡ geometry) ports.items }
     requires fits { All (IsInRange geometry) rows.items }
-    ensures reported { IfOk result (λ all_accepted. ReportsIn run.now.order
-        (parameters_for run.now.order (told_of run.now) geometry rows.items) rows.items all_accepted
-        (W.contents out.old) (W.contents out.new)) }
-    ensures fault { IfErr result (λ ending. is_help ending ≡ false) }
+    ensures reported { IfOk result (λ ok. ReportsIn P.read_gives P.write_gives run.now.order
+        (parameters_for run.now.order (told_of run.now) geometry rows.items) ports.items rows.items
+        ok (W.contents out.old) (W.contents out.new)) }
+    ensures fault { IfErr result (NotReported run.now.order) }
+    ensures kept { IfErr result (λ ended. ended ≢ Ending.OutputFailed → out.new ≡ out.old) }
 {
     let mut ports = ports;
     match run.order {
@@ -243,10 +273,11 @@ fn run_in_order<P: Port + Send, R: Threads + Wait + Sync, W: Write>(
     }
 }
 
-/// Opens the page file, then reads the trace, and runs its rows. Answers whether all were accepted.
+/// Opens the page file, then reads the trace, opens the page file for further clients, and runs the rows. Answers whether all were
+/// accepted.
 ///
 /// The trace is read whole first: where it has no script, nothing is written.
-fn run_told<R: Files + Threads + Wait + Sync, I: Read, O: Ports<R>, W: Write>(
+fn run_told<R: Threads + Wait + Sync, I: Read, O: Ports<R>, W: Write>(
     rt: &R,
     alloc: Global,
     run: &RunWords<'_>,
@@ -255,17 +286,23 @@ fn run_told<R: Files + Threads + Wait + Sync, I: Read, O: Ports<R>, W: Write>(
     out: &mut W,
 ) -> Result<bool, Ending>
     requires runnable { IsRunnable (told_of run.now) }
-    ensures ran { IfOk result (λ all_accepted. Runs (told_of run.now)
-        (I.remaining reader.old) all_accepted (W.contents out.old) (W.contents out.new)) }
-    ensures fault { IfErr result (λ ending. is_help ending ≡ false) }
+    ensures ran { IfOk result (λ ok. Runs O.ways O.T.remaining O.P.read_gives O.P.write_gives
+        (told_of run.now) (I.remaining reader.old) ok (W.contents out.old) (W.contents out.new)) }
+    ensures stopped { IfErr result (StopsRun O.ways O.T.remaining (told_of run.now)
+        (I.remaining reader.old)) }
+    ensures kept { IfErr result (λ ended. ended ≢ Ending.OutputFailed → out.new ≡ out.old) }
 {
-    let opened = match open_ports(rt, ports, run) {
-        Ok(opened) => opened,
+    let file = match open_file(rt, ports, run) {
+        Ok(file) => file,
         Err(ending) => return Err(ending),
     };
-    let geometry = opened[0].geometry();
-    let rows = match rows_of(rt, alloc, run.trace, reader, &geometry) {
+    let geometry = ports.geometry(&file);
+    let rows = match rows_of(rt, alloc, run.trace, reader, ports, &geometry) {
         Ok(rows) => rows,
+        Err(ending) => return Err(ending),
+    };
+    let opened = match connect(rt, ports, run.order, file, &rows) {
+        Ok(opened) => opened,
         Err(ending) => return Err(ending),
     };
     run_in_order(rt, alloc, run, opened, geometry, rows, out)
@@ -281,14 +318,9 @@ fn status_of_run(all_accepted: bool) -> u8
 /// Does what the words of the command line say, which leave out the program's name, and gives the status to end with.
 /// No words at all are those of the default run. It looks at the words first.
 ///
-/// For a run it then opens the page file by `ports`, and then reads the trace: from `reader` where its word is `stdin`, else from the
-/// file at that path. In the order `trace` it runs the rows one after the other; in the order `free` each client is a thread, which runs
-/// its own rows. For a migration it writes the page file of version 1 anew in version 2, and nothing on `out`.
-///
-/// Status 0: help, a run whose rows were all accepted, or a migration. Status 1: a run with refused rows. Their report, and then the
-/// refused rows, are on `out`. Status 2: one line on `err` says why there is no report or no new page file; nothing is on `out`, but
-/// where the line is `output failed`, which for a run comes after whatever was written.
-pub fn run_with<R: Files + Threads + Wait + Sync, I: Read, O: Ports<R>, W: Write, E: Write>(
+/// An `Err` is how the program ends otherwise, by its cause. Nothing is said of it yet, and nothing is on `out`, but where a run's report
+/// was begun: then it is `OutputFailed`. Where somebody watches a migration, `err` shows how far it came; else `err` is as it was.
+pub fn carry_out<R: Files + Threads + Wait + Sync, I: Read, O: Ports<R>, W: Write, E: Write>(
     rt: &R,
     alloc: Global,
     words: &[&str],
@@ -296,13 +328,18 @@ pub fn run_with<R: Files + Threads + Wait + Sync, I: Read, O: Ports<R>, W: Write
     ports: &mut O,
     out: &mut W,
     err: &mut E,
-) -> u8
-    ensures reported { ¬ AsksForHelp (words_or_default (texts words.entry.now)) → result < 2
-        → DoesWords (words_or_default (texts words.entry.now)) (I.remaining reader.old) result
-        (W.contents out.old) (W.contents out.new) }
-    ensures status { result ≤ 2 }
+) -> Result<u8, Ending>
+    ensures done { IfOk result (λ status. DoesWords O.ways O.T.remaining O.P.read_gives
+        O.P.write_gives (words_or_default (texts words.entry.now)) (I.remaining reader.old) status
+        (W.contents out.old) (W.contents out.new)) }
+    ensures ended { IfErr result (EndsBy O.ways O.T.remaining
+        (words_or_default (texts words.entry.now)) (I.remaining reader.old)) }
+    ensures out_kept { IfErr result (λ ended. ended ≢ Ending.OutputFailed → out.new ≡ out.old) }
+    ensures err_kept { IsShown (O.watched ports.old) (words_or_default (texts words.entry.now))
+        ⊎ (err.new ≡ err.old) }
+    ensures status { IfOk result (λ status. status < 2) }
 {
-    let done = match decide(alloc, words) {
+    match decide(alloc, words) {
         Ok(Task::Run(run)) => match run_told(rt, alloc, &run, reader, ports, out) {
             Ok(all_accepted) => Ok(status_of_run(all_accepted)),
             Err(ending) => Err(ending),
@@ -314,8 +351,43 @@ pub fn run_with<R: Files + Threads + Wait + Sync, I: Read, O: Ports<R>, W: Write
             }
         }
         Err(ending) => Err(ending),
-    };
-    match done {
+    }
+}
+
+/// Does what the words of the command line say, which leave out the program's name, and gives the status to end with.
+/// No words at all are those of the default run. It looks at the words first.
+///
+/// For a run it then opens the page file by `ports`, and then reads the trace: from `reader` where its word is `stdin`, else from what
+/// `ports` opens at that path. In the order `trace` it runs the rows one after the other; in the order `free` each client is a thread,
+/// which runs its own rows over a port of its own. For a migration it writes the page file of version 1 anew in version 2, and nothing on
+/// `out`.
+///
+/// Status 0: help, a run whose rows were all accepted, or a migration. Status 1: a run with refused rows. Their report, and then the
+/// refused rows, are on `out`; `err` is as it was, but where somebody watches a migration. Status 2: one line on `err` says why there is no
+/// report or no new page file; `out` is as it was, but where the line is `output failed`, which comes after whatever was written.
+pub fn run_with<R: Files + Threads + Wait + Sync, I: Read, O: Ports<R>, W: Write, E: Write>(
+    rt: &R,
+    alloc: Global,
+    words: &[&str],
+    reader: &mut I,
+    ports: &mut O,
+    out: &mut W,
+    err: &mut E,
+) -> u8
+    ensures reported { ¬ AsksForHelp (words_or_default (texts words.entry.now)) → result < 2
+        → DoesWords O.ways O.T.remaining O.P.read_gives O.P.write_gives
+        (words_or_default (texts words.entry.now)) (I.remaining reader.old) result
+        (W.contents out.old) (W.contents out.new) }
+    ensures status { result ≤ 2 }
+    ensures help { AsksForHelp (words_or_default (texts words.entry.now)) → result ≢ 1 }
+    ensures printed { AsksForHelp (words_or_default (texts words.entry.now)) → result ≡ 0
+        → Prints (W.contents out.old) (W.contents out.new) }
+    ensures ended { result ≡ 2 → Ended (EndsBy O.ways O.T.remaining
+        (words_or_default (texts words.entry.now)) (I.remaining reader.old)) out.old out.new }
+    ensures err_kept { result < 2 → IsShown (O.watched ports.old)
+        (words_or_default (texts words.entry.now)) ⊎ (err.new ≡ err.old) }
+{
+    match carry_out(rt, alloc, words, reader, ports, out, err) {
         Ok(status) => status,
         Err(ending) => ending.finish(out, err),
     }

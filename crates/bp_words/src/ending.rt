@@ -1,5 +1,5 @@
 //! How the program ends where it makes no report.
-ghost use Rattle.std.specs.Prelude.{◌≡◌, true, false, OnOk};
+ghost use Rattle.std.specs.Prelude.{◌≡◌, ◌<◌, true, false, OnOk};
 ghost use Rattle.std.specs.Io.KnownBytes.{Appends};
 ghost use Rattle.bp_words.specs.Ending.{is_help, message_of, on_err, on_out, status_of};
 ghost use Rattle.bp_words.specs.Line.{is_line};
@@ -100,6 +100,7 @@ impl Ending {
             Appends (W.contents out.old) (W.contents out.new) (message_of self.now) }
         ensures fault { (result ≡ 0 → ⊥) → result ≡ 2 }
         ensures out_kept { is_help self.now ≡ false → out.new ≡ out.old }
+        ensures err_kept { result < 2 → err.new ≡ err.old }
     {
         let said = self.say(out, err);
         if said.is_ok() {

@@ -2,7 +2,7 @@
 #![tactic(auto)]
 
 use bp_page::Refusal;
-use bp_run::{PageFiles, run_with};
+use bp_run::{Awaiting, PageFiles, run_with};
 use bp_words::Ending;
 use std::fs::File;
 use std::io::{BufWriter, ErrorKind, IsTerminal, Write};
@@ -29,13 +29,12 @@ fn words_given<R: AllocGlobal + Env>(rt: &R) -> Result<Vec<String>, Ending> {
 }
 
 /// Does what the words say, over standard input and output, and gives the status to end with. Where somebody watches, how far a
-/// migration has come is shown on `err`.
-fn run_words<R: AllocGlobal + Files<File = File> + Input + Print + Threads + Wait + Sync, E: Write>(
-    rt: &R,
-    given: &[String],
-    is_watched: bool,
-    err: &mut E,
-) -> Result<u8, Ending> {
+/// migration has come is shown on `err`. Where there is a note, it has a line once the trace is read from standard input.
+fn run_words<
+    R: AllocGlobal + Files<File = File> + Input + Print + Threads + Wait + Sync,
+    N: Write + Drop,
+    E: Write,
+>(rt: &R, given: &[String], is_watched: bool, note: Option<N>, err: &mut E) -> Result<u8, Ending> {
     let alloc = rt.alloc();
     let mut words = Vec::new(alloc);
     for word in given {
@@ -51,7 +50,7 @@ fn run_words<R: AllocGlobal + Files<File = File> + Input + Print + Threads + Wai
         rt,
         alloc,
         words.as_slice(),
-        &mut rt.reader(),
+        &mut Awaiting::new(rt.reader(), note),
         &mut ports,
         &mut out,
         err,
@@ -62,8 +61,13 @@ fn run_words<R: AllocGlobal + Files<File = File> + Input + Print + Threads + Wai
 fn main(rt: HostRuntime) -> ExitCode {
     let mut err = rt.stderr();
     let is_watched = err.is_terminal();
+    let note = if rt.stdin().is_terminal() {
+        Some(rt.stderr())
+    } else {
+        None
+    };
     let run = match words_given(&rt) {
-        Ok(given) => run_words(&rt, &given, is_watched, &mut err),
+        Ok(given) => run_words(&rt, &given, is_watched, note, &mut err),
         Err(ending) => Err(ending),
     };
     let status = match run {

@@ -1,7 +1,7 @@
 //! Whole runs, from the words and the bytes of a trace to the bytes of the report and the status.
-use bp_device::Port;
-use bp_page::{Format, Image, Lsn, PageNo};
-use bp_run::{PageFiles, Ports, run_with};
+use bp_device::{OpenFault, Port};
+use bp_page::{Format, Geometry, Image, Lsn, PageNo};
+use bp_run::{AnyPort, Awaiting, OpenPages, PageFiles, Ports, run_with};
 use std::alloc::Global;
 use std::fs::File;
 use std::io::{Read, Write};
@@ -9,6 +9,7 @@ use std::marker::Sync;
 use std::process::Abort;
 use std::rt::{Files, Runtime};
 use std::sync::Wait;
+use std::test::*;
 use std::thread::Threads;
 use std::{fs, io};
 
@@ -400,8 +401,10 @@ fn expect_one_device(
     word: &str,
 ) {
     let alloc = rt.alloc();
-    let opened = PageFiles::new(alloc).open(rt, word, 16, Format::Plain, 2);
-    let mut ports = opened.expect(rt, "the page file");
+    let mut files = PageFiles::new(alloc);
+    let opened = files.open(rt, word, 16, Format::Plain);
+    let file = opened.expect(rt, "the page file");
+    let mut ports = files.connect(rt, file, 2).expect(rt, "the ports");
     assert_eq!(rt; ports.len(), 2);
     let written = Image::of(alloc, b"written by first".as_slice()).expect(rt, "the image");
     assert!(rt;
@@ -545,4 +548,112 @@ fn trace_that_cannot_be_read(rt: HostRuntime) {
     assert_eq!(rt; status, 2);
     assert!(rt; out.is_empty());
     assert_eq!(rt; err.as_slice(), b"trace row 0 refused 47\n".as_slice());
+}
+
+/// Page files that note how many ports each run asked for.
+#[derive(Drop)]
+struct Counted {
+    files: PageFiles,
+    asked: Vec<usize>,
+}
+
+impl<R: Files<File = File>> Ports<R> for Counted {
+    ghost use Rattle.bp_run.specs.AnyPort.{pages_ways};
+
+    type F = OpenPages;
+
+    type P = AnyPort;
+
+    type T = File;
+
+    ghost ways = { pages_ways };
+
+    ghost watched = { λ _. false };
+
+    fn open(
+        &mut self,
+        rt: &R,
+        word: &str,
+        size: usize,
+        format: Format,
+    ) -> Result<OpenPages, OpenFault> {
+        self.files.open(rt, word, size, format)
+    }
+
+    fn geometry(&self, file: &OpenPages) -> Geometry {
+        Ports::<R>::geometry(&self.files, file)
+    }
+
+    fn connect(
+        &mut self,
+        rt: &R,
+        file: OpenPages,
+        clients: usize,
+    ) -> Result<Vec<AnyPort>, OpenFault> {
+        let _ = self.asked.push(clients);
+        self.files.connect(rt, file, clients)
+    }
+
+    fn trace(&mut self, rt: &R, path: &str) -> Option<File> {
+        self.files.trace(rt, path)
+    }
+
+    fn is_watched(&self) -> bool {
+        false
+    }
+}
+
+/// Asserts how many ports a run over a page file in memory asks for.
+fn expect_ports(
+    rt: &(impl Runtime<A = Global> + Files<File = File> + Threads + Wait + Sync + Abort),
+    order: &str,
+    trace: &[u8],
+    ports: &[usize],
+) {
+    let alloc = rt.alloc();
+    let words = ["run", "stdin", "mem:16", "--order", order];
+    let mut counted = Counted {
+        files: PageFiles::new(alloc),
+        asked: Vec::new(alloc),
+    };
+    let (mut out, mut err) = (Vec::new(alloc), Vec::new(alloc));
+    let mut reader = trace;
+    let _ = run_with(
+        rt,
+        alloc,
+        words.as_slice(),
+        &mut reader,
+        &mut counted,
+        &mut out,
+        &mut err,
+    );
+    assert_eq!(rt; counted.asked.as_slice(), ports);
+}
+
+#[test]
+fn one_port_for_each_client(rt: HostRuntime) {
+    let two_clients = b"2,fix,1,,,\n0,fix,2,,,\n".as_slice();
+    expect_ports(&rt, "trace", two_clients, [1].as_slice());
+    expect_ports(&rt, "free", two_clients, [3].as_slice());
+    expect_ports(&rt, "free", b"".as_slice(), [1].as_slice());
+    expect_ports(&rt, "free", b"63,fix,1,,,\n".as_slice(), [64].as_slice());
+    // There are no rows, so that nobody needs a port.
+    expect_ports(&rt, "free", b"0,fi".as_slice(), [].as_slice());
+}
+
+#[test]
+fn a_reader_that_awaits_rows(rt: HostRuntime) -> Result<(), Fail> {
+    let alloc = rt.alloc();
+    let mut told = Vec::new(alloc);
+    let mut buffer = [0u8; 2];
+    {
+        let mut awaiting = Awaiting::new(b"abc".as_slice(), Some(&mut told));
+        assert_eq!(rt; awaiting.read(&mut buffer)?, 2);
+        assert_eq!(rt; buffer, *b"ab");
+        assert_eq!(rt; awaiting.read(&mut buffer)?, 1);
+        assert_eq!(rt; buffer[0], b'c');
+    }
+    let line = "the trace is read here, a row a line; control-D ends it\n";
+    assert_eq!(rt; told.as_slice(), line.as_bytes());
+    Ok(())
 }

@@ -1,10 +1,12 @@
 -- The scripts of the rows, each with a port.
-use Rattle.std.proofs.Common.{◌≡◌, ◌∙◌, ap, arith, refl}
+use Rattle.std.proofs.Common.{◌≡◌, ◌∙◌, ap, subst, ℕ, arith, refl}
 use Rattle.std.proofs.lemmas.List.{length-map}
+use Rattle.bp_core.specs.Outcomes.{IsFit}
 use Rattle.bp_clients.specs.Jobs.{lists}
 use Rattle.bp_clients.specs.Runs.{run_parameters}
 use Rattle.bp_run.specs.Scripts.{clients_of}
 use Rattle.bp_run.proofs.Splitting.{all_below}
+use Rattle.bp_run.proofs.Stopping.{memory_or_disagree}
 use Rattle.bp_run.proofs.Threads.{few_clients, run_of, scripts_are, scripts_fit}
 use Rattle.bp_run.proofs.free.run_threads.Goals as goal
 
@@ -22,8 +24,7 @@ run_clients-requires-clause-clients g c κs within =
 pub run_clients-requires-clause-ports : goal.run_clients-requires-clause-ports
 run_clients-requires-clause-ports g c κs within =
     let is = scripts_are c.args.rows.items c.deref.result.now c.client_count-clients.result (lists c.in-Ok.scripts.items) c.client_count-clients.ensures c.deref.ensures.value c.in-Ok.ensures.scripts in
-    let few = few_clients c.args.config.geometry c.args.rows.items c.requires.fits in
-    omega (arith, few, is.count, is.counted, c.requires.ports, c.truncate.ensures.len, length-map c.in-Ok.scripts.items (λ v. v.items), c.in-Ok.scripts.ok)
+    omega (arith, is.counted, c.requires.ports, length-map c.in-Ok.scripts.items (λ v. v.items), c.in-Ok.scripts.ok)
 
 pub run_clients-requires-clause-fits : goal.run_clients-requires-clause-fits
 run_clients-requires-clause-fits g c κs within =
@@ -37,3 +38,10 @@ returns-in-Ok-run_clients-clause-run g c =
     let e = c.in-Ok-run_clients.ensures in
     run_of c.args.config c.in-Ok.scripts.len (lists c.in-Ok.scripts.items) c.args.rows.items c.in-Ok-run_clients.outcome.trail.items (lists c.in-Ok-run_clients.outcome.said.items) c.in-Ok-run_clients.outcome.refused.items
     (omega (arith, is.counted, length-map c.in-Ok.scripts.items (λ v. v.items), c.in-Ok.scripts.ok)) is.are e.run
+
+pub returns-in-Err-run_clients-clause-fault : goal.returns-in-Err-run_clients-clause-fault
+returns-in-Err-run_clients-clause-fault g c =
+    let is = scripts_are c.args.rows.items c.deref.result.now c.client_count-clients.result (lists c.in-Ok.scripts.items) c.client_count-clients.ensures c.deref.ensures.value c.in-Ok.ensures.scripts in
+    let count : clients_of c.args.rows.items ≡ c.in-Ok.scripts.len = omega (arith, is.counted, length-map c.in-Ok.scripts.items (λ v. v.items), c.in-Ok.scripts.ok) in
+    memory_or_disagree (run_parameters c.args.config c.in-Ok.scripts.len) c.run_clients.result c.in-Err-run_clients.refusal
+    (subst (λ (n : ℕ). IsFit (run_parameters c.args.config n)) count c.requires.fit) c.in-Err-run_clients.is c.run_clients.ensures.answers

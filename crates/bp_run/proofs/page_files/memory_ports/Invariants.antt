@@ -3,4 +3,4 @@ use Rattle.bp_run.specs.AnyPort.{AreOf}
 use Rattle.bp_run.proofs.page_files.memory_ports.Given as goal
 
 abbrev pub invariant-loop : goal.invariant-loop
-invariant-loop l = AreOf l.fn.geometry false l.counter l.ports.items × (l.fn.clients ≤ vec_capacity l.ports)
+invariant-loop l = AreOf l.device false l.counter l.ports.items × (l.fn.clients ≤ vec_capacity l.ports)

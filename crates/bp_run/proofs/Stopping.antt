@@ -1,0 +1,151 @@
+-- How a run ends without a report.
+use Rattle.std.proofs.Common.{◌≡◌, ◌∙◌, ◌⊎◌, inl, inr, refl, sym, ap, ℕ, zero, suc, ◌+◌, ◌*◌, ◌<◌, min, arith, All, Bool, true, false, List, [], ◌∷◌, length, Option, Some, None, Result, Ok, Err}
+use Rattle.std.proofs.lemmas.Bool.{eqb-true}
+use Rattle.std.specs.Prelude.{if◌then◌else◌}
+use Rattle.clap.specs.Kinds.{IsAmong, Kinds}
+use Rattle.clap.specs.Walk.{is_empty}
+use Rattle.clap.specs.Words.{Text, subcommand_of}
+use Rattle.clap.specs.declared.error.kind.ErrorKind.TheVariants.{DisplayHelp}
+use Rattle.bp_page.specs.declared.limits.Geometry.{Geometry}
+use Rattle.bp_page.specs.declared.refusals.Refusal.{Refusal}
+use Rattle.bp_page.specs.declared.refusals.Refusal.TheVariants as refusal
+use Rattle.bp_page.specs.declared.refusals.PortFault.TheVariants.{Device, Memory, WrongPage}
+use Rattle.bp_device.specs.declared.files.OpenFault.{OpenFault}
+use Rattle.bp_device.specs.declared.files.OpenFault.TheVariants.{Refused, Port}
+use Rattle.bp_trail.specs.declared.scripts.Row.{Row}
+use Rattle.bp_trail.specs.Parameters.{Parameters}
+use Rattle.bp_trace.specs.InRange.{IsInRange}
+use Rattle.bp_device.specs.Work.{Reads, Writes}
+use Rattle.bp_core.specs.Outcomes.{IsFit, IsFitUpTo, NewOutcome}
+use Rattle.bp_clients.specs.Runs.{RunAnswers}
+use Rattle.bp_words.specs.Asked.{Asked, Migration, asked_by, asked_in}
+use Rattle.bp_words.specs.Asked.Asked.{a_run, a_migration}
+use Rattle.bp_words.specs.Command.{bpool_app}
+use Rattle.bp_words.specs.Decision.{AsksForHelp, IsRunnable}
+use Rattle.bp_words.specs.Ending.{is_help}
+use Rattle.bp_words.specs.Words.{Told, TraceAt, from_stdin, at_path, fault_in}
+use Rattle.bp_words.specs.declared.ending.Ending.{Ending}
+use Rattle.bp_words.specs.declared.ending.Ending.TheVariants as ending
+use Rattle.bp_words.specs.declared.words.Order.{Order}
+use Rattle.bp_words.specs.declared.words.Order.TheVariants as order
+use Rattle.bp_run.specs.Opening.{ending_of}
+use Rattle.bp_run.specs.Run.{DoesWords, parameters_for, ports_for}
+use Rattle.bp_run.proofs.Threads.{few_clients as at_most_64}
+use Rattle.bp_run.specs.Ways.{Ways}
+use Rattle.bp_run.specs.Stops.{EndsBy, IsShown, keeps_out, NotConnected, NotRead, NotReported, StopsRun}
+
+-- ---- a core is refused for want of memory alone
+
+pub only_memory : (most : ℕ) (c : Parameters) (why : Refusal) → IsFitUpTo most c → NewOutcome most c (Err why) → why ≡ refusal.OutOfMemory
+only_memory most c refusal.BadSettings fit unfit = absurd (unfit fit)
+only_memory most c refusal.OutOfMemory fit is = refl
+only_memory most c other fit never = absurd never
+
+pub memory_or_disagree : {A : Type 0} (c : Parameters) (result : Result A Refusal) (why : Refusal) → IsFit c → result ≡ Err why → RunAnswers c result → NotReported order.Free (ending.RunRefused why)
+memory_or_disagree c (Ok done) why fit is answers = absurd (let no = is in cc)
+memory_or_disagree c (Err refusal.BadSettings) why fit is unfit = absurd (unfit fit)
+memory_or_disagree c (Err refusal.OutOfMemory) why fit is answers = let same : refusal.OutOfMemory ≡ why = cc in inl (ap ending.RunRefused (sym same))
+memory_or_disagree c (Err refusal.Disagree) why fit is answers = let same : refusal.Disagree ≡ why = cc in inr (inr (refl, ap ending.RunRefused (sym same)))
+memory_or_disagree c (Err other) why fit is never = absurd never
+
+-- those of a run in either order are fit
+
+pub trace_fits : (t : Told) (c : Parameters) (rows : ℕ) → IsRunnable t → c.frames ≡ t.frames → c.clients ≡ 64 → c.room ≡ min (8 * rows + 16) 16777216 → IsFitUpTo 16777216 c
+trace_fits t c rows runnable frames clients room = record {
+  frames = omega (arith, runnable.limits.some_frames, frames);
+  few_frames = omega (arith, runnable.limits.few_frames, frames);
+  clients = omega (arith, clients);
+  few_clients = omega (arith, clients);
+  room = omega (arith, room);
+  small_room = omega (arith, room);
+}
+
+pub free_fits : (t : Told) (g : Geometry) (rows : List Row) → IsRunnable t → All (IsInRange g) rows → IsFit (parameters_for order.Free t g rows)
+free_fits t g rows runnable in_range = record {
+  frames = runnable.limits.some_frames;
+  few_frames = runnable.limits.few_frames;
+  clients = omega arith;
+  few_clients = at_most_64 g rows in_range;
+  room = omega arith;
+  small_room = omega arith;
+}
+
+-- ---- what is asked for help
+
+not_help : (fault : OpenFault) → is_help (ending_of fault) ≡ false
+not_help (Refused why) = refl
+not_help (Port Device) = refl
+not_help (Port WrongPage) = refl
+not_help (Port Memory) = refl
+
+no_help_reported : (o : Order) (ended : Ending) → is_help ended ≡ true → NotReported o ended → ⊥
+no_help_reported o ended help (inl is) = (let none = ap is_help is in cc)
+no_help_reported o ended help (inr (inl is)) = (let none = ap is_help is in cc)
+no_help_reported o ended help (inr (inr why)) = (let none = ap is_help why.1 in cc)
+
+no_help_trace : {T : Type 0} (traces : Text → Option T → Type 0) (bytes_of : T → Option (List ℕ)) (at : TraceAt) (g : Geometry) (bytes : Option (List ℕ)) (ended : Ending) → is_help ended ≡ true → NotRead traces bytes_of at g bytes ended → ⊥
+no_help_trace traces bytes_of from_stdin g bytes ended help not = (let none = ap is_help not.said in cc)
+no_help_trace traces bytes_of (at_path path) g bytes ended help (inl not) = (let none = ap is_help not.1 in cc)
+no_help_trace traces bytes_of (at_path path) g bytes ended help (inr not) = (let none = ap is_help not.2.said in cc)
+
+no_help_run : {F P T : Type 0} (ways : Ways F P T) (bytes_of : T → Option (List ℕ)) (told : Told) (bytes : Option (List ℕ)) (ended : Ending) → is_help ended ≡ true → StopsRun ways bytes_of told bytes ended → ⊥
+no_help_run ways bytes_of told bytes ended help (inl not) = (let none = ap is_help not.said ∙ not_help not.fault in cc)
+no_help_run ways bytes_of told bytes ended help (inr (inl at)) = no_help_trace ways.traces bytes_of told.trace (ways.geometry at.file) bytes ended help at.not_read
+no_help_run ways bytes_of told bytes ended help (inr (inr after)) = go after.stopped
+  where
+    go : NotConnected ways after.file (ports_for told.order after.rows) ended ⊎ NotReported told.order ended → ⊥
+    go (inl not) = (let none = ap is_help not.said ∙ not_help not.fault in cc)
+    go (inr not) = no_help_reported told.order ended help not
+
+pub help_asked : {F P T : Type 0} (ways : Ways F P T) (bytes_of : T → Option (List ℕ)) (words : List Text) (bytes : Option (List ℕ)) (ended : Ending) → EndsBy ways bytes_of words bytes ended → is_help ended ≡ true → AsksForHelp words
+help_asked ways bytes_of words bytes (ending.Help text) (inl decided) help = decided
+help_asked ways bytes_of words bytes (ending.Help text) (inr (inl run)) help = absurd (no_help_run ways bytes_of run.told bytes (ending.Help text) help run.stops)
+help_asked ways bytes_of words bytes (ending.Help text) (inr (inr migration)) help = absurd migration.stops
+help_asked ways bytes_of words bytes other by help = cc
+
+-- who asks for help names nothing else
+none_among : (kinds : Kinds) → is_empty kinds ≡ true → IsAmong DisplayHelp kinds → ⊥
+none_among [] none among = among
+none_among (kind ∷ kinds) none among = (let length_is : length (kind ∷ kinds) ≡ 0 = eqb-true (length (kind ∷ kinds)) 0 none in omega (arith, length_is))
+
+named_none : (kinds : Kinds) (asked : Option Asked) (one : Asked) (b : Bool) → is_empty kinds ≡ b → IsAmong DisplayHelp kinds → (if b then asked else None) ≡ Some one → ⊥
+named_none kinds asked one true none among is = none_among kinds none among
+named_none kinds asked one false some among is = cc
+
+pub no_help : (words : List Text) (one : Asked) → asked_by words ≡ Some one → AsksForHelp words → ⊥
+no_help words one named among = named_none (fault_in words) (asked_in (subcommand_of bpool_app words)) one (is_empty (fault_in words)) refl among named
+
+-- ---- the output
+
+pub kept_when : (ended : Ending) → keeps_out ended ≡ true → (is_help ended ≡ false) × (ended ≡ ending.OutputFailed → ⊥)
+kept_when (ending.Help text) is = cc
+kept_when ending.OutputFailed is = cc
+kept_when other is = (refl, λ same. cc)
+
+-- a status that is 2 where it is not 0
+pub not_one : (status : ℕ) → ((status ≡ 0 → ⊥) → status ≡ 2) → status ≡ 1 → ⊥
+not_one status two one = (let bad : status ≡ 2 = two (λ none. omega (arith, none, one)) in omega (arith, bad, one))
+
+pub zero_of : (status : ℕ) → ((status ≡ 0 → ⊥) → status ≡ 2) → status < 2 → status ≡ 0
+zero_of zero two small = refl
+zero_of (suc n) two small = absurd (let bad : suc n ≡ 2 = two (λ none. omega (arith, none)) in omega (arith, bad, small))
+
+-- what was kept before and after
+pub then_kept : {A X : Type 0} (old mid new : X) → A ⊎ (mid ≡ old) → new ≡ mid → A ⊎ (new ≡ old)
+then_kept old mid new (inl shown) later = inl shown
+then_kept old mid new (inr kept) later = inr (later ∙ kept)
+
+-- words that name something ask for no help
+pub does_no_help : {F P T : Type 0} (ways : Ways F P T) (bytes_of : T → Option (List ℕ)) (reads : Reads P) (writes : Writes P) (words : List Text) (bytes : Option (List ℕ)) (status : ℕ) (old new : Option (List ℕ))
+    → DoesWords ways bytes_of reads writes words bytes status old new → AsksForHelp words → ⊥
+does_no_help ways bytes_of reads writes words bytes status old new (inl run) asks = no_help words (a_run run.told) run.named asks
+does_no_help ways bytes_of reads writes words bytes status old new (inr migration) asks = no_help words (a_migration migration.told) migration.named asks
+
+-- help is no failure of the output
+pub no_failure : (ended : Ending) → is_help ended ≡ true → ended ≡ ending.OutputFailed → ⊥
+no_failure ended help failed = (let none = ap is_help failed in cc)
+
+-- somebody watches a migration, or it says nothing
+pub shown_or_kept : {X : Type 0} (watched : Bool) (words : List Text) (told : Migration) (old new : X) → asked_by words ≡ Some (a_migration told) → (watched ≡ false → new ≡ old) → IsShown watched words ⊎ (new ≡ old)
+shown_or_kept true words told old new named kept = inl (record { told = told; named = named; seen = refl })
+shown_or_kept false words told old new named kept = inr (kept refl)

@@ -1,0 +1,43 @@
+-- The status, and what is on the outputs then.
+use Rattle.std.proofs.Common.{◌≡◌, ◌∙◌, arith, subst, sym, ap, ℕ}
+use Rattle.std.specs.Io.KnownBytes.{Appends}
+use Rattle.clap.specs.Walk.{texts}
+use Rattle.bp_words.specs.Ending.{message_of}
+use Rattle.bp_words.specs.Words.{words_or_default}
+use Rattle.bp_run.proofs.Stopping.{does_no_help, help_asked, kept_when, not_one, then_kept, zero_of, no_failure}
+use Rattle.bp_run.proofs.run.run_with.Goals as goal
+
+pub returns-in-Ok-clause-help : goal.returns-in-Ok-clause-help
+returns-in-Ok-clause-help g c asks one =
+    does_no_help g.O.Ports.ways g.O.T.Read.remaining g.O.P.Port.read_gives g.O.P.Port.write_gives (words_or_default (texts c.args.words.now)) (g.I.Read.remaining c.args.reader.now) c.in-Ok.status _ _ c.in-Ok.ensures.done asks
+
+pub returns-in-Ok-clause-printed : goal.returns-in-Ok-clause-printed
+returns-in-Ok-clause-printed g c asks none =
+    absurd (does_no_help g.O.Ports.ways g.O.T.Read.remaining g.O.P.Port.read_gives g.O.P.Port.write_gives (words_or_default (texts c.args.words.now)) (g.I.Read.remaining c.args.reader.now) c.in-Ok.status _ _ c.in-Ok.ensures.done asks)
+
+pub returns-in-Err-clause-reported : goal.returns-in-Err-clause-reported
+returns-in-Err-clause-reported g c unasked small =
+    absurd (unasked (help_asked g.O.Ports.ways g.O.T.Read.remaining (words_or_default (texts c.args.words.now)) (g.I.Read.remaining c.args.reader.now) c.in-Err.ending c.in-Err.ensures.ended
+    (c.finish.ensures.help (zero_of c.finish.result c.finish.ensures.fault small)).0))
+
+pub returns-in-Err-clause-help : goal.returns-in-Err-clause-help
+returns-in-Err-clause-help g c asks one = not_one c.finish.result c.finish.ensures.fault one
+
+pub returns-in-Err-clause-printed : goal.returns-in-Err-clause-printed
+returns-in-Err-clause-printed g c asks none =
+    let said = c.finish.ensures.help none in
+    let kept = c.in-Err.ensures.out_kept (no_failure c.in-Err.ending said.0) in
+    record {
+      text = message_of c.in-Err.ending;
+      written = subst (λ out. Appends (g.W.Write.contents out) (g.W.Write.contents c.finish.new.out) (message_of c.in-Err.ending)) kept said.1;
+    }
+
+pub returns-in-Err-clause-ended : goal.returns-in-Err-clause-ended
+returns-in-Err-clause-ended g c two = record {
+  ended = c.in-Err.ending;
+  by = c.in-Err.ensures.ended;
+  out_kept = λ keeps. c.finish.ensures.out_kept (kept_when c.in-Err.ending keeps).0 ∙ c.in-Err.ensures.out_kept (kept_when c.in-Err.ending keeps).1;
+}
+
+pub returns-in-Err-clause-err_kept : goal.returns-in-Err-clause-err_kept
+returns-in-Err-clause-err_kept g c small = then_kept c.args.err.now c.carry_out.new.err c.finish.new.err c.carry_out.ensures.err_kept (c.finish.ensures.err_kept small)
