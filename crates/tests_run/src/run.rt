@@ -558,6 +558,7 @@ struct Counted {
 }
 
 impl<R: Files<File = File>> Ports<R> for Counted {
+    ghost use Rattle.std.specs.Prelude.{false};
     ghost use Rattle.bp_run.specs.AnyPort.{pages_ways};
 
     type F = OpenPages;
