@@ -234,10 +234,11 @@ fn new_parts(alloc: Global) -> Result<((Mark, LogEnd, Reader), TrailRing), Refus
 /// It takes 1 to 64 scripts and as many ports, whose pages are those of the configuration. A script has rows of its own client, of
 /// pages of the file and of bytes within a page, and log rows stand in script 0 alone.
 ///
-/// At `Ok` the trail is one legal history of at most `config.room` entries, by the rules of the pool; each client's list is the trail's
-/// entries of that client and follows its script; and no mark is ahead of the log rows of client 0. `BadSettings` where the frames are not 1 to 65,536 or the room not 1 to 16,777,216,
-/// before any thread starts. `OutOfMemory` where memory is wanted outside a row. `Disagree` where a client was given what the pool
-/// did not know, or what it saw is not what the trail has of it. Threads have ended at every return.
+/// At `Ok` the trail is one legal history of at most `config.room` entries, by the rules of the pool; each client's list is the
+/// trail's entries of that client and follows its script; and no mark is ahead of the log rows of client 0. `BadSettings` where the
+/// frames are not 1 to 65,536 or the room not 1 to 16,777,216, before any thread starts. `OutOfMemory` where memory is wanted outside
+/// a row. `Disagree` where a client was given what the pool did not know, or what it saw is not what the trail has of it. Threads have
+/// ended at every return.
 pub fn run_clients<P: Port + Send, R: Threads + Wait + Sync>(
     rt: &R,
     alloc: Global,
