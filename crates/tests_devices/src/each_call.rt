@@ -136,81 +136,62 @@ fn expect_run<R: Threads + Wait + Sync + Abort + AllocGlobal>(
     );
 }
 
-fn expect_either<R: Threads + Wait + Sync + Abort + AllocGlobal>(
-    rt: &R,
-    left: &Left<'_>,
-    spoil: bool,
-) {
-    expect_driven(rt, left, spoil);
-    expect_run(rt, left, spoil);
-}
-
-/// The first call reads page 1. With it failing, that page is never here.
+/// The rows take three calls of the device: page 1 is read, then written out for page 2, which is read. Each of them
+/// fails in turn, and then a fourth would. A failing write leaves the device alone, or spoils the page.
 #[test]
-fn first_read_fails(rt: HostRuntime) {
-    let left = Left {
-        n: 1,
-        refused: &[
-            refused(1, 17),
-            refused(2, 14),
-            refused(3, 14),
-            refused(6, 11),
-            refused(7, 14),
-        ],
-        reads_nine: false,
-        entries: 7,
-        failures: 1,
-        on_device: 0,
-        spoiled: 0,
-    };
-    expect_either(&rt, &left, false);
-    expect_either(&rt, &left, true);
-}
-
-/// The second writes page 1 out. With it failing, the page stays in its frame, and is found there.
-#[test]
-fn write_out_fails(rt: HostRuntime) {
-    let left = Left {
-        n: 2,
-        refused: &[refused(5, 18)],
-        reads_nine: true,
-        entries: 10,
-        failures: 1,
-        on_device: 0,
-        spoiled: 255,
-    };
-    expect_either(&rt, &left, false);
-    expect_either(&rt, &left, true);
-}
-
-/// The third reads page 2. With it failing, the frame is free, and page 1 comes back from the device.
-#[test]
-fn second_read_fails(rt: HostRuntime) {
-    let left = Left {
-        n: 3,
-        refused: &[refused(5, 17)],
-        reads_nine: true,
-        entries: 13,
-        failures: 1,
-        on_device: 9,
-        spoiled: 9,
-    };
-    expect_either(&rt, &left, false);
-    expect_either(&rt, &left, true);
-}
-
-/// There is no fourth call: page 2 stays fixed in the only frame.
-#[test]
-fn no_call_fails(rt: HostRuntime) {
-    let left = Left {
-        n: 4,
-        refused: &[refused(6, 11), refused(7, 14)],
-        reads_nine: false,
-        entries: 11,
-        failures: 0,
-        on_device: 9,
-        spoiled: 9,
-    };
-    expect_either(&rt, &left, false);
-    expect_either(&rt, &left, true);
+fn each_device_call_fails(rt: HostRuntime) {
+    let table = [
+        // Page 1 is never here.
+        Left {
+            n: 1,
+            refused: &[
+                refused(1, 17),
+                refused(2, 14),
+                refused(3, 14),
+                refused(6, 11),
+                refused(7, 14),
+            ],
+            reads_nine: false,
+            entries: 7,
+            failures: 1,
+            on_device: 0,
+            spoiled: 0,
+        },
+        // Page 1 stays in its frame, and is found there.
+        Left {
+            n: 2,
+            refused: &[refused(5, 18)],
+            reads_nine: true,
+            entries: 10,
+            failures: 1,
+            on_device: 0,
+            spoiled: 255,
+        },
+        // The frame is free, and page 1 comes back from the device.
+        Left {
+            n: 3,
+            refused: &[refused(5, 17)],
+            reads_nine: true,
+            entries: 13,
+            failures: 1,
+            on_device: 9,
+            spoiled: 9,
+        },
+        // No call fails: page 2 stays fixed in the only frame.
+        Left {
+            n: 4,
+            refused: &[refused(6, 11), refused(7, 14)],
+            reads_nine: false,
+            entries: 11,
+            failures: 0,
+            on_device: 9,
+            spoiled: 9,
+        },
+    ];
+    for left in table.iter() {
+        for spoil in [false, true] {
+            expect_driven(&rt, left, spoil);
+            expect_run(&rt, left, spoil);
+        }
+    }
 }

@@ -206,6 +206,7 @@ fn threads_on_one_page(rt: HostRuntime) {
 #[test]
 fn threads_over_few_frames(rt: HostRuntime) {
     for clients in [2, 4] {
-        see_threads(&rt, 2, clients, true);
+        let faults = see_threads(&rt, 2, clients, true);
+        assert!(rt; faults >= 2, "{clients} clients");
     }
 }
