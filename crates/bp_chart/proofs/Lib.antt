@@ -1,0 +1,5 @@
+pub mod Writes
+pub mod Pieces
+mod Halvings
+pub mod Within
+pub mod Grid
