@@ -3,3 +3,4 @@ pub mod Pieces
 mod Halvings
 pub mod Within
 pub mod Grid
+pub mod Shown

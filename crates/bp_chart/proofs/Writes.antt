@@ -11,8 +11,8 @@ pub appends_next : {T E : Type 0} (r : Result T E) (a b c : Option (List ℕ)) (
 appends_next (Ok x) a b c xs ys p q = Appends-trans a b c xs ys p q
 appends_next (Err x) a b c xs ys p q = tt
 
--- what is written of each element, with that of one more
-pub flat_map_next : {X : Type 0} (f : X → List ℕ) (xs : List X) (i : ℕ) (d : X) → i < length xs → flat_map f (take i xs) ++ f (get_or xs i d) ≡ flat_map f (take (i + 1) xs)
+-- what there is of each element, with that of one more
+pub flat_map_next : {X Y : Type 0} (f : X → List Y) (xs : List X) (i : ℕ) (d : X) → i < length xs → flat_map f (take i xs) ++ f (get_or xs i d) ≡ flat_map f (take (i + 1) xs)
 flat_map_next f xs i d h = flat_map_more f [] (take i xs) (get_or xs i d) ∙ ap (flat_map f) (sym (take_more xs i d h))
 
 pub appends_element : {X : Type 0} (f : X → List ℕ) (a b c : Option (List ℕ)) (xs : List X) (i : ℕ) (d : X) → i < length xs

@@ -5,3 +5,4 @@ pub mod Axis
 pub mod Within
 pub mod Labels
 pub mod Chart
+pub mod Cells

@@ -50,8 +50,8 @@ fn write_lines<W: Write>(scale: &Scale, lines: &[Line], writer: &mut W) -> io::R
 }
 
 /// Writes a picture of hit ratios over frames: SVG, 940 by 520 pixels. It has a grid, a line and marks for each of the
-/// lines, in a colour and a dash of its own, and a legend. The axis of frames goes from a power of two to a power of two
-/// round all points, and each doubling has the same width; hit ratios go from 0 to 1. With no lines it has the axes
+/// lines, in a colour and a dash of its own, and a legend. The axis of frames goes from a power of two to a power of
+/// two round all points, and each doubling has the same width; hit ratios go from 0 to 1. With no lines it has the axes
 /// alone.
 ///
 /// There is room for 18 lines in the legend, and no limit on points. The hits of a point should be no more than its

@@ -2,6 +2,7 @@
 #![tactic(auto)]
 
 mod axis;
+mod cells;
 mod chart;
 mod fixed;
 mod labels;
@@ -10,5 +11,6 @@ mod lines;
 mod places;
 mod scale;
 
+pub use cells::{Cell, lines_of};
 pub use chart::write_chart;
 pub use lines::{Line, Point, Which};
