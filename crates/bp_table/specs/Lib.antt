@@ -1,0 +1,3 @@
+-- The table of a sweep, as bytes.
+pub mod Ratio
+pub mod Table
