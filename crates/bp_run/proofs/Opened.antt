@@ -42,30 +42,30 @@ rows_fit t g h rows c in_range same made k d inside =
     (omega (arith, row.client, ap (λ (q : Parameters). q.clients) made))
 
 -- a run in the order of the trace over the one port
-pub in_trace : {P : Type 0} (reads : Reads P) (writes : Writes P) (o : Order) (t : Told) (g h : Geometry) (ports : List P) (port : P) (rows said : List Row) (old new : Option (List ℕ)) (result : Result Bool Ending)
-    → o ≡ order.Trace → h ≡ g → said ≡ rows → length ports ≡ ports_for o rows → port ≡ get_or ports 0 port → IfOk result (λ ok. Reports reads writes (parameters_for order.Trace t h said) port said ok old new)
-    → IfOk result (λ ok. ReportsIn reads writes o (parameters_for o t g rows) ports rows ok old new)
-in_trace reads writes order.Trace t g h ports port rows said old new (Ok ok) is same are one first reports = (
+pub in_trace : {P : Type 0} (reads : Reads P) (writes : Writes P) (o : Order) (t : Told) (g h : Geometry) (ports : List P) (port : P) (totals : Bool) (rows said : List Row) (old new : Option (List ℕ)) (result : Result Bool Ending)
+    → o ≡ order.Trace → h ≡ g → said ≡ rows → length ports ≡ ports_for o rows → port ≡ get_or ports 0 port → IfOk result (λ ok. Reports reads writes totals (parameters_for order.Trace t h said) port said ok old new)
+    → IfOk result (λ ok. ReportsIn reads writes o totals (parameters_for o t g rows) ports rows ok old new)
+in_trace reads writes order.Trace t g h ports port totals rows said old new (Ok ok) is same are one first reports = (
   port,
   only_one ports port one first,
-  subst (λ rows. Reports reads writes (parameters_for order.Trace t g rows) port rows ok old new) are
-      (subst (λ g. Reports reads writes (parameters_for order.Trace t g said) port said ok old new) same reports),
+  subst (λ rows. Reports reads writes totals (parameters_for order.Trace t g rows) port rows ok old new) are
+      (subst (λ g. Reports reads writes totals (parameters_for order.Trace t g said) port said ok old new) same reports),
 )
-in_trace reads writes order.Trace t g h ports port rows said old new (Err ended) is same are one first reports = tt
-in_trace reads writes order.Free t g h ports port rows said old new result is same are one first reports = cc
+in_trace reads writes order.Trace t g h ports port totals rows said old new (Err ended) is same are one first reports = tt
+in_trace reads writes order.Free t g h ports port totals rows said old new result is same are one first reports = cc
 
 -- and a run in free order over all of them
-pub in_free : {P : Type 0} (reads : Reads P) (writes : Writes P) (o : Order) (t : Told) (g : Geometry) (ports : List P) (rows : List Row) (old new : Option (List ℕ)) (result : Result Bool Ending) → o ≡ order.Free
-    → IfOk result (λ ok. ReportsFree (parameters_for order.Free t g rows) (scripts_of rows) ok old new) → IfOk result (λ ok. ReportsIn reads writes o (parameters_for o t g rows) ports rows ok old new)
-in_free reads writes order.Free t g ports rows old new result is reports = reports
-in_free reads writes order.Trace t g ports rows old new result is reports = cc
+pub in_free : {P : Type 0} (reads : Reads P) (writes : Writes P) (o : Order) (t : Told) (g : Geometry) (ports : List P) (totals : Bool) (rows : List Row) (old new : Option (List ℕ)) (result : Result Bool Ending) → o ≡ order.Free
+    → IfOk result (λ ok. ReportsFree totals (parameters_for order.Free t g rows) (scripts_of rows) ok old new) → IfOk result (λ ok. ReportsIn reads writes o totals (parameters_for o t g rows) ports rows ok old new)
+in_free reads writes order.Free t g ports totals rows old new result is reports = reports
+in_free reads writes order.Trace t g ports totals rows old new result is reports = cc
 
 -- what is reported over the page file that was opened
 pub over_pages : {F P T : Type 0} (ways : Ways F P T) (bytes_of : T → Option (List ℕ)) (reads : Reads P) (writes : Writes P) (t : Told) (bytes old new : Option (List ℕ)) (result : Result Bool Ending)
     (file : F) (h : Geometry) (rows lent : List Row) (ports : Vec P Global)
     → ways.opens t.page_file t.size t.format (Ok file) → IsNamed t.page_file t.size t.format (ways.memory file) (ways.geometry file) (ways.headed file)
     → h ≡ ways.geometry file → lent ≡ rows → AreRead ways.traces bytes_of t.trace h bytes rows → ways.connects file (ports_for t.order lent) (Ok ports)
-    → IfOk result (λ ok. ReportsIn reads writes t.order (parameters_for t.order t h rows) ports.items rows ok old new)
+    → IfOk result (λ ok. ReportsIn reads writes t.order t.totals (parameters_for t.order t h rows) ports.items rows ok old new)
     → IfOk result (λ ok. Runs ways bytes_of reads writes t bytes ok old new)
 over_pages ways bytes_of reads writes t bytes old new (Ok ok) file h rows lent ports opened named same are read connected reports = record {
   file = file;
@@ -75,7 +75,7 @@ over_pages ways bytes_of reads writes t bytes old new (Ok ok) file h rows lent p
   read = subst (λ g. AreRead ways.traces bytes_of t.trace g bytes rows) same read;
   ports = ports;
   connected = subst (λ rows. ways.connects file (ports_for t.order rows) (Ok ports)) are connected;
-  reports = subst (λ g. ReportsIn reads writes t.order (parameters_for t.order t g rows) ports.items rows ok old new) same reports;
+  reports = subst (λ g. ReportsIn reads writes t.order t.totals (parameters_for t.order t g rows) ports.items rows ok old new) same reports;
 }
 over_pages ways bytes_of reads writes t bytes old new (Err ended) file h rows lent ports opened named same are read connected reports = tt
 

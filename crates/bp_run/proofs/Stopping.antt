@@ -5,7 +5,8 @@ use Rattle.std.specs.Prelude.{if◌then◌else◌}
 use Rattle.clap.specs.Kinds.{IsAmong, Kinds}
 use Rattle.clap.specs.Walk.{is_empty}
 use Rattle.clap.specs.Words.{Text, subcommand_of}
-use Rattle.clap.specs.declared.error.kind.ErrorKind.TheVariants.{DisplayHelp}
+use Rattle.clap.specs.declared.error.kind.ErrorKind.{ErrorKind}
+use Rattle.clap.specs.declared.error.kind.ErrorKind.TheVariants.{DisplayHelp, DisplayVersion}
 use Rattle.bp_page.specs.declared.limits.Geometry.{Geometry}
 use Rattle.bp_page.specs.declared.refusals.Refusal.{Refusal}
 use Rattle.bp_page.specs.declared.refusals.Refusal.TheVariants as refusal
@@ -19,9 +20,9 @@ use Rattle.bp_device.specs.Work.{Reads, Writes}
 use Rattle.bp_core.specs.Outcomes.{IsFit, IsFitUpTo, NewOutcome}
 use Rattle.bp_clients.specs.Runs.{RunAnswers}
 use Rattle.bp_words.specs.Asked.{Asked, Migration, asked_by, asked_in}
-use Rattle.bp_words.specs.Asked.Asked.{a_run, a_migration}
+use Rattle.bp_words.specs.Asked.Asked.{a_run, a_migration, an_explanation}
 use Rattle.bp_words.specs.Command.{bpool_app}
-use Rattle.bp_words.specs.Decision.{AsksForHelp, IsRunnable}
+use Rattle.bp_words.specs.Decision.{AsksForAnswer, AsksForHelp, IsRunnable}
 use Rattle.bp_words.specs.Ending.{is_help}
 use Rattle.bp_words.specs.Words.{Told, TraceAt, from_stdin, at_path, fault_in}
 use Rattle.bp_words.specs.declared.ending.Ending.{Ending}
@@ -97,28 +98,46 @@ no_help_run ways bytes_of told bytes ended help (inr (inr after)) = go after.sto
     go (inl not) = (let none = ap is_help not.said ∙ not_help not.fault in cc)
     go (inr not) = no_help_reported told.order ended help not
 
-pub help_asked : {F P T : Type 0} (ways : Ways F P T) (bytes_of : T → Option (List ℕ)) (words : List Text) (bytes : Option (List ℕ)) (ended : Ending) → EndsBy ways bytes_of words bytes ended → is_help ended ≡ true → AsksForHelp words
-help_asked ways bytes_of words bytes (ending.Help text) (inl decided) help = decided
-help_asked ways bytes_of words bytes (ending.Help text) (inr (inl run)) help = absurd (no_help_run ways bytes_of run.told bytes (ending.Help text) help run.stops)
-help_asked ways bytes_of words bytes (ending.Help text) (inr (inr migration)) help = absurd migration.stops
+pub help_asked : {F P T : Type 0} (ways : Ways F P T) (bytes_of : T → Option (List ℕ)) (words : List Text) (bytes : Option (List ℕ)) (ended : Ending) → EndsBy ways bytes_of words bytes ended → is_help ended ≡ true → AsksForAnswer words
+help_asked ways bytes_of words bytes (ending.Help text) (inl decided) help = inl decided
+help_asked ways bytes_of words bytes ending.Version (inl decided) help = inr decided
+help_asked ways bytes_of words bytes ended (inr (inl run)) help = absurd (no_help_run ways bytes_of run.told bytes ended help run.stops)
+help_asked ways bytes_of words bytes (ending.Help text) (inr (inr (inl migration))) help = absurd migration.stops
+help_asked ways bytes_of words bytes ending.Version (inr (inr (inl migration))) help = absurd migration.stops
+help_asked ways bytes_of words bytes ended (inr (inr (inr explanation))) help = absurd (let none = ap is_help explanation.stops in cc)
 help_asked ways bytes_of words bytes other by help = cc
 
--- who asks for help names nothing else
-none_among : (kinds : Kinds) → is_empty kinds ≡ true → IsAmong DisplayHelp kinds → ⊥
-none_among [] none among = among
-none_among (kind ∷ kinds) none among = (let length_is : length (kind ∷ kinds) ≡ 0 = eqb-true (length (kind ∷ kinds)) 0 none in omega (arith, length_is))
+-- where no help was asked for the answer is the version
+pub is_version : {F P T : Type 0} (ways : Ways F P T) (bytes_of : T → Option (List ℕ)) (words : List Text) (bytes : Option (List ℕ)) (ended : Ending) → EndsBy ways bytes_of words bytes ended → is_help ended ≡ true
+    → (AsksForHelp words → ⊥) → ended ≡ ending.Version
+is_version ways bytes_of words bytes (ending.Help text) (inl decided) help unasked = absurd (unasked decided)
+is_version ways bytes_of words bytes (ending.Help text) (inr (inl run)) help unasked = absurd (no_help_run ways bytes_of run.told bytes (ending.Help text) help run.stops)
+is_version ways bytes_of words bytes (ending.Help text) (inr (inr (inl migration))) help unasked = absurd migration.stops
+is_version ways bytes_of words bytes (ending.Help text) (inr (inr (inr explanation))) help unasked = absurd (let none = ap is_help explanation.stops in cc)
+is_version ways bytes_of words bytes ending.Version by help unasked = refl
+is_version ways bytes_of words bytes other by help unasked = cc
 
-named_none : (kinds : Kinds) (asked : Option Asked) (one : Asked) (b : Bool) → is_empty kinds ≡ b → IsAmong DisplayHelp kinds → (if b then asked else None) ≡ Some one → ⊥
-named_none kinds asked one true none among is = none_among kinds none among
-named_none kinds asked one false some among is = cc
+-- who asks for an answer names nothing else
+none_among : (one : ErrorKind) (kinds : Kinds) → is_empty kinds ≡ true → IsAmong one kinds → ⊥
+none_among one [] none among = among
+none_among one (kind ∷ kinds) none among = (let length_is : length (kind ∷ kinds) ≡ 0 = eqb-true (length (kind ∷ kinds)) 0 none in omega (arith, length_is))
 
-pub no_help : (words : List Text) (one : Asked) → asked_by words ≡ Some one → AsksForHelp words → ⊥
-no_help words one named among = named_none (fault_in words) (asked_in (subcommand_of bpool_app words)) one (is_empty (fault_in words)) refl among named
+named_none : (kind : ErrorKind) (kinds : Kinds) (asked : Option Asked) (one : Asked) (b : Bool) → is_empty kinds ≡ b → IsAmong kind kinds → (if b then asked else None) ≡ Some one → ⊥
+named_none kind kinds asked one true none among is = none_among kind kinds none among
+named_none kind kinds asked one false some among is = cc
+
+no_answer : (kind : ErrorKind) (words : List Text) (one : Asked) → asked_by words ≡ Some one → IsAmong kind (fault_in words) → ⊥
+no_answer kind words one named among = named_none kind (fault_in words) (asked_in (subcommand_of bpool_app words)) one (is_empty (fault_in words)) refl among named
+
+pub no_help : (words : List Text) (one : Asked) → asked_by words ≡ Some one → AsksForAnswer words → ⊥
+no_help words one named (inl help) = no_answer DisplayHelp words one named help
+no_help words one named (inr version) = no_answer DisplayVersion words one named version
 
 -- ---- the output
 
 pub kept_when : (ended : Ending) → keeps_out ended ≡ true → (is_help ended ≡ false) × (ended ≡ ending.OutputFailed → ⊥)
 kept_when (ending.Help text) is = cc
+kept_when ending.Version is = cc
 kept_when ending.OutputFailed is = cc
 kept_when other is = (refl, λ same. cc)
 
@@ -135,13 +154,14 @@ pub then_kept : {A X : Type 0} (old mid new : X) → A ⊎ (mid ≡ old) → new
 then_kept old mid new (inl shown) later = inl shown
 then_kept old mid new (inr kept) later = inr (later ∙ kept)
 
--- words that name something ask for no help
+-- words that name something ask for no answer
 pub does_no_help : {F P T : Type 0} (ways : Ways F P T) (bytes_of : T → Option (List ℕ)) (reads : Reads P) (writes : Writes P) (words : List Text) (bytes : Option (List ℕ)) (status : ℕ) (old new : Option (List ℕ))
-    → DoesWords ways bytes_of reads writes words bytes status old new → AsksForHelp words → ⊥
+    → DoesWords ways bytes_of reads writes words bytes status old new → AsksForAnswer words → ⊥
 does_no_help ways bytes_of reads writes words bytes status old new (inl run) asks = no_help words (a_run run.told) run.named asks
-does_no_help ways bytes_of reads writes words bytes status old new (inr migration) asks = no_help words (a_migration migration.told) migration.named asks
+does_no_help ways bytes_of reads writes words bytes status old new (inr (inl migration)) asks = no_help words (a_migration migration.told) migration.named asks
+does_no_help ways bytes_of reads writes words bytes status old new (inr (inr explanation)) asks = no_help words (an_explanation explanation.text) explanation.named asks
 
--- help is no failure of the output
+-- an answer is no failure of the output
 pub no_failure : (ended : Ending) → is_help ended ≡ true → ended ≡ ending.OutputFailed → ⊥
 no_failure ended help failed = (let none = ap is_help failed in cc)
 

@@ -13,8 +13,8 @@ use Rattle.bp_core.specs.CoreView.{CoreView}
 use Rattle.bp_device.specs.Drivers.{with_piece}
 use Rattle.bp_device.specs.Rows.{AddsScript}
 use Rattle.bp_device.specs.Work.{DoesWork, Reads, Writes, WorksThrough}
-use Rattle.bp_trace.specs.Report.{report_text, rows_text}
-use Rattle.bp_run.specs.Run.{Reports}
+use Rattle.bp_trace.specs.Report.{rows_text}
+use Rattle.bp_run.specs.Run.{Reports, report_of}
 
 -- what was added to a new core is all that it has
 all_added : (old new : CoreView) (piece trail : Trail) → old.before ≡ [] → old.past ≡ [] → new ≡ with_piece old piece → trail ++ new.before ≡ new.past → trail ≡ piece
@@ -22,10 +22,10 @@ all_added old new piece trail none empty is entries =
     sym (append-nil trail) ∙ ap (λ (b : Trail). trail ++ b) (sym (ap (λ (c : CoreView). c.before) is ∙ none)) ∙ entries
     ∙ ap (λ (c : CoreView). c.past) is ∙ ap (λ (p : Trail). piece ++ p) empty ∙ append-nil piece
 
-pub reported : {P : Type 0} (reads : Reads P) (writes : Writes P) (old new : CoreView) (port after : P) (rows : List Row) (trail : List Entry) (refused : List Refused) (ok : Bool) (out written : Option (List ℕ))
+pub reported : {P : Type 0} (reads : Reads P) (writes : Writes P) (totals : Bool) (old new : CoreView) (port after : P) (rows : List Row) (trail : List Entry) (refused : List Refused) (ok : Bool) (out written : Option (List ℕ))
     → old.before ≡ [] → old.past ≡ [] → AddsScript old rows refused new → DoesWork reads writes old port new after → reverse trail ++ new.before ≡ new.past → Legal new.parameters new.past
-    → ok ≡ (length refused == 0) → Appends out written (report_text trail ++ rows_text refused) → Reports reads writes old.parameters port rows ok out written
-reported reads writes old new port after rows trail refused ok out written none empty adds works entries legal accepted prints =
+    → ok ≡ (length refused == 0) → Appends out written (report_of totals trail ++ rows_text refused) → Reports reads writes totals old.parameters port rows ok out written
+reported reads writes totals old new port after rows trail refused ok out written none empty adds works entries legal accepted prints =
     let said : reverse trail ≡ adds.said = all_added old new adds.said (reverse trail) none empty adds.is entries in
     let done : reverse trail ≡ works.piece = all_added old new works.piece (reverse trail) none empty works.is entries in
     let past : new.past ≡ reverse trail = sym entries ∙ ap (λ (b : Trail). reverse trail ++ b) (ap (λ (c : CoreView). c.before) adds.is ∙ none) ∙ append-nil (reverse trail) in

@@ -13,6 +13,7 @@ use Rattle.bp_trail.specs.Script.{Follows}
 use Rattle.bp_device.specs.Work.{Reads, Writes, WorksThrough}
 use Rattle.bp_trace.specs.Script.{IsScriptOfSome, script_of}
 use Rattle.bp_trace.specs.Report.{report_text, rows_text}
+use Rattle.bp_trace.specs.Totals.{totals_of, totals_text}
 use Rattle.bp_clients.specs.Runs.{IsRun}
 use Rattle.clap.specs.Words.{Text}
 use Rattle.bp_words.specs.declared.words.Order.{Order}
@@ -20,7 +21,7 @@ use Rattle.bp_words.specs.declared.words.Order.TheVariants as order
 use Rattle.bp_run.specs.Scripts.{clients_of, scripts_of}
 use Rattle.bp_words.specs.Words.{Told, TraceAt, from_stdin, at_path}
 use Rattle.bp_words.specs.Asked.{Migration, asked_by}
-use Rattle.bp_words.specs.Asked.Asked.{a_run, a_migration}
+use Rattle.bp_words.specs.Asked.Asked.{a_run, a_migration, an_explanation}
 use Rattle.bp_run.specs.PageFile.{IsNamed}
 use Rattle.bp_run.specs.Ways.{Ways}
 
@@ -52,9 +53,13 @@ parameters_for in_order told g rows = record {
   room = room_for in_order (length rows);
 }
 
+-- the report of a trail: without the lines of events where only the totals are wanted
+abbrev pub report_of : Bool → List Entry → List ℕ
+report_of totals trail = if totals then totals_text (totals_of trail) else report_text trail
+
 -- what was written is the report of a legal trail and of refused rows, both of which follow the script; the trail's device work was done
 -- by the port, in the trail's order, and nothing else was
-pub record Reports {P : Type 0} (reads : Reads P) (writes : Writes P) (c : Parameters) (port : P) (script : List Row) (all_accepted : Bool) (old new : Option (List ℕ)) : Type 0 where
+pub record Reports {P : Type 0} (reads : Reads P) (writes : Writes P) (totals : Bool) (c : Parameters) (port : P) (script : List Row) (all_accepted : Bool) (old new : Option (List ℕ)) : Type 0 where
   pub trail : List Entry
   pub refused : List Refused
   pub legal : Legal c (reverse trail)
@@ -62,21 +67,21 @@ pub record Reports {P : Type 0} (reads : Reads P) (writes : Writes P) (c : Param
   pub after : P
   pub work : WorksThrough reads writes [] (reverse trail) port after
   pub accepted : all_accepted ≡ (length refused == 0)
-  pub written : Appends old new (report_text trail ++ rows_text refused)
+  pub written : Appends old new (report_of totals trail ++ rows_text refused)
 
 -- what was written is the report of the trail of a run of client threads, which ran these scripts, and of its refused rows
-pub record ReportsFree (c : Parameters) (scripts : List (List Row)) (all_accepted : Bool) (old new : Option (List ℕ)) : Type 0 where
+pub record ReportsFree (totals : Bool) (c : Parameters) (scripts : List (List Row)) (all_accepted : Bool) (old new : Option (List ℕ)) : Type 0 where
   pub trail : List Entry
   pub said : List (List Entry)
   pub refused : List Refused
   pub run : IsRun c scripts trail said refused
   pub accepted : all_accepted ≡ (length refused == 0)
-  pub written : Appends old new (report_text trail ++ rows_text refused)
+  pub written : Appends old new (report_of totals trail ++ rows_text refused)
 
 -- the rows were run over the one port in the order of the trace, or the clients as threads, each with its own rows
-abbrev pub ReportsIn : {P : Type 0} → Reads P → Writes P → Order → Parameters → List P → List Row → Bool → Option (List ℕ) → Option (List ℕ) → Type 0
-ReportsIn {P} reads writes order.Trace c ports rows all_accepted old new = (port : P) × (ports ≡ port ∷ []) × Reports reads writes c port rows all_accepted old new
-ReportsIn reads writes order.Free c ports rows all_accepted old new = ReportsFree c (scripts_of rows) all_accepted old new
+abbrev pub ReportsIn : {P : Type 0} → Reads P → Writes P → Order → Bool → Parameters → List P → List Row → Bool → Option (List ℕ) → Option (List ℕ) → Type 0
+ReportsIn {P} reads writes order.Trace totals c ports rows all_accepted old new = (port : P) × (ports ≡ port ∷ []) × Reports reads writes totals c port rows all_accepted old new
+ReportsIn reads writes order.Free totals c ports rows all_accepted old new = ReportsFree totals c (scripts_of rows) all_accepted old new
 
 -- the rows are those that the bytes say, where these are known, and those of some records in any case
 pub record AreRowsOf (g : Geometry) (bytes : Option (List ℕ)) (rows : List Row) : Type 0 where
@@ -97,7 +102,7 @@ pub record Runs {F P T : Type 0} (ways : Ways F P T) (bytes_of : T → Option (L
   pub read : AreRead ways.traces bytes_of told.trace (ways.geometry file) bytes rows
   pub ports : Vec P Global
   pub connected : ways.connects file (ports_for told.order rows) (Ok ports)
-  pub reports : ReportsIn reads writes told.order (parameters_for told.order told (ways.geometry file) rows) ports.items rows all_accepted old new
+  pub reports : ReportsIn reads writes told.order told.totals (parameters_for told.order told (ways.geometry file) rows) ports.items rows all_accepted old new
 
 -- what was written is the report of such a run, with what the words name; the status is 0 where all rows were accepted, else 1
 pub record RunsWords {F P T : Type 0} (ways : Ways F P T) (bytes_of : T → Option (List ℕ)) (reads : Reads P) (writes : Writes P) (words : List Text) (bytes : Option (List ℕ)) (status : ℕ) (old new : Option (List ℕ)) : Type 0 where
@@ -114,7 +119,14 @@ pub record MigratesWords (words : List Text) (status : ℕ) (old new : Option (L
   pub written : Appends old new []
   pub status_is : status ≡ 0
 
+-- the words name the number of a refusal; its text was written as a line, and the status is 0
+pub record ExplainsWords (words : List Text) (status : ℕ) (old new : Option (List ℕ)) : Type 0 where
+  pub text : Text
+  pub named : asked_by words ≡ Some (an_explanation text)
+  pub written : Appends old new (text ++ 10 ∷ [])
+  pub status_is : status ≡ 0
+
 -- what the words name was done
 abbrev pub DoesWords : {F P T : Type 0} → Ways F P T → (T → Option (List ℕ)) → Reads P → Writes P → List Text → Option (List ℕ) → ℕ → Option (List ℕ) → Option (List ℕ) → Type 0
 DoesWords ways bytes_of reads writes words bytes status old new =
-    RunsWords ways bytes_of reads writes words bytes status old new ⊎ MigratesWords words status old new
+    RunsWords ways bytes_of reads writes words bytes status old new ⊎ (MigratesWords words status old new ⊎ ExplainsWords words status old new)

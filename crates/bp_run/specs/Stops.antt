@@ -10,7 +10,7 @@ use Rattle.bp_trace.specs.Script.{Answers, script_of}
 use Rattle.bp_trace.specs.declared.faults.TraceFault.{TraceFault}
 use Rattle.bp_words.specs.Words.{Told, TraceAt, from_stdin, at_path}
 use Rattle.bp_words.specs.Asked.{Migration, asked_by}
-use Rattle.bp_words.specs.Asked.Asked.{a_run, a_migration}
+use Rattle.bp_words.specs.Asked.Asked.{a_run, a_migration, an_explanation}
 use Rattle.bp_words.specs.Decision.{IsDecision}
 use Rattle.bp_words.specs.declared.ending.Ending.{Ending}
 use Rattle.bp_words.specs.declared.ending.Ending.TheVariants as ending
@@ -91,16 +91,23 @@ pub record StopsMigrationOf (words : List Text) (ended : Ending) : Type 0 where
   pub named : asked_by words ≡ Some (a_migration told)
   pub stops : StopsMigration ended
 
+-- the words name the number of a refusal, and not all of its text was written
+pub record StopsExplanationOf (words : List Text) (ended : Ending) : Type 0 where
+  pub text : Text
+  pub named : asked_by words ≡ Some (an_explanation text)
+  pub stops : ended ≡ ending.OutputFailed
+
 -- the words decide on this end, or what they name comes to it
 abbrev pub EndsBy : {F P T : Type 0} → Ways F P T → (T → Option (List ℕ)) → List Text → Option (List ℕ) → Ending → Type 0
 EndsBy ways bytes_of words bytes ended =
-    IsDecision words (Err ended) ⊎ (StopsRunOf ways bytes_of words bytes ended ⊎ StopsMigrationOf words ended)
+    IsDecision words (Err ended) ⊎ (StopsRunOf ways bytes_of words bytes ended ⊎ (StopsMigrationOf words ended ⊎ StopsExplanationOf words ended))
 
 -- ---- the outputs
 
--- help, and a report that was begun, may be on the output
+-- help, the version, and a report that was begun, may be on the output
 abbrev pub keeps_out : Ending → Bool
 keeps_out (ending.Help text) = false
+keeps_out ending.Version = false
 keeps_out ending.OutputFailed = false
 keeps_out _ = true
 

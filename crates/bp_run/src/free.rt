@@ -81,7 +81,7 @@ pub(crate) fn run_free<P: Port + Send, R: Threads + Wait + Sync, W: Write>(
     requires ports { vec_len ports ≡ clients_of rows.items }
     requires alike { All (λ p. P.geometry_of p ≡ geometry) ports.items }
     requires fits { All (IsInRange geometry) rows.items }
-    ensures reported { IfOk result (λ all_accepted. ReportsFree
+    ensures reported { IfOk result (λ all_accepted. ReportsFree run.now.totals
         (parameters_for Order.Free (told_of run.now) geometry rows.items)
         (scripts_of rows.items) all_accepted (W.contents out.old) (W.contents out.new)) }
     ensures fault { IfErr result (NotReported Order.Free) }
@@ -92,7 +92,7 @@ pub(crate) fn run_free<P: Port + Send, R: Threads + Wait + Sync, W: Write>(
         Ok(outcome) => outcome,
         Err(ending) => return Err(ending),
     };
-    match print_run(&outcome.trail, &outcome.refused, out) {
+    match print_run(run.totals, &outcome.trail, &outcome.refused, out) {
         Ok(()) => Ok(outcome.refused.is_empty()),
         Err(fault) => Err(fault),
     }

@@ -4,6 +4,7 @@
 #![tactic(auto)]
 
 mod awaiting;
+mod explaining;
 mod free;
 mod meter;
 mod migration;

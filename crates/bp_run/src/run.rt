@@ -4,16 +4,18 @@ ghost use Rattle.std.specs.Io.KnownBytes.{Appends};
 ghost use Rattle.clap.specs.Walk.{texts};
 ghost use Rattle.bp_trail.specs.Fits.{RowFits};
 ghost use Rattle.bp_trace.specs.InRange.{IsInRange};
-ghost use Rattle.bp_trace.specs.Report.{report_text, rows_text};
-ghost use Rattle.bp_words.specs.Decision.{AsksForHelp, IsRunnable};
+ghost use Rattle.bp_trace.specs.Report.{rows_text};
+ghost use Rattle.bp_words.specs.Decision.{AsksForAnswer, AsksForHelp, AsksForVersion, IsRunnable};
+ghost use Rattle.bp_words.specs.Ending.{message_of};
 ghost use Rattle.bp_words.specs.Words.{told_of, trace_told, words_or_default};
 ghost use Rattle.bp_run.specs.Opening.{ending_of};
 ghost use Rattle.bp_run.specs.PageFile.{IsNamed};
 ghost use Rattle.bp_run.specs.Run.{AreRead, AreRowsOf, Reports, ReportsIn, Runs, DoesWords};
-ghost use Rattle.bp_run.specs.Run.{parameters_for, ports_for, room_for};
+ghost use Rattle.bp_run.specs.Run.{parameters_for, ports_for, report_of, room_for};
 ghost use Rattle.bp_run.specs.Stops.{Ended, EndsBy, HasNoRows, IsShown, NotConnected, NotOpened};
 ghost use Rattle.bp_run.specs.Stops.{NotRead, NotReported, Prints, StopsRun};
 
+use crate::explaining::explain;
 use crate::free::run_free;
 use crate::migration::migrate;
 use crate::opening::Ports;
@@ -22,9 +24,10 @@ use bp_core::{Core, Entry, Refused, Row};
 use bp_device::{OpenFault, Port, drive_all};
 use bp_lruk::Settings;
 use bp_page::{Geometry, PortFault, Refusal};
-use bp_trace::{read_script, report, report_rows};
+use bp_trace::{read_script, report, report_rows, report_totals};
 use bp_words::{Ending, Order, RunWords, Task, TraceSource, decide};
 use std::alloc::Global;
+use std::io;
 use std::io::{Read, Write};
 use std::marker::{Send, Sync};
 use std::rt::Files;
@@ -58,17 +61,33 @@ fn ports_for(order: Order, rows: &[Row]) -> usize
     }
 }
 
-/// Writes the report of the entries, and the refused rows.
+/// Writes the report of the entries, or only its totals.
+fn print_report<W: Write>(totals: bool, entries: &[Entry], out: &mut W) -> io::Result<()>
+    ensures { OnOk result (Appends (W.contents out.old) (W.contents out.new)
+        (report_of totals entries.now)) }
+{
+    if totals {
+        report_totals(entries, out)
+    } else {
+        report(entries, out)
+    }
+}
+
+/// Writes the report of the entries, or only its totals, and the refused rows.
 pub(crate) fn print_run<W: Write>(
+    totals: bool,
     entries: &[Entry],
     refused: &[Refused],
     out: &mut W,
 ) -> Result<(), Ending>
     ensures written { OnOk result (Appends (W.contents out.old) (W.contents out.new)
-        (report_text entries.now ++ rows_text refused.now)) }
+        (report_of totals entries.now ++ rows_text refused.now)) }
     ensures fault { IfErr result (λ ended. ended ≡ Ending.OutputFailed) }
 {
-    if report(entries, out).is_err() || report_rows(refused, out).is_err() || out.flush().is_err() {
+    if print_report(totals, entries, out).is_err()
+        || report_rows(refused, out).is_err()
+        || out.flush().is_err()
+    {
         return Err(Ending::OutputFailed);
     }
     Ok(())
@@ -107,14 +126,15 @@ fn drive_rows<P: Port, R: Wait, W: Write>(
     alloc: Global,
     core: &mut Core,
     port: &mut P,
+    totals: bool,
     rows: &[Row],
     out: &mut W,
 ) -> Result<bool, Ending>
     requires new { (core.old.before ≡ []) × (core.old.past ≡ []) }
     requires size { (P.geometry_of port.old).size ≡ core.old.parameters.size }
     requires fits { All (RowFits core.old.parameters) rows.now }
-    ensures reported { IfOk result (λ ok. Reports P.read_gives P.write_gives core.old.parameters
-        port.old rows.now ok (W.contents out.old) (W.contents out.new)) }
+    ensures reported { IfOk result (λ ok. Reports P.read_gives P.write_gives totals
+        core.old.parameters port.old rows.now ok (W.contents out.old) (W.contents out.new)) }
     ensures fault { IfErr result (NotReported Order.Trace) }
     ensures kept { IfErr result (λ ended. ended ≢ Ending.OutputFailed → out.new ≡ out.old) }
 {
@@ -122,7 +142,7 @@ fn drive_rows<P: Port, R: Wait, W: Write>(
         Ok(refused) => refused,
         Err(refusal) => return Err(Ending::RunRefused(refusal)),
     };
-    match print_run(core.trail(), &refused, out) {
+    match print_run(totals, core.trail(), &refused, out) {
         Ok(()) => Ok(refused.is_empty()),
         Err(fault) => Err(fault),
     }
@@ -140,7 +160,7 @@ fn run_rows<P: Port, R: Wait, W: Write>(
 ) -> Result<bool, Ending>
     requires runnable { IsRunnable (told_of run.now) }
     requires fits { All (IsInRange (P.geometry_of port.old)) rows.now }
-    ensures reported { IfOk result (λ ok. Reports P.read_gives P.write_gives
+    ensures reported { IfOk result (λ ok. Reports P.read_gives P.write_gives run.now.totals
         (parameters_for Order.Trace (told_of run.now) (P.geometry_of port.old) rows.now)
         port.old rows.now ok (W.contents out.old) (W.contents out.new)) }
     ensures fault { IfErr result (NotReported Order.Trace) }
@@ -150,7 +170,7 @@ fn run_rows<P: Port, R: Wait, W: Write>(
         Ok(core) => core,
         Err(ending) => return Err(ending),
     };
-    drive_rows(rt, alloc, &mut core, port, rows, out)
+    drive_rows(rt, alloc, &mut core, port, run.totals, rows, out)
 }
 
 /// The rows of a trace over pages of this geometry.
@@ -261,8 +281,8 @@ fn run_in_order<P: Port + Send, R: Threads + Wait + Sync, W: Write>(
     requires alike { All (λ p. P.geometry_of p ≡ geometry) ports.items }
     requires fits { All (IsInRange geometry) rows.items }
     ensures reported { IfOk result (λ ok. ReportsIn P.read_gives P.write_gives run.now.order
-        (parameters_for run.now.order (told_of run.now) geometry rows.items) ports.items rows.items
-        ok (W.contents out.old) (W.contents out.new)) }
+        run.now.totals (parameters_for run.now.order (told_of run.now) geometry rows.items)
+        ports.items rows.items ok (W.contents out.old) (W.contents out.new)) }
     ensures fault { IfErr result (NotReported run.now.order) }
     ensures kept { IfErr result (λ ended. ended ≢ Ending.OutputFailed → out.new ≡ out.old) }
 {
@@ -318,8 +338,9 @@ fn status_of_run(all_accepted: bool) -> u8
 /// Does what the words of the command line say, which leave out the program's name, and gives the status to end with.
 /// No words at all are those of the default run. It looks at the words first.
 ///
-/// An `Err` is how the program ends otherwise, by its cause. Nothing is said of it yet, and nothing is on `out`, but where a run's report
-/// was begun: then it is `OutputFailed`. Where somebody watches a migration, `err` shows how far it came; else `err` is as it was.
+/// An `Err` is how the program ends otherwise, by its cause. Nothing is said of it yet, and nothing is on `out`, but
+/// where a run's report or an explanation was begun: then it is `OutputFailed`. Where somebody watches a migration,
+/// `err` shows how far it came; else `err` is as it was.
 pub fn carry_out<R: Files + Threads + Wait + Sync, I: Read, O: Ports<R>, W: Write, E: Write>(
     rt: &R,
     alloc: Global,
@@ -350,6 +371,10 @@ pub fn carry_out<R: Files + Threads + Wait + Sync, I: Read, O: Ports<R>, W: Writ
                 Err(ending) => Err(ending),
             }
         }
+        Ok(Task::Explain(text)) => match explain(text, out) {
+            Ok(()) => Ok(0),
+            Err(ending) => Err(ending),
+        },
         Err(ending) => Err(ending),
     }
 }
@@ -357,14 +382,16 @@ pub fn carry_out<R: Files + Threads + Wait + Sync, I: Read, O: Ports<R>, W: Writ
 /// Does what the words of the command line say, which leave out the program's name, and gives the status to end with.
 /// No words at all are those of the default run. It looks at the words first.
 ///
-/// For a run it then opens the page file by `ports`, and then reads the trace: from `reader` where its word is `stdin`, else from what
-/// `ports` opens at that path. In the order `trace` it runs the rows one after the other; in the order `free` each client is a thread,
-/// which runs its own rows over a port of its own. For a migration it writes the page file of version 1 anew in version 2, and nothing on
-/// `out`.
+/// For a run it then opens the page file by `ports`, and then reads the trace: from `reader` where its word is
+/// `stdin`, else from what `ports` opens at that path. In the order `trace` it runs the rows one after the other; in
+/// the order `free` each client is a thread, which runs its own rows over a port of its own. For a migration it
+/// writes the page file of version 1 anew in version 2, and nothing on `out`. For an explanation it writes what the
+/// refusal with that number says, as one line.
 ///
-/// Status 0: help, a run whose rows were all accepted, or a migration. Status 1: a run with refused rows. Their report, and then the
-/// refused rows, are on `out`; `err` is as it was, but where somebody watches a migration. Status 2: one line on `err` says why there is no
-/// report or no new page file; `out` is as it was, but where the line is `output failed`, which comes after whatever was written.
+/// Status 0: help, the version, an explanation, a run whose rows were all accepted, or a migration. Status 1: a run
+/// with refused rows. Their report, and then the refused rows, are on `out`; `err` is as it was, but where somebody
+/// watches a migration. Status 2: one line on `err` says why there is no report or no new page file; `out` is as it
+/// was, but where the line is `output failed`, which comes after whatever was written.
 pub fn run_with<R: Files + Threads + Wait + Sync, I: Read, O: Ports<R>, W: Write, E: Write>(
     rt: &R,
     alloc: Global,
@@ -374,14 +401,17 @@ pub fn run_with<R: Files + Threads + Wait + Sync, I: Read, O: Ports<R>, W: Write
     out: &mut W,
     err: &mut E,
 ) -> u8
-    ensures reported { ¬ AsksForHelp (words_or_default (texts words.entry.now)) → result < 2
+    ensures reported { ¬ AsksForAnswer (words_or_default (texts words.entry.now)) → result < 2
         → DoesWords O.ways O.T.remaining O.P.read_gives O.P.write_gives
         (words_or_default (texts words.entry.now)) (I.remaining reader.old) result
         (W.contents out.old) (W.contents out.new) }
     ensures status { result ≤ 2 }
-    ensures help { AsksForHelp (words_or_default (texts words.entry.now)) → result ≢ 1 }
-    ensures printed { AsksForHelp (words_or_default (texts words.entry.now)) → result ≡ 0
+    ensures answer { AsksForAnswer (words_or_default (texts words.entry.now)) → result ≢ 1 }
+    ensures printed { AsksForAnswer (words_or_default (texts words.entry.now)) → result ≡ 0
         → Prints (W.contents out.old) (W.contents out.new) }
+    ensures version { ¬ AsksForHelp (words_or_default (texts words.entry.now))
+        → AsksForVersion (words_or_default (texts words.entry.now)) → result ≡ 0
+        → Appends (W.contents out.old) (W.contents out.new) (message_of Ending.Version) }
     ensures ended { result ≡ 2 → Ended (EndsBy O.ways O.T.remaining
         (words_or_default (texts words.entry.now)) (I.remaining reader.old)) out.old out.new }
     ensures err_kept { result < 2 → IsShown (O.watched ports.old)

@@ -13,5 +13,5 @@ mod script;
 mod totals;
 
 pub use faults::TraceFault;
-pub use printing::{ReportRun, report, report_rows};
+pub use printing::{ReportRun, report, report_rows, report_totals};
 pub use script::read_script;

@@ -1,7 +1,7 @@
 //! The report of a run.
 ghost use Rattle.std.specs.Prelude.{◌≡◌, [], IfOk, OnOk};
 ghost use Rattle.std.specs.Io.KnownBytes.{Appends};
-ghost use Rattle.bp_trace.specs.Totals.{totals_of};
+ghost use Rattle.bp_trace.specs.Totals.{totals_of, totals_text};
 ghost use Rattle.bp_trace.specs.Report.{lines_after, report_text, rows_text, steps_of};
 
 mod pieces;
@@ -49,6 +49,27 @@ pub fn report<W: Write>(entries: &[Entry], writer: &mut W) -> io::Result<()>
 {
     let totals = write_events(entries, writer)?;
     totals.write(writer)
+}
+
+/// Counts the replies.
+fn count_replies(entries: &[Entry]) -> Totals
+    ensures { result ≡ totals_of entries.now }
+{
+    let mut totals = Totals::new();
+    for entry in entries {
+        totals.count(&entry.reply);
+    }
+    totals
+}
+
+/// Writes the six totals of the entries alone.
+///
+/// A fault of the writer is passed on; how much of the totals the writer then holds is not told.
+pub fn report_totals<W: Write>(entries: &[Entry], writer: &mut W) -> io::Result<()>
+    ensures { OnOk result (Appends (W.contents writer.old) (W.contents writer.new)
+        (totals_text (totals_of entries.now))) }
+{
+    count_replies(entries).write(writer)
 }
 
 /// Writes a line for each refused row, in the order of the list.

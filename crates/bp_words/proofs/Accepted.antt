@@ -1,4 +1,4 @@
--- Words in which clap finds no fault name a run or a migration.
+-- Words in which clap finds no fault name a run, a migration or an explanation.
 use Rattle.std.proofs.Common.{◌≡◌, ◌∙◌, ℕ, ◌≤◌, ◌^◌, ◌&&◌, ◌||◌, ◌⊎◌, inl, inr, not, nat_le, nat_lt, if◌then◌else◌, cond, true, false, Bool, codes, ap, ap₂, refl, sym, subst, List, [], ◌∷◌, Option, Some, None, IfSome, is_some, option_map}
 use Rattle.std.proofs.lemmas.Slice.Eq.{bytes_eq-Decides}
 use Rattle.std.proofs.lemmas.Bool.{leb-true}
@@ -20,11 +20,11 @@ use Rattle.clap.specs.declared.error.Error.{Error}
 use Rattle.clap.specs.declared.error.kind.ErrorKind.{ErrorKind}
 use Rattle.clap.specs.declared.error.kind.ErrorKind.TheVariants.{InvalidValue, MissingRequiredArgument}
 use Rattle.clap.proofs.WalkLemmas.{both}
-use Rattle.bp_words.specs.Command.{bpool_app, number_option, required_number, positional as positional_rule, run_shape, migrate_shape}
+use Rattle.bp_words.specs.Command.{bpool_app, number_option, required_number, positional as positional_rule, run_shape, migrate_shape, explain_shape}
 use Rattle.bp_words.specs.declared.words.Order.{Order}
-use Rattle.bp_words.specs.Words.{IsInLimits, Told, ◌>>=◌, fault_in, format_of, number_at, order_at, order_fault, told_by_rows, trace_of}
+use Rattle.bp_words.specs.Words.{IsInLimits, Told, ◌>>=◌, explanation_at, fault_in, flag_at, format_of, number_at, order_at, naming_fault, told_by_rows, trace_of}
 use Rattle.bp_words.specs.Asked.{Asked, Migration, HasPageSize, AreInLimits, asked_by, asked_in, migration_by_rows}
-use Rattle.bp_words.specs.Asked.Asked.{a_run, a_migration}
+use Rattle.bp_words.specs.Asked.Asked.{a_run, a_migration, an_explanation}
 use Rattle.bp_words.proofs.Entering.{NotHelp, walk_not_help}
 use Rattle.bp_words.proofs.Fits.{AllFit, Fits, IsOf, or_else-nil}
 use Rattle.bp_words.proofs.Level.{IsFilled, has_default, level_filled}
@@ -117,6 +117,10 @@ run_built = built_leaf (inherited (on_top with_leaf_noted (on_top marked_built b
 abbrev pub migrate_built : Shape
 migrate_built = built_leaf (inherited (on_top with_leaf_noted (on_top marked_built bpool_app)).top migrate_shape)
 
+-- and the command `explain`
+abbrev pub explain_built : Shape
+explain_built = built_leaf (inherited (on_top with_leaf_noted (on_top marked_built bpool_app)).top explain_shape)
+
 given_has : (id : Text) (rows : List Row) → is_given id rows ≡ true → has_row id rows ≡ true
 given_has id [] e = cc
 given_has id (r ∷ rows) e = go (bytes_eq r.id id) e (given_has id rows)
@@ -208,6 +212,7 @@ rows_tell rows filled = record {
       size = size.number;
       format = format_of version.number;
       order = order;
+      totals = flag_at (codes "totals") rows;
     }
 
 -- ---- the arguments of a migration
@@ -271,11 +276,15 @@ record IsMet (shape : Shape) (stop : Option (Text × List Text)) : Type 0 where
   met : entered (built bpool_app) stop ≡ Some (rows_at shape words)
   fault : level_fault shape [] nothing_held words false [] ≡ []
 
+-- it is the one with one of these shapes
+abbrev AnyMet : Option (Text × List Text) → Type 0
+AnyMet stop = IsMet run_built stop ⊎ (IsMet migrate_built stop ⊎ IsMet explain_built stop)
+
 command_entered : (stop : Option (Text × List Text)) → NotHelp stop → is_some (entered (built bpool_app) stop) ≡ true → entered_fault (built bpool_app) stop ≡ []
-    → IsMet run_built stop ⊎ IsMet migrate_built stop
+    → AnyMet stop
 command_entered None other e fault = cc
 command_entered (Some p) other e fault =
-    go (answers_to p.0 (codes "run", [])) (answers_to p.0 (codes "migrate", [])) (answers_to p.0 (codes "help", [])) refl refl (not_help (bytes_eq (codes "help") p.0) refl) e fault
+    go (answers_to p.0 (codes "run", [])) (answers_to p.0 (codes "migrate", [])) (answers_to p.0 (codes "explain", [])) (answers_to p.0 (codes "help", [])) refl refl refl (not_help (bytes_eq (codes "help") p.0) refl) e fault
   where
     not_help : (b : Bool) → bytes_eq (codes "help") p.0 ≡ b → b || false ≡ false
     not_help true e =
@@ -287,24 +296,27 @@ command_entered (Some p) other e fault =
     help_built : Shape
     help_built = built_leaf help_shape
 
-    shape_met : Bool → Bool → Bool → Option Shape
-    shape_met run migrate help = cond run (Some run_built) (cond migrate (Some migrate_built) (cond help (Some help_built) None))
+    shape_met : Bool → Bool → Bool → Bool → Option Shape
+    shape_met run migrate explain help =
+        cond run (Some run_built) (cond migrate (Some migrate_built) (cond explain (Some explain_built) (cond help (Some help_built) None)))
 
-    go : (run migrate help : Bool) → answers_to p.0 (codes "run", []) ≡ run → answers_to p.0 (codes "migrate", []) ≡ migrate → help ≡ false
-        → is_some (option_map (λ s. rows_at s p.1) (shape_met run migrate help)) ≡ true
-        → option_map_or (λ s. level_fault s [] nothing_held p.1 false []) (shape_met run migrate help) [] ≡ []
-        → IsMet run_built (Some p) ⊎ IsMet migrate_built (Some p)
-    go true migrate help is as_m other e fault = inl (record { words = p.1; met = rw is refl; fault = fault })
-    go false true help is as_m other e fault = inr (record { words = p.1; met = rw (is, as_m) refl; fault = fault })
-    go false false true is as_m other e fault = cc
-    go false false false is as_m other e fault = cc
+    go : (run migrate explain help : Bool) → answers_to p.0 (codes "run", []) ≡ run → answers_to p.0 (codes "migrate", []) ≡ migrate
+        → answers_to p.0 (codes "explain", []) ≡ explain → help ≡ false
+        → is_some (option_map (λ s. rows_at s p.1) (shape_met run migrate explain help)) ≡ true
+        → option_map_or (λ s. level_fault s [] nothing_held p.1 false []) (shape_met run migrate explain help) [] ≡ []
+        → AnyMet (Some p)
+    go true migrate explain help is as_m as_e other e fault = inl (record { words = p.1; met = rw is refl; fault = fault })
+    go false true explain help is as_m as_e other e fault = inr (inl (record { words = p.1; met = rw (is, as_m) refl; fault = fault }))
+    go false false true help is as_m as_e other e fault = inr (inr (record { words = p.1; met = rw (is, as_m, as_e) refl; fault = fault }))
+    go false false false true is as_m as_e other e fault = cc
+    go false false false false is as_m as_e other e fault = cc
 
 -- what words in which clap finds no fault ask for, if they name an order where they are those of a run
 record IsAccepted (words : List Text) : Type 0 where
   asked : Option Asked
   asks : asked_in (subcommand_of bpool_app words) ≡ asked
   limits : IfSome asked AreInLimits
-  fault : order_fault (subcommand_of bpool_app words) ≡ (if is_some asked then [] else InvalidValue ∷ [])
+  fault : naming_fault (subcommand_of bpool_app words) ≡ (if is_some asked then [] else InvalidValue ∷ [])
 
 run_tells : (words : List Text) (run : IsMet run_built (stop_after (built bpool_app).top.rules (names_of (built bpool_app)) words))
     → Tells (finished run_built.rules (walk run_built.rules [] nothing_held run.words).held) → IsAccepted words
@@ -316,8 +328,8 @@ run_tells words run told = go (order_at rows) refl
     met : asked_in (subcommand_of bpool_app words) ≡ asked_in (Some (rows_at run_built run.words))
     met = ap asked_in run.met
 
-    named : order_fault (subcommand_of bpool_app words) ≡ order_fault (Some (rows_at run_built run.words))
-    named = ap order_fault run.met
+    named : naming_fault (subcommand_of bpool_app words) ≡ naming_fault (Some (rows_at run_built run.words))
+    named = ap naming_fault run.met
 
     go : (order : Option Order) → order_at rows ≡ order → IsAccepted words
     go (Some order) is = record {
@@ -339,8 +351,34 @@ migration_tells words migrate told = record {
   asked = Some (a_migration told.told);
   asks = ap asked_in migrate.met ∙ ap (λ (o : Option Migration). option_map a_migration o) told.tells;
   limits = told.limits;
-  fault = ap order_fault migrate.met;
+  fault = ap naming_fault migrate.met;
 }
+
+explain_tells : (words : List Text) → IsMet explain_built (stop_after (built bpool_app).top.rules (names_of (built bpool_app)) words) → IsAccepted words
+explain_tells words explain = go (explanation_at rows) refl
+  where
+    rows : List Row
+    rows = finished explain_built.rules (walk explain_built.rules [] nothing_held explain.words).held
+
+    met : asked_in (subcommand_of bpool_app words) ≡ asked_in (Some (rows_at explain_built explain.words))
+    met = ap asked_in explain.met
+
+    named : naming_fault (subcommand_of bpool_app words) ≡ naming_fault (Some (rows_at explain_built explain.words))
+    named = ap naming_fault explain.met
+
+    go : (text : Option Text) → explanation_at rows ≡ text → IsAccepted words
+    go (Some text) is = record {
+      asked = Some (an_explanation text);
+      asks = met ∙ ap (λ (o : Option Text). option_map an_explanation o) is;
+      limits = tt;
+      fault = named ∙ ap (λ (o : Option Text). if is_some o then [] else InvalidValue ∷ []) is;
+    }
+    go None is = record {
+      asked = None;
+      asks = met ∙ ap (λ (o : Option Text). option_map an_explanation o) is;
+      limits = tt;
+      fault = named ∙ ap (λ (o : Option Text). if is_some o then [] else InvalidValue ∷ []) is;
+    }
 
 -- words in which clap finds no fault
 accepted : (words : List Text) → fault_of bpool_app words ≡ [] → IsAccepted words
@@ -356,10 +394,13 @@ accepted words fault =
     let filled = or_else-nil (defaults_fault (settled top.rules end).rows top.rules) (check_fault top (finished top.rules end) has) settles.1 in
     by_command words (command_entered stop (walk_not_help top names (walk_from nothing_held) words refl walked.0 tt) (entered_one (finished top.rules end) has filled.1) below.0)
   where
-    by_command : (words : List Text) → IsMet run_built (stop_after (built bpool_app).top.rules (names_of (built bpool_app)) words) ⊎ IsMet migrate_built (stop_after (built bpool_app).top.rules (names_of (built bpool_app)) words)
-        → IsAccepted words
+    stop_in : List Text → Option (Text × List Text)
+    stop_in words = stop_after (built bpool_app).top.rules (names_of (built bpool_app)) words
+
+    by_command : (words : List Text) → AnyMet (stop_in words) → IsAccepted words
     by_command words (inl run) = run_tells words run (rows_tell _ (level_filled run_built run.words refl run.fault))
-    by_command words (inr migrate) = migration_tells words migrate (rows_tell_migration _ (level_filled migrate_built migrate.words refl migrate.fault))
+    by_command words (inr (inl migrate)) = migration_tells words migrate (rows_tell_migration _ (level_filled migrate_built migrate.words refl migrate.fault))
+    by_command words (inr (inr explain)) = explain_tells words explain
 
 -- what the matches of such words ask for, where a run names an order
 pub record IsTold (words : List Text) (m : ArgMatches) : Type 0 where
@@ -387,7 +428,7 @@ matches_told app words m same matches fault = go found.asked found.asks found.li
     met = (matches (ap is_simple same)).1 ∙ ap (λ (a : App). subcommand_of a words) same
 
     go : (asked : Option Asked) → asked_in (subcommand_of bpool_app words) ≡ asked → IfSome asked AreInLimits
-        → order_fault (subcommand_of bpool_app words) ≡ (if is_some asked then [] else InvalidValue ∷ []) → IsTold words m ⊎ IsUntold words m
+        → naming_fault (subcommand_of bpool_app words) ≡ (if is_some asked then [] else InvalidValue ∷ []) → IsTold words m ⊎ IsUntold words m
     go (Some asked) asks limits names =
         let no_fault : fault_in words ≡ [] = ap₂ or_else none names in
         inl (record {
@@ -420,4 +461,4 @@ among_either kind (k ∷ ks) next among = among
 pub clap_faults : (app : App) (words : List Text) (e : Error) → app ≡ bpool_app → HasKind (fault_of app words) e → HasKind (fault_in words) e
 clap_faults app words e same (inl memory) = inl memory
 clap_faults app words e same (inr among) =
-    inr (among_either (kind_of e) (fault_of bpool_app words) (order_fault (subcommand_of bpool_app words)) (subst (λ (a : App). IsAmong (kind_of e) (fault_of a words)) same among))
+    inr (among_either (kind_of e) (fault_of bpool_app words) (naming_fault (subcommand_of bpool_app words)) (subst (λ (a : App). IsAmong (kind_of e) (fault_of a words)) same among))

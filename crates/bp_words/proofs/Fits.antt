@@ -1,5 +1,5 @@
 -- The rows that a parse without a fault leaves: each is of one of the rules, and its first value passes that rule's parser.
-use Rattle.std.proofs.Common.{◌≡◌, ℕ, ◌&&◌, ◌⊎◌, inl, inr, nat_lt, cond, true, false, Bool, ap, refl, subst, List, [], ◌∷◌, ◌++◌, Some}
+use Rattle.std.proofs.Common.{◌≡◌, ℕ, ◌&&◌, ◌⊎◌, inl, inr, not, nat_lt, cond, true, false, Bool, ap, refl, subst, List, [], ◌∷◌, ◌++◌, Some}
 use Rattle.std.specs.List.{find, list_all}
 use Rattle.std.specs.Str.{bytes_eq}
 use Rattle.clap.specs.Facts.{unwrap_or_range}
@@ -7,11 +7,11 @@ use Rattle.clap.specs.declared.error.kind.ErrorKind.{ErrorKind}
 use Rattle.clap.specs.declared.error.kind.ErrorKind.TheVariants.{InvalidValue}
 use Rattle.clap.specs.declared.parser.matches.ValueSource.TheVariants.{CommandLine}
 use Rattle.clap.specs.Kinds.{Kinds, or_else, range_kinds}
-use Rattle.clap.specs.Faults.{action_fault, repeat_fault, use_fault, values_fault}
+use Rattle.clap.specs.Faults.{action_fault, repeat_fault, set_fault, use_fault, values_fault}
 use Rattle.clap.specs.Takes.{value_passes}
-use Rattle.clap.specs.Walk.{Row, Rule, Text, action_of, at_row, more_values, most_values, reading_by, stronger, used, used_as, values_or_missing, with_values, without}
+use Rattle.clap.specs.Walk.{Row, Rule, Text, action_of, at_row, is_empty, more_values, most_values, reading_by, stronger, used, used_as, with_values, without}
 use Rattle.clap.specs.declared.builder.action.ArgAction.{ArgAction}
-use Rattle.clap.specs.declared.builder.action.ArgAction.TheVariants.{Set, Help}
+use Rattle.clap.specs.declared.builder.action.ArgAction.TheVariants.{Set, SetTrue, Help}
 use Rattle.clap.specs.declared.parser.matches.ValueSource.{ValueSource}
 
 pub or_else-nil : (a b : Kinds) → or_else a b ≡ [] → (a ≡ []) × (b ≡ [])
@@ -102,35 +102,51 @@ first_passes a v vs e = go (value_passes a v) _ _ e
     go true k rest e = refl
     go false k rest e = cc
 
-abbrev good_by : ArgAction → Bool → Bool
-good_by Set has_value = has_value
-good_by Help has_value = true
-good_by _ has_value = false
+abbrev good_by : ArgAction → Bool → List Text → Bool
+good_by Set has_value missing = has_value
+good_by SetTrue has_value missing = not (is_empty missing)
+good_by Help has_value missing = true
+good_by _ has_value missing = false
 
--- each use of the argument has a value, or asks for help
+-- each use of the argument has a value, or one that stands for none, or asks for help
 abbrev pub is_good : Rule → Bool
-is_good a = good_by (action_of a) (nat_lt 0 (unwrap_or_range a.range).start_inclusive)
+is_good a = good_by (action_of a) (nat_lt 0 (unwrap_or_range a.range).start_inclusive) a.missing
 
 no_values : (least most : ℕ) → nat_lt 0 least ≡ true → range_kinds least most 0 ≡ [] → ⊥
 no_values least most some e =
     let none : InvalidValue ∷ [] ≡ [] = rw some at e in
     cc
 
+-- values that are set without a fault
+set_fits : (c : List Rule) (again : Bool) (a : Rule) (v : Text) (vs : List Text) (rows : List Row)
+    → ((r : Row) → IsOf a r → Fits c r) → set_fault again a (v ∷ vs) rows ≡ [] → AllFit c rows
+    → AllFit c (with_values a.id (reading_by a) CommandLine (v ∷ vs) (without a.id rows))
+set_fits c again a v vs rows known e h =
+    let passes = (or_else-nil (repeat_fault again a.id rows) (values_fault a (v ∷ vs)) e).1 in
+    with_values_fits c a CommandLine v vs (without a.id rows) known (first_passes a v vs passes) (without_fits c a.id rows h)
+
 -- a use without a fault
 pub used_fits : (c : List Rule) (again : Bool) (a : Rule) (values : List Text) (rows : List Row)
     → is_good a ≡ true → ((r : Row) → IsOf a r → Fits c r) → use_fault again a values rows ≡ [] → AllFit c rows → AllFit c (used a values rows)
-used_fits c again a [] rows good known fault h = go (action_of a) good (or_else-nil _ _ fault).0
+used_fits c again a [] rows good known fault h = go (action_of a) a.missing good parts.0 parts.1
   where
-    go : (x : ArgAction) → good_by x (nat_lt 0 (unwrap_or_range a.range).start_inclusive) ≡ true
-        → range_kinds (unwrap_or_range a.range).start_inclusive (most_values a) 0 ≡ [] → AllFit c (used_as x a.id (reading_by a) (values_or_missing a []) rows)
-    go Set some range = absurd (no_values _ _ some range)
-    go Help some range = h
-    go other some range = cc
+    parts : (range_kinds (unwrap_or_range a.range).start_inclusive (most_values a) 0 ≡ [])
+        × (action_fault (action_of a) again a a.missing rows ≡ [])
+    parts = or_else-nil _ _ fault
+
+    go : (x : ArgAction) (missing : List Text) → good_by x (nat_lt 0 (unwrap_or_range a.range).start_inclusive) missing ≡ true
+        → range_kinds (unwrap_or_range a.range).start_inclusive (most_values a) 0 ≡ [] → action_fault x again a missing rows ≡ []
+        → AllFit c (used_as x a.id (reading_by a) missing rows)
+    go Set missing some range e = absurd (no_values _ _ some range)
+    go SetTrue [] some range e = cc
+    go SetTrue (v ∷ vs) some range e = set_fits c again a v vs rows known e h
+    go Help missing some range e = h
+    go other missing some range e = cc
 used_fits c again a (v ∷ vs) rows good known fault h = go (action_of a) good (or_else-nil _ _ fault).1
   where
-    go : (x : ArgAction) → good_by x (nat_lt 0 (unwrap_or_range a.range).start_inclusive) ≡ true
+    go : (x : ArgAction) → good_by x (nat_lt 0 (unwrap_or_range a.range).start_inclusive) a.missing ≡ true
         → action_fault x again a (v ∷ vs) rows ≡ [] → AllFit c (used_as x a.id (reading_by a) (v ∷ vs) rows)
-    go Set some e =
-        with_values_fits c a CommandLine v vs (without a.id rows) known (first_passes a v vs (or_else-nil (repeat_fault again a.id rows) _ e).1) (without_fits c a.id rows h)
+    go Set some e = set_fits c again a v vs rows known e h
+    go SetTrue some e = set_fits c again a v vs rows known e h
     go Help some e = h
     go other some e = cc

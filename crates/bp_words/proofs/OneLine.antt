@@ -1,10 +1,11 @@
 -- Texts without a line end.
-use Rattle.std.proofs.Common.{◌≡◌, ℕ, zero, suc, ◌-◌, ◌==◌, slice_index, ◌&&◌, ◌++◌, not, cond, true, false, Bool, Bor, List, [], ◌∷◌, length, drop, take, map, codes, ap, refl, sym}
+use Rattle.std.proofs.Common.{◌≡◌, ℕ, ◌+◌, ◌/◌, ◌%◌, ◌≤◌, ◌≢◌, ◌==◌, ◌&&◌, ◌||◌, ◌++◌, nat_le, nat_lt, cond, if◌then◌else◌, true, false, Bool, Bor, List, [], ◌∷◌, map, ap, refl, sym, arith}
+use Rattle.std.proofs.lemmas.Bool.{le-leb, leb-false, ne_eqb}
 use Rattle.std.proofs.lemmas.List.Folds.{flat_map-map}
-use Rattle.std.specs.Char.{is_ascii_whitespace}
-use Rattle.std.specs.List.{flat_map, join_by, list_all, onto_first, prefix_len, slice_split}
-use Rattle.std.specs.Str.Lines.{lines, lines_of_parts, strip_carriage_return}
-use Rattle.bp_words.specs.Line.{first_lines, first_paragraph, is_filled, is_line, unindented}
+use Rattle.std.specs.Char.{encode_utf8, is_control}
+use Rattle.std.specs.List.{flat_map, join_by, list_all}
+use Rattle.std.specs.Prelude.{chars, encode_utf8_all}
+use Rattle.bp_words.specs.Line.{is_line, is_plain_byte, plain, plain_char}
 
 -- the same text, of the texts behind references
 pub join-texts : (sep : List ℕ) (lines : List (Bor (List ℕ))) → join_by (λ line. line.now) sep lines ≡ join_by (λ line. line) sep (map (λ line. line.now) lines)
@@ -17,77 +18,61 @@ and_both : (a b : Bool) → a && b ≡ true → (a ≡ true) × (b ≡ true)
 and_both true b e = (refl, e)
 and_both false b e = cc
 
-pub all-take : {X : Type 0} (p : X → Bool) (n : ℕ) (xs : List X) → list_all p xs ≡ true → list_all p (take n xs) ≡ true
-all-take p zero xs e = refl
-all-take p (suc n) [] e = refl
-all-take p (suc n) (x ∷ xs) e =
-    let parts = and_both (p x) (list_all p xs) e in
-    rw (parts.0, all-take p n xs parts.1) refl
-
-pub all-drop : {X : Type 0} (p : X → Bool) (n : ℕ) (xs : List X) → list_all p xs ≡ true → list_all p (drop n xs) ≡ true
-all-drop p zero xs e = e
-all-drop p (suc n) [] e = refl
-all-drop p (suc n) (x ∷ xs) e = all-drop p n xs (and_both (p x) (list_all p xs) e).1
-
 pub all-append : {X : Type 0} (p : X → Bool) (xs ys : List X) → list_all p xs ≡ true → list_all p ys ≡ true → list_all p (xs ++ ys) ≡ true
 all-append p [] ys e f = f
 all-append p (x ∷ xs) ys e f =
     let parts = and_both (p x) (list_all p xs) e in
     rw (parts.0, all-append p xs ys parts.1 f) refl
 
-abbrev are_lines : List (List ℕ) → Bool
-are_lines = list_all is_line
+pub byte-plain : (b : ℕ) → 32 ≤ b → b ≢ 127 → is_plain_byte b ≡ true
+byte-plain b least other = rw (le-leb 32 b least, ne_eqb b 127 other) refl
 
--- the parts between line ends
-parts-lines : (text : List ℕ) → are_lines (slice_split (λ b. b == 10) text) ≡ true
-parts-lines [] = refl
-parts-lines (b ∷ rest) = go (b == 10) refl (slice_split (λ b. b == 10) rest) (parts-lines rest)
+high-plain : (b : ℕ) → 128 ≤ b → is_plain_byte b ≡ true
+high-plain b high = byte-plain b (omega arith) (λ e. omega arith)
+
+-- a character that is no control character is no such byte
+low-plain : (c : ℕ) → is_control c ≡ false → is_plain_byte c ≡ true
+low-plain c none = go (nat_le 0 c) (nat_le c 31) (nat_le 127 c) (nat_le c 159) refl refl refl refl none
   where
-    go : (end : Bool) → (b == 10) ≡ end → (parts : List (List ℕ)) → are_lines parts ≡ true → are_lines (cond end ([] ∷ parts) (onto_first b parts)) ≡ true
-    go true is parts h = h
-    go false is [] h = rw is refl
-    go false is (part ∷ parts) h = rw is h
+    go : (w x y z : Bool) → nat_le 0 c ≡ w → nat_le c 31 ≡ x → nat_le 127 c ≡ y → nat_le c 159 ≡ z → (w && x) || (y && z) ≡ false → is_plain_byte c ≡ true
+    go false x y z least less more most none = let bad : nat_le 0 c ≡ true = le-leb 0 c (omega arith) in cc
+    go true true y z least less more most none = cc
+    go true false true true least less more most none = cc
+    go true false true false least less more most none =
+        let above = leb-false c 159 most in
+        byte-plain c (omega (arith, above)) (λ e. omega (arith, above))
+    go true false false z least less more most none =
+        let above = leb-false c 31 less in
+        let below = leb-false 127 c more in
+        byte-plain c (omega (arith, above)) (λ e. omega (arith, below))
 
-stripped-line : (line : List ℕ) → is_line line ≡ true → is_line (strip_carriage_return line) ≡ true
-stripped-line line h = go (slice_index line (length line - 1) == 13)
+encoded-line : (c : ℕ) → is_control c ≡ false → is_line (encode_utf8 c) ≡ true
+unfolding encode_utf8
+encoded-line c none = go (nat_lt c 128) (nat_lt c 2048) (nat_lt c 65536)
   where
-    go : (b : Bool) → is_line (cond b (take (length line - 1) line) line) ≡ true
-    go true = all-take (λ b. not (b == 10)) (length line - 1) line h
-    go false = h
+    next : (n : ℕ) → is_plain_byte (128 + n % 64) ≡ true
+    next n = high-plain (128 + n % 64) (omega arith)
 
-lines-lines : (parts : List (List ℕ)) → are_lines parts ≡ true → are_lines (lines_of_parts parts) ≡ true
-lines-lines [] h = refl
-lines-lines (x ∷ []) h = go (length x == 0)
+    go : (x y z : Bool) → is_line (cond x (c ∷ []) (cond y ((192 + c / 64) ∷ (128 + c % 64) ∷ [])
+        (cond z ((224 + c / 4096) ∷ (128 + (c / 64) % 64) ∷ (128 + c % 64) ∷ [])
+        ((240 + c / 262144) ∷ (128 + (c / 4096) % 64) ∷ (128 + (c / 64) % 64) ∷ (128 + c % 64) ∷ [])))) ≡ true
+    go true y z = rw (low-plain c none) refl
+    go false true z = rw (high-plain (192 + c / 64) (omega arith), next c) refl
+    go false false true = rw (high-plain (224 + c / 4096) (omega arith), next (c / 64), next c) refl
+    go false false false = rw (high-plain (240 + c / 262144) (omega arith), next (c / 4096), next (c / 64), next c) refl
+
+char-line : (c : ℕ) → is_line (encode_utf8 (plain_char c)) ≡ true
+unfolding encode_utf8
+char-line c = go (is_control c) refl
   where
-    go : (b : Bool) → are_lines (cond b [] (x ∷ [])) ≡ true
-    go true = refl
-    go false = h
-lines-lines (x ∷ y ∷ more) h =
-    let parts = and_both (is_line x) (are_lines (y ∷ more)) h in
-    rw (stripped-line x parts.0, lines-lines (y ∷ more) parts.1) refl
+    go : (b : Bool) → is_control c ≡ b → is_line (encode_utf8 (if b then 63 else c)) ≡ true
+    go true is = refl
+    go false is = encoded-line c is
 
-unindented-lines : (xs : List (List ℕ)) → are_lines xs ≡ true → are_lines (map unindented xs) ≡ true
-unindented-lines [] h = refl
-unindented-lines (x ∷ xs) h =
-    let parts = and_both (is_line x) (are_lines xs) h in
-    rw (all-drop (λ b. not (b == 10)) (prefix_len is_ascii_whitespace x) x parts.0, unindented-lines xs parts.1) refl
+chars-line : (cs : List ℕ) → is_line (encode_utf8_all (map plain_char cs)) ≡ true
+chars-line [] = refl
+chars-line (c ∷ cs) = all-append is_plain_byte (encode_utf8 (plain_char c)) (encode_utf8_all (map plain_char cs)) (char-line c) (chars-line cs)
 
-joined-line : (xs : List (List ℕ)) → are_lines xs ≡ true → is_line (flat_map (λ line. codes " " ++ line) xs) ≡ true
-joined-line [] h = refl
-joined-line (x ∷ xs) h =
-    let parts = and_both (is_line x) (are_lines xs) h in
-    all-append (λ b. not (b == 10)) (codes " " ++ x) (flat_map (λ line. codes " " ++ line) xs) parts.0 (joined-line xs parts.1)
-
--- a first paragraph is one line
-pub first_paragraph-is_line : (text : List ℕ) → is_line (first_paragraph text) ≡ true
-first_paragraph-is_line text = go (first_lines text) filled
-  where
-    filled : are_lines (first_lines text) ≡ true
-    filled = all-take is_line (prefix_len is_filled (map unindented (lines text))) (map unindented (lines text))
-        (unindented-lines (lines text) (lines-lines (slice_split (λ b. b == 10) text) (parts-lines text)))
-
-    go : (xs : List (List ℕ)) → are_lines xs ≡ true → is_line (join_by (λ line. line) (codes " ") xs) ≡ true
-    go [] h = refl
-    go (x ∷ xs) h =
-        let parts = and_both (is_line x) (are_lines xs) h in
-        all-append (λ b. not (b == 10)) x (flat_map (λ line. codes " " ++ line) xs) parts.0 (joined-line xs parts.1)
+-- a plain text is one line
+pub plain-is_line : (text : List ℕ) → is_line (plain text) ≡ true
+plain-is_line text = chars-line (chars text)

@@ -1,10 +1,10 @@
--- What a command line asks for, in clap's own words: a run, or a migration.
+-- What a command line asks for, in clap's own words: a run, a migration, or an explanation.
 use Rattle.std.specs.Prelude.{ℕ, ◌≤◌, if◌then◌else◌, List, codes, Option, Some, None, option_map}
 use Rattle.std.specs.Str.{bytes_eq}
 use Rattle.clap.specs.Walk.{is_empty}
 use Rattle.clap.specs.Words.{Row, Text, first_of, subcommand_of}
 use Rattle.bp_words.specs.Command.{bpool_app}
-use Rattle.bp_words.specs.Words.{Told, IsInLimits, ◌>>=◌, fault_in, number_at, told_by_rows, told_of}
+use Rattle.bp_words.specs.Words.{Told, IsInLimits, ◌>>=◌, explanation_at, fault_in, number_at, told_by_rows, told_of}
 use Rattle.bp_words.specs.declared.words.MigrationWords.{MigrationWords}
 use Rattle.bp_words.specs.declared.words.Task.{Task}
 use Rattle.bp_words.specs.declared.words.Task.TheVariants as task
@@ -19,6 +19,7 @@ pub record Migration : Type 0 where
 pub data Asked : Type 0 where
   a_run : Told → Asked
   a_migration : Migration → Asked
+  an_explanation : Text → Asked
 
 -- what a migration's own rows tell it
 abbrev pub migration_by_rows : List Row → Option Migration
@@ -34,6 +35,7 @@ asked_in None = None
 asked_in (Some met) =
     if bytes_eq met.0 (codes "run") then option_map a_run (told_by_rows met.1)
     else if bytes_eq met.0 (codes "migrate") then option_map a_migration (migration_by_rows met.1)
+    else if bytes_eq met.0 (codes "explain") then option_map an_explanation (explanation_at met.1)
     else None
 
 -- what the words ask for, where they have no fault
@@ -48,6 +50,7 @@ pub record HasPageSize (size : ℕ) : Type 0 where
 abbrev pub AreInLimits : Asked → Type 0
 AreInLimits (a_run told) = IsInLimits told
 AreInLimits (a_migration m) = HasPageSize m.size
+AreInLimits (an_explanation text) = Unit {0}
 
 -- ---- the values of the code
 
@@ -57,3 +60,4 @@ migration_of w = record { old = w.old.now; new = w.new.now; size = w.page_size }
 abbrev pub asked_of : Task → Asked
 asked_of (task.Run w) = a_run (told_of w)
 asked_of (task.Migrate w) = a_migration (migration_of w)
+asked_of (task.Explain text) = an_explanation text.now

@@ -2,6 +2,7 @@
 use Rattle.std.specs.Prelude.{ℕ, true, List, [], ◌∷◌, codes, Some}
 use Rattle.clap.specs.Words.{App, Rule, Shape, Text, new_app, new_rule, with_subcommand}
 use Rattle.clap.specs.Simple.{new_shape}
+use Rattle.clap.specs.declared.builder.action.ArgAction.TheVariants.{SetTrue}
 use Rattle.clap.specs.declared.builder.value_parser.ValueParser.TheVariants as parser
 
 -- a word that must be there
@@ -17,7 +18,11 @@ number_option id low high default =
 abbrev pub required_number : Text → ℕ → ℕ → Rule
 required_number id low high = record (new_rule id) { long = Some id; value_names = 1; required = true; parser = Some (parser.Unsigned low high) }
 
--- an option that takes any word
+-- an option without a value
+abbrev pub flag : Text → Rule
+flag id = record (new_rule id) { long = Some id; action = Some SetTrue }
+
+-- an option that takes any word, and has a default
 abbrev pub word_option : Text → Text → Rule
 word_option id default = record (new_rule id) { long = Some id; value_names = 1; defaults = default ∷ [] }
 
@@ -32,6 +37,7 @@ run_rules =
     ∷ number_option (codes "page-size") 16 65536 (codes "64")
     ∷ number_option (codes "format") 1 2 (codes "1")
     ∷ word_option (codes "order") (codes "trace")
+    ∷ flag (codes "totals")
     ∷ []
 
 abbrev pub run_shape : Shape
@@ -43,12 +49,26 @@ migrate_rules = positional (codes "old") ∷ positional (codes "new") ∷ requir
 abbrev pub migrate_shape : Shape
 migrate_shape = record (new_shape (codes "migrate")) { rules = migrate_rules }
 
--- the words leave out the program's name, and one of them must be a command
+abbrev pub explain_rules : List Rule
+explain_rules = positional (codes "number") ∷ []
+
+abbrev pub explain_shape : Shape
+explain_shape = record (new_shape (codes "explain")) { rules = explain_rules }
+
+-- the words leave out the program's name, and one of them must be a command, or ask for the version
 abbrev pub program_app : App
 program_app =
     let plain = new_app (codes "bpool") in
-    record plain { top = record plain.top { no_binary_name = true; subcommand_required = true } }
+    record plain {
+      top = record plain.top {
+        no_binary_name = true;
+        subcommand_required = true;
+        has_version = true;
+      };
+    }
 
 -- the program with its commands
 abbrev pub bpool_app : App
-bpool_app = with_subcommand (with_subcommand program_app run_shape) migrate_shape
+bpool_app =
+    with_subcommand (with_subcommand (with_subcommand program_app run_shape) migrate_shape)
+    explain_shape

@@ -5,9 +5,14 @@ use Rattle.bp_page.specs.Refusals.{number_of}
 use Rattle.bp_words.specs.declared.ending.Ending.{Ending}
 use Rattle.bp_words.specs.declared.ending.Ending.TheVariants as ending
 
+-- the version of the program
+abbrev pub version : List ℕ
+version = codes "0.9.0"
+
 abbrev pub message_of : Ending → List ℕ
 message_of (ending.Help text) = string_bytes text
-message_of ending.WordsNotText = codes "error: a word is not UTF-8"
+message_of ending.Version = codes "bpool " ++ (version ++ codes "\n")
+message_of ending.WordsNotText = codes "error: a word is not UTF-8; try 'bpool --help'"
 message_of (ending.CommandLine line) = string_bytes line.text ++ codes "; try 'bpool --help'"
 message_of ending.PageFileNotOpened = codes "page file not opened"
 message_of (ending.PageFileRefused refusal) = codes "page file refused " ++ decimal (number_of refusal)
@@ -16,15 +21,17 @@ message_of (ending.TraceRefused fault) = codes "trace row " ++ (decimal fault.ro
 message_of (ending.RunRefused refusal) = codes "run refused " ++ decimal (number_of refusal)
 message_of ending.OutputFailed = codes "output failed"
 
+-- the ending is an answer: help, or the version
 abbrev pub is_help : Ending → Bool
 is_help (ending.Help text) = true
+is_help ending.Version = true
 is_help _ = false
 
--- help has status 0
+-- an answer has status 0
 abbrev pub status_of : Ending → ℕ
 status_of ending = if is_help ending then 0 else 2
 
--- help is written as it is on the output, and anything else as a line on the error output
+-- an answer is written as it is on the output, and anything else as a line on the error output
 abbrev pub on_out : Ending → List ℕ
 on_out ending = if is_help ending then message_of ending else []
 

@@ -1,6 +1,6 @@
 -- A text as one line.
-use Rattle.std.specs.Prelude.{ℕ, ◌==◌, not, Bool, List, drop, length, map, take_while, codes}
-use Rattle.std.specs.Char.{is_ascii_whitespace}
+use Rattle.std.specs.Prelude.{ℕ, ◌==◌, ◌&&◌, nat_le, not, if◌then◌else◌, Bool, List, chars, drop, encode_utf8_all, length, map, take_while, codes}
+use Rattle.std.specs.Char.{is_ascii_whitespace, is_control}
 use Rattle.std.specs.List.{join_by, list_all, prefix_len}
 use Rattle.std.specs.Str.Lines.{lines}
 
@@ -19,6 +19,16 @@ first_lines text = take_while is_filled (map unindented (lines text))
 abbrev pub first_paragraph : List ℕ → List ℕ
 first_paragraph text = join_by (λ line. line) (codes " ") (first_lines text)
 
--- no byte is a line end
+-- the same character, or a question mark in place of a control character
+abbrev pub plain_char : ℕ → ℕ
+plain_char c = if is_control c then 63 else c
+
+abbrev pub plain : List ℕ → List ℕ
+plain text = encode_utf8_all (map plain_char (chars text))
+
+-- no byte is a line end, or another control character of ASCII
+abbrev pub is_plain_byte : ℕ → Bool
+is_plain_byte b = nat_le 32 b && not (b == 127)
+
 abbrev pub is_line : List ℕ → Bool
-is_line text = list_all (λ b. not (b == 10)) text
+is_line text = list_all is_plain_byte text

@@ -1,5 +1,6 @@
 -- What the words of a command line name, in clap's own words.
-use Rattle.std.specs.Prelude.{ℕ, ◌^◌, ◌&&◌, ◌||◌, ◌==◌, not, ◌≤◌, nat_lt, if◌then◌else◌, List, [], ◌∷◌, codes, Option, Some, None, is_some}
+use Rattle.std.specs.Prelude.{ℕ, ◌^◌, ◌&&◌, ◌==◌, ◌≤◌, nat_lt, if◌then◌else◌, Bool, true, false, List, [], ◌∷◌, codes, Option, Some, None, is_some}
+use Rattle.std.specs.Option.{option_map_or}
 use Rattle.std.specs.Str.{bytes_eq}
 use Rattle.std.specs.Str.Parse.{digits_value, without_leading_plus}
 use Rattle.clap.specs.ValueTests.{is_numeral}
@@ -8,6 +9,8 @@ use Rattle.clap.specs.Words.{Kinds, Row, Text, fault_of, first_of, one_of, subco
 use Rattle.clap.specs.declared.error.kind.ErrorKind.TheVariants.{InvalidValue}
 use Rattle.bp_lruk.specs.Limits.{IsWithinLimits}
 use Rattle.bp_words.specs.Command.{bpool_app}
+use Rattle.bp_trace.specs.Numbers.{number_in}
+use Rattle.bp_numbers.specs.Explained.{explanation_of}
 use Rattle.bp_words.specs.declared.words.Order.{Order}
 use Rattle.bp_words.specs.declared.words.Order.TheVariants as order
 use Rattle.bp_words.specs.declared.words.TraceSource.{TraceSource}
@@ -32,6 +35,8 @@ pub record Told : Type 0 where
   pub size : ℕ
   pub format : Format
   pub order : Order
+  -- the report has no lines of events
+  pub totals : Bool
 
 -- ---- one word
 
@@ -63,6 +68,14 @@ None >>= f = None
 abbrev pub number_at : Text → List Row → Option ℕ
 number_at id rows = one_of id rows >>= unsigned_of
 
+-- the text of the number that is to be explained
+abbrev pub explanation_at : List Row → Option Text
+explanation_at rows = first_of (codes "number") rows >>= number_in >>= explanation_of
+
+-- whether an option without a value is there
+abbrev pub flag_at : Text → List Row → Bool
+flag_at id rows = option_map_or (λ text. bytes_eq text (codes "true")) (first_of id rows) false
+
 -- the order that a run's own rows name
 abbrev pub order_at : List Row → Option Order
 order_at rows = first_of (codes "order") rows >>= order_of
@@ -79,16 +92,22 @@ told_by_rows rows = do
   size ← number_at (codes "page-size") rows
   version ← number_at (codes "format") rows
   order ← order_at rows
-  Some (record { trace = trace_of trace; page_file = page_file; frames = frames; k = k; correlated = correlated; retained = retained; size = size; format = format_of version; order = order })
+  Some (record { trace = trace_of trace; page_file = page_file; frames = frames; k = k; correlated = correlated; retained = retained; size = size; format = format_of version; order = order; totals = flag_at (codes "totals") rows })
 
--- a run's own rows name no order
-abbrev pub order_fault : Option (Text × List Row) → Kinds
-order_fault None = []
-order_fault (Some met) = if not (bytes_eq met.0 (codes "run")) || is_some (order_at met.1) then [] else InvalidValue ∷ []
+-- the words that clap lets through name what they should: an order, a refusal
+abbrev pub names_all : Text → List Row → Bool
+names_all command rows =
+    if bytes_eq command (codes "run") then is_some (order_at rows)
+    else if bytes_eq command (codes "explain") then is_some (explanation_at rows)
+    else true
 
--- the first fault of the words: clap's, and else that of an option whose word is no order
+abbrev pub naming_fault : Option (Text × List Row) → Kinds
+naming_fault None = []
+naming_fault (Some met) = if names_all met.0 met.1 then [] else InvalidValue ∷ []
+
+-- the first fault of the words: clap's, and else that of an option whose word names nothing
 abbrev pub fault_in : List Text → Kinds
-fault_in words = or_else (fault_of bpool_app words) (order_fault (subcommand_of bpool_app words))
+fault_in words = or_else (fault_of bpool_app words) (naming_fault (subcommand_of bpool_app words))
 
 -- the numbers are in the limits of the options
 pub record IsInLimits (told : Told) : Type 0 where
@@ -113,4 +132,4 @@ trace_told trace_source.Stdin = from_stdin
 trace_told (trace_source.Path path) = at_path path.now
 
 abbrev pub told_of : RunWords → Told
-told_of w = record { trace = trace_told w.trace; page_file = w.page_file.now; frames = w.frames; k = w.k; correlated = w.correlated; retained = w.retained; size = w.page_size; format = w.format; order = w.order }
+told_of w = record { trace = trace_told w.trace; page_file = w.page_file.now; frames = w.frames; k = w.k; correlated = w.correlated; retained = w.retained; size = w.page_size; format = w.format; order = w.order; totals = w.totals }

@@ -3,51 +3,102 @@ ghost use Rattle.std.specs.Prelude.{◌≡◌, map, false, IfOk, All};
 ghost use Rattle.clap.specs.Words.{app_of, rule_of, shape_of};
 ghost use Rattle.clap.specs.declared.builder.command.Command.TheViews.{out-Command as fields_of};
 ghost use Rattle.bp_words.specs.Command.{bpool_app, migrate_rules, migrate_shape, program_app, run_rules, run_shape};
+ghost use Rattle.bp_words.specs.Command.{explain_rules, explain_shape};
 ghost use Rattle.bp_words.specs.Command as spec;
 
+use crate::ending::VERSION;
 use clap::builder::ValueParser;
-use clap::{Arg, Command, value_parser};
+use clap::{Arg, ArgAction, Command, value_parser};
 use std::alloc::{AllocError, Global};
 
 /// What the statuses of a run mean.
-const STATUSES: &str =
-    "Status 0: all rows were accepted. Status 1: some row was refused; the report says which, and why. \
+const STATUSES: &str = "\
+Without tick rows nothing leaves a frame. --retained acts at purge rows alone. bpool --help shows
+a trace, and what each number says.
+Status 0: all rows were accepted. Status 1: some row was refused; the report says which, and why.
 Status 2: one line on standard error says why there is no report, or only a part of it.";
 
-/// The words and options of a run, in short, and what the program does without words.
+/// The words and options of the commands, what the program does without words, a trace, and what each number says.
 const SUMMARY: &str = "\
 bpool run TRACE PAGEFILE [--frames N] [--k N] [--correlated N] [--retained N] [--page-size N]
-          [--format N] [--order ORDER]
+          [--format N] [--order ORDER] [--totals]
 
   TRACE             A path, or stdin for the standard input
   PAGEFILE          A path, or mem:N for N pages of zero bytes in memory, N from 1 to 1048576
   --frames N        1 to 65536 [default: 8]
   --k N             1 to 16 [default: 2]
   --correlated N    0 to 2^62 ticks [default: 0]
-  --retained N      0 to 2^62 ticks [default: 1000]
+  --retained N      0 to 2^62 ticks; it acts at purge rows alone [default: 1000]
   --page-size N     16 to 65536 bytes, a multiple of 16 [default: 64]
   --format N        1 or 2: version of a page file at a path [default: 1]
   --order ORDER     trace or free [default: trace]
+  --totals          Prints no lines of events, only the totals and the refused rows
 
 bpool migrate OLD NEW --page-size N
 
   OLD               A path: a page file of version 1
   NEW               A path: the page file of version 2 that is made of it
 
+bpool explain N
+
+  N                 One of the numbers below
+
 No words at all: run stdin mem:16 --frames 2 --k 1
 
-Status 0: all rows were accepted, NEW was made, or help was asked for. Status 1: some row was refused. \
+A trace is CSV without a header. A row is client,op,number,offset,bytes,lsn, where a client is 0 to
+63. Fields that an op does not use are empty:
+
+  0,fix,7,,,        Client 0 brings page 7 into a frame, and holds it there
+  0,write,7,0,ff,5  Puts the byte ff into page 7 at offset 0; log record 5 describes it
+  0,read,7,,,       Reads page 7
+  0,unfix,7,,,      Lets go of page 7, which may then leave its frame
+  0,flush,7,,,      Writes page 7 out, if it was changed
+  0,log,5,,,        The log is durable as far as record 5
+  0,tick,1,,,       Moves the clock by 1
+  0,purge,,,,       Forgets old references of pages that are in no frame
+
+Without tick rows nothing leaves a frame. --retained acts at purge rows alone.
+
+Numbers after the word refused:
+
+  1   the number of pages or the page size is out of its limits
+  2   a setting of the pool is out of its limits
+  3   the page file is no positive number of whole pages, or has too many
+  11  no page may leave its frame
+  12  the log must first be durable as far as the page was changed
+  13  another client's device operation on the page is under way
+  14  no such pass is out
+  16  no such ticket is out
+  17  the page could not be read
+  18  the page could not be written
+  19  the page's place in its file has another page
+  20  the trail has no room for the call
+  21  the clock would pass its end
+  22  out of memory
+  23  the ring of passes to give back is full
+  24  the clients' lists and the trail do not agree
+  40  a record does not have the fields of its operation
+  41  no client has this number here
+  42  no operation has this name
+  43  a field is not a number within the limits
+  44  the bytes are not pairs of hexadecimal digits
+  45  the page is not of the file, or the bytes are not within the page
+  46  the trace is too long
+  47  the trace could not be read
+
+Status 0: all rows were accepted, NEW was made, or help, the version or a number was asked for.
+Status 1: some row was refused.
 Status 2: one line on standard error says why there is no report, or only a part of it.";
 
 /// How a migration goes, and what its statuses mean.
 const MIGRATION: &str = "\
-Each page gets its number and LSN 0. NEW is written beside itself as NEW.migrating, and takes its name once it is \
-whole. Status 0: NEW is made. Status 2: one line on standard error says why it is not; OLD is as it was.";
+Each page gets its number and LSN 0. NEW is written beside itself as NEW.migrating, and takes its
+name once it is whole. Status 0: NEW is made. Status 2: one line on standard error says why it is
+not; OLD is as it was.";
 
 const TRACE: &str = "The trace: a path, or stdin for the standard input";
 
-const PAGE_FILE: &str =
-    "The page file: a path, or mem:N for N pages of zero bytes in memory, N from 1 to 1048576";
+const PAGE_FILE: &str = "The page file: a path, or mem:N for N pages of zero bytes in memory";
 
 const FRAMES: &str = "Frames of the pool, from 1 to 65536";
 
@@ -59,15 +110,20 @@ const RETAINED: &str = "Retained information period in ticks, from 0 to 2^62";
 
 const PAGE_SIZE: &str = "Bytes of a page, a multiple of 16 from 16 to 65536";
 
-const FORMAT: &str =
-    "Version of a page file at a path: 1 for plain pages, 2 for pages with their numbers";
+const FORMAT: &str = "Version of a page file at a path: 1 plain, 2 with page numbers";
 
 const OLD: &str = "The page file of version 1: a path";
 
 const NEW: &str = "The page file of version 2 that is made of it: a path, which is overwritten";
 
-const ORDER: &str =
-    "Order of the rows: trace for that of the trace, free for one thread for each client";
+const ORDER: &str = "Order of the rows: trace, or free: a thread for each client";
+
+const TOTALS: &str = "Prints no lines of events, only the totals and the refused rows";
+
+const NUMBER: &str = "The number of a refusal, as in row 3 refused 11";
+
+/// Where all numbers stand.
+const NUMBERS: &str = "All numbers: bpool --help";
 
 /// How many frames a pool may have.
 fn frame_counts<'a>() -> ValueParser<'a>
@@ -154,6 +210,17 @@ fn required_number<'a>(
         .help(help)
 }
 
+/// An option without a value.
+fn flag<'a>(alloc: Global, id: &'a str, help: &'a str) -> Arg<'a>
+    ensures rule { rule_of result ≡ spec.flag id.entry.now }
+    ensures local { result.global ≡ false }
+{
+    Arg::new(alloc, id)
+        .long(id)
+        .action(ArgAction::SetTrue)
+        .help(help)
+}
+
 /// An option that takes a word. That it is one of those that the option knows is looked at later.
 fn word_option<'a>(
     alloc: Global,
@@ -187,6 +254,7 @@ fn run_arguments<'a>(alloc: Global) -> Result<Vec<Arg<'a>>, AllocError>
         number_option(alloc, "page-size", page_sizes(), "64", PAGE_SIZE),
         number_option(alloc, "format", versions(), "1", FORMAT),
         word_option(alloc, "order", "ORDER", "trace", ORDER),
+        flag(alloc, "totals", TOTALS),
     ]?;
     Ok(arguments)
 }
@@ -230,6 +298,28 @@ fn migrate_command<'a>(alloc: Global) -> Result<Command<'a>, AllocError>
     Ok(command)
 }
 
+/// The words of an explanation.
+fn explain_arguments<'a>(alloc: Global) -> Result<Vec<Arg<'a>>, AllocError>
+    ensures rules { IfOk result (λ arguments. map rule_of arguments.items ≡ explain_rules) }
+    ensures local { IfOk result (λ arguments. All (λ a. a.global ≡ false) arguments.items) }
+{
+    let arguments = vec![in alloc; positional(alloc, "number", "N", NUMBER)]?;
+    Ok(arguments)
+}
+
+/// The command `explain`.
+fn explain_command<'a>(alloc: Global) -> Result<Command<'a>, AllocError>
+    ensures shape { IfOk result (λ c. shape_of c ≡ explain_shape) }
+    ensures local { IfOk result (λ c. (fields_of c).has_globals ≡ false) }
+{
+    let arguments = explain_arguments(alloc)?;
+    let command = Command::new(alloc, "explain")
+        .about("Says what the number of a refusal stands for")
+        .after_help(NUMBERS)
+        .args(arguments)?;
+    Ok(command)
+}
+
 /// The program without its commands. Its words leave out the program's name.
 fn program_command<'a>(alloc: Global) -> Result<Command<'a>, AllocError>
     ensures { IfOk result (λ c. app_of c ≡ program_app) }
@@ -238,6 +328,7 @@ fn program_command<'a>(alloc: Global) -> Result<Command<'a>, AllocError>
     Ok(
         named
             .about("A buffer pool with LRU-K replacement")
+            .version(VERSION)
             .after_help(SUMMARY)
             .no_binary_name(true)
             .subcommand_required(true),
@@ -252,5 +343,7 @@ pub fn bpool_command<'a>(alloc: Global) -> Result<Command<'a>, AllocError>
     let run = run_command(alloc)?;
     let with_run = program.subcommand(run)?;
     let migrate = migrate_command(alloc)?;
-    with_run.subcommand(migrate)
+    let with_migrate = with_run.subcommand(migrate)?;
+    let explain = explain_command(alloc)?;
+    with_migrate.subcommand(explain)
 }

@@ -10,11 +10,16 @@ use bp_trace::TraceFault;
 use std::io::Write;
 use std::{fmt, io};
 
+/// The version of the program.
+pub const VERSION: &str = "0.9.0";
+
 /// How the program ends where it makes no report. Its `Display` is what is said.
 #[derive(Debug, Drop)]
 pub enum Ending {
     /// The words ask for help, which is this text.
     Help(String),
+    /// The words ask for the version.
+    Version,
     /// A word is not text in UTF-8.
     WordsNotText,
     /// The words have this fault.
@@ -42,7 +47,10 @@ impl fmt::Display for Ending {
     fn fmt<W: fmt::Write>(&self, f: &mut fmt::Formatter<W>) -> fmt::Result {
         match self {
             Ending::Help(text) => f.write_str(text.as_str()),
-            Ending::WordsNotText => f.write_str("error: a word is not UTF-8"),
+            Ending::Version => writeln!(f, "bpool {VERSION}"),
+            Ending::WordsNotText => {
+                f.write_str("error: a word is not UTF-8; try 'bpool --help'")
+            },
             Ending::CommandLine(line) => write!(f, "{}; try 'bpool --help'", line.as_str()),
             Ending::PageFileNotOpened => f.write_str("page file not opened"),
             Ending::PageFileRefused(refusal) => {
@@ -60,21 +68,21 @@ impl fmt::Display for Ending {
 }
 
 impl Ending {
-    /// Whether help was asked for.
+    /// Whether it is an answer to the words: help, or the version.
     pub fn is_help(&self) -> bool
         ensures { result ≡ is_help self.now }
     {
-        matches!(self, Ending::Help(_))
+        matches!(self, Ending::Help(_) | Ending::Version)
     }
 
-    /// The status that the program ends with: 0 for help, and else 2.
+    /// The status that the program ends with: 0 for help and for the version, and else 2.
     pub fn status(&self) -> u8
         ensures { result ≡ status_of self.now }
     {
         if self.is_help() { 0 } else { 2 }
     }
 
-    /// Writes help on `out`, and anything else as one line on `err`.
+    /// Writes help and the version on `out`, and anything else as one line on `err`.
     pub fn say<W: Write, E: Write>(&self, out: &mut W, err: &mut E) -> io::Result<()>
         ensures out { OnOk result (Appends (W.contents out.old) (W.contents out.new)
             (on_out self.now)) }
@@ -94,7 +102,8 @@ impl Ending {
 
     /// Says it, and gives the status that the program ends with.
     ///
-    /// A fault of `err` changes nothing. Where help can't be written the output failed: that is said, with status 2.
+    /// A fault of `err` changes nothing. Where help or the version can't be written the output failed: that is said,
+    /// with status 2.
     pub fn finish<W: Write, E: Write>(&self, out: &mut W, err: &mut E) -> u8
         ensures help { result ≡ 0 → (is_help self.now ≡ true) ×
             Appends (W.contents out.old) (W.contents out.new) (message_of self.now) }

@@ -1,9 +1,9 @@
 //! What the definitions of the words come to.
-ghost use Rattle.std.specs.Prelude.{◌≡◌, [], ◌∷◌, codes, Some};
+ghost use Rattle.std.specs.Prelude.{◌≡◌, [], ◌∷◌, codes, false, true, Some};
 ghost use Rattle.bp_words.specs.Words.{fault_in, words_or_default};
 ghost use Rattle.bp_words.specs.Words.TraceAt.{from_stdin, at_path};
 ghost use Rattle.bp_words.specs.Asked.{asked_by};
-ghost use Rattle.bp_words.specs.Asked.Asked.{a_run, a_migration};
+ghost use Rattle.bp_words.specs.Asked.Asked.{a_run, a_migration, an_explanation};
 
 use crate::words::Order;
 use bp_page::Format;
@@ -22,6 +22,7 @@ pub fn words_by_example()
           size = 64;
           format = Format.Plain;
           order = Order.Trace;
+          totals = false;
         })) }
     ensures defaults { asked_by (codes "run" ∷ codes "stdin" ∷ codes "mem:16" ∷ [])
         ≡ Some (a_run (record {
@@ -34,11 +35,12 @@ pub fn words_by_example()
           size = 64;
           format = Format.Plain;
           order = Order.Trace;
+          totals = false;
         })) }
     ensures all { asked_by (codes "run" ∷ codes "--k" ∷ codes "16" ∷
         codes "--correlated=4611686018427387904" ∷ codes "t.csv" ∷ codes "--retained" ∷ codes "0" ∷
         codes "--frames" ∷ codes "65536" ∷ codes "mem:" ∷ codes "--page-size=16" ∷
-        codes "--format" ∷ codes "2" ∷ codes "--order" ∷ codes "free" ∷ [])
+        codes "--totals" ∷ codes "--format" ∷ codes "2" ∷ codes "--order" ∷ codes "free" ∷ [])
         ≡ Some (a_run (record {
           trace = at_path (codes "t.csv");
           page_file = codes "mem:";
@@ -49,6 +51,7 @@ pub fn words_by_example()
           size = 16;
           format = Format.Headed;
           order = Order.Free;
+          totals = true;
         })) }
     ensures out_of_range { fault_in (codes "run" ∷ codes "stdin" ∷ codes "mem:16" ∷ codes "--k" ∷
         codes "17" ∷ []) ≡ ErrorKind.ValueValidation ∷ [] }
@@ -66,5 +69,9 @@ pub fn words_by_example()
         })) }
     ensures no_size { fault_in (codes "migrate" ∷ codes "a" ∷ codes "b" ∷
         []) ≡ ErrorKind.MissingRequiredArgument ∷ [] }
+    ensures explanation { asked_by (codes "explain" ∷ codes "11" ∷ [])
+        ≡ Some (an_explanation (codes "no page may leave its frame")) }
+    ensures no_number { fault_in (codes "explain" ∷ codes "4" ∷ []) ≡ ErrorKind.InvalidValue ∷ [] }
+    ensures version { fault_in (codes "--version" ∷ []) ≡ ErrorKind.DisplayVersion ∷ [] }
     ensures help { fault_in (codes "run" ∷ codes "--help" ∷ []) ≡ ErrorKind.DisplayHelp ∷ [] }
 {}

@@ -1,5 +1,5 @@
-//! The command line of the program: its words, their defaults and limits, its help, and how the program ends where it makes no
-//! report.
+//! The command line of the program: its words, their defaults and limits, its help, its version, and how the program
+//! ends where it makes no report.
 #![tactic(auto)]
 
 mod command;
@@ -10,6 +10,6 @@ mod line;
 mod words;
 
 pub use decision::decide;
-pub use ending::Ending;
+pub use ending::{Ending, VERSION};
 pub use line::Line;
 pub use words::{MigrationWords, Order, RunWords, Task, TraceSource};

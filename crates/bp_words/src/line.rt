@@ -1,6 +1,6 @@
 //! A text as one line.
 ghost use Rattle.std.specs.Prelude.{◌≡◌, IfOk, string_bytes, true, map};
-ghost use Rattle.bp_words.specs.Line.{is_line};
+ghost use Rattle.bp_words.specs.Line.{is_line, plain_char};
 ghost use Rattle.bp_words.specs.Line as spec;
 
 use std::alloc::{AllocError, Global};
@@ -32,7 +32,21 @@ fn first_paragraph(alloc: Global, text: &str) -> Result<String, AllocError>
     Ok(line)
 }
 
-/// A text without a line end.
+/// The character, or a question mark in place of a control character.
+fn plain_char(c: char) -> char
+    ensures { result ≡ plain_char c }
+{
+    if c.is_control() { '?' } else { c }
+}
+
+/// A text with a question mark in place of each control character.
+pub(crate) fn plain(alloc: Global, text: &str) -> Result<String, AllocError>
+    ensures { IfOk result (λ plain. string_bytes plain ≡ spec.plain text.now) }
+{
+    text.chars().map(plain_char).collect(alloc)
+}
+
+/// A text without a line end or another control character of ASCII.
 #[derive(Debug, Drop)]
 pub struct Line {
     text: String,
@@ -40,11 +54,14 @@ pub struct Line {
 }
 
 impl Line {
-    /// The first paragraph of a text: its lines before the first blank one, with a space between two.
+    /// The first paragraph of a text: its lines before the first blank one, with a space between two, and with a
+    /// question mark in place of each control character.
     pub fn of(alloc: Global, text: &str) -> Result<Line, AllocError>
-        ensures { IfOk result (λ line. string_bytes line.text ≡ spec.first_paragraph text.now) }
+        ensures { IfOk result (λ line. string_bytes line.text
+            ≡ spec.plain (spec.first_paragraph text.now)) }
     {
-        let text = first_paragraph(alloc, text)?;
+        let paragraph = first_paragraph(alloc, text)?;
+        let text = plain(alloc, paragraph.as_str())?;
         Ok(Line { text })
     }
 

@@ -3,13 +3,16 @@ ghost use Rattle.std.specs.Prelude.{◌≡◌, option_map, Some, IfOk};
 ghost use Rattle.clap.specs.Walk.{texts};
 ghost use Rattle.clap.specs.Values.{kind_of};
 ghost use Rattle.clap.specs.Words.{first_of, found_of, rows_of, subcommand_rows_of, FailsBy};
-ghost use Rattle.bp_words.specs.Words.{fault_in, format_of, number_at, order_at, order_of, told_by_rows, told_of};
+ghost use Rattle.bp_words.specs.Words.{explanation_at, fault_in, flag_at, format_of, number_at, order_at, order_of};
+ghost use Rattle.bp_words.specs.Words.{told_by_rows, told_of};
 ghost use Rattle.bp_words.specs.Words as spec;
 ghost use Rattle.bp_words.specs.Asked.{AreInLimits, asked_by, asked_in, asked_of, migration_by_rows, migration_of};
 ghost use Rattle.bp_words.specs.Decision.{size_asked};
 
 use crate::command::bpool_command;
+use bp_numbers::explanation_of;
 use bp_page::Format;
+use bp_trace::numbers::parse_number;
 use clap::error::ErrorKind;
 use clap::{ArgMatches, Error};
 use std::alloc::{AllocError, Global};
@@ -51,6 +54,8 @@ pub struct RunWords<'a> {
     /// How pages stand in a page file at a path.
     pub format: Format,
     pub order: Order,
+    /// Whether the report has no lines of events.
+    pub totals: bool,
 }
 
 /// What the words of a migration name.
@@ -65,20 +70,23 @@ pub struct MigrationWords<'a> {
 }
 
 /// What the words of a command line ask for.
-#[derive(Clone, Copy, Debug, PartialEq, Eq)]
+#[derive(Debug, PartialEq, Eq, Drop)]
 pub enum Task<'a> {
     Run(RunWords<'a>),
     Migrate(MigrationWords<'a>),
+    /// Says this text.
+    Explain(&'a str),
 }
 
 impl Task<'_> {
-    /// How many bytes a page has.
-    pub fn page_size(&self) -> usize
+    /// How many bytes a page has, where there are pages.
+    pub fn page_size(&self) -> Option<usize>
         ensures { result ≡ size_asked (asked_of self.now) }
     {
         match self {
-            Task::Run(run) => run.page_size,
-            Task::Migrate(migration) => migration.page_size,
+            Task::Run(run) => Some(run.page_size),
+            Task::Migrate(migration) => Some(migration.page_size),
+            Task::Explain(_) => None,
         }
     }
 }
@@ -136,6 +144,26 @@ fn word_at<'a>(matches: &ArgMatches<'a>, id: &str) -> Option<&'a str>
     matches.get_str(id)
 }
 
+/// What the number that the matches name says.
+fn explanation_at(matches: &ArgMatches<'_>) -> Option<&'static str>
+    ensures { option_map (λ text. text.now) result
+        ≡ explanation_at (rows_of (found_of matches.now)) }
+{
+    let word = word_at(matches, "number")?;
+    let number = parse_number(word.as_bytes())?;
+    explanation_of(number)
+}
+
+/// Whether an option without a value is there.
+fn flag_at(matches: &ArgMatches<'_>, id: &str) -> bool
+    ensures { result ≡ flag_at id.now (rows_of (found_of matches.now)) }
+{
+    match word_at(matches, id) {
+        Some(word) => word == "true",
+        None => false,
+    }
+}
+
 /// The order that the matches of a run name.
 fn order_at(matches: &ArgMatches<'_>) -> Option<Order>
     ensures { result ≡ order_at (rows_of (found_of matches.now)) }
@@ -167,6 +195,7 @@ fn run_words<'a>(matches: &ArgMatches<'a>) -> Option<RunWords<'a>>
         page_size,
         format: format_of(version),
         order,
+        totals: flag_at(matches, "totals"),
     })
 }
 
@@ -189,27 +218,54 @@ fn task_in<'a>(matches: &ArgMatches<'a>) -> Option<Task<'a>>
     ensures { option_map asked_of result ≡ asked_in (subcommand_rows_of matches.now) }
 {
     if let Some(run) = matches.subcommand_matches("run") {
-        let words = run_words(run)?;
-        return Some(Task::Run(words));
+        return run_words(run).map(Task::Run);
     }
-    let migration = matches.subcommand_matches("migrate")?;
-    let words = migration_words(migration)?;
-    Some(Task::Migrate(words))
+    if let Some(migration) = matches.subcommand_matches("migrate") {
+        return migration_words(migration).map(Task::Migrate);
+    }
+    let explain = matches.subcommand_matches("explain")?;
+    explanation_at(explain).map(Task::Explain)
 }
 
-/// The fault of words that name no order.
-fn no_order(alloc: Global, matches: &ArgMatches<'_>) -> Result<Error, AllocError>
+/// A fault of an option whose word names nothing.
+fn invalid(alloc: Global, said: &str) -> Result<Error, AllocError>
     ensures { IfOk result (λ e. kind_of e ≡ ErrorKind.InvalidValue) }
 {
-    let word = match matches.subcommand_matches("run") {
-        Some(run) => word_at(run, "order").unwrap_or(""),
-        None => "",
-    };
+    let mut command = bpool_command(alloc)?;
+    command.error(ErrorKind::InvalidValue, said)
+}
+
+/// The fault of a run that names no order.
+fn no_order(alloc: Global, run: &ArgMatches<'_>) -> Result<Error, AllocError>
+    ensures { IfOk result (λ e. kind_of e ≡ ErrorKind.InvalidValue) }
+{
+    let word = word_at(run, "order").unwrap_or("");
     let said = format!(in alloc;
         "invalid value '{word}' for '--order <ORDER>' [possible values: trace, free]"
     )?;
-    let mut command = bpool_command(alloc)?;
-    command.error(ErrorKind::InvalidValue, said.as_str())
+    invalid(alloc, said.as_str())
+}
+
+/// The fault of a number that no refusal has.
+fn no_number(alloc: Global, explain: &ArgMatches<'_>) -> Result<Error, AllocError>
+    ensures { IfOk result (λ e. kind_of e ≡ ErrorKind.InvalidValue) }
+{
+    let word = word_at(explain, "number").unwrap_or("");
+    let said = format!(in alloc; "invalid value '{word}' for '<N>': no refusal has this number")?;
+    invalid(alloc, said.as_str())
+}
+
+/// The fault of words that clap lets through, with an option whose word names nothing.
+fn names_nothing(alloc: Global, matches: &ArgMatches<'_>) -> Result<Error, AllocError>
+    ensures { IfOk result (λ e. kind_of e ≡ ErrorKind.InvalidValue) }
+{
+    if let Some(explain) = matches.subcommand_matches("explain") {
+        return no_number(alloc, explain);
+    }
+    match matches.subcommand_matches("run") {
+        Some(run) => no_order(alloc, run),
+        None => no_order(alloc, matches),
+    }
 }
 
 /// Reads the words of a command line, which leave out the program's name.
@@ -227,6 +283,6 @@ pub fn read_words<'a>(alloc: Global, words: &'a [&'a str]) -> Result<Task<'a>, E
     };
     match task_in(&matches) {
         Some(task) => Ok(task),
-        None => Err(no_order(alloc, &matches)?),
+        None => Err(names_nothing(alloc, &matches)?),
     }
 }

@@ -20,6 +20,22 @@ fn formats_of_a_run(rt: HostRuntime) {
 }
 
 #[test]
+fn totals_of_a_run(rt: HostRuntime) {
+    let lines = [
+        ("run stdin pages", false),
+        ("run stdin pages --totals", true),
+        ("run --totals stdin pages --order free", true),
+    ];
+    for (line, totals) in lines {
+        let words = words_of(&rt, line);
+        let Ok(Task::Run(run)) = decide(rt.alloc(), words.as_slice()) else {
+            panic!(rt; "{line} is refused")
+        };
+        assert!(rt; run.totals == totals, "{line}");
+    }
+}
+
+#[test]
 fn words_of_a_migration(rt: HostRuntime) {
     for line in ["migrate a b --page-size 16", "migrate --page-size=16 a b"] {
         let words = words_of(&rt, line);

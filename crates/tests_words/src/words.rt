@@ -7,8 +7,12 @@ use std::process::Abort;
 /// What the program says of a line that it does not run.
 fn ending_of(rt: &(impl AllocGlobal + Abort), line: &str) -> Ending {
     let words = words_of(rt, line);
-    match decide(rt.alloc(), words.as_slice()) {
-        Ok(_) => panic!(rt; "{line} is run"),
+    ending_at(rt, words.as_slice())
+}
+
+fn ending_at(rt: &(impl AllocGlobal + Abort), words: &[&str]) -> Ending {
+    match decide(rt.alloc(), words) {
+        Ok(_) => panic!(rt; "the words are run"),
         Err(ending) => ending,
     }
 }
@@ -24,10 +28,16 @@ fn text_of(rt: &impl Abort, bytes: Vec<u8>) -> String {
 }
 
 /// The status, the output and the error output at a line that is not run.
-fn ended(rt: &(impl AllocGlobal + Abort), line: &str) -> (u8, String, String) {
+pub(crate) fn ended(rt: &(impl AllocGlobal + Abort), line: &str) -> (u8, String, String) {
+    let words = words_of(rt, line);
+    said_of(rt, words.as_slice())
+}
+
+/// The same of words.
+pub(crate) fn said_of(rt: &(impl AllocGlobal + Abort), words: &[&str]) -> (u8, String, String) {
     let mut out = Vec::new(rt.alloc());
     let mut err = Vec::new(rt.alloc());
-    let status = ending_of(rt, line).finish(&mut out, &mut err);
+    let status = ending_at(rt, words).finish(&mut out, &mut err);
     (status, text_of(rt, out), text_of(rt, err))
 }
 
@@ -210,6 +220,14 @@ fn expect_help(rt: &(impl AllocGlobal + Abort), lines: &[&str], parts: &[&str]) 
         for part in parts {
             assert!(rt; text.as_str().contains(part), "{line}: {part}");
         }
+        expect_narrow(rt, text.as_str());
+    }
+}
+
+/// Asserts that no line of a text has more than 100 columns.
+fn expect_narrow(rt: &impl Abort, text: &str) {
+    for line in text.lines() {
+        assert!(rt; line.chars().count() <= 100, "{line}");
     }
 }
 
@@ -218,24 +236,53 @@ fn help_of_the_program(rt: HostRuntime) {
     let parts = [
         "Usage: bpool <COMMAND>\n",
         "\n  run      Runs a trace over a buffer pool ",
+        "\n  explain  Says what the number of a refusal stands for\n",
+        "\n  -V, --version  Print version\n",
         "\n  migrate  Writes a page file of version 1 anew in version 2\n",
-        "\nbpool run TRACE PAGEFILE [--frames N] [--k N] [--correlated N] [--retained N] [--page-size N]\n          [--format N] [--order ORDER]\n",
+        "\nbpool run TRACE PAGEFILE [--frames N] [--k N] [--correlated N] [--retained N] [--page-size N]\n          [--format N] [--order ORDER] [--totals]\n",
         "\n  TRACE             A path, or stdin for the standard input\n",
         "\n  PAGEFILE          A path, or mem:N for N pages of zero bytes in memory, N from 1 to 1048576\n",
         "\n  --frames N        1 to 65536 [default: 8]\n",
         "\n  --k N             1 to 16 [default: 2]\n",
         "\n  --correlated N    0 to 2^62 ticks [default: 0]\n",
-        "\n  --retained N      0 to 2^62 ticks [default: 1000]\n",
+        "\n  --retained N      0 to 2^62 ticks; it acts at purge rows alone [default: 1000]\n",
         "\n  --page-size N     16 to 65536 bytes, a multiple of 16 [default: 64]\n",
         "\n  --format N        1 or 2: version of a page file at a path [default: 1]\n",
         "\n  --order ORDER     trace or free [default: trace]\n",
+        "\n  --totals          Prints no lines of events, only the totals and the refused rows\n",
+        "\nbpool explain N\n",
         "\nbpool migrate OLD NEW --page-size N\n",
         "\n  OLD               A path: a page file of version 1\n",
         "\n  NEW               A path: the page file of version 2 that is made of it\n",
         "\nNo words at all: run stdin mem:16 --frames 2 --k 1\n",
-        "\nStatus 0: all rows were accepted, NEW was made, or help was asked for. Status 1: some row was refused. Status 2: ",
+        "\nStatus 0: all rows were accepted, NEW was made, or help, the version or a number was asked for.\nStatus 1: some row was refused.\nStatus 2: ",
     ];
     expect_help(&rt, &["help", "--help", "-h"], parts.as_slice());
+}
+
+#[test]
+fn help_shows_a_trace(rt: HostRuntime) {
+    let parts = [
+        "A row is client,op,number,offset,bytes,lsn, where a client is 0 to\n63.",
+        "\n  0,fix,7,,, ",
+        "\n  0,write,7,0,ff,5 ",
+        "\n  0,read,7,,, ",
+        "\n  0,unfix,7,,, ",
+        "\n  0,flush,7,,, ",
+        "\n  0,log,5,,, ",
+        "\n  0,tick,1,,, ",
+        "\n  0,purge,,,, ",
+        "\nWithout tick rows nothing leaves a frame. --retained acts at purge rows alone.\n",
+    ];
+    expect_help(&rt, &["--help"], parts.as_slice());
+}
+
+#[test]
+fn help_of_the_other_commands(rt: HostRuntime) {
+    let explain = ["Usage: bpool explain <N>\n"];
+    expect_help(&rt, &["explain --help", "help explain"], explain.as_slice());
+    let migrate = ["Usage: bpool migrate --page-size <N> <OLD> <NEW>\n"];
+    expect_help(&rt, &["migrate --help", "help migrate"], migrate.as_slice());
 }
 
 #[test]
@@ -243,15 +290,17 @@ fn help_of_a_run(rt: HostRuntime) {
     let parts = [
         "Usage: bpool run [OPTIONS] <TRACE> <PAGEFILE>\n",
         "  <TRACE>     The trace: a path, or stdin for the standard input\n",
-        "  <PAGEFILE>  The page file: a path, or mem:N for N pages of zero bytes in memory, N from 1 to 1048576\n",
+        "  <PAGEFILE>  The page file: a path, or mem:N for N pages of zero bytes in memory\n",
         "      --frames <N>      Frames of the pool, from 1 to 65536 [default: 8]\n",
         "      --k <N>           K of LRU-K, from 1 to 16 [default: 2]\n",
         "      --correlated <N>  Correlated reference period in ticks, from 0 to 2^62 [default: 0]\n",
         "      --retained <N>    Retained information period in ticks, from 0 to 2^62 [default: 1000]\n",
         "      --page-size <N>   Bytes of a page, a multiple of 16 from 16 to 65536 [default: 64]\n",
-        "      --format <N>      Version of a page file at a path: 1 for plain pages, 2 for pages with their numbers [default: 1]\n",
-        "      --order <ORDER>   Order of the rows: trace for that of the trace, free for one thread for each client [default: trace]\n",
+        "      --format <N>      Version of a page file at a path: 1 plain, 2 with page numbers [default: 1]\n",
+        "      --order <ORDER>   Order of the rows: trace, or free: a thread for each client [default: trace]\n",
+        "      --totals          Prints no lines of events, only the totals and the refused rows\n",
         "Status 0: all rows were accepted. Status 1: some row was refused; ",
+        "Without tick rows nothing leaves a frame. --retained acts at purge rows alone. ",
     ];
     let lines = ["help run", "run --help", "run stdin mem:0 --k 16 --help"];
     expect_help(&rt, lines.as_slice(), parts.as_slice());
@@ -287,6 +336,10 @@ fn refusals_that_come_later(rt: HostRuntime) {
         ),
         (Ending::RunRefused(Refusal::OutOfMemory), "run refused 22\n"),
         (Ending::OutputFailed, "output failed\n"),
+        (
+            Ending::WordsNotText,
+            "error: a word is not UTF-8; try 'bpool --help'\n",
+        ),
     ];
     let alloc = rt.alloc();
     for (ending, message) in rows {

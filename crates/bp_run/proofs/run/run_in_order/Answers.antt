@@ -17,14 +17,14 @@ returns-in-Trace-clause-reported g c =
     let some : 0 < length c.args.ports.items = omega (arith, some_ports c.args.run.now.order c.args.rows.items, count) in
     let same = port_is g.P.Port.geometry_of c.args.ports.items c.index_mut.result.now c.args.geometry c.requires.alike some c.index_mut.ensures.value in
     in_trace g.P.Port.read_gives g.P.Port.write_gives c.args.run.now.order (told_of c.args.run.now) c.args.geometry (g.P.Port.geometry_of c.index_mut.result.now) c.args.ports.items c.index_mut.result.now
-    c.args.rows.items c.deref.result.now _ _ c.run_rows.result c.in-Trace.is same c.deref.ensures.value count c.index_mut.ensures.value c.run_rows.ensures.reported
+    c.args.run.now.totals c.args.rows.items c.deref.result.now _ _ c.run_rows.result c.in-Trace.is same c.deref.ensures.value count c.index_mut.ensures.value c.run_rows.ensures.reported
 
 pub returns-in-Trace-clause-fault : goal.returns-in-Trace-clause-fault
 returns-in-Trace-clause-fault g c = subst (λ (o : Order). IfErr c.run_rows.result (NotReported o)) (sym c.in-Trace.is) c.run_rows.ensures.fault
 
 pub returns-in-Free-clause-reported : goal.returns-in-Free-clause-reported
 returns-in-Free-clause-reported g c =
-    in_free g.P.Port.read_gives g.P.Port.write_gives c.args.run.now.order (told_of c.args.run.now) c.args.geometry c.args.ports.items c.args.rows.items _ _ c.run_free.result c.in-Free.is c.run_free.ensures.reported
+    in_free g.P.Port.read_gives g.P.Port.write_gives c.args.run.now.order (told_of c.args.run.now) c.args.geometry c.args.ports.items c.args.run.now.totals c.args.rows.items _ _ c.run_free.result c.in-Free.is c.run_free.ensures.reported
 
 pub returns-in-Free-clause-fault : goal.returns-in-Free-clause-fault
 returns-in-Free-clause-fault g c = subst (λ (o : Order). IfErr c.run_free.result (NotReported o)) (sym c.in-Free.is) c.run_free.ensures.fault

@@ -1,5 +1,6 @@
 use Rattle.std.proofs.Common.{refl}
 use Rattle.clap.proofs.OnLiterals.{clap_on_literals}
+use Rattle.bp_trace.specs.Numbers.{digits_in, number_in}
 use Rattle.bp_words.proofs.laws.words_by_example.Goals as goal
 
 pub returns-clause-none : goal.returns-clause-none
@@ -41,3 +42,15 @@ returns-clause-no_size c = refl
 pub returns-clause-help : goal.returns-clause-help
 unfolding clap_on_literals
 returns-clause-help c = refl
+
+pub returns-clause-explanation : goal.returns-clause-explanation
+unfolding clap_on_literals number_in digits_in
+returns-clause-explanation c = refl
+
+pub returns-clause-no_number : goal.returns-clause-no_number
+unfolding clap_on_literals number_in digits_in
+returns-clause-no_number c = refl
+
+pub returns-clause-version : goal.returns-clause-version
+unfolding clap_on_literals
+returns-clause-version c = refl

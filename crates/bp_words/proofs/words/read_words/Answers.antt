@@ -34,4 +34,4 @@ pub returns-clause-faults : goal.returns-clause-faults
 returns-clause-faults c =
     let app_is : app_of c.in_ok-command.command ≡ bpool_app = c.in_ok-command.ensures in
     let is = matches_told (app_of c.in_ok-command.command) (texts c.args.words.now) c.in-Ok.matches app_is c.in-Ok.ensures.matches (c.in-Ok.ensures.kinds (ap is_simple_and_free app_is)) in
-    no_order_is (texts c.args.words.now) c.in-Ok.matches c.in_ok-no_order-in-None.field-0 is c.in-None.ensures c.in_ok-no_order-in-None.ensures
+    no_order_is (texts c.args.words.now) c.in-Ok.matches c.in_ok-names_nothing-in-None.field-0 is c.in-None.ensures c.in_ok-names_nothing-in-None.ensures

@@ -1,5 +1,10 @@
-use Rattle.bp_words.proofs.OneLine.{first_paragraph-is_line}
+use Rattle.std.proofs.Common.{◌∙◌, ap}
+use Rattle.bp_words.specs.Line.{first_paragraph, plain}
+use Rattle.bp_words.proofs.OneLine.{plain-is_line}
 use Rattle.bp_words.proofs.line.Line.of.Goals as goal
 
 pub invariant_of-result : goal.invariant_of-result
-invariant_of-result c = record { unbroken = rw c.in_ok-text.ensures (first_paragraph-is_line c.args.text.now) }
+invariant_of-result c = record { unbroken = rw c.in_ok-text.ensures (plain-is_line c.as_str.result.now) }
+
+pub returns : goal.returns
+returns c = c.in_ok-text.ensures ∙ ap plain (c.as_str.ensures.value ∙ c.in_ok-paragraph.ensures)

@@ -1,0 +1,2 @@
+-- What the number of a refusal says.
+pub mod Explained

@@ -1,0 +1,18 @@
+//! What the number of a refusal says.
+ghost use Rattle.std.specs.Prelude.{◌≡◌, ◌++◌, ◌∷◌, [], IfErr, OnOk};
+ghost use Rattle.std.specs.Io.KnownBytes.{Appends};
+
+use bp_words::Ending;
+use std::io::Write;
+
+/// Writes the text as a line.
+pub(crate) fn explain<W: Write>(text: &str, out: &mut W) -> Result<(), Ending>
+    ensures written { OnOk result (Appends (W.contents out.old) (W.contents out.new)
+        (text.now ++ 10 ∷ [])) }
+    ensures fault { IfErr result (λ ended. ended ≡ Ending.OutputFailed) }
+{
+    if writeln!(out, "{text}").is_err() || out.flush().is_err() {
+        return Err(Ending::OutputFailed);
+    }
+    Ok(())
+}
