@@ -136,57 +136,77 @@ fn expect_run<R: Threads + Wait + Sync + Abort + AllocGlobal>(
     );
 }
 
+/// With the first call failing page 1 is never here.
+fn without_the_first(refused: &[Refused]) -> Left<'_> {
+    Left {
+        n: 1,
+        refused,
+        reads_nine: false,
+        entries: 7,
+        failures: 1,
+        on_device: 0,
+        spoiled: 0,
+    }
+}
+
+/// With the second call failing page 1 stays in its frame, and is found there.
+fn without_the_second(refused: &[Refused]) -> Left<'_> {
+    Left {
+        n: 2,
+        refused,
+        reads_nine: true,
+        entries: 10,
+        failures: 1,
+        on_device: 0,
+        spoiled: 255,
+    }
+}
+
+/// With the third call failing the frame is free, and page 1 comes back from the device.
+fn without_the_third(refused: &[Refused]) -> Left<'_> {
+    Left {
+        n: 3,
+        refused,
+        reads_nine: true,
+        entries: 13,
+        failures: 1,
+        on_device: 9,
+        spoiled: 9,
+    }
+}
+
+/// There is no fourth call: page 2 stays fixed in the only frame.
+fn without_a_fourth(refused: &[Refused]) -> Left<'_> {
+    Left {
+        n: 4,
+        refused,
+        reads_nine: false,
+        entries: 11,
+        failures: 0,
+        on_device: 9,
+        spoiled: 9,
+    }
+}
+
 /// The rows take three calls of the device: page 1 is read, then written out for page 2, which is read. Each of them
 /// fails in turn, and then a fourth would. A failing write leaves the device alone, or spoils the page.
 #[test]
 fn each_device_call_fails(rt: HostRuntime) {
+    let no_page_one = [
+        refused(1, 17),
+        refused(2, 14),
+        refused(3, 14),
+        refused(6, 11),
+        refused(7, 14),
+    ];
+    let no_write_out = [refused(5, 18)];
+    let no_page_two = [refused(5, 17)];
+    let no_frame = [refused(6, 11), refused(7, 14)];
     let table = [
-        // Page 1 is never here.
-        Left {
-            n: 1,
-            refused: &[
-                refused(1, 17),
-                refused(2, 14),
-                refused(3, 14),
-                refused(6, 11),
-                refused(7, 14),
-            ],
-            reads_nine: false,
-            entries: 7,
-            failures: 1,
-            on_device: 0,
-            spoiled: 0,
-        },
-        // Page 1 stays in its frame, and is found there.
-        Left {
-            n: 2,
-            refused: &[refused(5, 18)],
-            reads_nine: true,
-            entries: 10,
-            failures: 1,
-            on_device: 0,
-            spoiled: 255,
-        },
-        // The frame is free, and page 1 comes back from the device.
-        Left {
-            n: 3,
-            refused: &[refused(5, 17)],
-            reads_nine: true,
-            entries: 13,
-            failures: 1,
-            on_device: 9,
-            spoiled: 9,
-        },
-        // No call fails: page 2 stays fixed in the only frame.
-        Left {
-            n: 4,
-            refused: &[refused(6, 11), refused(7, 14)],
-            reads_nine: false,
-            entries: 11,
-            failures: 0,
-            on_device: 9,
-            spoiled: 9,
-        },
+        without_the_first(&no_page_one),
+        without_the_second(&no_write_out),
+        without_the_third(&no_page_two),
+        without_a_fourth(&no_frame),
     ];
     for left in table.iter() {
         for spoil in [false, true] {
