@@ -12,7 +12,7 @@ use bp_lruk::Settings;
 use bp_mark::{LogEnd, Mark, Reader};
 use bp_page::{Bytes, Geometry, Image, Lsn, Refusal};
 use bp_shared::{PoolName, Session, SharedPool, Taker, TrailRing};
-use bp_workers::Client;
+use bp_workers::{Client, give_back};
 use std::alloc::Global;
 use std::sync::Wait;
 
@@ -158,6 +158,22 @@ pub fn unfix<N: PoolName, P: Port, K: ListKeeper>(
     match pool.unfix(&mut client.session, note.pass()) {
         Ok(()) => Ok(()),
         Err((back, refusal)) => Err((refusal, back.note().serial())),
+    }
+}
+
+/// Gives a pass back, by way of an emptied ring where it is full.
+pub fn give<N: PoolName, P: Port, K: ListKeeper, R: Wait>(
+    rt: &R,
+    pool: &SharedPool<N, K>,
+    client: &mut Client<N, P, K>,
+    note: PassNote,
+) -> Result<(), Refusal> {
+    match give_back(rt, pool, &mut client.session, note.pass()) {
+        Ok(()) => Ok(()),
+        Err((back, refusal)) => {
+            back.note();
+            Err(refusal)
+        }
     }
 }
 

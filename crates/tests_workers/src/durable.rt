@@ -1,21 +1,20 @@
 //! Fixes that wait for the log, or for a victim.
-ghost use Rattle.std.specs.Prelude.{◌<◌};
-
-use bp_check::{Setup, first_unlawful};
-use bp_core::{Call, Core, Pass, RecordingKeeper};
-use bp_device::{MemDevice, MemPort, Port};
+use crate::making::{config, ports};
+use bp_core::{Call, RecordingKeeper};
+use bp_device::{MemPort, Port};
 use bp_engine::{Leading, Log, Patience, fix_durably};
-use bp_lruk::Settings;
-use bp_page::{Bytes, Geometry, Lsn, PageNo, Refusal};
+use bp_page::{Lsn, Refusal};
 use bp_shared::{PoolName, SharedPool};
 use bp_totals::Totals;
-use bp_workers::{Client, Config, Left, Upkeep, Worker, give_back, run_workers};
+use bp_workers::{Client, Left, Upkeep, Worker, run_workers};
 use std::alloc::Global;
 use std::process::Abort;
 use std::rt::HostRuntime;
 use std::sync::Wait;
 use std::thread::Threads;
 use std::time::Duration;
+use test_support::judging::unlawful_in;
+use test_support::pools::{fix, give, write};
 
 /// A log that notes what was asked of it, and may be one that never gets durable.
 #[derive(Drop)]
@@ -54,44 +53,18 @@ impl Waiter {
     }
 }
 
-/// Gives a pass back, or notes it where that is refused.
-fn end<N: PoolName, P: Port, R: Wait>(
-    rt: &R,
-    pool: &SharedPool<N>,
-    client: &mut Client<N, P>,
-    pass: Pass,
-) {
-    if let Err((pass, _)) = give_back(rt, pool, &mut client.session, pass) {
-        pass.note();
-    }
-}
-
-/// Puts a byte at the front of a page under log record 5, and keeps the pass or gives it back.
+/// Puts a byte at the front of page 0 under log record 5, and keeps the pass or gives it back.
 fn change<N: PoolName, P: Port, R: Wait>(
     rt: &R,
     alloc: Global,
     pool: &SharedPool<N>,
     client: &mut Client<N, P>,
-    page: PageNo,
     keeps: bool,
-) -> Result<(), Refusal>
-    requires { page < N.parameters.pages }
-{
-    let Ok(bytes) = Bytes::of(alloc, &[7]) else {
-        return Err(Refusal::OutOfMemory);
-    };
-    if !client.port.geometry().fits(0, bytes.bytes().len()) {
-        return Err(Refusal::OutOfPage);
-    }
-    let pass = match pool.fix(rt, &mut client.session, &mut client.port, page) {
-        Ok(pass) => pass,
-        Err(refusal) => return Err(refusal),
-    };
-    let written = pool.write(rt, &mut client.session, &pass, 0, &bytes, Lsn::new(5));
-    if keeps {
-        pass.note();
-    } else {
-        end(rt, pool, client, pass);
+) -> Result<(), Refusal> {
+    let note = fix(rt, pool, client, 0)?;
+    let written = write(rt, alloc, pool, client, note, 7, 5);
+    if !keeps {
+        give(rt, pool, client, note)?;
     }
     written
 }
@@ -111,16 +84,13 @@ impl<P: Port> Worker<P, RecordingKeeper> for Waiter {
         client: &mut Client<N, P>,
         upkeep: &mut Upkeep<N>,
     ) {
-        let (Some(first), Some(second)) = (
-            client.port.geometry().page(0),
-            client.port.geometry().page(1),
-        ) else {
-            return;
-        };
-        if let Err(refusal) = change(rt, self.alloc, pool, client, first, self.holds) {
+        if let Err(refusal) = change(rt, self.alloc, pool, client, self.holds) {
             self.refused = Some(refusal);
             return;
         }
+        let Some(second) = client.port.geometry().page(1) else {
+            return;
+        };
         let patience = Patience {
             rounds: self.rounds,
             steps: 1,
@@ -128,30 +98,20 @@ impl<P: Port> Worker<P, RecordingKeeper> for Waiter {
         };
         let mut log = Leading::new(&mut self.log, &mut upkeep.log);
         let fixed = match fix_durably(rt, pool, client, &mut log, second, patience) {
-            Ok(pass) => {
-                end(rt, pool, client, pass);
-                Ok(())
-            }
+            Ok(pass) => give(rt, pool, client, pass.note()),
             Err(refusal) => Err(refusal),
         };
         self.note(fixed);
     }
 }
 
-/// Runs one waiter over a device of two pages, and asserts that its trail is legal.
+/// Runs one waiter over one frame, and asserts that its trail is legal.
 fn run<R: Abort + AllocGlobal + Threads + Wait + Sync>(
     rt: &R,
     rounds: u32,
     holds: bool,
     is_broken: bool,
 ) -> Left<MemPort, Waiter> {
-    let geometry = Geometry::new(2, 16).expect(rt, "the geometry");
-    let settings = Settings::new(2, 0, 1000).expect(rt, "the settings");
-    let device = MemDevice::new(rt.alloc(), geometry).expect(rt, "the device");
-    let mut ports = Vec::new(rt.alloc());
-    ports
-        .push(device.port().expect(rt, "a port"))
-        .expect(rt, "a place");
     let mut workers = Vec::new(rt.alloc());
     let waiter = Waiter {
         alloc: rt.alloc(),
@@ -166,39 +126,19 @@ fn run<R: Abort + AllocGlobal + Threads + Wait + Sync>(
         refused: None,
     };
     workers.push(waiter).expect(rt, "a place");
-    let config = Config {
-        geometry,
-        settings,
-        frames: 1,
-        room: 64,
-    };
-    let run = run_workers(rt, rt.alloc(), config, ports, workers).expect(rt, "the run");
-    expect_legal(rt, &run.core);
+    let run = run_workers(rt, rt.alloc(), config(rt, 1), ports(rt, 1), workers);
+    let run = run.expect(rt, "the run");
+    assert_eq!(rt; unlawful_in(rt.alloc(), &run.core), Ok(None));
     let mut left = run.left;
     left.pop().expect(rt, "what the waiter left")
 }
 
-/// Asserts that the judge finds a trail legal.
-fn expect_legal(rt: &(impl AllocGlobal + Abort), core: &Core) {
-    let setup = Setup {
-        geometry: core.geometry(),
-        settings: core.settings(),
-        frames: core.frames(),
-        clients: core.clients(),
-    };
-    let place = first_unlawful(rt.alloc(), &setup, core.trail()).expect(rt, "the verdict");
-    assert_eq!(rt; place, None, "the first entry that is not lawful");
-}
-
 /// How often the clock was moved.
 fn ticks(left: &Left<MemPort, Waiter>) -> usize {
-    let mut ticks = 0usize;
-    for entry in left.said() {
-        if matches!(entry.call, Call::Tick(_)) {
-            ticks = ticks.saturating_add(1);
-        }
-    }
-    ticks
+    left.said()
+        .iter()
+        .filter(|entry| matches!(entry.call, Call::Tick(_)))
+        .count()
 }
 
 /// One fix finds no victim, one wants the log, and the third writes page 0 out and reads page 1.
@@ -210,26 +150,17 @@ fn log_is_made_durable(rt: HostRuntime) {
     assert_eq!(rt; left.worker.log.asked, 5);
     assert_eq!(rt; left.worker.log.times, 1);
     let totals = Totals::of(left.said());
-    assert_eq!(rt; totals.refused, 2);
-    assert_eq!(rt; totals.writes, 1);
-    assert_eq!(rt; totals.evictions, 1);
-    assert_eq!(rt; totals.faults, 2);
-    assert_eq!(rt; totals.hits, 0);
-    assert_eq!(rt; totals.failed, 0);
+    let wanted = Totals {
+        hits: 0,
+        faults: 2,
+        evictions: 1,
+        writes: 1,
+        failed: 0,
+        refused: 2,
+    };
+    assert_eq!(rt; totals, wanted);
     assert_eq!(rt; ticks(&left), 1);
     assert_eq!(rt; left.said().len(), 13);
-}
-
-/// With one round less the refusal of the last fix is answered.
-#[test]
-fn rounds_end(rt: HostRuntime) {
-    let rt = &rt;
-    let left = run(rt, 1, false, false);
-    assert!(rt; !left.worker.is_fixed);
-    assert_eq!(rt; left.worker.refused, Some(Refusal::NeedLog(Lsn::new(5))));
-    assert_eq!(rt; left.worker.log.times, 0);
-    assert_eq!(rt; ticks(&left), 1);
-    assert_eq!(rt; left.said().len(), 7);
 }
 
 /// A page that is held never leaves: each try is one entry, and the clock is moved once.
