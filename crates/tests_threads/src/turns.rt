@@ -1,15 +1,17 @@
 //! Two sessions in turn over one frame, of which the first one's port fails.
-ghost use Rattle.std.specs.Prelude.{◌≡◌, ◌<◌};
+ghost use Rattle.std.specs.Prelude.{◌≡◌};
 
-use crate::counting::{Counts, count};
-use crate::judging::{expect_legal, setup_of};
-use crate::making::{Client, Fails, Made, Opened, clients_of, make, on_device, open};
-use bp_device::{Flushed, MemDevice, Port};
-use bp_page::{PageNo, Refusal};
+use crate::making::{Fails, Way, change, clients_of, look, on_device};
+use bp_device::{Flushed, Port};
+use bp_page::Refusal;
 use bp_shared::{PoolName, SharedPool};
+use bp_totals::Totals;
+use bp_workers::Client;
 use std::marker::Brand;
 use std::process::Abort;
 use std::sync::Wait;
+use test_support::judging::unlawful_in;
+use test_support::pools::{Made, Opened, fix, flush, make, open};
 
 /// What the two clients do.
 #[derive(Clone, Copy)]
@@ -24,17 +26,14 @@ enum Turn {
 fn read_fails<N: PoolName, R: Wait + Abort>(
     rt: &R,
     pool: &SharedPool<N>,
-    first: &mut Client<N>,
-    second: &mut Client<N>,
-)
-    requires pages { N.parameters.pages ≡ 4 }
-{
-    let page = PageNo::new(1);
-    let failed = first.fix(rt, pool, page);
+    first: &mut Client<N, Way>,
+    second: &mut Client<N, Way>,
+) {
+    let failed = fix(rt, pool, first, 1);
     assert!(rt; failed.err() == Some(Refusal::ReadFailed));
-    let read = second.look(rt, pool, page);
+    let read = look(rt, pool, second, 1);
     assert_eq!(rt; read, Ok(Some(0)));
-    let found = first.look(rt, pool, page);
+    let found = look(rt, pool, first, 1);
     assert!(rt; found == Ok(Some(0)));
 }
 
@@ -42,20 +41,17 @@ fn read_fails<N: PoolName, R: Wait + Abort>(
 fn write_out_fails<N: PoolName, R: Wait + Abort + AllocGlobal>(
     rt: &R,
     pool: &SharedPool<N>,
-    first: &mut Client<N>,
-    second: &mut Client<N>,
-)
-    requires pages { N.parameters.pages ≡ 4 }
-    requires size { N.parameters.size ≡ 16 }
-{
-    first.change(rt, pool, PageNo::new(1));
-    let failed = first.fix(rt, pool, PageNo::new(2));
+    first: &mut Client<N, Way>,
+    second: &mut Client<N, Way>,
+) {
+    change(rt, pool, first);
+    let failed = fix(rt, pool, first, 2);
     assert!(rt; failed.err() == Some(Refusal::WriteFailed));
-    let found = second.look(rt, pool, PageNo::new(1));
+    let found = look(rt, pool, second, 1);
     assert_eq!(rt; found, Ok(Some(5)));
-    let next = second.look(rt, pool, PageNo::new(2));
+    let next = look(rt, pool, second, 2);
     assert!(rt; next == Ok(Some(0)));
-    let back = first.look(rt, pool, PageNo::new(1));
+    let back = look(rt, pool, first, 1);
     assert!(rt; back == Ok(Some(5)));
 }
 
@@ -63,20 +59,17 @@ fn write_out_fails<N: PoolName, R: Wait + Abort + AllocGlobal>(
 fn read_after_write_out_fails<N: PoolName, R: Wait + Abort + AllocGlobal>(
     rt: &R,
     pool: &SharedPool<N>,
-    first: &mut Client<N>,
-    second: &mut Client<N>,
-)
-    requires pages { N.parameters.pages ≡ 4 }
-    requires size { N.parameters.size ≡ 16 }
-{
-    first.change(rt, pool, PageNo::new(1));
-    let failed = first.fix(rt, pool, PageNo::new(2));
+    first: &mut Client<N, Way>,
+    second: &mut Client<N, Way>,
+) {
+    change(rt, pool, first);
+    let failed = fix(rt, pool, first, 2);
     assert!(rt; failed.err() == Some(Refusal::ReadFailed));
-    let gone = second.flush(rt, pool, PageNo::new(1));
+    let gone = flush(rt, pool, second, 1);
     assert_eq!(rt; gone, Ok(Flushed::Absent));
-    let next = first.look(rt, pool, PageNo::new(2));
+    let next = look(rt, pool, first, 2);
     assert_eq!(rt; next, Ok(Some(0)));
-    let back = second.look(rt, pool, PageNo::new(1));
+    let back = look(rt, pool, second, 1);
     assert!(rt; back == Ok(Some(5)));
 }
 
@@ -84,31 +77,25 @@ fn read_after_write_out_fails<N: PoolName, R: Wait + Abort + AllocGlobal>(
 fn flush_fails<N: PoolName, R: Wait + Abort + AllocGlobal>(
     rt: &R,
     pool: &SharedPool<N>,
-    first: &mut Client<N>,
-    second: &mut Client<N>,
-)
-    requires pages { N.parameters.pages ≡ 4 }
-    requires size { N.parameters.size ≡ 16 }
-{
-    first.change(rt, pool, PageNo::new(1));
-    let failed = first.flush(rt, pool, PageNo::new(1));
+    first: &mut Client<N, Way>,
+    second: &mut Client<N, Way>,
+) {
+    change(rt, pool, first);
+    let failed = flush(rt, pool, first, 1);
     assert_eq!(rt; failed, Err(Refusal::WriteFailed));
-    let written = second.flush(rt, pool, PageNo::new(1));
+    let written = flush(rt, pool, second, 1);
     assert!(rt; written == Ok(Flushed::Cleaned));
-    let again = first.flush(rt, pool, PageNo::new(1));
+    let again = flush(rt, pool, first, 1);
     assert!(rt; again == Ok(Flushed::Clean));
 }
 
 fn act<N: PoolName, R: Wait + Abort + AllocGlobal>(
     rt: &R,
     pool: &SharedPool<N>,
-    first: &mut Client<N>,
-    second: &mut Client<N>,
+    first: &mut Client<N, Way>,
+    second: &mut Client<N, Way>,
     turn: &Turn,
-)
-    requires pages { N.parameters.pages ≡ 4 }
-    requires size { N.parameters.size ≡ 16 }
-{
+) {
     match turn {
         Turn::Read => read_fails(rt, pool, first, second),
         Turn::WriteOut => write_out_fails(rt, pool, first, second),
@@ -124,28 +111,27 @@ fn play_over<N: PoolName, R: Wait + Abort + AllocGlobal>(
     made: Made,
     fails: &Fails,
     turn: &Turn,
-) -> (Counts, Option<u8>)
+) -> (Totals, Option<u8>)
     requires mark { made.mark ≡ N.mark }
     requires parameters { made.core.parameters ≡ N.parameters }
     requires before { made.core.before ≡ N.before }
     requires ring { made.ring ≡ N.ring }
-    requires pages { N.parameters.pages ≡ 4 }
-    requires size { N.parameters.size ≡ 16 }
 {
     let Opened {
         pool,
         sessions,
         taker,
+        end: _,
         device,
-    } = open::<N, R>(rt, made);
+    } = open::<N>(rt.alloc(), made).expect(rt, "the pool");
     let mut clients = clients_of(rt, &device, sessions, fails);
     let mut second = clients.pop().expect(rt, "the second client");
     let mut first = clients.pop().expect(rt, "the first client");
     act(rt, &pool, &mut first, &mut second, turn);
     assert!(rt; (first.port.failures(), second.port.failures()) == (1, 0));
     let (core, _, _) = pool.finish(taker);
-    expect_legal(rt, &setup_of(&core), core.trail());
-    (count(core.trail()), on_device(rt, &device, PageNo::new(1)))
+    assert_eq!(rt; unlawful_in(rt.alloc(), &core), Ok(None));
+    (Totals::of(core.trail()), on_device(rt, &device))
 }
 
 fn play<R: Wait + Abort + AllocGlobal>(
@@ -153,8 +139,8 @@ fn play<R: Wait + Abort + AllocGlobal>(
     n: u64,
     spoil: bool,
     turn: Turn,
-) -> (Counts, Option<u8>) {
-    let made = make(rt, 1, 2);
+) -> (Totals, Option<u8>) {
+    let made = make(rt.alloc(), 1, 2, 4096).expect(rt, "the pool's parts");
     let fails = Fails {
         n,
         spoil,
@@ -165,56 +151,60 @@ fn play<R: Wait + Abort + AllocGlobal>(
 
 #[test]
 fn failed_read_reaches_its_caller(rt: HostRuntime) {
-    let (counts, on_device) = play(&rt, 1, false, Turn::Read);
-    let wanted = Counts {
+    let (totals, on_device) = play(&rt, 1, false, Turn::Read);
+    let wanted = Totals {
         hits: 1,
         faults: 1,
-        write_outs: 0,
-        failed_reads: 1,
-        failed_writes: 0,
+        evictions: 0,
+        writes: 0,
+        failed: 1,
+        refused: 0,
     };
-    assert_eq!(rt; (counts, on_device), (wanted, Some(0)));
+    assert_eq!(rt; (totals, on_device), (wanted, Some(0)));
 }
 
 #[test]
 fn failed_write_out_reaches_its_caller(rt: HostRuntime) {
     for spoil in [false, true] {
-        let (counts, on_device) = play(&rt, 2, spoil, Turn::WriteOut);
-        let wanted = Counts {
+        let (totals, on_device) = play(&rt, 2, spoil, Turn::WriteOut);
+        let wanted = Totals {
             hits: 1,
             faults: 3,
-            write_outs: 1,
-            failed_reads: 0,
-            failed_writes: 1,
+            evictions: 2,
+            writes: 1,
+            failed: 1,
+            refused: 0,
         };
-        assert_eq!(rt; (counts, on_device), (wanted, Some(5)));
+        assert_eq!(rt; (totals, on_device), (wanted, Some(5)));
     }
 }
 
 #[test]
 fn failed_read_after_a_write_out_reaches_its_caller(rt: HostRuntime) {
-    let (counts, on_device) = play(&rt, 3, false, Turn::ReadAfterWriteOut);
-    let wanted = Counts {
+    let (totals, on_device) = play(&rt, 3, false, Turn::ReadAfterWriteOut);
+    let wanted = Totals {
         hits: 0,
         faults: 3,
-        write_outs: 1,
-        failed_reads: 1,
-        failed_writes: 0,
+        evictions: 2,
+        writes: 1,
+        failed: 1,
+        refused: 0,
     };
-    assert_eq!(rt; (counts, on_device), (wanted, Some(5)));
+    assert_eq!(rt; (totals, on_device), (wanted, Some(5)));
 }
 
 #[test]
 fn failed_flush_reaches_its_caller(rt: HostRuntime) {
     for spoil in [false, true] {
-        let (counts, on_device) = play(&rt, 2, spoil, Turn::Flush);
-        let wanted = Counts {
+        let (totals, on_device) = play(&rt, 2, spoil, Turn::Flush);
+        let wanted = Totals {
             hits: 0,
             faults: 1,
-            write_outs: 1,
-            failed_reads: 0,
-            failed_writes: 1,
+            evictions: 0,
+            writes: 1,
+            failed: 1,
+            refused: 0,
         };
-        assert_eq!(rt; (counts, on_device), (wanted, Some(5)));
+        assert_eq!(rt; (totals, on_device), (wanted, Some(5)));
     }
 }

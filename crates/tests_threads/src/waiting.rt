@@ -1,22 +1,24 @@
-//! Sessions in threads: one's device work fails while two others wait for it.
+//! Sessions in threads: two wait for the device work of a third, which may fail.
 //!
 //! The work is held until the trail tells that both have found the page in flight, so that they wait under every
 //! schedule. Were one of them not woken, its thread would never end.
-ghost use Rattle.std.specs.Prelude.{◌≡◌, ◌<◌};
+ghost use Rattle.std.specs.Prelude.{◌≡◌};
 
-use crate::counting::{Counts, count, has_waited};
 use crate::gates::Gate;
-use crate::judging::{expect_legal, setup_of};
-use crate::making::{Client, Fails, Made, Opened, clients_of, make, on_device, open};
-use bp_core::Entry;
+use crate::making::{Fails, Way, change, clients_of, look, on_device};
+use bp_core::{Entry, Reply};
 use bp_device::Flushed;
-use bp_page::{PageNo, Refusal};
+use bp_page::Refusal;
 use bp_shared::{PoolName, SharedPool, Taker};
+use bp_totals::Totals;
+use bp_workers::Client;
 use std::marker::{Brand, Send, Sync};
 use std::process::Abort;
 use std::sync::{Mutex, Wait};
 use std::thread;
 use std::thread::Threads;
+use test_support::judging::{setup_of, unlawful};
+use test_support::pools::{Made, Opened, flush, make, open};
 
 /// What the clients ask of page 1.
 #[derive(Clone, Copy)]
@@ -42,7 +44,7 @@ enum Answer {
 /// What one thread does: it asks, and has the answer.
 #[derive(Drop)]
 struct Runner<N: PoolName> {
-    client: Client<N>,
+    client: Client<N, Way>,
     answer: Answer,
 }
 
@@ -78,18 +80,19 @@ fn flushed(answer: Result<Flushed, Refusal>) -> Answer {
 }
 
 impl<N: PoolName> Runner<N> {
-    ghost use Rattle.std.specs.Prelude.{◌≡◌};
-
-    fn ask<R: Wait + Abort>(&mut self, rt: &R, pool: &SharedPool<N>, ask: Ask)
-        requires pages { N.parameters.pages ≡ 4 }
-    {
+    fn ask<R: Wait + Abort>(&mut self, rt: &R, pool: &SharedPool<N>, ask: Ask) {
         let is_first = self.client.session.client() == 0;
         self.answer = match ask {
-            Ask::Fix => fixed(self.client.look(rt, pool, PageNo::new(1))),
-            Ask::MakeWay if is_first => fixed(self.client.look(rt, pool, PageNo::new(2))),
-            _ => flushed(self.client.flush(rt, pool, PageNo::new(1))),
+            Ask::Fix => fixed(look(rt, pool, &mut self.client, 1)),
+            Ask::MakeWay if is_first => fixed(look(rt, pool, &mut self.client, 2)),
+            _ => flushed(flush(rt, pool, &mut self.client, 1)),
         };
     }
+}
+
+/// Whether this client found a page in flight.
+fn has_waited(trail: &[Entry], client: u8) -> bool {
+    trail.iter().any(|entry| entry.client == client && matches!(entry.reply, Reply::Busy))
 }
 
 /// Takes what the trail has, and tells whether both others have found the page in flight.
@@ -116,9 +119,7 @@ fn let_go<N: PoolName, R: Wait + Abort>(rt: &R, shared: &Shared<'_, N>) {
 }
 
 /// The first client asks at once, the others once its device work has begun. The last one's thread takes the trail.
-fn run<N: PoolName, R: Wait + Abort>(rt: &R, shared: &Shared<'_, N>, runner: &mut Runner<N>)
-    requires pages { N.parameters.pages ≡ 4 }
-{
+fn run<N: PoolName, R: Wait + Abort>(rt: &R, shared: &Shared<'_, N>, runner: &mut Runner<N>) {
     let client = runner.client.session.client();
     if client > 0 {
         shared.gate.wait_for_work(rt);
@@ -135,9 +136,7 @@ fn run_all<N: PoolName + Send + Sync, R: Threads + Wait + Abort + Sync>(
     rt: &R,
     shared: &Shared<'_, N>,
     runners: &mut [Runner<N>],
-)
-    requires pages { N.parameters.pages ≡ 4 }
-{
+) {
     let count = runners.len();
     if count > 0 {
         thread::for_each_mut(rt, runners, count, &|_, runner| run(rt, shared, runner));
@@ -146,7 +145,7 @@ fn run_all<N: PoolName + Send + Sync, R: Threads + Wait + Abort + Sync>(
 
 fn runners_of<N: PoolName, R: Abort + AllocGlobal>(
     rt: &R,
-    clients: Vec<Client<N>>,
+    clients: Vec<Client<N, Way>>,
 ) -> Vec<Runner<N>> {
     let mut runners = Vec::new(rt.alloc());
     for client in clients {
@@ -163,7 +162,7 @@ fn runners_of<N: PoolName, R: Abort + AllocGlobal>(
 #[derive(Debug, Drop)]
 struct Done {
     answers: [Answer; 3],
-    counts: Counts,
+    totals: Totals,
     /// What the first client then finds in page 1, and what the device has there.
     after: Result<Option<u8>, Refusal>,
     on_device: Option<u8>,
@@ -190,14 +189,11 @@ fn prepare<N: PoolName, R: Wait + Abort + AllocGlobal>(
     pool: &SharedPool<N>,
     runners: &mut [Runner<N>],
     ask: Ask,
-) -> Gate
-    requires pages { N.parameters.pages ≡ 4 }
-    requires size { N.parameters.size ≡ 16 }
-{
+) -> Gate {
     if let Some(last) = runners.last_mut()
         && !matches!(ask, Ask::Fix)
     {
-        last.client.change(rt, pool, PageNo::new(1));
+        change(rt, pool, &mut last.client);
     }
     match runners.first() {
         Some(first) => first.client.port.gate.again(rt),
@@ -210,11 +206,9 @@ fn look_again<N: PoolName, R: Wait + Abort>(
     rt: &R,
     pool: &SharedPool<N>,
     runners: &mut [Runner<N>],
-) -> Result<Option<u8>, Refusal>
-    requires pages { N.parameters.pages ≡ 4 }
-{
+) -> Result<Option<u8>, Refusal> {
     match runners.first_mut() {
-        Some(first) => first.client.look(rt, pool, PageNo::new(1)),
+        Some(first) => look(rt, pool, &mut first.client, 1),
         None => panic!(rt; "no client"),
     }
 }
@@ -224,14 +218,14 @@ fn end<N: PoolName, R: Abort + AllocGlobal>(
     rt: &R,
     pool: SharedPool<N>,
     takings: Takings<N>,
-) -> Counts {
+) -> Totals {
     let Takings { taker, mut entries } = takings;
     let (core, _, _) = pool.finish(taker);
     let setup = setup_of(&core);
     let mut left = core.into_trail();
     entries.append(&mut left).expect(rt, "the entries");
-    expect_legal(rt, &setup, &entries);
-    count(&entries)
+    assert_eq!(rt; unlawful(rt.alloc(), &setup, &entries), Ok(None));
+    Totals::of(&entries)
 }
 
 fn run_over<N: PoolName + Send + Sync, R: Threads + Wait + Abort + Sync + AllocGlobal>(
@@ -244,15 +238,14 @@ fn run_over<N: PoolName + Send + Sync, R: Threads + Wait + Abort + Sync + AllocG
     requires parameters { made.core.parameters ≡ N.parameters }
     requires before { made.core.before ≡ N.before }
     requires ring { made.ring ≡ N.ring }
-    requires pages { N.parameters.pages ≡ 4 }
-    requires size { N.parameters.size ≡ 16 }
 {
     let Opened {
         pool,
         sessions,
         taker,
+        end: _,
         device,
-    } = open::<N, R>(rt, made);
+    } = open::<N>(rt.alloc(), made).expect(rt, "the pool");
     let mut runners = runners_of(rt, clients_of(rt, &device, sessions, fails));
     let gate = prepare(rt, &pool, &mut runners, ask);
     let takings = Mutex::new(Takings {
@@ -269,48 +262,81 @@ fn run_over<N: PoolName + Send + Sync, R: Threads + Wait + Abort + Sync + AllocG
     let after = look_again(rt, &pool, &mut runners);
     Done {
         answers: answers_of(&runners),
-        counts: end(rt, pool, takings.into_inner()),
+        totals: end(rt, pool, takings.into_inner()),
         after,
-        on_device: on_device(rt, &device, PageNo::new(1)),
+        on_device: on_device(rt, &device),
     }
 }
 
-/// Four clients, of whom the first one's port fails at its first call.
+/// Four clients, of whom the first one's port fails at its n-th call, or never where n is 0.
 fn run_together<R: Threads + Wait + Abort + Sync + AllocGlobal>(
     rt: &R,
     frames: usize,
+    n: u64,
     spoil: bool,
     ask: Ask,
 ) -> Done {
-    let made = make(rt, frames, 4);
+    let made = make(rt.alloc(), frames, 4, 4096).expect(rt, "the pool's parts");
     let fails = Fails {
-        n: 1,
+        n,
         spoil,
         is_held: true,
     };
     run_over::<Brand, R>(rt, made, &fails, ask)
 }
 
-/// Whether the first client's read failed, and both others have a page of zeros.
-fn others_read(answers: &[Answer; 3]) -> bool {
-    let zero = Answer::Byte(Some(0));
-    let [first, second, third] = *answers;
-    first == Answer::Refused(Refusal::ReadFailed) && second == zero && third == zero
+/// What a trail counts up to: hits, faults, evictions, write-outs and failures. How often a page was found in flight is
+/// up to the schedule.
+fn counts(totals: &Totals) -> [u64; 5] {
+    [
+        totals.hits,
+        totals.faults,
+        totals.evictions,
+        totals.writes,
+        totals.failed,
+    ]
 }
 
-/// One of the two that waited reads the page, and the other finds it.
+/// Both that waited find the page that the first client read.
 #[test]
-fn waiters_wake_after_a_failed_read(rt: HostRuntime) {
-    let done = run_together(&rt, 2, false, Ask::Fix);
-    assert!(rt; others_read(&done.answers), "{done:?}");
-    let wanted = Counts {
-        hits: 2,
-        faults: 1,
-        write_outs: 0,
-        failed_reads: 1,
-        failed_writes: 0,
-    };
-    assert_eq!(rt; (done.counts, done.after), (wanted, Ok(Some(0))));
+fn waits_for_a_read(rt: HostRuntime) {
+    let done = run_together(&rt, 2, 0, false, Ask::Fix);
+    assert_eq!(rt; done.answers, [Answer::Byte(Some(0)); 3]);
+    assert_eq!(rt;
+        (counts(&done.totals), done.after),
+        ([3, 1, 0, 0, 0], Ok(Some(0)))
+    );
+}
+
+/// The first client's read fails. One of the two that waited reads the page, and the other finds it.
+#[test]
+fn waits_for_a_failing_read(rt: HostRuntime) {
+    let done = run_together(&rt, 2, 1, false, Ask::Fix);
+    let zero = Answer::Byte(Some(0));
+    assert_eq!(rt;
+        done.answers,
+        [Answer::Refused(Refusal::ReadFailed), zero, zero]
+    );
+    assert_eq!(rt;
+        (counts(&done.totals), done.after),
+        ([2, 1, 0, 0, 1], Ok(Some(0)))
+    );
+}
+
+/// Both that waited find the page saved that the first client wrote out.
+#[test]
+fn waits_for_a_write_out(rt: HostRuntime) {
+    let done = run_together(&rt, 2, 0, false, Ask::Flush);
+    let clean = Answer::Flushed(Flushed::Clean);
+    assert_eq!(rt;
+        done.answers,
+        [Answer::Flushed(Flushed::Cleaned), clean, clean]
+    );
+    assert_eq!(rt;
+        (counts(&done.totals), done.after),
+        ([1, 1, 0, 1, 0], Ok(Some(5)))
+    );
+    assert_eq!(rt; done.on_device, Some(5));
 }
 
 /// Whether one of the two that waited wrote the page out, and the other found it saved.
@@ -326,29 +352,23 @@ fn expect_written<R: Abort>(rt: &R, done: &Done) {
     let [first, _, _] = done.answers;
     assert_eq!(rt; first, Answer::Refused(Refusal::WriteFailed));
     assert!(rt; one_wrote(&done.answers), "{done:?}");
-    let wanted = Counts {
-        hits: 1,
-        faults: 1,
-        write_outs: 1,
-        failed_reads: 0,
-        failed_writes: 1,
-    };
     assert_eq!(rt;
-        (done.counts, done.after, done.on_device),
-        (wanted, Ok(Some(5)), Some(5))
+        (counts(&done.totals), done.after),
+        ([1, 1, 0, 1, 1], Ok(Some(5)))
     );
+    assert_eq!(rt; done.on_device, Some(5));
 }
 
 #[test]
-fn waiters_wake_after_a_failed_flush(rt: HostRuntime) {
+fn waits_for_a_failing_write_out(rt: HostRuntime) {
     for spoil in [false, true] {
-        expect_written(&rt, &run_together(&rt, 2, spoil, Ask::Flush));
+        expect_written(&rt, &run_together(&rt, 2, 1, spoil, Ask::Flush));
     }
 }
 
 #[test]
-fn waiters_wake_after_a_failed_write_out_of_a_fix(rt: HostRuntime) {
+fn waits_for_a_failing_write_out_of_a_fix(rt: HostRuntime) {
     for spoil in [false, true] {
-        expect_written(&rt, &run_together(&rt, 1, spoil, Ask::MakeWay));
+        expect_written(&rt, &run_together(&rt, 1, 1, spoil, Ask::MakeWay));
     }
 }

@@ -1,5 +1,5 @@
 -- The pool that was just made.
-use Rattle.tests_failures.proofs.waiting.run_together.Given as goal
+use Rattle.tests_threads.proofs.waiting.run_together.Given as goal
 
 abbrev pub ghosts-run_over : goal.ghosts-run_over
 ghosts-run_over g a = record {

@@ -1,5 +1,5 @@
 -- The pool that was just made.
-use Rattle.tests_failures.proofs.turns.play.Given as goal
+use Rattle.tests_threads.proofs.turns.play.Given as goal
 
 abbrev pub ghosts-play_over : goal.ghosts-play_over
 ghosts-play_over g a = record {

@@ -1,24 +1,31 @@
-//! A long run in little room: the trail and the lists are cut while threads use the pool.
-ghost use Rattle.std.specs.Prelude.{◌≡◌, ◌<◌};
+//! Threads that use a pool again and again, and cut the trail and their lists as they go.
+ghost use Rattle.std.specs.Prelude.{◌≡◌};
 
-use super::making::{Client, Made, Opened, client_of, make, open};
-use super::threads::{page_for, run_once};
-use crate::judging::{expect_legal, setup_of};
+use bp_audit::agrees;
 use bp_core::{Core, Entry};
-use bp_page::{Geometry, PageNo};
+use bp_device::{MemDevice, MemPort};
 use bp_shared::{PoolName, Session, SharedPool, Taker};
+use bp_totals::Totals;
+use bp_workers::Client;
 use std::alloc::Global;
 use std::marker::Brand;
 use std::process::Abort;
 use std::sync::{Mutex, Wait};
 use std::thread::Threads;
 use std::{mem, thread};
+use test_support::judging::{setup_of, unlawful};
+use test_support::pools::{Made, Opened, fix, give, make, open, read, unfixes};
 
-/// How long a run is.
+/// How threads use a pool.
 #[derive(Clone, Copy, Drop)]
-struct Length {
+struct Plan {
+    frames: usize,
+    /// A thread for each.
+    clients: u8,
     /// The rounds of a thread, each of four entries.
     rounds: usize,
+    /// Whether each thread is on a page of its own, and cuts as it goes. Else all are on page 1, and nothing is cut.
+    cuts: bool,
     /// Whether all entries are kept, for the judge.
     keeps: bool,
 }
@@ -79,12 +86,12 @@ struct Takings<N: PoolName> {
 /// What one thread does: it uses a page again and again, and cuts as it goes.
 #[derive(Drop)]
 struct Runner<N: PoolName> {
-    client: Client<N>,
-    page: PageNo,
-    rounds: usize,
+    alloc: Global,
+    client: Client<N, MemPort>,
+    page: u64,
+    plan: Plan,
     passes: usize,
     pieces: Pieces,
-    ghost page_in: { page < N.parameters.pages },
 }
 
 // Drops the last piece of the trail, and takes the next.
@@ -101,10 +108,25 @@ fn cut_trail<N: PoolName, R: Wait>(
     }
 }
 
+/// Fixes a page, reads it and gives it back. It tells whether there was a pass.
+fn run_once<N: PoolName, R: Wait>(
+    rt: &R,
+    pool: &SharedPool<N>,
+    client: &mut Client<N, MemPort>,
+    page: u64,
+) -> bool {
+    let Ok(note) = fix(rt, pool, client, page) else {
+        return false;
+    };
+    let _ = read(rt, pool, client, note);
+    let _ = give(rt, pool, client, note);
+    true
+}
+
 impl<N: PoolName> Runner<N> {
     // Drops the last piece of the list, and cuts the next.
     fn cut_list(&mut self) {
-        let spare = self.pieces.lend(self.client.port.alloc);
+        let spare = self.pieces.lend(self.alloc);
         if let Ok(list) = self.client.session.cut_into(spare) {
             self.pieces.keep(list);
         }
@@ -112,39 +134,45 @@ impl<N: PoolName> Runner<N> {
 
     // A round has four entries: a fix, a read, an unfix and a tick.
     fn run<R: Wait>(&mut self, rt: &R, pool: &SharedPool<N>, takings: &Mutex<Takings<N>>) {
-        for round in 0..self.rounds {
+        for round in 0..self.plan.rounds {
             if run_once(rt, pool, &mut self.client, self.page) {
                 self.passes = self.passes.saturating_add(1);
             }
             let _ = pool.tick(rt, &mut self.client.session, 1);
-            if round % ROUNDS_A_CUT == 0 {
-                cut_trail(rt, self.client.port.alloc, pool, takings);
+            if self.plan.cuts && round % ROUNDS_A_CUT == 0 {
+                cut_trail(rt, self.alloc, pool, takings);
                 self.cut_list();
             }
         }
     }
 }
 
-/// A runner for each session, on a page of its own.
+/// A runner for each session.
 fn make_runners<N: PoolName, R: Abort + AllocGlobal>(
     rt: &R,
-    geometry: Geometry,
+    device: &MemDevice,
     sessions: Vec<Session<N>>,
-    rounds: usize,
+    plan: Plan,
 ) -> Vec<Runner<N>>
-    requires pages { N.parameters.pages ≡ 4 }
-    requires size { geometry.size ≡ N.parameters.size }
+    requires pages { device.now.pages ≡ N.parameters.pages }
+    requires size { device.now.size ≡ N.parameters.size }
 {
     let alloc = rt.alloc();
     let mut runners = Vec::new(alloc);
     for session in sessions {
-        let page = PageNo::new(page_for(session.client(), true));
+        let page = if plan.cuts {
+            u64::from(session.client())
+        } else {
+            1
+        };
+        let port = device.port().expect(rt, "the port");
         let runner = Runner {
-            client: client_of(alloc, geometry, session),
+            alloc,
+            client: Client { session, port },
             page,
-            rounds,
+            plan,
             passes: 0,
-            pieces: Pieces::none(alloc, false),
+            pieces: Pieces::none(alloc, plan.keeps),
         };
         runners.push(runner).expect(rt, "the runner");
     }
@@ -170,7 +198,7 @@ fn run_all<N: PoolName + Send + Sync, R: Threads + Wait + Sync>(
 }
 
 /// What came of a run, with what was not cut at its end.
-#[derive(Drop)]
+#[derive(Clone, Copy, Drop)]
 struct Tally {
     passes: usize,
     /// The entries of the trail, and of all lists.
@@ -181,18 +209,8 @@ struct Tally {
     list_cuts: usize,
     /// The most entries for which a piece had memory.
     capacity: usize,
-}
-
-fn count_runner<N: PoolName>(tally: &mut Tally, runner: &Runner<N>) {
-    tally.passes = tally.passes.saturating_add(runner.passes);
-    let left = runner.client.session.said().len();
-    let pieces = &runner.pieces;
-    tally.told = tally
-        .told
-        .saturating_add(pieces.entries)
-        .saturating_add(left);
-    tally.list_cuts = tally.list_cuts.saturating_add(pieces.cuts);
-    tally.capacity = tally.capacity.max(pieces.capacity);
+    /// The pages that were read, where all entries were kept.
+    faults: u64,
 }
 
 // What came of the trail, of which so many entries were not cut, and of all runners.
@@ -204,79 +222,111 @@ fn tally_of<N: PoolName>(pieces: &Pieces, left: usize, runners: &[Runner<N>]) ->
         cuts: pieces.cuts,
         list_cuts: 0,
         capacity: pieces.capacity,
+        faults: 0,
     };
     for runner in runners {
-        count_runner(&mut tally, runner);
+        let told = runner.pieces.entries;
+        let left = runner.client.session.said().len();
+        tally.passes = tally.passes.saturating_add(runner.passes);
+        tally.told = tally.told.saturating_add(told).saturating_add(left);
+        tally.list_cuts = tally.list_cuts.saturating_add(runner.pieces.cuts);
+        tally.capacity = tally.capacity.max(runner.pieces.capacity);
     }
     tally
 }
 
-// The judge finds all entries of a pool legal: those that were cut, joined, and those that were left.
-fn expect_all_legal<R: Abort + AllocGlobal>(rt: &R, mut entries: Vec<Entry>, core: Core) {
+// All entries of a pool: those that were cut, joined, and those that were left. The judge finds them legal.
+fn legal_entries<R: Abort + AllocGlobal>(rt: &R, pieces: Pieces, core: Core) -> Vec<Entry> {
     let setup = setup_of(&core);
+    let mut entries = pieces.kept;
+    assert_eq!(rt; entries.len(), pieces.entries);
     let mut left = core.into_trail();
     entries.append(&mut left).expect(rt, "the entries");
-    expect_legal(rt, &setup, &entries);
+    assert_eq!(rt; unlawful(rt.alloc(), &setup, &entries), Ok(None));
+    entries
 }
 
-// Threads use the pool, and cut as they go.
-fn run_long<N: PoolName + Send + Sync, R: Threads + Wait + Abort + Sync + AllocGlobal>(
-    rt: &R,
-    opened: Opened<N>,
-    length: Length,
-) -> Tally
-    requires pages { N.parameters.pages ≡ 4 }
-{
-    let Opened {
-        pool,
-        taker,
-        sessions,
-        end: _,
-        geometry,
-    } = opened;
-    let mut runners = make_runners(rt, geometry, sessions, length.rounds);
-    let takings = Mutex::new(Takings {
-        taker,
-        pieces: Pieces::none(rt.alloc(), length.keeps),
-    });
-    run_all(rt, &pool, &takings, &mut runners);
-    let Takings { taker, pieces } = takings.into_inner();
-    let (core, _, _) = pool.finish(taker);
-    let tally = tally_of(&pieces, core.trail().len(), &runners);
-    if length.keeps {
-        assert_eq!(rt; pieces.kept.len(), pieces.entries);
-        expect_all_legal(rt, pieces.kept, core);
+// Each list, joined, is its client's part of the trail.
+fn expect_agreement<N: PoolName, R: Abort>(rt: &R, entries: &[Entry], runners: Vec<Runner<N>>) {
+    for runner in runners {
+        let client = runner.client.session.client();
+        let mut list = runner.pieces.kept;
+        let mut left = runner.client.session.into_said();
+        list.append(&mut left).expect(rt, "the list");
+        assert!(rt; agrees(entries, &list, client), "client {client}");
     }
-    tally
 }
 
-fn see_long<N: PoolName + Send + Sync, R: Threads + Wait + Abort + Sync + AllocGlobal>(
+// Threads use the pool. Where all entries are kept, each pass went back once.
+fn see_over<N: PoolName + Send + Sync, R: Threads + Wait + Abort + Sync + AllocGlobal>(
     rt: &R,
     made: Made,
-    length: Length,
+    plan: Plan,
 ) -> Tally
     requires mark { made.mark ≡ N.mark }
     requires parameters { made.core.parameters ≡ N.parameters }
     requires before { made.core.before ≡ N.before }
     requires ring { made.ring ≡ N.ring }
-    requires pages { N.parameters.pages ≡ 4 }
 {
-    run_long(rt, open::<N, R>(rt, made), length)
+    let Opened {
+        pool,
+        sessions,
+        taker,
+        end: _,
+        device,
+    } = open::<N>(rt.alloc(), made).expect(rt, "the pool");
+    let mut runners = make_runners(rt, &device, sessions, plan);
+    let takings = Mutex::new(Takings {
+        taker,
+        pieces: Pieces::none(rt.alloc(), plan.keeps),
+    });
+    run_all(rt, &pool, &takings, &mut runners);
+    let Takings { taker, pieces } = takings.into_inner();
+    let (core, _, _) = pool.finish(taker);
+    let mut tally = tally_of(&pieces, core.trail().len(), &runners);
+    if plan.keeps {
+        let entries = legal_entries(rt, pieces, core);
+        let totals = Totals::of(&entries);
+        let passes = tally.passes;
+        let given = totals.hits.saturating_add(totals.faults);
+        assert_eq!(rt; (given, unfixes(&entries)), (passes as u64, passes));
+        expect_agreement(rt, &entries, runners);
+        tally.faults = totals.faults;
+    }
+    tally
 }
 
-// Two threads over two frames, and what came of them.
-fn run_two<R: Threads + Wait + Abort + Sync + AllocGlobal>(rt: &R, length: Length) -> Tally {
-    let made = make(rt, 2, 2);
-    see_long::<Brand, R>(rt, made, length)
+// Threads over a new pool, and what came of them.
+fn run_threads<R: Threads + Wait + Abort + Sync + AllocGlobal>(rt: &R, plan: Plan) -> Tally {
+    let made = make(rt.alloc(), plan.frames, plan.clients, 4096);
+    see_over::<Brand, R>(rt, made.expect(rt, "the pool's parts"), plan)
+}
+
+#[test]
+fn threads_on_one_page(rt: HostRuntime) {
+    for clients in [2, 4] {
+        let plan = Plan {
+            frames: 1,
+            clients,
+            rounds: 20,
+            cuts: false,
+            keeps: true,
+        };
+        let tally = run_threads(&rt, plan);
+        assert_eq!(rt; tally.faults, 1, "{clients} clients");
+    }
 }
 
 #[test]
 fn a_million_entries_in_little_room(rt: HostRuntime) {
-    let length = Length {
+    let plan = Plan {
+        frames: 2,
+        clients: 2,
         rounds: 125000,
+        cuts: true,
         keeps: false,
     };
-    let tally = run_two(&rt, length);
+    let tally = run_threads(&rt, plan);
     assert_eq!(rt; tally.passes, 250000);
     // Each round has four entries, and a client's first fix has one more.
     assert_eq!(rt; (tally.entries, tally.told), (1000002, 1000002));
@@ -288,13 +338,16 @@ fn a_million_entries_in_little_room(rt: HostRuntime) {
 /// A hundredth of that run. The judge would take too long over the whole of it.
 #[test]
 fn pieces_that_threads_cut_are_legal(rt: HostRuntime) {
-    let length = Length {
+    let plan = Plan {
+        frames: 2,
+        clients: 2,
         rounds: 1250,
+        cuts: true,
         keeps: true,
     };
-    let tally = run_two(&rt, length);
+    let tally = run_threads(&rt, plan);
     assert_eq!(rt; tally.passes, 2500);
     assert_eq!(rt; (tally.entries, tally.told), (10002, 10002));
     assert_eq!(rt; (tally.cuts, tally.list_cuts), (10, 10));
-    assert_eq!(rt; tally.capacity, 4096);
+    assert_eq!(rt; (tally.capacity, tally.faults), (4096, 2));
 }
