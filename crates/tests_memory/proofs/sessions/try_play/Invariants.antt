@@ -1,5 +1,5 @@
 -- The pool that was just made.
-use Rattle.tests_memory_clients.proofs.sessions.try_play.Given as goal
+use Rattle.tests_memory.proofs.sessions.try_play.Given as goal
 
 abbrev pub ghosts-play_over : goal.ghosts-play_over
 ghosts-play_over g a = record {
