@@ -23,12 +23,13 @@ pub fn scripts_of(
     clients: usize,
     text: &str,
 ) -> Result<Vec<Vec<Row>>, TraceFault> {
-    match by_client(alloc, clients, rows_of(alloc, geometry, text)?) {
+    let scripts = match by_client(alloc, clients, rows_of(alloc, geometry, text)?) {
+        None => by_client(alloc, clients, rows_of(alloc, geometry, text)?),
+        scripts => scripts,
+    };
+    match scripts {
         Some(scripts) => Ok(scripts),
-        None => by_client(alloc, clients, rows_of(alloc, geometry, text)?).ok_or(TraceFault::new(
-            0,
-            Refusal::OutOfMemory,
-        )),
+        None => Err(TraceFault::new(0, Refusal::OutOfMemory)),
     }
 }
 
