@@ -8,8 +8,6 @@
 #[cfg(test)]
 mod counting;
 #[cfg(test)]
-mod judging;
-#[cfg(test)]
 mod log;
 #[cfg(test)]
 mod making;
@@ -17,5 +15,3 @@ mod making;
 mod overlap;
 #[cfg(test)]
 mod rows;
-#[cfg(test)]
-mod waiting;

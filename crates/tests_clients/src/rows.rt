@@ -1,34 +1,34 @@
 //! One client alone, two on one page, and as many as there may be.
 use crate::counting::counts;
-use crate::making::{Do, both, geometry, ports, run, script};
+use crate::making::{geometry, ports, run};
 use bp_clients::Outcome;
-use bp_core::{Call, Entry, Refused, Reply, Row};
+use bp_core::{Call, Entry, Refused, Reply};
 use bp_page::{PageNo, Refusal};
 use std::marker::Sync;
 use std::process::Abort;
 use std::sync::Wait;
 use std::thread::Threads;
 
-/// A run of some scripts over one device in memory.
+/// A run of the scripts of so many clients over one device in memory.
 pub(crate) fn run_in_memory<R: Threads + Wait + Sync + Abort + AllocGlobal>(
     rt: &R,
     frames: usize,
     room: usize,
-    scripts: Vec<Vec<Row>>,
+    clients: usize,
+    text: &str,
 ) -> Result<Outcome, Refusal> {
     let geometry = geometry(rt);
-    let ports = ports(rt, geometry, scripts.len());
-    run(rt, frames, room, scripts, geometry, ports)
+    let ports = ports(rt, geometry, clients);
+    run(rt, frames, room, text, geometry, ports)
 }
 
 /// A run of one script over one frame.
 pub(crate) fn run_alone<R: Threads + Wait + Sync + Abort + AllocGlobal>(
     rt: &R,
     room: usize,
-    rows: Vec<Row>,
+    text: &str,
 ) -> Outcome {
-    let scripts = vec![in rt.alloc(); rows].expect(rt, "the script");
-    run_in_memory(rt, 1, room, scripts).expect(rt, "the run")
+    run_in_memory(rt, 1, room, 1, text).expect(rt, "the run")
 }
 
 /// The first byte of the content that was read, and whether all others are zero.
@@ -51,14 +51,21 @@ fn is_as_written_or_before(content: Option<(u8, bool)>) -> bool {
     matches!(content, Some((0, true)) | Some((0xaa, true)))
 }
 
+const ONE_PAGE: &str = "
+0,fix,1,,,
+0,write,1,0,aa,0
+0,unfix,1,,,
+1,fix,1,,,
+1,read,1,,,
+1,unfix,1,,,
+";
+
 #[test]
 fn two_clients_one_page(rt: HostRuntime) {
-    let writes = script(&rt, 0, 1, &[Do::Fix(1), Do::Write(1, 0), Do::Unfix(1)]);
-    let reads = script(&rt, 1, 4, &[Do::Fix(1), Do::Read(1), Do::Unfix(1)]);
-    let done = run_in_memory(&rt, 1, 4096, both(&rt, writes, reads)).expect(&rt, "the run");
+    let done = run_in_memory(&rt, 1, 4096, 2, ONE_PAGE).expect(&rt, "the run");
     let busy = done.trail.iter().filter(|entry| is_busy(entry)).count();
     assert!(rt; busy <= 1);
-    assert_eq!(rt; counts(&done.trail), [1, 1, 0, 0, 0, busy]);
+    assert_eq!(rt; counts(&done.trail), [1, 1, 0, 0, 0, busy as u64]);
     assert!(rt; done.refused.is_empty());
     let content = done.trail.iter().find_map(|entry| content_of(entry));
     assert!(rt; is_as_written_or_before(content));
@@ -66,21 +73,20 @@ fn two_clients_one_page(rt: HostRuntime) {
 
 #[test]
 fn no_frames(rt: HostRuntime) {
-    let rows = script(&rt, 0, 1, &[Do::Fix(1)]);
-    let scripts = vec![in rt.alloc(); rows].expect(&rt, "the script");
-    let refused = run_in_memory(&rt, 0, 4096, scripts).err();
+    let refused = run_in_memory(&rt, 0, 4096, 1, "0,fix,1,,,").err();
     assert_eq!(rt; refused, Some(Refusal::BadSettings));
 }
 
+const TWICE: &str = "
+0,fix,1,,,
+0,unfix,1,,,
+0,fix,1,,,
+0,unfix,1,,,
+";
+
 #[test]
 fn small_room(rt: HostRuntime) {
-    let rows = script(
-        &rt,
-        0,
-        1,
-        &[Do::Fix(1), Do::Unfix(1), Do::Fix(1), Do::Unfix(1)],
-    );
-    let done = run_alone(&rt, 5, rows);
+    let done = run_alone(&rt, 5, TWICE);
     let full = Refused { row: 3, number: 20 };
     let unknown = Refused { row: 4, number: 14 };
     assert_eq!(rt; done.refused.as_slice(), [full, unknown].as_slice());
@@ -88,18 +94,20 @@ fn small_room(rt: HostRuntime) {
 }
 
 /// So many fixes of page 1, and then as many unfixes.
-fn fixes_and_unfixes<R: Abort + AllocGlobal>(rt: &R, count: usize) -> Vec<Row> {
-    let mut steps = vec![in rt.alloc(); Do::Fix(1); count].expect(rt, "the steps");
-    for _ in 0..count {
-        steps.push(Do::Unfix(1)).expect(rt, "the steps");
+fn fixes_and_unfixes<R: Abort + AllocGlobal>(rt: &R, count: usize) -> String {
+    let mut text = String::new(rt.alloc());
+    for line in ["0,fix,1,,,\n", "0,unfix,1,,,\n"] {
+        for _ in 0..count {
+            text.push_str(line).expect(rt, "the rows");
+        }
     }
-    script(rt, 0, 1, &steps)
+    text
 }
 
 #[test]
 fn full_ring_settles(rt: HostRuntime) {
-    let rows = fixes_and_unfixes(&rt, 33);
-    let done = run_alone(&rt, 4096, rows);
+    let text = fixes_and_unfixes(&rt, 33);
+    let done = run_alone(&rt, 4096, text.as_str());
     assert_eq!(rt; counts(&done.trail), [32, 1, 0, 0, 0, 0]);
     assert!(rt; done.refused.is_empty());
 }
@@ -107,8 +115,7 @@ fn full_ring_settles(rt: HostRuntime) {
 /// Passes that are held at the end go back in the order taken.
 #[test]
 fn passes_held_at_the_end_go_back(rt: HostRuntime) {
-    let rows = script(&rt, 0, 1, &[Do::Fix(1), Do::Fix(1)]);
-    let done = run_alone(&rt, 4096, rows);
+    let done = run_alone(&rt, 4096, "0,fix,1,,,\n0,fix,1,,,\n");
     assert_eq!(rt; done.trail.len(), 5);
     if let [_, _, _, first, second] = done.trail.as_slice() {
         let page = PageNo::new(1);
@@ -117,16 +124,18 @@ fn passes_held_at_the_end_go_back(rt: HostRuntime) {
     }
 }
 
-/// A script of each client: it fixes, reads and gives back one of four pages, and moves the clock.
-fn sixty_four_scripts<R: Abort + AllocGlobal>(rt: &R) -> Vec<Vec<Row>> {
-    let mut scripts = Vec::new(rt.alloc());
+/// The rows of each client: it fixes, reads and gives back one of four pages, and moves the clock.
+fn rows_of_sixty_four<R: Abort + AllocGlobal>(rt: &R) -> String {
+    let mut text = String::new(rt.alloc());
     for client in 0..64u8 {
-        let page = u64::from(client % 4);
-        let steps = [Do::Fix(page), Do::Read(page), Do::Unfix(page), Do::Tick(1)];
-        let rows = script(rt, client, u64::from(client) * 4 + 1, &steps);
-        scripts.push(rows).expect(rt, "the scripts");
+        let page = client % 4;
+        let rows = format!(in rt.alloc();
+            "{client},fix,{page},,,\n{client},read,{page},,,\n{client},unfix,{page},,,\n{client},tick,1,,,\n"
+        );
+        text.push_str(rows.expect(rt, "the rows").as_str())
+            .expect(rt, "the text");
     }
-    scripts
+    text
 }
 
 /// No frame was free, or so the pass was not there.
@@ -136,7 +145,8 @@ fn is_for_want_of_a_frame(refused: &Refused) -> bool {
 
 #[test]
 fn sixty_four_clients(rt: HostRuntime) {
-    let done = run_in_memory(&rt, 2, 65536, sixty_four_scripts(&rt)).expect(&rt, "the run");
+    let text = rows_of_sixty_four(&rt);
+    let done = run_in_memory(&rt, 2, 65536, 64, text.as_str()).expect(&rt, "the run");
     assert_eq!(rt; done.said.len(), 64);
     assert!(rt;
         done.refused

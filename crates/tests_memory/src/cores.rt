@@ -1,14 +1,12 @@
 //! A core with one frame: each call is made once more where memory was refused.
 ghost use Rattle.std.specs.Prelude.{◌≡◌, ◌<◌, length};
 
-use crate::judging::{expect_legal, setup_of};
-use crate::telling::{Told, text_of, told_of};
-use bp_core::{
-    Call, Core, EndRefusal, Ended, Entry, Fix, Flush, PassNote, ReadTicket, Reply, WriteTicket,
-};
+use crate::telling::{Told, told_of};
+use bp_core::{Core, EndRefusal, Ended, Fix, Flush, PassNote, ReadTicket, WriteTicket};
 use bp_lruk::Settings;
 use bp_page::{Bytes, Geometry, Image, Lsn, PageNo, PortFault, Refusal};
 use std::process::Abort;
+use test_support::judging::unlawful_in;
 
 /// A core over four pages of 16 bytes.
 #[derive(Drop)]
@@ -208,21 +206,11 @@ impl Pool {
         }
     }
 
-    /// A tick by one, which takes no memory.
-    fn tick<R: Abort>(&mut self, rt: &R) {
-        self.core.tick(0, 1).expect(rt, "the clock");
-    }
-
-    /// A mark at LSN 1, which takes no memory.
-    fn mark<R: Abort>(&mut self, rt: &R) {
-        self.core.mark(0, Lsn::new(1)).expect(rt, "the mark");
-    }
-
     /// All has so many entries, which the judge finds legal. It tells what the core tells at the end.
     fn end<R: Abort + AllocGlobal>(self, rt: &R, entries: usize) -> Told {
         let Pool { core } = self;
         assert_eq!(rt; core.trail().len(), entries);
-        expect_legal(rt, &setup_of(&core), core.trail());
+        assert_eq!(rt; unlawful_in(rt.alloc(), &core), Ok(None));
         told_of(rt, &core)
     }
 }
@@ -233,13 +221,13 @@ fn write_and_write_out<R: Abort + AllocGlobal>(rt: &R) -> Told {
     let mut pool = new_core(rt);
     let note = pool.load(rt, one);
     pool.write(rt, note, 1);
-    pool.mark(rt);
+    pool.core.mark(0, Lsn::new(1)).expect(rt, "the mark");
     let ticket = pool.flush(rt, one);
     pool.write(rt, note, 2);
     let ended = pool.end_write(rt, ticket, Ok(()));
     assert_eq!(rt; ended, Ok(Ended::StillDirty));
     pool.unfix(rt, note);
-    pool.tick(rt);
+    pool.core.tick(0, 1).expect(rt, "the clock");
     let fix = pool.fix(rt, two);
     let ticket = to_write(rt, fix);
     let ended = pool.end_write(rt, ticket, Ok(()));
@@ -263,8 +251,8 @@ fn fail_a_write_out<R: Abort + AllocGlobal>(rt: &R) -> Told {
     let note = pool.load(rt, one);
     pool.write(rt, note, 9);
     pool.unfix(rt, note);
-    pool.tick(rt);
-    pool.mark(rt);
+    pool.core.tick(0, 1).expect(rt, "the clock");
+    pool.core.mark(0, Lsn::new(1)).expect(rt, "the mark");
     let fix = pool.fix(rt, two);
     let ticket = to_write(rt, fix);
     let ended = pool.end_write(rt, ticket, Err(PortFault::Device));
@@ -279,29 +267,4 @@ fn fail_a_write_out<R: Abort + AllocGlobal>(rt: &R) -> Told {
 fn failed_write_out_stays_unsaved(rt: HostRuntime) {
     let told = fail_a_write_out(&rt);
     assert_eq!(rt; fail_a_write_out(&rt), told);
-}
-
-/// An entry that brought this byte and others.
-fn content<R: Abort + AllocGlobal>(rt: &R, last: u8) -> Entry {
-    let bytes = [7, 7, last];
-    let image = match Image::of(rt.alloc(), &bytes) {
-        Ok(image) => image,
-        Err(_) => Image::of(rt.alloc(), &bytes).expect(rt, "the image"),
-    };
-    Entry {
-        client: 0,
-        call: Call::Read {
-            pass: 1,
-            page: PageNo::new(2),
-        },
-        reply: Reply::Content(image),
-    }
-}
-
-/// Texts of entries differ where one byte of an image does.
-#[test]
-fn texts_tell_entries_apart(rt: HostRuntime) {
-    let text = text_of(&rt, &[content(&rt, 1)]);
-    assert!(rt; text == text_of(&rt, &[content(&rt, 1)]));
-    assert!(rt; text != text_of(&rt, &[content(&rt, 2)]));
 }

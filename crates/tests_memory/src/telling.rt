@@ -1,7 +1,9 @@
-//! What a core tells, to compare what stands after a refusal with what stood before.
-use bp_core::{Core, Entry};
+//! What entries and cores tell, to compare what stands after a refusal with what stood before.
+use bp_core::{Call, Core, Entry, Reply};
 use bp_page::PageNo;
+use bp_totals::Totals;
 use std::process::Abort;
+use test_support::pools::unfixes;
 
 /// All fields of these entries, as text.
 pub(crate) fn text_of<R: Abort + AllocGlobal>(rt: &R, entries: &[Entry]) -> String {
@@ -9,6 +11,25 @@ pub(crate) fn text_of<R: Abort + AllocGlobal>(rt: &R, entries: &[Entry]) -> Stri
         Ok(text) => text,
         Err(_) => format!(in rt.alloc(); "{entries:?}").expect(rt, "the text"),
     }
+}
+
+/// Whether all tickets of these entries went back.
+pub(crate) fn no_ticket_is_out(entries: &[Entry]) -> bool {
+    let given = entries
+        .iter()
+        .filter(|entry| matches!(entry.reply, Reply::Load { .. } | Reply::WriteFirst { .. }))
+        .count();
+    let ended = entries
+        .iter()
+        .filter(|entry| matches!(entry.call, Call::ReadEnd { .. } | Call::WriteEnd { .. }))
+        .count();
+    given == ended
+}
+
+/// Whether all passes did, and all tickets.
+pub(crate) fn all_went_back(entries: &[Entry]) -> bool {
+    let Totals { hits, faults, .. } = Totals::of(entries);
+    no_ticket_is_out(entries) && hits.checked_add(faults) == Some(unfixes(entries) as u64)
 }
 
 /// What a core of four pages tells.
@@ -26,34 +47,22 @@ pub(crate) struct Told {
     next_unsaved: Option<u64>,
 }
 
-fn stamps(core: &Core, page: u64) -> [u64; 3] {
-    let page = PageNo::new(page);
-    [core.stamp(page, 1), core.stamp(page, 2), core.last(page)]
-}
-
-fn is_unsaved(core: &Core, page: u64) -> bool {
-    core.is_unsaved(PageNo::new(page))
-}
-
 pub(crate) fn told_of<R: Abort + AllocGlobal>(rt: &R, core: &Core) -> Told {
+    let mut pages = [[0; 3]; 4];
+    let mut unsaved = [false; 4];
+    for number in 0..4 {
+        let page = PageNo::new(number as u64);
+        pages[number] = [core.stamp(page, 1), core.stamp(page, 2), core.last(page)];
+        unsaved[number] = core.is_unsaved(page);
+    }
     Told {
         trail: text_of(rt, core.trail()),
         clock: core.clock(),
         durable: core.durable().number(),
         free: core.free(),
         fresh: core.fresh(),
-        pages: [
-            stamps(core, 0),
-            stamps(core, 1),
-            stamps(core, 2),
-            stamps(core, 3),
-        ],
-        unsaved: [
-            is_unsaved(core, 0),
-            is_unsaved(core, 1),
-            is_unsaved(core, 2),
-            is_unsaved(core, 3),
-        ],
+        pages,
+        unsaved,
         next_unsaved: core.next_unsaved(0).map(|page| page.number()),
     }
 }

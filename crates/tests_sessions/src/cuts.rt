@@ -1,27 +1,26 @@
 //! Trails and lists that are cut while a pool runs.
-ghost use Rattle.std.specs.Prelude.{◌≡◌};
-
-use super::making::Client;
 use super::pairs::{Turn, play};
 use bp_audit::agrees;
 use bp_core::{Entry, PassNote};
-use bp_page::{PageNo, Refusal};
+use bp_device::MemPort;
+use bp_page::Refusal;
 use bp_shared::{PoolName, SharedPool, Taker};
+use bp_workers::Client;
 use std::process::Abort;
 use std::sync::Wait;
+use test_support::pools::{fix, read, unfix};
 
 // Both fix page 1, and the second gives it back.
-fn fix_for_both<N: PoolName, R: Wait>(
+fn fix_for_both<N: PoolName, R: Wait + Abort>(
     rt: &R,
     pool: &SharedPool<N>,
-    first: &mut Client<N>,
-    second: &mut Client<N>,
-) -> Result<PassNote, Refusal>
-    requires pages { N.parameters.pages ≡ 4 }
-{
-    let held = first.fix(rt, pool, PageNo::new(1))?;
-    let other = second.fix(rt, pool, PageNo::new(1))?;
-    second.unfix(pool, other)?;
+    first: &mut Client<N, MemPort>,
+    second: &mut Client<N, MemPort>,
+) -> Result<PassNote, Refusal> {
+    let held = fix(rt, pool, first, 1)?;
+    let other = fix(rt, pool, second, 1)?;
+    let back = unfix(pool, second, other);
+    assert!(rt; back.is_ok());
     Ok(held)
 }
 
@@ -31,8 +30,8 @@ fn cut_all<N: PoolName, R: Wait + Abort>(
     rt: &R,
     pool: &SharedPool<N>,
     taker: &mut Taker<N>,
-    first: &mut Client<N>,
-    second: &mut Client<N>,
+    first: &mut Client<N, MemPort>,
+    second: &mut Client<N, MemPort>,
     taken: &mut Vec<Entry>,
 ) -> Result<(usize, usize, usize), Refusal> {
     let mut trail = pool.cut(rt, taker)?;
@@ -49,20 +48,19 @@ pub(super) fn cut_thrice<N: PoolName, R: Wait + Abort>(
     rt: &R,
     pool: &SharedPool<N>,
     taker: &mut Taker<N>,
-    first: &mut Client<N>,
-    second: &mut Client<N>,
+    first: &mut Client<N, MemPort>,
+    second: &mut Client<N, MemPort>,
     taken: &mut Vec<Entry>,
-) -> Result<(), Refusal>
-    requires pages { N.parameters.pages ≡ 4 }
-{
+) -> Result<(), Refusal> {
     let held = fix_for_both(rt, pool, first, second)?;
     // The unfix that was posted is drained by the cut.
     let sizes = cut_all(rt, pool, taker, first, second, taken);
     assert_eq!(rt; sizes, Ok((4, 2, 2)));
     assert!(rt; first.session.held().len() == 1);
-    let unknown = first.read_refused(rt, pool, held);
-    assert!(rt; unknown.is_none());
-    first.unfix(pool, held)?;
+    let known = read(rt, pool, first, held);
+    assert!(rt; known.is_ok());
+    let back = unfix(pool, first, held);
+    assert!(rt; back.is_ok());
     let sizes = cut_all(rt, pool, taker, first, second, taken);
     assert!(rt; sizes == Ok((2, 2, 0)));
     let sizes = cut_all(rt, pool, taker, first, second, taken);

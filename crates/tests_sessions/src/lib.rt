@@ -5,13 +5,7 @@
 #![tactic(auto)]
 
 #[cfg(test)]
-mod counting;
-#[cfg(test)]
 mod cuts;
-#[cfg(test)]
-mod judging;
-#[cfg(test)]
-mod making;
 #[cfg(test)]
 mod pairs;
 #[cfg(test)]

@@ -1,17 +1,18 @@
 //! Two clients of a pool of their own, in turn.
 ghost use Rattle.std.specs.Prelude.{◌≡◌};
 
-use super::making::{Client, Made, Pair, make, open_pair};
 use super::{cuts, rings, strangers, turns};
-use crate::judging::{expect_legal, setup_of};
 use bp_core::{Core, Entry, PassNote};
+use bp_device::MemPort;
 use bp_mark::LogEnd;
 use bp_page::Refusal;
 use bp_shared::{PoolName, SharedPool, Taker};
-use std::alloc::Global;
+use bp_workers::Client;
 use std::marker::Brand;
 use std::process::Abort;
 use std::sync::Wait;
+use test_support::judging::{setup_of, unlawful};
+use test_support::pools::{Made, Pair, make, open_pair};
 
 /// What the two clients do.
 #[derive(Clone, Copy)]
@@ -24,31 +25,28 @@ pub(super) enum Turn {
     PostedPass,
 }
 
-fn act<N: PoolName, R: Wait + Abort>(
+fn act<N: PoolName, R: Wait + Abort + AllocGlobal>(
     rt: &R,
-    alloc: Global,
     pool: &SharedPool<N>,
     taker: &mut Taker<N>,
     end: &mut LogEnd,
-    first: &mut Client<N>,
-    second: &mut Client<N>,
+    first: &mut Client<N, MemPort>,
+    second: &mut Client<N, MemPort>,
     taken: &mut Vec<Entry>,
     turn: &Turn,
 ) -> Result<(), Refusal>
     requires end { end.old.mark ≡ N.mark }
-    requires pages { N.parameters.pages ≡ 4 }
-    requires size { N.parameters.size ≡ 16 }
 {
     match turn {
         Turn::Cuts => cuts::cut_thrice(rt, pool, taker, first, second, taken),
-        Turn::FullRing => rings::fill_a_ring(rt, alloc, pool, first),
+        Turn::FullRing => rings::fill_a_ring(rt, pool, first),
         Turn::AnotherClientsPass => { strangers::use_another_clients_pass(rt, pool, first, second) }
         Turn::AnotherPoolsPass(stranger) => {
             strangers::use_another_pools_pass(rt, pool, first, second, *stranger);
             Ok(())
         }
         Turn::OneFrame => {
-            turns::share_one_frame(rt, alloc, pool, end, first, second);
+            turns::share_one_frame(rt, pool, end, first, second);
             Ok(())
         }
         Turn::PostedPass => turns::post_before_a_fix(rt, pool, second, first),
@@ -59,8 +57,8 @@ fn act<N: PoolName, R: Wait + Abort>(
 fn see<N: PoolName, R: Abort>(
     rt: &R,
     core: &Core,
-    first: &Client<N>,
-    second: &Client<N>,
+    first: &Client<N, MemPort>,
+    second: &Client<N, MemPort>,
     turn: &Turn,
 ) {
     match turn {
@@ -77,8 +75,6 @@ fn play_over<N: PoolName, R: Wait + Abort + AllocGlobal>(rt: &R, made: Made, tur
     requires parameters { made.core.parameters ≡ N.parameters }
     requires before { made.core.before ≡ N.before }
     requires ring { made.ring ≡ N.ring }
-    requires pages { N.parameters.pages ≡ 4 }
-    requires size { N.parameters.size ≡ 16 }
 {
     let Pair {
         pool,
@@ -86,31 +82,29 @@ fn play_over<N: PoolName, R: Wait + Abort + AllocGlobal>(rt: &R, made: Made, tur
         mut end,
         mut first,
         mut second,
-    } = open_pair::<N, R>(rt, made);
-    let mut taken = Vec::new(rt.alloc());
+    } = open_pair::<N>(rt.alloc(), made).expect(rt, "the pool");
+    let mut entries = Vec::new(rt.alloc());
     let acted = act(
         rt,
-        rt.alloc(),
         &pool,
         &mut taker,
         &mut end,
         &mut first,
         &mut second,
-        &mut taken,
+        &mut entries,
         turn,
     );
     acted.expect(rt, "the turn");
     let (core, _, _) = pool.finish(taker);
-    let setup = setup_of(&core);
-    expect_legal(rt, &setup, &taken);
-    if taken.is_empty() {
-        expect_legal(rt, &setup, core.trail());
-    }
     see(rt, &core, &first, &second, turn);
+    let setup = setup_of(&core);
+    let mut left = core.into_trail();
+    entries.append(&mut left).expect(rt, "the entries");
+    assert_eq!(rt; unlawful(rt.alloc(), &setup, &entries), Ok(None));
 }
 
 /// A turn of the last two clients of a new pool.
 pub(super) fn play<R: Wait + Abort + AllocGlobal>(rt: &R, frames: usize, clients: u8, turn: Turn) {
-    let made = make(rt, frames, clients);
+    let made = make(rt.alloc(), frames, clients, 4096).expect(rt, "the pool's parts");
     play_over::<Brand, R>(rt, made, &turn);
 }

@@ -1,64 +1,57 @@
 //! Two sessions in turn over one frame.
-ghost use Rattle.std.specs.Prelude.{◌≡◌, ◌<◌};
+ghost use Rattle.std.specs.Prelude.{◌≡◌};
 
-use super::making::Client;
 use super::pairs::{Turn, play};
-use crate::counting::count;
-use bp_core::{Call, Core, Reply};
+use bp_core::{Call, Core, Entry, Reply};
+use bp_device::MemPort;
 use bp_mark::LogEnd;
 use bp_page::{Lsn, PageNo, Refusal};
 use bp_shared::{Flushed, PoolName, SharedPool};
-use std::alloc::Global;
+use bp_workers::Client;
 use std::process::Abort;
 use std::sync::Wait;
+use test_support::pools::{fix, flush, unfix, unfixes, write};
 
 // A client changes page 1 at LSN 3 and gives it back, and the clock moves on.
-fn change_a_page<N: PoolName, R: Wait>(
+fn change_a_page<N: PoolName, R: Wait + Abort + AllocGlobal>(
     rt: &R,
-    alloc: Global,
     pool: &SharedPool<N>,
-    client: &mut Client<N>,
-) -> Result<(), Refusal>
-    requires pages { N.parameters.pages ≡ 4 }
-    requires size { N.parameters.size ≡ 16 }
-{
-    let note = client.fix(rt, pool, PageNo::new(1))?;
-    client.write_five(rt, alloc, pool, note)?;
-    client.unfix(pool, note)?;
+    client: &mut Client<N, MemPort>,
+) -> Result<(), Refusal> {
+    let note = fix(rt, pool, client, 1)?;
+    write(rt, rt.alloc(), pool, client, note, 5, 3)?;
+    let back = unfix(pool, client, note);
+    assert!(rt; back.is_ok());
     pool.tick(rt, &mut client.session, 1)
 }
 
 // A client takes the frame for page 2, flushes page 1, purges, and gives page 2 back.
-fn take_the_frame<N: PoolName, R: Wait>(
+fn take_the_frame<N: PoolName, R: Wait + Abort>(
     rt: &R,
     pool: &SharedPool<N>,
-    client: &mut Client<N>,
-) -> Result<(Flushed, u64), Refusal>
-    requires pages { N.parameters.pages ≡ 4 }
-{
-    let note = client.fix(rt, pool, PageNo::new(2))?;
-    let flushed = pool.flush(rt, &mut client.session, &mut client.port, PageNo::new(1))?;
+    client: &mut Client<N, MemPort>,
+) -> Result<(Flushed, u64), Refusal> {
+    let note = fix(rt, pool, client, 2)?;
+    let flushed = flush(rt, pool, client, 1)?;
     let forgot = pool.purge(rt, &mut client.session)?;
-    client.unfix(pool, note)?;
+    let back = unfix(pool, client, note);
+    assert!(rt; back.is_ok());
     Ok((flushed, forgot))
 }
 
 /// One client changes a page, and another needs its frame: not before the log is durable so far.
-pub(super) fn share_one_frame<N: PoolName, R: Wait + Abort>(
+pub(super) fn share_one_frame<N: PoolName, R: Wait + Abort + AllocGlobal>(
     rt: &R,
-    alloc: Global,
     pool: &SharedPool<N>,
     end: &mut LogEnd,
-    first: &mut Client<N>,
-    second: &mut Client<N>,
+    first: &mut Client<N, MemPort>,
+    second: &mut Client<N, MemPort>,
 )
     requires end { end.old.mark ≡ N.mark }
-    requires pages { N.parameters.pages ≡ 4 }
-    requires size { N.parameters.size ≡ 16 }
 {
-    let changed = change_a_page(rt, alloc, pool, first);
+    let changed = change_a_page(rt, pool, first);
     assert_eq!(rt; changed, Ok(()));
-    let early = second.fix(rt, pool, PageNo::new(2));
+    let early = fix(rt, pool, second, 2);
     assert!(rt; early.err() == Some(Refusal::NeedLog(Lsn::new(3))));
     end.raise(pool.mark(), Lsn::new(3));
     let taken = take_the_frame(rt, pool, second);
@@ -66,17 +59,25 @@ pub(super) fn share_one_frame<N: PoolName, R: Wait + Abort>(
     pool.settle(rt, &mut second.session);
 }
 
+fn is_mark_of_client_one(entry: &Entry) -> bool {
+    entry.client == 1 && matches!(entry.call, Call::Mark(_))
+}
+
 /// What the shared frame leaves: one mark of client 1, at LSN 3, and each entry in its client's list.
 pub(super) fn see_the_shared_frame<N: PoolName, R: Abort>(
     rt: &R,
     core: &Core,
-    first: &Client<N>,
-    second: &Client<N>,
+    first: &Client<N, MemPort>,
+    second: &Client<N, MemPort>,
 ) {
     let trail = core.trail();
     let told = (first.session.said().len(), second.session.said().len());
+    let marks = trail
+        .iter()
+        .filter(|entry| is_mark_of_client_one(entry))
+        .count();
     assert!(rt; core.durable() == Lsn::new(3));
-    assert_eq!(rt; (trail.len(), count(trail).marks, told), (14, 1, (5, 9)));
+    assert_eq!(rt; (trail.len(), marks, told), (14, 1, (5, 9)));
 }
 
 #[test]
@@ -88,15 +89,14 @@ fn two_sessions_and_the_log(rt: HostRuntime) {
 pub(super) fn post_before_a_fix<N: PoolName, R: Wait + Abort>(
     rt: &R,
     pool: &SharedPool<N>,
-    first: &mut Client<N>,
-    second: &mut Client<N>,
-) -> Result<(), Refusal>
-    requires pages { N.parameters.pages ≡ 4 }
-{
-    let note = first.fix(rt, pool, PageNo::new(1))?;
+    first: &mut Client<N, MemPort>,
+    second: &mut Client<N, MemPort>,
+) -> Result<(), Refusal> {
+    let note = fix(rt, pool, first, 1)?;
     pool.tick(rt, &mut first.session, 1)?;
-    first.unfix(pool, note)?;
-    let note = second.fix(rt, pool, PageNo::new(2))?;
+    let back = unfix(pool, first, note);
+    assert!(rt; back.is_ok());
+    let note = fix(rt, pool, second, 2)?;
     assert!(rt; note.serial() == 1);
     Ok(())
 }
@@ -104,7 +104,7 @@ pub(super) fn post_before_a_fix<N: PoolName, R: Wait + Abort>(
 /// The posted pass is back in the core before the next event, whose victim is its page.
 pub(super) fn see_the_posted_pass<R: Abort>(rt: &R, core: &Core) {
     let trail = core.trail();
-    assert_eq!(rt; (trail.len(), count(trail).unfixes), (6, 1));
+    assert_eq!(rt; (trail.len(), unfixes(trail)), (6, 1));
     if let [_, _, _, back, load, _] = trail {
         let page = PageNo::new(1);
         assert_eq!(rt; back.call, Call::Unfix { pass: 0, page });

@@ -1,4 +1,5 @@
-//! Tests of threads that share a pool.
+//! Tests of threads that share a pool, and of sessions whose device fails: the refusal reaches its caller, whoever waits
+//! wakes, and the page can be read or written again.
 //!
 //! They stand here, on top of the crates that they call, so that none of those is proved once more for its tests.
 //! The library itself has no item. What is asserted holds whatever the schedule. All entries of each pool go to the
@@ -6,8 +7,12 @@
 #![tactic(auto)]
 
 #[cfg(test)]
-mod counting;
+mod gates;
 #[cfg(test)]
-mod judging;
+mod making;
 #[cfg(test)]
-mod sessions;
+mod pieces;
+#[cfg(test)]
+mod turns;
+#[cfg(test)]
+mod waiting;

@@ -1,18 +1,17 @@
-//! A worker that reads back what it wrote to pages that went out and came in again.
-use crate::judging::{expect_legal, setup_of};
+//! A worker over a silent pool, which has no entries in memory: it reads back what it wrote to pages that went out and
+//! came in again.
 use crate::making::{PAGES, config, ports};
-use crate::writer::DURABLE;
-use bp_core::{Pass, RecordingKeeper, SilentKeeper};
+use crate::writer::{DURABLE, write_page};
+use bp_core::SilentKeeper;
 use bp_device::{MemPort, Port};
 use bp_keeper::ListKeeper;
-use bp_page::{Bytes, Lsn, Refusal};
+use bp_page::{Lsn, Refusal};
 use bp_shared::{PoolName, SharedPool};
-use bp_workers::{Client, Kind, Run, Upkeep, Worker, give_back, run_workers_over};
+use bp_workers::{Client, Upkeep, Worker, run_workers_over};
 use std::alloc::Global;
-use std::process::Abort;
 use std::rt::HostRuntime;
 use std::sync::Wait;
-use std::thread::Threads;
+use test_support::pools::{fix, give, read};
 
 /// The label of page 0. That of each page after it is one more.
 const FIRST: u8 = 10;
@@ -31,58 +30,6 @@ fn label_of(number: u64) -> u8 {
     (number % 100) as u8 + FIRST
 }
 
-/// Fixes the page of this number.
-fn fix<N: PoolName, P: Port, K: ListKeeper, R: Wait>(
-    rt: &R,
-    pool: &SharedPool<N, K>,
-    client: &mut Client<N, P, K>,
-    number: u64,
-) -> Result<Pass, Refusal> {
-    match client.port.geometry().page(number) {
-        Some(page) => pool.fix(rt, &mut client.session, &mut client.port, page),
-        None => Err(Refusal::OutOfPage),
-    }
-}
-
-/// Gives a pass back after its work, and hands on the outcome of that.
-fn end<T: Drop, N: PoolName, P: Port, K: ListKeeper, R: Wait>(
-    rt: &R,
-    pool: &SharedPool<N, K>,
-    client: &mut Client<N, P, K>,
-    pass: Pass,
-    outcome: Result<T, Refusal>,
-) -> Result<T, Refusal> {
-    match give_back(rt, pool, &mut client.session, pass) {
-        Ok(()) => outcome,
-        Err((pass, refusal)) => {
-            pass.note();
-            Err(refusal)
-        }
-    }
-}
-
-/// Puts the label on a page.
-fn put<N: PoolName, P: Port, K: ListKeeper, R: Wait>(
-    rt: &R,
-    alloc: Global,
-    pool: &SharedPool<N, K>,
-    client: &mut Client<N, P, K>,
-    number: u64,
-) -> Result<(), Refusal> {
-    let Ok(bytes) = Bytes::of(alloc, &[label_of(number)]) else {
-        return Err(Refusal::OutOfMemory);
-    };
-    if !client.port.geometry().fits(0, bytes.bytes().len()) {
-        return Err(Refusal::OutOfPage);
-    }
-    let pass = match fix(rt, pool, client, number) {
-        Ok(pass) => pass,
-        Err(refusal) => return Err(refusal),
-    };
-    let written = pool.write(rt, &mut client.session, &pass, 0, &bytes, Lsn::new(number));
-    end(rt, pool, client, pass, written)
-}
-
 /// Whether a page has its label.
 fn has_label<N: PoolName, P: Port, K: ListKeeper, R: Wait>(
     rt: &R,
@@ -90,15 +37,10 @@ fn has_label<N: PoolName, P: Port, K: ListKeeper, R: Wait>(
     client: &mut Client<N, P, K>,
     number: u64,
 ) -> Result<bool, Refusal> {
-    let pass = match fix(rt, pool, client, number) {
-        Ok(pass) => pass,
-        Err(refusal) => return Err(refusal),
-    };
-    let read = pool.read(rt, &mut client.session, &pass);
-    match end(rt, pool, client, pass, read) {
-        Ok(image) => Ok(image.bytes().first() == Some(&label_of(number))),
-        Err(refusal) => Err(refusal),
-    }
+    let note = fix(rt, pool, client, number)?;
+    let image = read(rt, pool, client, note);
+    give(rt, pool, client, note)?;
+    Ok(image?.bytes().first() == Some(&label_of(number)))
 }
 
 impl Labeler {
@@ -109,7 +51,15 @@ impl Labeler {
         client: &mut Client<N, P, K>,
     ) {
         for number in 0..client.port.geometry().pages {
-            match put(rt, self.alloc, pool, client, number) {
+            match write_page(
+                rt,
+                self.alloc,
+                pool,
+                client,
+                number,
+                label_of(number),
+                number,
+            ) {
                 Ok(()) => self.put = self.put.saturating_add(1),
                 Err(refusal) => self.latest = Some(refusal),
             }
@@ -155,10 +105,10 @@ impl<P: Port, K: ListKeeper> Worker<P, K> for Labeler {
     }
 }
 
-/// One labeler, over two frames for four pages.
-fn run<K: Kind, R: Abort + AllocGlobal + Threads + Wait + Sync>(
-    rt: &R,
-) -> Run<MemPort, Labeler, K> {
+/// Of four pages two are away at any time, so labels go out and come in again.
+#[test]
+fn silent_labels_are_read_back(rt: HostRuntime) {
+    let rt = &rt;
     let mut workers = Vec::new(rt.alloc());
     let worker = Labeler {
         alloc: rt.alloc(),
@@ -167,41 +117,20 @@ fn run<K: Kind, R: Abort + AllocGlobal + Threads + Wait + Sync>(
         latest: None,
     };
     workers.push(worker).expect(rt, "a place");
-    let ports = ports(rt, PAGES, 1);
-    run_workers_over::<K, MemPort, Labeler, R>(
+    let run = run_workers_over::<SilentKeeper, MemPort, Labeler, HostRuntime>(
         rt,
         rt.alloc(),
         config(rt, 2),
-        ports,
+        ports(rt, 1),
         workers,
-    ).expect(rt, "the run")
-}
-
-/// Asserts that each page got its label and had it.
-fn expect_labels<K: ListKeeper>(rt: &impl Abort, run: &Run<MemPort, Labeler, K>) {
+    ).expect(rt, "the run");
+    assert_eq!(rt; run.left.len(), 1);
     for left in &run.left {
         assert_eq!(rt; left.worker.latest, None);
         assert_eq!(rt; left.worker.put, PAGES);
         assert_eq!(rt; left.worker.found, PAGES);
         assert_eq!(rt; left.held, 0);
     }
-}
-
-/// Of four pages two are away at any time, so labels go out and come in again.
-#[test]
-fn silent_labels_are_read_back(rt: HostRuntime) {
-    let rt = &rt;
-    let run = run::<SilentKeeper, HostRuntime>(rt);
-    assert_eq!(rt; run.left.len(), 1);
-    expect_labels(rt, &run);
     assert_eq!(rt; run.core.clock(), 9);
-}
-
-#[test]
-fn recorded_labels_are_read_back(rt: HostRuntime) {
-    let rt = &rt;
-    let run = run::<RecordingKeeper, HostRuntime>(rt);
-    assert_eq!(rt; run.left.len(), 1);
-    expect_labels(rt, &run);
-    expect_legal(rt, &setup_of(&run.core), run.core.trail());
+    assert_eq!(rt; run.core.durable(), Lsn::new(DURABLE));
 }

@@ -1,22 +1,24 @@
-//! Tests of runs of workers. What is asserted of them holds whatever the schedule. The trail of each run goes to the
-//! judge, but those of silent pools, which have none to show.
+//! Tests of runs of workers, and of what an engine has besides the pool's own calls. What is asserted holds whatever
+//! the schedule. The trail of each run goes to the judge, but those of silent pools, which have none to show.
 //!
-//! They stand here, on top of the crate that they call, so that it is not proved once more for its tests. The library
-//! itself has no item.
+//! They stand here, on top of the crates that they call, so that none of those is proved once more for its tests. The
+//! library itself has no item.
 #![tactic(auto)]
 
 #[cfg(test)]
-mod bad_input;
+mod dead_ports;
 #[cfg(test)]
-mod judging;
+mod durable;
 #[cfg(test)]
 mod labels;
 #[cfg(test)]
 mod making;
 #[cfg(test)]
-mod sharing;
+mod page_files;
 #[cfg(test)]
-mod silent;
+mod rooms;
+#[cfg(test)]
+mod sharing;
 #[cfg(test)]
 mod upkeep;
 #[cfg(test)]

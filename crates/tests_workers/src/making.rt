@@ -16,9 +16,9 @@ pub(crate) fn config<R: Abort + AllocGlobal>(rt: &R, frames: usize) -> Config {
     }
 }
 
-/// So many ports to one device of so many pages.
-pub(crate) fn ports<R: Abort + AllocGlobal>(rt: &R, pages: u64, count: usize) -> Vec<MemPort> {
-    let geometry = Geometry::new(pages, 16).expect(rt, "the geometry");
+/// So many ports to one device.
+pub(crate) fn ports<R: Abort + AllocGlobal>(rt: &R, count: usize) -> Vec<MemPort> {
+    let geometry = Geometry::new(PAGES, 16).expect(rt, "the geometry");
     let device = MemDevice::new(rt.alloc(), geometry).expect(rt, "the device");
     let mut ports = Vec::new(rt.alloc());
     for _ in 0..count {

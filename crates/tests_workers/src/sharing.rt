@@ -1,16 +1,16 @@
 //! Workers that share pages.
-use crate::judging::{expect_legal, setup_of};
-use crate::making::{PAGES, config, ports};
+use crate::making::{config, ports};
 use crate::writer::{DURABLE, Writer};
 use bp_audit::agrees;
 use bp_core::{Call, Entry};
 use bp_device::MemPort;
-use bp_page::{Lsn, Refusal};
+use bp_page::Lsn;
 use bp_workers::{Run, run_workers};
 use std::process::Abort;
 use std::rt::HostRuntime;
 use std::sync::Wait;
 use std::thread::Threads;
+use test_support::judging::unlawful_in;
 
 /// So many workers, of which each keeps a pass where `keeps` says so. The judge finds their trail legal.
 fn run<R: Abort + AllocGlobal + Threads + Wait + Sync>(
@@ -24,31 +24,25 @@ fn run<R: Abort + AllocGlobal + Threads + Wait + Sync>(
         let worker = Writer::new(rt.alloc(), 3, keeps);
         workers.push(worker).expect(rt, "a place");
     }
-    let ports = ports(rt, PAGES, count);
+    let ports = ports(rt, count);
     let run = run_workers(rt, rt.alloc(), config(rt, frames), ports, workers);
     let run = run.expect(rt, "the run");
-    expect_legal(rt, &setup_of(&run.core), run.core.trail());
+    assert_eq!(rt; unlawful_in(rt.alloc(), &run.core), Ok(None));
     run
 }
 
-fn count_marks(trail: &[Entry]) -> usize {
-    let mut marks = 0usize;
-    for entry in trail {
-        if let Call::Mark(lsn) = &entry.call
-            && *lsn == Lsn::new(DURABLE)
-        {
-            marks = marks.saturating_add(1);
-        }
-    }
-    marks
+fn is_mark(entry: &Entry) -> bool {
+    entry.call == Call::Mark(Lsn::new(DURABLE))
 }
 
 /// Each list is what the trail has of its client, and the mark that the log writer raised was seen once.
-#[test]
-fn two_workers_share_pages(rt: HostRuntime) {
-    let rt = &rt;
-    let run = run(rt, 4, 2, false);
-    assert_eq!(rt; run.left.len(), 2);
+fn expect_shared<R: Abort + AllocGlobal + Threads + Wait + Sync>(
+    rt: &R,
+    frames: usize,
+    count: usize,
+) {
+    let run = run(rt, frames, count, false);
+    assert_eq!(rt; run.left.len(), count);
     for client in 0..run.left.len() {
         let left = &run.left[client];
         assert!(rt; agrees(run.core.trail(), left.said(), client as u8));
@@ -56,7 +50,24 @@ fn two_workers_share_pages(rt: HostRuntime) {
         assert_eq!(rt; left.worker.refused, 0);
         assert_eq!(rt; left.held, 0);
     }
-    assert_eq!(rt; count_marks(run.core.trail()), 1);
+    let marks = run
+        .core
+        .trail()
+        .iter()
+        .filter(|entry| is_mark(entry))
+        .count();
+    assert_eq!(rt; marks, 1);
+}
+
+#[test]
+fn two_workers_share_pages(rt: HostRuntime) {
+    expect_shared(&rt, 4, 2);
+}
+
+/// As many workers as there may be.
+#[test]
+fn sixty_four_workers(rt: HostRuntime) {
+    expect_shared(&rt, 64, 64);
 }
 
 /// A pass that a worker still holds when it returns goes back, and is told.
@@ -70,18 +81,5 @@ fn passes_still_held_go_back(rt: HostRuntime) {
         assert!(rt;
             matches!(left.said().last(), Some(entry) if matches!(entry.call, Call::Unfix { .. }))
         );
-    }
-}
-
-/// As many workers as there may be.
-#[test]
-fn sixty_four_workers(rt: HostRuntime) {
-    let rt = &rt;
-    let run = run(rt, 64, 64, false);
-    assert_eq!(rt; run.left.len(), 64);
-    for client in 0..run.left.len() {
-        let left = &run.left[client];
-        assert!(rt; agrees(run.core.trail(), left.said(), client as u8));
-        assert_eq!(rt; left.worker.done, 12);
     }
 }

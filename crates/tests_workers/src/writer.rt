@@ -1,11 +1,12 @@
 //! Workers that write to all pages in turn.
 use bp_device::Port;
 use bp_keeper::ListKeeper;
-use bp_page::{Bytes, Lsn, Refusal};
+use bp_page::{Lsn, Refusal};
 use bp_shared::{PoolName, SharedPool};
-use bp_workers::{Client, Upkeep, Worker, give_back};
+use bp_workers::{Client, Upkeep, Worker};
 use std::alloc::Global;
 use std::sync::Wait;
+use test_support::pools::{fix, give, write};
 
 /// Writes to each page in turn, so many rounds. The one of client 0 first raises the mark beyond all that is
 /// written.
@@ -52,16 +53,18 @@ impl Writer {
         pool: &SharedPool<N, K>,
         client: &mut Client<N, P, K>,
     ) {
+        let byte = client.session.client();
         for round in 0..self.rounds {
             for number in 0..client.port.geometry().pages {
-                let outcome = write_page(rt, self.alloc, pool, client, number, round % DURABLE);
+                let lsn = round % DURABLE;
+                let outcome = write_page(rt, self.alloc, pool, client, number, byte, lsn);
                 self.note(outcome);
                 let _ = pool.tick(rt, &mut client.session, 1);
             }
         }
         if self.keeps {
-            let outcome = keep_first(rt, pool, client);
-            self.note(outcome);
+            let outcome = fix(rt, pool, client, 0);
+            self.note(outcome.map(|_| ()));
         }
     }
 }
@@ -88,53 +91,18 @@ impl<P: Port, K: ListKeeper> Worker<P, K> for Writer {
     }
 }
 
-/// Fixes page 0, and forgets that it did.
-fn keep_first<N: PoolName, P: Port, K: ListKeeper, R: Wait>(
-    rt: &R,
-    pool: &SharedPool<N, K>,
-    client: &mut Client<N, P, K>,
-) -> Result<(), Refusal> {
-    let Some(page) = client.port.geometry().page(0) else {
-        return Err(Refusal::OutOfPage);
-    };
-    match pool.fix(rt, &mut client.session, &mut client.port, page) {
-        Ok(pass) => {
-            pass.note();
-            Ok(())
-        }
-        Err(refusal) => Err(refusal),
-    }
-}
-
-/// Writes the client's number to the front of a page.
-fn write_page<N: PoolName, P: Port, K: ListKeeper, R: Wait>(
+/// Writes a byte to the front of a page.
+pub(crate) fn write_page<N: PoolName, P: Port, K: ListKeeper, R: Wait>(
     rt: &R,
     alloc: Global,
     pool: &SharedPool<N, K>,
     client: &mut Client<N, P, K>,
     number: u64,
+    byte: u8,
     lsn: u64,
 ) -> Result<(), Refusal> {
-    let geometry = client.port.geometry();
-    let Some(page) = geometry.page(number) else {
-        return Err(Refusal::OutOfPage);
-    };
-    let Ok(bytes) = Bytes::of(alloc, &[client.session.client()]) else {
-        return Err(Refusal::OutOfMemory);
-    };
-    if !geometry.fits(0, bytes.bytes().len()) {
-        return Err(Refusal::OutOfPage);
-    }
-    let pass = match pool.fix(rt, &mut client.session, &mut client.port, page) {
-        Ok(pass) => pass,
-        Err(refusal) => return Err(refusal),
-    };
-    let written = pool.write(rt, &mut client.session, &pass, 0, &bytes, Lsn::new(lsn));
-    match give_back(rt, pool, &mut client.session, pass) {
-        Ok(()) => written,
-        Err((pass, refusal)) => {
-            pass.note();
-            Err(refusal)
-        }
-    }
+    let note = fix(rt, pool, client, number)?;
+    let written = write(rt, alloc, pool, client, note, byte, lsn);
+    give(rt, pool, client, note)?;
+    written
 }

@@ -1,0 +1,10 @@
+-- The pool that was just made.
+use Rattle.tests_memory.proofs.sessions.try_play.Given as goal
+
+abbrev pub ghosts-play_over : goal.ghosts-play_over
+ghosts-play_over g a = record {
+  mark = a.made.mark;
+  parameters = a.made.core.parameters;
+  before = a.made.core.before;
+  ring = a.made.ring;
+}

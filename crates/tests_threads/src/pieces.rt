@@ -1,0 +1,353 @@
+//! Threads that use a pool again and again, and cut the trail and their lists as they go.
+ghost use Rattle.std.specs.Prelude.{◌≡◌};
+
+use bp_audit::agrees;
+use bp_core::{Core, Entry};
+use bp_device::{MemDevice, MemPort};
+use bp_shared::{PoolName, Session, SharedPool, Taker};
+use bp_totals::Totals;
+use bp_workers::Client;
+use std::alloc::Global;
+use std::marker::Brand;
+use std::process::Abort;
+use std::sync::{Mutex, Wait};
+use std::thread::Threads;
+use std::{mem, thread};
+use test_support::judging::{setup_of, unlawful};
+use test_support::pools::{Made, Opened, fix, give, make, open, read, unfixes};
+
+/// How threads use a pool.
+#[derive(Clone, Copy, Drop)]
+struct Plan {
+    frames: usize,
+    /// A thread for each.
+    clients: u8,
+    /// The rounds of a thread, each of four entries.
+    rounds: usize,
+    /// Whether each thread is on a page of its own, and cuts as it goes. Else all are on page 1, and nothing is cut.
+    cuts: bool,
+    /// Whether all entries are kept, for the judge.
+    keeps: bool,
+}
+
+/// The rounds of a thread between two of its cuts. Two threads then stay within a room of 4,096 entries.
+const ROUNDS_A_CUT: usize = 250;
+
+/// What was cut so far.
+#[derive(Drop)]
+struct Pieces {
+    /// The piece that was cut last: what is cut goes on in its memory.
+    spare: Vec<Entry>,
+    cuts: usize,
+    entries: usize,
+    /// The most entries for which a piece had memory.
+    capacity: usize,
+    keeps: bool,
+    /// The pieces joined, where they are kept.
+    kept: Vec<Entry>,
+}
+
+impl Pieces {
+    fn none(alloc: Global, keeps: bool) -> Pieces {
+        Pieces {
+            spare: Vec::new(alloc),
+            cuts: 0,
+            entries: 0,
+            capacity: 0,
+            keeps,
+            kept: Vec::new(alloc),
+        }
+    }
+
+    // The memory of the last piece.
+    fn lend(&mut self, alloc: Global) -> Vec<Entry> {
+        mem::replace(&mut self.spare, Vec::new(alloc))
+    }
+
+    // Counts a piece, and keeps it for its memory. Where memory for its entries is refused, they are lost.
+    fn keep(&mut self, mut piece: Vec<Entry>) {
+        self.cuts = self.cuts.saturating_add(1);
+        self.entries = self.entries.saturating_add(piece.len());
+        self.capacity = self.capacity.max(piece.capacity());
+        if self.keeps {
+            let _ = self.kept.append(&mut piece);
+        }
+        self.spare = piece;
+    }
+}
+
+/// What is taken of the trail, by whichever thread comes to it.
+#[derive(Drop)]
+struct Takings<N: PoolName> {
+    taker: Taker<N>,
+    pieces: Pieces,
+}
+
+/// What one thread does: it uses a page again and again, and cuts as it goes.
+#[derive(Drop)]
+struct Runner<N: PoolName> {
+    alloc: Global,
+    client: Client<N, MemPort>,
+    page: u64,
+    plan: Plan,
+    passes: usize,
+    pieces: Pieces,
+}
+
+// Drops the last piece of the trail, and takes the next.
+fn cut_trail<N: PoolName, R: Wait>(
+    rt: &R,
+    alloc: Global,
+    pool: &SharedPool<N>,
+    takings: &Mutex<Takings<N>>,
+) {
+    let mut takings = takings.lock(rt);
+    let spare = takings.pieces.lend(alloc);
+    if let Ok(piece) = pool.cut_into(rt, &mut takings.taker, spare) {
+        takings.pieces.keep(piece);
+    }
+}
+
+/// Fixes a page, reads it and gives it back. It tells whether there was a pass.
+fn run_once<N: PoolName, R: Wait>(
+    rt: &R,
+    pool: &SharedPool<N>,
+    client: &mut Client<N, MemPort>,
+    page: u64,
+) -> bool {
+    let Ok(note) = fix(rt, pool, client, page) else {
+        return false;
+    };
+    let _ = read(rt, pool, client, note);
+    let _ = give(rt, pool, client, note);
+    true
+}
+
+impl<N: PoolName> Runner<N> {
+    // Drops the last piece of the list, and cuts the next.
+    fn cut_list(&mut self) {
+        let spare = self.pieces.lend(self.alloc);
+        if let Ok(list) = self.client.session.cut_into(spare) {
+            self.pieces.keep(list);
+        }
+    }
+
+    // A round has four entries: a fix, a read, an unfix and a tick.
+    fn run<R: Wait>(&mut self, rt: &R, pool: &SharedPool<N>, takings: &Mutex<Takings<N>>) {
+        for round in 0..self.plan.rounds {
+            if run_once(rt, pool, &mut self.client, self.page) {
+                self.passes = self.passes.saturating_add(1);
+            }
+            let _ = pool.tick(rt, &mut self.client.session, 1);
+            if self.plan.cuts && round % ROUNDS_A_CUT == 0 {
+                cut_trail(rt, self.alloc, pool, takings);
+                self.cut_list();
+            }
+        }
+    }
+}
+
+/// A runner for each session.
+fn make_runners<N: PoolName, R: Abort + AllocGlobal>(
+    rt: &R,
+    device: &MemDevice,
+    sessions: Vec<Session<N>>,
+    plan: Plan,
+) -> Vec<Runner<N>>
+    requires pages { device.now.pages ≡ N.parameters.pages }
+    requires size { device.now.size ≡ N.parameters.size }
+{
+    let alloc = rt.alloc();
+    let mut runners = Vec::new(alloc);
+    for session in sessions {
+        let page = if plan.cuts {
+            u64::from(session.client())
+        } else {
+            1
+        };
+        let port = device.port().expect(rt, "the port");
+        let runner = Runner {
+            alloc,
+            client: Client { session, port },
+            page,
+            plan,
+            passes: 0,
+            pieces: Pieces::none(alloc, plan.keeps),
+        };
+        runners.push(runner).expect(rt, "the runner");
+    }
+    runners
+}
+
+/// One thread for each runner. All have ended at the return.
+fn run_all<N: PoolName + Send + Sync, R: Threads + Wait + Sync>(
+    rt: &R,
+    pool: &SharedPool<N>,
+    takings: &Mutex<Takings<N>>,
+    runners: &mut [Runner<N>],
+) {
+    let count = runners.len();
+    if count > 0 {
+        thread::for_each_mut(
+            rt,
+            runners,
+            count,
+            &|_, runner| runner.run(rt, pool, takings),
+        );
+    }
+}
+
+/// What came of a run, with what was not cut at its end.
+#[derive(Clone, Copy, Drop)]
+struct Tally {
+    passes: usize,
+    /// The entries of the trail, and of all lists.
+    entries: usize,
+    told: usize,
+    /// The cuts of the trail, and of all lists.
+    cuts: usize,
+    list_cuts: usize,
+    /// The most entries for which a piece had memory.
+    capacity: usize,
+    /// The pages that were read, where all entries were kept.
+    faults: u64,
+}
+
+// What came of the trail, of which so many entries were not cut, and of all runners.
+fn tally_of<N: PoolName>(pieces: &Pieces, left: usize, runners: &[Runner<N>]) -> Tally {
+    let mut tally = Tally {
+        passes: 0,
+        entries: pieces.entries.saturating_add(left),
+        told: 0,
+        cuts: pieces.cuts,
+        list_cuts: 0,
+        capacity: pieces.capacity,
+        faults: 0,
+    };
+    for runner in runners {
+        let told = runner.pieces.entries;
+        let left = runner.client.session.said().len();
+        tally.passes = tally.passes.saturating_add(runner.passes);
+        tally.told = tally.told.saturating_add(told).saturating_add(left);
+        tally.list_cuts = tally.list_cuts.saturating_add(runner.pieces.cuts);
+        tally.capacity = tally.capacity.max(runner.pieces.capacity);
+    }
+    tally
+}
+
+// All entries of a pool: those that were cut, joined, and those that were left. The judge finds them legal.
+fn legal_entries<R: Abort + AllocGlobal>(rt: &R, pieces: Pieces, core: Core) -> Vec<Entry> {
+    let setup = setup_of(&core);
+    let mut entries = pieces.kept;
+    assert_eq!(rt; entries.len(), pieces.entries);
+    let mut left = core.into_trail();
+    entries.append(&mut left).expect(rt, "the entries");
+    assert_eq!(rt; unlawful(rt.alloc(), &setup, &entries), Ok(None));
+    entries
+}
+
+// Each list, joined, is its client's part of the trail.
+fn expect_agreement<N: PoolName, R: Abort>(rt: &R, entries: &[Entry], runners: Vec<Runner<N>>) {
+    for runner in runners {
+        let client = runner.client.session.client();
+        let mut list = runner.pieces.kept;
+        let mut left = runner.client.session.into_said();
+        list.append(&mut left).expect(rt, "the list");
+        assert!(rt; agrees(entries, &list, client), "client {client}");
+    }
+}
+
+// Threads use the pool. Where all entries are kept, each pass went back once.
+fn see_over<N: PoolName + Send + Sync, R: Threads + Wait + Abort + Sync + AllocGlobal>(
+    rt: &R,
+    made: Made,
+    plan: Plan,
+) -> Tally
+    requires mark { made.mark ≡ N.mark }
+    requires parameters { made.core.parameters ≡ N.parameters }
+    requires before { made.core.before ≡ N.before }
+    requires ring { made.ring ≡ N.ring }
+{
+    let Opened {
+        pool,
+        sessions,
+        taker,
+        end: _,
+        device,
+    } = open::<N>(rt.alloc(), made).expect(rt, "the pool");
+    let mut runners = make_runners(rt, &device, sessions, plan);
+    let takings = Mutex::new(Takings {
+        taker,
+        pieces: Pieces::none(rt.alloc(), plan.keeps),
+    });
+    run_all(rt, &pool, &takings, &mut runners);
+    let Takings { taker, pieces } = takings.into_inner();
+    let (core, _, _) = pool.finish(taker);
+    let mut tally = tally_of(&pieces, core.trail().len(), &runners);
+    if plan.keeps {
+        let entries = legal_entries(rt, pieces, core);
+        let totals = Totals::of(&entries);
+        let passes = tally.passes;
+        let given = totals.hits.saturating_add(totals.faults);
+        assert_eq!(rt; (given, unfixes(&entries)), (passes as u64, passes));
+        expect_agreement(rt, &entries, runners);
+        tally.faults = totals.faults;
+    }
+    tally
+}
+
+// Threads over a new pool, and what came of them.
+fn run_threads<R: Threads + Wait + Abort + Sync + AllocGlobal>(rt: &R, plan: Plan) -> Tally {
+    let made = make(rt.alloc(), plan.frames, plan.clients, 4096);
+    see_over::<Brand, R>(rt, made.expect(rt, "the pool's parts"), plan)
+}
+
+#[test]
+fn threads_on_one_page(rt: HostRuntime) {
+    for clients in [2, 4] {
+        let plan = Plan {
+            frames: 1,
+            clients,
+            rounds: 20,
+            cuts: false,
+            keeps: true,
+        };
+        let tally = run_threads(&rt, plan);
+        assert_eq!(rt; tally.faults, 1, "{clients} clients");
+    }
+}
+
+#[test]
+fn a_million_entries_in_little_room(rt: HostRuntime) {
+    let plan = Plan {
+        frames: 2,
+        clients: 2,
+        rounds: 125000,
+        cuts: true,
+        keeps: false,
+    };
+    let tally = run_threads(&rt, plan);
+    assert_eq!(rt; tally.passes, 250000);
+    // Each round has four entries, and a client's first fix has one more.
+    assert_eq!(rt; (tally.entries, tally.told), (1000002, 1000002));
+    // Each thread cuts the trail and its list once in 250 rounds, and the memory of the first pieces serves to the end.
+    assert_eq!(rt; (tally.cuts, tally.list_cuts), (1000, 1000));
+    assert_eq!(rt; tally.capacity, 4096);
+}
+
+/// A hundredth of that run. The judge would take too long over the whole of it.
+#[test]
+fn pieces_that_threads_cut_are_legal(rt: HostRuntime) {
+    let plan = Plan {
+        frames: 2,
+        clients: 2,
+        rounds: 1250,
+        cuts: true,
+        keeps: true,
+    };
+    let tally = run_threads(&rt, plan);
+    assert_eq!(rt; tally.passes, 2500);
+    assert_eq!(rt; (tally.entries, tally.told), (10002, 10002));
+    assert_eq!(rt; (tally.cuts, tally.list_cuts), (10, 10));
+    assert_eq!(rt; (tally.capacity, tally.faults), (4096, 2));
+}

@@ -1,0 +1,374 @@
+//! Sessions in threads: two wait for the device work of a third, which may fail.
+//!
+//! The work is held until the trail tells that both have found the page in flight, so that they wait under every
+//! schedule. Were one of them not woken, its thread would never end.
+ghost use Rattle.std.specs.Prelude.{◌≡◌};
+
+use crate::gates::Gate;
+use crate::making::{Fails, Way, change, clients_of, look, on_device};
+use bp_core::{Entry, Reply};
+use bp_device::Flushed;
+use bp_page::Refusal;
+use bp_shared::{PoolName, SharedPool, Taker};
+use bp_totals::Totals;
+use bp_workers::Client;
+use std::marker::{Brand, Send, Sync};
+use std::process::Abort;
+use std::sync::{Mutex, Wait};
+use std::thread;
+use std::thread::Threads;
+use test_support::judging::{setup_of, unlawful};
+use test_support::pools::{Made, Opened, flush, make, open};
+
+/// What the clients ask of page 1.
+#[derive(Clone, Copy)]
+enum Ask {
+    /// All fix it.
+    Fix,
+    /// All flush it.
+    Flush,
+    /// The first one fixes page 2, for which page 1 has to go out, and the others flush page 1.
+    MakeWay,
+}
+
+/// What a client was answered.
+#[derive(Clone, Copy, PartialEq, Eq, Debug, Drop)]
+enum Answer {
+    Nothing,
+    /// The first byte of the page that was fixed.
+    Byte(Option<u8>),
+    Flushed(Flushed),
+    Refused(Refusal),
+}
+
+/// What one thread does: it asks, and has the answer.
+#[derive(Drop)]
+struct Runner<N: PoolName> {
+    client: Client<N, Way>,
+    answer: Answer,
+}
+
+/// What was taken of the trail.
+#[derive(Drop)]
+struct Takings<N: PoolName> {
+    taker: Taker<N>,
+    entries: Vec<Entry>,
+}
+
+/// What all threads share.
+#[derive(Drop)]
+struct Shared<'a, N: PoolName> {
+    pool: &'a SharedPool<N>,
+    takings: &'a Mutex<Takings<N>>,
+    /// That of the first client's port.
+    gate: &'a Gate,
+    ask: Ask,
+}
+
+fn fixed(looked: Result<Option<u8>, Refusal>) -> Answer {
+    match looked {
+        Ok(byte) => Answer::Byte(byte),
+        Err(refusal) => Answer::Refused(refusal),
+    }
+}
+
+fn flushed(answer: Result<Flushed, Refusal>) -> Answer {
+    match answer {
+        Ok(flushed) => Answer::Flushed(flushed),
+        Err(refusal) => Answer::Refused(refusal),
+    }
+}
+
+impl<N: PoolName> Runner<N> {
+    fn ask<R: Wait + Abort>(&mut self, rt: &R, pool: &SharedPool<N>, ask: Ask) {
+        let is_first = self.client.session.client() == 0;
+        self.answer = match ask {
+            Ask::Fix => fixed(look(rt, pool, &mut self.client, 1)),
+            Ask::MakeWay if is_first => fixed(look(rt, pool, &mut self.client, 2)),
+            _ => flushed(flush(rt, pool, &mut self.client, 1)),
+        };
+    }
+}
+
+/// Whether this client found a page in flight.
+fn has_waited(trail: &[Entry], client: u8) -> bool {
+    trail.iter().any(|entry| entry.client == client && matches!(entry.reply, Reply::Busy))
+}
+
+/// Takes what the trail has, and tells whether both others have found the page in flight.
+fn both_wait<N: PoolName, R: Wait + Abort>(
+    rt: &R,
+    pool: &SharedPool<N>,
+    takings: &mut Takings<N>,
+) -> bool {
+    let mut piece = pool.cut(rt, &mut takings.taker).expect(rt, "the trail");
+    takings.entries.append(&mut piece).expect(rt, "the entries");
+    has_waited(&takings.entries, 1) && has_waited(&takings.entries, 2)
+}
+
+/// Lets the first client's device work go on once both others wait.
+fn let_go<N: PoolName, R: Wait + Abort>(rt: &R, shared: &Shared<'_, N>) {
+    let mut takings = shared.takings.lock(rt);
+    for _ in rt.forever() {
+        if both_wait(rt, shared.pool, &mut takings) {
+            break;
+        }
+        thread::yield_now();
+    }
+    shared.gate.open(rt);
+}
+
+/// The first client asks at once, the others once its device work has begun. The last one's thread takes the trail.
+fn run<N: PoolName, R: Wait + Abort>(rt: &R, shared: &Shared<'_, N>, runner: &mut Runner<N>) {
+    let client = runner.client.session.client();
+    if client > 0 {
+        shared.gate.wait_for_work(rt);
+    }
+    if client == 3 {
+        let_go(rt, shared);
+    } else {
+        runner.ask(rt, shared.pool, shared.ask);
+    }
+}
+
+/// One thread for each client. All have ended at the return.
+fn run_all<N: PoolName + Send + Sync, R: Threads + Wait + Abort + Sync>(
+    rt: &R,
+    shared: &Shared<'_, N>,
+    runners: &mut [Runner<N>],
+) {
+    let count = runners.len();
+    if count > 0 {
+        thread::for_each_mut(rt, runners, count, &|_, runner| run(rt, shared, runner));
+    }
+}
+
+fn runners_of<N: PoolName, R: Abort + AllocGlobal>(
+    rt: &R,
+    clients: Vec<Client<N, Way>>,
+) -> Vec<Runner<N>> {
+    let mut runners = Vec::new(rt.alloc());
+    for client in clients {
+        let runner = Runner {
+            client,
+            answer: Answer::Nothing,
+        };
+        runners.push(runner).expect(rt, "the runner");
+    }
+    runners
+}
+
+/// What came of the threads.
+#[derive(Debug, Drop)]
+struct Done {
+    answers: [Answer; 3],
+    totals: Totals,
+    /// What the first client then finds in page 1, and what the device has there.
+    after: Result<Option<u8>, Refusal>,
+    on_device: Option<u8>,
+}
+
+fn answer_at<N: PoolName>(runners: &[Runner<N>], at: usize) -> Answer {
+    match runners.get(at) {
+        Some(runner) => runner.answer,
+        None => Answer::Nothing,
+    }
+}
+
+fn answers_of<N: PoolName>(runners: &[Runner<N>]) -> [Answer; 3] {
+    [
+        answer_at(runners, 0),
+        answer_at(runners, 1),
+        answer_at(runners, 2),
+    ]
+}
+
+/// The first client's gate, and for all but a fix a change of page 1, by the last client.
+fn prepare<N: PoolName, R: Wait + Abort + AllocGlobal>(
+    rt: &R,
+    pool: &SharedPool<N>,
+    runners: &mut [Runner<N>],
+    ask: Ask,
+) -> Gate {
+    if let Some(last) = runners.last_mut()
+        && !matches!(ask, Ask::Fix)
+    {
+        change(rt, pool, &mut last.client);
+    }
+    match runners.first() {
+        Some(first) => first.client.port.gate.again(rt),
+        None => panic!(rt; "no client"),
+    }
+}
+
+/// The first client looks at page 1.
+fn look_again<N: PoolName, R: Wait + Abort>(
+    rt: &R,
+    pool: &SharedPool<N>,
+    runners: &mut [Runner<N>],
+) -> Result<Option<u8>, Refusal> {
+    match runners.first_mut() {
+        Some(first) => look(rt, pool, &mut first.client, 1),
+        None => panic!(rt; "no client"),
+    }
+}
+
+/// All entries of the pool, which is ended. The judge finds them legal.
+fn end<N: PoolName, R: Abort + AllocGlobal>(
+    rt: &R,
+    pool: SharedPool<N>,
+    takings: Takings<N>,
+) -> Totals {
+    let Takings { taker, mut entries } = takings;
+    let (core, _, _) = pool.finish(taker);
+    let setup = setup_of(&core);
+    let mut left = core.into_trail();
+    entries.append(&mut left).expect(rt, "the entries");
+    assert_eq!(rt; unlawful(rt.alloc(), &setup, &entries), Ok(None));
+    Totals::of(&entries)
+}
+
+fn run_over<N: PoolName + Send + Sync, R: Threads + Wait + Abort + Sync + AllocGlobal>(
+    rt: &R,
+    made: Made,
+    fails: &Fails,
+    ask: Ask,
+) -> Done
+    requires mark { made.mark ≡ N.mark }
+    requires parameters { made.core.parameters ≡ N.parameters }
+    requires before { made.core.before ≡ N.before }
+    requires ring { made.ring ≡ N.ring }
+{
+    let Opened {
+        pool,
+        sessions,
+        taker,
+        end: _,
+        device,
+    } = open::<N>(rt.alloc(), made).expect(rt, "the pool");
+    let mut runners = runners_of(rt, clients_of(rt, &device, sessions, fails));
+    let gate = prepare(rt, &pool, &mut runners, ask);
+    let takings = Mutex::new(Takings {
+        taker,
+        entries: Vec::new(rt.alloc()),
+    });
+    let shared = Shared {
+        pool: &pool,
+        takings: &takings,
+        gate: &gate,
+        ask,
+    };
+    run_all(rt, &shared, &mut runners);
+    let after = look_again(rt, &pool, &mut runners);
+    Done {
+        answers: answers_of(&runners),
+        totals: end(rt, pool, takings.into_inner()),
+        after,
+        on_device: on_device(rt, &device),
+    }
+}
+
+/// Four clients, of whom the first one's port fails at its n-th call, or never where n is 0.
+fn run_together<R: Threads + Wait + Abort + Sync + AllocGlobal>(
+    rt: &R,
+    frames: usize,
+    n: u64,
+    spoil: bool,
+    ask: Ask,
+) -> Done {
+    let made = make(rt.alloc(), frames, 4, 4096).expect(rt, "the pool's parts");
+    let fails = Fails {
+        n,
+        spoil,
+        is_held: true,
+    };
+    run_over::<Brand, R>(rt, made, &fails, ask)
+}
+
+/// What a trail counts up to: hits, faults, evictions, write-outs and failures. How often a page was found in flight is
+/// up to the schedule.
+fn counts(totals: &Totals) -> [u64; 5] {
+    [
+        totals.hits,
+        totals.faults,
+        totals.evictions,
+        totals.writes,
+        totals.failed,
+    ]
+}
+
+/// Both that waited find the page that the first client read.
+#[test]
+fn waits_for_a_read(rt: HostRuntime) {
+    let done = run_together(&rt, 2, 0, false, Ask::Fix);
+    assert_eq!(rt; done.answers, [Answer::Byte(Some(0)); 3]);
+    assert_eq!(rt;
+        (counts(&done.totals), done.after),
+        ([3, 1, 0, 0, 0], Ok(Some(0)))
+    );
+}
+
+/// The first client's read fails. One of the two that waited reads the page, and the other finds it.
+#[test]
+fn waits_for_a_failing_read(rt: HostRuntime) {
+    let done = run_together(&rt, 2, 1, false, Ask::Fix);
+    let zero = Answer::Byte(Some(0));
+    assert_eq!(rt;
+        done.answers,
+        [Answer::Refused(Refusal::ReadFailed), zero, zero]
+    );
+    assert_eq!(rt;
+        (counts(&done.totals), done.after),
+        ([2, 1, 0, 0, 1], Ok(Some(0)))
+    );
+}
+
+/// Both that waited find the page saved that the first client wrote out.
+#[test]
+fn waits_for_a_write_out(rt: HostRuntime) {
+    let done = run_together(&rt, 2, 0, false, Ask::Flush);
+    let clean = Answer::Flushed(Flushed::Clean);
+    assert_eq!(rt;
+        done.answers,
+        [Answer::Flushed(Flushed::Cleaned), clean, clean]
+    );
+    assert_eq!(rt;
+        (counts(&done.totals), done.after),
+        ([1, 1, 0, 1, 0], Ok(Some(5)))
+    );
+    assert_eq!(rt; done.on_device, Some(5));
+}
+
+/// Whether one of the two that waited wrote the page out, and the other found it saved.
+fn one_wrote(answers: &[Answer; 3]) -> bool {
+    let cleaned = Answer::Flushed(Flushed::Cleaned);
+    let clean = Answer::Flushed(Flushed::Clean);
+    let [_, second, third] = *answers;
+    (second == cleaned && third == clean) || (second == clean && third == cleaned)
+}
+
+/// Asserts that the first client's write failed, and that one of the others wrote the page out, once.
+fn expect_written<R: Abort>(rt: &R, done: &Done) {
+    let [first, _, _] = done.answers;
+    assert_eq!(rt; first, Answer::Refused(Refusal::WriteFailed));
+    assert!(rt; one_wrote(&done.answers), "{done:?}");
+    assert_eq!(rt;
+        (counts(&done.totals), done.after),
+        ([1, 1, 0, 1, 1], Ok(Some(5)))
+    );
+    assert_eq!(rt; done.on_device, Some(5));
+}
+
+#[test]
+fn waits_for_a_failing_write_out(rt: HostRuntime) {
+    for spoil in [false, true] {
+        expect_written(&rt, &run_together(&rt, 2, 1, spoil, Ask::Flush));
+    }
+}
+
+#[test]
+fn waits_for_a_failing_write_out_of_a_fix(rt: HostRuntime) {
+    for spoil in [false, true] {
+        expect_written(&rt, &run_together(&rt, 1, 1, spoil, Ask::MakeWay));
+    }
+}

@@ -1,0 +1,188 @@
+//! Fixes that wait for the log, or for a victim.
+use crate::making::{config, ports};
+use bp_core::{Call, RecordingKeeper};
+use bp_device::{MemPort, Port};
+use bp_engine::{Leading, Log, Patience, fix_durably};
+use bp_page::{Lsn, Refusal};
+use bp_shared::{PoolName, SharedPool};
+use bp_totals::Totals;
+use bp_workers::{Client, Left, Upkeep, Worker, run_workers};
+use std::alloc::Global;
+use std::process::Abort;
+use std::rt::HostRuntime;
+use std::sync::Wait;
+use std::thread::Threads;
+use std::time::Duration;
+use test_support::judging::unlawful_in;
+use test_support::pools::{fix, give, write};
+
+/// A log that notes what was asked of it, and may be one that never gets durable.
+#[derive(Drop)]
+struct Notes {
+    asked: u64,
+    times: u64,
+    is_broken: bool,
+}
+
+impl Log for Notes {
+    fn make_durable<R: Wait>(&mut self, _rt: &R, lsn: Lsn) -> bool {
+        self.asked = lsn.number();
+        self.times = self.times.saturating_add(1);
+        !self.is_broken
+    }
+}
+
+/// Writes to page 0 under log record 5, and then wants page 1 durably, in a pool of one frame.
+#[derive(Drop)]
+struct Waiter {
+    alloc: Global,
+    log: Notes,
+    rounds: u32,
+    /// Whether it holds the pass of page 0 meanwhile.
+    holds: bool,
+    is_fixed: bool,
+    refused: Option<Refusal>,
+}
+
+impl Waiter {
+    fn note(&mut self, outcome: Result<(), Refusal>) {
+        match outcome {
+            Ok(()) => self.is_fixed = true,
+            Err(refusal) => self.refused = Some(refusal),
+        }
+    }
+}
+
+/// Puts a byte at the front of page 0 under log record 5, and keeps the pass or gives it back.
+fn change<N: PoolName, P: Port, R: Wait>(
+    rt: &R,
+    alloc: Global,
+    pool: &SharedPool<N>,
+    client: &mut Client<N, P>,
+    keeps: bool,
+) -> Result<(), Refusal> {
+    let note = fix(rt, pool, client, 0)?;
+    let written = write(rt, alloc, pool, client, note, 7, 5);
+    if !keeps {
+        give(rt, pool, client, note)?;
+    }
+    written
+}
+
+impl<P: Port> Worker<P, RecordingKeeper> for Waiter {
+    fn work<N: PoolName, R: Wait>(
+        &mut self,
+        _rt: &R,
+        _pool: &SharedPool<N>,
+        _client: &mut Client<N, P>,
+    ) {}
+
+    fn lead<N: PoolName, R: Wait>(
+        &mut self,
+        rt: &R,
+        pool: &SharedPool<N>,
+        client: &mut Client<N, P>,
+        upkeep: &mut Upkeep<N>,
+    ) {
+        if let Err(refusal) = change(rt, self.alloc, pool, client, self.holds) {
+            self.refused = Some(refusal);
+            return;
+        }
+        let Some(second) = client.port.geometry().page(1) else {
+            return;
+        };
+        let patience = Patience {
+            rounds: self.rounds,
+            steps: 1,
+            pause: Duration::from_millis(1),
+        };
+        let mut log = Leading::new(&mut self.log, &mut upkeep.log);
+        let fixed = match fix_durably(rt, pool, client, &mut log, second, patience) {
+            Ok(pass) => give(rt, pool, client, pass.note()),
+            Err(refusal) => Err(refusal),
+        };
+        self.note(fixed);
+    }
+}
+
+/// Runs one waiter over one frame, and asserts that its trail is legal.
+fn run<R: Abort + AllocGlobal + Threads + Wait + Sync>(
+    rt: &R,
+    rounds: u32,
+    holds: bool,
+    is_broken: bool,
+) -> Left<MemPort, Waiter> {
+    let mut workers = Vec::new(rt.alloc());
+    let waiter = Waiter {
+        alloc: rt.alloc(),
+        log: Notes {
+            asked: 0,
+            times: 0,
+            is_broken,
+        },
+        rounds,
+        holds,
+        is_fixed: false,
+        refused: None,
+    };
+    workers.push(waiter).expect(rt, "a place");
+    let run = run_workers(rt, rt.alloc(), config(rt, 1), ports(rt, 1), workers);
+    let run = run.expect(rt, "the run");
+    assert_eq!(rt; unlawful_in(rt.alloc(), &run.core), Ok(None));
+    let mut left = run.left;
+    left.pop().expect(rt, "what the waiter left")
+}
+
+/// How often the clock was moved.
+fn ticks(left: &Left<MemPort, Waiter>) -> usize {
+    left.said()
+        .iter()
+        .filter(|entry| matches!(entry.call, Call::Tick(_)))
+        .count()
+}
+
+/// One fix finds no victim, one wants the log, and the third writes page 0 out and reads page 1.
+#[test]
+fn log_is_made_durable(rt: HostRuntime) {
+    let rt = &rt;
+    let left = run(rt, 2, false, false);
+    assert!(rt; left.worker.is_fixed);
+    assert_eq!(rt; left.worker.log.asked, 5);
+    assert_eq!(rt; left.worker.log.times, 1);
+    let totals = Totals::of(left.said());
+    let wanted = Totals {
+        hits: 0,
+        faults: 2,
+        evictions: 1,
+        writes: 1,
+        failed: 0,
+        refused: 2,
+    };
+    assert_eq!(rt; totals, wanted);
+    assert_eq!(rt; ticks(&left), 1);
+    assert_eq!(rt; left.said().len(), 13);
+}
+
+/// A page that is held never leaves: each try is one entry, and the clock is moved once.
+#[test]
+fn held_page_stays(rt: HostRuntime) {
+    let rt = &rt;
+    let left = run(rt, 3, true, false);
+    assert!(rt; !left.worker.is_fixed);
+    assert_eq!(rt; left.worker.refused, Some(Refusal::NoVictim));
+    assert_eq!(rt; left.worker.log.times, 0);
+    assert_eq!(rt; Totals::of(left.said()).refused, 4);
+    assert_eq!(rt; ticks(&left), 1);
+    assert_eq!(rt; left.held, 1);
+}
+
+/// A log that does not get durable ends the fix at once, whatever the rounds.
+#[test]
+fn broken_log_ends_the_fix(rt: HostRuntime) {
+    let rt = &rt;
+    let left = run(rt, 1_000_000, false, true);
+    assert!(rt; !left.worker.is_fixed);
+    assert_eq!(rt; left.worker.refused, Some(Refusal::NeedLog(Lsn::new(5))));
+    assert_eq!(rt; left.worker.log.times, 1);
+    assert_eq!(rt; left.said().len(), 7);
+}

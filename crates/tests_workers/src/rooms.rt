@@ -1,0 +1,93 @@
+//! The room of a pool's trail, in a pool of either kind.
+use crate::making::{config, ports};
+use bp_core::{RecordingKeeper, SilentKeeper};
+use bp_device::{MemPort, Port};
+use bp_keeper::ListKeeper;
+use bp_page::Refusal;
+use bp_shared::{PoolName, SharedPool};
+use bp_workers::{Client, Kind, Run, Upkeep, Worker, run_workers_over};
+use std::process::Abort;
+use std::rt::HostRuntime;
+use std::sync::Wait;
+use std::thread::Threads;
+
+/// Moves the clock eight times, by 1 each time.
+#[derive(Drop)]
+struct Ticker {
+    /// The ticks that were done, and those for which the trail had no room.
+    done: u64,
+    full: u64,
+}
+
+impl Ticker {
+    fn run<N: PoolName, P: Port, K: ListKeeper, R: Wait>(
+        &mut self,
+        rt: &R,
+        pool: &SharedPool<N, K>,
+        client: &mut Client<N, P, K>,
+    ) {
+        for _ in 0..8 {
+            match pool.tick(rt, &mut client.session, 1) {
+                Ok(()) => self.done = self.done.saturating_add(1),
+                Err(Refusal::TrailFull) => self.full = self.full.saturating_add(1),
+                Err(_) => {}
+            }
+        }
+    }
+}
+
+impl<P: Port, K: ListKeeper> Worker<P, K> for Ticker {
+    fn work<N: PoolName, R: Wait>(
+        &mut self,
+        rt: &R,
+        pool: &SharedPool<N, K>,
+        client: &mut Client<N, P, K>,
+    ) {
+        self.run(rt, pool, client);
+    }
+
+    fn lead<N: PoolName, R: Wait>(
+        &mut self,
+        rt: &R,
+        pool: &SharedPool<N, K>,
+        client: &mut Client<N, P, K>,
+        _upkeep: &mut Upkeep<N>,
+    ) {
+        self.run(rt, pool, client);
+    }
+}
+
+/// Two workers tick over a pool that has room for ten entries. Of their sixteen ticks ten were done, and for the others
+/// there was no room.
+fn run_tickers<K: Kind, R: Abort + AllocGlobal + Threads + Wait + Sync>(
+    rt: &R,
+) -> Run<MemPort, Ticker, K> {
+    let mut workers = Vec::new(rt.alloc());
+    for _ in 0..2 {
+        let worker = Ticker { done: 0, full: 0 };
+        workers.push(worker).expect(rt, "a place");
+    }
+    let mut config = config(rt, 4);
+    config.room = 10;
+    let ports = ports(rt, 2);
+    let run = run_workers_over::<K, MemPort, Ticker, R>(rt, rt.alloc(), config, ports, workers);
+    let run = run.expect(rt, "the run");
+    let mut done = 0u64;
+    let mut full = 0u64;
+    for left in &run.left {
+        done = done.saturating_add(left.worker.done);
+        full = full.saturating_add(left.worker.full);
+    }
+    assert_eq!(rt; (done, full), (10, 6));
+    run
+}
+
+/// A tick is one entry, of whichever worker, in a pool of either kind.
+#[test]
+fn room_is_counted_alike(rt: HostRuntime) {
+    let silent = run_tickers::<SilentKeeper, HostRuntime>(&rt);
+    assert_eq!(rt; silent.core.clock(), 11);
+    let recording = run_tickers::<RecordingKeeper, HostRuntime>(&rt);
+    assert_eq!(rt; recording.core.clock(), 11);
+    assert_eq!(rt; recording.core.trail().len(), 10);
+}
