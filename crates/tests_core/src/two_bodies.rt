@@ -1,59 +1,19 @@
-//! All three bodies of the candidates over the same calls.
-ghost use Rattle.std.specs.Prelude.{◌≡◌, ℕ, ◌+◌, ◌<◌, ◌≤◌};
-ghost use Rattle.tests_lruk.specs.Pool.{AreOwn, IsPool};
+//! Both bodies of the candidates that rank pages by themselves, over the same calls.
+ghost use Rattle.std.specs.Prelude.{◌≡◌, ℕ, ◌<◌, ◌≤◌};
+ghost use Rattle.tests_core.specs.Pool.{IsPool};
 
-use bp_lruk::{Candidates, Histories, Settings, scan, seats};
+use bp_lruk::{Candidates, Histories, Settings, scan};
 use bp_page::{PageNo, Refusal};
-use std::alloc::{AllocError, Global};
 use std::process::Abort;
-
-const PAGES: usize = 64;
 
 const FRAMES: usize = 48;
 
-// The third body, in which each page has a seat of its own.
-#[derive(Drop)]
-struct Seats {
-    candidates: seats::Candidates,
-    ghost own: { AreOwn candidates },
-}
-
-impl Seats {
-    fn new(alloc: Global, settings: Settings) -> Result<Seats, AllocError> {
-        let candidates = seats::Candidates::new(alloc, PAGES, settings)?;
-        Ok(Seats { candidates })
-    }
-
-    // Enters a page, also where it is entered.
-    #[tactic(auto, using(crate::proofs::Seats::set_own))]
-    fn enter(&mut self, page: PageNo, hist_k: u64, last: u64)
-        requires { page < 64 }
-    {
-        let seat = page.number() as usize;
-        self.candidates.leave(seat);
-        self.candidates.enter(seat, page, hist_k, last);
-    }
-
-    #[tactic(auto, using(crate::proofs::Seats::set_own))]
-    fn leave(&mut self, page: PageNo)
-        requires { page < 64 }
-    {
-        self.candidates.leave(page.number() as usize);
-    }
-
-    #[tactic(auto, using(crate::proofs::Seats::once))]
-    fn victim(&mut self, t: u64) -> Option<PageNo> {
-        self.candidates.victim(t)
-    }
-}
-
-// A pool without frames: histories, and the three bodies of the candidates, which are to agree.
+// A pool without frames: histories, and the two bodies of the candidates, which are to agree.
 #[derive(Drop)]
 struct Pool {
     histories: Histories,
     list: scan::Candidates,
     index: Candidates,
-    seats: Seats,
     now: u64,
     ghost sound: { IsPool histories list index now },
 }
@@ -61,7 +21,6 @@ struct Pool {
 impl Pool {
     // References a page, which is loaded if it is away. There is room for it.
     fn refer(&mut self, rt: &impl Abort, page: PageNo, k: usize) -> Result<(), Refusal>
-        requires page { page < 64 }
         requires started { 0 < self.old.now }
         ensures { self.new.now ≡ self.old.now }
     {
@@ -78,7 +37,6 @@ impl Pool {
         self.list.enter(page, hist_k, last);
         assert!(rt; !self.index.is_full());
         self.index.enter(page, hist_k, last);
-        self.seats.enter(page, hist_k, last);
         Ok(())
     }
 
@@ -88,25 +46,13 @@ impl Pool {
     {
         let victim = self.list.victim(self.now);
         assert_eq!(rt; self.index.victim(self.now), victim);
-        assert_eq!(rt; self.seats.victim(self.now), victim);
         let Some(page) = victim else {
             return false;
         };
         self.list.leave(page);
         self.index.leave(page);
-        assert!(rt; page.number() < 64);
-        self.seats.leave(page);
         self.histories.unprepare(page);
         true
-    }
-
-    // All bodies have the same victim at a time.
-    fn compare(&mut self, rt: &impl Abort, t: u64)
-        ensures { self.new.now ≡ self.old.now }
-    {
-        let victim = self.list.victim(t);
-        assert_eq!(rt; self.index.victim(t), victim);
-        assert_eq!(rt; self.seats.victim(t), victim);
     }
 }
 
@@ -131,29 +77,26 @@ fn run(rt: &impl Abort, pool: &mut Pool, k: usize) -> u64
         }
         let is_same = pool.index.contains(page) == pool.list.contains(page);
         assert!(rt; is_same, "call {call}, k {k}");
-        let back = if call % 16 == 15 { 5 } else { 0 };
-        pool.compare(rt, pool.now.saturating_sub(back));
+        let t = pool.now.saturating_sub(if call % 16 == 15 { 5 } else { 0 });
+        assert_eq!(rt;
+            pool.index.victim(t),
+            pool.list.victim(t),
+            "call {call}, k {k}"
+        );
     }
     replaced
-}
-
-fn new_pool(rt: &(impl Abort + AllocGlobal), settings: Settings) -> Pool
-    ensures { result.now ≡ 1 }
-{
-    let alloc = rt.alloc();
-    Pool {
-        histories: Histories::new(alloc, settings),
-        list: scan::Candidates::new(alloc, FRAMES, settings).expect(rt, "the list"),
-        index: Candidates::new(alloc, FRAMES, settings).expect(rt, "the index"),
-        seats: Seats::new(alloc, settings).expect(rt, "the seats"),
-        now: 1,
-    }
 }
 
 // A page is away at every fourth call or so.
 fn agree(rt: &(impl Abort + AllocGlobal), k: usize, correlated: u64) {
     let settings = Settings::new(k, correlated, 1000).expect(rt, "the settings");
-    let mut pool = new_pool(rt, settings);
+    let alloc = rt.alloc();
+    let mut pool = Pool {
+        histories: Histories::new(alloc, settings),
+        list: scan::Candidates::new(alloc, FRAMES, settings).expect(rt, "the list"),
+        index: Candidates::new(alloc, FRAMES, settings).expect(rt, "the index"),
+        now: 1,
+    };
     let replaced = run(rt, &mut pool, k);
     assert!(rt;
         replaced > 1000,
@@ -162,7 +105,7 @@ fn agree(rt: &(impl Abort + AllocGlobal), k: usize, correlated: u64) {
 }
 
 #[test]
-fn three_bodies_agree(rt: HostRuntime) {
+fn two_bodies_agree(rt: HostRuntime) {
     for k in [1, 2, 16] {
         agree(&rt, k, 0);
         agree(&rt, k, 3);

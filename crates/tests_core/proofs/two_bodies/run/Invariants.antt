@@ -1,5 +1,5 @@
 use Rattle.std.proofs.Common.{◌+◌, ◌*◌, ◌<◌, ◌≤◌}
-use Rattle.tests_lruk.proofs.candidates.three_bodies.run.Given as goal
+use Rattle.tests_core.proofs.two_bodies.run.Given as goal
 
 abbrev pub invariant-loop-call : goal.invariant-loop-call
 invariant-loop-call g l = record {

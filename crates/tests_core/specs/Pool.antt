@@ -1,8 +1,7 @@
 -- What a test's pool keeps.
-use Rattle.std.specs.Prelude.{◌≡◌, ℕ, ◌<◌, ◌≤◌, true, length, Some}
+use Rattle.std.specs.Prelude.{◌≡◌, ℕ, ◌<◌, ◌≤◌, true}
 use Rattle.bp_lruk.specs.Histories.{Blocks, is_held, last_of}
-use Rattle.bp_lruk.specs.Candidates.{Candidate, Entered, is_entered}
-use Rattle.bp_lruk.specs.Seats.{Seated, seat_of}
+use Rattle.bp_lruk.specs.Candidates.{Entered, is_entered}
 
 -- the held pages are those that are entered in both lists, each has a reference, and none is after now
 pub record IsPool (histories : Blocks) (list index : Entered) (now : ℕ) : Type 0 where
@@ -10,8 +9,3 @@ pub record IsPool (histories : Blocks) (list index : Entered) (now : ℕ) : Type
   pub in_index : (page : ℕ) → is_entered index page ≡ is_held histories page
   pub known : (page : ℕ) → is_held histories page ≡ true → 0 < last_of histories page
   pub by_now : (page : ℕ) → last_of histories page ≤ now
-
--- there are 64 seats, and a page stands at its own seat alone
-pub record AreOwn (seats : Seated) : Type 0 where
-  pub count : length seats.seats ≡ 64
-  pub own : (seat : ℕ) (e : Candidate) → seat_of seats seat ≡ Some e → e.2 ≡ seat
