@@ -1,10 +1,10 @@
-/* The peer of bench_pool and bench_threads: the memory pool of Berkeley DB. A fix is memp_fget, an unfix memp_fput.
+/* The peer of `bench pool` and bench_threads: the memory pool of Berkeley DB. A fix is memp_fget, an unfix memp_fput.
  *
  *     cc -O2 mpool.c -ldb -lpthread -o mpool
  *     ./mpool THREADS SECONDS PAGES FRAMES PAGESIZE HOT
  *
  * A file of PAGES pages is made in the present folder and filled. Each thread then fixes and unfixes pages of the first
- * HOT ones, by the same generator of numbers as bench_pool and bench_threads. The cache has FRAMES * (PAGESIZE + 256)
+ * HOT ones, by the same generator of numbers as those two. The cache has FRAMES * (PAGESIZE + 256)
  * bytes; Berkeley DB enlarges a small one, so for runs with evictions FRAMES is chosen such that the hit rate, which is
  * printed, is the one wanted.
  *

@@ -1,8 +1,8 @@
 #!/usr/bin/env python3
-"""Runs bench_pool or bench_threads and Berkeley DB's memory pool in turn, over the same pages, and prints the ratios.
+"""Runs `bench pool` or bench_threads and Berkeley DB's memory pool in turn, over the same pages, and prints the ratios.
 
     apt-get install libdb5.3-dev           (a C compiler is needed too)
-    (cd crates/bench_pool && rt run)       builds a bench; with no argument it does nothing
+    (cd crates/bench && rt run)            builds a bench; with no argument it does nothing
     (cd crates/bench_threads && rt run)    the same; with no argument it does little
     peers/side_by_side.py ROUNDS [ROOM ..]
     peers/side_by_side.py ROUNDS threads [silent]
@@ -21,10 +21,10 @@ import sys
 import tempfile
 
 TOP = os.path.dirname(os.path.dirname(os.path.realpath(__file__)))
-BENCH = f"{TOP}/crates/bench_pool/out/bench_pool"
+BENCH = f"{TOP}/crates/bench/out/bench"
 BENCH_THREADS = f"{TOP}/crates/bench_threads/out/bench_threads"
 FILE_BYTES = 268435456
-# For each column of bench_pool: pages of the file, frames such that the hit rate is the same, hot pages.
+# For each column of `bench pool`: pages of the file, frames such that the hit rate is the same, hot pages.
 COLUMNS = [
     ("hits, 256 frames", 256, 256, 256),
     ("evictions, 256 frames", 1024, 177, 1024),
@@ -46,7 +46,7 @@ def said(words, folder):
 
 
 def ours(pages, room, folder):
-    words = [BENCH, pages] + ([str(room)] if room else [])
+    words = [BENCH, "pool", pages] + ([str(room)] if room else [])
     return [int(it) for it in re.findall(r"pages: (\d+) fixes", said(words, folder))]
 
 

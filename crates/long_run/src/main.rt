@@ -1,245 +1,292 @@
-//! Ten million entries by one core in a room of 4,096: the trail is cut as it goes, and goes on in the memory of the piece
-//! before. It prints what the pieces have; the file `stdout` has what was worked out by hand.
+//! Two long runs. One core makes ten million entries in a room of 4,096: its trail is cut as it goes, and goes on in the
+//! memory of the piece before. Another only counts its entries, while two gigabytes of images go by; what the program
+//! has in memory at the end is told. The file `stdout` was worked out by hand.
+//!
+//! With the word `cut` it makes the first run alone, with `uncut` the same in a room for all entries. With `silent`, a
+//! number of rounds and the bytes of a page it makes such a second run.
 #![tactic(auto)]
 
-ghost use Rattle.std.specs.Prelude.{◌≡◌, ◌<◌, ◌≤◌, IfOk};
+ghost use Rattle.std.specs.Prelude.{◌≡◌, ◌+◌, ◌<◌, ◌≤◌, length};
 
-use bp_core::{Core, EndRefusal, Entry, Fix, Pass, ReadTicket, Reply};
+use bp_core::{Entry, Keeper, Pass, PoolCore, RecordingKeeper, SilentKeeper};
+use bp_device::{MemDevice, MemPort, drive_fix};
 use bp_lruk::Settings;
-use bp_page::{Geometry, Image, Lsn, PageNo, Refusal};
+use bp_page::{Bytes, Geometry, Lsn, PageNo, Refusal};
+use bp_totals::Totals;
 use std::alloc::Global;
-use std::mem;
-use std::rt::Runtime;
+use std::rt::{Files, Runtime};
+use std::sync::Wait;
+use std::{env, fs};
+
+// The pages that a round uses.
+const PAGES: u64 = 4;
+
+// A round has ten entries where each page has a frame: a fix and an unfix of each, a tick and a mark.
+const ROUNDS: u64 = 1000000;
+
+// Each has 4,000 entries, and the first has twelve more.
+const PIECES: u64 = 2500;
 
 const ROOM: usize = 4096;
 
-// The pages that are used, each in a frame of its own.
-const PAGES: u64 = 4;
+// For all entries.
+const GREAT_ROOM: usize = 10500000;
 
-// A round is ten entries: a fix and an unfix of each page, a tick and a mark.
-const ROUNDS: u64 = 1000000;
+const SILENT_ROUNDS: u64 = 2500;
 
-// The rounds between two cuts: 4,000 entries, and twelve more before the first cut.
-const ROUNDS_A_CUT: u64 = 400;
+// The greatest size of a page.
+const SILENT_SIZE: usize = 65536;
 
-// What the pieces have that were cut so far.
-#[derive(Clone, Copy)]
-struct Counts {
-    pieces: u64,
-    // The pieces that had more or less memory than the room needs.
-    odd_pieces: u64,
-    entries: u64,
-    loads: u64,
-    faults: u64,
-    hits: u64,
-    // The hits whose pass has the number after that of the pass before.
-    hits_in_turn: u64,
-    done: u64,
-    others: u64,
-    next_pass: u64,
-}
+// So much of 64 MiB, in blocks of 4 KiB.
+const FEW_BLOCKS: u64 = 16384;
 
-// What was cut so far.
+/// A core for one client over a device in memory, and the uses of its pages.
 #[derive(Drop)]
-struct Tally {
-    // The piece that was cut last, in whose memory the trail goes on after the next cut.
-    spare: Vec<Entry>,
-    counts: Counts,
+struct Pool<K: Keeper> {
+    core: PoolCore<K>,
+    port: MemPort,
+    /// Whether a page that is used is read and written.
+    is_changed: bool,
+    /// What is written next.
+    bytes: Bytes,
+    used: u64,
+    as_written: u64,
+    refused: u64,
+    ghost size: { port.device.size ≡ core.parameters.size },
+    ghost client: { 0 < core.parameters.clients },
+    ghost pages: { core.parameters.pages ≡ PAGES },
+    ghost fits: { 0 + length bytes ≤ core.parameters.size },
+    ghost one_fits: { 1 ≤ core.parameters.size },
 }
 
-fn nothing() -> Counts {
-    Counts {
-        pieces: 0,
-        odd_pieces: 0,
-        entries: 0,
-        loads: 0,
-        faults: 0,
-        hits: 0,
-        hits_in_turn: 0,
-        done: 0,
-        others: 0,
-        next_pass: 0,
-    }
+/// The byte that a round writes to each page.
+fn byte_of(round: u64) -> u8 {
+    (round % 251) as u8
 }
 
-fn add_one(count: &mut u64) {
-    *count = count.saturating_add(1);
-}
-
-impl Counts {
-    fn count(&mut self, entry: &Entry) {
-        add_one(&mut self.entries);
-        match &entry.reply {
-            Reply::Hit(pass) => self.count_hit(*pass),
-            Reply::Done => add_one(&mut self.done),
-            Reply::Load { .. } => add_one(&mut self.loads),
-            Reply::Fixed(pass) => {
-                add_one(&mut self.faults);
-                self.next_pass = pass.saturating_add(1);
-            }
-            _ => add_one(&mut self.others),
-        }
-    }
-
-    fn count_hit(&mut self, pass: u64) {
-        add_one(&mut self.hits);
-        if pass == self.next_pass {
-            add_one(&mut self.hits_in_turn);
-        }
-        self.next_pass = pass.saturating_add(1);
-    }
-
-    fn count_piece(&mut self, piece: &Vec<Entry>) {
-        add_one(&mut self.pieces);
-        if piece.capacity() != ROOM {
-            add_one(&mut self.odd_pieces);
-        }
-        for entry in piece {
-            self.count(entry);
-        }
-    }
-}
-
-impl Tally {
-    // Cuts the trail into the memory of the piece before.
-    fn cut(&mut self, alloc: Global, core: &mut Core)
-        ensures same { core.new.parameters ≡ core.old.parameters }
-    {
-        let spare = mem::replace(&mut self.spare, Vec::new(alloc));
-        if let Ok(piece) = core.cut_into(spare) {
-            self.counts.count_piece(&piece);
-            self.spare = piece;
-        }
-    }
-}
-
-fn give_back(core: &mut Core, pass: Pass)
-    ensures same { core.new.parameters ≡ core.old.parameters }
-{
-    if let Err(pass) = core.unfix(pass) {
-        pass.note();
-    }
-}
-
-// Ends the read of a page of zeros, and gives the pass back.
-fn end_read(alloc: Global, core: &mut Core, ticket: ReadTicket)
-    ensures same { core.new.parameters ≡ core.old.parameters }
-{
-    let Ok(zeros) = Image::blank(alloc, &core.geometry()) else {
-        ticket.forfeit();
-        return;
-    };
-    match core.read_end(ticket, Ok(zeros)) {
-        Ok(pass) => give_back(core, pass),
-        Err(EndRefusal::Unknown(ticket, _)) => ticket.forfeit(),
-        Err(EndRefusal::Failed(_)) => {}
-    }
-}
-
-// Fixes a page, which is read where it is away, and gives it back.
-fn use_page(alloc: Global, core: &mut Core, page: u64)
-    requires client { 0 < core.old.parameters.clients }
-    requires page_in { page < core.old.parameters.pages }
-    ensures same { core.new.parameters ≡ core.old.parameters }
-{
-    match core.fix(0, PageNo::new(page)) {
-        Ok(Fix::Hit(pass)) => give_back(core, pass),
-        Ok(Fix::Load(ticket, _)) => end_read(alloc, core, ticket),
-        Ok(Fix::WriteFirst(ticket)) => ticket.forfeit(),
-        Err(_) => {}
-    }
-}
-
-// Fixes each page, and gives it back.
-fn use_pages(alloc: Global, core: &mut Core)
-    requires client { 0 < core.old.parameters.clients }
-    requires pages_in { PAGES ≤ core.old.parameters.pages }
-    ensures same { core.new.parameters ≡ core.old.parameters }
-{
-    for page in 0..PAGES {
-        use_page(alloc, core, page);
-    }
-}
-
-// Uses each page, and moves the clock and the mark.
-fn run_round(alloc: Global, core: &mut Core, round: u64)
-    requires client { 0 < core.old.parameters.clients }
-    requires pages_in { PAGES ≤ core.old.parameters.pages }
-    ensures same { core.new.parameters ≡ core.old.parameters }
-{
-    use_pages(alloc, core);
-    let _ = core.tick(0, 1);
-    let _ = core.mark(0, Lsn::new(round));
-}
-
-// Reads the pages, and runs all rounds.
-fn run(alloc: Global, core: &mut Core) -> Counts
-    requires client { 0 < core.old.parameters.clients }
-    requires pages_in { PAGES ≤ core.old.parameters.pages }
-{
-    let mut tally = Tally {
-        spare: Vec::new(alloc),
-        counts: nothing(),
-    };
-    use_pages(alloc, core);
-    for round in 1..=ROUNDS {
-        run_round(alloc, core, round);
-        if round % ROUNDS_A_CUT == 0 {
-            tally.cut(alloc, core);
-        }
-    }
-    tally.counts
-}
-
-// A core of K 2 and no periods, with a frame for each page.
-fn new_core(alloc: Global) -> Result<Core, Refusal>
-    ensures client { IfOk result (λ core. core.parameters.clients ≡ 1) }
-    ensures pages { IfOk result (λ core. core.parameters.pages ≡ PAGES) }
-{
-    let geometry = Geometry::new(PAGES, 16)?;
+fn new_pool<K: Keeper>(
+    alloc: Global,
+    frames: usize,
+    size: usize,
+    room: usize,
+) -> Result<Pool<K>, Refusal> {
+    let geometry = Geometry::new(PAGES, size)?;
     let settings = Settings::new(2, 0, 0)?;
-    Core::new(alloc, geometry, settings, PAGES as usize, 1, ROOM)
-}
-
-// How a core ends.
-#[derive(Clone, Copy)]
-struct End {
-    clock: u64,
-    durable: u64,
-    // The entries that were not cut.
-    left: usize,
-}
-
-fn run_all(alloc: Global) -> Result<(Counts, End), Refusal> {
-    let mut core = new_core(alloc)?;
-    let counts = run(alloc, &mut core);
-    let end = End {
-        clock: core.clock(),
-        durable: core.durable().number(),
-        left: core.trail().len(),
+    let Ok(bytes) = Bytes::of(alloc, &[0]) else {
+        return Err(Refusal::OutOfMemory);
     };
-    Ok((counts, end))
+    let port = MemDevice::new(alloc, geometry)?.port()?;
+    let core = PoolCore::new(alloc, geometry, settings, frames, 1, room)?;
+    Ok(Pool {
+        core,
+        port,
+        is_changed: frames < PAGES as usize,
+        bytes,
+        used: 0,
+        as_written: 0,
+        refused: 0,
+    })
 }
 
-fn print(rt: &impl Runtime<A = Global>, counts: Counts, end: End) -> Result<(), anyhow::Error> {
+impl<K: Keeper> Pool<K> {
+    /// Reads the page of a pass, and writes to it. Tells whether it was as the round before wrote it.
+    fn change(&mut self, pass: &Pass, round: u64) -> Result<bool, Refusal> {
+        let image = self.core.read(pass)?;
+        self.core.write(pass, 0, &self.bytes, Lsn::new(round))?;
+        let before = byte_of(round.saturating_sub(1));
+        Ok(image.bytes().first() == Some(&before))
+    }
+
+    /// Fixes a page and gives it back.
+    fn use_page(&mut self, rt: &impl Wait, page: u64, round: u64) -> Result<bool, Refusal>
+        requires { page < PAGES }
+    {
+        let pass = drive_fix(rt, &mut self.core, &mut self.port, 0, PageNo::new(page))?;
+        let changed = if self.is_changed {
+            self.change(&pass, round)
+        } else {
+            Ok(false)
+        };
+        if let Err(pass) = self.core.unfix(pass) {
+            pass.note();
+        }
+        changed
+    }
+
+    fn count(&mut self, used: Result<bool, Refusal>) {
+        match used {
+            Ok(as_written) => {
+                self.used = self.used.saturating_add(1);
+                if as_written {
+                    self.as_written = self.as_written.saturating_add(1);
+                }
+            }
+            Err(_) => self.refused = self.refused.saturating_add(1),
+        }
+    }
+
+    /// The clock moves, and the log is durable as far as what was written.
+    fn go_on(&mut self, round: u64) {
+        let _ = self.core.mark(0, Lsn::new(round));
+        let _ = self.core.tick(0, 1);
+    }
+
+    /// Uses each page. Where pages are changed, time goes on after each, so that the next may take its frame.
+    fn run_round(&mut self, rt: &impl Wait, round: u64) {
+        for page in 0..PAGES {
+            let used = self.use_page(rt, page, round);
+            self.count(used);
+            if self.is_changed || page == PAGES - 1 {
+                self.go_on(round);
+            }
+        }
+    }
+
+    /// Runs so many rounds, which change each page.
+    fn run_rounds(&mut self, rt: &(impl AllocGlobal + Wait), rounds: u64) -> Result<(), Refusal> {
+        for round in 1..=rounds {
+            let Ok(bytes) = Bytes::of(rt.alloc(), &[byte_of(round)]) else {
+                return Err(Refusal::OutOfMemory);
+            };
+            self.bytes = bytes;
+            self.run_round(rt, round);
+        }
+        Ok(())
+    }
+}
+
+/// What the pieces of a trail have.
+#[derive(Clone, Copy)]
+struct Cut {
+    entries: u64,
+    // The pieces that have more or less memory than the room needs.
+    odd_pieces: u64,
+    totals: Totals,
+}
+
+impl Cut {
+    fn count(&mut self, piece: &Vec<Entry>, room: usize) {
+        self.entries = self.entries.saturating_add(piece.len() as u64);
+        if piece.capacity() != room {
+            self.odd_pieces = self.odd_pieces.saturating_add(1);
+        }
+        if let Some(totals) = self.totals.plus(Totals::of(piece)) {
+            self.totals = totals;
+        }
+    }
+}
+
+/// Brings in each page, and then runs all rounds. The trail is cut so many times, each time into the memory of the
+/// piece before.
+fn run_cut(
+    rt: &(impl AllocGlobal + Wait),
+    pool: &mut Pool<RecordingKeeper>,
+    pieces: u64,
+) -> Result<Cut, Refusal>
+    requires { 0 < pieces }
+{
+    let mut cut = Cut {
+        entries: 0,
+        odd_pieces: 0,
+        totals: Totals::none(),
+    };
+    let mut piece = Vec::new(rt.alloc());
+    for page in 0..PAGES {
+        let _ = pool.use_page(rt, page, 0);
+    }
+    let mut round = 0u64;
+    for _ in 0..pieces {
+        for _ in 0..ROUNDS / pieces {
+            round = round.saturating_add(1);
+            pool.run_round(rt, round);
+        }
+        piece = pool.core.cut_into(piece)?;
+        cut.count(&piece, pool.core.room());
+    }
+    Ok(cut)
+}
+
+/// The first run. Its entries are told of.
+fn run_recorded(
+    rt: &(impl Runtime<A = Global> + Wait),
+    pieces: u64,
+    room: usize,
+) -> Result<(), anyhow::Error>
+    requires { 0 < pieces }
+{
+    let mut pool = new_pool(rt.alloc(), PAGES as usize, 16, room)?;
+    let cut = run_cut(rt, &mut pool, pieces)?;
     println!(rt;
-        "{} entries in {} pieces, {} of them in more or less memory than the room needs; {} left",
-        counts.entries, counts.pieces, counts.odd_pieces, end.left
+        "{} entries in {pieces} pieces, {} of them in more or less memory than the room needs; {} left",
+        cut.entries,
+        cut.odd_pieces,
+        pool.core.trail().len()
     )?;
     println!(rt;
-        "{} loads, {} faults, {} hits",
-        counts.loads, counts.faults, counts.hits
+        "{} hits, {} faults, {} evictions, {} writes, {} failed, {} refused",
+        cut.totals.hits,
+        cut.totals.faults,
+        cut.totals.evictions,
+        cut.totals.writes,
+        cut.totals.failed,
+        cut.totals.refused
     )?;
+    print_end(rt, &pool)
+}
+
+fn print_end<K: Keeper>(
+    rt: &impl Runtime<A = Global>,
+    pool: &Pool<K>,
+) -> Result<(), anyhow::Error> {
+    let (clock, durable) = (pool.core.clock(), pool.core.durable().number());
+    println!(rt; "clock {clock}, durable log {durable}")?;
+    Ok(())
+}
+
+/// How many blocks of 4 KiB the program has in memory, as the system tells it.
+fn resident(rt: &(impl Runtime<A = Global> + Files)) -> Option<u64> {
+    let Ok(told) = fs::read_to_string(rt, "/proc/self/statm") else {
+        return None;
+    };
+    told.split_whitespace().nth(1)?.parse::<u64>().ok()
+}
+
+/// The second run, in half as many frames as pages: each fix brings its page in, and another that was changed goes out.
+fn run_silent(
+    rt: &(impl Runtime<A = Global> + Files + Wait),
+    rounds: u64,
+    size: usize,
+) -> Result<(), anyhow::Error> {
+    let mut pool = new_pool::<SilentKeeper>(rt.alloc(), 2, size, SilentKeeper::MOST_ROOM)?;
+    pool.run_rounds(rt, rounds)?;
     println!(rt;
-        "{} hits have the pass after the one before",
-        counts.hits_in_turn
+        "{} pages used, {} of them as the round before wrote them, {} refused",
+        pool.used, pool.as_written, pool.refused
     )?;
-    println!(rt; "{} done, {} other replies", counts.done, counts.others)?;
-    println!(rt; "clock {}, durable log {}", end.clock, end.durable)?;
+    print_end(rt, &pool)?;
+    match resident(rt) {
+        Some(blocks) if blocks < FEW_BLOCKS => println!(rt; "less than 64 MiB in memory")?,
+        Some(blocks) => println!(rt; "{blocks} blocks of 4 KiB in memory")?,
+        None => println!(rt; "it is not known how much is in memory")?,
+    }
     Ok(())
 }
 
 fn main(rt: HostRuntime) -> Result<(), anyhow::Error> {
-    let (counts, end) = run_all(rt.alloc())?;
-    print(&rt, counts, end)
+    let mut words = env::args(&rt)?.skip(1);
+    let Some(word) = words.next() else {
+        run_recorded(&rt, PIECES, ROOM)?;
+        return run_silent(&rt, SILENT_ROUNDS, SILENT_SIZE);
+    };
+    if word.as_str() == "cut" {
+        return run_recorded(&rt, PIECES, ROOM);
+    }
+    if word.as_str() == "uncut" {
+        return run_recorded(&rt, 1, GREAT_ROOM);
+    }
+    if let (Some(rounds), Some(size)) = (words.next(), words.next()) {
+        let rounds = rounds.as_str().parse::<u64>()?;
+        return run_silent(&rt, rounds, size.as_str().parse::<usize>()?);
+    }
+    Ok(())
 }

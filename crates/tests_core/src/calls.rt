@@ -69,7 +69,7 @@ pub(super) enum Gives {
 /// A core that is called by rows.
 pub(super) struct Run<K: Keeper> {
     alloc: Global,
-    core: PoolCore<K>,
+    pub(super) core: PoolCore<K>,
     /// The passes that were given, by their serial numbers.
     passes: Vec<PassNote>,
     read: Option<ReadTicket>,
@@ -84,10 +84,6 @@ fn first_byte(image: &Image) -> Option<u8> {
         Some((first, rest)) if rest.iter().all(|byte| *byte == 0) => Some(*first),
         _ => None,
     }
-}
-
-fn number(count: usize) -> Gives {
-    Gives::Number(count as u64)
 }
 
 impl<K: Keeper> Run<K> {
@@ -113,11 +109,6 @@ impl<K: Keeper> Run<K> {
             pieces: _,
         } = self;
         forfeit(read, write);
-    }
-
-    /// The core that is called.
-    pub(super) fn core(&self) -> &PoolCore<K> {
-        &self.core
     }
 
     /// The pass of this serial number, which stays out here.
@@ -358,7 +349,7 @@ impl Run<RecordingKeeper> {
                 for entry in piece {
                     let _ = self.pieces.push(entry);
                 }
-                number(count)
+                Gives::Number(count as u64)
             }
             Err(refusal) => Gives::Refused(refusal),
         }
@@ -368,7 +359,7 @@ impl Run<RecordingKeeper> {
     pub(super) fn call(&mut self, what: Do) -> Gives {
         match what {
             Do::Cut => self.cut(),
-            Do::Length => number(self.core.trail().len()),
+            Do::Length => Gives::Number(self.core.trail().len() as u64),
             Do::Fresh => Gives::Is(self.core.fresh()),
             other => self.call_any(other),
         }

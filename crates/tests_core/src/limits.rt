@@ -1,9 +1,9 @@
-//! Where a core's parameters, its room and its clock end, and the numbers of refusals.
+//! Where a core's parameters, its room and its clock end.
 use super::calls::{Do, Gives};
 use super::rows::{answers, core, usual};
 use bp_core::{Core, SilentCore};
 use bp_lruk::Settings;
-use bp_page::{Geometry, Lsn, Refusal};
+use bp_page::{Geometry, Refusal};
 use std::alloc::Global;
 
 /// A core with these frames, clients and room.
@@ -63,23 +63,6 @@ fn keeps_the_room_of_a_silent_core(rt: HostRuntime) {
     ] {
         let found = refused_silent(rt.alloc(), room);
         assert_eq!(rt; found, Ok(number), "room {room}");
-    }
-}
-
-#[test]
-fn numbers_of_refusals(rt: HostRuntime) {
-    for (refusal, number) in [
-        (Refusal::BadSettings, 2),
-        (Refusal::NoVictim, 11),
-        (Refusal::NeedLog(Lsn::new(3)), 12),
-        (Refusal::Busy, 13),
-        (Refusal::ReadFailed, 17),
-        (Refusal::WriteFailed, 18),
-        (Refusal::WrongPage, 19),
-        (Refusal::TrailFull, 20),
-        (Refusal::ClockFull, 21),
-    ] {
-        assert_eq!(rt; refusal.number(), number);
     }
 }
 

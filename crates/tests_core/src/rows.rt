@@ -9,9 +9,6 @@ use std::process::Abort;
 /// A run whose trail can be read.
 pub(super) type Recorded = Run<RecordingKeeper>;
 
-/// A run over a core that only counts its entries.
-pub(super) type Silent = Run<SilentKeeper>;
-
 /// A core over 16 pages of 16 bytes, with two clients and no correlated period.
 fn new_core<K: Keeper>(
     alloc: Global,
@@ -37,18 +34,6 @@ pub(super) fn core(
     Run::of(rt.alloc(), core.expect(rt, "the core"))
 }
 
-/// Such a run, of a core that only counts its entries.
-pub(super) fn silent(
-    rt: &(impl Abort + AllocGlobal),
-    k: usize,
-    retained: u64,
-    frames: usize,
-    room: usize,
-) -> Silent {
-    let core = new_core(rt.alloc(), k, retained, frames, room);
-    Run::of(rt.alloc(), core.expect(rt, "the core"))
-}
-
 /// A run over a core with two stamps and room enough.
 pub(super) fn usual(rt: &(impl Abort + AllocGlobal), frames: usize) -> Recorded {
     core(rt, 2, 1000, frames, 100)
@@ -68,26 +53,23 @@ pub(super) fn answers(rt: &impl Abort, mut run: Recorded, rows: &[(Do, Gives)]) 
     run.into_entries();
 }
 
-/// Makes the calls, and cuts the trail after each.
-fn follow_with_cuts(rt: &impl Abort, run: &mut Recorded, rows: &[(Do, Gives)]) {
+/// Makes the calls, and cuts the trail after each. All entries come back.
+fn follow_with_cuts(rt: &impl Abort, mut run: Recorded, rows: &[(Do, Gives)]) -> Vec<Entry> {
     for (what, gives) in rows {
         let given = run.call(*what);
         assert_eq!(rt; given, *gives, "{what:?}, with cuts");
         run.call(Do::Cut);
         assert_eq!(rt; run.call(Do::Length), Gives::Number(0));
     }
-}
-
-fn entries_with_cuts(rt: &impl Abort, mut run: Recorded, rows: &[(Do, Gives)]) -> Vec<Entry> {
-    follow_with_cuts(rt, &mut run, rows);
     run.into_entries()
 }
 
 /// Makes the calls over a core with the same frames, room and settings that only counts its entries.
 fn follow_silently(rt: &(impl Abort + AllocGlobal), run: &Recorded, rows: &[(Do, Gives)]) {
-    let settings = run.core().settings();
-    let (frames, room) = (run.core().frames(), run.core().room());
-    let mut other = silent(rt, settings.k, settings.retained, frames, room);
+    let settings = run.core.settings();
+    let (frames, room) = (run.core.frames(), run.core.room());
+    let core = new_core::<SilentKeeper>(rt.alloc(), settings.k, settings.retained, frames, room);
+    let mut other = Run::of(rt.alloc(), core.expect(rt, "the core"));
     for (what, gives) in rows {
         let given = other.call_any(*what);
         assert_eq!(rt; given, *gives, "{what:?}, silently");
@@ -107,7 +89,7 @@ pub(super) fn answers_with_cuts(
     follow_silently(rt, &run, rows);
     follow(rt, &mut run, rows);
     let whole = run.into_entries();
-    let joined = entries_with_cuts(rt, other, rows);
+    let joined = follow_with_cuts(rt, other, rows);
     assert_eq!(rt; whole.len(), entries);
     assert_eq!(rt; joined.as_slice(), whole.as_slice());
 }

@@ -1,0 +1,229 @@
+//! Times each call of a core, over many pages in turn.
+ghost use Rattle.std.specs.Prelude.{◌≡◌, ◌+◌, ◌<◌, ◌≤◌, length};
+
+use crate::tell;
+use bp_core::{Core, EndRefusal, Entry, Fix, Flush, PassNote, ReadTicket};
+use bp_lruk::Settings;
+use bp_page::{Bytes, Geometry, Image, Lsn, PageNo, Refusal};
+use std::alloc::Global;
+use std::mem;
+use std::rt::Runtime;
+use std::time::CpuClock;
+
+const SIZE: usize = 1024;
+
+const MAX_FRAMES: u64 = 65536;
+
+const ROUNDS: u64 = 10;
+
+#[derive(Clone, Copy)]
+enum Call {
+    Fix,
+    Unfix,
+    Tick,
+    Read,
+    Write,
+    Flush,
+    Mark,
+    Purge,
+    Cut,
+}
+
+/// What is timed in a round, in this order.
+const CALLS: [(Call, &str); 11] = [
+    (Call::Fix, "fix that loads, and read_end"),
+    (Call::Unfix, "unfix"),
+    (Call::Tick, "tick"),
+    (Call::Fix, "fix of a page that is here"),
+    (Call::Read, "read"),
+    (Call::Write, "write"),
+    (Call::Unfix, "unfix"),
+    (Call::Flush, "flush that writes out, and write_end"),
+    (Call::Mark, "mark"),
+    (Call::Purge, "purge, for each page forgotten"),
+    (Call::Cut, "cut"),
+];
+
+/// A core for one client, with the passes of the newest fixes and the piece that was cut last.
+#[derive(Drop)]
+struct Bench {
+    alloc: Global,
+    core: Core,
+    pages: u64,
+    bytes: Bytes,
+    passes: Vec<PassNote>,
+    spare: Vec<Entry>,
+    ghost client: { 0 < core.parameters.clients },
+    ghost pages_in: { core.parameters.pages ≡ pages },
+    ghost fits: { 0 + length bytes ≤ core.parameters.size },
+}
+
+/// A core of K 2 and no correlated period, which forgets what is older than a tick. It has twice as many pages as
+/// frames.
+fn new_bench(alloc: Global, frames: u64) -> Result<Bench, Refusal>
+    requires { frames ≤ MAX_FRAMES }
+{
+    let pages = 2 * frames;
+    let geometry = Geometry::new(pages, SIZE)?;
+    let settings = Settings::new(2, 0, 1)?;
+    let room = 16 * frames as usize;
+    let Ok(bytes) = Bytes::of(alloc, b"sixteen bytes ..".as_slice()) else {
+        return Err(Refusal::OutOfMemory);
+    };
+    Ok(Bench {
+        alloc,
+        core: Core::new(alloc, geometry, settings, frames as usize, 1, room)?,
+        pages,
+        bytes,
+        passes: Vec::new(alloc),
+        spare: Vec::new(alloc),
+    })
+}
+
+impl Bench {
+    /// Ends a read with zeros.
+    fn end_read(&mut self, ticket: ReadTicket) {
+        let Ok(image) = Image::blank(self.alloc, &self.core.geometry()) else {
+            ticket.forfeit();
+            return;
+        };
+        match self.core.read_end(ticket, Ok(image)) {
+            Ok(pass) => {
+                let _ = self.passes.push(pass.note());
+            }
+            Err(EndRefusal::Unknown(ticket, _)) => ticket.forfeit(),
+            Err(EndRefusal::Failed(_)) => {}
+        }
+    }
+
+    /// Fixes a page, which is read where it is away.
+    fn fix(&mut self, page: u64) {
+        if page >= self.pages {
+            return;
+        }
+        match self.core.fix(0, PageNo::new(page)) {
+            Ok(Fix::Hit(pass)) => {
+                let _ = self.passes.push(pass.note());
+            }
+            Ok(Fix::Load(ticket, _)) => self.end_read(ticket),
+            Ok(Fix::WriteFirst(ticket)) => ticket.forfeit(),
+            Err(_) => {}
+        }
+    }
+
+    /// Writes a page out where it is unsaved, to no device.
+    fn flush(&mut self, page: u64) {
+        if page >= self.pages {
+            return;
+        }
+        match self.core.flush(0, PageNo::new(page)) {
+            Ok(Flush::WriteFirst(ticket)) => match self.core.write_end(ticket, Ok(())) {
+                Err(EndRefusal::Unknown(ticket, _)) => ticket.forfeit(),
+                Err(EndRefusal::Failed(_)) => {}
+                Ok(_) => {}
+            },
+            Ok(Flush::Clean) => {}
+            Ok(Flush::Absent) => {}
+            Err(_) => {}
+        }
+    }
+
+    /// Reads the page of a pass, writes to it, or gives the pass back.
+    fn use_pass(&mut self, call: Call, place: usize) {
+        let Some(note) = self.passes.get(place).copied() else {
+            return;
+        };
+        let pass = note.pass();
+        match call {
+            Call::Read => {
+                let _ = self.core.read(&pass);
+            }
+            Call::Write => {
+                let _ = self.core.write(&pass, 0, &self.bytes, Lsn::new(0));
+            }
+            _ => {
+                if let Err(pass) = self.core.unfix(pass) {
+                    pass.note();
+                }
+                return;
+            }
+        }
+        pass.note();
+    }
+
+    /// Hands out the trail, and goes on in the memory of the piece before.
+    fn cut(&mut self) {
+        let spare = mem::replace(&mut self.spare, Vec::new(self.alloc));
+        if let Ok(piece) = self.core.cut_into(spare) {
+            self.spare = piece;
+        }
+    }
+
+    /// Makes one call of many.
+    fn make(&mut self, call: Call, page: u64, place: u64) {
+        match call {
+            Call::Fix => self.fix(page),
+            Call::Flush => self.flush(page),
+            Call::Tick => {
+                let _ = self.core.tick(0, 1);
+            }
+            Call::Mark => {
+                let _ = self.core.mark(0, Lsn::new(place));
+            }
+            _ => self.use_pass(call, place as usize),
+        }
+    }
+
+    /// Makes so many calls, of the pages from one on or of the passes of the newest fixes. One purge or cut is enough.
+    fn make_all(&mut self, call: Call, from: u64, calls: u64) {
+        match call {
+            Call::Purge => {
+                let _ = self.core.purge(0);
+            }
+            Call::Cut => self.cut(),
+            _ => {
+                if let Call::Fix = call {
+                    self.passes.clear();
+                }
+                for place in 0..calls {
+                    self.make(call, from.wrapping_add(place), place);
+                }
+            }
+        }
+    }
+}
+
+/// Times each call over the pages from one on.
+fn time_round(
+    rt: &(impl Runtime<A = Global> + CpuClock),
+    bench: &mut Bench,
+    from: u64,
+    frames: u64,
+) -> Result<(), anyhow::Error>
+    requires { 0 < frames }
+{
+    // The pages of the round before may leave once the clock has moved.
+    bench.make_all(Call::Tick, 0, 1);
+    for (call, name) in &CALLS {
+        let calls = if let Call::Cut = call { 1 } else { frames };
+        let since = rt.thread_cpu_time()?;
+        bench.make_all(*call, from, calls);
+        tell(rt, name, since, calls)?;
+    }
+    Ok(())
+}
+
+/// Times rounds over the first and the second half of the pages in turn.
+pub(crate) fn time_calls(
+    rt: &(impl Runtime<A = Global> + CpuClock),
+    frames: u64,
+) -> Result<(), anyhow::Error> {
+    if frames == 0 || frames > MAX_FRAMES {
+        return Ok(());
+    }
+    let mut bench = new_bench(rt.alloc(), frames)?;
+    for round in 0..ROUNDS {
+        time_round(rt, &mut bench, round % 2 * frames, frames)?;
+    }
+    Ok(())
+}
