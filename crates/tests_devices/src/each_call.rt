@@ -6,6 +6,7 @@ use crate::making::{
     TWO_PAGES, config, device, expect_page_one, fuse, fuses, run, script, starts_with,
 };
 use crate::telling::{content_of, expect_legal, failures_in};
+use bp_clients::Config;
 use bp_core::{Core, Entry, Refused, Row, Step};
 use bp_device::{Port, drive_all};
 use std::marker::Sync;
@@ -25,10 +26,6 @@ struct Left<'a> {
     /// The first byte of page 1 on the device, and where a failing write spoils it.
     on_device: u8,
     spoiled: u8,
-}
-
-fn refused(row: u64, number: u16) -> Refused {
-    Refused { row, number }
 }
 
 /// Whether the core's parameters allow the row.
@@ -77,8 +74,21 @@ fn expect_left<R: Abort>(rt: &R, left: &Left<'_>, refused: &[Refused], trail: &[
     }
 }
 
+/// A new core with one client.
+pub(crate) fn new_core<R: Abort + AllocGlobal>(rt: &R, config: &Config) -> Core {
+    let core = Core::new(
+        rt.alloc(),
+        config.geometry,
+        config.settings,
+        config.frames,
+        1,
+        config.room,
+    );
+    core.expect(rt, "the core")
+}
+
 /// Drives the rows over the core, which allows them.
-fn drive<P: Port, R: Wait + Abort + AllocGlobal>(
+pub(crate) fn drive<P: Port, R: Wait + Abort + AllocGlobal>(
     rt: &R,
     core: &mut Core,
     port: &mut P,
@@ -95,15 +105,7 @@ fn expect_driven<R: Wait + Abort + AllocGlobal>(rt: &R, left: &Left<'_>, spoil: 
     let config = config(rt);
     let device = device(rt, config.geometry);
     let mut port = fuse(rt, &device, left.n, spoil);
-    let core = Core::new(
-        rt.alloc(),
-        config.geometry,
-        config.settings,
-        config.frames,
-        1,
-        config.room,
-    );
-    let mut core = core.expect(rt, "the core");
+    let mut core = new_core(rt, &config);
     let rows = script(rt, 0, 1, &TWO_PAGES);
     let refused = drive(rt, &mut core, &mut port, &rows);
     expect_left(rt, left, &refused, core.trail());
@@ -136,11 +138,28 @@ fn expect_run<R: Threads + Wait + Sync + Abort + AllocGlobal>(
     );
 }
 
+const NO_PAGE_ONE: [Refused; 5] = [
+    Refused { row: 1, number: 17 },
+    Refused { row: 2, number: 14 },
+    Refused { row: 3, number: 14 },
+    Refused { row: 6, number: 11 },
+    Refused { row: 7, number: 14 },
+];
+
+const NO_WRITE_OUT: [Refused; 1] = [Refused { row: 5, number: 18 }];
+
+const NO_PAGE_TWO: [Refused; 1] = [Refused { row: 5, number: 17 }];
+
+const NO_FRAME: [Refused; 2] = [
+    Refused { row: 6, number: 11 },
+    Refused { row: 7, number: 14 },
+];
+
 /// With the first call failing page 1 is never here.
-fn without_the_first(refused: &[Refused]) -> Left<'_> {
+fn without_the_first() -> Left<'static> {
     Left {
         n: 1,
-        refused,
+        refused: &NO_PAGE_ONE,
         reads_nine: false,
         entries: 7,
         failures: 1,
@@ -150,10 +169,10 @@ fn without_the_first(refused: &[Refused]) -> Left<'_> {
 }
 
 /// With the second call failing page 1 stays in its frame, and is found there.
-fn without_the_second(refused: &[Refused]) -> Left<'_> {
+fn without_the_second() -> Left<'static> {
     Left {
         n: 2,
-        refused,
+        refused: &NO_WRITE_OUT,
         reads_nine: true,
         entries: 10,
         failures: 1,
@@ -163,10 +182,10 @@ fn without_the_second(refused: &[Refused]) -> Left<'_> {
 }
 
 /// With the third call failing the frame is free, and page 1 comes back from the device.
-fn without_the_third(refused: &[Refused]) -> Left<'_> {
+fn without_the_third() -> Left<'static> {
     Left {
         n: 3,
-        refused,
+        refused: &NO_PAGE_TWO,
         reads_nine: true,
         entries: 13,
         failures: 1,
@@ -176,10 +195,10 @@ fn without_the_third(refused: &[Refused]) -> Left<'_> {
 }
 
 /// There is no fourth call: page 2 stays fixed in the only frame.
-fn without_a_fourth(refused: &[Refused]) -> Left<'_> {
+fn without_a_fourth() -> Left<'static> {
     Left {
         n: 4,
-        refused,
+        refused: &NO_FRAME,
         reads_nine: false,
         entries: 11,
         failures: 0,
@@ -192,21 +211,11 @@ fn without_a_fourth(refused: &[Refused]) -> Left<'_> {
 /// fails in turn, and then a fourth would. A failing write leaves the device alone, or spoils the page.
 #[test]
 fn each_device_call_fails(rt: HostRuntime) {
-    let no_page_one = [
-        refused(1, 17),
-        refused(2, 14),
-        refused(3, 14),
-        refused(6, 11),
-        refused(7, 14),
-    ];
-    let no_write_out = [refused(5, 18)];
-    let no_page_two = [refused(5, 17)];
-    let no_frame = [refused(6, 11), refused(7, 14)];
     let table = [
-        without_the_first(&no_page_one),
-        without_the_second(&no_write_out),
-        without_the_third(&no_page_two),
-        without_a_fourth(&no_frame),
+        without_the_first(),
+        without_the_second(),
+        without_the_third(),
+        without_a_fourth(),
     ];
     for left in table.iter() {
         for spoil in [false, true] {
@@ -214,4 +223,16 @@ fn each_device_call_fails(rt: HostRuntime) {
             expect_run(&rt, left, spoil);
         }
     }
+}
+
+// The rows of one owner, none of whose calls fails.
+#[test]
+fn one_owner_refusals(rt: HostRuntime) {
+    expect_driven(&rt, &without_a_fourth(), false);
+}
+
+#[test]
+fn failing_second_call(rt: HostRuntime) {
+    expect_driven(&rt, &without_the_second(), false);
+    expect_driven(&rt, &without_the_second(), true);
 }

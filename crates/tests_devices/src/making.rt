@@ -1,4 +1,4 @@
-//! What the tests share: scripts over four pages of 16 bytes and one frame, and ports of which one call fails.
+//! What the tests share: pages of 16 bytes, scripts over four of them and one frame, and ports of which one call fails.
 ghost use Rattle.std.specs.Prelude.{◌≡◌, All, vec_len};
 
 use crate::telling::expect_legal;
@@ -11,6 +11,36 @@ use std::marker::{Send, Sync};
 use std::process::Abort;
 use std::sync::Wait;
 use std::thread::Threads;
+
+pub(crate) const ZEROS: [u8; 16] = [0; 16];
+
+pub(crate) const FIVE: [u8; 16] = [5, 0, 0, 0, 0, 0, 0, 0, 0, 0, 0, 0, 0, 0, 0, 0];
+
+pub(crate) const NINE: [u8; 16] = [9, 0, 0, 0, 0, 0, 0, 0, 0, 0, 0, 0, 0, 0, 0, 0];
+
+/// An image of these bytes.
+pub(crate) fn image<R: Abort + AllocGlobal>(rt: &R, bytes: &[u8]) -> Image {
+    Image::of(rt.alloc(), bytes).expect(rt, "the image")
+}
+
+/// Writes a page by its port.
+pub(crate) fn put<P: Port, R: Wait + Abort + AllocGlobal>(
+    rt: &R,
+    port: &mut P,
+    page: u64,
+    bytes: &[u8],
+) {
+    let written = port.write(rt, PageNo::new(page), &image(rt, bytes), Lsn::new(0));
+    assert_eq!(rt; written, Ok(()));
+}
+
+/// Asserts the bytes of a page that a port reads.
+pub(crate) fn expect_page<P: Port, R: Wait + Abort>(rt: &R, port: &mut P, page: u64, bytes: &[u8]) {
+    match port.read(rt, PageNo::new(page)) {
+        Ok(image) => assert_eq!(rt; image.bytes(), bytes, "page {page}"),
+        Err(fault) => panic!(rt; "page {page}: {fault}"),
+    }
+}
 
 /// What a row does, in short. A write puts the byte 9 at the front of the page, at LSN 0.
 #[derive(Clone, Copy)]
