@@ -1,0 +1,234 @@
+//! Pools of four pages of 16 bytes over a device in memory, and what their clients call by the number of a page.
+//!
+//! A pass goes by its note, so that a test can hold it, give it back twice, or hand it to another client.
+ghost use Rattle.std.specs.Prelude.{◌≡◌, []};
+ghost use Rattle.bp_trail.specs.Parameters.{Parameters};
+ghost use Rattle.bp_page.specs.declared.limits.Geometry.{Geometry as AGeometry};
+
+use bp_core::{Call, Core, Entry, PassNote};
+use bp_device::{Flushed, MemDevice, MemPort, Port};
+use bp_keeper::ListKeeper;
+use bp_lruk::Settings;
+use bp_mark::{LogEnd, Mark, Reader};
+use bp_page::{Bytes, Geometry, Image, Lsn, Refusal};
+use bp_shared::{PoolName, Session, SharedPool, Taker, TrailRing};
+use bp_workers::{Client, give_back};
+use std::alloc::Global;
+use std::sync::Wait;
+
+/// What a pool is made of, and its device of zeros: four pages of 16 bytes.
+pub struct Made {
+    pub core: Core,
+    pub mark: Mark,
+    pub end: LogEnd,
+    pub reader: Reader,
+    pub ring: TrailRing,
+    pub device: MemDevice,
+    pub ghost end_is: { end.mark ≡ mark },
+    pub ghost reader_is: { reader.mark ≡ mark },
+    pub ghost empty: { core.past ≡ [] },
+    pub ghost pages_are: { core.parameters.pages ≡ 4 },
+    pub ghost size_is: { core.parameters.size ≡ 16 },
+    pub ghost device_has: { device.pages ≡ 4 },
+    pub ghost device_of: { device.size ≡ 16 },
+}
+
+/// The parts of a pool with K 2, no correlated period and a retained one of 1000, whose trail has room for so many
+/// entries.
+pub fn make(alloc: Global, frames: usize, clients: u8, room: usize) -> Result<Made, Refusal> {
+    let geometry = Geometry::new(4, 16)?;
+    let settings = Settings::new(2, 0, 1000)?;
+    let core = Core::new(alloc, geometry, settings, frames, clients, room)?;
+    let (mark, end, reader) = Mark::new(alloc)?;
+    Ok(Made {
+        core,
+        mark,
+        end,
+        reader,
+        ring: TrailRing::new(alloc)?,
+        device: MemDevice::new(alloc, geometry)?,
+    })
+}
+
+/// A pool, a session for each client, and its device.
+#[derive(Drop)]
+pub struct Opened<N: PoolName> {
+    pub pool: SharedPool<N>,
+    pub sessions: Vec<Session<N>>,
+    pub taker: Taker<N>,
+    pub end: LogEnd,
+    pub device: MemDevice,
+    pub ghost end_is: { end.mark ≡ N.mark },
+    pub ghost pages_are: { device.pages ≡ N.parameters.pages },
+    pub ghost size_is: { device.size ≡ N.parameters.size },
+}
+
+/// A pool over what was made.
+pub fn open<N: PoolName>(alloc: Global, made: Made) -> Result<Opened<N>, Refusal>
+    requires mark { made.mark ≡ N.mark }
+    requires parameters { made.core.parameters ≡ N.parameters }
+    requires before { made.core.before ≡ N.before }
+    requires ring { made.ring ≡ N.ring }
+{
+    let Made {
+        core,
+        mark,
+        end,
+        reader,
+        ring,
+        device,
+    } = made;
+    let (pool, sessions, taker) = SharedPool::new(alloc, core, mark, reader, ring)?;
+    Ok(Opened {
+        pool,
+        sessions,
+        taker,
+        end,
+        device,
+    })
+}
+
+/// The last two clients of a pool, each with a port of its own to the device.
+#[derive(Drop)]
+pub struct Pair<N: PoolName> {
+    pub pool: SharedPool<N>,
+    pub taker: Taker<N>,
+    pub end: LogEnd,
+    pub first: Client<N, MemPort>,
+    pub second: Client<N, MemPort>,
+    pub ghost end_is: { end.mark ≡ N.mark },
+}
+
+/// A pool over what was made, with its last two clients. `BadSettings` where it has fewer.
+pub fn open_pair<N: PoolName>(alloc: Global, made: Made) -> Result<Pair<N>, Refusal>
+    requires mark { made.mark ≡ N.mark }
+    requires parameters { made.core.parameters ≡ N.parameters }
+    requires before { made.core.before ≡ N.before }
+    requires ring { made.ring ≡ N.ring }
+{
+    let Opened {
+        pool,
+        mut sessions,
+        taker,
+        end,
+        device,
+    } = open::<N>(alloc, made)?;
+    let (Some(second), Some(first)) = (sessions.pop(), sessions.pop()) else {
+        return Err(Refusal::BadSettings);
+    };
+    let first = Client {
+        session: first,
+        port: device.port()?,
+    };
+    let second = Client {
+        session: second,
+        port: device.port()?,
+    };
+    Ok(Pair {
+        pool,
+        taker,
+        end,
+        first,
+        second,
+    })
+}
+
+/// Fixes the page of this number. It stays fixed until its note is given back.
+pub fn fix<N: PoolName, P: Port, K: ListKeeper, R: Wait>(
+    rt: &R,
+    pool: &SharedPool<N, K>,
+    client: &mut Client<N, P, K>,
+    number: u64,
+) -> Result<PassNote, Refusal> {
+    let Some(page) = client.port.geometry().page(number) else {
+        return Err(Refusal::OutOfPage);
+    };
+    match pool.fix(rt, &mut client.session, &mut client.port, page) {
+        Ok(pass) => Ok(pass.note()),
+        Err(refusal) => Err(refusal),
+    }
+}
+
+/// Gives a pass back. Where that is refused, there is also the serial number of the pass that comes back.
+pub fn unfix<N: PoolName, P: Port, K: ListKeeper>(
+    pool: &SharedPool<N, K>,
+    client: &mut Client<N, P, K>,
+    note: PassNote,
+) -> Result<(), (Refusal, u64)> {
+    match pool.unfix(&mut client.session, note.pass()) {
+        Ok(()) => Ok(()),
+        Err((back, refusal)) => Err((refusal, back.note().serial())),
+    }
+}
+
+/// Gives a pass back, by way of an emptied ring where it is full.
+pub fn give<N: PoolName, P: Port, K: ListKeeper, R: Wait>(
+    rt: &R,
+    pool: &SharedPool<N, K>,
+    client: &mut Client<N, P, K>,
+    note: PassNote,
+) -> Result<(), Refusal> {
+    match give_back(rt, pool, &mut client.session, note.pass()) {
+        Ok(()) => Ok(()),
+        Err((back, refusal)) => {
+            back.note();
+            Err(refusal)
+        }
+    }
+}
+
+/// A copy of a pass's page.
+pub fn read<N: PoolName, P: Port, K: ListKeeper, R: Wait>(
+    rt: &R,
+    pool: &SharedPool<N, K>,
+    client: &mut Client<N, P, K>,
+    note: PassNote,
+) -> Result<Image, Refusal> {
+    let pass = note.pass();
+    let read = pool.read(rt, &mut client.session, &pass);
+    pass.note();
+    read
+}
+
+/// Writes one byte to the front of a pass's page.
+pub fn write<N: PoolName, P: Port, K: ListKeeper, R: Wait>(
+    rt: &R,
+    alloc: Global,
+    pool: &SharedPool<N, K>,
+    client: &mut Client<N, P, K>,
+    note: PassNote,
+    byte: u8,
+    lsn: u64,
+) -> Result<(), Refusal> {
+    let Ok(bytes) = Bytes::of(alloc, &[byte]) else {
+        return Err(Refusal::OutOfMemory);
+    };
+    if !client.port.geometry().fits(0, bytes.bytes().len()) {
+        return Err(Refusal::OutOfPage);
+    }
+    let pass = note.pass();
+    let wrote = pool.write(rt, &mut client.session, &pass, 0, &bytes, Lsn::new(lsn));
+    pass.note();
+    wrote
+}
+
+/// Flushes the page of this number.
+pub fn flush<N: PoolName, P: Port, K: ListKeeper, R: Wait>(
+    rt: &R,
+    pool: &SharedPool<N, K>,
+    client: &mut Client<N, P, K>,
+    number: u64,
+) -> Result<Flushed, Refusal> {
+    match client.port.geometry().page(number) {
+        Some(page) => pool.flush(rt, &mut client.session, &mut client.port, page),
+        None => Err(Refusal::OutOfPage),
+    }
+}
+
+/// How many passes went back.
+pub fn unfixes(entries: &[Entry]) -> usize {
+    entries
+        .iter()
+        .filter(|entry| matches!(entry.call, Call::Unfix { .. }))
+        .count()
+}

@@ -1,0 +1,70 @@
+//! Scripts of a text, of which each line is a row of a trace.
+ghost use Rattle.std.specs.Prelude.{◌≡◌, All, IsTrue};
+ghost use Rattle.bp_trail.specs.Fits.{RowFits};
+
+use bp_core::{Core, Row, Step};
+use bp_page::{Geometry, Refusal};
+use bp_trace::{TraceFault, read_script};
+use std::alloc::Global;
+
+/// The rows of a text, numbered from 1.
+pub fn rows_of(alloc: Global, geometry: &Geometry, text: &str) -> Result<Vec<Row>, TraceFault> {
+    read_script(alloc, &mut text.as_bytes(), geometry)
+}
+
+/// The rows of a text by client: a script for each of so many. They are numbered over the whole text.
+pub fn scripts_of(
+    alloc: Global,
+    geometry: &Geometry,
+    clients: usize,
+    text: &str,
+) -> Result<Vec<Vec<Row>>, TraceFault> {
+    let rows = rows_of(alloc, geometry, text)?;
+    match by_client(alloc, clients, rows) {
+        Some(scripts) => Ok(scripts),
+        None => Err(TraceFault::new(0, Refusal::OutOfMemory)),
+    }
+}
+
+/// None where there is no memory for them, or no such client.
+fn by_client(alloc: Global, clients: usize, rows: Vec<Row>) -> Option<Vec<Vec<Row>>> {
+    let mut scripts = Vec::new(alloc);
+    for _ in 0..clients {
+        scripts.push(Vec::new(alloc)).ok()?;
+    }
+    for row in rows {
+        let script: &mut Vec<Row> = scripts.get_mut(row.client as usize)?;
+        script.push(row).ok()?;
+    }
+    Some(scripts)
+}
+
+/// Whether the core's parameters allow the row.
+fn row_fits(core: &Core, row: &Row) -> bool
+    ensures { IsTrue result → RowFits core.now.parameters row.now }
+{
+    let geometry = core.geometry();
+    row.client < core.clients()
+        && match &row.step {
+            Step::Fix(page) | Step::Unfix(page) | Step::Read(page) | Step::Flush(page) => {
+                page.number() < geometry.pages
+            }
+            Step::Write {
+                page,
+                offset,
+                bytes,
+                ..
+            } => {
+                page.number() < geometry.pages
+                    && geometry.fits(*offset as usize, bytes.bytes().len())
+            }
+            Step::Tick(_) | Step::Purge | Step::Log(_) => true,
+        }
+}
+
+/// Whether the core's parameters allow all rows, so that a driver takes them.
+pub fn rows_fit(core: &Core, rows: &[Row]) -> bool
+    ensures { IsTrue result → All (RowFits core.now.parameters) rows.now }
+{
+    rows.iter().all(|row| row_fits(core, row))
+}
