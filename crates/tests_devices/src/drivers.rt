@@ -1,11 +1,12 @@
 //! Drivers of a core of one frame: what they read and write out, and what a flush answers.
 use crate::each_call::{drive, new_core};
-use crate::making::{FIVE, NINE, TWO_PAGES, ZEROS, config, device, expect_page, put, script};
+use crate::making::{FIVE, NINE, TWO_PAGES, ZEROS, config, device, expect_page, put};
 use bp_core::{Call, Core, PassNote, Refused};
 use bp_device::{Flushed, MemPort, Port, drive_fix, drive_flush};
 use bp_page::{Bytes, Lsn, PageNo, Refusal};
 use std::process::Abort;
 use std::sync::Wait;
+use test_support::scripts::rows_of;
 
 /// Asserts the bytes that a read from the device brought.
 fn expect_read_end<R: Abort>(rt: &R, core: &Core, index: usize, bytes: &[u8]) {
@@ -27,7 +28,8 @@ fn drivers_keep_to_their_tickets(rt: HostRuntime) {
     put(&rt, &mut port, 1, &FIVE);
     put(&rt, &mut port, 2, &NINE);
     let mut core = new_core(&rt, &config);
-    let refused = drive(&rt, &mut core, &mut port, &script(&rt, 0, 1, &TWO_PAGES));
+    let rows = rows_of(rt.alloc(), &config.geometry, TWO_PAGES).expect(&rt, "the rows");
+    let refused = drive(&rt, &mut core, &mut port, &rows);
     // Row 6 finds no victim, so that row 7 has no pass.
     let no_victim = Refused { row: 6, number: 11 };
     let no_pass = Refused { row: 7, number: 14 };

@@ -1,18 +1,15 @@
 //! One client, and the n-th call of its port fails, by a driver and by a thread.
-ghost use Rattle.std.specs.Prelude.{◌≡◌, ◌≤◌, All, IsTrue};
-ghost use Rattle.bp_trail.specs.Fits.{RowFits};
-
-use crate::making::{
-    TWO_PAGES, config, device, expect_page_one, fuse, fuses, run, script, starts_with,
-};
-use crate::telling::{content_of, expect_legal, failures_in};
+use crate::making::{Failing, TWO_PAGES, config, device, expect_page_one, fuse, run, starts_with};
+use crate::telling::{content_of, failures_in};
 use bp_clients::Config;
-use bp_core::{Core, Entry, Refused, Row, Step};
+use bp_core::{Core, Entry, Refused, Row};
 use bp_device::{Port, drive_all};
 use std::marker::Sync;
 use std::process::Abort;
 use std::sync::Wait;
 use std::thread::Threads;
+use test_support::judging::unlawful_in;
+use test_support::scripts::{rows_fit, rows_of};
 
 /// What is left where the n-th call fails.
 #[derive(Drop)]
@@ -26,36 +23,6 @@ struct Left<'a> {
     /// The first byte of page 1 on the device, and where a failing write spoils it.
     on_device: u8,
     spoiled: u8,
-}
-
-/// Whether the core's parameters allow the row.
-fn fits(core: &Core, row: &Row) -> bool
-    ensures { IsTrue result → RowFits core.now.parameters row.now }
-{
-    let geometry = core.geometry();
-    row.client < core.clients()
-        && match &row.step {
-            Step::Fix(page) | Step::Unfix(page) | Step::Read(page) | Step::Flush(page) => {
-                page.number() < geometry.pages
-            }
-            Step::Write {
-                page,
-                offset,
-                bytes,
-                ..
-            } => {
-                page.number() < geometry.pages
-                    && geometry.fits(*offset as usize, bytes.bytes().len())
-            }
-            Step::Tick(_) | Step::Purge | Step::Log(_) => true,
-        }
-}
-
-/// Whether the core's parameters allow all rows.
-fn all_fit(core: &Core, rows: &[Row]) -> bool
-    ensures { IsTrue result → All (RowFits core.now.parameters) rows.now }
-{
-    rows.iter().all(|row| fits(core, row))
 }
 
 /// Asserts what was refused, what row 7 read, and how much was done.
@@ -96,7 +63,7 @@ pub(crate) fn drive<P: Port, R: Wait + Abort + AllocGlobal>(
 ) -> Vec<Refused> {
     let same_size = port.geometry().size == core.geometry().size;
     assert!(rt; same_size);
-    assert!(rt; all_fit(core, rows));
+    assert!(rt; rows_fit(core, rows));
     drive_all(rt, rt.alloc(), core, port, rows).expect(rt, "the rows are driven")
 }
 
@@ -106,16 +73,14 @@ fn expect_driven<R: Wait + Abort + AllocGlobal>(rt: &R, left: &Left<'_>, spoil: 
     let device = device(rt, config.geometry);
     let mut port = fuse(rt, &device, left.n, spoil);
     let mut core = new_core(rt, &config);
-    let rows = script(rt, 0, 1, &TWO_PAGES);
+    let rows = rows_of(rt.alloc(), &config.geometry, TWO_PAGES).expect(rt, "the rows");
     let refused = drive(rt, &mut core, &mut port, &rows);
     expect_left(rt, left, &refused, core.trail());
-    expect_legal(rt, &config, 1, core.trail());
+    let place = unlawful_in(rt.alloc(), &core);
+    assert_eq!(rt; place, Ok(None), "the first entry that is not lawful");
     assert!(rt; port.failures() == left.failures as u64);
-    expect_page_one(
-        rt,
-        &device,
-        if spoil { left.spoiled } else { left.on_device },
-    );
+    let first = if spoil { left.spoiled } else { left.on_device };
+    expect_page_one(rt, &device, first);
 }
 
 /// By a thread, over a pool of its own.
@@ -126,16 +91,15 @@ fn expect_run<R: Threads + Wait + Sync + Abort + AllocGlobal>(
 ) {
     let config = config(rt);
     let device = device(rt, config.geometry);
-    let ports = fuses(rt, &device, 1, 0, left.n, spoil);
-    let rows = script(rt, 0, 1, &TWO_PAGES);
-    let scripts = vec![in rt.alloc(); rows].expect(rt, "the scripts");
-    let done = run(rt, config, scripts, ports);
+    let failing = Failing {
+        client: 0,
+        n: left.n,
+        spoil,
+    };
+    let done = run(rt, config, &device, 1, TWO_PAGES, failing);
     expect_left(rt, left, &done.refused, &done.trail);
-    expect_page_one(
-        rt,
-        &device,
-        if spoil { left.spoiled } else { left.on_device },
-    );
+    let first = if spoil { left.spoiled } else { left.on_device };
+    expect_page_one(rt, &device, first);
 }
 
 const NO_PAGE_ONE: [Refused; 5] = [

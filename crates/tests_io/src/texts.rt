@@ -1,6 +1,6 @@
 //! The texts of what goes wrong, each on a line.
 use bp_numbers::explanation_of;
-use bp_page::{Lsn, PortFault, Refusal};
+use bp_page::{Lsn, PageNo, PortFault, Refusal};
 use bp_trace::TraceFault;
 use std::process::Abort;
 
@@ -93,8 +93,9 @@ fn other_texts(rt: HostRuntime) {
     let needs_log = Refusal::NeedLog(Lsn::new(18_446_744_073_709_551_615));
     let explained = explanation_of(12).unwrap_or("nothing");
     let trace = TraceFault { row: 3, number: 40 };
+    let page = PageNo::new(1_048_575);
     let said = format!(in rt.alloc();
-        "{needs_log}\n{explained}\n{}\n{}\n{}\n{trace}\n",
+        "{needs_log}\n{explained}\n{}\n{}\n{}\n{trace}\n{page}\n",
         PortFault::Device,
         PortFault::Memory,
         PortFault::WrongPage
@@ -107,6 +108,7 @@ the device failed
 out of memory
 the page's place in its file has another page
 trace row 3 refused 40
+1048575
 ";
     assert_eq!(rt; said.as_str(), texts);
 }
