@@ -1,7 +1,7 @@
-//! A device in memory, by two ports, and zeros over other bytes.
+//! A device in memory, by two ports.
 use crate::making::{NINE, ZEROS, config, device, expect_page, image, put};
 use bp_device::{MemPort, Port};
-use bp_page::{Geometry, Lsn, PageNo, PortFault};
+use bp_page::{Lsn, PageNo, PortFault};
 use std::process::Abort;
 use std::sync::Wait;
 
@@ -26,22 +26,4 @@ fn pages_of_a_memory_are_read_again(rt: HostRuntime) {
     let written = port.write(&rt, PageNo::new(0), &longer, Lsn::new(0));
     assert_eq!(rt; written, Err(PortFault::Device));
     expect_page(&rt, &mut port, 0, &ZEROS);
-}
-
-#[test]
-fn zeros_over_other_bytes_in_memory(rt: HostRuntime) {
-    for size in [16, 1024] {
-        let geometry = Geometry::new(4, size).expect(&rt, "the geometry");
-        let mut port = device(&rt, geometry).port().expect(&rt, "the port");
-        let sevens = vec![in rt.alloc(); 7u8; size].expect(&rt, "the bytes");
-        let zeros = vec![in rt.alloc(); 0u8; size].expect(&rt, "the bytes");
-        for page in 0..4 {
-            put(&rt, &mut port, page, &sevens);
-        }
-        put(&rt, &mut port, 2, &zeros);
-        for page in [0, 1, 3] {
-            expect_page(&rt, &mut port, page, &sevens);
-        }
-        expect_page(&rt, &mut port, 2, &zeros);
-    }
 }

@@ -135,8 +135,8 @@ const FAULT: TraceFault = TraceFault { row: 0, number: 47 };
 // 158 bytes in pieces of 7 are 22 whole ones and a last one of 4. One call more finds the end.
 #[test]
 fn failing_readers(rt: HostRuntime) {
-    for (most, calls) in [(1, 159), (7, 24), (8192, 2)] {
-        for call in 1..calls + 2 {
+    for (most, calls) in [(1, 159usize), (7, 24), (8192, 2)] {
+        for call in 1..calls.saturating_add(2) {
             let reader = Pieces::of(AHEAD, most).failing(call, 1, ErrorKind::BrokenPipe);
             let wanted = if call <= calls { Err(FAULT) } else { Ok(13) };
             assert_eq!(rt;

@@ -1,10 +1,7 @@
 //! Reports of the trail of the write-ahead rule: in pieces, and over writers that fail.
-ghost use Rattle.std.specs.Prelude.{◌≡◌, ◌≤◌, All, IsTrue};
-ghost use Rattle.bp_trail.specs.Fits.{RowFits};
-
 use crate::rows::{rows_of_the_rule, sixteen_pages};
 use crate::writers::Limited;
-use bp_core::{Core, Entry, Refused, Row, Step};
+use bp_core::{Core, Entry, Refused};
 use bp_device::{MemDevice, Port, drive_all};
 use bp_lruk::Settings;
 use bp_trace::{ReportRun, report, report_rows};
@@ -12,29 +9,7 @@ use std::io;
 use std::io::Write;
 use std::process::Abort;
 use std::sync::Wait;
-
-/// Whether the core's parameters allow the row.
-fn fits(core: &Core, row: &Row) -> bool
-    ensures { IsTrue result → RowFits core.now.parameters row.now }
-{
-    let geometry = core.geometry();
-    row.client < core.clients()
-        && match &row.step {
-            Step::Fix(page) | Step::Unfix(page) | Step::Read(page) | Step::Flush(page) => {
-                page.number() < geometry.pages
-            }
-            Step::Write {
-                page,
-                offset,
-                bytes,
-                ..
-            } => {
-                page.number() < geometry.pages
-                    && geometry.fits(*offset as usize, bytes.bytes().len())
-            }
-            Step::Tick(_) | Step::Purge | Step::Log(_) => true,
-        }
-}
+use test_support::scripts::rows_fit;
 
 /// A core of one frame after the rows of the rule, of which row 6 was refused.
 fn driven<R: Wait + Abort + AllocGlobal>(rt: &R) -> Core {
@@ -44,7 +19,7 @@ fn driven<R: Wait + Abort + AllocGlobal>(rt: &R) -> Core {
     let core = Core::new(rt.alloc(), port.geometry(), settings, 1, 1, 100);
     let mut core = core.expect(rt, "the core");
     let rows = rows_of_the_rule(rt);
-    assert!(rt; rows.iter().all(|row| fits(&core, row)));
+    assert!(rt; rows_fit(&core, &rows));
     let refused = drive_all(rt, rt.alloc(), &mut core, &mut port, &rows);
     let refused = refused.expect(rt, "the rows are driven");
     assert_eq!(rt;
