@@ -7,20 +7,27 @@ use bp_page::{Geometry, Refusal};
 use bp_trace::{TraceFault, read_script};
 use std::alloc::Global;
 
-/// The rows of a text, numbered from 1.
+/// The rows of a text, numbered from 1. Where memory is refused, it is read once more.
 pub fn rows_of(alloc: Global, geometry: &Geometry, text: &str) -> Result<Vec<Row>, TraceFault> {
-    read_script(alloc, &mut text.as_bytes(), geometry)
+    match read_script(alloc, &mut text.as_bytes(), geometry) {
+        Ok(rows) => Ok(rows),
+        Err(_) => read_script(alloc, &mut text.as_bytes(), geometry),
+    }
 }
 
-/// The rows of a text by client: a script for each of so many. They are numbered over the whole text.
+/// The rows of a text by client: a script for each of so many. They are numbered over the whole text, which is read once
+/// more where memory is refused.
 pub fn scripts_of(
     alloc: Global,
     geometry: &Geometry,
     clients: usize,
     text: &str,
 ) -> Result<Vec<Vec<Row>>, TraceFault> {
-    let rows = rows_of(alloc, geometry, text)?;
-    match by_client(alloc, clients, rows) {
+    let scripts = match by_client(alloc, clients, rows_of(alloc, geometry, text)?) {
+        None => by_client(alloc, clients, rows_of(alloc, geometry, text)?),
+        scripts => scripts,
+    };
+    match scripts {
         Some(scripts) => Ok(scripts),
         None => Err(TraceFault::new(0, Refusal::OutOfMemory)),
     }
