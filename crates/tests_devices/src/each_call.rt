@@ -1,17 +1,15 @@
 //! One client, and the n-th call of its port fails, by a driver and by a thread.
-ghost use Rattle.std.specs.Prelude.{◌≡◌, ◌≤◌, All, IsTrue};
-ghost use Rattle.bp_trail.specs.Fits.{RowFits};
-
-use crate::making::{
-    TWO_PAGES, config, device, expect_page_one, fuse, fuses, run, script, starts_with,
-};
-use crate::telling::{content_of, expect_legal, failures_in};
-use bp_core::{Core, Entry, Refused, Row, Step};
+use crate::making::{Failing, TWO_PAGES, config, device, expect_page_one, fuse, run, starts_with};
+use crate::telling::{content_of, failures_in};
+use bp_clients::Config;
+use bp_core::{Core, Entry, Refused, Row};
 use bp_device::{Port, drive_all};
 use std::marker::Sync;
 use std::process::Abort;
 use std::sync::Wait;
 use std::thread::Threads;
+use test_support::judging::unlawful_in;
+use test_support::scripts::{rows_fit, rows_of};
 
 /// What is left where the n-th call fails.
 #[derive(Drop)]
@@ -25,40 +23,6 @@ struct Left<'a> {
     /// The first byte of page 1 on the device, and where a failing write spoils it.
     on_device: u8,
     spoiled: u8,
-}
-
-fn refused(row: u64, number: u16) -> Refused {
-    Refused { row, number }
-}
-
-/// Whether the core's parameters allow the row.
-fn fits(core: &Core, row: &Row) -> bool
-    ensures { IsTrue result → RowFits core.now.parameters row.now }
-{
-    let geometry = core.geometry();
-    row.client < core.clients()
-        && match &row.step {
-            Step::Fix(page) | Step::Unfix(page) | Step::Read(page) | Step::Flush(page) => {
-                page.number() < geometry.pages
-            }
-            Step::Write {
-                page,
-                offset,
-                bytes,
-                ..
-            } => {
-                page.number() < geometry.pages
-                    && geometry.fits(*offset as usize, bytes.bytes().len())
-            }
-            Step::Tick(_) | Step::Purge | Step::Log(_) => true,
-        }
-}
-
-/// Whether the core's parameters allow all rows.
-fn all_fit(core: &Core, rows: &[Row]) -> bool
-    ensures { IsTrue result → All (RowFits core.now.parameters) rows.now }
-{
-    rows.iter().all(|row| fits(core, row))
 }
 
 /// Asserts what was refused, what row 7 read, and how much was done.
@@ -77,24 +41,8 @@ fn expect_left<R: Abort>(rt: &R, left: &Left<'_>, refused: &[Refused], trail: &[
     }
 }
 
-/// Drives the rows over the core, which allows them.
-fn drive<P: Port, R: Wait + Abort + AllocGlobal>(
-    rt: &R,
-    core: &mut Core,
-    port: &mut P,
-    rows: &[Row],
-) -> Vec<Refused> {
-    let same_size = port.geometry().size == core.geometry().size;
-    assert!(rt; same_size);
-    assert!(rt; all_fit(core, rows));
-    drive_all(rt, rt.alloc(), core, port, rows).expect(rt, "the rows are driven")
-}
-
-/// By a driver, over a core of its own.
-fn expect_driven<R: Wait + Abort + AllocGlobal>(rt: &R, left: &Left<'_>, spoil: bool) {
-    let config = config(rt);
-    let device = device(rt, config.geometry);
-    let mut port = fuse(rt, &device, left.n, spoil);
+/// A new core with one client.
+pub(crate) fn new_core<R: Abort + AllocGlobal>(rt: &R, config: &Config) -> Core {
     let core = Core::new(
         rt.alloc(),
         config.geometry,
@@ -103,17 +51,36 @@ fn expect_driven<R: Wait + Abort + AllocGlobal>(rt: &R, left: &Left<'_>, spoil: 
         1,
         config.room,
     );
-    let mut core = core.expect(rt, "the core");
-    let rows = script(rt, 0, 1, &TWO_PAGES);
+    core.expect(rt, "the core")
+}
+
+/// Drives the rows over the core, which allows them.
+pub(crate) fn drive<P: Port, R: Wait + Abort + AllocGlobal>(
+    rt: &R,
+    core: &mut Core,
+    port: &mut P,
+    rows: &[Row],
+) -> Vec<Refused> {
+    let same_size = port.geometry().size == core.geometry().size;
+    assert!(rt; same_size);
+    assert!(rt; rows_fit(core, rows));
+    drive_all(rt, rt.alloc(), core, port, rows).expect(rt, "the rows are driven")
+}
+
+/// By a driver, over a core of its own.
+fn expect_driven<R: Wait + Abort + AllocGlobal>(rt: &R, left: &Left<'_>, spoil: bool) {
+    let config = config(rt);
+    let device = device(rt, config.geometry);
+    let mut port = fuse(rt, &device, left.n, spoil);
+    let mut core = new_core(rt, &config);
+    let rows = rows_of(rt.alloc(), &config.geometry, TWO_PAGES).expect(rt, "the rows");
     let refused = drive(rt, &mut core, &mut port, &rows);
     expect_left(rt, left, &refused, core.trail());
-    expect_legal(rt, &config, 1, core.trail());
+    let place = unlawful_in(rt.alloc(), &core);
+    assert_eq!(rt; place, Ok(None), "the first entry that is not lawful");
     assert!(rt; port.failures() == left.failures as u64);
-    expect_page_one(
-        rt,
-        &device,
-        if spoil { left.spoiled } else { left.on_device },
-    );
+    let first = if spoil { left.spoiled } else { left.on_device };
+    expect_page_one(rt, &device, first);
 }
 
 /// By a thread, over a pool of its own.
@@ -124,23 +91,39 @@ fn expect_run<R: Threads + Wait + Sync + Abort + AllocGlobal>(
 ) {
     let config = config(rt);
     let device = device(rt, config.geometry);
-    let ports = fuses(rt, &device, 1, 0, left.n, spoil);
-    let rows = script(rt, 0, 1, &TWO_PAGES);
-    let scripts = vec![in rt.alloc(); rows].expect(rt, "the scripts");
-    let done = run(rt, config, scripts, ports);
+    let failing = Failing {
+        client: 0,
+        n: left.n,
+        spoil,
+    };
+    let done = run(rt, config, &device, 1, TWO_PAGES, failing);
     expect_left(rt, left, &done.refused, &done.trail);
-    expect_page_one(
-        rt,
-        &device,
-        if spoil { left.spoiled } else { left.on_device },
-    );
+    let first = if spoil { left.spoiled } else { left.on_device };
+    expect_page_one(rt, &device, first);
 }
 
+const NO_PAGE_ONE: [Refused; 5] = [
+    Refused { row: 1, number: 17 },
+    Refused { row: 2, number: 14 },
+    Refused { row: 3, number: 14 },
+    Refused { row: 6, number: 11 },
+    Refused { row: 7, number: 14 },
+];
+
+const NO_WRITE_OUT: [Refused; 1] = [Refused { row: 5, number: 18 }];
+
+const NO_PAGE_TWO: [Refused; 1] = [Refused { row: 5, number: 17 }];
+
+const NO_FRAME: [Refused; 2] = [
+    Refused { row: 6, number: 11 },
+    Refused { row: 7, number: 14 },
+];
+
 /// With the first call failing page 1 is never here.
-fn without_the_first(refused: &[Refused]) -> Left<'_> {
+fn without_the_first() -> Left<'static> {
     Left {
         n: 1,
-        refused,
+        refused: &NO_PAGE_ONE,
         reads_nine: false,
         entries: 7,
         failures: 1,
@@ -150,10 +133,10 @@ fn without_the_first(refused: &[Refused]) -> Left<'_> {
 }
 
 /// With the second call failing page 1 stays in its frame, and is found there.
-fn without_the_second(refused: &[Refused]) -> Left<'_> {
+fn without_the_second() -> Left<'static> {
     Left {
         n: 2,
-        refused,
+        refused: &NO_WRITE_OUT,
         reads_nine: true,
         entries: 10,
         failures: 1,
@@ -163,10 +146,10 @@ fn without_the_second(refused: &[Refused]) -> Left<'_> {
 }
 
 /// With the third call failing the frame is free, and page 1 comes back from the device.
-fn without_the_third(refused: &[Refused]) -> Left<'_> {
+fn without_the_third() -> Left<'static> {
     Left {
         n: 3,
-        refused,
+        refused: &NO_PAGE_TWO,
         reads_nine: true,
         entries: 13,
         failures: 1,
@@ -176,10 +159,10 @@ fn without_the_third(refused: &[Refused]) -> Left<'_> {
 }
 
 /// There is no fourth call: page 2 stays fixed in the only frame.
-fn without_a_fourth(refused: &[Refused]) -> Left<'_> {
+fn without_a_fourth() -> Left<'static> {
     Left {
         n: 4,
-        refused,
+        refused: &NO_FRAME,
         reads_nine: false,
         entries: 11,
         failures: 0,
@@ -192,21 +175,11 @@ fn without_a_fourth(refused: &[Refused]) -> Left<'_> {
 /// fails in turn, and then a fourth would. A failing write leaves the device alone, or spoils the page.
 #[test]
 fn each_device_call_fails(rt: HostRuntime) {
-    let no_page_one = [
-        refused(1, 17),
-        refused(2, 14),
-        refused(3, 14),
-        refused(6, 11),
-        refused(7, 14),
-    ];
-    let no_write_out = [refused(5, 18)];
-    let no_page_two = [refused(5, 17)];
-    let no_frame = [refused(6, 11), refused(7, 14)];
     let table = [
-        without_the_first(&no_page_one),
-        without_the_second(&no_write_out),
-        without_the_third(&no_page_two),
-        without_a_fourth(&no_frame),
+        without_the_first(),
+        without_the_second(),
+        without_the_third(),
+        without_a_fourth(),
     ];
     for left in table.iter() {
         for spoil in [false, true] {
@@ -214,4 +187,16 @@ fn each_device_call_fails(rt: HostRuntime) {
             expect_run(&rt, left, spoil);
         }
     }
+}
+
+// The rows of one owner, none of whose calls fails.
+#[test]
+fn one_owner_refusals(rt: HostRuntime) {
+    expect_driven(&rt, &without_a_fourth(), false);
+}
+
+#[test]
+fn failing_second_call(rt: HostRuntime) {
+    expect_driven(&rt, &without_the_second(), false);
+    expect_driven(&rt, &without_the_second(), true);
 }

@@ -1,16 +1,25 @@
-//! Devices that fail: each call in turn, under one owner and under client threads, and page files that are cut while
-//! they are open. What a run leaves was reckoned by hand. Each trail goes to the judge.
+//! Devices and the ways to them: ports in memory and on files, also files that are cut while they are open; ports that
+//! meet; drivers; each call of a device failing in turn, under one owner and under client threads; and the durable mark.
+//! What is left was reckoned by hand. Each trail goes to the judge.
 //!
 //! The tests stand here, on top of the crates that they call, so that none of those is proved once more for them. The
 //! library itself has no item.
 #![tactic(auto)]
 
 #[cfg(test)]
-mod cut_files;
+mod drivers;
 #[cfg(test)]
 mod each_call;
 #[cfg(test)]
+mod files;
+#[cfg(test)]
+mod gates;
+#[cfg(test)]
 mod making;
+#[cfg(test)]
+mod marks;
+#[cfg(test)]
+mod memory;
 #[cfg(test)]
 mod once_more;
 #[cfg(test)]

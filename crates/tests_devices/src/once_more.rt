@@ -1,31 +1,9 @@
 //! What failed once is asked for once more.
-ghost use Rattle.std.specs.Prelude.{◌≡◌};
-
-use crate::making::{Do, config, device, expect_page_one, fuses, run, script, starts_with};
+use crate::making::{Failing, config, device, expect_page_one, run, starts_with};
 use crate::telling::{content_of, failures_in};
-use bp_clients::{Config, Outcome};
+use bp_clients::Outcome;
 use bp_core::{Refused, Reply};
-use bp_device::MemDevice;
-use std::marker::Sync;
 use std::process::Abort;
-use std::sync::Wait;
-use std::thread::Threads;
-
-/// A run of one client over the device, whose port fails at its n-th call.
-fn run_one<R: Threads + Wait + Sync + Abort + AllocGlobal>(
-    rt: &R,
-    config: Config,
-    device: &MemDevice,
-    n: u64,
-    spoil: bool,
-    steps: &[Do],
-) -> Outcome
-    requires { device.now ≡ config.geometry }
-{
-    let ports = fuses(rt, device, 1, 0, n, spoil);
-    let scripts = vec![in rt.alloc(); script(rt, 0, 1, steps)].expect(rt, "the scripts");
-    run(rt, config, scripts, ports)
-}
 
 /// Asserts that one row was refused so, that its failure stands in the trail, and which page was read.
 fn expect_one_failure<R: Abort>(rt: &R, done: &Outcome, row: u64, number: u16, first: u8) {
@@ -46,8 +24,13 @@ fn expect_one_failure<R: Abort>(rt: &R, done: &Outcome, row: u64, number: u16, f
 fn page_is_read_once_more(rt: HostRuntime) {
     let config = config(&rt);
     let device = device(&rt, config.geometry);
-    let steps = [Do::Fix(1), Do::Fix(1), Do::Read(1), Do::Unfix(1)];
-    let done = run_one(&rt, config, &device, 1, false, &steps);
+    let rows = "0,fix,1,,,\n0,fix,1,,,\n0,read,1,,,\n0,unfix,1,,,\n";
+    let failing = Failing {
+        client: 0,
+        n: 1,
+        spoil: false,
+    };
+    let done = run(&rt, config, &device, 1, rows, failing);
     expect_one_failure(&rt, &done, 1, 17, 0);
     assert_eq!(&rt; done.trail.len(), 6);
 }
@@ -56,18 +39,16 @@ fn page_is_read_once_more(rt: HostRuntime) {
 #[test]
 fn page_is_written_once_more(rt: HostRuntime) {
     let config = config(&rt);
+    let rows =
+        "0,fix,1,,,\n0,write,1,0,09,0\n0,flush,1,,,\n0,read,1,,,\n0,flush,1,,,\n0,flush,1,,,\n0,unfix,1,,,\n";
     for spoil in [false, true] {
         let device = device(&rt, config.geometry);
-        let steps = [
-            Do::Fix(1),
-            Do::Write(1),
-            Do::Flush(1),
-            Do::Read(1),
-            Do::Flush(1),
-            Do::Flush(1),
-            Do::Unfix(1),
-        ];
-        let done = run_one(&rt, config, &device, 2, spoil, &steps);
+        let failing = Failing {
+            client: 0,
+            n: 2,
+            spoil,
+        };
+        let done = run(&rt, config, &device, 1, rows, failing);
         expect_one_failure(&rt, &done, 3, 18, 9);
         let cleaned = done
             .trail

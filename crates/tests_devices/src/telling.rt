@@ -1,27 +1,6 @@
-//! What a trail tells, and what the judge says of it.
-use bp_check::{Setup, first_unlawful};
-use bp_clients::Config;
+//! What a trail tells.
 use bp_core::{Entry, Refused, Reply};
 use bp_page::Image;
-use std::process::Abort;
-
-/// Asserts that the judge finds the trail of a pool with so many clients legal. Else it tells the place of the first
-/// entry that is not lawful.
-pub(crate) fn expect_legal(
-    rt: &(impl AllocGlobal + Abort),
-    config: &Config,
-    clients: usize,
-    trail: &[Entry],
-) {
-    let setup = Setup {
-        geometry: config.geometry,
-        settings: config.settings,
-        frames: config.frames,
-        clients: u8::try_from(clients).expect(rt, "the number of clients"),
-    };
-    let place = first_unlawful(rt.alloc(), &setup, trail).expect(rt, "the verdict");
-    assert_eq!(rt; place, None, "the first entry that is not lawful");
-}
 
 /// The content that a read brought.
 pub(crate) fn content_of(entry: &Entry) -> Option<&Image> {

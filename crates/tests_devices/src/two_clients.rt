@@ -1,12 +1,27 @@
 //! Two clients over one frame, and one call of one port fails.
-use crate::making::{TWO_PAGES, config, device, fuses, run, script, starts_with};
+use crate::making::{Failing, config, device, run, starts_with};
 use crate::telling::{content_of, failures_in, is_of_the_device};
 use bp_clients::Outcome;
 use bp_core::{Entry, Refused};
-use std::marker::Sync;
 use std::process::Abort;
-use std::sync::Wait;
-use std::thread::Threads;
+
+/// Each client has the rows of `TWO_PAGES`.
+const ROWS: &str = "\
+0,fix,1,,,
+0,write,1,0,09,0
+0,unfix,1,,,
+0,tick,1,,,
+0,fix,2,,,
+0,fix,1,,,
+0,read,1,,,
+1,fix,1,,,
+1,write,1,0,09,0
+1,unfix,1,,,
+1,tick,1,,,
+1,fix,2,,,
+1,fix,1,,,
+1,read,1,,,
+";
 
 /// Whether the row was refused since no frame was free, since its pass was not there, or since a call of the device
 /// failed.
@@ -23,31 +38,9 @@ fn tells_what_was_there(entry: &Entry) -> bool {
     }
 }
 
-/// A run of both, of which one client's port fails at its n-th call.
-fn run_both<R: Threads + Wait + Sync + Abort + AllocGlobal>(
-    rt: &R,
-    failing: usize,
-    n: u64,
-    spoil: bool,
-) -> Outcome {
-    let config = config(rt);
-    let device = device(rt, config.geometry);
-    let ports = fuses(rt, &device, 2, failing, n, spoil);
-    let first = script(rt, 0, 1, &TWO_PAGES);
-    let second = script(rt, 1, 8, &TWO_PAGES);
-    let scripts = vec![in rt.alloc(); first, second].expect(rt, "the scripts");
-    run(rt, config, scripts, ports)
-}
-
 /// Asserts what holds of such a run under every schedule: what failed was refused, and nothing that was never there
 /// was read.
-fn expect_sound<R: Threads + Wait + Sync + Abort + AllocGlobal>(
-    rt: &R,
-    failing: usize,
-    n: u64,
-    spoil: bool,
-) {
-    let done = run_both(rt, failing, n, spoil);
+fn expect_sound<R: Abort>(rt: &R, done: &Outcome, n: u64) {
     assert!(rt;
         done.trail.iter().all(|entry| tells_what_was_there(entry)),
         "call {n}"
@@ -67,20 +60,14 @@ fn expect_sound<R: Threads + Wait + Sync + Abort + AllocGlobal>(
     );
 }
 
-fn expect_all_sound<R: Threads + Wait + Sync + Abort + AllocGlobal>(
-    rt: &R,
-    failing: usize,
-    spoil: bool,
-) {
-    for n in 1..13 {
-        expect_sound(rt, failing, n, spoil);
-    }
-}
-
 #[test]
 fn each_call_of_either_port_fails(rt: HostRuntime) {
-    for failing in [0, 1] {
-        expect_all_sound(&rt, failing, false);
-        expect_all_sound(&rt, failing, true);
+    let config = config(&rt);
+    for (client, spoil) in [(0, false), (0, true), (1, false), (1, true)] {
+        for n in 1..13 {
+            let device = device(&rt, config.geometry);
+            let failing = Failing { client, n, spoil };
+            expect_sound(&rt, &run(&rt, config, &device, 2, ROWS, failing), n);
+        }
     }
 }

@@ -1,7 +1,7 @@
 //! What cells count.
 use bp_device::{FusePort, MemDevice, MemPort, Port};
 use bp_lruk::Settings;
-use bp_page::{Geometry, Refusal};
+use bp_page::Geometry;
 use bp_sweep::{Counts, count_references, read_references};
 use std::process::Abort;
 use std::sync::Wait;
@@ -13,40 +13,26 @@ const CLASSIC: &str = "7\n0\n1\n2\n0\n3\n0\n4\n2\n3\n0\n3\n2\n1\n2\n0\n1\n7\n0\n
 const TWICE_FIRST: &str = "1\n1\n2\n3\n1\n2\n";
 
 /// A port to a new device of 16 pages of 16 bytes.
-fn port<R: Abort + AllocGlobal>(rt: &R) -> MemPort {
+fn new_port<R: Abort + AllocGlobal>(rt: &R) -> MemPort {
     let geometry = Geometry::new(16, 16).expect(rt, "16 pages of 16 bytes");
     let device = MemDevice::new(rt.alloc(), geometry).expect(rt, "a device");
     device.port().expect(rt, "a port")
 }
 
-/// What the references of a list come to.
-fn count<R: Abort + AllocGlobal + Wait, P: Port>(
+/// Asserts what the references of a list come to.
+fn expect_counts<R: Abort + AllocGlobal + Wait, P: Port>(
     rt: &R,
-    port: &mut P,
+    mut port: P,
     settings: Settings,
     frames: usize,
     text: &str,
-) -> Result<Counts, Refusal> {
+    wanted: Counts,
+) {
     let geometry = port.geometry();
     let mut reader = text.as_bytes();
-    match read_references(rt.alloc(), &mut reader, &geometry) {
-        Ok(references) => {
-            count_references(
-                rt,
-                rt.alloc(),
-                port,
-                settings,
-                frames,
-                references.as_slice(),
-            )
-        }
-        Err(fault) => panic!(rt; "{fault}"),
-    }
-}
-
-/// K, with no correlated period and a long retained one.
-fn lru<R: Abort>(rt: &R, k: usize) -> Settings {
-    Settings::new(k, 0, 1_000_000).expect(rt, "settings")
+    let references = read_references(rt.alloc(), &mut reader, &geometry).expect(rt, "the list");
+    let counts = count_references(rt, rt.alloc(), &mut port, settings, frames, &references);
+    assert_eq!(rt; counts, Ok(wanted));
 }
 
 /// Hits, faults and evictions, and nothing else.
@@ -61,61 +47,77 @@ fn quiet(hits: u64, faults: u64, evictions: u64) -> Counts {
     }
 }
 
+/// K, with no correlated period and a long retained one.
+fn lru<R: Abort>(rt: &R, k: usize) -> Settings {
+    Settings::new(k, 0, 1_000_000).expect(rt, "settings")
+}
+
 #[test]
 fn k_1_is_lru(rt: HostRuntime) {
     // Three of the twelve faults fill the frames.
-    let counts = count(&rt, &mut port(&rt), lru(&rt, 1), 3, CLASSIC);
-    assert_eq!(rt; counts, Ok(quiet(8, 12, 9)));
+    expect_counts(&rt, new_port(&rt), lru(&rt, 1), 3, CLASSIC, quiet(8, 12, 9));
     // Each of the six pages comes once, and stays.
-    let counts = count(&rt, &mut port(&rt), lru(&rt, 1), 6, CLASSIC);
-    assert_eq!(rt; counts, Ok(quiet(14, 6, 0)));
+    expect_counts(&rt, new_port(&rt), lru(&rt, 1), 6, CLASSIC, quiet(14, 6, 0));
+    expect_counts(
+        &rt,
+        new_port(&rt),
+        lru(&rt, 1),
+        65_536,
+        CLASSIC,
+        quiet(14, 6, 0),
+    );
     // With one frame a page is hit only right after itself.
-    let counts = count(&rt, &mut port(&rt), lru(&rt, 1), 1, TWICE_FIRST);
-    assert_eq!(rt; counts, Ok(quiet(1, 5, 4)));
+    expect_counts(
+        &rt,
+        new_port(&rt),
+        lru(&rt, 1),
+        1,
+        TWICE_FIRST,
+        quiet(1, 5, 4),
+    );
 }
 
 #[test]
 fn k_2_keeps_the_page_that_came_twice(rt: HostRuntime) {
     // By LRU page 1 leaves for page 3, page 2 for page 1, and page 3 for page 2.
-    let counts = count(&rt, &mut port(&rt), lru(&rt, 1), 2, TWICE_FIRST);
-    assert_eq!(rt; counts, Ok(quiet(1, 5, 3)));
+    expect_counts(
+        &rt,
+        new_port(&rt),
+        lru(&rt, 1),
+        2,
+        TWICE_FIRST,
+        quiet(1, 5, 3),
+    );
     // By LRU-2 page 2 leaves for page 3, since it came once; page 1 is hit again, and page 3 leaves for page 2.
-    let counts = count(&rt, &mut port(&rt), lru(&rt, 2), 2, TWICE_FIRST);
-    assert_eq!(rt; counts, Ok(quiet(2, 4, 2)));
+    expect_counts(
+        &rt,
+        new_port(&rt),
+        lru(&rt, 2),
+        2,
+        TWICE_FIRST,
+        quiet(2, 4, 2),
+    );
 }
 
 #[test]
 fn no_references_come_to_nothing(rt: HostRuntime) {
-    let counts = count(&rt, &mut port(&rt), lru(&rt, 2), 2, "");
-    assert_eq!(rt; counts, Ok(quiet(0, 0, 0)));
+    expect_counts(&rt, new_port(&rt), lru(&rt, 2), 2, "", quiet(0, 0, 0));
 }
 
 #[test]
 fn a_page_in_its_correlated_period_stays(rt: HostRuntime) {
     // Page 1 was last fixed at time 2. At time 3 it may not leave for page 2, and at time 4 it leaves for page 3.
     let settings = Settings::new(2, 1, 1_000_000).expect(&rt, "settings");
-    let counts = count(&rt, &mut port(&rt), settings, 1, "1\n1\n2\n3\n");
     let mut wanted = quiet(1, 2, 1);
     wanted.refused = 1;
-    assert_eq!(rt; counts, Ok(wanted));
+    expect_counts(&rt, new_port(&rt), settings, 1, "1\n1\n2\n3\n", wanted);
 }
 
 #[test]
 fn a_read_that_fails_is_counted(rt: HostRuntime) {
     // The page is not there after the first read, so the second reference reads it.
-    let mut fuse = FusePort::new(rt.alloc(), port(&rt), 1, false).expect(&rt, "a fuse");
-    let counts = count(&rt, &mut fuse, lru(&rt, 2), 1, "1\n1\n1\n");
+    let fuse = FusePort::new(rt.alloc(), new_port(&rt), 1, false).expect(&rt, "a fuse");
     let mut wanted = quiet(1, 1, 0);
     wanted.failed = 1;
-    assert_eq!(rt; counts, Ok(wanted));
-}
-
-#[test]
-fn frames_have_limits(rt: HostRuntime) {
-    let none = count(&rt, &mut port(&rt), lru(&rt, 2), 0, CLASSIC);
-    assert_eq!(rt; none, Err(Refusal::BadSettings));
-    let many = count(&rt, &mut port(&rt), lru(&rt, 2), 65_537, CLASSIC);
-    assert_eq!(rt; many, Err(Refusal::BadSettings));
-    let most = count(&rt, &mut port(&rt), lru(&rt, 2), 65_536, CLASSIC);
-    assert_eq!(rt; most, Ok(quiet(14, 6, 0)));
+    expect_counts(&rt, fuse, lru(&rt, 2), 1, "1\n1\n1\n", wanted);
 }

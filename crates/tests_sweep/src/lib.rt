@@ -1,4 +1,4 @@
-//! Tests of a sweep: lists of references, and what its cells count, reckoned by hand.
+//! Tests of a sweep, with lists of references and what its cells count, reckoned by hand, and of the ports of a run.
 //!
 //! They stand apart from the crates that they call, so that none of these is proved a second time with its tests.
 #![tactic(auto)]
@@ -7,3 +7,5 @@
 mod cells;
 #[cfg(test)]
 mod lists;
+#[cfg(test)]
+mod ports;

@@ -1,6 +1,9 @@
-//! Page files that are cut after they were opened.
-use bp_device::{FilePort, Port};
-use bp_page::{Format, PageNo, PortFault};
+//! Page files: their lengths, their slots, and files that are cut after they were opened.
+ghost use Rattle.std.specs.Prelude.{◌≤◌};
+
+use crate::making::image;
+use bp_device::{FilePort, OpenFault, Port};
+use bp_page::{Format, Lsn, PageNo, PortFault, Refusal, slot2, unslot2};
 use std::fs::File;
 use std::path::PathBuf;
 use std::process::Abort;
@@ -116,4 +119,57 @@ fn headed_file_cut_after_open(rt: HostRuntime) {
         );
     }
     fs::remove_file(&rt, path.as_path()).expect(&rt, "the file is removed");
+}
+
+/// How many pages a file of so many bytes is found to have, or none where its length is refused.
+fn pages_of<R: Files<File = File> + Abort + AllocGlobal>(
+    rt: &R,
+    path: &str,
+    length: usize,
+) -> Option<u64>
+    requires { length ≤ 40 }
+{
+    fs::write(rt, path, &[7u8; 40][..length]).expect(rt, "the file");
+    match FilePort::open(rt, rt.alloc(), path, 16, Format::Plain) {
+        Ok(port) => Some(port.geometry().pages),
+        Err(OpenFault::Refused(Refusal::BadLength)) => None,
+        Err(fault) => panic!(rt; "{fault}"),
+    }
+}
+
+#[test]
+fn file_lengths(rt: HostRuntime) {
+    let path = scratch(&rt, process::id(rt.process()), "lengths");
+    let name = path.as_path().as_str();
+    assert_eq!(rt; pages_of(&rt, name, 40), None);
+    assert_eq!(rt; pages_of(&rt, name, 0), None);
+    assert_eq!(rt; pages_of(&rt, name, 32), Some(2));
+    fs::remove_file(&rt, path.as_path()).expect(&rt, "the file is removed");
+    let absent = FilePort::open(&rt, rt.alloc(), path.as_path(), 16, Format::Plain);
+    assert!(rt; matches!(absent, Err(OpenFault::Port(PortFault::Device))));
+}
+
+/// The slot of page 3 with LSN 7 and an image of the bytes 0 to 15.
+const SLOT: [u8; 32] = [
+    3, 0, 0, 0, 0, 0, 0, 0, 7, 0, 0, 0, 0, 0, 0, 0, 0, 1, 2, 3, 4, 5, 6, 7, 8, 9, 10, 11, 12, 13,
+    14, 15,
+];
+
+#[test]
+fn slot_both_ways(rt: HostRuntime) {
+    let three = PageNo::new(3);
+    let bytes = image(&rt, &SLOT[16..]);
+    match slot2(rt.alloc(), three, Lsn::new(7), &bytes) {
+        Ok(slot) => assert_eq!(rt; slot.as_slice(), SLOT.as_slice()),
+        Err(refusal) => panic!(rt; "{refusal}"),
+    }
+    match unslot2(rt.alloc(), three, &SLOT) {
+        Ok((lsn, found)) => {
+            assert_eq!(rt; lsn, Lsn::new(7));
+            assert_eq!(rt; found, bytes);
+        }
+        Err(fault) => panic!(rt; "{fault}"),
+    }
+    let wrong = unslot2(rt.alloc(), PageNo::new(4), &SLOT);
+    assert!(rt; matches!(wrong, Err(PortFault::WrongPage)));
 }

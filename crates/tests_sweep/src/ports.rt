@@ -1,0 +1,37 @@
+//! The ports of a run in free order, one for each client.
+use bp_device::Port;
+use bp_page::{Format, Image, Lsn, PageNo};
+use bp_run::{PageFiles, Ports};
+use std::alloc::Global;
+use std::fs;
+use std::fs::File;
+use std::process::Abort;
+use std::rt::{Files, Runtime};
+use std::sync::Wait;
+
+/// Asserts that what the first of two ports to a page file writes is what the second reads.
+fn expect_one_device(
+    rt: &(impl Runtime<A = Global> + Files<File = File> + Wait + Abort),
+    word: &str,
+) {
+    let mut files = PageFiles::new(rt.alloc());
+    let file = files
+        .open(rt, word, 16, Format::Plain)
+        .expect(rt, "the page file");
+    let mut ports = files.connect(rt, file, 2).expect(rt, "the ports");
+    assert_eq!(rt; ports.len(), 2);
+    let image = Image::of(rt.alloc(), b"written by first").expect(rt, "the image");
+    let written = ports[0].write(rt, PageNo::new(1), &image, Lsn::new(0));
+    assert_eq!(rt; written, Ok(()));
+    let found = ports[1].read(rt, PageNo::new(1)).expect(rt, "the page");
+    assert_eq!(rt; found, image);
+}
+
+#[test]
+fn ports_of_one_device(rt: HostRuntime) {
+    expect_one_device(&rt, "mem:4");
+    let path = "bpool_ports.pages";
+    fs::write(&rt, path, [0u8; 48].as_slice()).expect(&rt, "the file is written");
+    expect_one_device(&rt, path);
+    fs::remove_file(&rt, path).expect(&rt, "the file is removed");
+}
