@@ -9,7 +9,7 @@ use bp_page::{Bytes, Image, Lsn, PageNo, PortFault, Refusal};
 use std::alloc::Global;
 
 /// A call. A pass is named by its serial number. The ticket of a read or of a write-out is the one that is out.
-#[derive(Clone, Copy, Debug, Drop)]
+#[derive(Clone, Copy, Debug)]
 pub(super) enum Do {
     Fix(u8, u64),
     /// Ends the read with a page that starts with this byte and has zeros else.
@@ -37,7 +37,7 @@ pub(super) enum Do {
 }
 
 /// What a call gives.
-#[derive(Clone, Copy, PartialEq, Eq, Debug, Drop)]
+#[derive(Clone, Copy, PartialEq, Eq, Debug)]
 pub(super) enum Gives {
     /// A pass: its client, page and serial number.
     Pass(u8, u64, u64),
@@ -71,8 +71,8 @@ pub(super) struct Run<K: Keeper> {
     alloc: Global,
     pub(super) core: PoolCore<K>,
     /// The passes that were given, by their serial numbers.
-    passes: Vec<PassNote>,
-    read: Option<ReadTicket>,
+    pub(super) passes: Vec<PassNote>,
+    pub(super) read: Option<ReadTicket>,
     write: Option<WriteTicket>,
     /// The entries that were cut.
     pieces: Vec<Entry>,
@@ -116,16 +116,6 @@ impl<K: Keeper> Run<K> {
         self.passes.get(pass).copied()
     }
 
-    /// Has a pass of another core as its next.
-    pub(super) fn take_note(&mut self, note: PassNote) {
-        let _ = self.passes.push(note);
-    }
-
-    /// Lets the ticket to read go to another.
-    pub(super) fn lend_read(&mut self) -> Option<ReadTicket> {
-        self.read.take()
-    }
-
     /// Has a ticket to read, its own or another core's.
     pub(super) fn take_read(&mut self, ticket: Option<ReadTicket>) {
         if let Some(before) = std::mem::replace(&mut self.read, ticket) {
@@ -147,7 +137,10 @@ impl<K: Keeper> Run<K> {
     }
 
     fn keep_read(&mut self, ticket: ReadTicket, evicted: Option<PageNo>) -> Gives {
-        let evicted = evicted.map(|page| page.number());
+        let evicted = match evicted {
+            Some(page) => Some(page.number()),
+            None => None,
+        };
         let gives = Gives::Load(ticket.page().number(), ticket.serial(), evicted);
         self.take_read(Some(ticket));
         gives
@@ -155,7 +148,7 @@ impl<K: Keeper> Run<K> {
 
     fn keep_pass(&mut self, pass: Pass) -> Gives {
         let note = pass.note();
-        self.take_note(note);
+        let _ = self.passes.push(note);
         Gives::Pass(note.client(), note.page().number(), note.serial())
     }
 
@@ -183,7 +176,11 @@ impl<K: Keeper> Run<K> {
             Err(EndRefusal::Unknown(ticket, read)) => {
                 let (page, serial) = (ticket.page().number(), ticket.serial());
                 self.take_read(Some(ticket));
-                Gives::TicketBack(page, serial, came_back(&read))
+                let first = match &read {
+                    Ok(image) => first_byte(image),
+                    Err(_) => None,
+                };
+                Gives::TicketBack(page, serial, first)
             }
         }
     }
@@ -372,13 +369,5 @@ fn forfeit(read: Option<ReadTicket>, write: Option<WriteTicket>) {
     }
     if let Some(ticket) = write {
         ticket.forfeit();
-    }
-}
-
-/// The first byte of an image that came back.
-fn came_back(read: &Result<Image, PortFault>) -> Option<u8> {
-    match read {
-        Ok(image) => first_byte(image),
-        Err(_) => None,
     }
 }
