@@ -12,7 +12,8 @@ fn pass_of_another_core(rt: HostRuntime) {
     let mut own = usual(&rt, 1);
     let mut other = usual(&rt, 1);
     follow(&rt, &mut own, &BRINGS);
-    let _ = other.passes.push(own.note(0).expect(&rt, "the pass"));
+    let pass = own.passes.first().copied();
+    let _ = other.passes.push(pass.expect(&rt, "the pass"));
     let refused = [
         (Do::Unfix(0), Gives::PassBack(0, 1, 0)),
         (Do::Length, Gives::Number(0)),
