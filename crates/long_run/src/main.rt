@@ -7,6 +7,7 @@
 #![tactic(auto)]
 
 ghost use Rattle.std.specs.Prelude.{◌≡◌, ◌+◌, ◌<◌, ◌≤◌, length};
+ghost use Rattle.long_run.specs.declared.TheConstants.{PAGES};
 
 use bp_core::{Entry, Keeper, Pass, PoolCore, RecordingKeeper, SilentKeeper};
 use bp_device::{MemDevice, MemPort, drive_fix};

@@ -9,7 +9,7 @@ use bp_page::{Bytes, Image, Lsn, PageNo, PortFault, Refusal};
 use std::alloc::Global;
 
 /// A call. A pass is named by its serial number. The ticket of a read or of a write-out is the one that is out.
-#[derive(Clone, Copy, Debug, Drop)]
+#[derive(Clone, Copy, Debug)]
 pub(super) enum Do {
     Fix(u8, u64),
     /// Ends the read with a page that starts with this byte and has zeros else.
@@ -37,7 +37,7 @@ pub(super) enum Do {
 }
 
 /// What a call gives.
-#[derive(Clone, Copy, PartialEq, Eq, Debug, Drop)]
+#[derive(Clone, Copy, PartialEq, Eq, Debug)]
 pub(super) enum Gives {
     /// A pass: its client, page and serial number.
     Pass(u8, u64, u64),
@@ -71,17 +71,22 @@ pub(super) struct Run<K: Keeper> {
     alloc: Global,
     pub(super) core: PoolCore<K>,
     /// The passes that were given, by their serial numbers.
-    passes: Vec<PassNote>,
-    read: Option<ReadTicket>,
+    pub(super) passes: Vec<PassNote>,
+    pub(super) read: Option<ReadTicket>,
     write: Option<WriteTicket>,
     /// The entries that were cut.
     pieces: Vec<Entry>,
 }
 
+/// The bytes of a page that starts with this byte and has zeros else.
+pub(super) fn page_of(first: u8) -> [u8; 16] {
+    [first, 0, 0, 0, 0, 0, 0, 0, 0, 0, 0, 0, 0, 0, 0, 0]
+}
+
 /// The first byte of an image, where the others are zero.
 fn first_byte(image: &Image) -> Option<u8> {
-    match image.bytes().split_first() {
-        Some((first, rest)) if rest.iter().all(|byte| *byte == 0) => Some(*first),
+    match image.bytes().first() {
+        Some(first) if image.bytes() == page_of(*first).as_slice() => Some(*first),
         _ => None,
     }
 }
@@ -98,32 +103,23 @@ impl<K: Keeper> Run<K> {
         }
     }
 
-    /// Ends it. What is out stays out.
-    pub(super) fn end(self) {
+    /// Ends it. What is out stays out. The core comes back, and the entries that were cut.
+    pub(super) fn end(self) -> (PoolCore<K>, Vec<Entry>) {
         let Run {
             alloc: _,
-            core: _,
+            core,
             passes: _,
             read,
             write,
-            pieces: _,
+            pieces,
         } = self;
-        forfeit(read, write);
-    }
-
-    /// The pass of this serial number, which stays out here.
-    pub(super) fn note(&self, pass: usize) -> Option<PassNote> {
-        self.passes.get(pass).copied()
-    }
-
-    /// Has a pass of another core as its next.
-    pub(super) fn take_note(&mut self, note: PassNote) {
-        let _ = self.passes.push(note);
-    }
-
-    /// Lets the ticket to read go to another.
-    pub(super) fn lend_read(&mut self) -> Option<ReadTicket> {
-        self.read.take()
+        if let Some(ticket) = read {
+            ticket.forfeit();
+        }
+        if let Some(ticket) = write {
+            ticket.forfeit();
+        }
+        (core, pieces)
     }
 
     /// Has a ticket to read, its own or another core's.
@@ -147,7 +143,10 @@ impl<K: Keeper> Run<K> {
     }
 
     fn keep_read(&mut self, ticket: ReadTicket, evicted: Option<PageNo>) -> Gives {
-        let evicted = evicted.map(|page| page.number());
+        let evicted = match evicted {
+            Some(page) => Some(page.number()),
+            None => None,
+        };
         let gives = Gives::Load(ticket.page().number(), ticket.serial(), evicted);
         self.take_read(Some(ticket));
         gives
@@ -155,7 +154,7 @@ impl<K: Keeper> Run<K> {
 
     fn keep_pass(&mut self, pass: Pass) -> Gives {
         let note = pass.note();
-        self.take_note(note);
+        let _ = self.passes.push(note);
         Gives::Pass(note.client(), note.page().number(), note.serial())
     }
 
@@ -183,14 +182,17 @@ impl<K: Keeper> Run<K> {
             Err(EndRefusal::Unknown(ticket, read)) => {
                 let (page, serial) = (ticket.page().number(), ticket.serial());
                 self.take_read(Some(ticket));
-                Gives::TicketBack(page, serial, came_back(&read))
+                let first = match &read {
+                    Ok(image) => first_byte(image),
+                    Err(_) => None,
+                };
+                Gives::TicketBack(page, serial, first)
             }
         }
     }
 
     fn end_read_with(&mut self, first: u8) -> Gives {
-        let bytes = [first, 0, 0, 0, 0, 0, 0, 0, 0, 0, 0, 0, 0, 0, 0, 0];
-        match Image::of(self.alloc, &bytes) {
+        match Image::of(self.alloc, &page_of(first)) {
             Ok(image) if image.bytes().len() == self.core.geometry().size => {
                 self.end_read(Ok(image))
             }
@@ -199,7 +201,10 @@ impl<K: Keeper> Run<K> {
     }
 
     fn write(&mut self, pass: usize, byte: u8, lsn: u64) -> Gives {
-        let (Some(note), Ok(bytes)) = (self.note(pass), Bytes::of(self.alloc, &[byte])) else {
+        let (Some(note), Ok(bytes)) = (
+            self.passes.get(pass).copied(),
+            Bytes::of(self.alloc, &[byte]),
+        ) else {
             return Gives::NotCalled;
         };
         if !self.core.geometry().fits(0, bytes.bytes().len()) {
@@ -215,7 +220,7 @@ impl<K: Keeper> Run<K> {
     }
 
     fn read(&mut self, pass: usize) -> Gives {
-        let Some(note) = self.note(pass) else {
+        let Some(note) = self.passes.get(pass).copied() else {
             return Gives::NotCalled;
         };
         let pass = note.pass();
@@ -228,7 +233,7 @@ impl<K: Keeper> Run<K> {
     }
 
     fn unfix(&mut self, pass: usize) -> Gives {
-        let Some(note) = self.note(pass) else {
+        let Some(note) = self.passes.get(pass).copied() else {
             return Gives::NotCalled;
         };
         match self.core.unfix(note.pass()) {
@@ -266,38 +271,27 @@ impl<K: Keeper> Run<K> {
         }
     }
 
-    fn tick(&mut self, n: u64) -> Gives {
+    /// Moves the clock, marks the log or purges.
+    fn keep_up(&mut self, what: Do) -> Gives {
         if self.core.clients() == 0 {
             return Gives::NotCalled;
         }
-        match self.core.tick(0, n) {
-            Ok(()) => Gives::Number(self.core.clock()),
-            Err(refusal) => Gives::Refused(refusal),
+        let done = match what {
+            Do::Tick(n) => self.core.tick(0, n),
+            Do::Mark(lsn) => self.core.mark(0, Lsn::new(lsn)),
+            _ => match self.core.purge(0) {
+                Ok(forgotten) => return Gives::Number(forgotten),
+                Err(refusal) => Err(refusal),
+            },
+        };
+        match (done, what) {
+            (Ok(()), Do::Tick(_)) => Gives::Number(self.core.clock()),
+            (Ok(()), _) => Gives::Number(self.core.durable().number()),
+            (Err(refusal), _) => Gives::Refused(refusal),
         }
     }
 
-    fn mark(&mut self, lsn: u64) -> Gives {
-        if self.core.clients() == 0 {
-            return Gives::NotCalled;
-        }
-        match self.core.mark(0, Lsn::new(lsn)) {
-            Ok(()) => Gives::Number(self.core.durable().number()),
-            Err(refusal) => Gives::Refused(refusal),
-        }
-    }
-
-    fn purge(&mut self) -> Gives {
-        if self.core.clients() == 0 {
-            return Gives::NotCalled;
-        }
-        match self.core.purge(0) {
-            Ok(forgotten) => Gives::Number(forgotten),
-            Err(refusal) => Gives::Refused(refusal),
-        }
-    }
-
-    fn stamps(&self, page: u64) -> Gives {
-        let page = PageNo::new(page);
+    fn stamps(&self, page: PageNo) -> Gives {
         let (first, second) = (self.core.stamp(page, 1), self.core.stamp(page, 2));
         Gives::Stamps(first, second, self.core.last(page))
     }
@@ -315,10 +309,8 @@ impl<K: Keeper> Run<K> {
             Do::Flush(client, page) => self.flush(client, page),
             Do::WriteEnd => self.end_write(Ok(())),
             Do::WriteFails => self.end_write(Err(PortFault::Device)),
-            Do::Tick(n) => self.tick(n),
-            Do::Mark(lsn) => self.mark(lsn),
-            Do::Purge => self.purge(),
-            Do::Stamps(page) => self.stamps(page),
+            Do::Tick(_) | Do::Mark(_) | Do::Purge => self.keep_up(what),
+            Do::Stamps(page) => self.stamps(PageNo::new(page)),
             Do::Cut | Do::Length | Do::Fresh => Gives::NotCalled,
         }
     }
@@ -327,15 +319,7 @@ impl<K: Keeper> Run<K> {
 impl Run<RecordingKeeper> {
     /// All entries, the oldest first. What is out stays out.
     pub(super) fn into_entries(self) -> Vec<Entry> {
-        let Run {
-            alloc: _,
-            core,
-            passes: _,
-            read,
-            write,
-            mut pieces,
-        } = self;
-        forfeit(read, write);
+        let (core, mut pieces) = self.end();
         for entry in core.into_trail() {
             let _ = pieces.push(entry);
         }
@@ -363,22 +347,5 @@ impl Run<RecordingKeeper> {
             Do::Fresh => Gives::Is(self.core.fresh()),
             other => self.call_any(other),
         }
-    }
-}
-
-fn forfeit(read: Option<ReadTicket>, write: Option<WriteTicket>) {
-    if let Some(ticket) = read {
-        ticket.forfeit();
-    }
-    if let Some(ticket) = write {
-        ticket.forfeit();
-    }
-}
-
-/// The first byte of an image that came back.
-fn came_back(read: &Result<Image, PortFault>) -> Option<u8> {
-    match read {
-        Ok(image) => first_byte(image),
-        Err(_) => None,
     }
 }

@@ -34,8 +34,20 @@ struct Timed {
 impl Timed {
     fn take(&mut self, rt: &impl Abort, step: Step) {
         match step {
-            Step::Fault(page, t) => self.fault(rt, PageNo::new(page), t),
-            Step::Hit(page, t) => self.hit(rt, PageNo::new(page), t),
+            Step::Fault(page, t) => {
+                let page = PageNo::new(page);
+                assert!(rt; 0 < t && self.now <= t && !self.histories.holds(page));
+                self.histories.prepare(page).expect(rt, "the block");
+                self.now = t;
+                self.histories.fault(page, t);
+            }
+            Step::Hit(page, t) => {
+                let page = PageNo::new(page);
+                assert!(rt; self.now <= t && self.histories.holds(page));
+                assert!(rt; 0 < self.histories.last(page));
+                self.now = t;
+                self.histories.hit(page, t);
+            }
             Step::Leave(page) => {
                 let page = PageNo::new(page);
                 assert!(rt; self.histories.holds(page));
@@ -61,19 +73,6 @@ impl Timed {
                 assert_eq!(rt; self.histories.stamp(PageNo::new(page), i), 0);
             }
         }
-    }
-
-    fn fault(&mut self, rt: &impl Abort, page: PageNo, t: u64) {
-        assert!(rt; 0 < t && self.now <= t && !self.histories.holds(page));
-        self.histories.prepare(page).expect(rt, "the block");
-        self.now = t;
-        self.histories.fault(page, t);
-    }
-
-    fn hit(&mut self, rt: &impl Abort, page: PageNo, t: u64) {
-        assert!(rt; self.now <= t && self.histories.holds(page) && 0 < self.histories.last(page));
-        self.now = t;
-        self.histories.hit(page, t);
     }
 }
 

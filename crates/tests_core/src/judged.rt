@@ -1,5 +1,5 @@
 //! A trail whose replies were reckoned by hand, and such a trail with one thing wrong, before the judge of trails.
-use super::calls::{Do, Gives};
+use super::calls::{Do, Gives, page_of};
 use super::rows::{core, follow};
 use bp_check::{Setup, first_unlawful};
 use bp_core::{Call, Ended, Entry, Reply};
@@ -80,13 +80,12 @@ enum Otherwise {
 }
 
 fn image(rt: &(impl Abort + AllocGlobal), first: u8) -> Image {
-    let mut bytes = [0; 16];
-    bytes[0] = first;
-    Image::of(rt.alloc(), &bytes).expect(rt, "memory")
+    Image::of(rt.alloc(), &page_of(first)).expect(rt, "memory")
 }
 
 fn change(rt: &(impl Abort + AllocGlobal), trail: &mut Vec<Entry>, what: Otherwise) {
     assert!(rt; trail.len() == 29);
+    let page_2 = Some(PageNo::new(2));
     match what {
         Otherwise::DroppedEntry => {
             trail.remove(1);
@@ -94,10 +93,20 @@ fn change(rt: &(impl Abort + AllocGlobal), trail: &mut Vec<Entry>, what: Otherwi
         Otherwise::OldContent => trail[3].reply = Reply::Content(image(rt, 1)),
         Otherwise::SkippedSerialNumber => trail[7].reply = Reply::Hit(3),
         Otherwise::WriteOutAheadOfTheLog => trail[13].call = Call::Mark(Lsn::new(4)),
-        Otherwise::PinnedPageLeaves => trail[17].reply = load(3, 2),
+        Otherwise::PinnedPageLeaves => {
+            trail[17].reply = Reply::Load {
+                ticket: 3,
+                evicted: page_2,
+            };
+        }
         Otherwise::PassOfAnotherClient => trail[22].client = 0,
         Otherwise::PurgeCountsAPageTooMany => trail[23].reply = Reply::Forgot(1),
-        Otherwise::AnotherCandidateLeaves => trail[26].reply = load(5, 2),
+        Otherwise::AnotherCandidateLeaves => {
+            trail[26].reply = Reply::Load {
+                ticket: 5,
+                evicted: page_2,
+            };
+        }
         Otherwise::WrongPage(has_image) => {
             trail[18].call = Call::ReadEnd {
                 ticket: 3,
@@ -106,13 +115,6 @@ fn change(rt: &(impl Abort + AllocGlobal), trail: &mut Vec<Entry>, what: Otherwi
             };
             trail[18].reply = Reply::WrongPage;
         }
-    }
-}
-
-fn load(ticket: u64, evicted: u64) -> Reply {
-    Reply::Load {
-        ticket,
-        evicted: Some(PageNo::new(evicted)),
     }
 }
 

@@ -1,23 +1,23 @@
 //! Where a core's parameters, its room and its clock end.
 use super::calls::{Do, Gives};
 use super::rows::{answers, core, usual};
-use bp_core::{Core, SilentCore};
+use bp_core::{Keeper, PoolCore, RecordingKeeper, SilentKeeper};
 use bp_lruk::Settings;
 use bp_page::{Geometry, Refusal};
 use std::alloc::Global;
 
-/// A core with these frames, clients and room.
-fn made(alloc: Global, frames: usize, clients: u8, room: usize) -> Result<Core, Refusal> {
+/// The number of the refusal of such a core, where it is refused.
+fn refused<K: Keeper>(
+    alloc: Global,
+    frames: usize,
+    clients: u8,
+    room: usize,
+) -> Result<Option<u16>, Refusal> {
     let geometry = Geometry::new(1, 16)?;
     let settings = Settings::new(1, 0, 0)?;
-    Core::new(alloc, geometry, settings, frames, clients, room)
-}
-
-/// The number of the refusal of such a core, where it is refused.
-fn refused(alloc: Global, frames: usize, clients: u8, room: usize) -> Option<u16> {
-    match made(alloc, frames, clients, room).err() {
-        Some(refusal) => Some(refusal.number()),
-        None => None,
+    match PoolCore::<K>::new(alloc, geometry, settings, frames, clients, room).err() {
+        Some(refusal) => Ok(Some(refusal.number())),
+        None => Ok(None),
     }
 }
 
@@ -33,22 +33,12 @@ fn keeps_the_limits_of_a_core(rt: HostRuntime) {
         (1, 1, 0, Some(2)),
         (1, 1, 16_777_217, Some(2)),
     ] {
-        let found = refused(rt.alloc(), frames, clients, room);
+        let found = refused::<RecordingKeeper>(rt.alloc(), frames, clients, room);
         assert_eq!(rt;
             found,
-            number,
+            Ok(number),
             "{frames} frames, {clients} clients, room {room}"
         );
-    }
-}
-
-/// The number of the refusal of a core that only counts its entries, with this room, where it is refused.
-fn refused_silent(alloc: Global, room: usize) -> Result<Option<u16>, Refusal> {
-    let geometry = Geometry::new(1, 16)?;
-    let settings = Settings::new(1, 0, 0)?;
-    match SilentCore::new(alloc, geometry, settings, 1, 1, room).err() {
-        Some(refusal) => Ok(Some(refusal.number())),
-        None => Ok(None),
     }
 }
 
@@ -61,7 +51,7 @@ fn keeps_the_room_of_a_silent_core(rt: HostRuntime) {
         (2_305_843_009_213_693_952, None),
         (2_305_843_009_213_693_953, Some(2)),
     ] {
-        let found = refused_silent(rt.alloc(), room);
+        let found = refused::<SilentKeeper>(rt.alloc(), 1, 1, room);
         assert_eq!(rt; found, Ok(number), "room {room}");
     }
 }

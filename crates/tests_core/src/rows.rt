@@ -74,7 +74,7 @@ fn follow_silently(rt: &(impl Abort + AllocGlobal), run: &Recorded, rows: &[(Do,
         let given = other.call_any(*what);
         assert_eq!(rt; given, *gives, "{what:?}, silently");
     }
-    other.end();
+    let _ = other.end();
 }
 
 /// Makes the calls over one run, over another whose trail is cut after each, and over one that only counts its entries.

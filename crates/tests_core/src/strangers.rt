@@ -12,7 +12,8 @@ fn pass_of_another_core(rt: HostRuntime) {
     let mut own = usual(&rt, 1);
     let mut other = usual(&rt, 1);
     follow(&rt, &mut own, &BRINGS);
-    other.take_note(own.note(0).expect(&rt, "the pass"));
+    let pass = own.passes.first().copied();
+    let _ = other.passes.push(pass.expect(&rt, "the pass"));
     let refused = [
         (Do::Unfix(0), Gives::PassBack(0, 1, 0)),
         (Do::Length, Gives::Number(0)),
@@ -28,13 +29,13 @@ fn ticket_of_another_core(rt: HostRuntime) {
     let mut own = usual(&rt, 1);
     let mut other = usual(&rt, 1);
     follow(&rt, &mut own, &[(Do::Fix(0, 1), Gives::Load(1, 0, None))]);
-    other.take_read(own.lend_read());
+    other.take_read(own.read.take());
     let refused = [
         (Do::ReadEnd(6), Gives::TicketBack(1, 0, Some(6))),
         (Do::Length, Gives::Number(0)),
     ];
     follow(&rt, &mut other, &refused);
-    own.take_read(other.lend_read());
+    own.take_read(other.read.take());
     other.into_entries();
     let goes_on = [
         (Do::ReadEnd(0), Gives::Pass(0, 1, 0)),
