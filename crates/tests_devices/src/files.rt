@@ -1,7 +1,7 @@
 //! Page files: their lengths, their slots, and files that are cut after they were opened.
 ghost use Rattle.std.specs.Prelude.{◌≤◌};
 
-use crate::making::image;
+use crate::making::{NINE, expect_page, image, put};
 use bp_device::{FilePort, OpenFault, Port};
 use bp_page::{Format, Lsn, PageNo, PortFault, Refusal, slot2, unslot2};
 use std::fs::File;
@@ -147,6 +147,48 @@ fn file_lengths(rt: HostRuntime) {
     fs::remove_file(&rt, path.as_path()).expect(&rt, "the file is removed");
     let absent = FilePort::open(&rt, rt.alloc(), path.as_path(), 16, Format::Plain);
     assert!(rt; matches!(absent, Err(OpenFault::Port(PortFault::Device))));
+}
+
+/// Opens a file of these bytes, and asserts that a write of 32 bytes fails and leaves both its pages.
+fn expect_no_longer_image<R: Files<File = File> + Wait + Abort + AllocGlobal>(
+    rt: &R,
+    path: &str,
+    bytes: &[u8],
+    format: Format,
+) {
+    fs::write(rt, path, bytes).expect(rt, "the file");
+    let opened = FilePort::open(rt, rt.alloc(), path, 16, format);
+    let mut port = opened.expect(rt, "the page file");
+    let longer = image(rt, &[255; 32]);
+    let written = port.write(rt, PageNo::new(0), &longer, Lsn::new(0));
+    assert_eq!(rt; written, Err(PortFault::Device));
+    assert!(rt; fs::read(rt, path).expect(rt, "the file").as_slice() == bytes);
+}
+
+#[test]
+fn longer_images_are_not_written(rt: HostRuntime) {
+    let path = scratch(&rt, process::id(rt.process()), "longer");
+    let name = path.as_path().as_str();
+    expect_no_longer_image(&rt, name, &[0; 32], Format::Plain);
+    expect_no_longer_image(&rt, name, &four_slots(), Format::Headed);
+    fs::remove_file(&rt, path.as_path()).expect(&rt, "the file is removed");
+}
+
+// A slot with the number of another page is written anew.
+#[test]
+fn a_write_mends_a_slot_of_another_page(rt: HostRuntime) {
+    let path = scratch(&rt, process::id(rt.process()), "mended");
+    let name = path.as_path().as_str();
+    fs::write(&rt, name, &[7; 32]).expect(&rt, "the file");
+    let opened = FilePort::open(&rt, rt.alloc(), name, 16, Format::Headed);
+    let mut port = opened.expect(&rt, "the page file");
+    assert_eq!(rt;
+        port.read(&rt, PageNo::new(0)).err(),
+        Some(PortFault::WrongPage)
+    );
+    put(&rt, &mut port, 0, &NINE);
+    expect_page(&rt, &mut port, 0, &NINE);
+    fs::remove_file(&rt, path.as_path()).expect(&rt, "the file is removed");
 }
 
 /// The slot of page 3 with LSN 7 and an image of the bytes 0 to 15.

@@ -74,6 +74,21 @@ fn three_lines(rt: &(impl Abort + AllocGlobal)) -> [Line; 3] {
     ]
 }
 
+/// Whether a picture of one line with this point is drawn.
+fn is_drawn(rt: &(impl Abort + AllocGlobal), odd: Point) -> bool {
+    let mut picture = Vec::new(rt.alloc());
+    write_chart(&[line(rt, Which::K(1), [odd])], &mut picture).is_ok()
+}
+
+// No frames, no fixes, and more hits than fixes.
+#[test]
+fn odd_points_are_drawn(rt: HostRuntime) {
+    assert!(rt; is_drawn(&rt, point(0, 0, 0)));
+    assert!(rt; is_drawn(&rt, point(1, 3, 2)));
+    let mut picture = Vec::new(rt.alloc());
+    write_chart(&[], &mut picture).expect(&rt, "a picture without lines");
+}
+
 #[test]
 fn points_stand_at_their_places(rt: HostRuntime) {
     let lines = three_lines(&rt);

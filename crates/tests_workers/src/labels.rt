@@ -7,7 +7,7 @@ use bp_device::{MemPort, Port};
 use bp_keeper::ListKeeper;
 use bp_page::{Lsn, Refusal};
 use bp_shared::{PoolName, SharedPool};
-use bp_workers::{Client, Upkeep, Worker, run_workers_over};
+use bp_workers::{Client, Config, Upkeep, Worker, run_workers_over};
 use std::alloc::Global;
 use std::rt::HostRuntime;
 use std::sync::Wait;
@@ -109,6 +109,11 @@ impl<P: Port, K: ListKeeper> Worker<P, K> for Labeler {
 #[test]
 fn silent_labels_are_read_back(rt: HostRuntime) {
     let rt = &rt;
+    // The most that a silent pool may count.
+    let config = Config {
+        room: 1 << 61,
+        ..config(rt, 2)
+    };
     let mut workers = Vec::new(rt.alloc());
     let worker = Labeler {
         alloc: rt.alloc(),
@@ -120,7 +125,7 @@ fn silent_labels_are_read_back(rt: HostRuntime) {
     let run = run_workers_over::<SilentKeeper, MemPort, Labeler, HostRuntime>(
         rt,
         rt.alloc(),
-        config(rt, 2),
+        config,
         ports(rt, 1),
         workers,
     ).expect(rt, "the run");
