@@ -1,4 +1,8 @@
+pub mod Lists
+pub mod Dense
+pub mod Gathering
 pub mod Lines
+pub mod Columns
 pub mod Tally
 pub mod Steps
 pub mod Fixing

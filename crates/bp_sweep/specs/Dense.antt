@@ -33,10 +33,11 @@ pub record ArePages (pages : List ℕ) (different : ℕ) : Type 0 where
   pub below : All (λ page. page < different) pages
   pub few : different ≤ most_numbers
 
--- a map has the page of each of the different numbers
+-- a map has the page of each of the different numbers, and there are not too many
 pub record IsIndex {S : Type 0} (places : HashMap ℕ ℕ S) (seen : List ℕ) : Type 0 where
   pub pages : (n : ℕ) → get nat_eq places n ≡ page_of n seen
   pub count : hash_map_len places ≡ length seen
+  pub few : length seen ≤ most_numbers
 
 -- the page of a number that comes next and the map with it, or why it has none
 abbrev pub PlacesNumber : {S : Type 0} → ℕ → List ℕ → Result ℕ Refusal → HashMap ℕ ℕ S → Type 0

@@ -3,7 +3,7 @@ use Rattle.std.specs.Prelude.{◌≡◌, ◌⊎◌, ℕ, ◌≤◌, List, [], �
 use Rattle.std.specs.HashMap.{hash_map_len}
 use Rattle.bp_sweep.specs.declared.dense.Gathered.{Gathered}
 use Rattle.bp_sweep.specs.declared.faults.ReferenceFault.{ReferenceFault}
-use Rattle.bp_sweep.specs.Dense.{AreDense, IsIndex, Pages, most_numbers}
+use Rattle.bp_sweep.specs.Dense.{AreDense, IsIndex, Pages}
 use Rattle.bp_sweep.specs.References.{IsFaulty, IsOutside, Said, most_references}
 
 -- these numbers came in, and of them these are the different ones, the newest first
@@ -11,7 +11,6 @@ pub record Holds (g : Gathered) (numbers seen : List ℕ) : Type 0 where
   pub dense : AreDense numbers g.pages.items seen
   pub index : IsIndex g.places seen
   pub few : length numbers ≤ most_references
-  pub few_different : length seen ≤ most_numbers
 
 -- some numbers came in
 abbrev pub IsGathered : Gathered → Type 0

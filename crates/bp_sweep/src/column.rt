@@ -1,5 +1,5 @@
 //! References in a column of records.
-ghost use Rattle.std.specs.Prelude.{◌≡◌, IfErr, IfOk, IfSome};
+ghost use Rattle.std.specs.Prelude.{◌≡◌, ◌&&◌, nat_eq, true, is_err, IfErr, IfOk, IfSome};
 ghost use Rattle.csv.specs.Reading.{ReadRecord, Ready, error_kind, reader_trim, took_first};
 ghost use Rattle.csv.specs.Records.{fields_of};
 ghost use Rattle.csv.specs.declared.reader.Trim.TheVariants as trim;
@@ -25,6 +25,13 @@ fn record_said(record: &ByteRecord, column: u32) -> Result<u64, Refusal>
         None => Err(Refusal::BadShape),
         Some(field) => parse_number(field).ok_or(Refusal::BadNumber),
     }
+}
+
+/// Whether what the record with this number says makes it a header: it is the first one, and has no number.
+fn is_header(line: u64, said: &Result<u64, Refusal>) -> bool
+    ensures { result ≡ (nat_eq line 1 && is_err said.now) }
+{
+    line == 1 && said.is_err()
 }
 
 /// What the record with this number says in a column, which the reader comes to now. `record` is used for its bytes.
@@ -75,9 +82,11 @@ pub fn read_column<R: Read + Drop>(
     for line in 1..MAX_REFERENCES as u64 + 3 {
         match next_record(&mut records, &mut record, column, line)? {
             None => return Ok(gathered.into_references()),
-            // A header.
-            Some(Err(_)) if line == 1 => {}
-            Some(said) => gathered.add(line, said)?,
+            Some(said) => {
+                if !is_header(line, &said) {
+                    gathered.add(line, said)?;
+                }
+            }
         }
     }
     unreachable!()
