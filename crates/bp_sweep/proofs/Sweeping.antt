@@ -1,27 +1,72 @@
--- One cell after the other.
-use Rattle.std.proofs.Common.{◌≡◌, refl, sym, ap, subst, ℕ, zero, suc, ◌+◌, ◌<◌, arith, add-one, List, [], ◌∷◌, ◌++◌, length, take, get_or, All, inl, inr}
+-- One cell after the other, and the plans of a table.
+use Rattle.std.proofs.Common.{◌≡◌, refl, sym, ◌∙◌, ap, subst, ℕ, ◌+◌, ◌^◌, ◌<◌, ◌≤◌, max, arith, suc, List, [], ◌∷◌, ◌++◌, append_assoc, length, length-take, take, drop, drop-cons, get_or, map}
+use Rattle.std.proofs.lemmas.List.{append-nil, take_more, take-append-drop}
 use Rattle.bp_page.specs.declared.limits.Geometry.{Geometry}
 use Rattle.bp_page.specs.declared.refusals.Refusal.{Refusal}
-use Rattle.bp_page.specs.declared.refusals.Refusal.TheVariants.{BadSettings}
-use Rattle.bp_sweep.specs.declared.counts.Counts.{Counts}
+use Rattle.bp_lruk.specs.declared.settings.Settings.{Settings}
+use Rattle.bp_table.specs.declared.lines.Line.{Line}
+use Rattle.bp_trail.specs.Parameters.{Parameters}
 use Rattle.bp_sweep.specs.declared.cells.Plan.{Plan}
-use Rattle.bp_sweep.specs.Cells.{Counted, cell_parameters}
-use Rattle.bp_sweep.specs.Referring.{AreFrames, CellRefused}
-use Rattle.bp_sweep.specs.Sweeping.{AreCells, SweepRefused}
+use Rattle.bp_sweep.specs.declared.cells.Policy.TheVariants.{LruK}
+use Rattle.bp_sweep.specs.declared.cells.CellFault.{CellFault}
+use Rattle.bp_sweep.specs.Cells.{cell_parameters, pool_parameters}
+use Rattle.bp_sweep.specs.Dense.{Pages}
+use Rattle.bp_sweep.specs.Sweeping.{AreCells, IsCell, PlanRefused, SweepRefused, plans_of, plans_with, pool_with}
 use Rattle.bp_sweep.specs.Sweeping.AreCells.{one_more}
 
-take-next : (plans : List Plan) (k : ℕ) (d : Plan) → k < length plans → take (suc k) plans ≡ take k plans ++ get_or plans k d ∷ []
-take-next [] k d within = absurd (omega arith)
-take-next (x ∷ xs) zero d within = refl
-take-next (x ∷ xs) (suc k) d within = ap (λ ys. x ∷ ys) (take-next xs k d (omega arith))
+-- ---- cells
+
+-- the pool of a cell of LRU-K
+pub pool-is : (g : Geometry) (s : Settings) (frames different : ℕ) → g.pages ≡ max 1 different → g.size ≡ 16 → s.retained ≡ 2 ^ 62 → cell_parameters g s frames ≡ pool_parameters different frames s.k s.correlated
+pool-is g s frames different pages size retained = λ i. record {
+  frames = frames;
+  k = s.k;
+  correlated = s.correlated;
+  retained = retained i;
+  pages = pages i;
+  size = size i;
+  clients = 1;
+  room = 2 ^ 61;
+}
 
 -- one cell more
-pub cell-next : (g : Geometry) (references : List ℕ) (plans : List Plan) (k : ℕ) (d : Plan) (cells : List Counts) (counts : Counts) → k < length plans → AreCells g references (take k plans) cells
-    → Counted (cell_parameters g (get_or plans k d).settings (get_or plans k d).frames) references counts → AreCells g references (take (k + 1) plans) (cells ++ counts ∷ [])
-cell-next g references plans k d cells counts within so_far counted =
-    rw add-one (subst (λ ps. AreCells g references ps (cells ++ counts ∷ [])) (sym (take-next plans k d within)) (one_more (get_or plans k d) so_far counted))
+pub cell-next : (r : Pages) (plans : List Plan) (k : ℕ) (d : Plan) (lines : List Line) (line : Line) → k < length plans → AreCells r (take k plans) lines → IsCell r (get_or plans k d) line → AreCells r (take (k + 1) plans) (lines ++ line ∷ [])
+cell-next r plans k d lines line within so_far cell = subst (λ ps. AreCells r ps (lines ++ line ∷ [])) (sym (take_more plans k d within)) (one_more (get_or plans k d) so_far cell)
 
 -- a cell that was refused
-pub cell_refuses : (plans : List Plan) (k : ℕ) (plan : Plan) (why : Refusal) → k < length plans → plan ≡ get_or plans k plan → CellRefused plan.frames why → SweepRefused plans why
-cell_refuses plans k plan BadSettings within is bad = inr (refl, λ all. bad (subst (λ (p : Plan). AreFrames p.frames) (sym is) (all k plan within)))
-cell_refuses plans k plan _ within is ends = inl ends
+pub cell_refuses : (r : Pages) (plans : List Plan) (k : ℕ) (d : Plan) (lines : List Line) (fault : CellFault) → k < length plans → AreCells r (take k plans) lines → fault.cell ≡ k + 1 → PlanRefused (get_or plans k d) fault.refusal → SweepRefused r plans fault
+cell_refuses r plans k d lines fault within so_far at refused = record {
+  before = take k plans;
+  plan = get_or plans k d;
+  after = drop (suc k) plans;
+  plans_are = sym (take-append-drop k plans) ∙ ap (λ ps. take k plans ++ ps) (drop-cons plans k d within);
+  lines = lines;
+  counted = so_far;
+  cell_is = omega (arith, at, within, length-take k plans);
+  refused = refused;
+}
+
+-- a plan where there is none
+abbrev pub no_plan : Plan
+no_plan = record { frames = 0; policy = LruK 0 0 }
+
+-- ---- the plans of a table
+
+plans-more : (frames : List ℕ) (n : ℕ) (ks : List ℕ) (correlated : ℕ) → plans_of (frames ++ n ∷ []) ks correlated ≡ plans_of frames ks correlated ++ plans_with n ks correlated
+plans-more [] n ks correlated = append-nil (plans_with n ks correlated)
+plans-more (m ∷ frames) n ks correlated = ap (λ ps. plans_with m ks correlated ++ ps) (plans-more frames n ks correlated) ∙ sym (append_assoc (plans_with m ks correlated) (plans_of frames ks correlated) (plans_with n ks correlated))
+
+-- with the plans of one number of frames more
+pub plans-next : (frames : List ℕ) (k : ℕ) (ks : List ℕ) (correlated : ℕ) → k < length frames → plans_of (take (k + 1) frames) ks correlated ≡ plans_of (take k frames) ks correlated ++ plans_with (get_or frames k 0) ks correlated
+plans-next frames k ks correlated within = ap (λ fs. plans_of fs ks correlated) (take_more frames k 0 within) ∙ plans-more (take k frames) (get_or frames k 0) ks correlated
+
+map-more : (n correlated : ℕ) (ks : List ℕ) (k : ℕ) → map (pool_with n correlated) (ks ++ k ∷ []) ≡ map (pool_with n correlated) ks ++ pool_with n correlated k ∷ []
+map-more n correlated [] k = refl
+map-more n correlated (x ∷ ks) k = ap (λ ps. pool_with n correlated x ∷ ps) (map-more n correlated ks k)
+
+-- with the pool of one K more
+pub pools-next : (plans : List Plan) (n correlated : ℕ) (ks : List ℕ) (i : ℕ) → i < length ks
+    → (plans ++ map (pool_with n correlated) (take i ks)) ++ pool_with n correlated (get_or ks i 0) ∷ [] ≡ plans ++ map (pool_with n correlated) (take (i + 1) ks)
+pools-next plans n correlated ks i within =
+    append_assoc plans (map (pool_with n correlated) (take i ks)) (pool_with n correlated (get_or ks i 0) ∷ [])
+    ∙ ap (λ ps. plans ++ ps) (sym (ap (map (pool_with n correlated)) (take_more ks i 0 within) ∙ map-more n correlated (take i ks) (get_or ks i 0)))

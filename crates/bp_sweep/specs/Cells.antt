@@ -1,5 +1,5 @@
 -- What a cell of a sweep counts: the replies of a legal trail that follows the references, each a fix, an unfix and a tick.
-use Rattle.std.specs.Prelude.{◌≡◌, ℕ, ◌+◌, ◌*◌, ◌^◌, ◌<◌, List, [], ◌∷◌, ◌++◌, All}
+use Rattle.std.specs.Prelude.{◌≡◌, ℕ, ◌+◌, ◌*◌, ◌^◌, ◌<◌, max, List, [], ◌∷◌, ◌++◌, All}
 use Rattle.bp_page.specs.declared.limits.Geometry.{Geometry}
 use Rattle.bp_lruk.specs.declared.settings.Settings.{Settings}
 use Rattle.bp_trail.specs.declared.scripts.Row.{Row}
@@ -38,6 +38,19 @@ cell_parameters g settings frames = record {
   retained = settings.retained;
   pages = g.pages;
   size = g.size;
+  clients = 1;
+  room = 2 ^ 61;
+}
+
+-- the pool of a table's cell: over a page of 16 bytes for each different number, and with a history that is never forgotten
+abbrev pub pool_parameters : ℕ → ℕ → ℕ → ℕ → Parameters
+pool_parameters different frames k correlated = record {
+  frames = frames;
+  k = k;
+  correlated = correlated;
+  retained = 2 ^ 62;
+  pages = max 1 different;
+  size = 16;
   clients = 1;
   room = 2 ^ 61;
 }

@@ -10,6 +10,7 @@ ghost use Rattle.bp_sweep.specs.Cells.{Counted, cell_parameters};
 ghost use Rattle.bp_sweep.specs.Referring.{AreFrames, CellRefused, EndsCell, FixesPage, HasRun, IsTallied, evicted_by, is_passed_over};
 
 use crate::counts::Counts;
+use crate::progress::{Progress, Turn, Untold, tell};
 use bp_core::{EndRefusal, Fix, Pass, ReadTicket, SilentCore};
 use bp_device::Port;
 use bp_lruk::Settings;
@@ -154,13 +155,15 @@ fn refer<P: Port, R: Wait>(
     }
 }
 
-/// All references, one after the other.
-fn refer_all<P: Port, R: Wait>(
+/// All references, one after the other. Somebody is told each 65,536.
+fn refer_all<P: Port, R: Wait, G: Progress>(
     rt: &R,
     core: &mut SilentCore,
     port: &mut P,
     references: &[u32],
     counts: &mut Counts,
+    progress: &mut G,
+    turn: Turn,
 ) -> Result<(), Refusal>
     requires size { (P.geometry_of port.old).size ≡ core.old.parameters.size }
     requires client_in { 0 < core.old.parameters.clients }
@@ -171,10 +174,38 @@ fn refer_all<P: Port, R: Wait>(
     ensures fault { IfErr result EndsCell }
     ensures geometry { P.geometry_of port.new ≡ P.geometry_of port.old }
 {
+    let mut done = 0;
     for page in references {
+        tell(progress, turn, done, references.len());
         refer(rt, core, port, PageNo::new(u64::from(*page)), counts)?;
+        done += 1;
     }
     Ok(())
+}
+
+/// Counts a cell as `count_references` does, and tells how far it is.
+pub(crate) fn count_cell<P: Port, R: Wait, G: Progress>(
+    rt: &R,
+    alloc: Global,
+    port: &mut P,
+    settings: Settings,
+    frames: usize,
+    references: &[u32],
+    progress: &mut G,
+    turn: Turn,
+) -> Result<Counts, Refusal>
+    requires pages_in { All (λ page. page < (P.geometry_of port.old).pages) references.now }
+    ensures counted { IfOk result (Counted (cell_parameters (P.geometry_of port.old) settings frames)
+        references.now) }
+    ensures fit { IfOk result (λ _. AreFrames frames) }
+    ensures fault { IfErr result (CellRefused frames) }
+    ensures geometry { P.geometry_of port.new ≡ P.geometry_of port.old }
+{
+    let mut core = SilentCore::new(alloc, port.geometry(), settings, frames, 1, ROOM)?;
+    let mut counts = Counts::none();
+    refer_all(rt, &mut core, port, references, &mut counts, progress, turn)?;
+    core.vouch();
+    Ok(counts)
 }
 
 /// Runs the references over a new pool with this many frames, one client and these settings, each as a fix, an unfix and a tick, and
@@ -197,9 +228,15 @@ pub fn count_references<P: Port, R: Wait>(
     ensures fault { IfErr result (CellRefused frames) }
     ensures geometry { P.geometry_of port.new ≡ P.geometry_of port.old }
 {
-    let mut core = SilentCore::new(alloc, port.geometry(), settings, frames, 1, ROOM)?;
-    let mut counts = Counts::none();
-    refer_all(rt, &mut core, port, references, &mut counts)?;
-    core.vouch();
-    Ok(counts)
+    let turn = Turn { cell: 1, cells: 1 };
+    count_cell(
+        rt,
+        alloc,
+        port,
+        settings,
+        frames,
+        references,
+        &mut Untold,
+        turn,
+    )
 }

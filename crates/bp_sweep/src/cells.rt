@@ -1,47 +1,207 @@
 //! The cells of a sweep: the references over one pool after the other.
-ghost use Rattle.std.specs.Prelude.{◌≡◌, ◌<◌, All, IfErr, IfOk};
-ghost use Rattle.bp_sweep.specs.Sweeping.{AreCells, SweepRefused};
+ghost use Rattle.std.specs.Prelude.{◌≡◌, ◌≤◌, ◌^◌, IfErr, IfOk, max};
+ghost use Rattle.bp_lruk.specs.Limits.{IsWithinLimits};
+ghost use Rattle.bp_sweep.specs.Cells.{Counted, pool_parameters};
+ghost use Rattle.bp_sweep.specs.Referring.{AreFrames, CellRefused, EndsCell};
+ghost use Rattle.bp_sweep.specs.Sweeping.{AreCells, CountsBest, CountsOf, IsPlan, PlanRefused, SweepRefused, k_of, line_of};
 
-use crate::cell::count_references;
+use crate::cell::count_cell;
 use crate::counts::Counts;
-use bp_device::Port;
+use crate::dense::References;
+use crate::progress::{Progress, Turn};
+use bp_device::MemDevice;
 use bp_lruk::Settings;
-use bp_page::Refusal;
+use bp_optimum::count_optimum;
+use bp_page::{Geometry, Refusal};
+use bp_table::Line;
 use std::alloc::Global;
 use std::sync::Wait;
+use thiserror::Error;
+
+/// The most frames of a pool.
+const MAX_FRAMES: usize = 65_536;
+
+/// The longest period that settings may have.
+const LONGEST: u64 = 1 << 62;
+
+/// The bytes of a page.
+const PAGE_SIZE: usize = 16;
 
 /// The pool of a cell.
-#[derive(Clone, Copy, Debug)]
+#[derive(Clone, Copy, PartialEq, Eq, Debug, Drop)]
 pub struct Plan {
-    /// How many frames the pool has.
+    /// How many frames the pool has, from 1 to 65,536.
     pub frames: usize,
-    /// K of LRU-K, and its periods.
-    pub settings: Settings,
+    /// Which page leaves.
+    pub policy: Policy,
 }
 
-/// Counts the cell of each plan, in order: the references over a new pool with its frames and settings, as
-/// `count_references` does. It stops at a cell that is refused, with its refusal; which one that is, is not promised.
-/// `OutOfMemory` too where there is no memory for the counts.
-#[tactic(auto, using(crate::proofs::Sweeping::cell_refuses))]
-pub fn count_cells<P: Port, R: Wait>(
+/// Which page leaves where a page comes into a full pool.
+#[derive(Clone, Copy, PartialEq, Eq, Debug, Drop)]
+pub enum Policy {
+    /// By LRU-K. No page's history is forgotten.
+    LruK {
+        /// K, from 1 to 16. K 1 is LRU.
+        k: usize,
+        /// The correlated period in references, from 0 to 2^62.
+        correlated: u64,
+    },
+    /// The one whose next reference is the farthest, as in Belady's optimum.
+    Optimum,
+}
+
+/// Which cell of a sweep was refused, and why.
+#[derive(Clone, Copy, PartialEq, Eq, Debug, Error)]
+#[error("cell {cell}: {refusal}")]
+pub struct CellFault {
+    /// The number of the cell, from 1.
+    pub cell: u64,
+    /// Why it was refused.
+    pub refusal: Refusal,
+}
+
+/// The K of LRU-K.
+fn k_of(policy: &Policy) -> Option<usize>
+    ensures { result ≡ k_of policy.now }
+{
+    match policy {
+        Policy::LruK { k, .. } => Some(*k),
+        Policy::Optimum => None,
+    }
+}
+
+/// The line of a plan in the table.
+fn line_of(fixes: u64, plan: &Plan, counts: Counts) -> Line
+    ensures { result ≡ line_of fixes plan.now counts }
+{
+    Line {
+        frames: plan.frames,
+        k: k_of(&plan.policy),
+        fixes,
+        hits: counts.hits,
+        faults: counts.faults,
+        evictions: counts.evictions,
+        writes: counts.writes,
+        failed: counts.failed,
+        refused: counts.refused,
+    }
+}
+
+/// A device in memory with a page for each different number, and one page at least.
+fn device_for(alloc: Global, different: usize) -> Result<MemDevice, Refusal>
+    requires few { different ≤ 1048576 }
+    ensures pages { IfOk result (λ device. device.pages ≡ max 1 different) }
+    ensures size { IfOk result (λ device. device.size ≡ 16) }
+    ensures fault { IfErr result EndsCell }
+{
+    let Ok(geometry) = Geometry::new(different.max(1) as u64, PAGE_SIZE) else {
+        unreachable!()
+    };
+    MemDevice::new(alloc, geometry)
+}
+
+/// Counts a cell of LRU-K.
+fn count_pool<R: Wait, G: Progress>(
     rt: &R,
     alloc: Global,
-    port: &mut P,
-    plans: &[Plan],
-    references: &[u32],
-) -> Result<Vec<Counts>, Refusal>
-    requires pages_in { All (λ page. page < (P.geometry_of port.old).pages) references.now }
-    ensures cells { IfOk result (λ cells. AreCells (P.geometry_of port.old) references.now plans.now
-        cells.items) }
-    ensures fault { IfErr result (SweepRefused plans.now) }
-    ensures geometry { P.geometry_of port.new ≡ P.geometry_of port.old }
+    references: &References,
+    frames: usize,
+    settings: Settings,
+    progress: &mut G,
+    turn: Turn,
+) -> Result<Counts, Refusal>
+    requires retained { settings.retained ≡ 2 ^ 62 }
+    ensures counted { IfOk result (Counted
+        (pool_parameters references.now.different frames settings.k settings.correlated)
+        references.now.pages) }
+    ensures fit { IfOk result (λ _. AreFrames frames) }
+    ensures fault { IfErr result (CellRefused frames) }
 {
-    let mut cells = Vec::new(alloc);
-    for plan in plans {
-        let counts = count_references(rt, alloc, port, plan.settings, plan.frames, references)?;
-        let Ok(()) = cells.push(counts) else {
-            return Err(Refusal::OutOfMemory);
-        };
+    let device = device_for(alloc, references.different())?;
+    let mut port = device.port()?;
+    count_cell(
+        rt,
+        alloc,
+        &mut port,
+        settings,
+        frames,
+        references.pages(),
+        progress,
+        turn,
+    )
+}
+
+/// Counts the cell of the optimum.
+fn count_best(alloc: Global, references: &References, frames: usize) -> Result<Counts, Refusal>
+    ensures counted { IfOk result (CountsBest frames references.now.pages) }
+    ensures fit { IfOk result (λ _. AreFrames frames) }
+    ensures fault { IfErr result (CellRefused frames) }
+{
+    if frames < 1 || frames > MAX_FRAMES {
+        return Err(Refusal::BadSettings);
     }
-    Ok(cells)
+    match count_optimum(alloc, references.pages(), frames) {
+        Ok(best) => Ok(Counts::of_best(best)),
+        Err(_) => Err(Refusal::OutOfMemory),
+    }
+}
+
+/// Counts the cell of a plan.
+fn count_plan<R: Wait, G: Progress>(
+    rt: &R,
+    alloc: Global,
+    references: &References,
+    plan: &Plan,
+    progress: &mut G,
+    turn: Turn,
+) -> Result<Counts, Refusal>
+    ensures counted { IfOk result (CountsOf references.now plan.now.frames plan.now.policy) }
+    ensures fit { IfOk result (λ _. IsPlan plan.now) }
+    ensures fault { IfErr result (PlanRefused plan.now) }
+{
+    match plan.policy {
+        Policy::LruK { k, correlated } => {
+            let settings = Settings::new(k, correlated, LONGEST)?;
+            count_pool(rt, alloc, references, plan.frames, settings, progress, turn)
+        }
+        Policy::Optimum => count_best(alloc, references, plan.frames),
+    }
+}
+
+/// Counts the cell of each plan, in order: the references over a new pool with its frames and policy, and the line that
+/// says what it came to. A pool of LRU-K is counted as by `count_references`, over a device in memory of its own, and the optimum
+/// as by `count_optimum`. A pool's reads that fail, where memory is refused, end nothing: they are counted.
+///
+/// It stops at the first plan that is refused: with `BadSettings` where its frames, K or correlated period are out of their limits,
+/// else as its cell was, with `OutOfMemory`, or `TrailFull` or `ClockFull` after some 2^61 entries.
+pub fn count_cells<R: Wait, G: Progress>(
+    rt: &R,
+    alloc: Global,
+    references: &References,
+    plans: &[Plan],
+    progress: &mut G,
+) -> Result<Vec<Line>, CellFault>
+    ensures cells { IfOk result (λ lines. AreCells references.now plans.now lines.items) }
+    ensures fault { IfErr result (SweepRefused references.now plans.now) }
+{
+    let fixes = references.pages().len() as u64;
+    let cells = plans.len() as u64;
+    let mut lines = Vec::new(alloc);
+    let mut cell = 0;
+    for plan in plans {
+        cell += 1;
+        progress.counted(cell, cells, 0, fixes);
+        let turn = Turn { cell, cells };
+        let counts = match count_plan(rt, alloc, references, plan, progress, turn) {
+            Ok(counts) => counts,
+            Err(refusal) => return Err(CellFault { cell, refusal }),
+        };
+        if lines.push(line_of(fixes, plan, counts)).is_err() {
+            return Err(CellFault {
+                cell,
+                refusal: Refusal::OutOfMemory,
+            });
+        }
+    }
+    Ok(lines)
 }

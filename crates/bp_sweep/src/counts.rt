@@ -2,7 +2,9 @@
 ghost use Rattle.std.specs.Prelude.{◌≡◌, ℕ};
 ghost use Rattle.bp_trail.specs.declared.entries.Reply.TheVariants as reply;
 ghost use Rattle.bp_sweep.specs.Counts.{HasRoom, counted, no_counts};
+ghost use Rattle.bp_sweep.specs.Sweeping.{best_counts};
 
+use bp_optimum::Optimum;
 use bp_page::PageNo;
 
 /// How many replies of each kind there are, as the totals of a run's report have them.
@@ -78,5 +80,18 @@ impl Counts {
         ensures { self.new ≡ counted reply.NoVictim self.old }
     {
         self.refused += 1;
+    }
+    /// Of an optimum, which writes nothing out, and of which nothing fails or is refused.
+    pub(crate) fn of_best(best: Optimum) -> Counts
+        ensures { result ≡ best_counts best }
+    {
+        Counts {
+            hits: best.hits,
+            faults: best.faults,
+            evictions: best.evictions,
+            writes: 0,
+            failed: 0,
+            refused: 0,
+        }
     }
 }

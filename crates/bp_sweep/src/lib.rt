@@ -3,10 +3,21 @@
 
 mod cell;
 mod cells;
+mod column;
 mod counts;
-mod references;
+mod dense;
+mod faults;
+pub mod laws;
+mod lists;
+mod progress;
+mod tables;
 
 pub use cell::count_references;
-pub use cells::{Plan, count_cells};
+pub use cells::{CellFault, Plan, Policy, count_cells};
+pub use column::read_column;
 pub use counts::Counts;
-pub use references::{ReferenceFault, read_references};
+pub use dense::References;
+pub use faults::ReferenceFault;
+pub use lists::read_references;
+pub use progress::{Progress, Untold};
+pub use tables::{SweepFault, plans_of, sweep};

@@ -8,4 +8,5 @@ invariant-loop-page g l = record {
   run : HasRun l.initial.core (take l.page-index l.references) l.core;
   tallied : IsTallied l.core l.counts;
   geometry : g.P.Port.geometry_of l.port ≡ g.P.Port.geometry_of l.initial.port;
+  done : l.done ≡ l.page-index;
 }

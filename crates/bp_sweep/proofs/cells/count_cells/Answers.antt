@@ -1,30 +1,37 @@
 -- One cell after the other.
-use Rattle.std.proofs.Common.{◌≡◌, ◌∙◌, refl, sym, subst, rules, arith, [], true}
+use Rattle.std.proofs.Common.{◌≡◌, ◌∙◌, ◌+◌, refl, sym, ap, subst, arith, not, true, [], get_or, length}
 use Rattle.std.specs.Result.{is_ok}
-use Rattle.bp_page.specs.declared.limits.Geometry.{Geometry}
-use Rattle.bp_sweep.specs.declared.cells.Plan.{Plan}
-use Rattle.bp_sweep.specs.Cells.{Counted, cell_parameters}
-use Rattle.bp_sweep.specs.Sweeping.{AreCells}
+use Rattle.bp_page.specs.declared.refusals.Refusal.TheVariants.{OutOfMemory}
+use Rattle.bp_sweep.specs.Sweeping.{AreCells, IsCell, line_of}
 use Rattle.bp_sweep.specs.Sweeping.AreCells.{none}
-use Rattle.bp_sweep.proofs.Sweeping.{cell-next}
+use Rattle.bp_sweep.proofs.Sweeping.{cell-next, cell_refuses, no_plan}
 use Rattle.bp_sweep.proofs.cells.count_cells.Goals as goal
 
 pub loop-plan-init : goal.loop-plan-init
-loop-plan-init g c =
-    let new : c.new-cells.result.items ≡ [] = search rules in
-    record { cells = subst (λ cells. AreCells (g.P.Port.geometry_of c.args.port.now) c.args.references.now [] cells) (sym new) none; geometry = refl }
+loop-plan-init g c = record { cells = subst (λ lines. AreCells c.args.references.now [] lines) (sym c.new-lines.ensures.items) none; cell = refl }
+
+pub returns-in-Err-clause-fault : goal.returns-in-Err-clause-fault
+returns-in-Err-clause-fault g c =
+    cell_refuses c.args.references.now c.args.plans.now c.loop-plan.plan-index no_plan c.loop-plan.lines.items (record { cell = c.loop-plan.cell + 1; refusal = c.in-Err.refusal })
+    c.loop-plan-test.true c.loop-plan.invariant.cells (omega (arith, c.loop-plan.invariant.cell)) c.in-Err.ensures.fault
+
+pub returns-then-is_err-clause-fault : goal.returns-then-is_err-clause-fault
+returns-then-is_err-clause-fault g c =
+    cell_refuses c.args.references.now c.args.plans.now c.loop-plan.plan-index no_plan c.loop-plan.lines.items (record { cell = c.loop-plan.cell + 1; refusal = OutOfMemory })
+    c.loop-plan-test.true c.loop-plan.invariant.cells (omega (arith, c.loop-plan.invariant.cell)) tt
 
 pub loop-plan-preserved : goal.loop-plan-preserved
 loop-plan-preserved g c =
-    let geometry_of = g.P.Port.geometry_of in
-    let references = c.args.references.now in
-    let there = c.loop-plan.invariant.geometry in
-    let good : is_ok c.push.result ≡ true = search rules in
+    let good : is_ok c.push.result ≡ true = c.is_err.ensures.negation ∙ ap not c.if-is_err.false in
     let items = rw good at c.push.ensures.items in
-    let counted = subst (λ (p : Plan). Counted (cell_parameters (geometry_of c.args.port.now) p.settings p.frames) references c.in_ok-counts.counts) c.plan-item.is
-    (subst (λ (geometry : Geometry). Counted (cell_parameters geometry c.plan-item.result.settings c.plan-item.result.frames) references c.in_ok-counts.counts) there c.in_ok-counts.ensures.counted) in
+    let plan = get_or c.args.plans.now c.loop-plan.plan-index no_plan in
+    let cell : IsCell c.args.references.now plan c.line_of.result = record {
+      counts = c.in-Ok.counts;
+      fit = c.in-Ok.ensures.fit;
+      counted = c.in-Ok.ensures.counted;
+      line_is = c.line_of.ensures ∙ ap (λ pages. line_of (length pages) plan c.in-Ok.counts) c.pages.ensures.pages;
+    } in
     record {
-      cells = rw items (cell-next (geometry_of c.args.port.now) references c.args.plans.now c.loop-plan.plan-index c.plan-item.result c.loop-plan.cells.items c.in_ok-counts.counts
-          (omega (arith, c.loop-plan-test.true)) c.loop-plan.invariant.cells counted);
-      geometry = c.in_ok-counts.ensures.geometry ∙ there;
+      cells = rw items (cell-next c.args.references.now c.args.plans.now c.loop-plan.plan-index no_plan c.loop-plan.lines.items c.line_of.result c.loop-plan-test.true c.loop-plan.invariant.cells cell);
+      cell = omega (arith, c.loop-plan.invariant.cell);
     }

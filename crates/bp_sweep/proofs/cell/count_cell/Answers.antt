@@ -5,7 +5,7 @@ use Rattle.bp_core.specs.CoreView.{CoreView}
 use Rattle.bp_sweep.specs.Cells.{cell_parameters}
 use Rattle.bp_sweep.proofs.Steps.{run-counted}
 use Rattle.bp_sweep.proofs.Fixing.{tally-new}
-use Rattle.bp_sweep.proofs.cell.count_references.Goals as goal
+use Rattle.bp_sweep.proofs.cell.count_cell.Goals as goal
 
 pub refer_all-requires-clause-tallied : goal.refer_all-requires-clause-tallied
 refer_all-requires-clause-tallied g c = tally-new _ c.in_ok-core.core c.none-counts.result c.in_ok-core.ensures.outcome.1 (omega arith) c.none-counts.ensures

@@ -1,0 +1,93 @@
+//! References in a column of records.
+ghost use Rattle.std.specs.Prelude.{◌≡◌, ◌&&◌, nat_eq, true, is_err, IfErr, IfOk, IfSome};
+ghost use Rattle.csv.specs.Reading.{ReadRecord, Ready, error_kind, reader_trim, took_first};
+ghost use Rattle.csv.specs.Records.{fields_of};
+ghost use Rattle.csv.specs.declared.reader.Trim.TheVariants as trim;
+ghost use Rattle.bp_sweep.specs.Column.{IsColumn, TakesRecord, record_said};
+ghost use Rattle.bp_sweep.specs.References.{IsOutside};
+
+use crate::dense::{Gathered, MAX_REFERENCES, References};
+use crate::faults::ReferenceFault;
+use bp_page::Refusal;
+use bp_trace::numbers::parse_number;
+use csv::{ByteRecord, ErrorKind, Reader, ReaderBuilder};
+use std::alloc::Global;
+use std::io::Read;
+
+/// What a record says in a column, from 1: a number, or why it says none.
+fn record_said(row: &ByteRecord, column: u32) -> Result<u64, Refusal>
+    ensures { result ≡ record_said column (fields_of row.now) }
+{
+    if column == 0 {
+        return Err(Refusal::BadShape);
+    }
+    match row.get(column as usize - 1) {
+        None => Err(Refusal::BadShape),
+        Some(field) => parse_number(field).ok_or(Refusal::BadNumber),
+    }
+}
+
+/// Whether what the record with this number says makes it a header: it is the first one, and has no number.
+fn is_header(line: u64, said: &Result<u64, Refusal>) -> bool
+    ensures { result ≡ (nat_eq line 1 && is_err said.now) }
+{
+    line == 1 && said.is_err()
+}
+
+/// What the record with this number says in a column, which the reader comes to now. `row` is used for its bytes.
+fn next_record<R: Read>(
+    records: &mut Reader<R>,
+    row: &mut ByteRecord,
+    column: u32,
+    line: u64,
+) -> Result<Option<Result<u64, Refusal>>, ReferenceFault>
+    ensures taken { IfOk result (λ found. reader_trim records.old ≡ trim.None → Ready records.old →
+        TakesRecord R.remaining records.old records.new column found) }
+    ensures ready { reader_trim records.old ≡ trim.None → IfOk result
+        (λ _. took_first records.new ≡ true) }
+    ensures fault { IfErr result IsOutside }
+{
+    match records.read_byte_record(row) {
+        Ok(false) => Ok(None),
+        Ok(true) => Ok(Some(record_said(row, column))),
+        Err(error) => match error.into_kind() {
+            ErrorKind::OutOfMemory => Err(ReferenceFault::new(line, Refusal::OutOfMemory)),
+            _ => Err(ReferenceFault::new(line, Refusal::ReadFault)),
+        },
+    }
+}
+
+/// The references of a list of CSV records, each the number in this column, from 1. The number is in decimal digits
+/// alone, up to 2^62. Fields are separated by commas and may be quoted, records may differ in length, and lines without
+/// a byte between records are passed over, as are a byte order mark and a header: a first record that has no number
+/// there. It is read record by record, and takes four bytes of memory a reference and a map of the different numbers.
+///
+/// A later record without such a field is `BadShape`, and one whose field is no number `BadNumber`; so is each in column 0,
+/// which no record has. The record with the 1,048,577th different number is `BadGeometry`, and the one after 268,435,456
+/// references `TooLong`, whatever it says. A fault of the reader is `ReadFault`, and refused memory `OutOfMemory`. A fault
+/// tells the number of its record, from 1, the header among them.
+pub fn read_column<R: Read + Drop>(
+    alloc: Global,
+    reader: R,
+    column: u32,
+) -> Result<References, ReferenceFault>
+    ensures { IfSome (R.remaining reader) (IsColumn result column) }
+{
+    let mut records = ReaderBuilder::new()
+        .has_headers(false)
+        .flexible(true)
+        .from_reader(alloc, reader);
+    let mut row = ByteRecord::new(alloc);
+    let mut gathered = Gathered::new(alloc);
+    for line in 1..MAX_REFERENCES as u64 + 3 {
+        match next_record(&mut records, &mut row, column, line)? {
+            None => return Ok(gathered.into_references()),
+            Some(said) => {
+                if !is_header(line, &said) {
+                    gathered.add(line, said)?;
+                }
+            }
+        }
+    }
+    unreachable!()
+}

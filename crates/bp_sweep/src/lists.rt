@@ -1,0 +1,72 @@
+//! A list of references: a number a line.
+ghost use Rattle.std.specs.Prelude.{◌≡◌, IfErr, IfOk, IfSome};
+ghost use Rattle.std.specs.Io.BufRead.{DropsThrough, strip_last};
+ghost use Rattle.bp_sweep.specs.Lines.{FindsLine, IsList};
+ghost use Rattle.bp_sweep.specs.References.{IsOutside};
+
+use crate::dense::{Gathered, MAX_REFERENCES, References};
+use crate::faults::ReferenceFault;
+use bp_page::Refusal;
+use bp_trace::numbers::parse_number;
+use std::alloc::Global;
+use std::io::{BufRead, ErrorKind};
+
+/// The bytes without the last, where that is this one.
+fn without_last(bytes: &[u8], last: u8) -> &[u8]
+    ensures { result.now ≡ strip_last last bytes.now }
+{
+    match bytes.split_last() {
+        Some((found, before)) if *found == last => before,
+        _ => bytes,
+    }
+}
+
+/// What the line with this number says, which the reader comes to now: a number, or that it says none. `text` is used
+/// for its bytes.
+fn next_line<I: BufRead>(
+    reader: &mut I,
+    text: &mut Vec<u8>,
+    line: u64,
+) -> Result<Option<Result<u64, Refusal>>, ReferenceFault>
+    ensures found { IfSome (I.remaining reader.old) (λ left. FindsLine left result) }
+    ensures rest { IfOk result
+        (λ _. DropsThrough (I.remaining reader.old) (I.remaining reader.new) 10) }
+    ensures fault { IfErr result IsOutside }
+{
+    text.clear();
+    match reader.read_until(b'\n', text) {
+        Ok(0) => Ok(None),
+        Ok(_) => {
+            let number = parse_number(without_last(without_last(text, b'\n'), b'\r'));
+            Ok(Some(number.ok_or(Refusal::BadNumber)))
+        }
+        Err(error) if error.kind() == ErrorKind::OutOfMemory => {
+            Err(ReferenceFault::new(line, Refusal::OutOfMemory))
+        }
+        Err(_) => Err(ReferenceFault::new(line, Refusal::ReadFault)),
+    }
+}
+
+/// The references of a list with a number a line, in decimal digits alone, up to 2^62. A line ends with `\n` or `\r\n`,
+/// or with the input. It is read line by line, and takes four bytes of memory a reference and a map of the different
+/// numbers. A list without lines has no references.
+///
+/// The first line that is no number is `BadNumber`, the one with the 1,048,577th different number `BadGeometry`, and the
+/// one after 268,435,456 references `TooLong`, whatever it says. A fault of the reader is `ReadFault`, and refused memory
+/// `OutOfMemory`. After each of them it is not told how much more of the list the reader has taken.
+pub fn read_references<I: BufRead>(
+    alloc: Global,
+    reader: &mut I,
+) -> Result<References, ReferenceFault>
+    ensures { IfSome (I.remaining reader.old) (IsList result) }
+{
+    let mut text = Vec::new(alloc);
+    let mut gathered = Gathered::new(alloc);
+    for line in 1..MAX_REFERENCES as u64 + 2 {
+        match next_line(reader, &mut text, line)? {
+            None => return Ok(gathered.into_references()),
+            Some(said) => gathered.add(line, said)?,
+        }
+    }
+    unreachable!()
+}
