@@ -1,2 +1,3 @@
--- What the number of a refusal says.
+-- Numbers in words: what a list of them says, and what the number of a refusal says.
+pub mod Lists
 pub mod Explained

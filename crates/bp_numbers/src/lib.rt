@@ -1,6 +1,9 @@
-//! What the number of a refusal says.
+//! Numbers in words: lists of them, and what the number of a refusal says.
 #![tactic(auto)]
 
 mod explained;
+pub mod laws;
+mod lists;
 
 pub use explained::explanation_of;
+pub use lists::{MAX_NUMBERS, numbers_listed};

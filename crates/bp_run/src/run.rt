@@ -371,6 +371,7 @@ pub fn carry_out<R: Files + Threads + Wait + Sync, I: Read, O: Ports<R>, W: Writ
                 Err(ending) => Err(ending),
             }
         }
+        Ok(Task::Sweep(_sweep)) => Err(Ending::RunRefused(Refusal::OutOfMemory)),
         Ok(Task::Explain(text)) => match explain(text, out) {
             Ok(()) => Ok(0),
             Err(ending) => Err(ending),

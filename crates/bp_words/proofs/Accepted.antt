@@ -1,5 +1,5 @@
--- Words in which clap finds no fault name a run, a migration or an explanation.
-use Rattle.std.proofs.Common.{◌≡◌, ◌∙◌, ℕ, ◌≤◌, ◌^◌, ◌&&◌, ◌||◌, ◌⊎◌, inl, inr, not, nat_le, nat_lt, if◌then◌else◌, cond, true, false, Bool, codes, ap, ap₂, refl, sym, subst, List, [], ◌∷◌, Option, Some, None, IfSome, is_some, option_map}
+-- Words in which clap finds no fault name a run, a sweep, a migration or an explanation.
+use Rattle.std.proofs.Common.{◌≡◌, ◌≢◌, ◌∙◌, ℕ, ◌≤◌, ◌^◌, ◌&&◌, ◌||◌, ◌⊎◌, inl, inr, not, nat_le, nat_lt, if◌then◌else◌, cond, true, false, Bool, codes, ap, ap₂, refl, sym, subst, List, [], ◌∷◌, Option, Some, None, IfSome, is_some, option_map}
 use Rattle.std.proofs.lemmas.Slice.Eq.{bytes_eq-Decides}
 use Rattle.std.proofs.lemmas.Bool.{leb-true}
 use Rattle.std.specs.List.{filter, find, list_any}
@@ -20,14 +20,16 @@ use Rattle.clap.specs.declared.error.Error.{Error}
 use Rattle.clap.specs.declared.error.kind.ErrorKind.{ErrorKind}
 use Rattle.clap.specs.declared.error.kind.ErrorKind.TheVariants.{InvalidValue, MissingRequiredArgument}
 use Rattle.clap.proofs.WalkLemmas.{both}
-use Rattle.bp_words.specs.Command.{bpool_app, number_option, required_number, positional as positional_rule, run_shape, migrate_shape, explain_shape}
+use Rattle.bp_words.specs.Command.{bpool_app, number_option, optional_number, required_number, positional as positional_rule, run_shape, migrate_shape, sweep_shape, explain_shape}
 use Rattle.bp_words.specs.declared.words.Order.{Order}
-use Rattle.bp_words.specs.Words.{IsInLimits, Told, ◌>>=◌, explanation_at, fault_in, flag_at, format_of, number_at, order_at, naming_fault, told_by_rows, trace_of}
-use Rattle.bp_words.specs.Asked.{Asked, Migration, HasPageSize, AreInLimits, asked_by, asked_in, migration_by_rows}
-use Rattle.bp_words.specs.Asked.Asked.{a_run, a_migration, an_explanation}
+use Rattle.bp_words.specs.Words.{IsInLimits, Told, ◌>>=◌, are_same, draws_over, explanation_at, fault_in, flag_at, format_of, frames_at, ks_at, names_sweep, number_at, order_at, naming_fault, told_by_rows, trace_of}
+use Rattle.bp_words.specs.Words.TraceAt.{from_stdin, at_path}
+use Rattle.bp_words.specs.Asked.{Asked, Migration, Sweep, HasPageSize, AreInLimits, IsColumn, SweepsInLimits, asked_by, asked_in, migration_by_rows, sweep_told, sweep_with}
+use Rattle.bp_words.specs.Asked.Asked.{a_run, a_migration, a_sweep, an_explanation}
 use Rattle.bp_words.proofs.Entering.{NotHelp, walk_not_help}
 use Rattle.bp_words.proofs.Fits.{AllFit, Fits, IsOf, or_else-nil}
 use Rattle.bp_words.proofs.Level.{IsFilled, has_default, level_filled}
+use Rattle.bp_words.proofs.Listed.{frames_listed, ks_listed}
 
 -- ---- one argument
 
@@ -112,6 +114,10 @@ number_read id low high a rows parses read = record {
 -- the command `run`, built below the command of the program
 abbrev pub run_built : Shape
 run_built = built_leaf (inherited (on_top with_leaf_noted (on_top marked_built bpool_app)).top run_shape)
+
+-- and the command `sweep`
+abbrev pub sweep_built : Shape
+sweep_built = built_leaf (inherited (on_top with_leaf_noted (on_top marked_built bpool_app)).top sweep_shape)
 
 -- and the command `migrate`
 abbrev pub migrate_built : Shape
@@ -264,6 +270,94 @@ rows_tell_migration rows filled = record {
     size = number_read (codes "page-size") 16 65536 size_rule rows refl
         (argument_read (codes "page-size") migrate_built.rules size_rule rows refl filled.fits (given_has (codes "page-size") rows given.third))
 
+-- ---- the arguments of a sweep
+
+abbrev references_rule : Rule
+references_rule = with_index 1 (filled_rule (positional_rule (codes "references")))
+
+abbrev column_rule : Rule
+column_rule = filled_rule (optional_number (codes "column") 1 65536)
+
+no_row : (id : Text) (rows : List Row) → has_row id rows ≡ false → find (λ r. bytes_eq r.id id) rows ≡ None
+no_row id [] e = refl
+no_row id (r ∷ rows) e = go (bytes_eq r.id id) e (no_row id rows)
+  where
+    go : (b : Bool) → b || has_row id rows ≡ false → (has_row id rows ≡ false → find (λ r. bytes_eq r.id id) rows ≡ None)
+        → cond b (Some r) (find (λ r. bytes_eq r.id id) rows) ≡ None
+    go true e later = cc
+    go false e later = later e
+
+-- a number that is there is within the limits of its field
+column_within : (rows : List Row) → AllFit sweep_built.rules rows → IfSome (number_at (codes "column") rows) IsColumn
+column_within rows fit = go (has_row (codes "column") rows) refl
+  where
+    found : IsNumber (codes "column") 1 65536 rows → IfSome (number_at (codes "column") rows) IsColumn
+    found column = rw column.is (record { from_one = column.at_least; few_columns = column.at_most })
+
+    go : (b : Bool) → has_row (codes "column") rows ≡ b → IfSome (number_at (codes "column") rows) IsColumn
+    go true has = found (number_read (codes "column") 1 65536 column_rule rows refl (argument_read (codes "column") sweep_built.rules column_rule rows refl fit has))
+    go false has = rw (no_row (codes "column") rows has) tt
+
+-- the references are not where the picture is
+apart_from : (word : Text) (svg : Option Text) → are_same (Some word) svg ≡ false → IfSome svg (λ path. trace_of word ≢ at_path path)
+apart_from word None other = tt
+apart_from word (Some path) other = go (bytes_eq word (codes "stdin"))
+  where
+    go : (b : Bool) → (if b then from_stdin else at_path word) ≡ at_path path → ⊥
+    go true e = cc
+    go false e =
+        let same : word ≡ path = cc in
+        let bad : bytes_eq word path ≡ true = (bytes_eq-Decides word path).1 same in
+        cc
+
+-- what the rows tell a sweep, with the numbers of its lists
+record TellsSweep (rows : List Row) : Type 0 where
+  told : List ℕ → List ℕ → Sweep
+  tells : (frames ks : List ℕ) → sweep_with frames ks rows ≡ Some (told frames ks)
+  limits : (frames ks : List ℕ) → frames_at rows ≡ Some frames → ks_at rows ≡ Some ks → draws_over rows ≡ false → SweepsInLimits (told frames ks)
+
+rows_tell_sweep : (rows : List Row) → IsFilled sweep_built rows → TellsSweep rows
+rows_tell_sweep rows filled = record {
+  told = told_with;
+  tells = λ frames ks. rw (references.as_text, correlated.is) refl;
+  limits = λ frames ks f k other.
+      let sizes = frames_listed (first_of (codes "frames") rows) frames f in
+      let stamps = ks_listed (first_of (codes "k") rows) ks k in
+      record {
+        frames = sizes.0;
+        some_sizes = sizes.1;
+        few_sizes = sizes.2;
+        ks = stamps.0;
+        some_ks = stamps.1;
+        few_ks = stamps.2;
+        correlated = correlated.at_most;
+        column = column_within rows filled.fits;
+        apart = apart_from references.word (first_of (codes "svg") rows) (rw references.as_text at other);
+      };
+}
+  where
+    given : (is_given (codes "references") rows ≡ true) × (is_given (codes "frames") rows ≡ true)
+    given = both_given (is_given (codes "references") rows) (is_given (codes "frames") rows) filled.checked
+
+    references : IsRead (codes "references") references_rule rows
+    references = argument_read (codes "references") sweep_built.rules references_rule rows refl filled.fits (given_has (codes "references") rows given.0)
+
+    correlated : IsNumber (codes "correlated") 0 4611686018427387904 rows
+    correlated =
+        let rule = option_rule (codes "correlated") 0 4611686018427387904 (codes "0") in
+        number_read (codes "correlated") 0 4611686018427387904 rule rows refl
+        (argument_read (codes "correlated") sweep_built.rules rule rows refl filled.fits (filled.defaults (codes "correlated") refl))
+
+    told_with : List ℕ → List ℕ → Sweep
+    told_with frames ks = record {
+      references = trace_of references.word;
+      frames = frames;
+      ks = ks;
+      correlated = correlated.number;
+      column = number_at (codes "column") rows;
+      svg = first_of (codes "svg") rows;
+    }
+
 -- ---- the words
 
 entered_one : (rows : List Row) (entered : Bool) → check_fault (built bpool_app).top rows entered ≡ [] → entered ≡ true
@@ -278,13 +372,14 @@ record IsMet (shape : Shape) (stop : Option (Text × List Text)) : Type 0 where
 
 -- it is the one with one of these shapes
 abbrev AnyMet : Option (Text × List Text) → Type 0
-AnyMet stop = IsMet run_built stop ⊎ (IsMet migrate_built stop ⊎ IsMet explain_built stop)
+AnyMet stop = IsMet run_built stop ⊎ (IsMet sweep_built stop ⊎ (IsMet migrate_built stop ⊎ IsMet explain_built stop))
 
 command_entered : (stop : Option (Text × List Text)) → NotHelp stop → is_some (entered (built bpool_app) stop) ≡ true → entered_fault (built bpool_app) stop ≡ []
     → AnyMet stop
 command_entered None other e fault = cc
 command_entered (Some p) other e fault =
-    go (answers_to p.0 (codes "run", [])) (answers_to p.0 (codes "migrate", [])) (answers_to p.0 (codes "explain", [])) (answers_to p.0 (codes "help", [])) refl refl refl (not_help (bytes_eq (codes "help") p.0) refl) e fault
+    go (answers_to p.0 (codes "run", [])) (answers_to p.0 (codes "sweep", [])) (answers_to p.0 (codes "migrate", [])) (answers_to p.0 (codes "explain", []))
+    (answers_to p.0 (codes "help", [])) refl refl refl refl (not_help (bytes_eq (codes "help") p.0) refl) e fault
   where
     not_help : (b : Bool) → bytes_eq (codes "help") p.0 ≡ b → b || false ≡ false
     not_help true e =
@@ -296,20 +391,22 @@ command_entered (Some p) other e fault =
     help_built : Shape
     help_built = built_leaf help_shape
 
-    shape_met : Bool → Bool → Bool → Bool → Option Shape
-    shape_met run migrate explain help =
-        cond run (Some run_built) (cond migrate (Some migrate_built) (cond explain (Some explain_built) (cond help (Some help_built) None)))
+    shape_met : Bool → Bool → Bool → Bool → Bool → Option Shape
+    shape_met run sweep migrate explain help =
+        cond run (Some run_built) (cond sweep (Some sweep_built) (cond migrate (Some migrate_built)
+        (cond explain (Some explain_built) (cond help (Some help_built) None))))
 
-    go : (run migrate explain help : Bool) → answers_to p.0 (codes "run", []) ≡ run → answers_to p.0 (codes "migrate", []) ≡ migrate
-        → answers_to p.0 (codes "explain", []) ≡ explain → help ≡ false
-        → is_some (option_map (λ s. rows_at s p.1) (shape_met run migrate explain help)) ≡ true
-        → option_map_or (λ s. level_fault s [] nothing_held p.1 false []) (shape_met run migrate explain help) [] ≡ []
+    go : (run sweep migrate explain help : Bool) → answers_to p.0 (codes "run", []) ≡ run → answers_to p.0 (codes "sweep", []) ≡ sweep
+        → answers_to p.0 (codes "migrate", []) ≡ migrate → answers_to p.0 (codes "explain", []) ≡ explain → help ≡ false
+        → is_some (option_map (λ s. rows_at s p.1) (shape_met run sweep migrate explain help)) ≡ true
+        → option_map_or (λ s. level_fault s [] nothing_held p.1 false []) (shape_met run sweep migrate explain help) [] ≡ []
         → AnyMet (Some p)
-    go true migrate explain help is as_m as_e other e fault = inl (record { words = p.1; met = rw is refl; fault = fault })
-    go false true explain help is as_m as_e other e fault = inr (inl (record { words = p.1; met = rw (is, as_m) refl; fault = fault }))
-    go false false true help is as_m as_e other e fault = inr (inr (record { words = p.1; met = rw (is, as_m, as_e) refl; fault = fault }))
-    go false false false true is as_m as_e other e fault = cc
-    go false false false false is as_m as_e other e fault = cc
+    go true sweep migrate explain help is as_s as_m as_e other e fault = inl (record { words = p.1; met = rw is refl; fault = fault })
+    go false true migrate explain help is as_s as_m as_e other e fault = inr (inl (record { words = p.1; met = rw (is, as_s) refl; fault = fault }))
+    go false false true explain help is as_s as_m as_e other e fault = inr (inr (inl (record { words = p.1; met = rw (is, as_s, as_m) refl; fault = fault })))
+    go false false false true help is as_s as_m as_e other e fault = inr (inr (inr (record { words = p.1; met = rw (is, as_s, as_m, as_e) refl; fault = fault })))
+    go false false false false true is as_s as_m as_e other e fault = cc
+    go false false false false false is as_s as_m as_e other e fault = cc
 
 -- what words in which clap finds no fault ask for, if they name an order where they are those of a run
 record IsAccepted (words : List Text) : Type 0 where
@@ -353,6 +450,45 @@ migration_tells words migrate told = record {
   limits = told.limits;
   fault = ap naming_fault migrate.met;
 }
+
+sweep_tells : (words : List Text) (sweep : IsMet sweep_built (stop_after (built bpool_app).top.rules (names_of (built bpool_app)) words))
+    → TellsSweep (finished sweep_built.rules (walk sweep_built.rules [] nothing_held sweep.words).held) → IsAccepted words
+sweep_tells words sweep told = go (frames_at rows) (ks_at rows) (draws_over rows) refl refl refl
+  where
+    rows : List Row
+    rows = finished sweep_built.rules (walk sweep_built.rules [] nothing_held sweep.words).held
+
+    by_lists : Option (List ℕ) → Option (List ℕ) → Bool → Option Asked
+    by_lists frames ks over = option_map a_sweep (sweep_told frames ks over rows)
+
+    fault_by : Option (List ℕ) → Option (List ℕ) → Bool → Kinds
+    fault_by frames ks over = if names_sweep frames ks over then [] else InvalidValue ∷ []
+
+    met : asked_in (subcommand_of bpool_app words) ≡ asked_in (Some (rows_at sweep_built sweep.words))
+    met = ap asked_in sweep.met
+
+    named : naming_fault (subcommand_of bpool_app words) ≡ naming_fault (Some (rows_at sweep_built sweep.words))
+    named = ap naming_fault sweep.met
+
+    -- what each of the three comes to
+    asks_by : (frames ks : Option (List ℕ)) (over : Bool) → frames_at rows ≡ frames → ks_at rows ≡ ks → draws_over rows ≡ over
+        → asked_in (subcommand_of bpool_app words) ≡ by_lists frames ks over
+    asks_by frames ks over f k d = met ∙ ap₂ (λ (f k : Option (List ℕ)). by_lists f k (draws_over rows)) f k ∙ ap (λ (b : Bool). by_lists frames ks b) d
+
+    faults_by : (frames ks : Option (List ℕ)) (over : Bool) → frames_at rows ≡ frames → ks_at rows ≡ ks → draws_over rows ≡ over
+        → naming_fault (subcommand_of bpool_app words) ≡ fault_by frames ks over
+    faults_by frames ks over f k d = named ∙ ap₂ (λ (f k : Option (List ℕ)). fault_by f k (draws_over rows)) f k ∙ ap (λ (b : Bool). fault_by frames ks b) d
+
+    go : (frames ks : Option (List ℕ)) (over : Bool) → frames_at rows ≡ frames → ks_at rows ≡ ks → draws_over rows ≡ over → IsAccepted words
+    go (Some frames) (Some ks) false f k d = record {
+      asked = Some (a_sweep (told.told frames ks));
+      asks = asks_by (Some frames) (Some ks) false f k d ∙ ap (λ (o : Option Sweep). option_map a_sweep o) (told.tells frames ks);
+      limits = told.limits frames ks f k d;
+      fault = faults_by (Some frames) (Some ks) false f k d;
+    }
+    go (Some frames) (Some ks) true f k d = record { asked = None; asks = asks_by (Some frames) (Some ks) true f k d; limits = tt; fault = faults_by (Some frames) (Some ks) true f k d }
+    go (Some frames) None over f k d = record { asked = None; asks = asks_by (Some frames) None over f k d; limits = tt; fault = faults_by (Some frames) None over f k d }
+    go None ks over f k d = record { asked = None; asks = asks_by None ks over f k d; limits = tt; fault = faults_by None ks over f k d }
 
 explain_tells : (words : List Text) → IsMet explain_built (stop_after (built bpool_app).top.rules (names_of (built bpool_app)) words) → IsAccepted words
 explain_tells words explain = go (explanation_at rows) refl
@@ -399,8 +535,9 @@ accepted words fault =
 
     by_command : (words : List Text) → AnyMet (stop_in words) → IsAccepted words
     by_command words (inl run) = run_tells words run (rows_tell _ (level_filled run_built run.words refl run.fault))
-    by_command words (inr (inl migrate)) = migration_tells words migrate (rows_tell_migration _ (level_filled migrate_built migrate.words refl migrate.fault))
-    by_command words (inr (inr explain)) = explain_tells words explain
+    by_command words (inr (inl sweep)) = sweep_tells words sweep (rows_tell_sweep _ (level_filled sweep_built sweep.words refl sweep.fault))
+    by_command words (inr (inr (inl migrate))) = migration_tells words migrate (rows_tell_migration _ (level_filled migrate_built migrate.words refl migrate.fault))
+    by_command words (inr (inr (inr explain))) = explain_tells words explain
 
 -- what the matches of such words ask for, where a run names an order
 pub record IsTold (words : List Text) (m : ArgMatches) : Type 0 where

@@ -3,6 +3,7 @@ pub mod Building
 pub mod Entering
 pub mod Fits
 pub mod Level
+pub mod Listed
 pub mod Messages
 pub mod OneLine
 pub mod Reading

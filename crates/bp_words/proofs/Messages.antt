@@ -47,3 +47,9 @@ message-line (ending.TraceRefused fault) e =
     (both-line (codes " refused ") (decimal fault.number) refl (decimal-line fault.number)))
 message-line (ending.RunRefused refusal) e = both-line (codes "run refused ") (decimal (number_of refusal)) refl (decimal-line (number_of refusal))
 message-line ending.OutputFailed e = refl
+message-line ending.PictureNotWritten e = refl
+message-line ending.ReferencesNotOpened e = refl
+message-line (ending.ReferenceRefused line refusal) e =
+    both-line (codes "reference line ") (decimal line ++ (codes " refused " ++ decimal (number_of refusal))) refl
+    (both-line (decimal line) (codes " refused " ++ decimal (number_of refusal)) (decimal-line line)
+    (both-line (codes " refused ") (decimal (number_of refusal)) refl (decimal-line (number_of refusal))))

@@ -18,6 +18,18 @@ number_option id low high default =
 abbrev pub required_number : Text → ℕ → ℕ → Rule
 required_number id low high = record (new_rule id) { long = Some id; value_names = 1; required = true; parser = Some (parser.Unsigned low high) }
 
+-- an option that must be there, and takes any word
+abbrev pub required_word : Text → Rule
+required_word id = record (new_rule id) { long = Some id; value_names = 1; required = true }
+
+-- an option that takes any word, and has no default
+abbrev pub optional_word : Text → Rule
+optional_word id = record (new_rule id) { long = Some id; value_names = 1 }
+
+-- an option that takes a whole number from low to high, and has no default
+abbrev pub optional_number : Text → ℕ → ℕ → Rule
+optional_number id low high = record (new_rule id) { long = Some id; value_names = 1; parser = Some (parser.Unsigned low high) }
+
 -- an option without a value
 abbrev pub flag : Text → Rule
 flag id = record (new_rule id) { long = Some id; action = Some SetTrue }
@@ -42,6 +54,19 @@ run_rules =
 
 abbrev pub run_shape : Shape
 run_shape = record (new_shape (codes "run")) { rules = run_rules }
+
+abbrev pub sweep_rules : List Rule
+sweep_rules =
+    positional (codes "references")
+    ∷ required_word (codes "frames")
+    ∷ word_option (codes "k") (codes "1,2")
+    ∷ number_option (codes "correlated") 0 4611686018427387904 (codes "0")
+    ∷ optional_number (codes "column") 1 65536
+    ∷ optional_word (codes "svg")
+    ∷ []
+
+abbrev pub sweep_shape : Shape
+sweep_shape = record (new_shape (codes "sweep")) { rules = sweep_rules }
 
 abbrev pub migrate_rules : List Rule
 migrate_rules = positional (codes "old") ∷ positional (codes "new") ∷ required_number (codes "page-size") 16 65536 ∷ []
@@ -70,5 +95,5 @@ program_app =
 -- the program with its commands
 abbrev pub bpool_app : App
 bpool_app =
-    with_subcommand (with_subcommand (with_subcommand program_app run_shape) migrate_shape)
-    explain_shape
+    with_subcommand (with_subcommand (with_subcommand (with_subcommand program_app run_shape)
+    sweep_shape) migrate_shape) explain_shape

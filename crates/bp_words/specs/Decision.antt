@@ -6,8 +6,8 @@ use Rattle.clap.specs.declared.error.kind.ErrorKind.{ErrorKind}
 use Rattle.clap.specs.declared.error.kind.ErrorKind.TheVariants.{DisplayHelp, DisplayVersion, OutOfMemory as no_memory}
 use Rattle.bp_page.specs.declared.refusals.Refusal.TheVariants.{BadGeometry, OutOfMemory}
 use Rattle.bp_words.specs.Words.{Told, IsInLimits, fault_in}
-use Rattle.bp_words.specs.Asked.{Migration, Asked, HasPageSize, asked_by, asked_of}
-use Rattle.bp_words.specs.Asked.Asked.{a_run, a_migration, an_explanation}
+use Rattle.bp_words.specs.Asked.{Migration, Asked, HasPageSize, SweepsInLimits, asked_by, asked_of}
+use Rattle.bp_words.specs.Asked.Asked.{a_run, a_migration, a_sweep, an_explanation}
 use Rattle.bp_words.specs.declared.words.Task.{Task}
 use Rattle.bp_words.specs.declared.ending.Ending.{Ending}
 use Rattle.bp_words.specs.declared.ending.Ending.TheVariants as ending
@@ -25,12 +25,14 @@ pub record IsMigratable (m : Migration) : Type 0 where
 abbrev pub CanBegin : Asked → Type 0
 CanBegin (a_run told) = IsRunnable told
 CanBegin (a_migration m) = IsMigratable m
+CanBegin (a_sweep s) = SweepsInLimits s
 CanBegin (an_explanation text) = Unit {0}
 
 -- how many bytes a page is to have, where there are pages
 abbrev pub size_asked : Asked → Option ℕ
 size_asked (a_run told) = Some told.size
 size_asked (a_migration m) = Some m.size
+size_asked (a_sweep s) = None
 size_asked (an_explanation text) = None
 
 -- no page file has pages of this size

@@ -1,5 +1,5 @@
 -- What the words of a command line name, in clap's own words.
-use Rattle.std.specs.Prelude.{ℕ, ◌^◌, ◌&&◌, ◌==◌, ◌≤◌, nat_lt, if◌then◌else◌, Bool, true, false, List, [], ◌∷◌, codes, Option, Some, None, is_some}
+use Rattle.std.specs.Prelude.{ℕ, ◌^◌, ◌&&◌, ◌==◌, ◌≤◌, nat_lt, if◌then◌else◌, Bool, true, false, not, List, [], ◌∷◌, codes, Option, Some, None, is_some}
 use Rattle.std.specs.Option.{option_map_or}
 use Rattle.std.specs.Str.{bytes_eq}
 use Rattle.std.specs.Str.Parse.{digits_value, without_leading_plus}
@@ -11,6 +11,7 @@ use Rattle.bp_lruk.specs.Limits.{IsWithinLimits}
 use Rattle.bp_words.specs.Command.{bpool_app}
 use Rattle.bp_trace.specs.Numbers.{number_in}
 use Rattle.bp_numbers.specs.Explained.{explanation_of}
+use Rattle.bp_numbers.specs.Lists.{numbers_listed}
 use Rattle.bp_words.specs.declared.words.Order.{Order}
 use Rattle.bp_words.specs.declared.words.Order.TheVariants as order
 use Rattle.bp_words.specs.declared.words.TraceSource.{TraceSource}
@@ -19,7 +20,7 @@ use Rattle.bp_words.specs.declared.words.RunWords.{RunWords}
 use Rattle.bp_page.specs.declared.slots.Format.{Format}
 use Rattle.bp_page.specs.declared.slots.Format.TheVariants as format
 
--- where a run reads its trace
+-- where a run reads its trace, or a sweep its references
 pub data TraceAt : Type 0 where
   from_stdin : TraceAt
   at_path : Text → TraceAt
@@ -68,6 +69,29 @@ None >>= f = None
 abbrev pub number_at : Text → List Row → Option ℕ
 number_at id rows = one_of id rows >>= unsigned_of
 
+-- the numbers of an option's list, each from low to high
+abbrev pub list_at : Text → ℕ → ℕ → List Row → Option (List ℕ)
+list_at id low high rows = first_of id rows >>= numbers_listed low high
+
+-- the numbers of frames, and those of stamps, that a sweep's own rows name
+abbrev pub frames_at : List Row → Option (List ℕ)
+frames_at = list_at (codes "frames") 1 65536
+
+abbrev pub ks_at : List Row → Option (List ℕ)
+ks_at = list_at (codes "k") 1 16
+
+abbrev pub are_same : Option Text → Option Text → Bool
+are_same (Some a) (Some b) = bytes_eq a b
+are_same _ _ = false
+
+-- whether the picture of a sweep would go into its references: their words are the same
+abbrev pub draws_over : List Row → Bool
+draws_over rows = are_same (first_of (codes "references") rows) (first_of (codes "svg") rows)
+
+-- the words of a sweep name numbers of frames, values of K, and no picture or another file than the references
+abbrev pub names_sweep : Option (List ℕ) → Option (List ℕ) → Bool → Bool
+names_sweep frames ks over = is_some frames && is_some ks && not over
+
 -- the text of the number that is to be explained
 abbrev pub explanation_at : List Row → Option Text
 explanation_at rows = first_of (codes "number") rows >>= number_in >>= explanation_of
@@ -94,10 +118,11 @@ told_by_rows rows = do
   order ← order_at rows
   Some (record { trace = trace_of trace; page_file = page_file; frames = frames; k = k; correlated = correlated; retained = retained; size = size; format = format_of version; order = order; totals = flag_at (codes "totals") rows })
 
--- the words that clap lets through name what they should: an order, a refusal
+-- the words that clap lets through name what they should: an order, lists of numbers and a picture, a refusal
 abbrev pub names_all : Text → List Row → Bool
 names_all command rows =
     if bytes_eq command (codes "run") then is_some (order_at rows)
+    else if bytes_eq command (codes "sweep") then names_sweep (frames_at rows) (ks_at rows) (draws_over rows)
     else if bytes_eq command (codes "explain") then is_some (explanation_at rows)
     else true
 

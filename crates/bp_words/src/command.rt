@@ -3,7 +3,7 @@ ghost use Rattle.std.specs.Prelude.{◌≡◌, map, false, IfOk, All};
 ghost use Rattle.clap.specs.Words.{app_of, rule_of, shape_of};
 ghost use Rattle.clap.specs.declared.builder.command.Command.TheViews.{out-Command as fields_of};
 ghost use Rattle.bp_words.specs.Command.{bpool_app, migrate_rules, migrate_shape, program_app, run_rules, run_shape};
-ghost use Rattle.bp_words.specs.Command.{explain_rules, explain_shape};
+ghost use Rattle.bp_words.specs.Command.{explain_rules, explain_shape, sweep_rules, sweep_shape};
 ghost use Rattle.bp_words.specs.Command as spec;
 
 use crate::ending::VERSION;
@@ -17,6 +17,15 @@ Without tick rows nothing leaves a frame. --retained acts at purge rows alone. b
 a trace, and what each number says.
 Status 0: all rows were accepted. Status 1: some row was refused; the report says which, and why.
 Status 2: one line on standard error says why there is no report, or only a part of it.";
+
+/// What the commands are for.
+const PURPOSES: &str = "\
+A buffer pool with LRU-K replacement
+
+  bpool run      shows what a pool does with a trace of fixes, writes and flushes
+  bpool sweep    shows how many frames, and which K, a workload needs
+  bpool migrate  gives a page file page numbers, by which a read of a wrong place is seen
+  bpool explain  says what the number of a refusal stands for";
 
 /// The words and options of the commands, what the program does without words, a trace, and what each number says.
 const SUMMARY: &str = "\
@@ -33,6 +42,15 @@ bpool run TRACE PAGEFILE [--frames N] [--k N] [--correlated N] [--retained N] [-
   --format N        1 or 2: version of a page file at a path [default: 1]
   --order ORDER     trace or free [default: trace]
   --totals          Prints no lines of events, only the totals and the refused rows
+
+bpool sweep REFERENCES --frames LIST [--k LIST] [--correlated N] [--column N] [--svg FILE]
+
+  REFERENCES        A path, or stdin for the standard input: a number of up to 2^62 a line
+  --frames LIST     1 to 65536 each; a list as 64,256,1024, or 16..1024 for each doubling
+  --k LIST          1 to 16 each [default: 1,2]
+  --correlated N    0 to 2^62 references [default: 0]
+  --column N        1 to 65536: lines are CSV records, and field N, from 1, is the number
+  --svg FILE        Draws hit ratio over frames into FILE, a path, once the table is printed
 
 bpool migrate OLD NEW --page-size N
 
@@ -86,7 +104,7 @@ Numbers after the word refused:
   46  the trace is too long
   47  the trace could not be read
 
-Status 0: all rows were accepted, NEW was made, or help, the version or a number was asked for.
+Status 0: all rows were accepted, a table or NEW was made, or the words asked for an answer.
 Status 1: some row was refused.
 Status 2: one line on standard error says why there is no report, or only a part of it.";
 
@@ -120,10 +138,37 @@ const ORDER: &str = "Order of the rows: trace, or free: a thread for each client
 
 const TOTALS: &str = "Prints no lines of events, only the totals and the refused rows";
 
+const REFERENCES: &str = "The references: a path, or stdin for the standard input";
+
+const SWEPT_FRAMES: &str = "Frames of the pools, from 1 to 65536: as 64,256,1024 or 16..1024";
+
+const SWEPT_STAMPS: &str = "K of LRU-K, from 1 to 16: as 1,2,3 or 1..16";
+
+const APART: &str = "Correlated reference period in references, from 0 to 2^62";
+
+const COLUMN: &str = "The field with the number in each line, a CSV record: 1 to 65536";
+
+const SVG: &str = "Draws hit ratio over frames into this file: a path";
+
 const NUMBER: &str = "The number of a refusal, as in row 3 refused 11";
 
 /// Where all numbers stand.
 const NUMBERS: &str = "All numbers: bpool --help";
+
+/// What a sweep reads and prints, an example, and what its statuses mean.
+const SWEEPING: &str = "\
+REFERENCES has a number of up to 2^62 a line, as a block number or an address; equal numbers are
+references of one page. With --column a first line whose field is no number is a header.
+
+A LIST is 1 to 64 numbers with commas, or FIRST..LAST: FIRST, its double and so on below LAST, and
+LAST. So 16..100 is 16,32,64,100.
+
+  bpool sweep blocks.txt --frames 64..4096 --k 1,2 --svg hits.svg
+
+Prints a line of CSV for each number of frames with each K, and one with k opt for the optimum,
+which knows what comes. K 1 is LRU. FILE is SVG, which a browser shows, and is overwritten.
+Status 0: all lines are printed, and FILE is made. Status 2: one line on standard error says why
+there is no table, or only a part of it, or no picture.";
 
 /// How many frames a pool may have.
 fn frame_counts<'a>() -> ValueParser<'a>
@@ -151,6 +196,13 @@ fn versions<'a>() -> ValueParser<'a>
     ensures { result ≡ ValueParser.Unsigned 1 2 }
 {
     value_parser!(usize).range(1..=2)
+}
+
+/// Which field of a record may be named.
+fn columns<'a>() -> ValueParser<'a>
+    ensures { result ≡ ValueParser.Unsigned 1 65536 }
+{
+    value_parser!(usize).range(1..=65_536)
 }
 
 /// How long a period may be.
@@ -206,6 +258,44 @@ fn required_number<'a>(
         .long(id)
         .value_name("N")
         .required(true)
+        .value_parser(numbers)
+        .help(help)
+}
+
+/// An option that takes a word and must be there. What the word names is looked at later.
+fn required_word<'a>(alloc: Global, id: &'a str, shown: &'a str, help: &'a str) -> Arg<'a>
+    ensures rule { rule_of result ≡ spec.required_word id.entry.now }
+    ensures local { result.global ≡ false }
+{
+    Arg::new(alloc, id)
+        .long(id)
+        .value_name(shown)
+        .required(true)
+        .help(help)
+}
+
+/// An option that takes a word, and has no default.
+fn optional_word<'a>(alloc: Global, id: &'a str, shown: &'a str, help: &'a str) -> Arg<'a>
+    ensures rule { rule_of result ≡ spec.optional_word id.entry.now }
+    ensures local { result.global ≡ false }
+{
+    Arg::new(alloc, id).long(id).value_name(shown).help(help)
+}
+
+/// An option that takes a number, and has no default.
+fn optional_number<'a>(
+    alloc: Global,
+    id: &'a str,
+    numbers: ValueParser<'a>,
+    help: &'a str,
+) -> Arg<'a>
+    ensures rule { (low high : _) → numbers.entry ≡ ValueParser.Unsigned low high →
+        rule_of result ≡ spec.optional_number id.entry.now low high }
+    ensures local { result.global ≡ false }
+{
+    Arg::new(alloc, id)
+        .long(id)
+        .value_name("N")
         .value_parser(numbers)
         .help(help)
 }
@@ -298,6 +388,35 @@ fn migrate_command<'a>(alloc: Global) -> Result<Command<'a>, AllocError>
     Ok(command)
 }
 
+/// The words and options of a sweep.
+fn sweep_arguments<'a>(alloc: Global) -> Result<Vec<Arg<'a>>, AllocError>
+    ensures rules { IfOk result (λ arguments. map rule_of arguments.items ≡ sweep_rules) }
+    ensures local { IfOk result (λ arguments. All (λ a. a.global ≡ false) arguments.items) }
+{
+    let arguments = vec![in alloc;
+        positional(alloc, "references", "REFERENCES", REFERENCES),
+        required_word(alloc, "frames", "LIST", SWEPT_FRAMES),
+        word_option(alloc, "k", "LIST", "1,2", SWEPT_STAMPS),
+        number_option(alloc, "correlated", periods(), "0", APART),
+        optional_number(alloc, "column", columns(), COLUMN),
+        optional_word(alloc, "svg", "FILE", SVG),
+    ]?;
+    Ok(arguments)
+}
+
+/// The command `sweep`.
+fn sweep_command<'a>(alloc: Global) -> Result<Command<'a>, AllocError>
+    ensures shape { IfOk result (λ c. shape_of c ≡ sweep_shape) }
+    ensures local { IfOk result (λ c. (fields_of c).has_globals ≡ false) }
+{
+    let arguments = sweep_arguments(alloc)?;
+    let command = Command::new(alloc, "sweep")
+        .about("Counts hits and faults for many numbers of frames and many K, in a table")
+        .after_help(SWEEPING)
+        .args(arguments)?;
+    Ok(command)
+}
+
 /// The words of an explanation.
 fn explain_arguments<'a>(alloc: Global) -> Result<Vec<Arg<'a>>, AllocError>
     ensures rules { IfOk result (λ arguments. map rule_of arguments.items ≡ explain_rules) }
@@ -327,7 +446,7 @@ fn program_command<'a>(alloc: Global) -> Result<Command<'a>, AllocError>
     let named = Command::new(alloc, "bpool").bin_name("bpool")?;
     Ok(
         named
-            .about("A buffer pool with LRU-K replacement")
+            .about(PURPOSES)
             .version(VERSION)
             .after_help(SUMMARY)
             .no_binary_name(true)
@@ -342,8 +461,10 @@ pub fn bpool_command<'a>(alloc: Global) -> Result<Command<'a>, AllocError>
     let program = program_command(alloc)?;
     let run = run_command(alloc)?;
     let with_run = program.subcommand(run)?;
+    let sweep = sweep_command(alloc)?;
+    let with_sweep = with_run.subcommand(sweep)?;
     let migrate = migrate_command(alloc)?;
-    let with_migrate = with_run.subcommand(migrate)?;
+    let with_migrate = with_sweep.subcommand(migrate)?;
     let explain = explain_command(alloc)?;
     with_migrate.subcommand(explain)
 }

@@ -36,6 +36,12 @@ pub enum Ending {
     RunRefused(Refusal),
     /// Not all of the output was written.
     OutputFailed,
+    /// The file of the references can't be opened.
+    ReferencesNotOpened,
+    /// A line of the references is at fault. Line 0 is the list as a whole.
+    ReferenceRefused { line: u64, refusal: Refusal },
+    /// The picture of a table was not written. The table was.
+    PictureNotWritten,
 }
 
 impl fmt::Display for Ending {
@@ -63,6 +69,11 @@ impl fmt::Display for Ending {
             }
             Ending::RunRefused(refusal) => write!(f, "run refused {}", refusal.number()),
             Ending::OutputFailed => f.write_str("output failed"),
+            Ending::ReferencesNotOpened => f.write_str("references not opened"),
+            Ending::ReferenceRefused { line, refusal } => {
+                write!(f, "reference line {line} refused {}", refusal.number())
+            }
+            Ending::PictureNotWritten => f.write_str("picture not written"),
         }
     }
 }

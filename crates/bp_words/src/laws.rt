@@ -1,9 +1,9 @@
 //! What the definitions of the words come to.
-ghost use Rattle.std.specs.Prelude.{◌≡◌, [], ◌∷◌, codes, false, true, Some};
+ghost use Rattle.std.specs.Prelude.{◌≡◌, [], ◌∷◌, codes, false, true, None, Some};
 ghost use Rattle.bp_words.specs.Words.{fault_in, words_or_default};
 ghost use Rattle.bp_words.specs.Words.TraceAt.{from_stdin, at_path};
 ghost use Rattle.bp_words.specs.Asked.{asked_by};
-ghost use Rattle.bp_words.specs.Asked.Asked.{a_run, a_migration, an_explanation};
+ghost use Rattle.bp_words.specs.Asked.Asked.{a_run, a_migration, a_sweep, an_explanation};
 
 use crate::words::Order;
 use bp_page::Format;
@@ -69,6 +69,35 @@ pub fn words_by_example()
         })) }
     ensures no_size { fault_in (codes "migrate" ∷ codes "a" ∷ codes "b" ∷
         []) ≡ ErrorKind.MissingRequiredArgument ∷ [] }
+    ensures sweep { asked_by (codes "sweep" ∷ codes "stdin" ∷ codes "--frames" ∷ codes "16..100" ∷
+        []) ≡ Some (a_sweep (record {
+          references = from_stdin;
+          frames = 16 ∷ 32 ∷ 64 ∷ 100 ∷ [];
+          ks = 1 ∷ 2 ∷ [];
+          correlated = 0;
+          column = None;
+          svg = None;
+        })) }
+    ensures sweep_all { asked_by (codes "sweep" ∷ codes "--k=1..4" ∷ codes "t.csv" ∷
+        codes "--frames" ∷ codes "64,256,65536" ∷ codes "--correlated" ∷ codes "3" ∷
+        codes "--column=2" ∷ codes "--svg" ∷ codes "p.svg" ∷ []) ≡ Some (a_sweep (record {
+          references = at_path (codes "t.csv");
+          frames = 64 ∷ 256 ∷ 65536 ∷ [];
+          ks = 1 ∷ 2 ∷ 4 ∷ [];
+          correlated = 3;
+          column = Some 2;
+          svg = Some (codes "p.svg");
+        })) }
+    ensures empty_part { fault_in (codes "sweep" ∷ codes "stdin" ∷ codes "--frames=64,,256" ∷ [])
+        ≡ ErrorKind.InvalidValue ∷ [] }
+    ensures backwards { fault_in (codes "sweep" ∷ codes "stdin" ∷ codes "--frames" ∷
+        codes "64..32" ∷ []) ≡ ErrorKind.InvalidValue ∷ [] }
+    ensures too_great { fault_in (codes "sweep" ∷ codes "stdin" ∷ codes "--frames" ∷ codes "64" ∷
+        codes "--k" ∷ codes "2,17" ∷ []) ≡ ErrorKind.InvalidValue ∷ [] }
+    ensures draws_over { fault_in (codes "sweep" ∷ codes "t.csv" ∷ codes "--frames" ∷ codes "64" ∷
+        codes "--svg" ∷ codes "t.csv" ∷ []) ≡ ErrorKind.InvalidValue ∷ [] }
+    ensures no_list { fault_in (codes "sweep" ∷ codes "stdin" ∷ codes "--k" ∷ codes "2" ∷ [])
+        ≡ ErrorKind.MissingRequiredArgument ∷ [] }
     ensures explanation { asked_by (codes "explain" ∷ codes "11" ∷ [])
         ≡ Some (an_explanation (codes "no page may leave its frame")) }
     ensures no_number { fault_in (codes "explain" ∷ codes "4" ∷ []) ≡ ErrorKind.InvalidValue ∷ [] }

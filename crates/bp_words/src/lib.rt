@@ -12,4 +12,4 @@ mod words;
 pub use decision::decide;
 pub use ending::{Ending, VERSION};
 pub use line::Line;
-pub use words::{MigrationWords, Order, RunWords, Task, TraceSource};
+pub use words::{MigrationWords, Order, RunWords, SweepWords, Task, TraceSource};

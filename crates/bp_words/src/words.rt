@@ -4,20 +4,28 @@ ghost use Rattle.clap.specs.Walk.{texts};
 ghost use Rattle.clap.specs.Values.{kind_of};
 ghost use Rattle.clap.specs.Words.{first_of, found_of, rows_of, subcommand_rows_of, FailsBy};
 ghost use Rattle.bp_words.specs.Words.{explanation_at, fault_in, flag_at, format_of, number_at, order_at, order_of};
+ghost use Rattle.bp_words.specs.Words.{draws_over, frames_at, ks_at, list_at};
 ghost use Rattle.bp_words.specs.Words.{told_by_rows, told_of};
 ghost use Rattle.bp_words.specs.Words as spec;
 ghost use Rattle.bp_words.specs.Asked.{AreInLimits, asked_by, asked_in, asked_of, migration_by_rows, migration_of};
+ghost use Rattle.bp_words.specs.Asked.{sweep_by_rows, sweep_of, sweep_with};
 ghost use Rattle.bp_words.specs.Decision.{size_asked};
 
 use crate::command::bpool_command;
-use bp_numbers::explanation_of;
+use bp_numbers::{MAX_NUMBERS, explanation_of, numbers_listed};
 use bp_page::Format;
 use bp_trace::numbers::parse_number;
 use clap::error::ErrorKind;
 use clap::{ArgMatches, Error};
 use std::alloc::{AllocError, Global};
 
-/// Where a run reads its trace.
+/// The most frames of a pool.
+const MAX_FRAMES: usize = 65_536;
+
+/// The greatest K of LRU-K.
+const MAX_K: usize = 16;
+
+/// Where a run reads its trace, or a sweep its references.
 #[derive(Clone, Copy, Debug, PartialEq, Eq)]
 pub enum TraceSource<'a> {
     /// Standard input.
@@ -38,6 +46,7 @@ pub enum Order {
 /// What the words of a run name.
 #[derive(Clone, Copy, Debug, PartialEq, Eq)]
 pub struct RunWords<'a> {
+    /// Where the trace is read.
     pub trace: TraceSource<'a>,
     /// The word of the page file: `mem:N`, or a path.
     pub page_file: &'a str,
@@ -53,6 +62,7 @@ pub struct RunWords<'a> {
     pub page_size: usize,
     /// How pages stand in a page file at a path.
     pub format: Format,
+    /// In which order the rows are run.
     pub order: Order,
     /// Whether the report has no lines of events.
     pub totals: bool,
@@ -69,11 +79,32 @@ pub struct MigrationWords<'a> {
     pub page_size: usize,
 }
 
+/// What the words of a sweep name: it runs each number of frames with each K.
+#[derive(Debug, PartialEq, Eq, Drop)]
+pub struct SweepWords<'a> {
+    /// Where the references are read.
+    pub references: TraceSource<'a>,
+    /// How many frames the pools have: 1 to 64 numbers from 1 to 65,536.
+    pub frames: Vec<usize>,
+    /// K of LRU-K: 1 to 64 numbers from 1 to 16.
+    pub ks: Vec<usize>,
+    /// The correlated reference period, in references.
+    pub correlated: u64,
+    /// Which field of a record the number is in, from 1 to 65,536, where each line is a record. Else each is a number.
+    pub column: Option<usize>,
+    /// The path of the picture that is drawn of the table, if there is to be one. It is not where the references are.
+    pub svg: Option<&'a str>,
+}
+
 /// What the words of a command line ask for.
 #[derive(Debug, PartialEq, Eq, Drop)]
 pub enum Task<'a> {
+    /// A run of a trace.
     Run(RunWords<'a>),
+    /// A page file of version 1 written anew in version 2.
     Migrate(MigrationWords<'a>),
+    /// A table of what references come to, by frames and K.
+    Sweep(SweepWords<'a>),
     /// Says this text.
     Explain(&'a str),
 }
@@ -86,7 +117,7 @@ impl Task<'_> {
         match self {
             Task::Run(run) => Some(run.page_size),
             Task::Migrate(migration) => Some(migration.page_size),
-            Task::Explain(_) => None,
+            Task::Sweep(_) | Task::Explain(_) => None,
         }
     }
 }
@@ -164,6 +195,52 @@ fn flag_at(matches: &ArgMatches<'_>, id: &str) -> bool
     }
 }
 
+/// The numbers of an option's list, each from `low` to `high`.
+fn list_at(
+    alloc: Global,
+    matches: &ArgMatches<'_>,
+    id: &str,
+    low: usize,
+    high: usize,
+) -> Result<Option<Vec<usize>>, AllocError>
+    ensures { IfOk result (λ numbers. option_map (λ v. v.items) numbers
+        ≡ list_at id.now low high (rows_of (found_of matches.now))) }
+{
+    match word_at(matches, id) {
+        Some(word) => numbers_listed(alloc, word, low, high),
+        None => Ok(None),
+    }
+}
+
+/// The numbers of frames that the matches of a sweep name.
+fn frames_at(alloc: Global, matches: &ArgMatches<'_>) -> Result<Option<Vec<usize>>, AllocError>
+    ensures { IfOk result (λ numbers. option_map (λ v. v.items) numbers
+        ≡ frames_at (rows_of (found_of matches.now))) }
+{
+    list_at(alloc, matches, "frames", 1, MAX_FRAMES)
+}
+
+/// The values of K that the matches of a sweep name.
+fn ks_at(alloc: Global, matches: &ArgMatches<'_>) -> Result<Option<Vec<usize>>, AllocError>
+    ensures { IfOk result (λ numbers. option_map (λ v. v.items) numbers
+        ≡ ks_at (rows_of (found_of matches.now))) }
+{
+    list_at(alloc, matches, "k", 1, MAX_K)
+}
+
+/// Whether the picture of a sweep would go into its references: their words are the same.
+fn draws_over(matches: &ArgMatches<'_>) -> bool
+    ensures { result ≡ draws_over (rows_of (found_of matches.now)) }
+{
+    let Some(word) = word_at(matches, "references") else {
+        return false;
+    };
+    match word_at(matches, "svg") {
+        Some(picture) => word == picture,
+        None => false,
+    }
+}
+
 /// The order that the matches of a run name.
 fn order_at(matches: &ArgMatches<'_>) -> Option<Order>
     ensures { result ≡ order_at (rows_of (found_of matches.now)) }
@@ -213,18 +290,66 @@ fn migration_words<'a>(matches: &ArgMatches<'a>) -> Option<MigrationWords<'a>>
     })
 }
 
+/// What the matches of a sweep name, with these numbers of frames and these K.
+fn sweep_with<'a>(
+    matches: &ArgMatches<'a>,
+    frames: Vec<usize>,
+    ks: Vec<usize>,
+) -> Option<SweepWords<'a>>
+    ensures { option_map sweep_of result
+        ≡ sweep_with frames.items ks.items (rows_of (found_of matches.now)) }
+{
+    let references = word_at(matches, "references")?;
+    let correlated = period_at(matches, "correlated")?;
+    Some(SweepWords {
+        references: trace_source(references),
+        frames,
+        ks,
+        correlated,
+        column: count_at(matches, "column"),
+        svg: word_at(matches, "svg"),
+    })
+}
+
+/// What the matches of a sweep name.
+fn sweep_words<'a>(
+    alloc: Global,
+    matches: &ArgMatches<'a>,
+) -> Result<Option<SweepWords<'a>>, AllocError>
+    ensures { IfOk result (λ words. option_map sweep_of words
+        ≡ sweep_by_rows (rows_of (found_of matches.now))) }
+{
+    let Some(frames) = frames_at(alloc, matches)? else {
+        return Ok(None);
+    };
+    let Some(ks) = ks_at(alloc, matches)? else {
+        return Ok(None);
+    };
+    if draws_over(matches) {
+        return Ok(None);
+    }
+    Ok(sweep_with(matches, frames, ks))
+}
+
 /// What the matches of the program ask for.
-fn task_in<'a>(matches: &ArgMatches<'a>) -> Option<Task<'a>>
-    ensures { option_map asked_of result ≡ asked_in (subcommand_rows_of matches.now) }
+fn task_in<'a>(alloc: Global, matches: &ArgMatches<'a>) -> Result<Option<Task<'a>>, AllocError>
+    ensures { IfOk result (λ task. option_map asked_of task
+        ≡ asked_in (subcommand_rows_of matches.now)) }
 {
     if let Some(run) = matches.subcommand_matches("run") {
-        return run_words(run).map(Task::Run);
+        return Ok(run_words(run).map(Task::Run));
     }
     if let Some(migration) = matches.subcommand_matches("migrate") {
-        return migration_words(migration).map(Task::Migrate);
+        return Ok(migration_words(migration).map(Task::Migrate));
     }
-    let explain = matches.subcommand_matches("explain")?;
-    explanation_at(explain).map(Task::Explain)
+    if let Some(sweep) = matches.subcommand_matches("sweep") {
+        let words = sweep_words(alloc, sweep)?;
+        return Ok(words.map(Task::Sweep));
+    }
+    let Some(explain) = matches.subcommand_matches("explain") else {
+        return Ok(None);
+    };
+    Ok(explanation_at(explain).map(Task::Explain))
 }
 
 /// A fault of an option whose word names nothing.
@@ -246,6 +371,39 @@ fn no_order(alloc: Global, run: &ArgMatches<'_>) -> Result<Error, AllocError>
     invalid(alloc, said.as_str())
 }
 
+/// The fault of a list that says no numbers.
+fn no_list(
+    alloc: Global,
+    sweep: &ArgMatches<'_>,
+    id: &str,
+    high: usize,
+) -> Result<Error, AllocError>
+    ensures { IfOk result (λ e. kind_of e ≡ ErrorKind.InvalidValue) }
+{
+    let word = word_at(sweep, id).unwrap_or("");
+    let said = format!(in alloc;
+        "invalid value '{word}' for '--{id} <LIST>': not 1 to {MAX_NUMBERS} numbers from 1 to {high} with commas, nor FIRST..LAST"
+    )?;
+    invalid(alloc, said.as_str())
+}
+
+/// The fault of a sweep: its frames are no list, or else its K are none, or else its picture goes into its references.
+fn no_sweep(alloc: Global, sweep: &ArgMatches<'_>) -> Result<Error, AllocError>
+    ensures { IfOk result (λ e. kind_of e ≡ ErrorKind.InvalidValue) }
+{
+    let Some(_frames) = frames_at(alloc, sweep)? else {
+        return no_list(alloc, sweep, "frames", MAX_FRAMES);
+    };
+    let Some(_ks) = ks_at(alloc, sweep)? else {
+        return no_list(alloc, sweep, "k", MAX_K);
+    };
+    let word = word_at(sweep, "svg").unwrap_or("");
+    let said = format!(in alloc;
+        "invalid value '{word}' for '--svg <FILE>': it is the word of REFERENCES"
+    )?;
+    invalid(alloc, said.as_str())
+}
+
 /// The fault of a number that no refusal has.
 fn no_number(alloc: Global, explain: &ArgMatches<'_>) -> Result<Error, AllocError>
     ensures { IfOk result (λ e. kind_of e ≡ ErrorKind.InvalidValue) }
@@ -259,6 +417,9 @@ fn no_number(alloc: Global, explain: &ArgMatches<'_>) -> Result<Error, AllocErro
 fn names_nothing(alloc: Global, matches: &ArgMatches<'_>) -> Result<Error, AllocError>
     ensures { IfOk result (λ e. kind_of e ≡ ErrorKind.InvalidValue) }
 {
+    if let Some(sweep) = matches.subcommand_matches("sweep") {
+        return no_sweep(alloc, sweep);
+    }
     if let Some(explain) = matches.subcommand_matches("explain") {
         return no_number(alloc, explain);
     }
@@ -281,7 +442,8 @@ pub fn read_words<'a>(alloc: Global, words: &'a [&'a str]) -> Result<Task<'a>, E
         Ok(matches) => matches,
         Err(error) => return Err(error),
     };
-    match task_in(&matches) {
+    let told = task_in(alloc, &matches)?;
+    match told {
         Some(task) => Ok(task),
         None => Err(names_nothing(alloc, &matches)?),
     }

@@ -43,6 +43,34 @@ pub returns-clause-help : goal.returns-clause-help
 unfolding clap_on_literals
 returns-clause-help c = refl
 
+pub returns-clause-sweep : goal.returns-clause-sweep
+unfolding clap_on_literals number_in digits_in
+returns-clause-sweep c = refl
+
+pub returns-clause-sweep_all : goal.returns-clause-sweep_all
+unfolding clap_on_literals number_in digits_in
+returns-clause-sweep_all c = refl
+
+pub returns-clause-empty_part : goal.returns-clause-empty_part
+unfolding clap_on_literals number_in digits_in
+returns-clause-empty_part c = refl
+
+pub returns-clause-backwards : goal.returns-clause-backwards
+unfolding clap_on_literals number_in digits_in
+returns-clause-backwards c = refl
+
+pub returns-clause-too_great : goal.returns-clause-too_great
+unfolding clap_on_literals number_in digits_in
+returns-clause-too_great c = refl
+
+pub returns-clause-draws_over : goal.returns-clause-draws_over
+unfolding clap_on_literals number_in digits_in
+returns-clause-draws_over c = refl
+
+pub returns-clause-no_list : goal.returns-clause-no_list
+unfolding clap_on_literals number_in digits_in
+returns-clause-no_list c = refl
+
 pub returns-clause-explanation : goal.returns-clause-explanation
 unfolding clap_on_literals number_in digits_in
 returns-clause-explanation c = refl

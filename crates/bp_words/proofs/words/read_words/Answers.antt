@@ -1,4 +1,4 @@
-use Rattle.std.proofs.Common.{◌≡◌, ap}
+use Rattle.std.proofs.Common.{◌≡◌, ◌∙◌, ap, option_map, sym}
 use Rattle.clap.specs.Faults.{is_simple_and_free}
 use Rattle.clap.specs.Simple.{app_of}
 use Rattle.clap.specs.Walk.{texts}
@@ -16,22 +16,23 @@ pub returns-in-Some-clause-told : goal.returns-in-Some-clause-told
 returns-in-Some-clause-told c =
     let app_is : app_of c.in_ok-command.command ≡ bpool_app = c.in_ok-command.ensures in
     let is = matches_told (app_of c.in_ok-command.command) (texts c.args.words.now) c.in-Ok.matches app_is c.in-Ok.ensures.matches (c.in-Ok.ensures.kinds (ap is_simple_and_free app_is)) in
-    (task_is asked_of c.in-Some.task (texts c.args.words.now) c.in-Ok.matches is c.in-Some.ensures).0
+    (task_is asked_of c.in-Some.task (texts c.args.words.now) c.in-Ok.matches is (ap (option_map asked_of) (sym c.in-Some.is) ∙ c.in_ok-told.ensures)).0
 
 pub returns-in-Some-clause-limits : goal.returns-in-Some-clause-limits
 returns-in-Some-clause-limits c =
     let app_is : app_of c.in_ok-command.command ≡ bpool_app = c.in_ok-command.ensures in
     let is = matches_told (app_of c.in_ok-command.command) (texts c.args.words.now) c.in-Ok.matches app_is c.in-Ok.ensures.matches (c.in-Ok.ensures.kinds (ap is_simple_and_free app_is)) in
-    (task_is asked_of c.in-Some.task (texts c.args.words.now) c.in-Ok.matches is c.in-Some.ensures).1
+    (task_is asked_of c.in-Some.task (texts c.args.words.now) c.in-Ok.matches is (ap (option_map asked_of) (sym c.in-Some.is) ∙ c.in_ok-told.ensures)).1
 
 pub returns-in-Some-clause-faults : goal.returns-in-Some-clause-faults
 returns-in-Some-clause-faults c =
     let app_is : app_of c.in_ok-command.command ≡ bpool_app = c.in_ok-command.ensures in
     let is = matches_told (app_of c.in_ok-command.command) (texts c.args.words.now) c.in-Ok.matches app_is c.in-Ok.ensures.matches (c.in-Ok.ensures.kinds (ap is_simple_and_free app_is)) in
-    (task_is asked_of c.in-Some.task (texts c.args.words.now) c.in-Ok.matches is c.in-Some.ensures).2
+    (task_is asked_of c.in-Some.task (texts c.args.words.now) c.in-Ok.matches is (ap (option_map asked_of) (sym c.in-Some.is) ∙ c.in_ok-told.ensures)).2
 
 pub returns-clause-faults : goal.returns-clause-faults
 returns-clause-faults c =
     let app_is : app_of c.in_ok-command.command ≡ bpool_app = c.in_ok-command.ensures in
     let is = matches_told (app_of c.in_ok-command.command) (texts c.args.words.now) c.in-Ok.matches app_is c.in-Ok.ensures.matches (c.in-Ok.ensures.kinds (ap is_simple_and_free app_is)) in
-    no_order_is (texts c.args.words.now) c.in-Ok.matches c.in_ok-names_nothing-in-None.field-0 is c.in-None.ensures c.in_ok-names_nothing-in-None.ensures
+    no_order_is (texts c.args.words.now) c.in-Ok.matches c.in_ok-names_nothing-in-None.field-0 is (ap (option_map asked_of) (sym c.in-None.is) ∙ c.in_ok-told.ensures)
+    c.in_ok-names_nothing-in-None.ensures
