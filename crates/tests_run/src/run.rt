@@ -599,6 +599,10 @@ impl<R: Files<File = File>> Ports<R> for Counted {
         self.files.trace(rt, path)
     }
 
+    fn save(&mut self, rt: &R, path: &str, bytes: &[u8]) -> io::Result<()> {
+        self.files.save(rt, path, bytes)
+    }
+
     fn is_watched(&self) -> bool {
         false
     }
@@ -654,7 +658,7 @@ fn a_reader_that_awaits_rows(rt: HostRuntime) -> Result<(), Fail> {
         assert_eq!(rt; awaiting.read(&mut buffer)?, 1);
         assert_eq!(rt; buffer[0], b'c');
     }
-    let line = "the trace is read here, a row a line; control-D ends it\n";
+    let line = "standard input is read, a line at a time; control-D ends it\n";
     assert_eq!(rt; told.as_slice(), line.as_bytes());
     Ok(())
 }
