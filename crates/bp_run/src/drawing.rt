@@ -1,7 +1,7 @@
 //! The picture of a sweep's table.
-ghost use Rattle.std.specs.Prelude.{◌≡◌, ◌≢◌, ◌++◌, ℕ, List, map, None, IfErr, IfOk, OnOk};
+ghost use Rattle.std.specs.Prelude.{◌≡◌, ◌≢◌, ◌++◌, map, None, IfErr, IfOk, OnOk};
 ghost use Rattle.bp_words.specs.Asked.{sweep_of};
-ghost use Rattle.bp_run.specs.Drawing.{AreShown, IsDrawn, Pictures, cell_of, if_among, names_of, which_of};
+ghost use Rattle.bp_run.specs.Drawing.{AreShown, IsDrawn, Pictures, cell_of, if_among, names_of};
 
 use crate::opening::Ports;
 use bp_chart::{Cell, Point, Which, lines_of, write_chart};
@@ -12,22 +12,16 @@ use std::alloc::{AllocError, Global};
 /// The greatest K of LRU-K.
 const MAX_K: usize = 16;
 
-/// Which line of the picture shows a pool with this K, or the optimum.
-fn which_of(k: Option<usize>) -> Which
-    ensures { result ≡ which_of k }
-{
-    match k {
-        Some(k) => Which::K(k),
-        None => Which::Optimum,
-    }
-}
-
 /// What the picture shows of a line of the table.
 fn cell_of(line: &Line) -> Cell
     ensures { result ≡ cell_of line.now }
 {
+    let which = match line.k {
+        Some(k) => Which::K(k),
+        None => Which::Optimum,
+    };
     Cell {
-        which: which_of(line.k),
+        which,
         point: Point {
             frames: line.frames,
             hits: line.hits,
@@ -92,28 +86,6 @@ fn picture_of(alloc: Global, ks: &[usize], table: &[Line]) -> Result<Vec<u8>, Al
     }
 }
 
-/// Draws the picture of a table over these K into the file at a path.
-fn draw_into<R, O: Ports<R>>(
-    rt: &R,
-    alloc: Global,
-    path: &str,
-    ks: &[usize],
-    table: &[Line],
-    ports: &mut O,
-) -> Result<(), Ending>
-    ensures drawn { OnOk result ((bytes : List ℕ) × Pictures ks.now table.now bytes
-        × O.ways.saves path.now bytes) }
-    ensures fault { IfErr result (λ ended. ended ≡ Ending.PictureNotWritten) }
-{
-    let Ok(bytes) = picture_of(alloc, ks, table) else {
-        return Err(Ending::PictureNotWritten);
-    };
-    match ports.save(rt, path, &bytes) {
-        Ok(()) => Ok(()),
-        Err(_) => Err(Ending::PictureNotWritten),
-    }
-}
-
 /// Draws the picture of a table, where the words ask for one.
 pub(crate) fn draw<R, O: Ports<R>>(
     rt: &R,
@@ -130,5 +102,11 @@ pub(crate) fn draw<R, O: Ports<R>>(
     let Some(path) = words.svg else {
         return Ok(());
     };
-    draw_into(rt, alloc, path, &words.ks, table, ports)
+    let Ok(bytes) = picture_of(alloc, &words.ks, table) else {
+        return Err(Ending::PictureNotWritten);
+    };
+    match ports.save(rt, path, &bytes) {
+        Ok(()) => Ok(()),
+        Err(_) => Err(Ending::PictureNotWritten),
+    }
 }

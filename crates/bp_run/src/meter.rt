@@ -4,6 +4,12 @@ use bp_migrate::Progress;
 use std::io::Write;
 use std::time::{Clock, Duration, Instant};
 
+/// Takes the line of a meter away.
+pub(crate) fn clear_line<E: Write>(err: &mut E) {
+    let _ = write!(err, "\r{:70}\r", "");
+    let _ = err.flush();
+}
+
 /// Shows on one line, anew at each hundredth of the pages, how many of them are written.
 #[derive(Drop)]
 pub(crate) struct Meter<'a, E: Write> {
@@ -15,12 +21,6 @@ impl<'a, E: Write> Meter<'a, E> {
     /// A meter that has shown nothing yet.
     pub(crate) fn new(err: &'a mut E) -> Meter<'a, E> {
         Meter { err, shown: 0 }
-    }
-
-    /// Takes the line away.
-    pub(crate) fn clear(&mut self) {
-        let _ = write!(self.err, "\r{:40}\r", "");
-        let _ = self.err.flush();
     }
 }
 
@@ -51,39 +51,23 @@ impl<'a, R: Clock, E: Write> SweepMeter<'a, R, E> {
         let since = Instant::now(clock).ok();
         SweepMeter { clock, err, since }
     }
-
-    /// Whether it is time to show the line anew, from which on the next second goes.
-    fn is_time(&mut self) -> bool {
-        let Some(since) = self.since else {
-            return false;
-        };
-        let Ok(now) = Instant::now(self.clock) else {
-            return false;
-        };
-        if now.duration_since(since) < Duration::from_secs(1) {
-            return false;
-        }
-        self.since = Some(now);
-        true
-    }
-
-    /// Takes the line away.
-    pub(crate) fn clear(&mut self) {
-        let _ = write!(self.err, "\r{:70}\r", "");
-        let _ = self.err.flush();
-    }
 }
 
 // A fault of the error output changes nothing. The spaces at the end are over what a longer line had there.
 impl<R: Clock, E: Write> bp_sweep::Progress for SweepMeter<'_, R, E> {
     fn counted(&mut self, cell: u64, cells: u64, counted: u64, references: u64) {
-        if self.is_time() {
-            let _ = write!(
-                self.err,
-                "\rcell {cell} of {cells}: {counted} of {references} references{:8}",
-                ""
-            );
-            let _ = self.err.flush();
+        let (Some(since), Ok(now)) = (self.since, Instant::now(self.clock)) else {
+            return;
+        };
+        if now.duration_since(since) < Duration::from_secs(1) {
+            return;
         }
+        self.since = Some(now);
+        let _ = write!(
+            self.err,
+            "\rcell {cell} of {cells}: {counted} of {references} references{:8}",
+            ""
+        );
+        let _ = self.err.flush();
     }
 }

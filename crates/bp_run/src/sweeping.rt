@@ -1,8 +1,6 @@
 //! A sweep: references over pools of several sizes and several K, the table of what they come to, and its picture.
-ghost use Rattle.std.specs.Prelude.{◌≡◌, ◌≢◌, false, IfErr, IfOk, IfSome, None, OnOk, Some};
-ghost use Rattle.std.specs.Io.KnownBytes.{Appends};
+ghost use Rattle.std.specs.Prelude.{◌≡◌, ◌≢◌, false, IfErr, IfOk, IfSome, None, OnOk};
 ghost use Rattle.bp_sweep.specs.Sweeping.{AreCells};
-ghost use Rattle.bp_table.specs.Table.{table_text};
 ghost use Rattle.bp_words.specs.Asked.{IsColumn, SweepsInLimits, sweep_of};
 ghost use Rattle.bp_words.specs.Words.{trace_told};
 ghost use Rattle.bp_run.specs.Sweep.{AreReferencesOf, AreTaken, HasNoReferences, NotCounted, NotShown};
@@ -10,7 +8,7 @@ ghost use Rattle.bp_run.specs.Sweep.{NotTabulated, NotTaken, Shows, StopsSweep, 
 ghost use Rattle.bp_run.specs.Sweep.{no_references, plans_told};
 
 use crate::drawing::draw;
-use crate::meter::SweepMeter;
+use crate::meter::{SweepMeter, clear_line};
 use crate::opening::Ports;
 use bp_page::Refusal;
 use bp_sweep::{
@@ -48,21 +46,6 @@ fn references_in_lines<I: Read>(alloc: Global, reader: &mut I) -> Result<Referen
     }
 }
 
-/// The references of a list of records, which have the number in this column.
-fn references_in_column<I: Read>(
-    alloc: Global,
-    column: u32,
-    reader: &mut I,
-) -> Result<References, Ending>
-    ensures read { IfOk result (AreReferencesOf (Some column) (I.remaining reader.old)) }
-    ensures fault { IfErr result (HasNoReferences (Some column) (I.remaining reader.old)) }
-{
-    match read_column(alloc, reader, column) {
-        Ok(references) => Ok(references),
-        Err(fault) => Err(no_references(fault)),
-    }
-}
-
 /// The references of a list: of its lines, or of a column where its lines are records.
 fn references_from<I: Read>(
     alloc: Global,
@@ -73,9 +56,12 @@ fn references_from<I: Read>(
     ensures read { IfOk result (AreReferencesOf column (I.remaining reader.old)) }
     ensures fault { IfErr result (HasNoReferences column (I.remaining reader.old)) }
 {
-    match column {
-        None => references_in_lines(alloc, reader),
-        Some(column) => references_in_column(alloc, column as u32, reader),
+    let Some(column) = column else {
+        return references_in_lines(alloc, reader);
+    };
+    match read_column(alloc, reader, column as u32) {
+        Ok(references) => Ok(references),
+        Err(fault) => Err(no_references(fault)),
     }
 }
 
@@ -142,23 +128,11 @@ fn count_watched<R: Wait + Clock, E: Write>(
     if is_watched {
         let mut meter = SweepMeter::new(rt, err);
         let counted = count(rt, alloc, words, references, &mut meter);
-        meter.clear();
+        clear_line(err);
         counted
     } else {
         count(rt, alloc, words, references, &mut Untold)
     }
-}
-
-/// Writes the table of the lines.
-fn print_table<W: Write>(lines: &[Line], out: &mut W) -> Result<(), Ending>
-    ensures written { OnOk result (Appends (W.contents out.old) (W.contents out.new)
-        (table_text lines.now)) }
-    ensures fault { IfErr result (λ ended. ended ≡ Ending.OutputFailed) }
-{
-    if write_table(lines, out).is_err() || out.flush().is_err() {
-        return Err(Ending::OutputFailed);
-    }
-    Ok(())
 }
 
 /// Counts the cells, writes their table once all are counted, and answers its lines.
@@ -181,10 +155,10 @@ fn tabulate<R: Wait + Clock, W: Write, E: Write>(
         Ok(lines) => lines,
         Err(ending) => return Err(ending),
     };
-    match print_table(&lines, out) {
-        Ok(()) => Ok(lines),
-        Err(ending) => Err(ending),
+    if write_table(&lines, out).is_err() || out.flush().is_err() {
+        return Err(Ending::OutputFailed);
     }
+    Ok(lines)
 }
 
 /// Writes the table of the cells, and then draws its picture where the words ask for one.

@@ -282,7 +282,7 @@ fn progress_is_shown_to_who_watches(rt: HostRuntime) -> Result<(), Fail> {
     assert_eq!(rt; status, 0);
     assert!(rt; out.is_empty());
     let shown = format!(in alloc;
-        "\rmigrated 1 of 2 pages\rmigrated 2 of 2 pages\r{:40}\r",
+        "\rmigrated 1 of 2 pages\rmigrated 2 of 2 pages\r{:70}\r",
         ""
     )?;
     assert_eq!(rt; String::from_utf8(err)?.as_str(), shown.as_str());
