@@ -1,5 +1,6 @@
 -- How a column of records is read, record by record.
-use Rattle.std.proofs.Common.{◌≡◌, refl, sym, ◌∙◌, ap, subst, ℕ, ◌+◌, ◌<◌, ◌≤◌, arith, inl, inr, Bool, true, false, List, [], ◌∷◌, ◌++◌, length, length-append, append_assoc, append-nil, map, Option, Some, None, Result, Ok, Err, is_err}
+use Rattle.std.proofs.Common.{◌≡◌, refl, sym, ◌∙◌, ap, subst, ℕ, ◌+◌, ◌<◌, ◌≤◌, arith, inl, inr, Bool, true, false, List, [], ◌∷◌, ◌++◌, length, length-append, append_assoc, append-nil, map, Option, Some, None, Result, Ok, Err, is_err, nat_eq, eqb-true, ◌&&◌}
+use Rattle.std.proofs.lemmas.Bool.{and_parts}
 use Rattle.std.specs.Prelude.{IfSome}
 use Rattle.csv.specs.Reading.{ReadRecord, Ready, default_config, reader_trim, records, strip_bom}
 use Rattle.csv.specs.declared.reader.Reader.{Reader}
@@ -173,3 +174,19 @@ module _ {R : Type 0} (rem : R → Option (List ℕ)) (column : ℕ) where
   -- the records read so far have a bound
   pub reading-few : (known : Option (List ℕ)) (reader : Reader R) (line : ℕ) (g : Gathered) → Reading known reader line g → line ≤ most_references + 2
   reading-few known reader line g r = omega (arith, r.line_is, r.holds.few, header-short r.header r.is_header)
+
+  -- it trims no field, as before
+  pub takes-plain : (old new : Reader R) (found : Option Said) → TakesRecord rem old new column found → reader_trim old ≡ trim.None → reader_trim new ≡ trim.None
+  takes-plain old new None (fields, read) plain = read.3 ∙ plain
+  takes-plain old new (Some said) (fields, read, is) plain = read.3 ∙ plain
+
+-- ---- which record is a header
+
+pub no-header : (line : ℕ) (said : Said) (is_header : Bool) → is_header ≡ (nat_eq line 1 && is_err said) → is_header ≡ false → line ≡ 1 → is_err said ≡ false
+no-header line said is_header is none first = sym (sym none ∙ is ∙ ap (λ n. nat_eq n 1 && is_err said) first)
+
+pub header-line : (line : ℕ) (said : Said) (is_header : Bool) → is_header ≡ (nat_eq line 1 && is_err said) → is_header ≡ true → line ≡ 1
+header-line line said is_header is there = eqb-true line 1 (and_parts (nat_eq line 1) (is_err said) (sym is ∙ there)).0
+
+pub header-bad : (line : ℕ) (said : Said) (is_header : Bool) → is_header ≡ (nat_eq line 1 && is_err said) → is_header ≡ true → is_err said ≡ true
+header-bad line said is_header is there = (and_parts (nat_eq line 1) (is_err said) (sym is ∙ there)).1

@@ -1,28 +1,31 @@
 -- One number after the other comes in.
-use Rattle.std.proofs.Common.{◌≡◌, refl, sym, ◌∙◌, ap, subst, ℕ, ◌+◌, ◌<◌, ◌≤◌, arith, cond, nat_eq, List, [], ◌∷◌, ◌++◌, length, length-append, append-nil, map, All, Option, Some, None, Result, Ok, Err, inl, inr, HashMap, hash_map_len}
+use Rattle.std.proofs.Common.{◌≡◌, refl, sym, ◌∙◌, ap, subst, ℕ, ◌+◌, ◌<◌, ◌≤◌, arith, cond, nat_eq, List, [], ◌∷◌, ◌++◌, length, length-append, append-nil, map, All, Option, Some, None, Result, Ok, Err, ◌⊎◌, inl, inr, HashMap, hash_map_len}
 use Rattle.std.specs.HashMap.{get}
+use Rattle.bp_page.specs.declared.refusals.Refusal.{Refusal}
+use Rattle.bp_page.specs.declared.refusals.Refusal.TheVariants as refusal
 use Rattle.bp_sweep.specs.declared.dense.Gathered.{Gathered}
 use Rattle.bp_sweep.specs.declared.faults.ReferenceFault.{ReferenceFault}
-use Rattle.bp_sweep.specs.Dense.{AreDense, ArePages, ComesNext, IsIndex, Pages, most_numbers, page_of}
+use Rattle.bp_sweep.specs.Dense.{AreDense, ArePages, ComesNext, IsIndex, PlacesNumber, most_numbers, page_of}
 use Rattle.bp_sweep.specs.Dense.AreDense.{one_more}
-use Rattle.bp_sweep.specs.Dense.ComesNext as next
-use Rattle.bp_sweep.specs.References.{Answers, AreOf, Said, StopsAt, most_references}
+use Rattle.bp_sweep.specs.Dense.ComesNext.{again, first}
+use Rattle.bp_sweep.specs.References.{Answers, IsFaulty, IsOutside, Said, most_references}
+use Rattle.bp_sweep.specs.References.IsFaulty.{too_long, no_number, too_many}
 use Rattle.bp_sweep.specs.Gathering.{Gathers, Holds, IsGathered, pages_gathered}
-use Rattle.bp_sweep.proofs.Dense.{dense-below, dense-count}
+use Rattle.bp_sweep.proofs.DenseNumbers.{dense-below, dense-count}
 
 -- ---- the map
 
 module _ {S : Type 0} (old new : HashMap ℕ ℕ S) (n page : ℕ) (seen : List ℕ) (index : IsIndex old seen) where
   -- a number that came before
   pub finds : get nat_eq old n ≡ Some page → ComesNext n seen page seen
-  finds found = next.again (sym (index.pages n) ∙ found)
+  finds found = again (sym (index.pages n) ∙ found)
 
   pub misses : get nat_eq old n ≡ None → page_of n seen ≡ None
   misses found = sym (index.pages n) ∙ found
 
   -- a number that is new
   pub adds : get nat_eq old n ≡ None → page ≡ hash_map_len old → ComesNext n seen page (n ∷ seen)
-  adds found is = subst (λ p. ComesNext n seen p (n ∷ seen)) (sym (is ∙ index.count)) (next.first (misses found))
+  adds found is = subst (λ p. ComesNext n seen p (n ∷ seen)) (sym (is ∙ index.count)) (first (misses found))
 
   pub index-more : page ≡ hash_map_len old → page < most_numbers → ((q : ℕ) → get nat_eq new q ≡ cond (nat_eq n q) (Some page) (get nat_eq old q)) → hash_map_len new ≡ hash_map_len old + 1 → IsIndex new (n ∷ seen)
   index-more is below updates more = record {
@@ -35,6 +38,25 @@ module _ {S : Type 0} (old new : HashMap ℕ ℕ S) (n page : ℕ) (seen : List 
 
 pub holds-count : (g : Gathered) (numbers seen : List ℕ) → Holds g numbers seen → length g.pages.items ≡ length numbers
 holds-count g numbers seen holds = dense-count numbers g.pages.items seen holds.dense
+
+-- a number has no page
+pub place-fails : {S : Type 0} (line n : ℕ) (numbers seen : List ℕ) (said : Said) (why : Refusal) (places : HashMap ℕ ℕ S) (fault : ReferenceFault) → length numbers < most_references → said ≡ Ok n → PlacesNumber n seen (Err why) places
+    → fault.line ≡ line → fault.refusal ≡ why → IsOutside fault ⊎ ((fault.line ≡ line) × IsFaulty (length numbers) seen said fault.refusal)
+place-fails line n numbers seen said refusal.BadGeometry places fault few is placed at because =
+    inr (at, subst (λ s. IsFaulty (length numbers) seen s fault.refusal) (sym is) (subst (λ r. IsFaulty (length numbers) seen (Ok n) r) (sym because) (too_many few placed.0 placed.1)))
+place-fails line n numbers seen said refusal.OutOfMemory places fault few is placed at because = inl (inr because)
+place-fails line n numbers seen said _ places fault few is placed at because = absurd placed
+
+-- a line says no number
+pub says-none : (line : ℕ) (numbers seen : List ℕ) (said : Said) (why : Refusal) (fault : ReferenceFault) → length numbers < most_references → said ≡ Err why → fault.line ≡ line → fault.refusal ≡ why
+    → IsOutside fault ⊎ ((fault.line ≡ line) × IsFaulty (length numbers) seen said fault.refusal)
+says-none line numbers seen said why fault few is at because =
+    inr (at, subst (λ s. IsFaulty (length numbers) seen s fault.refusal) (sym is) (subst (λ r. IsFaulty (length numbers) seen (Err why) r) (sym because) (no_number few)))
+
+-- a line after the most references
+pub says-too-much : (line : ℕ) (numbers seen : List ℕ) (said : Said) (fault : ReferenceFault) → most_references ≤ length numbers → fault.line ≡ line → fault.refusal ≡ refusal.TooLong
+    → IsOutside fault ⊎ ((fault.line ≡ line) × IsFaulty (length numbers) seen said fault.refusal)
+says-too-much line numbers seen said fault many at because = inr (at, subst (λ r. IsFaulty (length numbers) seen said r) (sym because) (too_long many))
 
 -- a number more
 pub holds-more : (old new : Gathered) (numbers seen newer : List ℕ) (n page : ℕ) → Holds old numbers seen → length old.pages.items < most_references → ComesNext n seen page newer → IsIndex new.places newer

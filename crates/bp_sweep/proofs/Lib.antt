@@ -1,5 +1,4 @@
-pub mod Lists
-pub mod Dense
+pub mod DenseNumbers
 pub mod Gathering
 pub mod Lines
 pub mod Columns

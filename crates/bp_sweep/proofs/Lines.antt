@@ -1,9 +1,10 @@
 -- How a list of references is read, line by line.
 use Rattle.std.proofs.Common.{◌≡◌, refl, sym, ◌∙◌, ap, subst, ℕ, zero, suc, ◌+◌, ◌<◌, ◌≤◌, ◌==◌, if◌then◌else◌, arith, inl, inr, Bool, true, false, List, [], ◌∷◌, ◌++◌, length, length-append, map, Option, Some, None, Result, Ok, Err}
-use Rattle.std.specs.Prelude.{IfSome}
-use Rattle.std.specs.Io.BufRead.{drop_through, DropsThrough}
+use Rattle.std.specs.Prelude.{IfSome, IsErrAnd}
+use Rattle.std.specs.Io.BufRead.{drop_through, strip_last, take_through, DropsThrough}
 use Rattle.bp_sweep.specs.declared.dense.Gathered.{Gathered}
 use Rattle.bp_sweep.specs.declared.faults.ReferenceFault.{ReferenceFault}
+use Rattle.bp_sweep.specs.Dense.{Pages}
 use Rattle.bp_sweep.specs.References.{IsOutside, Said, most_references, text_said}
 use Rattle.bp_sweep.specs.Gathering.{Gathers, Holds, pages_gathered}
 use Rattle.bp_sweep.specs.Lines.{FindsLine, IsList, after_line, line_in, lines_from, lines_said}
@@ -14,11 +15,11 @@ use Rattle.bp_sweep.proofs.Gathering.{said-more, gathers-all, gathers-fault}
 -- what follows a line is no longer than the text
 after-shorter : (text : List ℕ) → length (drop_through 10 text) ≤ length text
 after-shorter [] = omega arith
-after-shorter (x ∷ xs) = go (x == 10)
+after-shorter (x ∷ xs) = go (after-shorter xs) (x == 10)
   where
-    go : (b : Bool) → length (if b then xs else drop_through 10 xs) ≤ length (x ∷ xs)
-    go true = omega arith
-    go false = omega (arith, after-shorter xs)
+    go : length (drop_through 10 xs) ≤ length xs → (b : Bool) → length (if b then xs else drop_through 10 xs) ≤ length (x ∷ xs)
+    go shorter true = omega arith
+    go shorter false = omega (arith, shorter)
 
 -- a text's lines are the first, and then those of what follows it
 lines_from-next : (fuel : ℕ) (text : List ℕ) → 0 < length text → length text < fuel → (left : ℕ) × (length (after_line text) < left) × (lines_from fuel text ≡ line_in text ∷ lines_from left (after_line text))
@@ -119,3 +120,19 @@ reading-gathered old now line g r = (r.numbers, r.seen, r.holds)
 -- the lines read so far have a bound
 pub reading-few : (old now : Option (List ℕ)) (line : ℕ) (g : Gathered) → Reading old now line g → line ≤ most_references + 1
 reading-few old now line g r = omega (arith, r.line_is, r.holds.few)
+
+-- ---- a line
+
+some-text : (read text : List ℕ) → read ≡ take_through 10 text → 0 < length read → 0 < length text
+some-text read [] is some = let none = ap length is in omega arith
+some-text read (x ∷ text) is some = omega arith
+
+-- what a line says that was read whole
+pub line-found : (known : Option (List ℕ)) (read : List ℕ) (said : Said) → IfSome known (λ text. read ≡ take_through 10 text) → 0 < length read → said ≡ text_said (strip_last 13 (strip_last 10 read)) → IfSome known (λ text. FindsLine text (Ok (Some said)))
+line-found None read said is some says = tt
+line-found (Some text) read said is some says = (some-text read text is some, says ∙ ap (λ r. text_said (strip_last 13 (strip_last 10 r))) is)
+
+-- what `?` gives where there is a fault
+pub fault-is : (r : Result Pages ReferenceFault) (fault : ReferenceFault) → IsErrAnd r (λ e. e ≡ fault) → r ≡ Err fault
+fault-is (Ok pages) fault is = absurd is
+fault-is (Err e) fault is = ap Err is

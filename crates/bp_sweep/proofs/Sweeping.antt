@@ -1,18 +1,18 @@
 -- One cell after the other, and the plans of a table.
-use Rattle.std.proofs.Common.{◌≡◌, refl, sym, ◌∙◌, ap, subst, ℕ, ◌+◌, ◌^◌, ◌<◌, ◌≤◌, max, arith, suc, List, [], ◌∷◌, ◌++◌, append_assoc, length, length-take, take, drop, get_or, map}
-use Rattle.std.proofs.lemmas.List.{append-nil, take_more}
+use Rattle.std.proofs.Common.{◌≡◌, refl, sym, ◌∙◌, ap, subst, ℕ, ◌+◌, ◌^◌, ◌<◌, ◌≤◌, max, arith, suc, List, [], ◌∷◌, ◌++◌, append_assoc, length, length-take, take, drop, drop-cons, get_or, map}
+use Rattle.std.proofs.lemmas.List.{append-nil, take_more, take-append-drop}
 use Rattle.bp_page.specs.declared.limits.Geometry.{Geometry}
 use Rattle.bp_page.specs.declared.refusals.Refusal.{Refusal}
 use Rattle.bp_lruk.specs.declared.settings.Settings.{Settings}
 use Rattle.bp_table.specs.declared.lines.Line.{Line}
 use Rattle.bp_trail.specs.Parameters.{Parameters}
 use Rattle.bp_sweep.specs.declared.cells.Plan.{Plan}
+use Rattle.bp_sweep.specs.declared.cells.Policy.TheVariants.{LruK}
 use Rattle.bp_sweep.specs.declared.cells.CellFault.{CellFault}
 use Rattle.bp_sweep.specs.Cells.{cell_parameters, pool_parameters}
 use Rattle.bp_sweep.specs.Dense.{Pages}
 use Rattle.bp_sweep.specs.Sweeping.{AreCells, IsCell, PlanRefused, SweepRefused, plans_of, plans_with, pool_with}
 use Rattle.bp_sweep.specs.Sweeping.AreCells.{one_more}
-use Rattle.bp_sweep.proofs.Lists.{take-next, cut-at}
 
 -- ---- cells
 
@@ -30,21 +30,25 @@ pool-is g s frames different pages size retained = λ i. record {
 }
 
 -- one cell more
-pub cell-next : (r : Pages) (plans : List Plan) (k : ℕ) (plan : Plan) (lines : List Line) (line : Line) → k < length plans → plan ≡ get_or plans k plan → AreCells r (take k plans) lines → IsCell r plan line → AreCells r (take (k + 1) plans) (lines ++ line ∷ [])
-cell-next r plans k plan lines line within is so_far cell = subst (λ ps. AreCells r ps (lines ++ line ∷ [])) (sym (take-next plans k plan within is)) (one_more plan so_far cell)
+pub cell-next : (r : Pages) (plans : List Plan) (k : ℕ) (d : Plan) (lines : List Line) (line : Line) → k < length plans → AreCells r (take k plans) lines → IsCell r (get_or plans k d) line → AreCells r (take (k + 1) plans) (lines ++ line ∷ [])
+cell-next r plans k d lines line within so_far cell = subst (λ ps. AreCells r ps (lines ++ line ∷ [])) (sym (take_more plans k d within)) (one_more (get_or plans k d) so_far cell)
 
 -- a cell that was refused
-pub cell_refuses : (r : Pages) (plans : List Plan) (k : ℕ) (plan : Plan) (lines : List Line) (fault : CellFault) → k < length plans → plan ≡ get_or plans k plan → AreCells r (take k plans) lines → fault.cell ≡ k + 1 → PlanRefused plan fault.refusal → SweepRefused r plans fault
-cell_refuses r plans k plan lines fault within is so_far at refused = record {
+pub cell_refuses : (r : Pages) (plans : List Plan) (k : ℕ) (d : Plan) (lines : List Line) (fault : CellFault) → k < length plans → AreCells r (take k plans) lines → fault.cell ≡ k + 1 → PlanRefused (get_or plans k d) fault.refusal → SweepRefused r plans fault
+cell_refuses r plans k d lines fault within so_far at refused = record {
   before = take k plans;
-  plan = plan;
+  plan = get_or plans k d;
   after = drop (suc k) plans;
-  plans_are = cut-at plans k plan within is;
+  plans_are = sym (take-append-drop k plans) ∙ ap (λ ps. take k plans ++ ps) (drop-cons plans k d within);
   lines = lines;
   counted = so_far;
   cell_is = omega (arith, at, within, length-take k plans);
   refused = refused;
 }
+
+-- a plan where there is none
+abbrev pub no_plan : Plan
+no_plan = record { frames = 0; policy = LruK 0 0 }
 
 -- ---- the plans of a table
 

@@ -1,5 +1,5 @@
 -- The references of a list, of which each line or record says a number, or why it says none.
-use Rattle.std.specs.Prelude.{◌≡◌, ◌⊎◌, ℕ, ◌+◌, ◌<◌, ◌≤◌, List, ◌∷◌, ◌++◌, map, length, Option, Some, None, Result, Ok, Err}
+use Rattle.std.specs.Prelude.{◌≡◌, ◌⊎◌, ℕ, ◌+◌, ◌<◌, ◌≤◌, List, ◌∷◌, ◌++◌, map, length, ok_or, None, Result, Ok, Err}
 use Rattle.bp_page.specs.declared.refusals.Refusal.{Refusal}
 use Rattle.bp_page.specs.declared.refusals.Refusal.TheVariants.{BadGeometry, BadNumber, OutOfMemory, ReadFault, TooLong}
 use Rattle.bp_trace.specs.Numbers.{number_in}
@@ -15,12 +15,8 @@ abbrev pub Said : Type 0
 Said = Result ℕ Refusal
 
 -- what a text says that is to be a number
-abbrev pub said_by : Option ℕ → Said
-said_by (Some n) = Ok n
-said_by None = Err BadNumber
-
 abbrev pub text_said : List ℕ → Said
-text_said text = said_by (number_in text)
+text_said text = ok_or (number_in text) BadNumber
 
 -- the reader failed, or memory was refused
 abbrev pub IsOutside : ReferenceFault → Type 0

@@ -15,13 +15,13 @@ use std::alloc::Global;
 use std::io::Read;
 
 /// What a record says in a column, from 1: a number, or why it says none.
-fn record_said(record: &ByteRecord, column: u32) -> Result<u64, Refusal>
-    ensures { result ≡ record_said column (fields_of record.now) }
+fn record_said(row: &ByteRecord, column: u32) -> Result<u64, Refusal>
+    ensures { result ≡ record_said column (fields_of row.now) }
 {
     if column == 0 {
         return Err(Refusal::BadShape);
     }
-    match record.get(column as usize - 1) {
+    match row.get(column as usize - 1) {
         None => Err(Refusal::BadShape),
         Some(field) => parse_number(field).ok_or(Refusal::BadNumber),
     }
@@ -34,10 +34,10 @@ fn is_header(line: u64, said: &Result<u64, Refusal>) -> bool
     line == 1 && said.is_err()
 }
 
-/// What the record with this number says in a column, which the reader comes to now. `record` is used for its bytes.
+/// What the record with this number says in a column, which the reader comes to now. `row` is used for its bytes.
 fn next_record<R: Read>(
     records: &mut Reader<R>,
-    record: &mut ByteRecord,
+    row: &mut ByteRecord,
     column: u32,
     line: u64,
 ) -> Result<Option<Result<u64, Refusal>>, ReferenceFault>
@@ -47,9 +47,9 @@ fn next_record<R: Read>(
         (λ _. took_first records.new ≡ true) }
     ensures fault { IfErr result IsOutside }
 {
-    match records.read_byte_record(record) {
+    match records.read_byte_record(row) {
         Ok(false) => Ok(None),
-        Ok(true) => Ok(Some(record_said(record, column))),
+        Ok(true) => Ok(Some(record_said(row, column))),
         Err(error) => match error.into_kind() {
             ErrorKind::OutOfMemory => Err(ReferenceFault::new(line, Refusal::OutOfMemory)),
             _ => Err(ReferenceFault::new(line, Refusal::ReadFault)),
@@ -77,10 +77,10 @@ pub fn read_column<R: Read + Drop>(
         .has_headers(false)
         .flexible(true)
         .from_reader(alloc, reader);
-    let mut record = ByteRecord::new(alloc);
+    let mut row = ByteRecord::new(alloc);
     let mut gathered = Gathered::new(alloc);
     for line in 1..MAX_REFERENCES as u64 + 3 {
-        match next_record(&mut records, &mut record, column, line)? {
+        match next_record(&mut records, &mut row, column, line)? {
             None => return Ok(gathered.into_references()),
             Some(said) => {
                 if !is_header(line, &said) {

@@ -1,6 +1,6 @@
 use Rattle.std.proofs.Common.{◌≡◌, sym, ◌∙◌, ap, subst, slice_index, Some}
 use Rattle.bp_sweep.specs.Dense.{page_of}
-use Rattle.bp_sweep.proofs.Dense.{dense-at, dense-below, dense-count, page-one}
+use Rattle.bp_sweep.proofs.DenseNumbers.{dense-at, dense-below, dense-count, dense-each, page-one}
 use Rattle.bp_sweep.proofs.laws.one_page_a_number.Goals as goal
 
 pub returns-clause-same : goal.returns-clause-same
@@ -16,3 +16,6 @@ returns-clause-count c = dense-count
 
 pub returns-clause-below : goal.returns-clause-below
 returns-clause-below c = dense-below
+
+pub returns-clause-each : goal.returns-clause-each
+returns-clause-each c = dense-each
