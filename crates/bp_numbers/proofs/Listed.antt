@@ -1,6 +1,6 @@
 -- The numbers that a list says are within its limits; there is one, and there are not too many.
 use Rattle.std.proofs.Common.{◌≡◌, ℕ, zero, suc, ◌*◌, ◌≤◌, ◌==◌, ◌&&◌, nat_le, nat_lt, if◌then◌else◌, true, false, Bool, refl, sym, subst, List, [], ◌∷◌, length, All, Option, Some, None, arith}
-use Rattle.std.proofs.lemmas.Bool.{leb-true, ltb-false, ltb-true}
+use Rattle.std.proofs.lemmas.Bool.{leb-true, ltb-true}
 use Rattle.std.proofs.lemmas.List.Elements.{All-cons, All-nil}
 use Rattle.std.proofs.lemmas.List.Splits.{length-slice_split}
 use Rattle.bp_trace.specs.Numbers.{number_in}
@@ -57,6 +57,7 @@ commas_are P low high fits text numbers e = go (nat_le (length (parts_of text)) 
 
 doubled_are : (P : ℕ → Type 0) (low high last : ℕ) → ((n : ℕ) → low ≤ n → n ≤ high → P n) → low ≤ last → last ≤ high → (most first : ℕ) → low ≤ first
     → All P (doubled most first last)
+unfolding doubled
 doubled_are P low high last fits least within zero first some = All-nil P
 doubled_are P low high last fits least within (suc most) first some =
     go (nat_lt first last) refl (doubled_are P low high last fits least within most (first * 2) (omega (arith, some)))
@@ -68,6 +69,7 @@ doubled_are P low high last fits least within (suc most) first some =
     go false is later = All-cons P last [] (fits last least within) (All-nil P)
 
 some_doubled : (most first last : ℕ) → 1 ≤ length (doubled (suc most) first last)
+unfolding doubled
 some_doubled most first last = go (nat_lt first last)
   where
     go : (b : Bool) → 1 ≤ length (if b then first ∷ doubled most (first * 2) last else last ∷ [])

@@ -58,7 +58,7 @@ ends_of text = option_map_or (λ p. next_dot p.0 (cut p.1)) (cut text) None
 
 -- the numbers from the first on, each the double of the one before, as long as they are below the last, and then the
 -- last: at most so many
-abbrev pub doubled : ℕ → ℕ → ℕ → List ℕ
+unfoldable pub doubled : ℕ → ℕ → ℕ → List ℕ
 doubled zero first last = []
 doubled (suc most) first last =
     if nat_lt first last then first ∷ doubled most (first * 2) last else last ∷ []

@@ -20,7 +20,7 @@ use Rattle.clap.specs.declared.error.Error.{Error}
 use Rattle.clap.specs.declared.error.kind.ErrorKind.{ErrorKind}
 use Rattle.clap.specs.declared.error.kind.ErrorKind.TheVariants.{InvalidValue, MissingRequiredArgument}
 use Rattle.clap.proofs.WalkLemmas.{both}
-use Rattle.bp_words.specs.Command.{bpool_app, number_option, optional_number, required_number, positional as positional_rule, run_shape, migrate_shape, sweep_shape, explain_shape}
+use Rattle.bp_words.specs.Command.{bpool_app, number_option, bare_number, positional as positional_rule, run_shape, migrate_shape, sweep_shape, explain_shape}
 use Rattle.bp_words.specs.declared.words.Order.{Order}
 use Rattle.bp_words.specs.Words.{IsInLimits, Told, ◌>>=◌, are_same, draws_over, explanation_at, fault_in, flag_at, format_of, frames_at, ks_at, names_sweep, number_at, order_at, naming_fault, told_by_rows, trace_of}
 use Rattle.bp_words.specs.Words.TraceAt.{from_stdin, at_path}
@@ -230,7 +230,7 @@ abbrev new_rule : Rule
 new_rule = with_index 2 (filled_rule (positional_rule (codes "new")))
 
 abbrev size_rule : Rule
-size_rule = filled_rule (required_number (codes "page-size") 16 65536)
+size_rule = filled_rule (bare_number (codes "page-size") true 16 65536)
 
 -- the words that a migration needs are there
 record AreGiven (g h k : Bool) : Type 0 where
@@ -276,7 +276,7 @@ abbrev references_rule : Rule
 references_rule = with_index 1 (filled_rule (positional_rule (codes "references")))
 
 abbrev column_rule : Rule
-column_rule = filled_rule (optional_number (codes "column") 1 65536)
+column_rule = filled_rule (bare_number (codes "column") false 1 65536)
 
 no_row : (id : Text) (rows : List Row) → has_row id rows ≡ false → find (λ r. bytes_eq r.id id) rows ≡ None
 no_row id [] e = refl

@@ -71,8 +71,8 @@ abbrev pub asked_in : Option (Text × List Row) → Option Asked
 asked_in None = None
 asked_in (Some met) =
     if bytes_eq met.0 (codes "run") then option_map a_run (told_by_rows met.1)
-    else if bytes_eq met.0 (codes "migrate") then option_map a_migration (migration_by_rows met.1)
     else if bytes_eq met.0 (codes "sweep") then option_map a_sweep (sweep_by_rows met.1)
+    else if bytes_eq met.0 (codes "migrate") then option_map a_migration (migration_by_rows met.1)
     else if bytes_eq met.0 (codes "explain") then option_map an_explanation (explanation_at met.1)
     else None
 

@@ -1,5 +1,5 @@
 -- The command line as clap reads it: what each word and option takes, and its default.
-use Rattle.std.specs.Prelude.{ℕ, true, List, [], ◌∷◌, codes, Some}
+use Rattle.std.specs.Prelude.{ℕ, Bool, false, true, List, [], ◌∷◌, codes, Some}
 use Rattle.clap.specs.Words.{App, Rule, Shape, Text, new_app, new_rule, with_subcommand}
 use Rattle.clap.specs.Simple.{new_shape}
 use Rattle.clap.specs.declared.builder.action.ArgAction.TheVariants.{SetTrue}
@@ -14,21 +14,14 @@ abbrev pub number_option : Text → ℕ → ℕ → Text → Rule
 number_option id low high default =
     record (new_rule id) { long = Some id; value_names = 1; parser = Some (parser.Unsigned low high); defaults = default ∷ [] }
 
--- an option that must be there, and takes a whole number from low to high
-abbrev pub required_number : Text → ℕ → ℕ → Rule
-required_number id low high = record (new_rule id) { long = Some id; value_names = 1; required = true; parser = Some (parser.Unsigned low high) }
+-- an option without a default that takes a whole number from low to high
+abbrev pub bare_number : Text → Bool → ℕ → ℕ → Rule
+bare_number id must low high =
+    record (new_rule id) { long = Some id; value_names = 1; required = must; parser = Some (parser.Unsigned low high) }
 
--- an option that must be there, and takes any word
-abbrev pub required_word : Text → Rule
-required_word id = record (new_rule id) { long = Some id; value_names = 1; required = true }
-
--- an option that takes any word, and has no default
-abbrev pub optional_word : Text → Rule
-optional_word id = record (new_rule id) { long = Some id; value_names = 1 }
-
--- an option that takes a whole number from low to high, and has no default
-abbrev pub optional_number : Text → ℕ → ℕ → Rule
-optional_number id low high = record (new_rule id) { long = Some id; value_names = 1; parser = Some (parser.Unsigned low high) }
+-- and one that takes any word
+abbrev pub bare_word : Text → Bool → Rule
+bare_word id must = record (new_rule id) { long = Some id; value_names = 1; required = must }
 
 -- an option without a value
 abbrev pub flag : Text → Rule
@@ -58,18 +51,18 @@ run_shape = record (new_shape (codes "run")) { rules = run_rules }
 abbrev pub sweep_rules : List Rule
 sweep_rules =
     positional (codes "references")
-    ∷ required_word (codes "frames")
+    ∷ bare_word (codes "frames") true
     ∷ word_option (codes "k") (codes "1,2")
     ∷ number_option (codes "correlated") 0 4611686018427387904 (codes "0")
-    ∷ optional_number (codes "column") 1 65536
-    ∷ optional_word (codes "svg")
+    ∷ bare_number (codes "column") false 1 65536
+    ∷ bare_word (codes "svg") false
     ∷ []
 
 abbrev pub sweep_shape : Shape
 sweep_shape = record (new_shape (codes "sweep")) { rules = sweep_rules }
 
 abbrev pub migrate_rules : List Rule
-migrate_rules = positional (codes "old") ∷ positional (codes "new") ∷ required_number (codes "page-size") 16 65536 ∷ []
+migrate_rules = positional (codes "old") ∷ positional (codes "new") ∷ bare_number (codes "page-size") true 16 65536 ∷ []
 
 abbrev pub migrate_shape : Shape
 migrate_shape = record (new_shape (codes "migrate")) { rules = migrate_rules }

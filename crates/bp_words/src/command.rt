@@ -170,8 +170,8 @@ which knows what comes. K 1 is LRU. FILE is SVG, which a browser shows, and is o
 Status 0: all lines are printed, and FILE is made. Status 2: one line on standard error says why
 there is no table, or only a part of it, or no picture.";
 
-/// How many frames a pool may have.
-fn frame_counts<'a>() -> ValueParser<'a>
+/// How many frames a pool may have, and which field of a record may be named.
+fn up_to_65536<'a>() -> ValueParser<'a>
     ensures { result ≡ ValueParser.Unsigned 1 65536 }
 {
     value_parser!(usize).range(1..=65_536)
@@ -196,13 +196,6 @@ fn versions<'a>() -> ValueParser<'a>
     ensures { result ≡ ValueParser.Unsigned 1 2 }
 {
     value_parser!(usize).range(1..=2)
-}
-
-/// Which field of a record may be named.
-fn columns<'a>() -> ValueParser<'a>
-    ensures { result ≡ ValueParser.Unsigned 1 65536 }
-{
-    value_parser!(usize).range(1..=65_536)
 }
 
 /// How long a period may be.
@@ -243,60 +236,35 @@ fn number_option<'a>(
         .help(help)
 }
 
-/// An option that takes a number and must be there.
-fn required_number<'a>(
+/// An option without a default that takes a number.
+fn bare_number<'a>(
     alloc: Global,
     id: &'a str,
+    must: bool,
     numbers: ValueParser<'a>,
     help: &'a str,
 ) -> Arg<'a>
     ensures rule { (low high : _) → numbers.entry ≡ ValueParser.Unsigned low high →
-        rule_of result ≡ spec.required_number id.entry.now low high }
+        rule_of result ≡ spec.bare_number id.entry.now must low high }
     ensures local { result.global ≡ false }
 {
     Arg::new(alloc, id)
         .long(id)
         .value_name("N")
-        .required(true)
+        .required(must)
         .value_parser(numbers)
         .help(help)
 }
 
-/// An option that takes a word and must be there. What the word names is looked at later.
-fn required_word<'a>(alloc: Global, id: &'a str, shown: &'a str, help: &'a str) -> Arg<'a>
-    ensures rule { rule_of result ≡ spec.required_word id.entry.now }
+/// An option without a default that takes a word. What the word names is looked at later.
+fn bare_word<'a>(alloc: Global, id: &'a str, must: bool, shown: &'a str, help: &'a str) -> Arg<'a>
+    ensures rule { rule_of result ≡ spec.bare_word id.entry.now must }
     ensures local { result.global ≡ false }
 {
     Arg::new(alloc, id)
         .long(id)
         .value_name(shown)
-        .required(true)
-        .help(help)
-}
-
-/// An option that takes a word, and has no default.
-fn optional_word<'a>(alloc: Global, id: &'a str, shown: &'a str, help: &'a str) -> Arg<'a>
-    ensures rule { rule_of result ≡ spec.optional_word id.entry.now }
-    ensures local { result.global ≡ false }
-{
-    Arg::new(alloc, id).long(id).value_name(shown).help(help)
-}
-
-/// An option that takes a number, and has no default.
-fn optional_number<'a>(
-    alloc: Global,
-    id: &'a str,
-    numbers: ValueParser<'a>,
-    help: &'a str,
-) -> Arg<'a>
-    ensures rule { (low high : _) → numbers.entry ≡ ValueParser.Unsigned low high →
-        rule_of result ≡ spec.optional_number id.entry.now low high }
-    ensures local { result.global ≡ false }
-{
-    Arg::new(alloc, id)
-        .long(id)
-        .value_name("N")
-        .value_parser(numbers)
+        .required(must)
         .help(help)
 }
 
@@ -337,7 +305,7 @@ fn run_arguments<'a>(alloc: Global) -> Result<Vec<Arg<'a>>, AllocError>
     let arguments = vec![in alloc;
         positional(alloc, "trace", "TRACE", TRACE),
         positional(alloc, "page-file", "PAGEFILE", PAGE_FILE),
-        number_option(alloc, "frames", frame_counts(), "8", FRAMES),
+        number_option(alloc, "frames", up_to_65536(), "8", FRAMES),
         number_option(alloc, "k", stamp_counts(), "2", STAMPS),
         number_option(alloc, "correlated", periods(), "0", CORRELATED),
         number_option(alloc, "retained", periods(), "1000", RETAINED),
@@ -370,7 +338,7 @@ fn migrate_arguments<'a>(alloc: Global) -> Result<Vec<Arg<'a>>, AllocError>
     let arguments = vec![in alloc;
         positional(alloc, "old", "OLD", OLD),
         positional(alloc, "new", "NEW", NEW),
-        required_number(alloc, "page-size", page_sizes(), PAGE_SIZE),
+        bare_number(alloc, "page-size", true, page_sizes(), PAGE_SIZE),
     ]?;
     Ok(arguments)
 }
@@ -395,11 +363,11 @@ fn sweep_arguments<'a>(alloc: Global) -> Result<Vec<Arg<'a>>, AllocError>
 {
     let arguments = vec![in alloc;
         positional(alloc, "references", "REFERENCES", REFERENCES),
-        required_word(alloc, "frames", "LIST", SWEPT_FRAMES),
+        bare_word(alloc, "frames", true, "LIST", SWEPT_FRAMES),
         word_option(alloc, "k", "LIST", "1,2", SWEPT_STAMPS),
         number_option(alloc, "correlated", periods(), "0", APART),
-        optional_number(alloc, "column", columns(), COLUMN),
-        optional_word(alloc, "svg", "FILE", SVG),
+        bare_number(alloc, "column", false, up_to_65536(), COLUMN),
+        bare_word(alloc, "svg", false, "FILE", SVG),
     ]?;
     Ok(arguments)
 }

@@ -4,7 +4,7 @@ ghost use Rattle.clap.specs.Walk.{texts};
 ghost use Rattle.clap.specs.Values.{kind_of};
 ghost use Rattle.clap.specs.Words.{first_of, found_of, rows_of, subcommand_rows_of, FailsBy};
 ghost use Rattle.bp_words.specs.Words.{explanation_at, fault_in, flag_at, format_of, number_at, order_at, order_of};
-ghost use Rattle.bp_words.specs.Words.{draws_over, frames_at, ks_at, list_at};
+ghost use Rattle.bp_words.specs.Words.{draws_over, list_at};
 ghost use Rattle.bp_words.specs.Words.{told_by_rows, told_of};
 ghost use Rattle.bp_words.specs.Words as spec;
 ghost use Rattle.bp_words.specs.Asked.{AreInLimits, asked_by, asked_in, asked_of, migration_by_rows, migration_of};
@@ -212,22 +212,6 @@ fn list_at(
     }
 }
 
-/// The numbers of frames that the matches of a sweep name.
-fn frames_at(alloc: Global, matches: &ArgMatches<'_>) -> Result<Option<Vec<usize>>, AllocError>
-    ensures { IfOk result (λ numbers. option_map (λ v. v.items) numbers
-        ≡ frames_at (rows_of (found_of matches.now))) }
-{
-    list_at(alloc, matches, "frames", 1, MAX_FRAMES)
-}
-
-/// The values of K that the matches of a sweep name.
-fn ks_at(alloc: Global, matches: &ArgMatches<'_>) -> Result<Option<Vec<usize>>, AllocError>
-    ensures { IfOk result (λ numbers. option_map (λ v. v.items) numbers
-        ≡ ks_at (rows_of (found_of matches.now))) }
-{
-    list_at(alloc, matches, "k", 1, MAX_K)
-}
-
 /// Whether the picture of a sweep would go into its references: their words are the same.
 fn draws_over(matches: &ArgMatches<'_>) -> bool
     ensures { result ≡ draws_over (rows_of (found_of matches.now)) }
@@ -319,10 +303,10 @@ fn sweep_words<'a>(
     ensures { IfOk result (λ words. option_map sweep_of words
         ≡ sweep_by_rows (rows_of (found_of matches.now))) }
 {
-    let Some(frames) = frames_at(alloc, matches)? else {
+    let Some(frames) = list_at(alloc, matches, "frames", 1, MAX_FRAMES)? else {
         return Ok(None);
     };
-    let Some(ks) = ks_at(alloc, matches)? else {
+    let Some(ks) = list_at(alloc, matches, "k", 1, MAX_K)? else {
         return Ok(None);
     };
     if draws_over(matches) {
@@ -337,19 +321,30 @@ fn task_in<'a>(alloc: Global, matches: &ArgMatches<'a>) -> Result<Option<Task<'a
         ≡ asked_in (subcommand_rows_of matches.now)) }
 {
     if let Some(run) = matches.subcommand_matches("run") {
-        return Ok(run_words(run).map(Task::Run));
-    }
-    if let Some(migration) = matches.subcommand_matches("migrate") {
-        return Ok(migration_words(migration).map(Task::Migrate));
+        return match run_words(run) {
+            Some(words) => Ok(Some(Task::Run(words))),
+            None => Ok(None),
+        };
     }
     if let Some(sweep) = matches.subcommand_matches("sweep") {
-        let words = sweep_words(alloc, sweep)?;
-        return Ok(words.map(Task::Sweep));
+        return match sweep_words(alloc, sweep)? {
+            Some(words) => Ok(Some(Task::Sweep(words))),
+            None => Ok(None),
+        };
+    }
+    if let Some(migration) = matches.subcommand_matches("migrate") {
+        return match migration_words(migration) {
+            Some(words) => Ok(Some(Task::Migrate(words))),
+            None => Ok(None),
+        };
     }
     let Some(explain) = matches.subcommand_matches("explain") else {
         return Ok(None);
     };
-    Ok(explanation_at(explain).map(Task::Explain))
+    match explanation_at(explain) {
+        Some(text) => Ok(Some(Task::Explain(text))),
+        None => Ok(None),
+    }
 }
 
 /// A fault of an option whose word names nothing.
@@ -371,36 +366,26 @@ fn no_order(alloc: Global, run: &ArgMatches<'_>) -> Result<Error, AllocError>
     invalid(alloc, said.as_str())
 }
 
-/// The fault of a list that says no numbers.
-fn no_list(
-    alloc: Global,
-    sweep: &ArgMatches<'_>,
-    id: &str,
-    high: usize,
-) -> Result<Error, AllocError>
-    ensures { IfOk result (λ e. kind_of e ≡ ErrorKind.InvalidValue) }
-{
-    let word = word_at(sweep, id).unwrap_or("");
-    let said = format!(in alloc;
-        "invalid value '{word}' for '--{id} <LIST>': not 1 to {MAX_NUMBERS} numbers from 1 to {high} with commas, nor FIRST..LAST"
-    )?;
-    invalid(alloc, said.as_str())
-}
-
 /// The fault of a sweep: its frames are no list, or else its K are none, or else its picture goes into its references.
 fn no_sweep(alloc: Global, sweep: &ArgMatches<'_>) -> Result<Error, AllocError>
     ensures { IfOk result (λ e. kind_of e ≡ ErrorKind.InvalidValue) }
 {
-    let Some(_frames) = frames_at(alloc, sweep)? else {
-        return no_list(alloc, sweep, "frames", MAX_FRAMES);
+    let (id, high) = match list_at(alloc, sweep, "frames", 1, MAX_FRAMES)? {
+        Some(_) => ("k", MAX_K),
+        None => ("frames", MAX_FRAMES),
     };
-    let Some(_ks) = ks_at(alloc, sweep)? else {
-        return no_list(alloc, sweep, "k", MAX_K);
+    let word = word_at(sweep, id).unwrap_or("");
+    let said = match numbers_listed(alloc, word, 1, high)? {
+        Some(_) => {
+            let picture = word_at(sweep, "svg").unwrap_or("");
+            format!(in alloc;
+                "invalid value '{picture}' for '--svg <FILE>': it is the word of REFERENCES"
+            )?
+        }
+        None => format!(in alloc;
+            "invalid value '{word}' for '--{id} <LIST>': not 1 to {MAX_NUMBERS} numbers from 1 to {high} with commas, nor FIRST..LAST"
+        )?,
     };
-    let word = word_at(sweep, "svg").unwrap_or("");
-    let said = format!(in alloc;
-        "invalid value '{word}' for '--svg <FILE>': it is the word of REFERENCES"
-    )?;
     invalid(alloc, said.as_str())
 }
 

@@ -1,7 +1,7 @@
 -- Number after number.
-use Rattle.std.proofs.Common.{◌≡◌, ◌∙◌, Bor, List, ℕ, [], Some, ap, sym}
+use Rattle.std.proofs.Common.{◌∙◌, Bor, List, ℕ, [], Some, ap, sym}
 use Rattle.std.proofs.lemmas.List.{append-nil, drop_all}
-use Rattle.bp_numbers.proofs.Listing.{and_then, and_then-none_yet, no_more_at, numbers_of, one_more_at}
+use Rattle.bp_numbers.proofs.Listing.{and_then, and_then-none_yet, numbers_of, one_more_at}
 use Rattle.bp_numbers.proofs.lists.numbers_between.Goals as goal
 
 abbrev no_part : Bor (List ℕ)
@@ -16,7 +16,7 @@ pub loop-part-preserved : goal.loop-part-preserved
 loop-part-preserved c =
     let at = c.loop-part in
     one_more_at c.args.low c.args.high c.in-Some.number at.part-index at.numbers.items c.push.new.self.items c.args.parts.now no_part c.loop-part-test.true
-    (sym c.in-Some.ensures) c.in_ok-push.ensures.items at.invariant
+    (sym c.in-Some.ensures.number) c.in_ok-push.ensures.items at.invariant
 
 pub returns : goal.returns
 returns c =

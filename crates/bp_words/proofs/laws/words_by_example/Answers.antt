@@ -1,5 +1,6 @@
 use Rattle.std.proofs.Common.{refl}
 use Rattle.clap.proofs.OnLiterals.{clap_on_literals}
+use Rattle.bp_numbers.specs.Lists.{doubled}
 use Rattle.bp_trace.specs.Numbers.{digits_in, number_in}
 use Rattle.bp_words.proofs.laws.words_by_example.Goals as goal
 
@@ -44,11 +45,11 @@ unfolding clap_on_literals
 returns-clause-help c = refl
 
 pub returns-clause-sweep : goal.returns-clause-sweep
-unfolding clap_on_literals number_in digits_in
+unfolding clap_on_literals number_in digits_in doubled
 returns-clause-sweep c = refl
 
 pub returns-clause-sweep_all : goal.returns-clause-sweep_all
-unfolding clap_on_literals number_in digits_in
+unfolding clap_on_literals number_in digits_in doubled
 returns-clause-sweep_all c = refl
 
 pub returns-clause-empty_part : goal.returns-clause-empty_part
