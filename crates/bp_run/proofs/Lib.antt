@@ -1,6 +1,8 @@
+pub mod Drawn
 pub mod Naming
 pub mod Opened
 pub mod Splitting
 pub mod Stopping
+pub mod Tabulating
 pub mod Threads
 pub mod Working

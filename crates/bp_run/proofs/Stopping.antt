@@ -1,5 +1,5 @@
 -- How a run ends without a report.
-use Rattle.std.proofs.Common.{◌≡◌, ◌∙◌, ◌⊎◌, inl, inr, refl, sym, ap, ℕ, zero, suc, ◌+◌, ◌*◌, ◌<◌, min, arith, All, Bool, true, false, List, [], ◌∷◌, length, Option, Some, None, Result, Ok, Err}
+use Rattle.std.proofs.Common.{◌≡◌, ◌∙◌, ◌⊎◌, inl, inr, refl, sym, ap, subst, ℕ, zero, suc, ◌+◌, ◌*◌, ◌<◌, min, arith, All, Bool, true, false, List, [], ◌∷◌, length, Option, Some, None, Result, Ok, Err}
 use Rattle.std.proofs.lemmas.Bool.{eqb-true}
 use Rattle.std.specs.Prelude.{if◌then◌else◌}
 use Rattle.clap.specs.Kinds.{IsAmong, Kinds}
@@ -19,8 +19,9 @@ use Rattle.bp_trace.specs.InRange.{IsInRange}
 use Rattle.bp_device.specs.Work.{Reads, Writes}
 use Rattle.bp_core.specs.Outcomes.{IsFit, IsFitUpTo, NewOutcome}
 use Rattle.bp_clients.specs.Runs.{RunAnswers}
-use Rattle.bp_words.specs.Asked.{Asked, Migration, asked_by, asked_in}
-use Rattle.bp_words.specs.Asked.Asked.{a_run, a_migration, an_explanation}
+use Rattle.bp_sweep.specs.Dense.{Pages}
+use Rattle.bp_words.specs.Asked.{Asked, Migration, Sweep, asked_by, asked_in}
+use Rattle.bp_words.specs.Asked.Asked.{a_run, a_migration, a_sweep, an_explanation}
 use Rattle.bp_words.specs.Command.{bpool_app}
 use Rattle.bp_words.specs.Decision.{AsksForAnswer, AsksForHelp, IsRunnable}
 use Rattle.bp_words.specs.Ending.{is_help}
@@ -33,7 +34,8 @@ use Rattle.bp_run.specs.Opening.{ending_of}
 use Rattle.bp_run.specs.Run.{DoesWords, parameters_for, ports_for}
 use Rattle.bp_run.proofs.Threads.{few_clients as at_most_64}
 use Rattle.bp_run.specs.Ways.{Ways}
-use Rattle.bp_run.specs.Stops.{EndsBy, IsShown, keeps_out, NotConnected, NotRead, NotReported, StopsRun}
+use Rattle.bp_run.specs.Stops.{EndsBy, IsShown, TakesLong, keeps_out, NotConnected, NotRead, NotReported, StopsRun}
+use Rattle.bp_run.specs.Sweep.{NotShown, NotTabulated, NotTaken, StopsSweep, Tabulates}
 
 -- ---- a core is refused for want of memory alone
 
@@ -98,24 +100,44 @@ no_help_run ways bytes_of told bytes ended help (inr (inr after)) = go after.sto
     go (inl not) = (let none = ap is_help not.said ∙ not_help not.fault in cc)
     go (inr not) = no_help_reported told.order ended help not
 
-pub help_asked : {F P T : Type 0} (ways : Ways F P T) (bytes_of : T → Option (List ℕ)) (words : List Text) (bytes : Option (List ℕ)) (ended : Ending) → EndsBy ways bytes_of words bytes ended → is_help ended ≡ true → AsksForAnswer words
-help_asked ways bytes_of words bytes (ending.Help text) (inl decided) help = inl decided
-help_asked ways bytes_of words bytes ending.Version (inl decided) help = inr decided
-help_asked ways bytes_of words bytes ended (inr (inl run)) help = absurd (no_help_run ways bytes_of run.told bytes ended help run.stops)
-help_asked ways bytes_of words bytes (ending.Help text) (inr (inr (inl migration))) help = absurd migration.stops
-help_asked ways bytes_of words bytes ending.Version (inr (inr (inl migration))) help = absurd migration.stops
-help_asked ways bytes_of words bytes ended (inr (inr (inr explanation))) help = absurd (let none = ap is_help explanation.stops in cc)
-help_asked ways bytes_of words bytes other by help = cc
+no_help_taken : {T : Type 0} (traces : Text → Option T → Type 0) (bytes_of : T → Option (List ℕ)) (at : TraceAt) (column : Option ℕ) (bytes : Option (List ℕ)) (ended : Ending) → is_help ended ≡ true → NotTaken traces bytes_of at column bytes ended → ⊥
+no_help_taken traces bytes_of from_stdin column bytes ended help not = (let none = ap is_help not.said in cc)
+no_help_taken traces bytes_of (at_path path) column bytes ended help (inl not) = (let none = ap is_help not.1 in cc)
+no_help_taken traces bytes_of (at_path path) column bytes ended help (inr not) = (let none = ap is_help not.2.said in cc)
+
+no_help_table : (s : Sweep) (references : Pages) (ended : Ending) → is_help ended ≡ true → NotTabulated s references ended → ⊥
+no_help_table s references ended help (inl (inl is)) = (let none = ap is_help is in cc)
+no_help_table s references ended help (inl (inr at)) = (let none = ap is_help at.said in cc)
+no_help_table s references ended help (inr not) = (let none = ap is_help not.said in cc)
+
+no_help_shown : (s : Sweep) (references : Pages) (old new : Option (List ℕ)) (ended : Ending) → is_help ended ≡ true → NotShown s references old new ended → ⊥
+no_help_shown s references old new ended help (inl not) = no_help_table s references ended help not
+no_help_shown s references old new ended help (inr not) = (let none = ap is_help not.said in cc)
+
+no_help_sweep : {F P T : Type 0} (ways : Ways F P T) (bytes_of : T → Option (List ℕ)) (s : Sweep) (bytes old new : Option (List ℕ)) (ended : Ending) → is_help ended ≡ true → StopsSweep ways bytes_of s bytes old new ended → ⊥
+no_help_sweep ways bytes_of s bytes old new ended help (inl not) = no_help_taken ways.traces bytes_of s.references s.column bytes ended help not
+no_help_sweep ways bytes_of s bytes old new ended help (inr after) = no_help_shown s after.references old new ended help after.stopped
+
+pub help_asked : {F P T : Type 0} (ways : Ways F P T) (bytes_of : T → Option (List ℕ)) (words : List Text) (bytes old new : Option (List ℕ)) (ended : Ending) → EndsBy ways bytes_of words bytes old new ended → is_help ended ≡ true → AsksForAnswer words
+help_asked ways bytes_of words bytes old new (ending.Help text) (inl decided) help = inl decided
+help_asked ways bytes_of words bytes old new ending.Version (inl decided) help = inr decided
+help_asked ways bytes_of words bytes old new ended (inr (inl run)) help = absurd (no_help_run ways bytes_of run.told bytes ended help run.stops)
+help_asked ways bytes_of words bytes old new ended (inr (inr (inl sweep))) help = absurd (no_help_sweep ways bytes_of sweep.told bytes old new ended help sweep.stops)
+help_asked ways bytes_of words bytes old new (ending.Help text) (inr (inr (inr (inl migration)))) help = absurd migration.stops
+help_asked ways bytes_of words bytes old new ending.Version (inr (inr (inr (inl migration)))) help = absurd migration.stops
+help_asked ways bytes_of words bytes old new ended (inr (inr (inr (inr explanation)))) help = absurd (let none = ap is_help explanation.stops in cc)
+help_asked ways bytes_of words bytes old new other by help = cc
 
 -- where no help was asked for the answer is the version
-pub is_version : {F P T : Type 0} (ways : Ways F P T) (bytes_of : T → Option (List ℕ)) (words : List Text) (bytes : Option (List ℕ)) (ended : Ending) → EndsBy ways bytes_of words bytes ended → is_help ended ≡ true
+pub is_version : {F P T : Type 0} (ways : Ways F P T) (bytes_of : T → Option (List ℕ)) (words : List Text) (bytes old new : Option (List ℕ)) (ended : Ending) → EndsBy ways bytes_of words bytes old new ended → is_help ended ≡ true
     → (AsksForHelp words → ⊥) → ended ≡ ending.Version
-is_version ways bytes_of words bytes (ending.Help text) (inl decided) help unasked = absurd (unasked decided)
-is_version ways bytes_of words bytes (ending.Help text) (inr (inl run)) help unasked = absurd (no_help_run ways bytes_of run.told bytes (ending.Help text) help run.stops)
-is_version ways bytes_of words bytes (ending.Help text) (inr (inr (inl migration))) help unasked = absurd migration.stops
-is_version ways bytes_of words bytes (ending.Help text) (inr (inr (inr explanation))) help unasked = absurd (let none = ap is_help explanation.stops in cc)
-is_version ways bytes_of words bytes ending.Version by help unasked = refl
-is_version ways bytes_of words bytes other by help unasked = cc
+is_version ways bytes_of words bytes old new (ending.Help text) (inl decided) help unasked = absurd (unasked decided)
+is_version ways bytes_of words bytes old new (ending.Help text) (inr (inl run)) help unasked = absurd (no_help_run ways bytes_of run.told bytes (ending.Help text) help run.stops)
+is_version ways bytes_of words bytes old new (ending.Help text) (inr (inr (inl sweep))) help unasked = absurd (no_help_sweep ways bytes_of sweep.told bytes old new (ending.Help text) help sweep.stops)
+is_version ways bytes_of words bytes old new (ending.Help text) (inr (inr (inr (inl migration)))) help unasked = absurd migration.stops
+is_version ways bytes_of words bytes old new (ending.Help text) (inr (inr (inr (inr explanation)))) help unasked = absurd (let none = ap is_help explanation.stops in cc)
+is_version ways bytes_of words bytes old new ending.Version by help unasked = refl
+is_version ways bytes_of words bytes old new other by help unasked = cc
 
 -- who asks for an answer names nothing else
 none_among : (one : ErrorKind) (kinds : Kinds) → is_empty kinds ≡ true → IsAmong one kinds → ⊥
@@ -135,11 +157,12 @@ no_help words one named (inr version) = no_answer DisplayVersion words one named
 
 -- ---- the output
 
-pub kept_when : (ended : Ending) → keeps_out ended ≡ true → (is_help ended ≡ false) × (ended ≡ ending.OutputFailed → ⊥)
+pub kept_when : (ended : Ending) → keeps_out ended ≡ true → (is_help ended ≡ false) × (ended ≡ ending.OutputFailed → ⊥) × (ended ≡ ending.PictureNotWritten → ⊥)
 kept_when (ending.Help text) is = cc
 kept_when ending.Version is = cc
 kept_when ending.OutputFailed is = cc
-kept_when other is = (refl, λ same. cc)
+kept_when ending.PictureNotWritten is = cc
+kept_when other is = (refl, λ same. cc, λ same. cc)
 
 -- a status that is 2 where it is not 0
 pub not_one : (status : ℕ) → ((status ≡ 0 → ⊥) → status ≡ 2) → status ≡ 1 → ⊥
@@ -158,14 +181,48 @@ then_kept old mid new (inr kept) later = inr (later ∙ kept)
 pub does_no_help : {F P T : Type 0} (ways : Ways F P T) (bytes_of : T → Option (List ℕ)) (reads : Reads P) (writes : Writes P) (words : List Text) (bytes : Option (List ℕ)) (status : ℕ) (old new : Option (List ℕ))
     → DoesWords ways bytes_of reads writes words bytes status old new → AsksForAnswer words → ⊥
 does_no_help ways bytes_of reads writes words bytes status old new (inl run) asks = no_help words (a_run run.told) run.named asks
-does_no_help ways bytes_of reads writes words bytes status old new (inr (inl migration)) asks = no_help words (a_migration migration.told) migration.named asks
-does_no_help ways bytes_of reads writes words bytes status old new (inr (inr explanation)) asks = no_help words (an_explanation explanation.text) explanation.named asks
+does_no_help ways bytes_of reads writes words bytes status old new (inr (inl sweep)) asks = no_help words (a_sweep sweep.told) sweep.named asks
+does_no_help ways bytes_of reads writes words bytes status old new (inr (inr (inl migration))) asks = no_help words (a_migration migration.told) migration.named asks
+does_no_help ways bytes_of reads writes words bytes status old new (inr (inr (inr explanation))) asks = no_help words (an_explanation explanation.text) explanation.named asks
 
--- an answer is no failure of the output
+-- an answer is no failure of the output, and no picture
 pub no_failure : (ended : Ending) → is_help ended ≡ true → ended ≡ ending.OutputFailed → ⊥
 no_failure ended help failed = (let none = ap is_help failed in cc)
 
--- somebody watches a migration, or it says nothing
+pub no_picture : (ended : Ending) → is_help ended ≡ true → ended ≡ ending.PictureNotWritten → ⊥
+no_picture ended help failed = (let none = ap is_help failed in cc)
+
+-- what is said in the end is said of the same output, but for an answer
+stops_the_same : {F P T : Type 0} (ways : Ways F P T) (bytes_of : T → Option (List ℕ)) (s : Sweep) (bytes old mid new : Option (List ℕ)) (ended : Ending)
+    → (is_help ended ≡ false → new ≡ mid) → StopsSweep ways bytes_of s bytes old mid ended → StopsSweep ways bytes_of s bytes old new ended
+stops_the_same ways bytes_of s bytes old mid new ended kept (inl not) = inl not
+stops_the_same ways bytes_of s bytes old mid new ended kept (inr after) =
+    inr (record { references = after.references; taken = after.taken; stopped = go after.stopped })
+  where
+    go : NotShown s after.references old mid ended → NotShown s after.references old new ended
+    go (inl not) = inl not
+    go (inr not) = inr (record {
+      lines = not.lines;
+      tabulates = subst (λ out. Tabulates s after.references not.lines old out) (sym (kept (ap is_help not.said))) not.tabulates;
+      asked = not.asked;
+      said = not.said;
+    })
+
+pub ends_the_same : {F P T : Type 0} (ways : Ways F P T) (bytes_of : T → Option (List ℕ)) (words : List Text) (bytes old mid new : Option (List ℕ)) (ended : Ending)
+    → (is_help ended ≡ false → new ≡ mid) → EndsBy ways bytes_of words bytes old mid ended → EndsBy ways bytes_of words bytes old new ended
+ends_the_same ways bytes_of words bytes old mid new ended kept (inl decided) = inl decided
+ends_the_same ways bytes_of words bytes old mid new ended kept (inr (inl run)) = inr (inl run)
+ends_the_same ways bytes_of words bytes old mid new ended kept (inr (inr (inl sweep))) =
+    inr (inr (inl (record { told = sweep.told; named = sweep.named; stops = stops_the_same ways bytes_of sweep.told bytes old mid new ended kept sweep.stops })))
+ends_the_same ways bytes_of words bytes old mid new ended kept (inr (inr (inr other))) = inr (inr (inr other))
+
+-- somebody watches what takes long, or it says nothing
+shown_or : {X : Type 0} (watched : Bool) (words : List Text) (asked : Asked) (old new : X) → asked_by words ≡ Some asked → TakesLong asked → (watched ≡ false → new ≡ old) → IsShown watched words ⊎ (new ≡ old)
+shown_or true words asked old new named long kept = inl (record { asked = asked; named = named; long = long; seen = refl })
+shown_or false words asked old new named long kept = inr (kept refl)
+
 pub shown_or_kept : {X : Type 0} (watched : Bool) (words : List Text) (told : Migration) (old new : X) → asked_by words ≡ Some (a_migration told) → (watched ≡ false → new ≡ old) → IsShown watched words ⊎ (new ≡ old)
-shown_or_kept true words told old new named kept = inl (record { told = told; named = named; seen = refl })
-shown_or_kept false words told old new named kept = inr (kept refl)
+shown_or_kept watched words told old new named kept = shown_or watched words (a_migration told) old new named tt kept
+
+pub sweep_shown_or_kept : {X : Type 0} (watched : Bool) (words : List Text) (told : Sweep) (old new : X) → asked_by words ≡ Some (a_sweep told) → (watched ≡ false → new ≡ old) → IsShown watched words ⊎ (new ≡ old)
+sweep_shown_or_kept watched words told old new named kept = shown_or watched words (a_sweep told) old new named tt kept

@@ -1,8 +1,10 @@
--- Which pages a run is over, what is printed of it, and why there is no report.
+-- Which pages a run is over, what is printed of it and of a sweep, and why there is no report or no table.
 pub mod PageFile
 pub mod Ways
 pub mod Opening
 pub mod AnyPort
 pub mod Scripts
+pub mod Drawing
+pub mod Sweep
 pub mod Run
 pub mod Stops

@@ -23,6 +23,7 @@ use Rattle.bp_words.specs.Words.{Told, TraceAt, from_stdin, at_path}
 use Rattle.bp_words.specs.Asked.{Migration, asked_by}
 use Rattle.bp_words.specs.Asked.Asked.{a_run, a_migration, an_explanation}
 use Rattle.bp_run.specs.PageFile.{IsNamed}
+use Rattle.bp_run.specs.Sweep.{SweepsWords}
 use Rattle.bp_run.specs.Ways.{Ways}
 
 -- the room of a trail for so many rows
@@ -129,4 +130,5 @@ pub record ExplainsWords (words : List Text) (status : ℕ) (old new : Option (L
 -- what the words name was done
 abbrev pub DoesWords : {F P T : Type 0} → Ways F P T → (T → Option (List ℕ)) → Reads P → Writes P → List Text → Option (List ℕ) → ℕ → Option (List ℕ) → Option (List ℕ) → Type 0
 DoesWords ways bytes_of reads writes words bytes status old new =
-    RunsWords ways bytes_of reads writes words bytes status old new ⊎ (MigratesWords words status old new ⊎ ExplainsWords words status old new)
+    RunsWords ways bytes_of reads writes words bytes status old new
+    ⊎ (SweepsWords ways bytes_of words bytes status old new ⊎ (MigratesWords words status old new ⊎ ExplainsWords words status old new))

@@ -1,4 +1,4 @@
--- How a run ends without a report, and a migration without a new page file, by the cause.
+-- How a run ends without a report, a sweep without a table, and a migration without a new page file, by the cause.
 use Rattle.std.specs.Prelude.{◌≡◌, ◌⊎◌, ℕ, Bool, true, false, List, Option, Some, None, IfSome, Ok, Err}
 use Rattle.std.specs.Io.KnownBytes.{Appends}
 use Rattle.clap.specs.Words.{Text}
@@ -9,8 +9,8 @@ use Rattle.bp_trail.specs.declared.scripts.Row.{Row}
 use Rattle.bp_trace.specs.Script.{Answers, script_of}
 use Rattle.bp_trace.specs.declared.faults.TraceFault.{TraceFault}
 use Rattle.bp_words.specs.Words.{Told, TraceAt, from_stdin, at_path}
-use Rattle.bp_words.specs.Asked.{Migration, asked_by}
-use Rattle.bp_words.specs.Asked.Asked.{a_run, a_migration, an_explanation}
+use Rattle.bp_words.specs.Asked.{Asked, Migration, asked_by}
+use Rattle.bp_words.specs.Asked.Asked.{a_run, a_migration, a_sweep, an_explanation}
 use Rattle.bp_words.specs.Decision.{IsDecision}
 use Rattle.bp_words.specs.declared.ending.Ending.{Ending}
 use Rattle.bp_words.specs.declared.ending.Ending.TheVariants as ending
@@ -18,6 +18,7 @@ use Rattle.bp_words.specs.declared.words.Order.{Order}
 use Rattle.bp_words.specs.declared.words.Order.TheVariants as order
 use Rattle.bp_run.specs.Opening.{ending_of}
 use Rattle.bp_run.specs.PageFile.{IsOpenFault, memory_named}
+use Rattle.bp_run.specs.Sweep.{StopsSweepOf}
 use Rattle.bp_run.specs.Ways.{Ways}
 use Rattle.bp_run.specs.Run.{AreRead, ports_for}
 
@@ -98,17 +99,20 @@ pub record StopsExplanationOf (words : List Text) (ended : Ending) : Type 0 wher
   pub stops : ended ≡ ending.OutputFailed
 
 -- the words decide on this end, or what they name comes to it
-abbrev pub EndsBy : {F P T : Type 0} → Ways F P T → (T → Option (List ℕ)) → List Text → Option (List ℕ) → Ending → Type 0
-EndsBy ways bytes_of words bytes ended =
-    IsDecision words (Err ended) ⊎ (StopsRunOf ways bytes_of words bytes ended ⊎ (StopsMigrationOf words ended ⊎ StopsExplanationOf words ended))
+abbrev pub EndsBy : {F P T : Type 0} → Ways F P T → (T → Option (List ℕ)) → List Text → Option (List ℕ) → Option (List ℕ) → Option (List ℕ) → Ending → Type 0
+EndsBy ways bytes_of words bytes old new ended =
+    IsDecision words (Err ended)
+    ⊎ (StopsRunOf ways bytes_of words bytes ended
+    ⊎ (StopsSweepOf ways bytes_of words bytes old new ended ⊎ (StopsMigrationOf words ended ⊎ StopsExplanationOf words ended)))
 
 -- ---- the outputs
 
--- help, the version, and a report that was begun, may be on the output
+-- help, the version, a report or a table that was begun, and a table that has no picture, may be on the output
 abbrev pub keeps_out : Ending → Bool
 keeps_out (ending.Help text) = false
 keeps_out ending.Version = false
 keeps_out ending.OutputFailed = false
+keeps_out ending.PictureNotWritten = false
 keeps_out _ = true
 
 -- the program ended so, and wrote nothing else on its output
@@ -122,8 +126,15 @@ pub record Prints (old new : Option (List ℕ)) : Type 0 where
   pub text : List ℕ
   pub written : Appends old new text
 
--- the words name a migration, and somebody watches how far it comes
+-- how far these come is shown
+abbrev pub TakesLong : Asked → Type 0
+TakesLong (a_migration told) = Unit {0}
+TakesLong (a_sweep told) = Unit {0}
+TakesLong _ = ⊥
+
+-- the words name a migration or a sweep, and somebody watches how far it comes
 pub record IsShown (watched : Bool) (words : List Text) : Type 0 where
-  pub told : Migration
-  pub named : asked_by words ≡ Some (a_migration told)
+  pub asked : Asked
+  pub named : asked_by words ≡ Some asked
+  pub long : TakesLong asked
   pub seen : watched ≡ true

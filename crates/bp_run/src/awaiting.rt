@@ -4,7 +4,7 @@ ghost use Rattle.std.specs.Prelude.{◌≡◌};
 use std::io;
 use std::io::{Read, Write};
 
-/// A reader of a trace that tells, at the first read, that rows are awaited there. It reads what its input reads.
+/// A reader of a trace or of references that tells, at the first read, that lines are awaited there. It reads what its input reads.
 #[derive(Drop)]
 pub struct Awaiting<I: Read, E: Write> {
     input: I,
@@ -29,7 +29,7 @@ impl<I: Read, E: Write + Drop> Read for Awaiting<I, E> {
         if let Some(mut note) = self.note.take() {
             let _ = writeln!(
                 note,
-                "the trace is read here, a row a line; control-D ends it"
+                "standard input is read, a line at a time; control-D ends it"
             );
             let _ = note.flush();
         }

@@ -4,6 +4,7 @@
 #![tactic(auto)]
 
 mod awaiting;
+mod drawing;
 mod explaining;
 mod free;
 mod meter;
@@ -13,6 +14,7 @@ mod opening;
 mod page_files;
 mod run;
 mod scripts;
+mod sweeping;
 
 pub use awaiting::Awaiting;
 pub use open_pages::{OpenFile, OpenMemory, OpenPages};

@@ -1,7 +1,14 @@
-//! How far a migration has come, on the error output.
+//! How far a migration or a sweep has come, on the error output.
 
 use bp_migrate::Progress;
 use std::io::Write;
+use std::time::{Clock, Duration, Instant};
+
+/// Takes the line of a meter away.
+pub(crate) fn clear_line<E: Write>(err: &mut E) {
+    let _ = write!(err, "\r{:70}\r", "");
+    let _ = err.flush();
+}
 
 /// Shows on one line, anew at each hundredth of the pages, how many of them are written.
 #[derive(Drop)]
@@ -15,12 +22,6 @@ impl<'a, E: Write> Meter<'a, E> {
     pub(crate) fn new(err: &'a mut E) -> Meter<'a, E> {
         Meter { err, shown: 0 }
     }
-
-    /// Takes the line away.
-    pub(crate) fn clear(&mut self) {
-        let _ = write!(self.err, "\r{:40}\r", "");
-        let _ = self.err.flush();
-    }
 }
 
 // A fault of the error output changes nothing.
@@ -32,5 +33,41 @@ impl<E: Write> Progress for Meter<'_, E> {
             let _ = write!(self.err, "\rmigrated {done} of {pages} pages");
             let _ = self.err.flush();
         }
+    }
+}
+
+/// Shows on one line, anew once a second has gone by, which cell of a sweep is counted, and how many references of it are.
+#[derive(Drop)]
+pub(crate) struct SweepMeter<'a, R: Clock, E: Write> {
+    clock: &'a R,
+    err: &'a mut E,
+    /// When the line was shown last, or else the sweep began. Without a clock nothing is shown.
+    since: Option<Instant>,
+}
+
+impl<'a, R: Clock, E: Write> SweepMeter<'a, R, E> {
+    /// A meter that has shown nothing yet.
+    pub(crate) fn new(clock: &'a R, err: &'a mut E) -> SweepMeter<'a, R, E> {
+        let since = Instant::now(clock).ok();
+        SweepMeter { clock, err, since }
+    }
+}
+
+// A fault of the error output changes nothing. The spaces at the end are over what a longer line had there.
+impl<R: Clock, E: Write> bp_sweep::Progress for SweepMeter<'_, R, E> {
+    fn counted(&mut self, cell: u64, cells: u64, counted: u64, references: u64) {
+        let (Some(since), Ok(now)) = (self.since, Instant::now(self.clock)) else {
+            return;
+        };
+        if now.duration_since(since) < Duration::from_secs(1) {
+            return;
+        }
+        self.since = Some(now);
+        let _ = write!(
+            self.err,
+            "\rcell {cell} of {cells}: {counted} of {references} references{:8}",
+            ""
+        );
+        let _ = self.err.flush();
     }
 }

@@ -4,7 +4,7 @@ ghost use Rattle.bp_words.specs.Asked.{migration_of};
 ghost use Rattle.bp_words.specs.Decision.{IsMigratable};
 ghost use Rattle.bp_run.specs.Stops.{StopsMigration};
 
-use crate::meter::Meter;
+use crate::meter::{Meter, clear_line};
 use bp_device::geometry_of_file;
 use bp_migrate::{MigrateFault, Progress, Untold, migrate_told};
 use bp_page::{Format, Geometry, Refusal};
@@ -162,7 +162,7 @@ pub(crate) fn migrate<R: Files, E: Write>(
     if is_watched {
         let mut meter = Meter::new(err);
         let made = make_file(rt, alloc, old, &geometry, beside.as_str(), new, &mut meter);
-        meter.clear();
+        clear_line(err);
         made
     } else {
         make_file(rt, alloc, old, &geometry, beside.as_str(), new, &mut Untold)

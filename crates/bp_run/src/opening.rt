@@ -1,11 +1,12 @@
-//! The page files and the traces of runs.
+//! The page files and the traces of runs, and the pictures of sweeps.
 use bp_device::{OpenFault, Port};
 use bp_page::{Format, Geometry};
+use std::io;
 use std::io::Read;
 use std::marker::Send;
 
-/// Opens the page files and the traces that words name. As a page file `mem:N` is N pages of zero bytes in memory, and any other word is
-/// a path. A trace is at a path.
+/// Opens the page files and the traces that words name, and writes the pictures. As a page file `mem:N` is N pages of zero bytes in
+/// memory, and any other word is a path. A trace, which may be a list of references, is at a path, and so is a picture.
 ///
 /// By relations of its own it says what each call gave. What is promised by them, as of a run, can be kept only by these calls.
 pub trait Ports<R> {
@@ -18,7 +19,7 @@ pub trait Ports<R> {
     /// A trace that is open.
     type T: Read + Drop;
 
-    ghost use Rattle.std.specs.Prelude.{◌≡◌, Bool, All, IfErr, IfOk, vec_len};
+    ghost use Rattle.std.specs.Prelude.{◌≡◌, Bool, All, IfErr, IfOk, OnOk, vec_len};
     ghost use Rattle.bp_page.specs.Limits.{IsGeometry};
     ghost use Rattle.bp_run.specs.PageFile.{IsNamed, IsOpenFault, memory_named};
     ghost use Rattle.bp_run.specs.Ways.{Ways};
@@ -67,7 +68,13 @@ pub trait Ports<R> {
     fn trace(&mut self, rt: &R, path: &str) -> Option<Self::T>
         ensures { ways.traces path.now result };
 
-    /// Whether somebody watches the program: how far a migration has come is then shown on the error output.
+    /// Writes the bytes of a picture into the file at a path, which is made, or overwritten.
+    ///
+    /// Where that fails, the file may have a part of them, or be as it was.
+    fn save(&mut self, rt: &R, path: &str, bytes: &[u8]) -> io::Result<()>
+        ensures { OnOk result (ways.saves path.now bytes.now) };
+
+    /// Whether somebody watches the program: how far a migration or a sweep has come is then shown on the error output.
     fn is_watched(&self) -> bool
         ensures { result ≡ watched self.now };
 }

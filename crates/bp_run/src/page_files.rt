@@ -11,10 +11,10 @@ use bp_device::{FilePort, MemDevice, MemPort, OpenFault, Port};
 use bp_page::{Format, Geometry, Image, Lsn, PageNo, PortFault, Refusal};
 use bp_trace::numbers::parse_number;
 use std::alloc::Global;
-use std::fs;
 use std::fs::File;
 use std::rt::Files;
 use std::sync::Wait;
+use std::{fs, io};
 
 /// A way to the pages of a run, wherever they stand.
 #[derive(Drop)]
@@ -316,6 +316,10 @@ impl<R: Files<File = File>> Ports<R> for PageFiles {
 
     fn trace(&mut self, rt: &R, path: &str) -> Option<File> {
         fs::open(rt, path).ok()
+    }
+
+    fn save(&mut self, rt: &R, path: &str, bytes: &[u8]) -> io::Result<()> {
+        fs::write(rt, path, bytes)
     }
 
     fn is_watched(&self) -> bool {

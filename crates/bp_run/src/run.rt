@@ -20,6 +20,7 @@ use crate::free::run_free;
 use crate::migration::migrate;
 use crate::opening::Ports;
 use crate::scripts::client_count;
+use crate::sweeping::sweep_told;
 use bp_core::{Core, Entry, Refused, Row};
 use bp_device::{OpenFault, Port, drive_all};
 use bp_lruk::Settings;
@@ -33,6 +34,7 @@ use std::marker::{Send, Sync};
 use std::rt::Files;
 use std::sync::Wait;
 use std::thread::Threads;
+use std::time::Clock;
 
 /// The most entries that a trail may have.
 const MAX_ROOM: usize = 16_777_216;
@@ -339,9 +341,15 @@ fn status_of_run(all_accepted: bool) -> u8
 /// No words at all are those of the default run. It looks at the words first.
 ///
 /// An `Err` is how the program ends otherwise, by its cause. Nothing is said of it yet, and nothing is on `out`, but
-/// where a run's report or an explanation was begun: then it is `OutputFailed`. Where somebody watches a migration,
-/// `err` shows how far it came; else `err` is as it was.
-pub fn carry_out<R: Files + Threads + Wait + Sync, I: Read, O: Ports<R>, W: Write, E: Write>(
+/// where a report, a table or an explanation was begun: then it is `OutputFailed`, or `PictureNotWritten` where the
+/// whole table is there. Where somebody watches a migration or a sweep, `err` shows how far it came; else `err` is as it was.
+pub fn carry_out<
+    R: Files + Clock + Threads + Wait + Sync,
+    I: Read,
+    O: Ports<R>,
+    W: Write,
+    E: Write,
+>(
     rt: &R,
     alloc: Global,
     words: &[&str],
@@ -354,8 +362,10 @@ pub fn carry_out<R: Files + Threads + Wait + Sync, I: Read, O: Ports<R>, W: Writ
         O.P.write_gives (words_or_default (texts words.entry.now)) (I.remaining reader.old) status
         (W.contents out.old) (W.contents out.new)) }
     ensures ended { IfErr result (EndsBy O.ways O.T.remaining
-        (words_or_default (texts words.entry.now)) (I.remaining reader.old)) }
-    ensures out_kept { IfErr result (λ ended. ended ≢ Ending.OutputFailed → out.new ≡ out.old) }
+        (words_or_default (texts words.entry.now)) (I.remaining reader.old)
+        (W.contents out.old) (W.contents out.new)) }
+    ensures out_kept { IfErr result (λ ended. ended ≢ Ending.OutputFailed
+        → ended ≢ Ending.PictureNotWritten → out.new ≡ out.old) }
     ensures err_kept { IsShown (O.watched ports.old) (words_or_default (texts words.entry.now))
         ⊎ (err.new ≡ err.old) }
     ensures status { IfOk result (λ status. status < 2) }
@@ -371,7 +381,10 @@ pub fn carry_out<R: Files + Threads + Wait + Sync, I: Read, O: Ports<R>, W: Writ
                 Err(ending) => Err(ending),
             }
         }
-        Ok(Task::Sweep(_sweep)) => Err(Ending::RunRefused(Refusal::OutOfMemory)),
+        Ok(Task::Sweep(sweep)) => match sweep_told(rt, alloc, &sweep, reader, ports, out, err) {
+            Ok(()) => Ok(0),
+            Err(ending) => Err(ending),
+        },
         Ok(Task::Explain(text)) => match explain(text, out) {
             Ok(()) => Ok(0),
             Err(ending) => Err(ending),
@@ -385,15 +398,18 @@ pub fn carry_out<R: Files + Threads + Wait + Sync, I: Read, O: Ports<R>, W: Writ
 ///
 /// For a run it then opens the page file by `ports`, and then reads the trace: from `reader` where its word is
 /// `stdin`, else from what `ports` opens at that path. In the order `trace` it runs the rows one after the other; in
-/// the order `free` each client is a thread, which runs its own rows over a port of its own. For a migration it
-/// writes the page file of version 1 anew in version 2, and nothing on `out`. For an explanation it writes what the
-/// refusal with that number says, as one line.
+/// the order `free` each client is a thread, which runs its own rows over a port of its own. For a sweep it reads the
+/// references, from `reader` or from what `ports` opens at their path, and writes a table of what they come to in each
+/// pool; then `ports` writes the picture of the table, where one is asked for. For a migration it writes the page file
+/// of version 1 anew in version 2, and nothing on `out`. For an explanation it writes what the refusal with that number
+/// says, as one line.
 ///
-/// Status 0: help, the version, an explanation, a run whose rows were all accepted, or a migration. Status 1: a run
-/// with refused rows. Their report, and then the refused rows, are on `out`; `err` is as it was, but where somebody
-/// watches a migration. Status 2: one line on `err` says why there is no report or no new page file; `out` is as it
-/// was, but where the line is `output failed`, which comes after whatever was written.
-pub fn run_with<R: Files + Threads + Wait + Sync, I: Read, O: Ports<R>, W: Write, E: Write>(
+/// Status 0: help, the version, an explanation, a table, a run whose rows were all accepted, or a migration. Status 1:
+/// a run with refused rows. Their report, and then the refused rows, are on `out`; `err` is as it was, but where
+/// somebody watches a migration or a sweep. Status 2: one line on `err` says why there is no report, no table or no new
+/// page file; `out` is as it was, but where the line is `output failed`, which comes after whatever was written, or
+/// `picture not written`, which comes after the whole table.
+pub fn run_with<R: Files + Clock + Threads + Wait + Sync, I: Read, O: Ports<R>, W: Write, E: Write>(
     rt: &R,
     alloc: Global,
     words: &[&str],
@@ -414,7 +430,8 @@ pub fn run_with<R: Files + Threads + Wait + Sync, I: Read, O: Ports<R>, W: Write
         → AsksForVersion (words_or_default (texts words.entry.now)) → result ≡ 0
         → Appends (W.contents out.old) (W.contents out.new) (message_of Ending.Version) }
     ensures ended { result ≡ 2 → Ended (EndsBy O.ways O.T.remaining
-        (words_or_default (texts words.entry.now)) (I.remaining reader.old)) out.old out.new }
+        (words_or_default (texts words.entry.now)) (I.remaining reader.old)
+        (W.contents out.old) (W.contents out.new)) out.old out.new }
     ensures err_kept { result < 2 → IsShown (O.watched ports.old)
         (words_or_default (texts words.entry.now)) ⊎ (err.new ≡ err.old) }
 {

@@ -1,4 +1,5 @@
-//! Runs a trace over a buffer pool and reports what the pool did, or writes a page file anew in its second version.
+//! Runs a trace over a buffer pool and reports what the pool did, counts what references come to in pools of many sizes, or writes a
+//! page file anew in its second version.
 #![tactic(auto)]
 
 use bp_page::Refusal;
@@ -11,6 +12,7 @@ use std::process::ExitCode;
 use std::rt::{Env, Files};
 use std::sync::Wait;
 use std::thread::Threads;
+use std::time::Clock;
 use std::{env, io};
 
 /// The words of the command line, without the program's name.
@@ -29,9 +31,9 @@ fn words_given<R: AllocGlobal + Env>(rt: &R) -> Result<Vec<String>, Ending> {
 }
 
 /// Does what the words say, over standard input and output, and gives the status to end with. Where somebody watches, how far a
-/// migration has come is shown on `err`. Where there is a note, it has a line once the trace is read from standard input.
+/// migration or a sweep has come is shown on `err`. Where there is a note, it has a line once standard input is read.
 fn run_words<
-    R: AllocGlobal + Files<File = File> + Input + Print + Threads + Wait + Sync,
+    R: AllocGlobal + Files<File = File> + Clock + Input + Print + Threads + Wait + Sync,
     N: Write + Drop,
     E: Write,
 >(rt: &R, given: &[String], is_watched: bool, note: Option<N>, err: &mut E) -> Result<u8, Ending> {

@@ -1,0 +1,112 @@
+//! The picture of a sweep's table.
+ghost use Rattle.std.specs.Prelude.{◌≡◌, ◌≢◌, ◌++◌, map, None, IfErr, IfOk, OnOk};
+ghost use Rattle.bp_words.specs.Asked.{sweep_of};
+ghost use Rattle.bp_run.specs.Drawing.{AreShown, IsDrawn, Pictures, cell_of, if_among, names_of};
+
+use crate::opening::Ports;
+use bp_chart::{Cell, Point, Which, lines_of, write_chart};
+use bp_table::Line;
+use bp_words::{Ending, SweepWords};
+use std::alloc::{AllocError, Global};
+
+/// The greatest K of LRU-K.
+const MAX_K: usize = 16;
+
+/// What the picture shows of a line of the table.
+fn cell_of(line: &Line) -> Cell
+    ensures { result ≡ cell_of line.now }
+{
+    let which = match line.k {
+        Some(k) => Which::K(k),
+        None => Which::Optimum,
+    };
+    Cell {
+        which,
+        point: Point {
+            frames: line.frames,
+            hits: line.hits,
+            fixes: line.fixes,
+        },
+    }
+}
+
+/// The cells of a table, in its order.
+fn cells_in(alloc: Global, table: &[Line]) -> Result<Vec<Cell>, AllocError>
+    ensures { IfOk result (λ cells. cells.items ≡ map cell_of table.now) }
+{
+    let mut cells = Vec::new(alloc);
+    for line in table {
+        cells.push(cell_of(line))?;
+    }
+    Ok(cells)
+}
+
+/// The cells of a table, by growing frames.
+fn cells_of(alloc: Global, table: &[Line]) -> Result<Vec<Cell>, AllocError>
+    ensures { IfOk result (λ cells. AreShown table.now cells.items) }
+{
+    let mut cells = cells_in(alloc, table)?;
+    cells.sort_by_key(|cell: &Cell| cell.point.frames)?;
+    Ok(cells)
+}
+
+/// Adds this K, if it is among these.
+fn add_name(names: &mut Vec<Which>, ks: &[usize], k: usize) -> Result<(), AllocError>
+    ensures { OnOk result (names.new.items ≡ names.old.items ++ if_among ks.now k) }
+{
+    if ks.contains(&k) {
+        names.push(Which::K(k))?;
+    }
+    Ok(())
+}
+
+/// The lines of the picture: one for each of these K, the least first, and one for the optimum.
+fn names_of(alloc: Global, ks: &[usize]) -> Result<Vec<Which>, AllocError>
+    ensures { IfOk result (λ names. names.items ≡ names_of ks.now) }
+{
+    let mut names = Vec::new(alloc);
+    for less in 0..MAX_K {
+        add_name(&mut names, ks, less + 1)?;
+    }
+    names.push(Which::Optimum)?;
+    Ok(names)
+}
+
+/// The picture of a table over these K, as bytes.
+fn picture_of(alloc: Global, ks: &[usize], table: &[Line]) -> Result<Vec<u8>, AllocError>
+    ensures { IfOk result (λ bytes. Pictures ks.now table.now bytes.items) }
+{
+    let cells = cells_of(alloc, table)?;
+    let names = names_of(alloc, ks)?;
+    let lines = lines_of(alloc, &names, &cells)?;
+    let mut bytes = Vec::new(alloc);
+    match write_chart(&lines, &mut bytes) {
+        Ok(()) => Ok(bytes),
+        Err(_) => Err(AllocError),
+    }
+}
+
+/// Draws the picture of a table, where the words ask for one.
+pub(crate) fn draw<R, O: Ports<R>>(
+    rt: &R,
+    alloc: Global,
+    words: &SweepWords<'_>,
+    table: &[Line],
+    ports: &mut O,
+) -> Result<(), Ending>
+    ensures drawn { OnOk result (IsDrawn O.ways.saves (sweep_of words.now).svg
+        (sweep_of words.now).ks table.now) }
+    ensures fault { IfErr result (λ ended. ended ≡ Ending.PictureNotWritten) }
+    ensures asked { IfErr result (λ _. (sweep_of words.now).svg ≢ None) }
+{
+    let Some(path) = words.svg else {
+        return Ok(());
+    };
+    let Ok(bytes) = picture_of(alloc, &words.ks, table) else {
+        return Err(Ending::PictureNotWritten);
+    };
+    match ports.save(rt, path, &bytes) {
+        Ok(()) => Ok(()),
+        Err(_) => Err(Ending::PictureNotWritten),
+    }
+}

@@ -1,0 +1,217 @@
+//! A sweep: references over pools of several sizes and several K, the table of what they come to, and its picture.
+ghost use Rattle.std.specs.Prelude.{◌≡◌, ◌≢◌, false, IfErr, IfOk, IfSome, None, OnOk};
+ghost use Rattle.bp_sweep.specs.Sweeping.{AreCells};
+ghost use Rattle.bp_words.specs.Asked.{IsColumn, SweepsInLimits, sweep_of};
+ghost use Rattle.bp_words.specs.Words.{trace_told};
+ghost use Rattle.bp_run.specs.Sweep.{AreReferencesOf, AreTaken, HasNoReferences, NotCounted, NotShown};
+ghost use Rattle.bp_run.specs.Sweep.{NotTabulated, NotTaken, Shows, StopsSweep, Sweeps, Tabulates};
+ghost use Rattle.bp_run.specs.Sweep.{no_references, plans_told};
+
+use crate::drawing::draw;
+use crate::meter::{SweepMeter, clear_line};
+use crate::opening::Ports;
+use bp_page::Refusal;
+use bp_sweep::{
+    Progress, ReferenceFault, References, Untold, count_cells, plans_of, read_column,
+    read_references,
+};
+use bp_table::{Line, write_table};
+use bp_words::{Ending, SweepWords, TraceSource};
+use std::alloc::Global;
+use std::io::{BufReader, Read, Write};
+use std::sync::Wait;
+use std::time::Clock;
+
+/// How the program ends where a list has no references.
+fn no_references(fault: ReferenceFault) -> Ending
+    ensures { result ≡ no_references fault }
+{
+    Ending::ReferenceRefused {
+        line: fault.line,
+        refusal: fault.refusal,
+    }
+}
+
+/// The references of a list with a number a line.
+fn references_in_lines<I: Read>(alloc: Global, reader: &mut I) -> Result<References, Ending>
+    ensures read { IfOk result (AreReferencesOf None (I.remaining reader.old)) }
+    ensures fault { IfErr result (HasNoReferences None (I.remaining reader.old)) }
+{
+    let Ok(mut lines) = BufReader::new(alloc, reader) else {
+        return Err(no_references(ReferenceFault::new(0, Refusal::OutOfMemory)));
+    };
+    match read_references(alloc, &mut lines) {
+        Ok(references) => Ok(references),
+        Err(fault) => Err(no_references(fault)),
+    }
+}
+
+/// The references of a list: of its lines, or of a column where its lines are records.
+fn references_from<I: Read>(
+    alloc: Global,
+    column: Option<usize>,
+    reader: &mut I,
+) -> Result<References, Ending>
+    requires few { IfSome column IsColumn }
+    ensures read { IfOk result (AreReferencesOf column (I.remaining reader.old)) }
+    ensures fault { IfErr result (HasNoReferences column (I.remaining reader.old)) }
+{
+    let Some(column) = column else {
+        return references_in_lines(alloc, reader);
+    };
+    match read_column(alloc, reader, column as u32) {
+        Ok(references) => Ok(references),
+        Err(fault) => Err(no_references(fault)),
+    }
+}
+
+/// The references of the list: of standard input, or of the file at its path.
+fn references_of<I: Read, R, O: Ports<R>>(
+    rt: &R,
+    alloc: Global,
+    words: &SweepWords<'_>,
+    reader: &mut I,
+    ports: &mut O,
+) -> Result<References, Ending>
+    requires possible { SweepsInLimits (sweep_of words.now) }
+    ensures taken { IfOk result (AreTaken O.ways.traces O.T.remaining
+        (trace_told words.now.references) words.now.column (I.remaining reader.old)) }
+    ensures fault { IfErr result (NotTaken O.ways.traces O.T.remaining
+        (trace_told words.now.references) words.now.column (I.remaining reader.old)) }
+{
+    match words.references {
+        TraceSource::Stdin => references_from(alloc, words.column, reader),
+        TraceSource::Path(path) => {
+            let Some(mut file) = ports.trace(rt, path) else {
+                return Err(Ending::ReferencesNotOpened);
+            };
+            references_from(alloc, words.column, &mut file)
+        }
+    }
+}
+
+/// Counts the cells: for each number of frames that the words name a pool of each K, and the optimum.
+fn count<R: Wait, G: Progress>(
+    rt: &R,
+    alloc: Global,
+    words: &SweepWords<'_>,
+    references: &References,
+    progress: &mut G,
+) -> Result<Vec<Line>, Ending>
+    ensures cells { IfOk result (λ lines. AreCells references.now
+        (plans_told (sweep_of words.now)) lines.items) }
+    ensures fault { IfErr result (NotCounted (sweep_of words.now) references.now) }
+{
+    let Ok(plans) = plans_of(alloc, &words.frames, &words.ks, words.correlated) else {
+        return Err(Ending::RunRefused(Refusal::OutOfMemory));
+    };
+    match count_cells(rt, alloc, references, &plans, progress) {
+        Ok(lines) => Ok(lines),
+        Err(fault) => Err(Ending::RunRefused(fault.refusal)),
+    }
+}
+
+/// Counts the cells. Where somebody watches, the error output shows how far it has come.
+fn count_watched<R: Wait + Clock, E: Write>(
+    rt: &R,
+    alloc: Global,
+    words: &SweepWords<'_>,
+    references: &References,
+    is_watched: bool,
+    err: &mut E,
+) -> Result<Vec<Line>, Ending>
+    ensures cells { IfOk result (λ lines. AreCells references.now
+        (plans_told (sweep_of words.now)) lines.items) }
+    ensures fault { IfErr result (NotCounted (sweep_of words.now) references.now) }
+    ensures err_kept { is_watched ≡ false → err.new ≡ err.old }
+{
+    if is_watched {
+        let mut meter = SweepMeter::new(rt, err);
+        let counted = count(rt, alloc, words, references, &mut meter);
+        clear_line(err);
+        counted
+    } else {
+        count(rt, alloc, words, references, &mut Untold)
+    }
+}
+
+/// Counts the cells, writes their table once all are counted, and answers its lines.
+fn tabulate<R: Wait + Clock, W: Write, E: Write>(
+    rt: &R,
+    alloc: Global,
+    words: &SweepWords<'_>,
+    references: &References,
+    is_watched: bool,
+    out: &mut W,
+    err: &mut E,
+) -> Result<Vec<Line>, Ending>
+    ensures tabulated { IfOk result (λ lines. Tabulates (sweep_of words.now) references.now
+        lines.items (W.contents out.old) (W.contents out.new)) }
+    ensures fault { IfErr result (NotTabulated (sweep_of words.now) references.now) }
+    ensures kept { IfErr result (λ ended. ended ≢ Ending.OutputFailed → out.new ≡ out.old) }
+    ensures err_kept { is_watched ≡ false → err.new ≡ err.old }
+{
+    let lines = match count_watched(rt, alloc, words, references, is_watched, err) {
+        Ok(lines) => lines,
+        Err(ending) => return Err(ending),
+    };
+    if write_table(&lines, out).is_err() || out.flush().is_err() {
+        return Err(Ending::OutputFailed);
+    }
+    Ok(lines)
+}
+
+/// Writes the table of the cells, and then draws its picture where the words ask for one.
+fn show<R: Wait + Clock, O: Ports<R>, W: Write, E: Write>(
+    rt: &R,
+    alloc: Global,
+    words: &SweepWords<'_>,
+    references: &References,
+    is_watched: bool,
+    ports: &mut O,
+    out: &mut W,
+    err: &mut E,
+) -> Result<(), Ending>
+    ensures shown { OnOk result (Shows O.ways.saves (sweep_of words.now) references.now
+        (W.contents out.old) (W.contents out.new)) }
+    ensures fault { IfErr result (NotShown (sweep_of words.now) references.now
+        (W.contents out.old) (W.contents out.new)) }
+    ensures kept { IfErr result (λ ended. ended ≢ Ending.OutputFailed
+        → ended ≢ Ending.PictureNotWritten → out.new ≡ out.old) }
+    ensures err_kept { is_watched ≡ false → err.new ≡ err.old }
+{
+    match tabulate(rt, alloc, words, references, is_watched, out, err) {
+        Ok(lines) => draw(rt, alloc, words, &lines, ports),
+        Err(ending) => Err(ending),
+    }
+}
+
+/// Reads the references, counts a cell for each number of frames with each K and for the optimum, writes their table, and draws its
+/// picture where the words ask for one. Where somebody watches, the error output shows how far it has come.
+///
+/// All references are read before any cell is counted, and all cells are counted before the table is written.
+pub(crate) fn sweep_told<R: Wait + Clock, I: Read, O: Ports<R>, W: Write, E: Write>(
+    rt: &R,
+    alloc: Global,
+    words: &SweepWords<'_>,
+    reader: &mut I,
+    ports: &mut O,
+    out: &mut W,
+    err: &mut E,
+) -> Result<(), Ending>
+    requires possible { SweepsInLimits (sweep_of words.now) }
+    ensures swept { OnOk result (Sweeps O.ways O.T.remaining (sweep_of words.now)
+        (I.remaining reader.old) (W.contents out.old) (W.contents out.new)) }
+    ensures stopped { IfErr result (StopsSweep O.ways O.T.remaining (sweep_of words.now)
+        (I.remaining reader.old) (W.contents out.old) (W.contents out.new)) }
+    ensures kept { IfErr result (λ ended. ended ≢ Ending.OutputFailed
+        → ended ≢ Ending.PictureNotWritten → out.new ≡ out.old) }
+    ensures err_kept { O.watched ports.old ≡ false → err.new ≡ err.old }
+{
+    let is_watched = ports.is_watched();
+    let references = match references_of(rt, alloc, words, reader, ports) {
+        Ok(references) => references,
+        Err(ending) => return Err(ending),
+    };
+    show(rt, alloc, words, &references, is_watched, ports, out, err)
+}
