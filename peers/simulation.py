@@ -130,7 +130,8 @@ def lru_k_by_definition(pages, frames, k, correlated):
             if not eligible:
                 refused += 1
                 continue
-            inside.remove(min(eligible, key=lambda it: (stamp(references[it], k, correlated), references[it][-1][0], it)))
+            ranks = {it: (stamp(references[it], k, correlated), references[it][-1][0], it) for it in eligible}
+            inside.remove(min(eligible, key=ranks.get))
             evictions += 1
         hits, faults = hits + is_hit, faults + (not is_hit)
         inside.add(page)
@@ -139,8 +140,8 @@ def lru_k_by_definition(pages, frames, k, correlated):
 
 
 def stamp(references, k, correlated):
-    """HIST(k) of a page with these references, the oldest first: the first time of its k-th newest burst, plus the widths
-    of the bursts from the second newest to that one, each where a hit opened the burst after it."""
+    """HIST(k) of a page with these references, the oldest first: the first time of its k-th newest burst, plus the
+    widths of the bursts from the second newest to that one, each where a hit opened the burst after it."""
     bursts = []
     for time, is_hit in references:
         if bursts and is_hit and time - bursts[-1][-1][0] <= correlated:
@@ -165,8 +166,8 @@ def due_times(pages):
 
 
 def optimum(pages, frames):
-    """Belady's: the page leaves that comes again last. A page that is in `heap` twice was hit, and its older key, when it
-    came again, is past by now; so the greatest key is never an old one."""
+    """Belady's: the page leaves that comes again last. A page that is in `heap` twice was hit, and its older key, when
+    it came again, is past by now; so the greatest key is never an old one."""
     inside, heap = set(), []
     hits = faults = evictions = 0
     for page, due in zip(pages, due_times(pages)):

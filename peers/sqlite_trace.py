@@ -5,16 +5,16 @@
     peers/sqlite_trace.py [--seed N] [--rounds N] [--look-ups N] [--no-scan] > reads.csv
     bpool sweep reads.csv --column 2 --frames 64..4096
 
-The database has a table of 20,000 items with an index on their codes, in some 1,200 pages of 4,096 bytes, and a table of
-60,000 lines of history, in some 3,300 pages. In each of 10 rounds a client looks up 10,000 items by code, sums up 100 items
-that are side by side after each 100 look-ups, and sums up the whole history once; with --no-scan it leaves that out. Of
-the look-ups 80 in 100 go to 20
-in 100 of the items, and so on within these, as in `references.py zipfian`. Neither the table nor the index has the wanted
-items side by side. Ranges begin anywhere.
+The database has a table of 20,000 items with an index on their codes, in some 1,200 pages of 4,096 bytes, and a table
+of 60,000 lines of history, in some 3,300 pages. In each of 10 rounds a client looks up 10,000 items by code, sums up
+100 items that are side by side after each 100 look-ups, and sums up the whole history once; with --no-scan it leaves
+that out. Of the look-ups 80 in 100 go to 20 in 100 of the items, and so on within these, as in `references.py zipfian`.
+Neither the table nor the index has the wanted items side by side. The items that are summed up are any.
 
-SQLite has a cache of one page and does not map its file, so that it reads each page when it needs it, as a storage engine
-asks its pool for it. `strace` writes these reads down. Reads of less than a page, by which SQLite looks at the head of
-the file, are left out. With one seed the reads depend on the version of SQLite alone, which may put rows into other pages.
+SQLite has a cache of one page and does not map its file, so that it reads each page when it needs it, as a storage
+engine asks its pool for it. `strace` writes these reads down. Reads of less than a page, by which SQLite looks at the
+head of the file, are left out. With one seed the reads depend on the version of SQLite alone, which may put rows into
+other pages.
 """
 import argparse
 import os
@@ -23,6 +23,7 @@ import subprocess
 import sys
 import tempfile
 
+sys.dont_write_bytecode = True
 import references
 
 ITEMS, LINES, PAGE_BYTES = 20_000, 60_000, 4_096
