@@ -1,5 +1,5 @@
 #!/usr/bin/env python3
-"""Writes a list of page references, one page number a line, as `bp_sweep::read_references` reads it.
+"""Writes a list of page references, one page number a line, as `bpool sweep` reads it.
 
     peers/references.py two_pools SEED COUNT > refs.txt
     peers/references.py zipfian SEED COUNT > refs.txt
@@ -41,12 +41,12 @@ def two_pools(seed):
         yield INDEX_PAGES + next(it) * RECORD_PAGES // WORD
 
 
-def zipfian(seed):
+def zipfian(seed, pages=ZIPFIAN_PAGES):
     # For each page the number below which a word means it or a page before it.
     with decimal.localcontext() as context:
         context.prec = 60
         exponent = decimal.Decimal("0.8").ln() / decimal.Decimal("0.2").ln()
-        shares = (decimal.Decimal(i) / ZIPFIAN_PAGES for i in range(1, ZIPFIAN_PAGES))
+        shares = (decimal.Decimal(i) / pages for i in range(1, pages))
         bounds = [int(WORD * (exponent * share.ln()).exp()) for share in shares]
     for word in words(seed):
         yield bisect.bisect_right(bounds, word)
