@@ -308,8 +308,10 @@ fn are(answers: &[Answer; 3], first: Answer, others: Answer) -> bool {
 #[test]
 fn waits_for_a_read(rt: HostRuntime) {
     let done = run_together(&rt, 2, 0, false, Ask::Fix);
-    let zero = Answer::Byte(Some(0));
-    assert!(rt; are(&done.answers, zero, zero), "{done:?}");
+    assert!(rt;
+        are(&done.answers, Answer::Byte(Some(0)), Answer::Byte(Some(0))),
+        "{done:?}"
+    );
     assert_eq!(rt;
         (counts(&done.totals), done.after),
         ([3, 1, 0, 0, 0], Ok(Some(0)))

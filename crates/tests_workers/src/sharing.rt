@@ -51,7 +51,8 @@ fn expect_shared<R: Abort + AllocGlobal + Threads + Wait + Sync>(
     assert_eq!(rt; run.left.len(), count);
     for client in 0..run.left.len() {
         let left = &run.left[client];
-        assert!(rt; agrees(run.core.trail(), left.said(), client as u8));
+        let number = u8::try_from(client).expect(rt, "the client's number");
+        assert!(rt; agrees(run.core.trail(), left.said(), number));
         assert_eq!(rt; left.worker.done, 12);
         assert_eq!(rt; left.worker.refused, 0);
         assert_eq!(rt; left.held, 0);
