@@ -17,18 +17,39 @@ pub(crate) fn counts(trail: &[Entry]) -> [u64; 6] {
 
 /// How many reads of the device began before one had ended.
 pub(crate) fn loads_at_once(trail: &[Entry]) -> usize {
-    trail
-        .iter()
-        .take_while(|entry| !matches!(entry.call, Call::ReadEnd { .. }))
-        .filter(|entry| matches!(entry.reply, Reply::Load { .. }))
-        .count()
+    let mut loads: usize = 0;
+    for entry in trail {
+        if matches!(entry.call, Call::ReadEnd { .. }) {
+            break;
+        }
+        if matches!(entry.reply, Reply::Load { .. }) {
+            loads = loads.saturating_add(1);
+        }
+    }
+    loads
 }
 
 /// How many write-outs began before one had ended.
 pub(crate) fn write_outs_at_once(trail: &[Entry]) -> usize {
-    trail
-        .iter()
-        .take_while(|entry| !matches!(entry.call, Call::WriteEnd { .. }))
-        .filter(|entry| matches!(entry.reply, Reply::WriteFirst { .. }))
-        .count()
+    let mut write_outs: usize = 0;
+    for entry in trail {
+        if matches!(entry.call, Call::WriteEnd { .. }) {
+            break;
+        }
+        if matches!(entry.reply, Reply::WriteFirst { .. }) {
+            write_outs = write_outs.saturating_add(1);
+        }
+    }
+    write_outs
+}
+
+/// How many marks were made.
+pub(crate) fn marks_in(trail: &[Entry]) -> usize {
+    let mut marks: usize = 0;
+    for entry in trail {
+        if matches!(entry.call, Call::Mark(_)) {
+            marks = marks.saturating_add(1);
+        }
+    }
+    marks
 }

@@ -1,8 +1,8 @@
 //! The log of client 0 and the durable mark.
-use crate::counting::counts;
+use crate::counting::{counts, marks_in};
 use crate::overlap::run_gated;
 use crate::rows::run_alone;
-use bp_core::{Call, Refused};
+use bp_core::Refused;
 
 const WRITE_AHEAD: &str = "
 0,fix,1,,,
@@ -25,12 +25,7 @@ fn write_ahead_rule_in_a_run(rt: HostRuntime) {
         [Refused { row: 6, number: 12 }].as_slice()
     );
     assert_eq!(rt; counts(&done.trail), [0, 2, 1, 1, 0, 1]);
-    let marks = done
-        .trail
-        .iter()
-        .filter(|entry| matches!(entry.call, Call::Mark(_)))
-        .count();
-    assert_eq!(rt; marks, 2);
+    assert_eq!(rt; marks_in(&done.trail), 2);
 }
 
 const LOG_FOR_ALL: &str = "

@@ -10,13 +10,12 @@ use test_support::scripts::rows_of;
 
 /// Asserts the bytes that a read from the device brought.
 fn expect_read_end<R: Abort>(rt: &R, core: &Core, index: usize, bytes: &[u8]) {
-    match core.trail().get(index).map(|entry| &entry.call) {
-        Some(
-            Call::ReadEnd {
-                image: Some(image),
-                ..
-            },
-        ) => assert_eq!(rt; image.bytes(), bytes),
+    let entry = core.trail().get(index).expect(rt, "the entry");
+    match &entry.call {
+        Call::ReadEnd {
+            image: Some(image),
+            ..
+        } => assert_eq!(rt; image.bytes(), bytes),
         _ => panic!(rt; "entry {index} is no good read end"),
     }
 }

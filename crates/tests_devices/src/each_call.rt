@@ -1,9 +1,11 @@
 //! One client, and the n-th call of its port fails, by a driver and by a thread.
-use crate::making::{Failing, TWO_PAGES, config, device, expect_page_one, fuse, run, starts_with};
-use crate::telling::{content_of, failures_in};
+use crate::making::{
+    Failing, NINE, ONES, TWO_PAGES, ZEROS, config, content_in, device, expect_page, fuse, run,
+};
 use bp_clients::Config;
 use bp_core::{Core, Entry, Refused, Row};
-use bp_device::{Port, drive_all};
+use bp_device::{MemDevice, Port, drive_all};
+use bp_totals::Totals;
 use std::marker::Sync;
 use std::process::Abort;
 use std::sync::Wait;
@@ -12,33 +14,91 @@ use test_support::judging::unlawful_in;
 use test_support::scripts::{rows_fit, rows_of};
 
 /// What is left where the n-th call fails.
-#[derive(Drop)]
-struct Left<'a> {
+#[derive(Clone, Copy)]
+struct Left {
     n: u64,
-    refused: &'a [Refused],
+    refused: &'static [Refused],
     /// Whether row 7 reads what row 2 wrote; else it reads nothing.
     reads_nine: bool,
     entries: usize,
-    failures: usize,
-    /// The first byte of page 1 on the device, and where a failing write spoils it.
-    on_device: u8,
-    spoiled: u8,
+    failures: u64,
+    /// Page 1 on the device, and where a failing write spoils it.
+    on_device: [u8; 16],
+    spoiled: [u8; 16],
 }
 
-/// Asserts what was refused, what row 7 read, and how much was done.
-fn expect_left<R: Abort>(rt: &R, left: &Left<'_>, refused: &[Refused], trail: &[Entry]) {
+/// With the first call failing page 1 is never here.
+const WITHOUT_THE_FIRST: Left = Left {
+    n: 1,
+    refused: &[
+        Refused { row: 1, number: 17 },
+        Refused { row: 2, number: 14 },
+        Refused { row: 3, number: 14 },
+        Refused { row: 6, number: 11 },
+        Refused { row: 7, number: 14 },
+    ],
+    reads_nine: false,
+    entries: 7,
+    failures: 1,
+    on_device: ZEROS,
+    spoiled: ZEROS,
+};
+
+/// With the second call failing page 1 stays in its frame, and is found there.
+const WITHOUT_THE_SECOND: Left = Left {
+    n: 2,
+    refused: &[Refused { row: 5, number: 18 }],
+    reads_nine: true,
+    entries: 10,
+    failures: 1,
+    on_device: ZEROS,
+    spoiled: ONES,
+};
+
+/// With the third call failing the frame is free, and page 1 comes back from the device.
+const WITHOUT_THE_THIRD: Left = Left {
+    n: 3,
+    refused: &[Refused { row: 5, number: 17 }],
+    reads_nine: true,
+    entries: 13,
+    failures: 1,
+    on_device: NINE,
+    spoiled: NINE,
+};
+
+/// There is no fourth call: page 2 stays fixed in the only frame.
+const WITHOUT_A_FOURTH: Left = Left {
+    n: 4,
+    refused: &[
+        Refused { row: 6, number: 11 },
+        Refused { row: 7, number: 14 },
+    ],
+    reads_nine: false,
+    entries: 11,
+    failures: 0,
+    on_device: NINE,
+    spoiled: NINE,
+};
+
+/// Asserts what was refused, what row 7 read, how much was done, and what the device has.
+fn expect_left<R: Wait + Abort>(
+    rt: &R,
+    left: &Left,
+    spoil: bool,
+    refused: &[Refused],
+    trail: &[Entry],
+    device: &MemDevice,
+) {
     assert_eq!(rt; refused, left.refused, "call {}", left.n);
-    assert_eq!(rt;
-        (trail.len(), failures_in(trail)),
-        (left.entries, left.failures),
-        "call {}",
-        left.n
-    );
-    let content = trail.iter().find_map(|entry| content_of(entry));
-    match content {
-        Some(image) => assert!(rt; left.reads_nine && starts_with(image, 9, 0)),
+    assert_eq!(rt; trail.len(), left.entries, "call {}", left.n);
+    assert_eq!(rt; Totals::of(trail).failed, left.failures, "call {}", left.n);
+    match content_in(trail) {
+        Some(image) => assert!(rt; left.reads_nine && image.bytes() == NINE.as_slice()),
         None => assert!(rt; !left.reads_nine),
     }
+    let bytes = if spoil { left.spoiled } else { left.on_device };
+    let mut port = device.port().expect(rt, "the port");
+    expect_page(rt, &mut port, 1, &bytes);
 }
 
 /// A new core with one client.
@@ -68,27 +128,21 @@ pub(crate) fn drive<P: Port, R: Wait + Abort + AllocGlobal>(
 }
 
 /// By a driver, over a core of its own.
-fn expect_driven<R: Wait + Abort + AllocGlobal>(rt: &R, left: &Left<'_>, spoil: bool) {
+fn expect_driven<R: Wait + Abort + AllocGlobal>(rt: &R, left: &Left, spoil: bool) {
     let config = config(rt);
     let device = device(rt, config.geometry);
     let mut port = fuse(rt, &device, left.n, spoil);
     let mut core = new_core(rt, &config);
     let rows = rows_of(rt.alloc(), &config.geometry, TWO_PAGES).expect(rt, "the rows");
     let refused = drive(rt, &mut core, &mut port, &rows);
-    expect_left(rt, left, &refused, core.trail());
+    expect_left(rt, left, spoil, &refused, core.trail(), &device);
     let place = unlawful_in(rt.alloc(), &core);
     assert_eq!(rt; place, Ok(None), "the first entry that is not lawful");
-    assert!(rt; port.failures() == left.failures as u64);
-    let first = if spoil { left.spoiled } else { left.on_device };
-    expect_page_one(rt, &device, first);
+    assert_eq!(rt; port.failures(), left.failures);
 }
 
 /// By a thread, over a pool of its own.
-fn expect_run<R: Threads + Wait + Sync + Abort + AllocGlobal>(
-    rt: &R,
-    left: &Left<'_>,
-    spoil: bool,
-) {
+fn expect_run<R: Threads + Wait + Sync + Abort + AllocGlobal>(rt: &R, left: &Left, spoil: bool) {
     let config = config(rt);
     let device = device(rt, config.geometry);
     let failing = Failing {
@@ -97,94 +151,22 @@ fn expect_run<R: Threads + Wait + Sync + Abort + AllocGlobal>(
         spoil,
     };
     let done = run(rt, config, &device, 1, TWO_PAGES, failing);
-    expect_left(rt, left, &done.refused, &done.trail);
-    let first = if spoil { left.spoiled } else { left.on_device };
-    expect_page_one(rt, &device, first);
-}
-
-const NO_PAGE_ONE: [Refused; 5] = [
-    Refused { row: 1, number: 17 },
-    Refused { row: 2, number: 14 },
-    Refused { row: 3, number: 14 },
-    Refused { row: 6, number: 11 },
-    Refused { row: 7, number: 14 },
-];
-
-const NO_WRITE_OUT: [Refused; 1] = [Refused { row: 5, number: 18 }];
-
-const NO_PAGE_TWO: [Refused; 1] = [Refused { row: 5, number: 17 }];
-
-const NO_FRAME: [Refused; 2] = [
-    Refused { row: 6, number: 11 },
-    Refused { row: 7, number: 14 },
-];
-
-/// With the first call failing page 1 is never here.
-fn without_the_first() -> Left<'static> {
-    Left {
-        n: 1,
-        refused: &NO_PAGE_ONE,
-        reads_nine: false,
-        entries: 7,
-        failures: 1,
-        on_device: 0,
-        spoiled: 0,
-    }
-}
-
-/// With the second call failing page 1 stays in its frame, and is found there.
-fn without_the_second() -> Left<'static> {
-    Left {
-        n: 2,
-        refused: &NO_WRITE_OUT,
-        reads_nine: true,
-        entries: 10,
-        failures: 1,
-        on_device: 0,
-        spoiled: 255,
-    }
-}
-
-/// With the third call failing the frame is free, and page 1 comes back from the device.
-fn without_the_third() -> Left<'static> {
-    Left {
-        n: 3,
-        refused: &NO_PAGE_TWO,
-        reads_nine: true,
-        entries: 13,
-        failures: 1,
-        on_device: 9,
-        spoiled: 9,
-    }
-}
-
-/// There is no fourth call: page 2 stays fixed in the only frame.
-fn without_a_fourth() -> Left<'static> {
-    Left {
-        n: 4,
-        refused: &NO_FRAME,
-        reads_nine: false,
-        entries: 11,
-        failures: 0,
-        on_device: 9,
-        spoiled: 9,
-    }
+    expect_left(rt, left, spoil, &done.refused, &done.trail, &device);
 }
 
 /// The rows take three calls of the device: page 1 is read, then written out for page 2, which is read. Each of them
 /// fails in turn, and then a fourth would. A failing write leaves the device alone, or spoils the page.
 #[test]
 fn each_device_call_fails(rt: HostRuntime) {
-    let table = [
-        without_the_first(),
-        without_the_second(),
-        without_the_third(),
-        without_a_fourth(),
-    ];
-    for left in table.iter() {
+    for left in [
+        WITHOUT_THE_FIRST,
+        WITHOUT_THE_SECOND,
+        WITHOUT_THE_THIRD,
+        WITHOUT_A_FOURTH,
+    ] {
         for spoil in [false, true] {
-            expect_driven(&rt, left, spoil);
-            expect_run(&rt, left, spoil);
+            expect_driven(&rt, &left, spoil);
+            expect_run(&rt, &left, spoil);
         }
     }
 }
@@ -192,11 +174,11 @@ fn each_device_call_fails(rt: HostRuntime) {
 // The rows of one owner, none of whose calls fails.
 #[test]
 fn one_owner_refusals(rt: HostRuntime) {
-    expect_driven(&rt, &without_a_fourth(), false);
+    expect_driven(&rt, &WITHOUT_A_FOURTH, false);
 }
 
 #[test]
 fn failing_second_call(rt: HostRuntime) {
-    expect_driven(&rt, &without_the_second(), false);
-    expect_driven(&rt, &without_the_second(), true);
+    expect_driven(&rt, &WITHOUT_THE_SECOND, false);
+    expect_driven(&rt, &WITHOUT_THE_SECOND, true);
 }

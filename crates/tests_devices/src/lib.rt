@@ -23,6 +23,4 @@ mod memory;
 #[cfg(test)]
 mod once_more;
 #[cfg(test)]
-mod telling;
-#[cfg(test)]
 mod two_clients;

@@ -2,6 +2,7 @@
 ghost use Rattle.std.specs.Prelude.{◌≡◌, All, vec_len};
 
 use bp_clients::{Config, Outcome, run_clients, scripts_fit};
+use bp_core::{Entry, Reply};
 use bp_device::{FusePort, MemDevice, MemPort, Port};
 use bp_lruk::Settings;
 use bp_page::{Geometry, Image, Lsn, PageNo};
@@ -15,6 +16,8 @@ use test_support::scripts::scripts_of;
 pub(crate) const ZEROS: [u8; 16] = [0; 16];
 
 pub(crate) const FIVE: [u8; 16] = [5, 0, 0, 0, 0, 0, 0, 0, 0, 0, 0, 0, 0, 0, 0, 0];
+
+pub(crate) const ONES: [u8; 16] = [255; 16];
 
 pub(crate) const NINE: [u8; 16] = [9, 0, 0, 0, 0, 0, 0, 0, 0, 0, 0, 0, 0, 0, 0, 0];
 
@@ -129,21 +132,12 @@ pub(crate) fn run<R: Threads + Wait + Sync + Abort + AllocGlobal>(
     done
 }
 
-/// Asserts that page 1 of the device starts with this byte, and that the others are zeros, or all like it where it is
-/// 255.
-pub(crate) fn expect_page_one<R: Wait + Abort>(rt: &R, device: &MemDevice, first: u8) {
-    let rest = if first == 255 { 255 } else { 0 };
-    let mut port = device.port().expect(rt, "the port");
-    match port.read(rt, PageNo::new(1)) {
-        Ok(image) => assert!(rt; starts_with(&image, first, rest), "not {first}"),
-        Err(fault) => panic!(rt; "{fault}"),
+/// The content that the first read brought.
+pub(crate) fn content_in(trail: &[Entry]) -> Option<&Image> {
+    for entry in trail {
+        if let Reply::Content(image) = &entry.reply {
+            return Some(image);
+        }
     }
-}
-
-/// Whether an image starts with this byte, and has that one else.
-pub(crate) fn starts_with(image: &Image, first: u8, rest: u8) -> bool {
-    match image.bytes().split_first() {
-        Some((byte, others)) => *byte == first && others.iter().all(|other| *other == rest),
-        None => false,
-    }
+    None
 }

@@ -4,12 +4,11 @@ ghost use Rattle.std.specs.Prelude.{◌≡◌};
 use bp_mark::{LogEnd, Mark, Reader};
 use bp_page::Lsn;
 use std::process::Abort;
-use std::test::Fail;
 use std::thread;
 
 #[test]
-fn views_of_the_mark(rt: HostRuntime) -> Result<(), Fail> {
-    let (mark, mut end, mut first) = Mark::new(rt.alloc())?;
+fn views_of_the_mark(rt: HostRuntime) {
+    let (mark, mut end, mut first) = Mark::new(rt.alloc()).expect(&rt, "the mark");
     end.raise(&mark, Lsn::new(5));
     assert_eq!(rt; first.look(&mark), Lsn::new(5));
     end.raise(&mark, Lsn::new(3));
@@ -20,18 +19,16 @@ fn views_of_the_mark(rt: HostRuntime) -> Result<(), Fail> {
     assert_eq!(rt; second.look(&mark), Lsn::new(9));
     let reader = first.join(&mark, second);
     assert_eq!(rt; mark.close(end, reader), Lsn::new(9));
-    Ok(())
 }
 
 #[test]
-fn mark_at_its_end(rt: HostRuntime) -> Result<(), Fail> {
+fn mark_at_its_end(rt: HostRuntime) {
     let greatest = Lsn::new(18446744073709551615);
-    let (mark, mut end, mut reader) = Mark::new(rt.alloc())?;
+    let (mark, mut end, mut reader) = Mark::new(rt.alloc()).expect(&rt, "the mark");
     assert_eq!(rt; reader.look(&mark), Lsn::new(0));
     end.raise(&mark, greatest);
     assert_eq!(rt; reader.look(&mark), greatest);
     assert_eq!(rt; mark.close(end, reader), greatest);
-    Ok(())
 }
 
 // Raises 1 to 1,000 in order.
@@ -60,8 +57,8 @@ fn look_a_thousand_times(rt: &impl Abort, mark: &Mark, mut reader: Reader) -> Re
 }
 
 #[test]
-fn what_is_seen_never_falls(rt: HostRuntime) -> Result<(), Fail> {
-    let (mark, end, reader) = Mark::new(rt.alloc())?;
+fn what_is_seen_never_falls(rt: HostRuntime) {
+    let (mark, end, reader) = Mark::new(rt.alloc()).expect(&rt, "the mark");
     let shared = &mark;
     let (end, mut reader) = thread::join(
         &rt,
@@ -76,5 +73,4 @@ fn what_is_seen_never_falls(rt: HostRuntime) -> Result<(), Fail> {
     );
     assert_eq!(rt; reader.look(&mark), Lsn::new(1000));
     assert_eq!(rt; mark.close(end, reader), Lsn::new(1000));
-    Ok(())
 }

@@ -1,20 +1,19 @@
 //! What failed once is asked for once more.
-use crate::making::{Failing, config, device, expect_page_one, run, starts_with};
-use crate::telling::{content_of, failures_in};
+use crate::making::{Failing, NINE, ZEROS, config, content_in, device, expect_page, run};
 use bp_clients::Outcome;
-use bp_core::{Refused, Reply};
+use bp_core::Refused;
+use bp_totals::Totals;
 use std::process::Abort;
 
 /// Asserts that one row was refused so, that its failure stands in the trail, and which page was read.
-fn expect_one_failure<R: Abort>(rt: &R, done: &Outcome, row: u64, number: u16, first: u8) {
+fn expect_one_failure<R: Abort>(rt: &R, done: &Outcome, row: u64, number: u16, bytes: &[u8]) {
     assert_eq!(rt;
         done.refused.as_slice(),
         [Refused { row, number }].as_slice()
     );
-    assert_eq!(rt; failures_in(&done.trail), 1);
-    let content = done.trail.iter().find_map(|entry| content_of(entry));
-    match content {
-        Some(image) => assert!(rt; starts_with(image, first, 0)),
+    assert_eq!(rt; Totals::of(&done.trail).failed, 1);
+    match content_in(&done.trail) {
+        Some(image) => assert_eq!(rt; image.bytes(), bytes),
         None => panic!(rt; "nothing was read"),
     }
 }
@@ -31,7 +30,7 @@ fn page_is_read_once_more(rt: HostRuntime) {
         spoil: false,
     };
     let done = run(&rt, config, &device, 1, rows, failing);
-    expect_one_failure(&rt, &done, 1, 17, 0);
+    expect_one_failure(&rt, &done, 1, 17, &ZEROS);
     assert_eq!(&rt; done.trail.len(), 6);
 }
 
@@ -49,13 +48,10 @@ fn page_is_written_once_more(rt: HostRuntime) {
             spoil,
         };
         let done = run(&rt, config, &device, 1, rows, failing);
-        expect_one_failure(&rt, &done, 3, 18, 9);
-        let cleaned = done
-            .trail
-            .iter()
-            .filter(|entry| matches!(entry.reply, Reply::Cleaned))
-            .count();
-        assert_eq!(rt; (cleaned, done.trail.len()), (1, 10));
-        expect_page_one(&rt, &device, 9);
+        expect_one_failure(&rt, &done, 3, 18, &NINE);
+        assert_eq!(rt; Totals::of(&done.trail).writes, 1);
+        assert_eq!(rt; done.trail.len(), 10);
+        let mut port = device.port().expect(&rt, "the port");
+        expect_page(&rt, &mut port, 1, &NINE);
     }
 }

@@ -1,8 +1,8 @@
 //! Two clients over one frame, and one call of one port fails.
-use crate::making::{Failing, config, device, run, starts_with};
-use crate::telling::{content_of, failures_in, is_of_the_device};
+use crate::making::{Failing, NINE, ZEROS, config, device, run};
 use bp_clients::Outcome;
-use bp_core::{Entry, Refused};
+use bp_core::Reply;
+use bp_totals::Totals;
 use std::process::Abort;
 
 /// Each client has the rows of `TWO_PAGES`.
@@ -23,39 +23,28 @@ const ROWS: &str = "\
 1,read,1,,,
 ";
 
-/// Whether the row was refused since no frame was free, since its pass was not there, or since a call of the device
-/// failed.
-fn may_be_refused(refused: &Refused) -> bool {
-    is_of_the_device(refused) || refused.number == 11 || refused.number == 14
-}
-
-/// Whether the entry tells no content, or one that a page had: zeros, or what the clients write. A page that a
-/// failing write spoiled stays in its frame until it is written out well, so that it is not read again before.
-fn tells_what_was_there(entry: &Entry) -> bool {
-    match content_of(entry) {
-        Some(image) => starts_with(image, 0, 0) || starts_with(image, 9, 0),
-        None => true,
-    }
-}
-
-/// Asserts what holds of such a run under every schedule: what failed was refused, and nothing that was never there
-/// was read.
+/// Asserts what holds of such a run under every schedule. What failed was refused; any other row found no frame, or lacked
+/// its pass. Nothing that was never there was read: zeros, or what the clients write. A page that a failing write spoiled
+/// stays in its frame until it is written out well, so that it is not read again before.
 fn expect_sound<R: Abort>(rt: &R, done: &Outcome, n: u64) {
+    for entry in &done.trail {
+        if let Reply::Content(image) = &entry.reply {
+            let bytes = image.bytes();
+            assert!(rt;
+                bytes == ZEROS.as_slice() || bytes == NINE.as_slice(),
+                "call {n}"
+            );
+        }
+    }
+    let mut failed = 0u64;
+    for refused in &done.refused {
+        match refused.number {
+            17 | 18 => failed = failed.saturating_add(1),
+            number => assert!(rt; number == 11 || number == 14, "call {n}: {number}"),
+        }
+    }
     assert!(rt;
-        done.trail.iter().all(|entry| tells_what_was_there(entry)),
-        "call {n}"
-    );
-    assert!(rt;
-        done.refused.iter().all(|refused| may_be_refused(refused)),
-        "call {n}"
-    );
-    let failed = done
-        .refused
-        .iter()
-        .filter(|refused| is_of_the_device(refused))
-        .count();
-    assert!(rt;
-        failed <= 1 && failed == failures_in(&done.trail),
+        failed <= 1 && failed == Totals::of(&done.trail).failed,
         "call {n}"
     );
 }

@@ -33,10 +33,14 @@ fn answer_to(step: &Step) -> Option<Answer> {
 
 /// Whether a flush gave this ticket. The write-out of a fix ends no flush.
 fn is_of_a_flush(trail: &[Entry], number: u64) -> bool {
-    trail.iter().any(|entry| {
-        matches!(entry.call, Call::Flush(_))
-            && matches!(&entry.reply, Reply::WriteFirst { ticket, .. } if *ticket == number)
-    })
+    for entry in trail {
+        if let (Call::Flush(_), Reply::WriteFirst { ticket, .. }) = (&entry.call, &entry.reply)
+            && *ticket == number
+        {
+            return true;
+        }
+    }
+    false
 }
 
 /// The answer that the entry is, if it ends a row.
@@ -62,7 +66,25 @@ fn answer_in(trail: &[Entry], entry: &Entry) -> Option<Answer> {
 }
 
 fn is_refused(refused: &[Refused], row: u64) -> bool {
-    refused.iter().any(|it| it.row == row)
+    for it in refused {
+        if it.row == row {
+            return true;
+        }
+    }
+    false
+}
+
+/// What the next row wants that is not refused, of those from a place on, and the place after it.
+fn next_wanted(rows: &[Row], refused: &[Refused], from: usize) -> (Option<Answer>, usize) {
+    for at in from..rows.len() {
+        let row = &rows[at];
+        if let Some(wanted) = answer_to(&row.step)
+            && !is_refused(refused, row.row)
+        {
+            return (Some(wanted), at + 1);
+        }
+    }
+    (None, rows.len())
 }
 
 /// Asserts that each row which was not refused has its answer in the trail, once and in order, that all passes and
@@ -74,31 +96,31 @@ pub(crate) fn expect_counted<R: Abort + AllocGlobal>(
     refused: &[Refused],
     trail: &[Entry],
 ) -> bool {
-    let mut found = trail.iter().filter_map(|entry| answer_in(trail, entry));
-    for row in rows {
-        if let Some(wanted) = answer_to(&row.step)
-            && !is_refused(refused, row.row)
-        {
-            assert_eq!(rt; found.next(), Some(wanted));
+    let mut from = 0;
+    for entry in trail {
+        assert!(rt; !matches!(entry.call, Call::Mark(_)));
+        if let Some(answer) = answer_in(trail, entry) {
+            let (wanted, next) = next_wanted(rows, refused, from);
+            // At the end passes that were still held go back.
+            let is_lawful = match wanted {
+                Some(wanted) => answer == wanted,
+                None => matches!(answer, Answer::Unfixed(_)),
+            };
+            assert!(rt; is_lawful, "{answer:?}");
+            from = next;
         }
     }
-    // At the end passes that were still held go back.
-    assert!(rt; found.all(|answer| matches!(answer, Answer::Unfixed(_))));
-    assert!(rt;
-        !trail
-            .iter()
-            .any(|entry| matches!(entry.call, Call::Mark(_)))
-    );
+    assert_eq!(rt; next_wanted(rows, refused, from).0, None);
     assert!(rt; all_went_back(trail));
-    // By the pool, or by the port at the end of a read.
-    let for_memory = refused
-        .iter()
-        .filter(|it| it.number == 22 || it.number == 17)
-        .count();
-    let following = refused
-        .iter()
-        .filter(|it| it.number == 11 || it.number == 14)
-        .count();
-    assert!(rt; for_memory <= 1 && for_memory.checked_add(following) == Some(refused.len()));
+    let mut for_memory = 0u64;
+    for it in refused {
+        match it.number {
+            // By the pool, or by the port at the end of a read.
+            22 | 17 => for_memory = for_memory.saturating_add(1),
+            11 | 14 => {}
+            number => panic!(rt; "row {} refused {number}", it.row),
+        }
+    }
+    assert!(rt; for_memory <= 1);
     for_memory == 1
 }

@@ -50,7 +50,7 @@ fn expect_zeros<R: Wait + Abort>(rt: &R, port: &mut FilePort, page: PageNo) {
         read => read,
     };
     match read {
-        Ok(image) => assert!(rt; image.bytes().iter().all(|byte| *byte == 0)),
+        Ok(image) => assert!(rt; image.bytes() == [0u8; 16].as_slice()),
         Err(fault) => panic!(rt; "{fault}"),
     }
     assert!(rt; port.failures() == 0);

@@ -85,7 +85,10 @@ fn expect_run<R: Threads + Wait + Sync + Abort + AllocGlobal>(
     };
     let place = unlawful(rt.alloc(), &setup_of_run(&config, 1), &done.trail);
     assert_eq!(rt; place, Ok(None));
-    assert!(rt; done.said.len() == 1 && done.said.iter().all(|said| agrees(&done.trail, said, 0)));
+    match done.said.as_slice() {
+        [said] => assert!(rt; agrees(&done.trail, said, 0)),
+        _ => panic!(rt; "not one list"),
+    }
     let rows = rows_of(rt.alloc(), &config.geometry, text).expect(rt, "the rows");
     if !expect_counted(rt, &rows, &done.refused, &done.trail) {
         assert_eq!(rt; done.refused.as_slice(), refused);

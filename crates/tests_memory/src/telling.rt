@@ -15,14 +15,16 @@ pub(crate) fn text_of<R: Abort + AllocGlobal>(rt: &R, entries: &[Entry]) -> Stri
 
 /// Whether all tickets of these entries went back.
 pub(crate) fn no_ticket_is_out(entries: &[Entry]) -> bool {
-    let given = entries
-        .iter()
-        .filter(|entry| matches!(entry.reply, Reply::Load { .. } | Reply::WriteFirst { .. }))
-        .count();
-    let ended = entries
-        .iter()
-        .filter(|entry| matches!(entry.call, Call::ReadEnd { .. } | Call::WriteEnd { .. }))
-        .count();
+    let mut given = 0u64;
+    let mut ended = 0u64;
+    for entry in entries {
+        if matches!(entry.reply, Reply::Load { .. } | Reply::WriteFirst { .. }) {
+            given = given.saturating_add(1);
+        }
+        if matches!(entry.call, Call::ReadEnd { .. } | Call::WriteEnd { .. }) {
+            ended = ended.saturating_add(1);
+        }
+    }
     given == ended
 }
 
@@ -44,7 +46,7 @@ pub(crate) struct Told {
     pages: [[u64; 3]; 4],
     /// Which pages are unsaved, and the number of the first.
     unsaved: [bool; 4],
-    next_unsaved: Option<u64>,
+    next_unsaved: Option<PageNo>,
 }
 
 pub(crate) fn told_of<R: Abort + AllocGlobal>(rt: &R, core: &Core) -> Told {
@@ -63,6 +65,6 @@ pub(crate) fn told_of<R: Abort + AllocGlobal>(rt: &R, core: &Core) -> Told {
         fresh: core.fresh(),
         pages,
         unsaved,
-        next_unsaved: core.next_unsaved(0).map(|page| page.number()),
+        next_unsaved: core.next_unsaved(0),
     }
 }

@@ -59,8 +59,14 @@ pub(super) fn share_one_frame<N: PoolName, R: Wait + Abort + AllocGlobal>(
     pool.settle(rt, &mut second.session);
 }
 
-fn is_mark_of_client_one(entry: &Entry) -> bool {
-    entry.client == 1 && matches!(entry.call, Call::Mark(_))
+fn marks_of_client_one(trail: &[Entry]) -> usize {
+    let mut marks: usize = 0;
+    for entry in trail {
+        if entry.client == 1 && matches!(entry.call, Call::Mark(_)) {
+            marks = marks.saturating_add(1);
+        }
+    }
+    marks
 }
 
 /// What the shared frame leaves: one mark of client 1, at LSN 3, and each entry in its client's list.
@@ -72,10 +78,7 @@ pub(super) fn see_the_shared_frame<N: PoolName, R: Abort>(
 ) {
     let trail = core.trail();
     let told = (first.session.said().len(), second.session.said().len());
-    let marks = trail
-        .iter()
-        .filter(|entry| is_mark_of_client_one(entry))
-        .count();
+    let marks = marks_of_client_one(trail);
     assert!(rt; core.durable() == Lsn::new(3));
     assert_eq!(rt; (trail.len(), marks, told), (14, 1, (5, 9)));
 }

@@ -249,11 +249,12 @@ fn legal_entries<R: Abort + AllocGlobal>(rt: &R, pieces: Pieces, core: Core) -> 
 // Each list, joined, is its client's part of the trail.
 fn expect_agreement<N: PoolName, R: Abort>(rt: &R, entries: &[Entry], runners: Vec<Runner<N>>) {
     for runner in runners {
-        let client = runner.client.session.client();
-        let mut list = runner.pieces.kept;
-        let mut left = runner.client.session.into_said();
+        let Runner { client, pieces, .. } = runner;
+        let number = client.session.client();
+        let mut list = pieces.kept;
+        let mut left = client.session.into_said();
         list.append(&mut left).expect(rt, "the list");
-        assert!(rt; agrees(entries, &list, client), "client {client}");
+        assert!(rt; agrees(entries, &list, number), "client {number}");
     }
 }
 

@@ -31,8 +31,14 @@ fn run<R: Abort + AllocGlobal + Threads + Wait + Sync>(
     run
 }
 
-fn is_mark(entry: &Entry) -> bool {
-    entry.call == Call::Mark(Lsn::new(DURABLE))
+fn count_marks(trail: &[Entry]) -> usize {
+    let mut marks: usize = 0;
+    for entry in trail {
+        if entry.call == Call::Mark(Lsn::new(DURABLE)) {
+            marks = marks.saturating_add(1);
+        }
+    }
+    marks
 }
 
 /// Each list is what the trail has of its client, and the mark that the log writer raised was seen once.
@@ -45,18 +51,13 @@ fn expect_shared<R: Abort + AllocGlobal + Threads + Wait + Sync>(
     assert_eq!(rt; run.left.len(), count);
     for client in 0..run.left.len() {
         let left = &run.left[client];
-        assert!(rt; agrees(run.core.trail(), left.said(), client as u8));
+        let number = u8::try_from(client).expect(rt, "the client's number");
+        assert!(rt; agrees(run.core.trail(), left.said(), number));
         assert_eq!(rt; left.worker.done, 12);
         assert_eq!(rt; left.worker.refused, 0);
         assert_eq!(rt; left.held, 0);
     }
-    let marks = run
-        .core
-        .trail()
-        .iter()
-        .filter(|entry| is_mark(entry))
-        .count();
-    assert_eq!(rt; marks, 1);
+    assert_eq!(rt; count_marks(run.core.trail()), 1);
 }
 
 #[test]

@@ -63,8 +63,10 @@ impl Writer {
             }
         }
         if self.keeps {
-            let outcome = fix(rt, pool, client, 0);
-            self.note(outcome.map(|_| ()));
+            match fix(rt, pool, client, 0) {
+                Ok(_) => self.note(Ok(())),
+                Err(refusal) => self.note(Err(refusal)),
+            }
         }
     }
 }
