@@ -1,9 +1,9 @@
 -- Texts without a line end.
-use Rattle.std.proofs.Common.{◌≡◌, ℕ, ◌+◌, ◌/◌, ◌%◌, ◌≤◌, ◌≢◌, ◌==◌, ◌&&◌, ◌||◌, ◌++◌, nat_le, nat_lt, cond, if◌then◌else◌, true, false, Bool, Bor, List, [], ◌∷◌, map, ap, refl, sym, arith}
+use Rattle.std.proofs.Common.{◌≡◌, ℕ, ◌+◌, ◌/◌, ◌%◌, ◌≤◌, ◌≢◌, ◌&&◌, ◌||◌, ◌++◌, nat_le, nat_lt, cond, if◌then◌else◌, true, false, Bool, Bor, List, [], ◌∷◌, map, ap, refl, sym, arith}
 use Rattle.std.proofs.lemmas.Bool.{le-leb, leb-false, ne_eqb}
 use Rattle.std.proofs.lemmas.List.Folds.{flat_map-map}
 use Rattle.std.specs.Char.{encode_utf8, is_control}
-use Rattle.std.specs.List.{flat_map, join_by, list_all}
+use Rattle.std.specs.List.{join_by, list_all}
 use Rattle.std.specs.Prelude.{chars, encode_utf8_all}
 use Rattle.bp_words.specs.Line.{is_line, is_plain_byte, plain, plain_char}
 

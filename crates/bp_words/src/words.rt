@@ -1,5 +1,5 @@
 //! What the words of a command line name.
-ghost use Rattle.std.specs.Prelude.{◌≡◌, option_map, Some, IfOk};
+ghost use Rattle.std.specs.Prelude.{◌≡◌, ◌<◌, ◌^◌, option_map, Some, IfOk};
 ghost use Rattle.clap.specs.Walk.{texts};
 ghost use Rattle.clap.specs.Values.{kind_of};
 ghost use Rattle.clap.specs.Words.{first_of, found_of, rows_of, subcommand_rows_of, FailsBy};
@@ -203,6 +203,7 @@ fn list_at(
     low: usize,
     high: usize,
 ) -> Result<Option<Vec<usize>>, AllocError>
+    requires { high < 2 ^ 63 }
     ensures { IfOk result (λ numbers. option_map (λ v. v.items) numbers
         ≡ list_at id.now low high (rows_of (found_of matches.now))) }
 {

@@ -1,5 +1,5 @@
 use Rattle.std.proofs.Common.{◌∙◌, ap}
-use Rattle.bp_words.specs.Line.{first_paragraph, plain}
+use Rattle.bp_words.specs.Line.{plain}
 use Rattle.bp_words.proofs.OneLine.{plain-is_line}
 use Rattle.bp_words.proofs.line.Line.of.Goals as goal
 
