@@ -12,6 +12,7 @@ import argparse
 import collections
 import csv
 import heapq
+import re
 import sys
 
 HEADER = "frames,k,fixes,hits,faults,hit_ratio,evictions,writes,failed,refused"
@@ -39,15 +40,21 @@ def fields_in(lines, column):
             yield record[column - 1] if column <= len(record) else None
 
 
+def is_title(text):
+    """Whether the field of a first record makes this a header: it is there, and is not digits with or without a sign."""
+    return text is not None and re.fullmatch("[+-]?[0-9]+", text) is None
+
+
 def read_numbers(lines, column):
     """The number of each reference. The first record of a column may be a header."""
     numbers = []
     for place, text in enumerate(fields_in(lines, column), 1):
+        if column is not None and place == 1 and is_title(text):
+            continue
         number = number_in(text)
-        if number is not None:
-            numbers.append(number)
-        elif column is None or place > 1:
+        if number is None:
             sys.exit(f"line {place} says no number")
+        numbers.append(number)
     return numbers
 
 
@@ -241,7 +248,7 @@ def limited(low, high):
 
 
 def listed(low, high):
-    """A list as 64,256,1024; or as 16..1024: 16, its double and so on below 1024, and 1024."""
+    """A list as 64,256,1024, no two of them equal; or as 16..1024: 16, its double and so on below 1024, and 1024."""
     take = limited(low, high)
 
     def take_list(text):
@@ -254,6 +261,8 @@ def listed(low, high):
             while numbers[-1] * 2 < last:
                 numbers.append(numbers[-1] * 2)
             numbers += [last] * (numbers[-1] < last)
+        if len(set(numbers)) < len(numbers):
+            raise argparse.ArgumentTypeError(f"{text} has a number twice")
         if len(numbers) > MOST_IN_A_LIST:
             raise argparse.ArgumentTypeError(f"{text} has more than {MOST_IN_A_LIST} numbers")
         return numbers

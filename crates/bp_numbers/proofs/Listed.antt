@@ -1,10 +1,10 @@
 -- The numbers that a list says are within its limits; there is one, and there are not too many.
-use Rattle.std.proofs.Common.{◌≡◌, ℕ, zero, suc, ◌*◌, ◌≤◌, ◌==◌, ◌&&◌, nat_le, nat_lt, if◌then◌else◌, true, false, Bool, refl, sym, subst, List, [], ◌∷◌, length, All, Option, Some, None, arith}
+use Rattle.std.proofs.Common.{◌≡◌, ℕ, zero, suc, ◌*◌, ◌≤◌, ◌==◌, ◌&&◌, ◌||◌, nat_le, nat_lt, if◌then◌else◌, true, false, Bool, refl, sym, subst, List, [], ◌∷◌, length, All, Option, Some, None, arith}
 use Rattle.std.proofs.lemmas.Bool.{leb-true, ltb-true}
 use Rattle.std.proofs.lemmas.List.Elements.{All-cons, All-nil}
 use Rattle.std.proofs.lemmas.List.Splits.{length-slice_split}
 use Rattle.bp_trace.specs.Numbers.{number_in}
-use Rattle.bp_numbers.specs.Lists.{before, doubled, ends_of, from_to, most_numbers, number_between, numbers_between, numbers_listed, parts_of, range_of, range_or}
+use Rattle.bp_numbers.specs.Lists.{before, doubled, ends_of, from_to, has_repeats, most_listed, number_between, numbers_between, numbers_listed, parts_of, range_of, range_or, unrepeated}
 use Rattle.bp_numbers.proofs.Ranges.{count}
 
 -- what holds of each number, and how many there are
@@ -37,20 +37,28 @@ between_are P low high fits (part ∷ parts) numbers e = go (number_in part) (nu
 
 -- each number has what those from low to high have, there is one, and there are not too many
 abbrev pub AreListed : (ℕ → Type 0) → List ℕ → Type 0
-AreListed P numbers = All P numbers × (1 ≤ length numbers) × (length numbers ≤ most_numbers)
+AreListed P numbers = All P numbers × (1 ≤ length numbers) × (length numbers ≤ most_listed)
 
 -- ---- numbers with commas
 
+unrepeated_are : (o : Option (List ℕ)) (numbers : List ℕ) → unrepeated o ≡ Some numbers → o ≡ Some numbers
+unrepeated_are None numbers e = cc
+unrepeated_are (Some found) numbers e = go (has_repeats found) e
+  where
+    go : (b : Bool) → (if b then None else Some found) ≡ Some numbers → Some found ≡ Some numbers
+    go true e = cc
+    go false e = e
+
 commas_are : (P : ℕ → Type 0) (low high : ℕ) → ((n : ℕ) → low ≤ n → n ≤ high → P n) → (text numbers : List ℕ)
     → range_or low high text None ≡ Some numbers → AreListed P numbers
-commas_are P low high fits text numbers e = go (nat_le (length (parts_of text)) most_numbers) refl e
+commas_are P low high fits text numbers e = go (nat_le (length (parts_of text)) most_listed) refl e
   where
-    go : (b : Bool) → nat_le (length (parts_of text)) most_numbers ≡ b → (if b then numbers_between low high (parts_of text) else None) ≡ Some numbers
+    go : (b : Bool) → nat_le (length (parts_of text)) most_listed ≡ b → (if b then unrepeated (numbers_between low high (parts_of text)) else None) ≡ Some numbers
         → AreListed P numbers
     go true few e =
-        let found = between_are P low high fits (parts_of text) numbers e in
+        let found = between_are P low high fits (parts_of text) numbers (unrepeated_are (numbers_between low high (parts_of text)) numbers e) in
         let whole = length-slice_split (λ b. b == 44) text in
-        (found.0, omega (arith, found.1, whole), omega (arith, found.1, leb-true (length (parts_of text)) most_numbers few))
+        (found.0, omega (arith, found.1, whole), omega (arith, found.1, leb-true (length (parts_of text)) most_listed few))
     go false few e = cc
 
 -- ---- a range
@@ -93,16 +101,16 @@ range_are : (P : ℕ → Type 0) (low high : ℕ) → ((n : ℕ) → low ≤ n �
 range_are P low high fits from to numbers e = go (number_between low high from) (number_between low high to) refl refl e
   where
     go-order : (first last : ℕ) → (low ≤ first) × (first ≤ high) → (low ≤ last) × (last ≤ high) → (b : Bool)
-        → (if b then None else Some (doubled most_numbers first last)) ≡ Some numbers → AreListed P numbers
+        → (if b then None else Some (doubled most_listed first last)) ≡ Some numbers → AreListed P numbers
     go-order first last a b true e = cc
     go-order first last a b false e =
-        let same : doubled most_numbers first last ≡ numbers = cc in
+        let same : doubled most_listed first last ≡ numbers = cc in
         subst (λ (l : List ℕ). AreListed P l) same
-        (doubled_are P low high last fits b.0 b.1 most_numbers first a.0, some_doubled 63 first last, count most_numbers first last)
+        (doubled_are P low high last fits b.0 b.1 most_listed first a.0, some_doubled 63 first last, count most_listed first last)
 
     go : (first last : Option ℕ) → number_between low high from ≡ first → number_between low high to ≡ last → range_of first last ≡ Some numbers → AreListed P numbers
     go (Some first) (Some last) f l e =
-        go-order first last (within low high (number_in from) first f) (within low high (number_in to) last l) (nat_lt last first) e
+        go-order first last (within low high (number_in from) first f) (within low high (number_in to) last l) ((first == 0) || nat_lt last first) e
     go (Some first) None f l e = cc
     go None last f l e = cc
 

@@ -3,7 +3,7 @@ use Rattle.std.specs.Prelude.{ℕ, ◌==◌, List, [], ◌∷◌, codes, find, O
 
 abbrev pub explanations : List (ℕ × List ℕ)
 explanations =
-    (1, codes "the number of pages or the page size is out of its limits")
+    (1, codes "the number of pages, as of different references, or the page size is out of its limits")
     ∷ (2, codes "a setting of the pool is out of its limits")
     ∷ (3, codes "the page file is no positive number of whole pages, or has too many")
     ∷ (11, codes "no page may leave its frame")
@@ -19,14 +19,14 @@ explanations =
     ∷ (22, codes "out of memory")
     ∷ (23, codes "the ring of passes to give back is full")
     ∷ (24, codes "the clients' lists and the trail do not agree")
-    ∷ (40, codes "a record does not have the fields of its operation")
+    ∷ (40, codes "a record does not have the fields of its operation, or lacks the column of a sweep")
     ∷ (41, codes "no client has this number here")
     ∷ (42, codes "no operation has this name")
     ∷ (43, codes "a field is not a number within the limits")
     ∷ (44, codes "the bytes are not pairs of hexadecimal digits")
     ∷ (45, codes "the page is not of the file, or the bytes are not within the page")
-    ∷ (46, codes "the trace is too long")
-    ∷ (47, codes "the trace could not be read")
+    ∷ (46, codes "the trace or the list of references is too long")
+    ∷ (47, codes "the trace or the list of references could not be read")
     ∷ []
 
 -- the text of this number, if it is that of a refusal

@@ -1,7 +1,7 @@
 -- The numbers that a list says, as `64,256,1024` or `16..1024` does.
-use Rattle.std.specs.Prelude.{◌≡◌, ℕ, zero, suc, ◌+◌, ◌-◌, ◌*◌, ◌<◌, ◌≤◌, ◌==◌, ◌&&◌, min, nat_le, nat_lt, if◌then◌else◌, Bool, List, [], ◌∷◌, get_or, length, Option, Some, None}
+use Rattle.std.specs.Prelude.{◌≡◌, ℕ, zero, suc, ◌+◌, ◌-◌, ◌*◌, ◌<◌, ◌≤◌, ◌==◌, ◌&&◌, ◌||◌, min, nat_le, nat_lt, if◌then◌else◌, Bool, false, List, [], ◌∷◌, get_or, length, Option, Some, None}
 use Rattle.std.specs.Option.{option_map_or}
-use Rattle.std.specs.List.{after_first, before_first, position_or_len, slice_split}
+use Rattle.std.specs.List.{after_first, before_first, list_any, position_or_len, slice_split}
 use Rattle.bp_trace.specs.Numbers.{number_in}
 
 abbrev pub from_to : ℕ → ℕ → Option ℕ → Option ℕ
@@ -13,8 +13,8 @@ abbrev pub number_between : ℕ → ℕ → List ℕ → Option ℕ
 number_between low high text = from_to low high (number_in text)
 
 -- the most numbers of a list
-abbrev pub most_numbers : ℕ
-most_numbers = 64
+abbrev pub most_listed : ℕ
+most_listed = 64
 
 -- ---- numbers with commas
 
@@ -32,10 +32,20 @@ numbers_between low high [] = Some []
 numbers_between low high (part ∷ parts) =
     before (number_between low high part) (numbers_between low high parts)
 
+-- whether a number stands twice
+abbrev pub has_repeats : List ℕ → Bool
+has_repeats [] = false
+has_repeats (n ∷ later) = list_any (λ m. m == n) later || has_repeats later
+
+abbrev pub unrepeated : Option (List ℕ) → Option (List ℕ)
+unrepeated None = None
+unrepeated (Some numbers) = if has_repeats numbers then None else Some numbers
+
+-- the numbers that a text says with a comma between two: not too many, and no two equal
 abbrev pub with_commas : ℕ → ℕ → List ℕ → Option (List ℕ)
 with_commas low high text =
     let parts = parts_of text in
-    if nat_le (length parts) most_numbers then numbers_between low high parts else None
+    if nat_le (length parts) most_listed then unrepeated (numbers_between low high parts) else None
 
 -- ---- a range
 
@@ -63,9 +73,10 @@ doubled zero first last = []
 doubled (suc most) first last =
     if nat_lt first last then first ∷ doubled most (first * 2) last else last ∷ []
 
+-- those of a range with these ends, of which 0 is not the first
 abbrev pub range_of : Option ℕ → Option ℕ → Option (List ℕ)
 range_of (Some first) (Some last) =
-    if nat_lt last first then None else Some (doubled most_numbers first last)
+    if (first == 0) || nat_lt last first then None else Some (doubled most_listed first last)
 range_of _ _ = None
 
 -- the numbers of a range with these ends
@@ -88,7 +99,7 @@ numbers_listed low high text = range_or low high text (ends_of text)
 -- both its ends, and each number but the first is the double of the one before, or the last where the double is above
 pub record IsRange (first last : ℕ) (numbers : List ℕ) : Type 0 where
   pub some : 1 ≤ length numbers
-  pub few : length numbers ≤ most_numbers
+  pub few : length numbers ≤ most_listed
   pub begins : get_or numbers 0 0 ≡ first
   pub ends : get_or numbers (length numbers - 1) 0 ≡ last
   pub below : (i : ℕ) → i + 1 < length numbers → get_or numbers i 0 < last

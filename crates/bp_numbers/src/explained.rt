@@ -7,7 +7,9 @@ pub fn explanation_of(number: u64) -> Option<&'static str>
     ensures { option_map (λ text. text.now) result ≡ explanation_of number }
 {
     match number {
-        1 => Some("the number of pages or the page size is out of its limits"),
+        1 => Some(
+            "the number of pages, as of different references, or the page size is out of its limits",
+        ),
         2 => Some("a setting of the pool is out of its limits"),
         3 => Some("the page file is no positive number of whole pages, or has too many"),
         11 => Some("no page may leave its frame"),
@@ -23,14 +25,16 @@ pub fn explanation_of(number: u64) -> Option<&'static str>
         22 => Some("out of memory"),
         23 => Some("the ring of passes to give back is full"),
         24 => Some("the clients' lists and the trail do not agree"),
-        40 => Some("a record does not have the fields of its operation"),
+        40 => Some(
+            "a record does not have the fields of its operation, or lacks the column of a sweep",
+        ),
         41 => Some("no client has this number here"),
         42 => Some("no operation has this name"),
         43 => Some("a field is not a number within the limits"),
         44 => Some("the bytes are not pairs of hexadecimal digits"),
         45 => Some("the page is not of the file, or the bytes are not within the page"),
-        46 => Some("the trace is too long"),
-        47 => Some("the trace could not be read"),
+        46 => Some("the trace or the list of references is too long"),
+        47 => Some("the trace or the list of references could not be read"),
         _ => None,
     }
 }

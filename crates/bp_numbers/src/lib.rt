@@ -6,4 +6,4 @@ pub mod laws;
 mod lists;
 
 pub use explained::explanation_of;
-pub use lists::{MAX_NUMBERS, numbers_listed};
+pub use lists::{MAX_LISTED, numbers_listed};

@@ -1,13 +1,13 @@
 //! Lists of numbers, as `64,256,1024` and `16..1024`.
 ghost use Rattle.std.specs.Prelude.{◌≡◌, ◌≤◌, ◌<◌, ◌^◌, IfOk, IfSome, length, map, option_map};
-ghost use Rattle.bp_numbers.specs.Lists.{cut, doubled, ends_of, most_numbers, number_between, numbers_between};
-ghost use Rattle.bp_numbers.specs.Lists.{numbers_listed, parts_of, range_between};
+ghost use Rattle.bp_numbers.specs.Lists.{cut, doubled, ends_of, has_repeats, most_listed, number_between};
+ghost use Rattle.bp_numbers.specs.Lists.{numbers_between, numbers_listed, parts_of, range_between, with_commas};
 
 use bp_trace::numbers::parse_number;
 use std::alloc::{AllocError, Global};
 
 /// The most numbers of a list.
-pub const MAX_NUMBERS: usize = 64;
+pub const MAX_LISTED: usize = 64;
 
 /// The number that a text says, if it says one from `low` to `high`.
 fn number_between(text: &str, low: usize, high: usize) -> Option<usize>
@@ -49,6 +49,43 @@ fn numbers_between(
     Ok(Some(numbers))
 }
 
+/// Whether a number stands twice among these.
+fn has_repeats(numbers: &[usize]) -> bool
+    ensures { result ≡ has_repeats numbers.now }
+{
+    let mut left = numbers;
+    while let Some((first, later)) = left.split_first() {
+        if later.contains(first) {
+            return true;
+        }
+        left = later;
+    }
+    false
+}
+
+/// The numbers that a text says with a comma between two, if each says one from `low` to `high`, and no two are equal.
+fn with_commas(
+    alloc: Global,
+    text: &str,
+    low: usize,
+    high: usize,
+) -> Result<Option<Vec<usize>>, AllocError>
+    ensures { IfOk result (λ numbers. option_map (λ v. v.items) numbers
+        ≡ with_commas low high text.now) }
+{
+    let parts = parts_of(alloc, text)?;
+    if parts.len() > MAX_LISTED {
+        return Ok(None);
+    }
+    let Some(listed) = numbers_between(alloc, parts.as_slice(), low, high)? else {
+        return Ok(None);
+    };
+    if has_repeats(&listed) {
+        return Ok(None);
+    }
+    Ok(Some(listed))
+}
+
 /// What stands before the first dot of a text, and what stands after it.
 fn cut(text: &str) -> Option<(&str, &str)>
     ensures { option_map (λ p. (p.0.now, p.1.now)) result ≡ cut text.now }
@@ -72,11 +109,11 @@ fn ends_of(text: &str) -> Option<(&str, &str)>
 /// The numbers from `first` on, each the double of the one before, as long as they are below `last`, and then `last`.
 fn doubled(alloc: Global, first: usize, last: usize) -> Result<Vec<usize>, AllocError>
     requires { last < 2 ^ 63 }
-    ensures { IfOk result (λ numbers. numbers.items ≡ doubled most_numbers first last) }
+    ensures { IfOk result (λ numbers. numbers.items ≡ doubled most_listed first last) }
 {
     let mut numbers = Vec::new(alloc);
     let mut next = first;
-    for _ in 0..MAX_NUMBERS {
+    for _ in 0..MAX_LISTED {
         if next >= last {
             numbers.push(last)?;
             return Ok(numbers);
@@ -87,7 +124,8 @@ fn doubled(alloc: Global, first: usize, last: usize) -> Result<Vec<usize>, Alloc
     Ok(numbers)
 }
 
-/// The numbers of a range with these ends, if each says one from `low` to `high` and the last is not below the first.
+/// The numbers of a range with these ends, if each says one from `low` to `high`, the first is not 0, and the last is not
+/// below it.
 fn range_between(
     alloc: Global,
     first: &str,
@@ -105,19 +143,19 @@ fn range_between(
     let Some(to) = number_between(last, low, high) else {
         return Ok(None);
     };
-    if to < from {
+    if from == 0 || to < from {
         return Ok(None);
     }
     let range = doubled(alloc, from, to)?;
     Ok(Some(range))
 }
 
-/// The numbers that a list says, each from `low` to `high`. It is 1 to 64 of them with a comma between two, or a range
-/// `FIRST..LAST`, which says FIRST, its double, the double of that and so on as long as they are below LAST, and LAST.
-/// Each number that stands there has 1 to 19 decimal digits; signs and spaces may not stand there.
+/// The numbers that a list says, each from `low` to `high`, and no two equal. It is 1 to 64 of them with a comma between
+/// two, or a range `FIRST..LAST`, which says FIRST, its double, the double of that and so on as long as they are below
+/// LAST, and LAST. Each number that stands there has 1 to 19 decimal digits; signs and spaces may not stand there.
 ///
 /// `None` where the text is no such list: it or one of its parts is empty, a part is no number within the limits, there
-/// are too many, or LAST is below FIRST.
+/// are too many, a number comes twice, FIRST is 0, or LAST is below FIRST.
 pub fn numbers_listed(
     alloc: Global,
     text: &str,
@@ -131,9 +169,5 @@ pub fn numbers_listed(
     if let Some((first, last)) = ends_of(text) {
         return range_between(alloc, first, last, low, high);
     }
-    let parts = parts_of(alloc, text)?;
-    if parts.len() > MAX_NUMBERS {
-        return Ok(None);
-    }
-    numbers_between(alloc, parts.as_slice(), low, high)
+    with_commas(alloc, text, low, high)
 }

@@ -3,6 +3,5 @@ pub mod Naming
 pub mod Opened
 pub mod Splitting
 pub mod Stopping
-pub mod Tabulating
 pub mod Threads
 pub mod Working

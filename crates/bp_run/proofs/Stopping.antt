@@ -2,6 +2,7 @@
 use Rattle.std.proofs.Common.{◌≡◌, ◌∙◌, ◌⊎◌, inl, inr, refl, sym, ap, subst, ℕ, zero, suc, ◌+◌, ◌*◌, ◌<◌, min, arith, All, Bool, true, false, List, [], ◌∷◌, length, Option, Some, None, Result, Ok, Err}
 use Rattle.std.proofs.lemmas.Bool.{eqb-true}
 use Rattle.std.specs.Prelude.{if◌then◌else◌}
+use Rattle.std.specs.Io.KnownBytes.{Appends}
 use Rattle.clap.specs.Kinds.{IsAmong, Kinds}
 use Rattle.clap.specs.Walk.{is_empty}
 use Rattle.clap.specs.Words.{Text, subcommand_of}
@@ -19,6 +20,8 @@ use Rattle.bp_trace.specs.InRange.{IsInRange}
 use Rattle.bp_device.specs.Work.{Reads, Writes}
 use Rattle.bp_core.specs.Outcomes.{IsFit, IsFitUpTo, NewOutcome}
 use Rattle.bp_clients.specs.Runs.{RunAnswers}
+use Rattle.bp_table.specs.declared.lines.Line.{Line}
+use Rattle.bp_table.specs.Table.{table_text}
 use Rattle.bp_sweep.specs.Dense.{Pages}
 use Rattle.bp_words.specs.Asked.{Asked, Migration, Sweep, asked_by, asked_in}
 use Rattle.bp_words.specs.Asked.Asked.{a_run, a_migration, a_sweep, an_explanation}
@@ -35,7 +38,7 @@ use Rattle.bp_run.specs.Run.{DoesWords, parameters_for, ports_for}
 use Rattle.bp_run.proofs.Threads.{few_clients as at_most_64}
 use Rattle.bp_run.specs.Ways.{Ways}
 use Rattle.bp_run.specs.Stops.{EndsBy, IsShown, TakesLong, keeps_out, NotConnected, NotRead, NotReported, StopsRun}
-use Rattle.bp_run.specs.Sweep.{NotShown, NotTabulated, NotTaken, StopsSweep, Tabulates}
+use Rattle.bp_run.specs.Sweep.{NotShown, NotTaken, NotWritten, StopsSweep}
 
 -- ---- a core is refused for want of memory alone
 
@@ -105,18 +108,19 @@ no_help_taken traces bytes_of from_stdin column bytes ended help not = (let none
 no_help_taken traces bytes_of (at_path path) column bytes ended help (inl not) = (let none = ap is_help not.1 in cc)
 no_help_taken traces bytes_of (at_path path) column bytes ended help (inr not) = (let none = ap is_help not.2.said in cc)
 
-no_help_table : (s : Sweep) (references : Pages) (ended : Ending) → is_help ended ≡ true → NotTabulated s references ended → ⊥
-no_help_table s references ended help (inl (inl is)) = (let none = ap is_help is in cc)
-no_help_table s references ended help (inl (inr at)) = (let none = ap is_help at.said in cc)
-no_help_table s references ended help (inr not) = (let none = ap is_help not.said in cc)
+no_help_written : (saves : Text → List ℕ → Bool → Type 0) (s : Sweep) (lines : List Line) (old new : Option (List ℕ)) (ended : Ending) → is_help ended ≡ true → NotWritten saves s lines old new ended → ⊥
+no_help_written saves s lines old new ended help (inl is) = (let none = ap is_help is in cc)
+no_help_written saves s lines old new ended help (inr (inl is)) = (let none = ap is_help is in cc)
+no_help_written saves s lines old new ended help (inr (inr not)) = (let none = ap is_help not.said in cc)
 
-no_help_shown : (s : Sweep) (references : Pages) (old new : Option (List ℕ)) (ended : Ending) → is_help ended ≡ true → NotShown s references old new ended → ⊥
-no_help_shown s references old new ended help (inl not) = no_help_table s references ended help not
-no_help_shown s references old new ended help (inr not) = (let none = ap is_help not.said in cc)
+no_help_shown : (saves : Text → List ℕ → Bool → Type 0) (s : Sweep) (references : Pages) (old new : Option (List ℕ)) (ended : Ending) → is_help ended ≡ true → NotShown saves s references old new ended → ⊥
+no_help_shown saves s references old new ended help (inl (inl is)) = (let none = ap is_help is in cc)
+no_help_shown saves s references old new ended help (inl (inr at)) = (let none = ap is_help at.said in cc)
+no_help_shown saves s references old new ended help (inr at) = no_help_written saves s at.lines old new ended help at.why
 
 no_help_sweep : {F P T : Type 0} (ways : Ways F P T) (bytes_of : T → Option (List ℕ)) (s : Sweep) (bytes old new : Option (List ℕ)) (ended : Ending) → is_help ended ≡ true → StopsSweep ways bytes_of s bytes old new ended → ⊥
 no_help_sweep ways bytes_of s bytes old new ended help (inl not) = no_help_taken ways.traces bytes_of s.references s.column bytes ended help not
-no_help_sweep ways bytes_of s bytes old new ended help (inr after) = no_help_shown s after.references old new ended help after.stopped
+no_help_sweep ways bytes_of s bytes old new ended help (inr after) = no_help_shown ways.saves s after.references old new ended help after.stopped
 
 pub help_asked : {F P T : Type 0} (ways : Ways F P T) (bytes_of : T → Option (List ℕ)) (words : List Text) (bytes old new : Option (List ℕ)) (ended : Ending) → EndsBy ways bytes_of words bytes old new ended → is_help ended ≡ true → AsksForAnswer words
 help_asked ways bytes_of words bytes old new (ending.Help text) (inl decided) help = inl decided
@@ -199,14 +203,18 @@ stops_the_same ways bytes_of s bytes old mid new ended kept (inl not) = inl not
 stops_the_same ways bytes_of s bytes old mid new ended kept (inr after) =
     inr (record { references = after.references; taken = after.taken; stopped = go after.stopped })
   where
-    go : NotShown s after.references old mid ended → NotShown s after.references old new ended
-    go (inl not) = inl not
-    go (inr not) = inr (record {
-      lines = not.lines;
-      tabulates = subst (λ out. Tabulates s after.references not.lines old out) (sym (kept (ap is_help not.said))) not.tabulates;
-      asked = not.asked;
+    why : (lines : List Line) → NotWritten ways.saves s lines old mid ended → NotWritten ways.saves s lines old new ended
+    why lines (inl is) = inl is
+    why lines (inr (inl is)) = inr (inl is)
+    why lines (inr (inr not)) = inr (inr (record {
+      written = subst (λ out. Appends old out (table_text lines)) (sym (kept (ap is_help not.said))) not.written;
+      failed = not.failed;
       said = not.said;
-    })
+    }))
+
+    go : NotShown ways.saves s after.references old mid ended → NotShown ways.saves s after.references old new ended
+    go (inl not) = inl not
+    go (inr at) = inr (record { lines = at.lines; cells = at.cells; why = why at.lines at.why })
 
 pub ends_the_same : {F P T : Type 0} (ways : Ways F P T) (bytes_of : T → Option (List ℕ)) (words : List Text) (bytes old mid new : Option (List ℕ)) (ended : Ending)
     → (is_help ended ≡ false → new ≡ mid) → EndsBy ways bytes_of words bytes old mid ended → EndsBy ways bytes_of words bytes old new ended

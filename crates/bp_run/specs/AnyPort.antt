@@ -78,5 +78,5 @@ pages_ways = record {
   headed = is_headed_pages;
   connects = ConnectsPages;
   traces = λ path found. Unit {0};
-  saves = λ path bytes. Unit {0};
+  saves = λ path bytes written. Unit {0};
 }

@@ -1,5 +1,5 @@
 -- The picture of a sweep's table.
-use Rattle.std.specs.Prelude.{◌≡◌, ℕ, zero, suc, nat_eq, if◌then◌else◌, List, [], ◌∷◌, ◌++◌, map, Option, Some, None}
+use Rattle.std.specs.Prelude.{◌≡◌, ℕ, zero, suc, nat_eq, if◌then◌else◌, Bool, true, false, List, [], ◌∷◌, ◌++◌, map, Option, Some, None}
 use Rattle.std.specs.List.{list_any}
 use Rattle.std.specs.List.Sorted.{IsNonDecreasingBy, IsPermutation}
 use Rattle.clap.specs.Words.{Text}
@@ -46,7 +46,12 @@ pub record Pictures (ks : List ℕ) (table : List Line) (bytes : List ℕ) : Typ
   pub drawn : AreLines cells (names_of ks) lines
   pub bytes_are : bytes ≡ chart_text lines
 
--- where a picture is asked for, these bytes were written to its path
-abbrev pub IsDrawn : (Text → List ℕ → Type 0) → Option Text → List ℕ → List Line → Type 0
+-- where a picture is asked for, its bytes were written to its path
+abbrev pub IsDrawn : (Text → List ℕ → Bool → Type 0) → Option Text → List ℕ → List Line → Type 0
 IsDrawn saves None ks table = Unit {0}
-IsDrawn saves (Some path) ks table = (bytes : List ℕ) × Pictures ks table bytes × saves path bytes
+IsDrawn saves (Some path) ks table = (bytes : List ℕ) × Pictures ks table bytes × saves path bytes true
+
+-- a picture is asked for, and writing its bytes to its path failed
+abbrev pub FailsToDraw : (Text → List ℕ → Bool → Type 0) → Option Text → List ℕ → List Line → Type 0
+FailsToDraw saves None ks table = ⊥
+FailsToDraw saves (Some path) ks table = (bytes : List ℕ) × Pictures ks table bytes × saves path bytes false

@@ -1,8 +1,10 @@
--- How the program ends where a page file is not opened.
+-- How the program ends where a page file is not opened, or not written anew.
 use Rattle.bp_page.specs.declared.refusals.Refusal.TheVariants.{OutOfMemory}
 use Rattle.bp_page.specs.declared.refusals.PortFault.TheVariants.{Device, Memory, WrongPage}
 use Rattle.bp_device.specs.declared.OpenFault.{OpenFault}
 use Rattle.bp_device.specs.declared.OpenFault.TheVariants.{Refused, Port}
+use Rattle.bp_migrate.specs.declared.migration.MigrateFault.{MigrateFault}
+use Rattle.bp_migrate.specs.declared.migration.MigrateFault.TheVariants as migrate_fault
 use Rattle.bp_words.specs.declared.ending.Ending.{Ending}
 use Rattle.bp_words.specs.declared.ending.Ending.TheVariants as ending
 
@@ -11,3 +13,9 @@ ending_of (Refused refusal) = ending.PageFileRefused refusal
 ending_of (Port Device) = ending.PageFileNotOpened
 ending_of (Port WrongPage) = ending.PageFileNotOpened
 ending_of (Port Memory) = ending.PageFileRefused OutOfMemory
+
+-- the old file is not read, the new one not written, or there is no memory
+abbrev pub ending_of_fault : MigrateFault → Ending
+ending_of_fault migrate_fault.Read = ending.PageFileNotOpened
+ending_of_fault migrate_fault.Write = ending.OutputFailed
+ending_of_fault migrate_fault.Memory = ending.PageFileRefused OutOfMemory

@@ -1,11 +1,11 @@
 -- What a sweep writes and draws, or why it does not.
-use Rattle.std.specs.Prelude.{◌≡◌, ◌≢◌, ◌⊎◌, ℕ, List, Option, Some, None, IfSome, Result, Ok, Err}
+use Rattle.std.specs.Prelude.{◌≡◌, ◌⊎◌, ℕ, Bool, List, Option, Some, None, IfSome, Result, Ok, Err}
 use Rattle.std.specs.Io.KnownBytes.{Appends}
 use Rattle.clap.specs.Words.{Text}
 use Rattle.bp_page.specs.declared.refusals.Refusal.TheVariants.{OutOfMemory}
 use Rattle.bp_table.specs.declared.lines.Line.{Line}
 use Rattle.bp_table.specs.Table.{table_text}
-use Rattle.bp_sweep.specs.Column.{IsColumn}
+use Rattle.bp_sweep.specs.Column.{ReadsColumn}
 use Rattle.bp_sweep.specs.Dense.{Pages}
 use Rattle.bp_sweep.specs.Lines.{IsList}
 use Rattle.bp_sweep.specs.Sweeping.{AreCells, SweepRefused, plans_of}
@@ -17,13 +17,13 @@ use Rattle.bp_words.specs.Asked.Asked.{a_sweep}
 use Rattle.bp_words.specs.Words.{TraceAt, from_stdin, at_path}
 use Rattle.bp_words.specs.declared.ending.Ending.{Ending}
 use Rattle.bp_words.specs.declared.ending.Ending.TheVariants as ending
-use Rattle.bp_run.specs.Drawing.{IsDrawn}
+use Rattle.bp_run.specs.Drawing.{FailsToDraw, IsDrawn}
 use Rattle.bp_run.specs.Ways.{Ways}
 
 -- what reading a list answers: with a number a line, or with the number in a column of records
 abbrev pub ReadsList : Option ℕ → Result Pages ReferenceFault → List ℕ → Type 0
 ReadsList None result bytes = IsList result bytes
-ReadsList (Some column) result bytes = IsColumn result column bytes
+ReadsList (Some column) result bytes = ReadsColumn result column bytes
 
 -- the references are those that the bytes say, where these are known
 abbrev pub AreReferencesOf : Option ℕ → Option (List ℕ) → Pages → Type 0
@@ -44,7 +44,7 @@ pub record Tabulates (s : Sweep) (references : Pages) (lines : List Line) (old n
   pub written : Appends old new (table_text lines)
 
 -- the table was written, and its picture drawn where the words ask for one
-pub record Shows (saves : Text → List ℕ → Type 0) (s : Sweep) (references : Pages) (old new : Option (List ℕ)) : Type 0 where
+pub record Shows (saves : Text → List ℕ → Bool → Type 0) (s : Sweep) (references : Pages) (old new : Option (List ℕ)) : Type 0 where
   pub lines : List Line
   pub tabulates : Tabulates s references lines old new
   pub drawn : IsDrawn saves s.svg s.ks lines
@@ -85,36 +85,36 @@ pub record StopsAtCell (s : Sweep) (references : Pages) (ended : Ending) : Type 
   pub refused : SweepRefused references (plans_told s) why
   pub said : ended ≡ ending.RunRefused why.refusal
 
--- memory is wanted, or a cell was refused
+-- memory is wanted for the plans, or a cell was refused
 abbrev pub NotCounted : Sweep → Pages → Ending → Type 0
 NotCounted s references ended = (ended ≡ ending.RunRefused OutOfMemory) ⊎ StopsAtCell s references ended
 
--- all cells were counted, and not all of their table was written
-pub record NotPrinted (s : Sweep) (references : Pages) (ended : Ending) : Type 0 where
-  pub lines : List Line
-  pub cells : AreCells references (plans_told s) lines
-  pub said : ended ≡ ending.OutputFailed
-
--- the table was written, and not the picture that the words ask for
-pub record NotDrawn (s : Sweep) (references : Pages) (old new : Option (List ℕ)) (ended : Ending) : Type 0 where
-  pub lines : List Line
-  pub tabulates : Tabulates s references lines old new
-  pub asked : s.svg ≢ None
+-- the table of the lines was written, and writing their picture failed
+pub record NotDrawn (saves : Text → List ℕ → Bool → Type 0) (s : Sweep) (lines : List Line) (old new : Option (List ℕ)) (ended : Ending) : Type 0 where
+  pub written : Appends old new (table_text lines)
+  pub failed : FailsToDraw saves s.svg s.ks lines
   pub said : ended ≡ ending.PictureNotWritten
 
--- there is no table
-abbrev pub NotTabulated : Sweep → Pages → Ending → Type 0
-NotTabulated s references ended = NotCounted s references ended ⊎ NotPrinted s references ended
+-- why lines that were counted are not all shown: memory is wanted for their picture, the table was not written, or not
+-- all of it, or the picture was not
+abbrev pub NotWritten : (Text → List ℕ → Bool → Type 0) → Sweep → List Line → Option (List ℕ) → Option (List ℕ) → Ending → Type 0
+NotWritten saves s lines old new ended = (ended ≡ ending.RunRefused OutOfMemory) ⊎ (ended ≡ ending.OutputFailed) ⊎ NotDrawn saves s lines old new ended
 
--- or no picture of it
-abbrev pub NotShown : Sweep → Pages → Option (List ℕ) → Option (List ℕ) → Ending → Type 0
-NotShown s references old new ended = NotTabulated s references ended ⊎ NotDrawn s references old new ended
+-- all cells were counted, and their lines are not shown
+pub record StopsAtTable (saves : Text → List ℕ → Bool → Type 0) (s : Sweep) (references : Pages) (old new : Option (List ℕ)) (ended : Ending) : Type 0 where
+  pub lines : List Line
+  pub cells : AreCells references (plans_told s) lines
+  pub why : NotWritten saves s lines old new ended
+
+-- there is no table, or no picture of it
+abbrev pub NotShown : (Text → List ℕ → Bool → Type 0) → Sweep → Pages → Option (List ℕ) → Option (List ℕ) → Ending → Type 0
+NotShown saves s references old new ended = NotCounted s references ended ⊎ StopsAtTable saves s references old new ended
 
 -- the references were read, and then there was no table, or no picture of it
 pub record StopsAfterTaken {F P T : Type 0} (ways : Ways F P T) (bytes_of : T → Option (List ℕ)) (s : Sweep) (bytes old new : Option (List ℕ)) (ended : Ending) : Type 0 where
   pub references : Pages
   pub taken : AreTaken ways.traces bytes_of s.references s.column bytes references
-  pub stopped : NotShown s references old new ended
+  pub stopped : NotShown ways.saves s references old new ended
 
 -- why a sweep writes no table, or no picture of it
 abbrev pub StopsSweep : {F P T : Type 0} → Ways F P T → (T → Option (List ℕ)) → Sweep → Option (List ℕ) → Option (List ℕ) → Option (List ℕ) → Ending → Type 0

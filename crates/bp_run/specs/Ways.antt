@@ -7,7 +7,7 @@ use Rattle.bp_page.specs.declared.slots.Format.{Format}
 use Rattle.bp_device.specs.declared.files.OpenFault.{OpenFault}
 
 -- What is said of it by whoever opens them. Three relations have the results that calls gave: of a page file that was to be opened by a word, with pages of
--- so many bytes in a version; of so many ports to it; and of the trace at a path. A fourth has the bytes that were written into the file at a path. Of an open
+-- so many bytes in a version; of so many ports to it; and of the trace at a path. A fourth has bytes that were to be written into the file at a path, and whether they were. Of an open
 -- page file it is said how many pages it has in memory, where its word names that, which geometry it has, and whether its pages stand with their numbers.
 pub record Ways (F P T : Type 0) : Type 1 where
   pub opens : Text → ℕ → Format → Result F OpenFault → Type 0
@@ -16,4 +16,4 @@ pub record Ways (F P T : Type 0) : Type 1 where
   pub headed : F → Bool
   pub connects : F → ℕ → Result (Vec P Global) OpenFault → Type 0
   pub traces : Text → Option T → Type 0
-  pub saves : Text → List ℕ → Type 0
+  pub saves : Text → List ℕ → Bool → Type 0

@@ -1,12 +1,9 @@
 //! The picture of a sweep's table.
-ghost use Rattle.std.specs.Prelude.{◌≡◌, ◌≢◌, ◌++◌, map, None, IfErr, IfOk, OnOk};
-ghost use Rattle.bp_words.specs.Asked.{sweep_of};
-ghost use Rattle.bp_run.specs.Drawing.{AreShown, IsDrawn, Pictures, cell_of, if_among, names_of};
+ghost use Rattle.std.specs.Prelude.{◌≡◌, ◌++◌, map, IfOk, OnOk};
+ghost use Rattle.bp_run.specs.Drawing.{AreShown, Pictures, cell_of, if_among, names_of};
 
-use crate::opening::Ports;
 use bp_chart::{Cell, Point, Which, lines_of, write_chart};
 use bp_table::Line;
-use bp_words::{Ending, SweepWords};
 use std::alloc::{AllocError, Global};
 
 /// The greatest K of LRU-K.
@@ -73,7 +70,7 @@ fn names_of(alloc: Global, ks: &[usize]) -> Result<Vec<Which>, AllocError>
 }
 
 /// The picture of a table over these K, as bytes.
-fn picture_of(alloc: Global, ks: &[usize], table: &[Line]) -> Result<Vec<u8>, AllocError>
+pub(crate) fn picture_of(alloc: Global, ks: &[usize], table: &[Line]) -> Result<Vec<u8>, AllocError>
     ensures { IfOk result (λ bytes. Pictures ks.now table.now bytes.items) }
 {
     let cells = cells_of(alloc, table)?;
@@ -83,30 +80,5 @@ fn picture_of(alloc: Global, ks: &[usize], table: &[Line]) -> Result<Vec<u8>, Al
     match write_chart(&lines, &mut bytes) {
         Ok(()) => Ok(bytes),
         Err(_) => Err(AllocError),
-    }
-}
-
-/// Draws the picture of a table, where the words ask for one.
-pub(crate) fn draw<R, O: Ports<R>>(
-    rt: &R,
-    alloc: Global,
-    words: &SweepWords<'_>,
-    table: &[Line],
-    ports: &mut O,
-) -> Result<(), Ending>
-    ensures drawn { OnOk result (IsDrawn O.ways.saves (sweep_of words.now).svg
-        (sweep_of words.now).ks table.now) }
-    ensures fault { IfErr result (λ ended. ended ≡ Ending.PictureNotWritten) }
-    ensures asked { IfErr result (λ _. (sweep_of words.now).svg ≢ None) }
-{
-    let Some(path) = words.svg else {
-        return Ok(());
-    };
-    let Ok(bytes) = picture_of(alloc, &words.ks, table) else {
-        return Err(Ending::PictureNotWritten);
-    };
-    match ports.save(rt, path, &bytes) {
-        Ok(()) => Ok(()),
-        Err(_) => Err(Ending::PictureNotWritten),
     }
 }

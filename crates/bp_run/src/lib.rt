@@ -7,6 +7,7 @@
 mod awaiting;
 mod drawing;
 mod explaining;
+mod file_ids;
 mod free;
 mod meter;
 mod migration;

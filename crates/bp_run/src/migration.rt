@@ -2,8 +2,10 @@
 ghost use Rattle.std.specs.Prelude.{◌≡◌, IfErr, false};
 ghost use Rattle.bp_words.specs.Asked.{migration_of};
 ghost use Rattle.bp_words.specs.Decision.{IsMigratable};
+ghost use Rattle.bp_run.specs.Opening.{ending_of_fault};
 ghost use Rattle.bp_run.specs.Stops.{StopsMigration};
 
+use crate::file_ids::FileId;
 use crate::meter::{Meter, clear_line};
 use bp_device::geometry_of_file;
 use bp_migrate::{MigrateFault, Progress, Untold, migrate_told};
@@ -11,14 +13,14 @@ use bp_page::{Format, Geometry, Refusal};
 use bp_words::{Ending, Line, MigrationWords};
 use std::alloc::Global;
 use std::fs;
-use std::fs::{File, Metadata, OpenFile};
+use std::fs::{File, OpenFile};
 use std::io::{BufReader, BufWriter, Read, Write};
-use std::os::unix::fs::MetadataExt;
 use std::rt::Files;
 
 /// How the program ends where a migration failed.
 fn ending_of(fault: MigrateFault) -> Ending
-    ensures { StopsMigration result }
+    ensures said { result ≡ ending_of_fault fault }
+    ensures stops { StopsMigration result }
 {
     match fault {
         MigrateFault::Read => Ending::PageFileNotOpened,
@@ -34,14 +36,6 @@ fn words_refused(alloc: Global, why: &str) -> Ending
     match Line::of(alloc, why) {
         Ok(line) => Ending::CommandLine(line),
         Err(_) => Ending::RunRefused(Refusal::OutOfMemory),
-    }
-}
-
-/// Whether the file at a path is the one with this metadata. No file is, at a path where none can be looked at.
-fn is_at<R: Files>(rt: &R, metadata: &Metadata, path: &str) -> bool {
-    match fs::metadata(rt, path) {
-        Ok(other) => other.ino() == metadata.ino() && other.dev() == metadata.dev(),
-        Err(_) => false,
     }
 }
 
@@ -121,7 +115,7 @@ fn open_old<R: Files>(
     let Ok(metadata) = file.metadata() else {
         return Err(Ending::PageFileNotOpened);
     };
-    if words.old == words.new || is_at(rt, &metadata, words.new) {
+    if words.old == words.new || FileId::at(rt, words.new) == Some(FileId::with(&metadata)) {
         return Err(words_refused(alloc, "error: OLD and NEW are one file"));
     }
     match geometry_of_file(metadata.len(), words.page_size, Format::Plain) {

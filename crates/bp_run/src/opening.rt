@@ -19,7 +19,8 @@ pub trait Ports<R> {
     /// A trace that is open.
     type T: Read + Drop;
 
-    ghost use Rattle.std.specs.Prelude.{◌≡◌, Bool, All, IfErr, IfOk, OnOk, vec_len};
+    ghost use Rattle.std.specs.Prelude.{◌≡◌, Bool, All, IfErr, IfOk, vec_len};
+    ghost use Rattle.std.specs.Result.{is_ok};
     ghost use Rattle.bp_page.specs.Limits.{IsGeometry};
     ghost use Rattle.bp_run.specs.PageFile.{IsNamed, IsOpenFault, memory_named};
     ghost use Rattle.bp_run.specs.Ways.{Ways};
@@ -70,9 +71,10 @@ pub trait Ports<R> {
 
     /// Writes the bytes of a picture into the file at a path, which is made, or overwritten.
     ///
-    /// Where that fails, the file may have a part of them, or be as it was.
+    /// Where that fails, the file may have a part of them, or be as it was. It fails where the path leads to the file that
+    /// `trace` opened last, which is then as it was.
     fn save(&mut self, rt: &R, path: &str, bytes: &[u8]) -> io::Result<()>
-        ensures { OnOk result (ways.saves path.now bytes.now) };
+        ensures { ways.saves path.now bytes.now (is_ok result) };
 
     /// Whether somebody watches the program: how far a migration or a sweep has come is then shown on the error output.
     fn is_watched(&self) -> bool

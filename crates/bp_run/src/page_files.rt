@@ -5,6 +5,7 @@ ghost use Rattle.bp_device.specs.Ports.{has_headers};
 ghost use Rattle.bp_run.specs.PageFile.{IsForMemory, IsOfFile, memory_named};
 ghost use Rattle.bp_run.specs.AnyPort.{IsPortTo, AreOf};
 
+use crate::file_ids::FileId;
 use crate::open_pages::{OpenFile, OpenMemory, OpenPages};
 use crate::opening::Ports;
 use bp_device::{FilePort, MemDevice, MemPort, OpenFault, Port};
@@ -243,6 +244,8 @@ fn connect_file<R: Files<File = File>>(
 pub struct PageFiles {
     alloc: Global,
     is_watched: bool,
+    // The trace that was opened last.
+    trace: Option<FileId>,
 }
 
 impl PageFiles {
@@ -251,6 +254,7 @@ impl PageFiles {
         PageFiles {
             alloc,
             is_watched: false,
+            trace: None,
         }
     }
 
@@ -259,6 +263,7 @@ impl PageFiles {
         PageFiles {
             alloc: self.alloc,
             is_watched,
+            trace: self.trace,
         }
     }
 }
@@ -315,10 +320,16 @@ impl<R: Files<File = File>> Ports<R> for PageFiles {
     }
 
     fn trace(&mut self, rt: &R, path: &str) -> Option<File> {
-        fs::open(rt, path).ok()
+        let file = fs::open(rt, path).ok()?;
+        self.trace = FileId::of(&file);
+        Some(file)
     }
 
     fn save(&mut self, rt: &R, path: &str, bytes: &[u8]) -> io::Result<()> {
+        let found = FileId::at(rt, path);
+        if found.is_some() && found == self.trace {
+            return Err(io::Error::from(io::ErrorKind::PermissionDenied));
+        }
         fs::write(rt, path, bytes)
     }
 

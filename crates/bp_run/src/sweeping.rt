@@ -1,13 +1,16 @@
 //! A sweep: references over pools of several sizes and several K, the table of what they come to, and its picture.
-ghost use Rattle.std.specs.Prelude.{◌≡◌, ◌≢◌, false, IfErr, IfOk, IfSome, None, OnOk};
+ghost use Rattle.std.specs.Prelude.{◌≡◌, ◌≢◌, false, true, IfErr, IfOk, IfSome, None, OnErr, OnOk};
+ghost use Rattle.std.specs.Io.KnownBytes.{Appends};
+ghost use Rattle.bp_table.specs.Table.{table_text};
 ghost use Rattle.bp_sweep.specs.Sweeping.{AreCells};
 ghost use Rattle.bp_words.specs.Asked.{IsColumn, SweepsInLimits, sweep_of};
 ghost use Rattle.bp_words.specs.Words.{trace_told};
+ghost use Rattle.bp_run.specs.Drawing.{IsDrawn};
 ghost use Rattle.bp_run.specs.Sweep.{AreReferencesOf, AreTaken, HasNoReferences, NotCounted, NotShown};
-ghost use Rattle.bp_run.specs.Sweep.{NotTabulated, NotTaken, Shows, StopsSweep, Sweeps, Tabulates};
+ghost use Rattle.bp_run.specs.Sweep.{NotTaken, NotWritten, Shows, StopsSweep, Sweeps};
 ghost use Rattle.bp_run.specs.Sweep.{no_references, plans_told};
 
-use crate::drawing::draw;
+use crate::drawing::picture_of;
 use crate::meter::{SweepMeter, clear_line};
 use crate::opening::Ports;
 use bp_page::Refusal;
@@ -135,33 +138,62 @@ fn count_watched<R: Wait + Clock, E: Write>(
     }
 }
 
-/// Counts the cells, writes their table once all are counted, and answers its lines.
-fn tabulate<R: Wait + Clock, W: Write, E: Write>(
+/// Writes the table of these lines.
+fn print_table<W: Write>(lines: &[Line], out: &mut W) -> Result<(), Ending>
+    ensures written { OnOk result (Appends (W.contents out.old) (W.contents out.new)
+        (table_text lines.now)) }
+    ensures fault { IfErr result (λ ended. ended ≡ Ending.OutputFailed) }
+{
+    if write_table(lines, out).is_err() || out.flush().is_err() {
+        return Err(Ending::OutputFailed);
+    }
+    Ok(())
+}
+
+/// Writes a picture into the file at its path.
+fn save<R, O: Ports<R>>(rt: &R, path: &str, bytes: &[u8], ports: &mut O) -> Result<(), Ending>
+    ensures saved { OnOk result (O.ways.saves path.now bytes.now true) }
+    ensures failed { OnErr result (O.ways.saves path.now bytes.now false) }
+    ensures fault { IfErr result (λ ended. ended ≡ Ending.PictureNotWritten) }
+{
+    match ports.save(rt, path, bytes) {
+        Ok(()) => Ok(()),
+        Err(_) => Err(Ending::PictureNotWritten),
+    }
+}
+
+/// Writes the table of these lines, and then their picture, where the words ask for one. The picture is made before
+/// anything is written.
+fn write_lines<R, O: Ports<R>, W: Write>(
     rt: &R,
     alloc: Global,
     words: &SweepWords<'_>,
-    references: &References,
-    is_watched: bool,
+    lines: &[Line],
+    ports: &mut O,
     out: &mut W,
-    err: &mut E,
-) -> Result<Vec<Line>, Ending>
-    ensures tabulated { IfOk result (λ lines. Tabulates (sweep_of words.now) references.now
-        lines.items (W.contents out.old) (W.contents out.new)) }
-    ensures fault { IfErr result (NotTabulated (sweep_of words.now) references.now) }
-    ensures kept { IfErr result (λ ended. ended ≢ Ending.OutputFailed → out.new ≡ out.old) }
-    ensures err_kept { is_watched ≡ false → err.new ≡ err.old }
+) -> Result<(), Ending>
+    ensures written { OnOk result (Appends (W.contents out.old) (W.contents out.new)
+        (table_text lines.now)) }
+    ensures drawn { OnOk result (IsDrawn O.ways.saves (sweep_of words.now).svg
+        (sweep_of words.now).ks lines.now) }
+    ensures fault { IfErr result (NotWritten O.ways.saves (sweep_of words.now) lines.now
+        (W.contents out.old) (W.contents out.new)) }
+    ensures kept { IfErr result (λ ended. ended ≢ Ending.OutputFailed
+        → ended ≢ Ending.PictureNotWritten → out.new ≡ out.old) }
 {
-    let lines = match count_watched(rt, alloc, words, references, is_watched, err) {
-        Ok(lines) => lines,
-        Err(ending) => return Err(ending),
+    let Some(path) = words.svg else {
+        return print_table(lines, out);
     };
-    if write_table(&lines, out).is_err() || out.flush().is_err() {
-        return Err(Ending::OutputFailed);
+    let Ok(picture) = picture_of(alloc, &words.ks, lines) else {
+        return Err(Ending::RunRefused(Refusal::OutOfMemory));
+    };
+    match print_table(lines, out) {
+        Ok(()) => save(rt, path, &picture, ports),
+        Err(ending) => Err(ending),
     }
-    Ok(lines)
 }
 
-/// Writes the table of the cells, and then draws its picture where the words ask for one.
+/// Counts the cells, and shows their lines once all are counted.
 fn show<R: Wait + Clock, O: Ports<R>, W: Write, E: Write>(
     rt: &R,
     alloc: Global,
@@ -174,14 +206,14 @@ fn show<R: Wait + Clock, O: Ports<R>, W: Write, E: Write>(
 ) -> Result<(), Ending>
     ensures shown { OnOk result (Shows O.ways.saves (sweep_of words.now) references.now
         (W.contents out.old) (W.contents out.new)) }
-    ensures fault { IfErr result (NotShown (sweep_of words.now) references.now
+    ensures fault { IfErr result (NotShown O.ways.saves (sweep_of words.now) references.now
         (W.contents out.old) (W.contents out.new)) }
     ensures kept { IfErr result (λ ended. ended ≢ Ending.OutputFailed
         → ended ≢ Ending.PictureNotWritten → out.new ≡ out.old) }
     ensures err_kept { is_watched ≡ false → err.new ≡ err.old }
 {
-    match tabulate(rt, alloc, words, references, is_watched, out, err) {
-        Ok(lines) => draw(rt, alloc, words, &lines, ports),
+    match count_watched(rt, alloc, words, references, is_watched, err) {
+        Ok(lines) => write_lines(rt, alloc, words, &lines, ports, out),
         Err(ending) => Err(ending),
     }
 }
@@ -189,7 +221,8 @@ fn show<R: Wait + Clock, O: Ports<R>, W: Write, E: Write>(
 /// Reads the references, counts a cell for each number of frames with each K and for the optimum, writes their table, and draws its
 /// picture where the words ask for one. Where somebody watches, the error output shows how far it has come.
 ///
-/// All references are read before any cell is counted, and all cells are counted before the table is written.
+/// All references are read before any cell is counted, all cells are counted before the table is written, and the picture is written
+/// last. `PictureNotWritten` comes only where that fails; want of memory for the picture is known before the table is written.
 pub(crate) fn sweep_told<R: Wait + Clock, I: Read, O: Ports<R>, W: Write, E: Write>(
     rt: &R,
     alloc: Global,

@@ -1,5 +1,5 @@
 -- One number after the other comes in.
-use Rattle.std.proofs.Common.{◌≡◌, refl, sym, ◌∙◌, ap, subst, ℕ, ◌+◌, ◌<◌, ◌≤◌, arith, cond, nat_eq, List, [], ◌∷◌, ◌++◌, length, length-append, append-nil, map, All, Option, Some, None, Result, Ok, Err, ◌⊎◌, inl, inr, HashMap, hash_map_len}
+use Rattle.std.proofs.Common.{◌≡◌, refl, sym, ◌∙◌, ap, subst, ℕ, ◌+◌, ◌<◌, ◌≤◌, arith, cond, nat_eq, List, [], ◌∷◌, ◌++◌, length, length-append, append-nil, map, All, Some, None, Ok, Err, ◌⊎◌, inl, inr, HashMap, hash_map_len}
 use Rattle.std.specs.HashMap.{get}
 use Rattle.bp_page.specs.declared.refusals.Refusal.{Refusal}
 use Rattle.bp_page.specs.declared.refusals.Refusal.TheVariants as refusal
@@ -105,6 +105,8 @@ gathers-fault line at all later said old new numbers seen fault holds split at_i
   later = later;
   split = split;
   dense = holds.dense;
+  few = holds.few;
+  few_different = holds.index.few;
   line_is = at_line ∙ at_is;
   why = why;
 })

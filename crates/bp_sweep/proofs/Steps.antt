@@ -1,5 +1,5 @@
 -- Each reference adds its three rows to those before it.
-use Rattle.std.proofs.Common.{◌≡◌, refl, sym, ◌∙◌, ap, subst, ℕ, zero, suc, ◌+◌, ◌*◌, ◌<◌, arith, cond, Bool, true, false, not, ◌&&◌, ◌||◌, ◌==◌, List, [], ◌∷◌, ◌++◌, length, append_assoc, Option, Some, None, Result, Ok, Err}
+use Rattle.std.proofs.Common.{◌≡◌, refl, sym, ◌∙◌, ap, subst, ℕ, zero, suc, ◌+◌, ◌*◌, ◌<◌, arith, cond, true, not, ◌||◌, ◌==◌, List, [], ◌∷◌, ◌++◌, length, append_assoc, Some, None, Ok, Err}
 use Rattle.std.specs.Prelude.{All, find, filter, reverse}
 use Rattle.std.proofs.lemmas.Bool.{eq-eqb, and_from}
 use Rattle.std.proofs.lemmas.List.{append-nil}
@@ -13,7 +13,6 @@ use Rattle.bp_trail.specs.declared.scripts.Step.TheVariants as step
 use Rattle.bp_trail.specs.declared.scripts.Refused.{Refused}
 use Rattle.bp_trail.specs.Event.{Grant, grant, same_grant}
 use Rattle.bp_trail.specs.Parameters.{Parameters}
-use Rattle.bp_trail.specs.Trail.{Trail}
 use Rattle.bp_trail.specs.Passes.{passes_out}
 use Rattle.bp_trail.specs.Legal.{Legal, is_out}
 use Rattle.bp_trail.specs.Pieces.Outcome.{accepted, refused}

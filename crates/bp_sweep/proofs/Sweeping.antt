@@ -1,11 +1,9 @@
 -- One cell after the other, and the plans of a table.
-use Rattle.std.proofs.Common.{◌≡◌, refl, sym, ◌∙◌, ap, subst, ℕ, ◌+◌, ◌^◌, ◌<◌, ◌≤◌, max, arith, suc, List, [], ◌∷◌, ◌++◌, append_assoc, length, length-take, take, drop, drop-cons, get_or, map}
+use Rattle.std.proofs.Common.{◌≡◌, refl, sym, ◌∙◌, ap, subst, ℕ, ◌+◌, ◌^◌, ◌<◌, max, arith, suc, List, [], ◌∷◌, ◌++◌, append_assoc, length, length-take, take, drop, drop-cons, get_or, map}
 use Rattle.std.proofs.lemmas.List.{append-nil, take_more, take-append-drop}
 use Rattle.bp_page.specs.declared.limits.Geometry.{Geometry}
-use Rattle.bp_page.specs.declared.refusals.Refusal.{Refusal}
 use Rattle.bp_lruk.specs.declared.settings.Settings.{Settings}
 use Rattle.bp_table.specs.declared.lines.Line.{Line}
-use Rattle.bp_trail.specs.Parameters.{Parameters}
 use Rattle.bp_sweep.specs.declared.cells.Plan.{Plan}
 use Rattle.bp_sweep.specs.declared.cells.Policy.TheVariants.{LruK}
 use Rattle.bp_sweep.specs.declared.cells.CellFault.{CellFault}

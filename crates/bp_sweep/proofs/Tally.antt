@@ -1,5 +1,5 @@
 -- The counts grow with each entry, and a core that wrote to no page has none unsaved.
-use Rattle.std.proofs.Common.{◌≡◌, refl, sym, ◌∙◌, ap, subst, ◌⊎◌, inl, inr, ℕ, ◌+◌, ◌-◌, ◌^◌, ◌<◌, ◌≤◌, arith, cond, Bool, true, false, not, ◌&&◌, ◌||◌, ◌==◌, if◌then◌else◌, List, [], ◌∷◌, ◌++◌, length, Option, Some, None, Result, Ok, Err}
+use Rattle.std.proofs.Common.{◌≡◌, refl, sym, ◌∙◌, ap, subst, ◌⊎◌, inl, inr, ℕ, ◌+◌, ◌^◌, ◌≤◌, arith, cond, Bool, true, false, not, ◌&&◌, ◌||◌, ◌==◌, if◌then◌else◌, List, [], ◌∷◌, length, Option, Some, None, Result, Ok, Err}
 use Rattle.std.proofs.lemmas.Bool.{and_parts}
 use Rattle.std.proofs.lemmas.List.Sums.{sum_by-cons}
 use Rattle.bp_page.specs.declared.refusals.PortFault.{PortFault}
@@ -8,7 +8,7 @@ use Rattle.bp_trail.specs.declared.entries.Entry.{Entry}
 use Rattle.bp_trail.specs.declared.entries.Call.{Call}
 use Rattle.bp_trail.specs.declared.entries.Call.TheVariants.{Fix, ReadEnd}
 use Rattle.bp_trail.specs.declared.entries.Reply.{Reply}
-use Rattle.bp_trail.specs.declared.entries.Reply.TheVariants.{Hit, Load, WriteFirst, NoVictim, Busy, Done, Fixed, ReadFailed}
+use Rattle.bp_trail.specs.declared.entries.Reply.TheVariants.{Hit, Load, WriteFirst, Busy, Done, Fixed, ReadFailed}
 use Rattle.bp_trail.specs.Event.{is_write, page_of}
 use Rattle.bp_trail.specs.Event.{writes}
 use Rattle.bp_trail.specs.Saved.{began_saving, unsaved}
@@ -16,8 +16,7 @@ use Rattle.bp_trail.specs.Lists.{since}
 use Rattle.bp_trail.specs.Passes.{passes, tickets}
 use Rattle.bp_trail.specs.Places.{loading, resident}
 use Rattle.bp_trail.specs.Victim.{victim}
-use Rattle.bp_trail.specs.PageMap.{has_free_frame, fix_reply, replace_reply, reply_of, FindsWrongPage}
-use Rattle.bp_trail.specs.PageMap.FindsWrongPage.{another_page}
+use Rattle.bp_trail.specs.PageMap.{has_free_frame, fix_reply, replace_reply, FindsWrongPage}
 use Rattle.bp_trail.specs.Parameters.{Parameters}
 use Rattle.bp_trail.specs.Trail.{Trail}
 use Rattle.bp_trail.specs.Legal.{Legal}

@@ -47,6 +47,8 @@ pub record StopsAt (line : ℕ) (said : List Said) (fault : ReferenceFault) : Ty
   pub later : List Said
   pub split : said ≡ map Ok numbers ++ found ∷ later
   pub dense : AreDense numbers pages seen
+  pub few : length numbers ≤ most_references
+  pub few_different : length seen ≤ most_numbers
   pub line_is : fault.line ≡ line + length numbers
   pub why : IsFaulty (length numbers) seen found fault.refusal
 

@@ -11,8 +11,6 @@ use Rattle.bp_sweep.specs.declared.cells.Plan.{Plan}
 use Rattle.bp_sweep.specs.declared.cells.Policy.{Policy}
 use Rattle.bp_sweep.specs.declared.cells.Policy.TheVariants.{LruK, Optimum}
 use Rattle.bp_sweep.specs.declared.cells.CellFault.{CellFault}
-use Rattle.bp_sweep.specs.declared.tables.SweepFault.{SweepFault}
-use Rattle.bp_sweep.specs.declared.tables.SweepFault.TheVariants.{Refused, OutputFailed}
 use Rattle.bp_sweep.specs.Dense.{Pages}
 use Rattle.bp_sweep.specs.Cells.{Counted, pool_parameters}
 use Rattle.bp_sweep.specs.Referring.{AreFrames, EndsCell}
@@ -61,11 +59,12 @@ line_of fixes plan counts = record {
   refused = counts.refused;
 }
 
--- the line says what the plan's pool counts over the references
+-- the line says what the plan's pool counts over the references, where no read failed
 pub record IsCell (r : Pages) (plan : Plan) (line : Line) : Type 0 where
   pub counts : Counts
   pub fit : IsPlan plan
   pub counted : CountsOf r plan.frames plan.policy counts
+  pub read : counts.failed ≡ 0
   pub line_is : line ≡ line_of (length r.pages) plan counts
 
 -- each plan has the line of its cell, in order
@@ -100,13 +99,3 @@ plans_with frames ks correlated = map (pool_with frames correlated) ks ++ optimu
 abbrev pub plans_of : List ℕ → List ℕ → ℕ → List Plan
 plans_of [] ks correlated = []
 plans_of (frames ∷ more) ks correlated = plans_with frames ks correlated ++ plans_of more ks correlated
-
--- why there is no table, or not all of it: a plan was refused, or all cells were counted and the writer failed
-abbrev pub SweepFails : Pages → List Plan → SweepFault → Type 0
-SweepFails r plans (Refused fault) = SweepRefused r plans fault
-SweepFails r plans OutputFailed = (lines : List Line) × AreCells r plans lines
-
--- a plan was refused
-abbrev pub IsRefusal : SweepFault → Type 0
-IsRefusal (Refused fault) = Unit {0}
-IsRefusal OutputFailed = ⊥

@@ -100,7 +100,7 @@ fn device_for(alloc: Global, different: usize) -> Result<MemDevice, Refusal>
     MemDevice::new(alloc, geometry)
 }
 
-/// Counts a cell of LRU-K.
+/// Counts a cell of LRU-K. Its pages are in memory, so that a read fails for want of memory alone: then there are no counts.
 fn count_pool<R: Wait, G: Progress>(
     rt: &R,
     alloc: Global,
@@ -115,11 +115,12 @@ fn count_pool<R: Wait, G: Progress>(
         (pool_parameters references.now.different frames settings.k settings.correlated)
         references.now.pages) }
     ensures fit { IfOk result (λ _. AreFrames frames) }
+    ensures read { IfOk result (λ counts. counts.failed ≡ 0) }
     ensures fault { IfErr result (CellRefused frames) }
 {
     let device = device_for(alloc, references.different())?;
     let mut port = device.port()?;
-    count_cell(
+    let counts = count_cell(
         rt,
         alloc,
         &mut port,
@@ -128,13 +129,18 @@ fn count_pool<R: Wait, G: Progress>(
         references.pages(),
         progress,
         turn,
-    )
+    )?;
+    if counts.failed > 0 {
+        return Err(Refusal::OutOfMemory);
+    }
+    Ok(counts)
 }
 
 /// Counts the cell of the optimum.
 fn count_best(alloc: Global, references: &References, frames: usize) -> Result<Counts, Refusal>
     ensures counted { IfOk result (CountsBest frames references.now.pages) }
     ensures fit { IfOk result (λ _. AreFrames frames) }
+    ensures read { IfOk result (λ counts. counts.failed ≡ 0) }
     ensures fault { IfErr result (CellRefused frames) }
 {
     if frames < 1 || frames > MAX_FRAMES {
@@ -157,6 +163,7 @@ fn count_plan<R: Wait, G: Progress>(
 ) -> Result<Counts, Refusal>
     ensures counted { IfOk result (CountsOf references.now plan.now.frames plan.now.policy) }
     ensures fit { IfOk result (λ _. IsPlan plan.now) }
+    ensures read { IfOk result (λ counts. counts.failed ≡ 0) }
     ensures fault { IfErr result (PlanRefused plan.now) }
 {
     match plan.policy {
@@ -170,10 +177,11 @@ fn count_plan<R: Wait, G: Progress>(
 
 /// Counts the cell of each plan, in order: the references over a new pool with its frames and policy, and the line that
 /// says what it came to. A pool of LRU-K is counted as by `count_references`, over a device in memory of its own, and the optimum
-/// as by `count_optimum`. A pool's reads that fail, where memory is refused, end nothing: they are counted.
+/// as by `count_optimum`. In no line did a read fail.
 ///
 /// It stops at the first plan that is refused: with `BadSettings` where its frames, K or correlated period are out of their limits,
-/// else as its cell was, with `OutOfMemory`, or `TrailFull` or `ClockFull` after some 2^61 entries.
+/// else as its cell was, with `OutOfMemory`, or `TrailFull` or `ClockFull` after some 2^61 entries. `OutOfMemory` it is too where a
+/// read of the cell failed, for a page in memory is read unless memory is refused; the cell is then counted to its end before.
 pub fn count_cells<R: Wait, G: Progress>(
     rt: &R,
     alloc: Global,

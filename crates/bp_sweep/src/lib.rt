@@ -9,8 +9,8 @@ mod dense;
 mod faults;
 pub mod laws;
 mod lists;
+mod plans;
 mod progress;
-mod tables;
 
 pub use cell::count_references;
 pub use cells::{CellFault, Plan, Policy, count_cells};
@@ -19,5 +19,5 @@ pub use counts::Counts;
 pub use dense::References;
 pub use faults::ReferenceFault;
 pub use lists::read_references;
+pub use plans::plans_of;
 pub use progress::{Progress, Untold};
-pub use tables::{SweepFault, plans_of, sweep};

@@ -2,13 +2,13 @@
 use Rattle.std.proofs.Common.{◌≡◌, ℕ, List, Option, Some, None}
 use Rattle.bp_numbers.specs.Lists.{numbers_listed}
 use Rattle.bp_numbers.proofs.Listed.{AreListed, listed_are}
-use Rattle.bp_words.specs.Asked.{AreFrames, AreStamps}
+use Rattle.bp_words.specs.Asked.{IsFrames, IsStamps}
 use Rattle.bp_words.specs.Words.{◌>>=◌}
 
-pub frames_listed : (text : Option (List ℕ)) (numbers : List ℕ) → (text >>= numbers_listed 1 65536) ≡ Some numbers → AreListed AreFrames numbers
+pub frames_listed : (text : Option (List ℕ)) (numbers : List ℕ) → (text >>= numbers_listed 1 65536) ≡ Some numbers → AreListed IsFrames numbers
 frames_listed None numbers e = cc
-frames_listed (Some text) numbers e = listed_are AreFrames 1 65536 (λ n least most. record { some_frames = least; few_frames = most }) text numbers e
+frames_listed (Some text) numbers e = listed_are IsFrames 1 65536 (λ n least most. record { some_frames = least; few_frames = most }) text numbers e
 
-pub ks_listed : (text : Option (List ℕ)) (numbers : List ℕ) → (text >>= numbers_listed 1 16) ≡ Some numbers → AreListed AreStamps numbers
+pub ks_listed : (text : Option (List ℕ)) (numbers : List ℕ) → (text >>= numbers_listed 1 16) ≡ Some numbers → AreListed IsStamps numbers
 ks_listed None numbers e = cc
-ks_listed (Some text) numbers e = listed_are AreStamps 1 16 (λ n least most. record { some_stamps = least; few_stamps = most }) text numbers e
+ks_listed (Some text) numbers e = listed_are IsStamps 1 16 (λ n least most. record { some_stamps = least; few_stamps = most }) text numbers e

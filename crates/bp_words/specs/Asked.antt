@@ -4,7 +4,7 @@ use Rattle.std.specs.Str.{bytes_eq}
 use Rattle.clap.specs.Walk.{is_empty}
 use Rattle.clap.specs.Words.{Row, Text, first_of, subcommand_of}
 use Rattle.bp_words.specs.Command.{bpool_app}
-use Rattle.bp_numbers.specs.Lists.{most_numbers}
+use Rattle.bp_numbers.specs.Lists.{most_listed}
 use Rattle.bp_words.specs.Words.{Told, TraceAt, IsInLimits, ◌>>=◌, draws_over, explanation_at, fault_in, frames_at, ks_at, number_at, told_by_rows, told_of, trace_of, trace_told}
 use Rattle.bp_words.specs.Words.TraceAt.{at_path}
 use Rattle.bp_words.specs.declared.words.MigrationWords.{MigrationWords}
@@ -86,12 +86,12 @@ pub record HasPageSize (size : ℕ) : Type 0 where
   pub few_bytes : size ≤ 65536
 
 -- so many frames are within the limits of a pool
-pub record AreFrames (frames : ℕ) : Type 0 where
+pub record IsFrames (frames : ℕ) : Type 0 where
   pub some_frames : 1 ≤ frames
   pub few_frames : frames ≤ 65536
 
 -- so many references of a page may count
-pub record AreStamps (k : ℕ) : Type 0 where
+pub record IsStamps (k : ℕ) : Type 0 where
   pub some_stamps : 1 ≤ k
   pub few_stamps : k ≤ 16
 
@@ -103,12 +103,12 @@ pub record IsColumn (column : ℕ) : Type 0 where
 -- the numbers of a sweep are in the limits of the options, there are some of each, but not too many, and no picture is
 -- drawn where the references are
 pub record SweepsInLimits (s : Sweep) : Type 0 where
-  pub frames : All AreFrames s.frames
+  pub frames : All IsFrames s.frames
   pub some_sizes : 1 ≤ length s.frames
-  pub few_sizes : length s.frames ≤ most_numbers
-  pub ks : All AreStamps s.ks
+  pub few_sizes : length s.frames ≤ most_listed
+  pub ks : All IsStamps s.ks
   pub some_ks : 1 ≤ length s.ks
-  pub few_ks : length s.ks ≤ most_numbers
+  pub few_ks : length s.ks ≤ most_listed
   pub correlated : s.correlated ≤ 2 ^ 62
   pub column : IfSome s.column IsColumn
   pub apart : IfSome s.svg (λ path. s.references ≢ at_path path)

@@ -47,7 +47,7 @@ bpool sweep REFERENCES --frames LIST [--k LIST] [--correlated N] [--column N] [-
 
   REFERENCES        A path, or stdin for the standard input: a number of up to 2^62 a line
   --frames LIST     1 to 65536 each; a list as 64,256,1024, or 16..1024 for each doubling
-  --k LIST          1 to 16 each [default: 1,2]
+  --k LIST          1 to 16 each, likewise [default: 1,2]
   --correlated N    0 to 2^62 references [default: 0]
   --column N        1 to 65536: lines are CSV records, and field N, from 1, is the number
   --svg FILE        Draws hit ratio over frames into FILE, a path, once the table is printed
@@ -79,7 +79,7 @@ Without tick rows nothing leaves a frame. --retained acts at purge rows alone.
 
 Numbers after the word refused:
 
-  1   the number of pages or the page size is out of its limits
+  1   the number of pages, as of different references, or the page size is out of its limits
   2   a setting of the pool is out of its limits
   3   the page file is no positive number of whole pages, or has too many
   11  no page may leave its frame
@@ -95,14 +95,14 @@ Numbers after the word refused:
   22  out of memory
   23  the ring of passes to give back is full
   24  the clients' lists and the trail do not agree
-  40  a record does not have the fields of its operation
+  40  a record does not have the fields of its operation, or lacks the column of a sweep
   41  no client has this number here
   42  no operation has this name
   43  a field is not a number within the limits
   44  the bytes are not pairs of hexadecimal digits
   45  the page is not of the file, or the bytes are not within the page
-  46  the trace is too long
-  47  the trace could not be read
+  46  the trace or the list of references is too long
+  47  the trace or the list of references could not be read
 
 Status 0: all rows were accepted, a table or NEW was made, or the words asked for an answer.
 Status 1: some row was refused.
@@ -140,9 +140,9 @@ const TOTALS: &str = "Prints no lines of events, only the totals and the refused
 
 const REFERENCES: &str = "The references: a path, or stdin for the standard input";
 
-const SWEPT_FRAMES: &str = "Frames of the pools, from 1 to 65536: as 64,256,1024 or 16..1024";
+const SWEPT_FRAMES: &str = "Frames of the pools, from 1 to 65536: as 64,256,1024, or 16..1024";
 
-const SWEPT_STAMPS: &str = "K of LRU-K, from 1 to 16: as 1,2,3 or 1..16";
+const SWEPT_STAMPS: &str = "K of LRU-K, from 1 to 16: as 1,2,3, or 1..16 for 1,2,4,8,16";
 
 const APART: &str = "Correlated reference period in references, from 0 to 2^62";
 
@@ -158,15 +158,17 @@ const NUMBERS: &str = "All numbers: bpool --help";
 /// What a sweep reads and prints, an example, and what its statuses mean.
 const SWEEPING: &str = "\
 REFERENCES has a number of up to 2^62 a line, as a block number or an address; equal numbers are
-references of one page. With --column a first line whose field is no number is a header.
+references of one page. With --column a first record is a header if its field is there and is not
+just digits, with or without a sign. A fault then tells the number of its record, not of its line.
 
-A LIST is 1 to 64 numbers with commas, or FIRST..LAST: FIRST, its double and so on below LAST, and
-LAST. So 16..100 is 16,32,64,100.
+A LIST is 1 to 64 different numbers with commas, or FIRST..LAST: FIRST, its double and so on below
+LAST, and LAST. So 16..100 is 16,32,64,100.
 
   bpool sweep blocks.txt --frames 64..4096 --k 1,2 --svg hits.svg
 
 Prints a line of CSV for each number of frames with each K, and one with k opt for the optimum,
-which knows what comes. K 1 is LRU. FILE is SVG, which a browser shows, and is overwritten.
+which knows what comes. K 1 is LRU. FILE is SVG, which a browser shows, and is overwritten, unless
+it is the file of REFERENCES.
 Status 0: all lines are printed, and FILE is made. Status 2: one line on standard error says why
 there is no table, or only a part of it, or no picture.";
 

@@ -12,7 +12,7 @@ ghost use Rattle.bp_words.specs.Asked.{sweep_by_rows, sweep_of, sweep_with};
 ghost use Rattle.bp_words.specs.Decision.{size_asked};
 
 use crate::command::bpool_command;
-use bp_numbers::{MAX_NUMBERS, explanation_of, numbers_listed};
+use bp_numbers::{MAX_LISTED, explanation_of, numbers_listed};
 use bp_page::Format;
 use bp_trace::numbers::parse_number;
 use clap::error::ErrorKind;
@@ -84,9 +84,9 @@ pub struct MigrationWords<'a> {
 pub struct SweepWords<'a> {
     /// Where the references are read.
     pub references: TraceSource<'a>,
-    /// How many frames the pools have: 1 to 64 numbers from 1 to 65,536.
+    /// How many frames the pools have: 1 to 64 different numbers from 1 to 65,536.
     pub frames: Vec<usize>,
-    /// K of LRU-K: 1 to 64 numbers from 1 to 16.
+    /// K of LRU-K: 1 to 16 different numbers from 1 to 16.
     pub ks: Vec<usize>,
     /// The correlated reference period, in references.
     pub correlated: u64,
@@ -367,26 +367,36 @@ fn no_order(alloc: Global, run: &ArgMatches<'_>) -> Result<Error, AllocError>
     invalid(alloc, said.as_str())
 }
 
+/// The fault of an option whose word is no list of numbers up to `high`.
+fn no_list(
+    alloc: Global,
+    sweep: &ArgMatches<'_>,
+    id: &str,
+    high: usize,
+) -> Result<Error, AllocError>
+    ensures { IfOk result (λ e. kind_of e ≡ ErrorKind.InvalidValue) }
+{
+    let word = word_at(sweep, id).unwrap_or("");
+    let said = format!(in alloc;
+        "invalid value '{word}' for '--{id} <LIST>': not 1 to {MAX_LISTED} different numbers from 1 to {high} with commas, nor FIRST..LAST"
+    )?;
+    invalid(alloc, said.as_str())
+}
+
 /// The fault of a sweep: its frames are no list, or else its K are none, or else its picture goes into its references.
 fn no_sweep(alloc: Global, sweep: &ArgMatches<'_>) -> Result<Error, AllocError>
     ensures { IfOk result (λ e. kind_of e ≡ ErrorKind.InvalidValue) }
 {
-    let (id, high) = match list_at(alloc, sweep, "frames", 1, MAX_FRAMES)? {
-        Some(_) => ("k", MAX_K),
-        None => ("frames", MAX_FRAMES),
-    };
-    let word = word_at(sweep, id).unwrap_or("");
-    let said = match numbers_listed(alloc, word, 1, high)? {
-        Some(_) => {
-            let picture = word_at(sweep, "svg").unwrap_or("");
-            format!(in alloc;
-                "invalid value '{picture}' for '--svg <FILE>': it is the word of REFERENCES"
-            )?
-        }
-        None => format!(in alloc;
-            "invalid value '{word}' for '--{id} <LIST>': not 1 to {MAX_NUMBERS} numbers from 1 to {high} with commas, nor FIRST..LAST"
-        )?,
-    };
+    if list_at(alloc, sweep, "frames", 1, MAX_FRAMES)?.is_none() {
+        return no_list(alloc, sweep, "frames", MAX_FRAMES);
+    }
+    if list_at(alloc, sweep, "k", 1, MAX_K)?.is_none() {
+        return no_list(alloc, sweep, "k", MAX_K);
+    }
+    let picture = word_at(sweep, "svg").unwrap_or("");
+    let said = format!(in alloc;
+        "invalid value '{picture}' for '--svg <FILE>': it is the word of REFERENCES"
+    )?;
     invalid(alloc, said.as_str())
 }
 

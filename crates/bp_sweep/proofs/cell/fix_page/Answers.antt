@@ -1,5 +1,5 @@
 -- The fix of a page by its cases.
-use Rattle.std.proofs.Common.{◌≡◌, ◌∙◌, ap, subst, Ok, Err, Some, None}
+use Rattle.std.proofs.Common.{◌∙◌, ap, subst, Ok, Err}
 use Rattle.bp_core.specs.Outcomes.{FixOutcome}
 use Rattle.bp_sweep.specs.Referring.{evicted_by}
 use Rattle.bp_sweep.proofs.Fixing.{fix-room, refused-room, tally-hit, tally-load, hit-fixes, load-fixes, load-small, write-fixes, refused-fixes, tally-refused}

@@ -29,6 +29,7 @@ loop-plan-preserved g c =
       counts = c.in-Ok.counts;
       fit = c.in-Ok.ensures.fit;
       counted = c.in-Ok.ensures.counted;
+      read = c.in-Ok.ensures.read;
       line_is = c.line_of.ensures ∙ ap (λ pages. line_of (length pages) plan c.in-Ok.counts) c.pages.ensures.pages;
     } in
     record {

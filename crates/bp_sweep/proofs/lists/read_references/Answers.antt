@@ -1,5 +1,5 @@
 -- One line after the other.
-use Rattle.std.proofs.Common.{◌+◌, sym, subst, arith, Some, None, Ok, Err}
+use Rattle.std.proofs.Common.{◌+◌, sym, subst, arith, Ok}
 use Rattle.std.specs.Prelude.{IfSome}
 use Rattle.bp_sweep.specs.Lines.{FindsLine, IsList}
 use Rattle.bp_sweep.proofs.Lines.{reading-start, reading-next, reading-end, reading-fault, reading-few, fault-is}

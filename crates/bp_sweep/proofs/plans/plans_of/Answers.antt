@@ -1,7 +1,7 @@
 use Rattle.std.proofs.Common.{◌∙◌, ◌++◌, ap, get_or, sym}
 use Rattle.bp_sweep.specs.Sweeping.{plans_with}
 use Rattle.bp_sweep.proofs.Sweeping.{plans-next}
-use Rattle.bp_sweep.proofs.tables.plans_of.Goals as goal
+use Rattle.bp_sweep.proofs.plans.plans_of.Goals as goal
 
 pub loop-count-preserved : goal.loop-count-preserved
 loop-count-preserved c =
