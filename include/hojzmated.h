@@ -3,12 +3,17 @@
  *
  * The pool does no input or output and takes no lock. Two threads may use one core, in turn, under a lock of yours.
  *
- * Each call that returns a uint16_t returns 0, or the number of a refusal; hz_text has its text. A handle with no core
- * is refused with 50 by each call but hz_core_new, and then nothing is written. Any other refusal leaves what the call
- * would have written as it was, but for hz_fixed, whose kind is then 0. Any client, page, offset, length, pass
- * or ticket may be passed: what is not of this core is refused. Where a call may be refused for several reasons, the
- * first of those listed with it is told. Each handle has to be zero, or as these calls left it, each pointer not null
- * and of its type, with so many elements where a length follows it, and no two of a call may overlap. A bool is 0 or 1.
+ * Each call that returns a uint16_t returns 0, or the number of a refusal; hz_text has its text. A null pointer, but
+ * for that of a buffer of length 0, is refused with 52 before all else. A handle with no core is then refused with 50
+ * by each call but hz_core_new. In both cases nothing is written. Any other refusal leaves what the call would have
+ * written as it was, but for hz_fixed, whose kind is then 0. Any client, page, offset, length, pass or ticket may be
+ * passed: what is not of this core is refused. Where a call may be refused for several reasons, the first of those
+ * listed with it is told.
+ *
+ * These the library cannot tell, and what it does then is not defined: a handle that is neither all zero nor as these
+ * calls left it, or that is a copy; a pointer to other memory than its type says, or to fewer bytes than the length
+ * beside it; a buffer that overlaps with a struct of the same call; a bool that is not 0 or 1; two calls on one core at
+ * once. Two structs of a call may be one: hz_read_end may put its pass where its ticket is.
  */
 #ifndef HOJZMATED_H
 #define HOJZMATED_H
@@ -20,6 +25,12 @@
 #ifdef __cplusplus
 extern "C" {
 #endif
+
+/* The version of this header; hz_version tells that of the library. */
+#define HZ_VERSION_MAJOR 0
+#define HZ_VERSION_MINOR 9
+#define HZ_VERSION_PATCH 0
+#define HZ_VERSION (HZ_VERSION_MAJOR * 10000 + HZ_VERSION_MINOR * 100 + HZ_VERSION_PATCH)
 
 enum hz_refusal {
     HZ_DONE = 0,
@@ -42,6 +53,7 @@ enum hz_refusal {
     HZ_OUT_OF_PAGE = 45,
     HZ_NO_CORE = 50,
     HZ_HAS_CORE = 51,
+    HZ_NULL = 52, /* a pointer is null, and is not that of a buffer of length 0 */
 };
 
 /* What hz_fixed.kind may be; 0 where the core refused the call. */
@@ -149,8 +161,12 @@ uint16_t hz_purge(hz_core *core, uint8_t client, uint64_t *count);
 /* Tells what was counted. Refused: 50. */
 uint16_t hz_totals_of(hz_core *core, hz_totals *out);
 
-/* Writes the text of a number, as much as fits and with no zero at its end, and returns its whole length. */
+/* Writes the text of a number, as much as fits and with no zero at its end, and returns its whole length. Where `into`
+ * is null nothing is written. */
 size_t hz_text(uint16_t number, uint8_t *into, size_t len);
+
+/* The HZ_VERSION of the library. */
+uint32_t hz_version(void);
 
 #ifdef __cplusplus
 }

@@ -1,7 +1,7 @@
 /* A little engine over the pool: four threads add to counters that stand in pages of a file. Each call of the pool goes
  * under one mutex, which is open while the device works. It ends with status 0 where every count is in the file.
  *
- *     peers/c/check.sh        builds it with the library, as it is and under the sanitizers, and runs it
+ *     check/bindings        builds it with the library, as it is and under the sanitizers, and runs it
  */
 #include "hojzmated.h"
 #include <fcntl.h>

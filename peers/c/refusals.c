@@ -1,9 +1,9 @@
-/* Each refusal, and each field of an answer of each kind, once at least, with what the header says of them. The whole is then done
- * again with one request for memory refused, the first, then the second and so on: the call that is refused for it
- * is made again, and has to answer what it had to answer at first. Only what makes a core, or gives a pass, a ticket or
- * a copy, takes memory.
+/* Each refusal, and each field of an answer of each kind, once at least, with what the header says of them. The whole
+ * is then done again with one request for memory refused, the first, then the second and so on: the call that is
+ * refused for it is made again, and has to answer what it had to answer at first. Only what makes a core, or gives a
+ * pass, a ticket or a copy, takes memory.
  *
- *     peers/c/check.sh        builds it with the library and the linker's --wrap of malloc and realloc, and runs it
+ *     check/bindings        builds it with the library and the linker's --wrap of malloc and realloc, and runs it
  */
 #include "hojzmated.h"
 #include <stdio.h>
@@ -141,6 +141,56 @@ static void no_core(void)
     SAME(true, is_filled(&core, sizeof core, 0));
 }
 
+/* A null pointer is refused before all else, whether the handle has a core or not, and nothing is written. */
+static void nulls(void)
+{
+    const hz_config config = usual(1);
+    hz_grant grant = {.page = 1}, pass;
+    hz_totals totals;
+    uint8_t image[SIZE], dirty = ODD;
+    uint64_t count = ODD;
+    memset(image, ODD, sizeof image);
+    memset(&out, ODD, sizeof out);
+    memset(&pass, ODD, sizeof pass);
+    memset(&totals, ODD, sizeof totals);
+    CALL(HZ_NULL, hz_core_new(NULL, &core));
+    CALL(HZ_NULL, hz_core_new(&config, NULL));
+    CALL(HZ_NULL, hz_core_free(NULL));
+    CALL(HZ_NULL, hz_fix(NULL, 0, 0, image, SIZE, &out));
+    CALL(HZ_NULL, hz_fix(&core, 255, 0, NULL, SIZE, &out));
+    CALL(HZ_NULL, hz_fix(&core, 255, 0, image, SIZE, NULL));
+    CALL(HZ_NULL, hz_flush(NULL, 0, 0, image, SIZE, &out));
+    CALL(HZ_NULL, hz_flush(&core, 255, 0, NULL, SIZE, &out));
+    CALL(HZ_NULL, hz_flush(&core, 255, 0, image, SIZE, NULL));
+    CALL(HZ_NULL, hz_read_end(NULL, &grant, image, SIZE, &pass));
+    CALL(HZ_NULL, hz_read_end(&core, NULL, image, SIZE, &pass));
+    CALL(HZ_NULL, hz_read_end(&core, &grant, NULL, SIZE, &pass));
+    CALL(HZ_NULL, hz_read_end(&core, &grant, image, 1, NULL));
+    CALL(HZ_NULL, hz_read_failed(NULL, &grant, true));
+    CALL(HZ_NULL, hz_read_failed(&core, NULL, true));
+    CALL(HZ_NULL, hz_write_end(NULL, &grant, true, &dirty));
+    CALL(HZ_NULL, hz_write_end(&core, NULL, true, &dirty));
+    CALL(HZ_NULL, hz_write_end(&core, &grant, true, NULL));
+    CALL(HZ_NULL, hz_unfix(NULL, &grant));
+    CALL(HZ_NULL, hz_unfix(&core, NULL));
+    CALL(HZ_NULL, hz_read(NULL, &grant, 0, image, SIZE));
+    CALL(HZ_NULL, hz_read(&core, NULL, 0, image, SIZE));
+    CALL(HZ_NULL, hz_read(&core, &grant, SIZE_MAX, NULL, 1));
+    CALL(HZ_NULL, hz_write(NULL, &grant, 0, image, SIZE, 1));
+    CALL(HZ_NULL, hz_write(&core, NULL, 0, image, SIZE, 1));
+    CALL(HZ_NULL, hz_write(&core, &grant, SIZE_MAX, NULL, 1, 1));
+    CALL(HZ_NULL, hz_tick(NULL, 0, 1));
+    CALL(HZ_NULL, hz_mark(NULL, 0, 1));
+    CALL(HZ_NULL, hz_purge(NULL, 0, &count));
+    CALL(HZ_NULL, hz_purge(&core, 255, NULL));
+    CALL(HZ_NULL, hz_totals_of(NULL, &totals));
+    CALL(HZ_NULL, hz_totals_of(&core, NULL));
+    SAME(true, is_filled(image, sizeof image, ODD) && is_filled(&out, sizeof out, ODD));
+    SAME(true, is_filled(&pass, sizeof pass, ODD) && is_filled(&totals, sizeof totals, ODD));
+    SAME(ODD, dirty);
+    SAME(ODD, count);
+}
+
 /* A core is refused just beyond each limit, and made at each. */
 static void makings(void)
 {
@@ -226,6 +276,10 @@ static void strangers(void)
     CALL(HZ_OUT_OF_PAGE, hz_fix(&core, 0, 1ull << 32, image, SIZE, &out));
     CALL(HZ_OUT_OF_PAGE, hz_fix(&core, 0, UINT64_MAX, image, SIZE, &out));
     CALL(HZ_OUT_OF_PAGE, hz_fix(&core, 0, 7, image, 0, &out));
+    CALL(HZ_OUT_OF_PAGE, hz_fix(&core, 0, 7, NULL, 0, &out));
+    CALL(HZ_OUT_OF_PAGE, hz_fix(&core, 0, 7, image, SIZE_MAX, &out));
+    CALL(HZ_OUT_OF_PAGE, hz_read_end(&core, &stranger, NULL, 0, &pass));
+    CALL(HZ_OUT_OF_PAGE, hz_write(&core, &stranger, 0, image, SIZE_MAX, 1));
     CALL(HZ_BAD_CLIENT, hz_tick(&core, 255, 1));
     CALL(HZ_UNKNOWN_PASS, hz_read(&core, &stranger, 0, image, SIZE));
     CALL(HZ_UNKNOWN_PASS, hz_write(&core, &stranger, 0, image, SIZE, 1));
@@ -303,8 +357,8 @@ static void parts(const hz_grant *pass)
     CALL(HZ_DONE, hz_write(&core, pass, 12, part, sizeof part, 7));
     CALL(HZ_DONE, hz_read(&core, &other, 11, image, 5));
     SAME(true, image[0] == 0x33 && !memcmp(image + 1, part, sizeof part) && is_filled(image + 5, SIZE - 5, ODD));
-    CALL(HZ_DONE, hz_read(&core, &other, SIZE, image, 0));
-    CALL(HZ_DONE, hz_write(&core, &other, SIZE, image, 0, 7));
+    CALL(HZ_DONE, hz_read(&core, &other, SIZE, NULL, 0));
+    CALL(HZ_DONE, hz_write(&core, &other, SIZE, NULL, 0, 7));
     CALL(HZ_DONE, hz_unfix(&core, &other));
     CALL(HZ_UNKNOWN_PASS, hz_unfix(&core, &other));
     CALL(HZ_UNKNOWN_PASS, hz_read(&core, &other, 0, image, SIZE));
@@ -440,7 +494,11 @@ static void little_room(void)
     CALL(HZ_TRAIL_FULL, hz_purge(&core, 0, &count));
     SAME(ODD, count);
     out.grant = (hz_grant){.page = 1, .serial = 0, .client = 0};
-    hz_grant pass = end_read(0, 1, 0, 0x11);
+    filled(image, 0x11);
+    hz_grant pass = out.grant;
+    CALL(HZ_DONE, hz_read_end(&core, &pass, image, SIZE, &pass));
+    IS_GRANT(pass, 0, 1, 0);
+    filled(image, ODD);
     CALL(HZ_TRAIL_FULL, hz_read(&core, &pass, 0, image, SIZE));
     CALL(HZ_TRAIL_FULL, hz_write(&core, &pass, 0, image, SIZE, 1));
     CALL(HZ_DONE, hz_unfix(&core, &pass));
@@ -489,6 +547,7 @@ static void texts(void)
         {HZ_OUT_OF_PAGE, "the page is not of the file, or the bytes are not within the page"},
         {HZ_NO_CORE, "the handle has no core"},
         {HZ_HAS_CORE, "the handle has a core already"},
+        {HZ_NULL, "a pointer is null"},
         {15, "unknown number"},
         {65535, "unknown number"},
     };
@@ -501,6 +560,7 @@ static void texts(void)
         memset(into, ODD, sizeof into);
         SAME(len, hz_text(rows[i].number, into, 3));
         SAME(true, !memcmp(into, rows[i].text, 3) && is_filled(into + 3, sizeof into - 3, ODD));
+        SAME(len, hz_text(rows[i].number, NULL, 3));
     }
 }
 
@@ -508,8 +568,10 @@ static void all(void)
 {
     hz_config config = usual(1000);
     no_core();
+    nulls();
     makings();
     CALL(HZ_DONE, hz_core_new(&config, &core));
+    nulls();
     strangers();
     hz_grant pass = loads();
     parts(&pass);

@@ -1,7 +1,8 @@
 -- What the number of a refusal says.
 use Rattle.std.specs.Prelude.{ℕ, ◌==◌, if◌then◌else◌, List, ◌++◌, take, drop, length, codes}
 
--- the text of each number that a call answers, as bytes
+-- the text of each number that a call answers, as bytes; 52 comes from the calls that stand before these, in
+-- bindings/c
 unfoldable pub text_of : ℕ → List ℕ
 text_of number =
     if number == 0 then codes "done"
@@ -23,6 +24,7 @@ text_of number =
     then codes "the page is not of the file, or the bytes are not within the page"
     else if number == 50 then codes "the handle has no core"
     else if number == 51 then codes "the handle has a core already"
+    else if number == 52 then codes "a pointer is null"
     else codes "unknown number"
 
 -- a buffer with as much of a text as it has room for

@@ -29,6 +29,9 @@ const NO_CORE: u16 = 50;
 /// The handle has a core already.
 const HAS_CORE: u16 = 51;
 
+/// Version 0.9.0.
+const VERSION: u32 = 900;
+
 /// 0, or the number of the refusal.
 fn code<T>(answer: &Result<T, Refusal>) -> u16
     ensures { result ≡ code_of answer.now }
@@ -58,6 +61,14 @@ fn boxed(alloc: Global, config: &HzConfig) -> Result<Box<Pool, Global>, Refusal>
         Ok(whole) => Ok(whole),
         Err(_) => Err(Refusal::OutOfMemory),
     }
+}
+
+/// The version of the library: its first number ten thousand times, its second a hundred times, and its third.
+#[unsafe(no_mangle)]
+pub extern "C" fn hz_version() -> u32
+    ensures { result ≡ 900 }
+{
+    VERSION
 }
 
 /// Makes a core: 0, or the number of the refusal, which leaves `core` as it was.

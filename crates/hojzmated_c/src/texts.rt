@@ -30,6 +30,7 @@ pub(crate) fn text_of(number: u16) -> &'static str
         45 => "the page is not of the file, or the bytes are not within the page",
         50 => "the handle has no core",
         51 => "the handle has a core already",
+        52 => "a pointer is null",
         _ => "unknown number",
     }
 }

@@ -1,0 +1,609 @@
+/* Random calls of the library, each held against a simple model of the pool, model.h: its number, what it writes, and
+ * what it leaves. One call in four has input that is not of the core: another client, page, length or offset, a pass
+ * or ticket that was made up or is back, a null pointer, a handle with no core. Each struct and buffer that is passed
+ * ends where no memory is.
+ *
+ *     fuzz CALLS [SEED]     prints how often each number came; status 0 where the model was right each time
+ *
+ * With -DLIBFUZZER it has the entry of libFuzzer instead, which gives the random numbers. check/bindings builds it.
+ */
+#include "model.h"
+#include <stdio.h>
+#include <stdlib.h>
+#include <sys/mman.h>
+
+enum { BLOCK = 4096, NUMBERS = 64 };
+
+static void found_wrong(int line, const char *what, unsigned long long wanted, unsigned long long found);
+
+#define SAME(wanted, value)                                      \
+    do {                                                         \
+        unsigned long long wanted_ = (wanted), value_ = (value); \
+        if (wanted_ != value_)                                   \
+            found_wrong(__LINE__, #value, wanted_, value_);      \
+    } while (0)
+
+/* --- Random numbers --- */
+
+static uint64_t state;
+static const uint8_t *given; /* the bytes of libFuzzer, where there are some */
+static size_t given_left;
+static bool is_given;
+
+static uint64_t drawn(void)
+{
+    if (is_given) {
+        if (given_left == 0)
+            return 0;
+        given_left--;
+        return *given++;
+    }
+    state = state * 6364136223846793005u + 1442695040888963407u;
+    return state >> 33;
+}
+
+static uint64_t below(uint64_t n)
+{
+    return drawn() % n;
+}
+
+static bool one_in(uint64_t n)
+{
+    return below(n) == n - 1;
+}
+
+/* --- What is passed: each struct and buffer lies before memory that cannot be read or written --- */
+
+enum { ODD = 0xa5, NO_NULL = 9 };
+
+static uint8_t *buffer_end;
+static hz_core *live, *none; /* the handle of the core, and one of no core */
+static hz_config *config;
+static hz_fixed *out;
+static hz_grant *held, *pass;
+static hz_totals *totals;
+static uint64_t *count;
+static uint8_t *dirty;
+
+static uint64_t came[NUMBERS], kinds[HZ_ABSENT + 1], calls; /* how often each number and kind came */
+static hz_grant stale;                                      /* the newest grant that went back */
+
+static void *before_the_end(size_t len)
+{
+    uint8_t *block = mmap(NULL, 2 * BLOCK, PROT_READ | PROT_WRITE, MAP_PRIVATE | MAP_ANONYMOUS, -1, 0);
+    if (block == MAP_FAILED || mprotect(block + BLOCK, BLOCK, PROT_NONE))
+        exit(2);
+    return block + BLOCK - len;
+}
+
+static void prepare(void)
+{
+    buffer_end = before_the_end(0);
+    live = before_the_end(sizeof *live);
+    none = before_the_end(sizeof *none);
+    config = before_the_end(sizeof *config);
+    out = before_the_end(sizeof *out);
+    held = before_the_end(sizeof *held);
+    pass = before_the_end(sizeof *pass);
+    totals = before_the_end(sizeof *totals);
+    count = before_the_end(sizeof *count);
+    dirty = before_the_end(1);
+}
+
+/* Which handle a call takes, and which of its pointers is null. */
+typedef struct how {
+    hz_core *core;
+    unsigned null;
+} how;
+
+static how picked(unsigned pointers)
+{
+    how h = {.core = one_in(64) ? none : live, .null = one_in(64) ? (unsigned)below(pointers) : NO_NULL};
+    if (h.null == 0)
+        h.core = NULL;
+    return h;
+}
+
+#define UNLESS(place, pointer) (h.null == (place) ? NULL : (pointer))
+
+/* The number that comes before the core is asked, or 0. A null buffer of no bytes is none of a null pointer. */
+static uint16_t early(how h, bool is_empty_buffer)
+{
+    if (h.null != NO_NULL && !is_empty_buffer)
+        return HZ_NULL;
+    return h.core == none ? HZ_NO_CORE : 0;
+}
+
+static uint16_t noted(uint16_t number)
+{
+    calls++;
+    came[number < NUMBERS ? number : 0]++;
+    return number;
+}
+
+static uint8_t a_client(void)
+{
+    return (uint8_t)(one_in(40) ? drawn() : below(m.config.clients));
+}
+
+static uint64_t a_page(void)
+{
+    static const uint64_t others[] = {PAGES, 1048576, 1ull << 32, UINT64_MAX};
+    return one_in(40) ? others[below(4)] : below(m.config.pages);
+}
+
+static size_t a_length(void)
+{
+    const size_t size = m.config.page_size, others[] = {0,     1,          size - 1, size + 1, 65536,
+                                                        65537, SIZE_MAX, (size_t)1 << 63};
+    return one_in(24) ? others[below(8)] : size;
+}
+
+static size_t a_number(size_t most)
+{
+    static const size_t others[] = {65536, SIZE_MAX, (size_t)1 << 63, SIZE_MAX - 15};
+    return one_in(40) ? others[below(4)] : below(most + 1);
+}
+
+/* One of the grants of a list, or what may be none of them. */
+static hz_grant a_grant(const grants *list)
+{
+    hz_grant grant = stale;
+    if (list->count && !one_in(12))
+        return list->out[below(list->count)];
+    switch (below(4)) {
+    case 0:
+        return grant;
+    case 1:
+        grant = (hz_grant){.page = below(PAGES + 1), .serial = below(list->ever + 2), .client = (uint8_t)below(4)};
+        return grant;
+    default:
+        if (list->count)
+            grant = list->out[below(list->count)];
+        *(one_in(2) ? &grant.page : &grant.serial) ^= 1ull << below(64);
+        grant.client ^= (uint8_t)one_in(3);
+        return grant;
+    }
+}
+
+/* Memory of so many bytes, all of them odd; of a length beyond a block, as many as there are. */
+static uint8_t *odd_buffer(size_t len)
+{
+    len = len < BLOCK ? len : BLOCK;
+    return memset(buffer_end - len, ODD, len);
+}
+
+static bool is_odd(const void *memory, size_t len)
+{
+    const uint8_t *bytes = memory;
+    len = len < BLOCK ? len : BLOCK;
+    for (size_t i = 0; i < len; i++)
+        if (bytes[i] != ODD)
+            return false;
+    return true;
+}
+
+static void same_grant(const hz_grant *wanted, const hz_grant *value)
+{
+    SAME(wanted->page, value->page);
+    SAME(wanted->serial, value->serial);
+    SAME(wanted->client, value->client);
+}
+
+/* --- The calls --- */
+
+static void try_fix(bool is_flush)
+{
+    how h = picked(3);
+    uint8_t client = a_client();
+    uint64_t page = a_page();
+    size_t len = a_length();
+    uint8_t *buffer = odd_buffer(len);
+    memset(out, ODD, sizeof *out);
+    uint16_t number = noted((is_flush ? hz_flush : hz_fix)(h.core, client, page, UNLESS(1, buffer), len,
+                                                           UNLESS(2, out)));
+    uint16_t first = early(h, h.null == 1 && len == 0);
+    if (first) {
+        SAME(first, number);
+        SAME(true, is_odd(out, sizeof *out) && is_odd(buffer, len));
+        return;
+    }
+    answer a = is_flush ? model_flush(client, page, len) : model_fix(client, page, len);
+    SAME(a.number, number);
+    same_grant(&a.out.grant, &out->grant);
+    SAME(a.out.lsn, out->lsn);
+    SAME(a.out.evicted, out->evicted);
+    SAME(a.out.kind, out->kind);
+    SAME(a.out.has_evicted, out->has_evicted);
+    SAME(true, a.image ? !memcmp(buffer, a.image, len) : is_odd(buffer, len));
+    kinds[a.out.kind]++;
+}
+
+static void model_read_end(const hz_grant *ticket, const uint8_t *image)
+{
+    model_page *page = &m.pages[ticket->page];
+    memcpy(page->image, image, m.config.page_size);
+    page->is_reading = false;
+    page->is_here = true;
+    page->lsn = 0;
+    page->pins = 1;
+    refer(page, false);
+    m.entries++;
+    m.totals.faults++;
+    stale = *ticket;
+    take_back(&m.reads, ticket);
+}
+
+static void try_read_end(void)
+{
+    how h = picked(4);
+    hz_grant ticket = *held = a_grant(&m.reads);
+    size_t len = a_length();
+    uint8_t *image = odd_buffer(len);
+    for (size_t i = 0; i < len && i < BLOCK; i++)
+        image[i] = (uint8_t)(m.entries + i);
+    memset(pass, ODD, sizeof *pass);
+    hz_grant *into = one_in(4) ? held : pass, before = *into;
+    uint16_t number = noted(hz_read_end(h.core, UNLESS(1, held), UNLESS(2, image), len, UNLESS(3, into)));
+    uint16_t wanted = early(h, h.null == 2 && len == 0);
+    if (!wanted)
+        wanted = len != m.config.page_size ? HZ_OUT_OF_PAGE : is_out(&m.reads, &ticket) ? 0 : HZ_UNKNOWN_TICKET;
+    SAME(wanted, number);
+    if (!wanted) {
+        model_read_end(&ticket, image);
+        before = give(&m.passes, &m.passes, ticket.client, ticket.page);
+    }
+    same_grant(&before, into);
+}
+
+static void try_read_failed(void)
+{
+    how h = picked(2);
+    hz_grant ticket = *held = a_grant(&m.reads);
+    bool is_wrong_page = one_in(2);
+    uint16_t number = noted(hz_read_failed(h.core, UNLESS(1, held), is_wrong_page)), wanted = early(h, false);
+    if (!wanted && is_out(&m.reads, &ticket)) {
+        wanted = is_wrong_page ? HZ_WRONG_PAGE : HZ_READ_FAILED;
+        m.pages[ticket.page].is_reading = false;
+        m.entries++;
+        m.totals.failed++;
+        stale = ticket;
+        take_back(&m.reads, &ticket);
+    }
+    SAME(wanted ? wanted : HZ_UNKNOWN_TICKET, number);
+}
+
+/* Ends a write-out in the model, and tells what is_still_dirty gets. */
+static uint8_t model_write_end(const hz_grant *ticket, bool is_good)
+{
+    model_page *page = &m.pages[ticket->page];
+    page->is_writing = false;
+    if (is_good)
+        page->is_dirty = page->is_written_since;
+    m.entries++;
+    ++*(is_good ? &m.totals.writes : &m.totals.failed);
+    stale = *ticket;
+    take_back(&m.writes, ticket);
+    return is_good ? page->is_dirty : ODD;
+}
+
+static void try_write_end(void)
+{
+    how h = picked(3);
+    hz_grant ticket = *held = a_grant(&m.writes);
+    bool is_good = !one_in(4);
+    *dirty = ODD;
+    uint16_t number = noted(hz_write_end(h.core, UNLESS(1, held), is_good, UNLESS(2, dirty)));
+    uint16_t wanted = early(h, false);
+    uint8_t wanted_dirty = ODD;
+    if (!wanted)
+        wanted = !is_out(&m.writes, &ticket) ? HZ_UNKNOWN_TICKET : is_good ? 0 : HZ_WRITE_FAILED;
+    if (wanted == 0 || wanted == HZ_WRITE_FAILED)
+        wanted_dirty = model_write_end(&ticket, is_good);
+    SAME(wanted, number);
+    SAME(wanted_dirty, *dirty);
+}
+
+static void try_unfix(void)
+{
+    how h = picked(2);
+    hz_grant given_back = *held = a_grant(&m.passes);
+    uint16_t number = noted(hz_unfix(h.core, UNLESS(1, held))), wanted = early(h, false);
+    if (!wanted)
+        wanted = is_out(&m.passes, &given_back) ? 0 : HZ_UNKNOWN_PASS;
+    SAME(wanted, number);
+    if (wanted)
+        return;
+    m.pages[given_back.page].pins--;
+    m.entries++;
+    stale = given_back;
+    take_back(&m.passes, &given_back);
+}
+
+/* Why a part of a page is neither read nor written, or 0. */
+static uint16_t part_refused(const hz_grant *grant, size_t offset, size_t len)
+{
+    if (offset > m.config.page_size || len > m.config.page_size - offset)
+        return HZ_OUT_OF_PAGE;
+    if (room_left() < 1)
+        return HZ_TRAIL_FULL;
+    return is_out(&m.passes, grant) ? 0 : HZ_UNKNOWN_PASS;
+}
+
+static void try_read(void)
+{
+    how h = picked(3);
+    hz_grant grant = *held = a_grant(&m.passes);
+    size_t offset = a_number(m.config.page_size), len = a_number(m.config.page_size / 2);
+    uint8_t *into = odd_buffer(len);
+    uint16_t number = noted(hz_read(h.core, UNLESS(1, held), offset, UNLESS(2, into), len));
+    uint16_t wanted = early(h, h.null == 2 && len == 0);
+    if (!wanted)
+        wanted = part_refused(&grant, offset, len);
+    SAME(wanted, number);
+    SAME(true, wanted ? is_odd(into, len) : !memcmp(into, m.pages[grant.page].image + offset, len));
+    m.entries += !wanted;
+}
+
+static void try_write(void)
+{
+    how h = picked(3);
+    hz_grant grant = *held = a_grant(&m.passes);
+    size_t offset = a_number(m.config.page_size), len = a_number(m.config.page_size / 2);
+    uint8_t *bytes = odd_buffer(len);
+    uint64_t lsn = one_in(100) ? UINT64_MAX - below(2) : m.durable + below(4);
+    for (size_t i = 0; i < len && i < BLOCK; i++)
+        bytes[i] = (uint8_t)(m.entries * 3 + i);
+    uint16_t number = noted(hz_write(h.core, UNLESS(1, held), offset, UNLESS(2, bytes), len, lsn));
+    uint16_t wanted = early(h, h.null == 2 && len == 0);
+    if (!wanted)
+        wanted = part_refused(&grant, offset, len);
+    SAME(wanted, number);
+    if (wanted)
+        return;
+    model_page *page = &m.pages[grant.page];
+    memcpy(page->image + offset, bytes, len);
+    page->is_dirty = page->is_written_since = true;
+    page->lsn = lsn > page->lsn ? lsn : page->lsn;
+    m.entries++;
+}
+
+/* Why a call of a client is refused that needs room for one entry, or 0. */
+static uint16_t step_refused(how h, uint8_t client)
+{
+    uint16_t first = early(h, false);
+    if (first)
+        return first;
+    return client >= m.config.clients ? HZ_BAD_CLIENT : room_left() < 1 ? HZ_TRAIL_FULL : 0;
+}
+
+static void try_tick(void)
+{
+    const uint64_t end = 1ull << 62;
+    how h = picked(1);
+    uint8_t client = a_client();
+    uint64_t n = one_in(50) ? end - m.clock + 1 + below(9) : below(4);
+    if (one_in(5000))
+        n = end - m.clock;
+    uint16_t wanted = step_refused(h, client), number = noted(hz_tick(h.core, client, n));
+    if (!wanted && n > end - m.clock)
+        wanted = HZ_CLOCK_FULL;
+    SAME(wanted, number);
+    if (wanted)
+        return;
+    m.clock += n;
+    m.entries++;
+}
+
+static void try_mark(void)
+{
+    how h = picked(1);
+    uint8_t client = a_client();
+    uint64_t lsn = one_in(9) ? below(m.durable + 1) : m.durable + below(3);
+    uint16_t wanted = step_refused(h, client), number = noted(hz_mark(h.core, client, lsn));
+    SAME(wanted, number);
+    if (wanted)
+        return;
+    m.durable = lsn > m.durable ? lsn : m.durable;
+    m.entries++;
+}
+
+static void try_purge(void)
+{
+    how h = picked(2);
+    uint8_t client = a_client();
+    uint64_t forgotten = 0;
+    *count = ODD;
+    uint16_t wanted = step_refused(h, client), number = noted(hz_purge(h.core, client, UNLESS(1, count)));
+    SAME(wanted, number);
+    for (unsigned i = 0; i < PAGES && !wanted; i++)
+        if (is_old(&m.pages[i])) {
+            m.pages[i].bursts = 0;
+            forgotten++;
+        }
+    SAME(wanted ? ODD : forgotten, *count);
+    m.entries += !wanted;
+}
+
+static void try_totals(void)
+{
+    how h = picked(2);
+    memset(totals, ODD, sizeof *totals);
+    uint16_t number = noted(hz_totals_of(h.core, UNLESS(1, totals))), wanted = early(h, false);
+    SAME(wanted, number);
+    SAME(true, wanted ? is_odd(totals, sizeof *totals) : !memcmp(totals, &m.totals, sizeof *totals));
+}
+
+/* The text of a number: as much as there is room for, and no more. */
+static void try_text(void)
+{
+    uint8_t whole[128];
+    uint16_t number = (uint16_t)below(60);
+    size_t len = a_number(80), length = hz_text(number, whole, sizeof whole);
+    uint8_t *into = odd_buffer(len);
+    len = len < BLOCK ? len : BLOCK;
+    size_t cut = len < length ? len : length;
+    SAME(length, hz_text(number, NULL, len));
+    SAME(length, hz_text(number, into, len));
+    SAME(true, length > 0 && !memcmp(into, whole, cut) && is_odd(into + cut, len - cut));
+    calls += 3;
+}
+
+/* --- Cores --- */
+
+/* A core is made where there is none, by numbers that are within their limits. */
+static void try_new(void)
+{
+    how h = {.core = one_in(3) ? live : none, .null = one_in(16) ? (unsigned)below(2) : NO_NULL};
+    static const hz_config good = {.pages = 1, .page_size = 16, .frames = 1, .room = 1, .k = 1, .clients = 1};
+    *config = good;
+    uint16_t wanted = h.null != NO_NULL ? HZ_NULL : h.core == live ? HZ_HAS_CORE : HZ_BAD_SETTINGS;
+    switch (below(6)) {
+    case 0:
+        config->pages = one_in(2) ? 0 : 1048577 + drawn();
+        wanted = wanted == HZ_BAD_SETTINGS ? HZ_BAD_GEOMETRY : wanted;
+        break;
+    case 1:
+        config->page_size = one_in(2) ? below(PAGES) * 16 + 1 + below(15) : 65552;
+        wanted = wanted == HZ_BAD_SETTINGS ? HZ_BAD_GEOMETRY : wanted;
+        break;
+    case 2:
+        config->frames = one_in(2) ? 0 : 65537 + drawn();
+        break;
+    case 3:
+        config->k = one_in(2) ? 0 : 17;
+        break;
+    case 4:
+        config->clients = one_in(2) ? 0 : 65;
+        break;
+    default:
+        config->room = one_in(2) ? 0 : SIZE_MAX - below(9);
+        break;
+    }
+    SAME(wanted, noted(hz_core_new(UNLESS(0, config), UNLESS(1, h.core))));
+    SAME(false, none->is_live);
+}
+
+/* A fresh core, and a fresh model of it. */
+static void begin(void)
+{
+    memset(&m, 0, sizeof m);
+    m.config = (hz_config){
+        .pages = 1 + below(PAGES),
+        .page_size = 16 * (1 + below(SIZE / 16)),
+        .frames = 1 + below(FRAMES),
+        .room = one_in(4) ? 1 + below(3000) : (size_t)1 << 61,
+        .correlated = one_in(2) ? below(4) : 0,
+        .retained = below(16),
+        .k = (uint8_t)(1 + below(MOST_K)),
+        .clients = (uint8_t)(1 + below(CLIENTS)),
+    };
+    m.clock = 1;
+    *config = m.config;
+    SAME(0, noted(hz_core_new(config, live)));
+}
+
+/* A core that is freed, with what is out, leaves a handle of none. */
+static void end(void)
+{
+    SAME(HZ_NO_CORE, noted(hz_core_free(none)));
+    SAME(HZ_NULL, noted(hz_core_free(NULL)));
+    SAME(0, noted(hz_core_free(live)));
+    SAME(HZ_NO_CORE, noted(hz_core_free(live)));
+    *held = stale;
+    SAME(HZ_NO_CORE, noted(hz_unfix(live, held)));
+    SAME(false, live->is_live);
+}
+
+/* Whether to end or use one of these: mostly where there is one. */
+static bool is_worth(const grants *list)
+{
+    return list->count > 0 || one_in(8);
+}
+
+static void step(void)
+{
+    uint64_t which = below(100);
+    if (which < 20 && is_worth(&m.passes))
+        try_unfix();
+    else if (which < 34 && m.passes.count < OUT && is_worth(&m.reads))
+        try_read_end();
+    else if (which < 37 && is_worth(&m.reads))
+        try_read_failed();
+    else if (which < 44 && is_worth(&m.writes))
+        try_write_end();
+    else if (which < 50 && is_worth(&m.passes))
+        try_read();
+    else if (which < 59 && is_worth(&m.passes))
+        try_write();
+    else if (which >= 59 && which < 66)
+        try_tick();
+    else if (which >= 66 && which < 70)
+        try_mark();
+    else if (which >= 70 && which < 75)
+        try_fix(true);
+    else if (which >= 75 && which < 77)
+        try_purge();
+    else if (which >= 77 && which < 80)
+        (which < 78 ? try_totals : which < 79 ? try_text : try_new)();
+    else if (m.passes.count < OUT - 1)
+        try_fix(false);
+    else
+        try_unfix();
+}
+
+static void found_wrong(int line, const char *what, unsigned long long wanted, unsigned long long found)
+{
+    fprintf(stderr, "fuzz.c:%d: after %lu calls: %s is %llu, and not %llu\n", line, (unsigned long)calls, what, found,
+            wanted);
+    abort();
+}
+
+#ifdef LIBFUZZER
+int LLVMFuzzerTestOneInput(const uint8_t *bytes, size_t len);
+
+int LLVMFuzzerTestOneInput(const uint8_t *bytes, size_t len)
+{
+    if (!buffer_end)
+        prepare();
+    given = bytes;
+    given_left = len;
+    is_given = true;
+    begin();
+    while (given_left > 0)
+        step();
+    end();
+    return 0;
+}
+#else
+
+/* Each number that a call may have came, and each kind, but for 22, which takes a memory that is full. */
+static void look_whether_all_came(void)
+{
+    static const uint8_t numbers[] = {0, 1, 2, 11, 12, 13, 14, 16, 17, 18, 19, 20, 21, 41, 45, 50, 51, 52};
+    for (size_t i = 0; i < sizeof numbers; i++) {
+        SAME(true, came[numbers[i]] > 0);
+        printf("%u: %lu%s", numbers[i], (unsigned long)came[numbers[i]], i + 1 < sizeof numbers ? ", " : "\n");
+    }
+    for (unsigned kind = HZ_HIT; kind <= HZ_ABSENT; kind++)
+        SAME(true, kinds[kind] > 0);
+    SAME(0, came[HZ_OUT_OF_MEMORY]);
+}
+
+int main(int words, char **word)
+{
+    uint64_t wanted = words > 1 ? strtoull(word[1], NULL, 10) : 1000000, cores = 0;
+    state = words > 2 ? strtoull(word[2], NULL, 10) : 1;
+    prepare();
+    for (; calls < wanted; cores++) {
+        begin();
+        for (uint64_t left = below(4000); left > 0 && calls < wanted; left--)
+            step();
+        end();
+    }
+    printf("%lu calls on %lu cores, seed %s; of each number ", (unsigned long)calls, (unsigned long)cores,
+           words > 2 ? word[2] : "1");
+    look_whether_all_came();
+    return 0;
+}
+#endif

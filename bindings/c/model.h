@@ -1,0 +1,225 @@
+/* A simple model of the pool, for fuzz.c: what each call answers and leaves, from the header and the definitions of
+ * LRU-K alone. It keeps each page's bursts of references, and looks through all pages for a victim.
+ */
+#include "hojzmated.h"
+#include <string.h>
+
+enum { PAGES = 24, SIZE = 64, FRAMES = 6, CLIENTS = 3, MOST_K = 4, OUT = 40 };
+
+/* References of a page that count as one: the times of the first and the last, and whether the first was a hit. */
+typedef struct burst {
+    uint64_t first, last;
+    bool is_hit;
+} burst;
+
+typedef struct model_page {
+    bool is_here, is_reading, is_writing, is_dirty, is_written_since;
+    unsigned pins, bursts;
+    uint64_t lsn;
+    burst newest[MOST_K]; /* the newest bursts, the newest one first */
+    uint8_t image[SIZE];
+} model_page;
+
+typedef struct grants {
+    hz_grant out[OUT];
+    unsigned count;
+    uint64_t ever; /* how many were given, which is the next serial number */
+} grants;
+
+static struct {
+    hz_config config;
+    model_page pages[PAGES];
+    grants passes, reads, writes; /* `reads.ever` counts the tickets of both kinds */
+    uint64_t clock, durable, entries;
+    hz_totals totals;
+} m;
+
+static bool is_same(const hz_grant *a, const hz_grant *b)
+{
+    return a->page == b->page && a->serial == b->serial && a->client == b->client;
+}
+
+/* The place of a grant in a list, or how many there are. */
+static unsigned place_of(const grants *list, const hz_grant *grant)
+{
+    unsigned place = 0;
+    while (place < list->count && !is_same(&list->out[place], grant))
+        place++;
+    return place;
+}
+
+static bool is_out(const grants *list, const hz_grant *grant)
+{
+    return place_of(list, grant) < list->count;
+}
+
+static hz_grant give(grants *list, grants *counter, uint8_t client, uint64_t page)
+{
+    hz_grant grant = {.page = page, .serial = counter->ever++, .client = client};
+    list->out[list->count++] = grant;
+    return grant;
+}
+
+static void take_back(grants *list, const hz_grant *grant)
+{
+    list->out[place_of(list, grant)] = list->out[list->count - 1];
+    list->count--;
+}
+
+static uint64_t room_left(void)
+{
+    uint64_t owed = m.entries + m.passes.count + m.writes.count + 2 * m.reads.count;
+    return owed < m.config.room ? m.config.room - owed : 0;
+}
+
+static uint64_t last_of(const model_page *page)
+{
+    return page->bursts ? page->newest[0].last : 0;
+}
+
+static void refer(model_page *page, bool is_hit)
+{
+    if (page->bursts && is_hit && m.clock - last_of(page) <= m.config.correlated) {
+        page->newest[0].last = m.clock;
+        return;
+    }
+    memmove(page->newest + 1, page->newest, (MOST_K - 1) * sizeof(burst));
+    page->newest[0] = (burst){.first = m.clock, .last = m.clock, .is_hit = is_hit};
+    if (page->bursts < MOST_K)
+        page->bursts++;
+}
+
+/* The K-th newest reference, put later by the bursts between that a hit followed; 0 where there are fewer than K. */
+static uint64_t stamp_of(const model_page *page)
+{
+    unsigned k = m.config.k;
+    if (page->bursts < k)
+        return 0;
+    uint64_t stamp = page->newest[k - 1].first;
+    for (unsigned place = 1; place < k; place++)
+        if (page->newest[place - 1].is_hit)
+            stamp += page->newest[place].last - page->newest[place].first;
+    return stamp;
+}
+
+/* The page that LRU-K replaces, or PAGES: of least stamp, then of least last reference, then of least number. */
+static unsigned victim(void)
+{
+    unsigned best = PAGES;
+    for (unsigned i = 0; i < PAGES; i++) {
+        const model_page *page = &m.pages[i], *first = &m.pages[best % PAGES];
+        if (!page->is_here || page->pins || page->is_writing || m.clock - last_of(page) <= m.config.correlated)
+            continue;
+        if (best == PAGES || stamp_of(page) < stamp_of(first) ||
+            (stamp_of(page) == stamp_of(first) && last_of(page) < last_of(first)))
+            best = i;
+    }
+    return best;
+}
+
+static bool has_free_frame(void)
+{
+    unsigned taken = m.reads.count;
+    for (unsigned i = 0; i < PAGES; i++)
+        taken += m.pages[i].is_here;
+    return taken < m.config.frames;
+}
+
+/* --- What a call answers and leaves by the model --- */
+
+/* What a fix or a flush gives, its number, and the image that goes out or null. */
+typedef struct answer {
+    uint16_t number;
+    hz_fixed out;
+    const uint8_t *image;
+} answer;
+
+static answer refused(uint16_t number, uint8_t client, uint64_t page, uint64_t lsn)
+{
+    return (answer){.number = number, .out = {.grant = {.page = page, .client = client}, .lsn = lsn}};
+}
+
+static answer model_write_out(uint8_t client, uint64_t asked, uint64_t number)
+{
+    model_page *page = &m.pages[number];
+    m.entries++;
+    if (m.durable < page->lsn)
+        return refused(HZ_NEED_LOG, client, asked, page->lsn);
+    page->is_writing = true;
+    page->is_written_since = false;
+    hz_grant ticket = give(&m.writes, &m.reads, client, number);
+    return (answer){.out = {.grant = ticket, .lsn = page->lsn, .kind = HZ_WRITE_FIRST}, .image = page->image};
+}
+
+static answer model_load(uint8_t client, uint64_t number, unsigned gone)
+{
+    answer a = {.out = {.kind = HZ_LOAD}};
+    m.entries++;
+    if (gone < PAGES) {
+        m.pages[gone].is_here = false;
+        m.totals.evictions++;
+        a.out.evicted = gone;
+        a.out.has_evicted = 1;
+    }
+    m.pages[number].is_reading = true;
+    a.out.grant = give(&m.reads, &m.reads, client, number);
+    return a;
+}
+
+/* Why a fix or a flush is not looked at, or 0. */
+static uint16_t misfit(uint8_t client, uint64_t page, size_t len, uint64_t room)
+{
+    if (client >= m.config.clients)
+        return HZ_BAD_CLIENT;
+    if (page >= m.config.pages || len != m.config.page_size)
+        return HZ_OUT_OF_PAGE;
+    return room_left() < room ? HZ_TRAIL_FULL : 0;
+}
+
+static answer model_fix(uint8_t client, uint64_t number, size_t len)
+{
+    uint16_t why = misfit(client, number, len, 3);
+    if (why)
+        return refused(why, client, number, 0);
+    model_page *page = &m.pages[number];
+    if (page->is_reading) {
+        m.entries++;
+        return refused(HZ_BUSY, client, number, 0);
+    }
+    if (page->is_here) {
+        m.entries++;
+        m.totals.hits++;
+        refer(page, true);
+        page->pins++;
+        return (answer){.out = {.grant = give(&m.passes, &m.passes, client, number), .kind = HZ_HIT}};
+    }
+    if (has_free_frame())
+        return model_load(client, number, PAGES);
+    unsigned gone = victim();
+    if (gone == PAGES) {
+        m.entries++;
+        return refused(HZ_NO_VICTIM, client, number, 0);
+    }
+    return m.pages[gone].is_dirty ? model_write_out(client, number, gone) : model_load(client, number, gone);
+}
+
+static answer model_flush(uint8_t client, uint64_t number, size_t len)
+{
+    uint16_t why = misfit(client, number, len, 2);
+    if (why)
+        return refused(why, client, number, 0);
+    model_page *page = &m.pages[number];
+    if (page->is_here && !page->is_writing && page->is_dirty)
+        return model_write_out(client, number, number);
+    m.entries++;
+    answer a = refused(page->is_reading || page->is_writing ? HZ_BUSY : 0, client, number, 0);
+    if (a.number == 0)
+        a.out.kind = page->is_here ? HZ_CLEAN : HZ_ABSENT;
+    return a;
+}
+
+/* Whether a purge forgets the page. */
+static bool is_old(const model_page *page)
+{
+    return page->bursts && !page->is_here && !page->is_reading && m.config.retained < m.clock - last_of(page);
+}

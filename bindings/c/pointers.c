@@ -1,0 +1,167 @@
+/* The calls of the header, as C makes them. Each refuses a null pointer, and else makes the proved call of its name. It
+ * passes structs of its own, so that two of the caller's may be one, and a length beyond the largest page as one byte
+ * more than that: the proved call refuses both. The proved calls are those of crates/hojzmated_c, to which the Makefile
+ * gives names that begin with proved_.
+ *
+ * This file is tested, by fuzz.c and peers/c/refusals.c, and not proved.
+ */
+#include "hojzmated.h"
+
+#define PROVED(name) extern __typeof__(name) proved_##name
+PROVED(hz_core_new);
+PROVED(hz_core_free);
+PROVED(hz_fix);
+PROVED(hz_read_end);
+PROVED(hz_read_failed);
+PROVED(hz_write_end);
+PROVED(hz_unfix);
+PROVED(hz_read);
+PROVED(hz_write);
+PROVED(hz_tick);
+PROVED(hz_mark);
+PROVED(hz_flush);
+PROVED(hz_purge);
+PROVED(hz_totals_of);
+PROVED(hz_text);
+PROVED(hz_version);
+
+static const size_t too_long = 65537;
+
+/* Where the bytes of an empty buffer are, whose pointer may be null. */
+static uint8_t nowhere;
+
+static bool is_null(const uint8_t *bytes, size_t len)
+{
+    return !bytes && len > 0;
+}
+
+static size_t length_of(size_t len)
+{
+    return len < too_long ? len : too_long;
+}
+
+uint16_t hz_core_new(const hz_config *config, hz_core *core)
+{
+    if (!config || !core)
+        return HZ_NULL;
+    hz_config own = *config;
+    return proved_hz_core_new(&own, core);
+}
+
+uint16_t hz_core_free(hz_core *core)
+{
+    return core ? proved_hz_core_free(core) : HZ_NULL;
+}
+
+uint16_t hz_fix(hz_core *core, uint8_t client, uint64_t page, uint8_t *buffer, size_t len, hz_fixed *out)
+{
+    if (!core || is_null(buffer, len) || !out)
+        return HZ_NULL;
+    hz_fixed gave = *out;
+    uint16_t number = proved_hz_fix(core, client, page, buffer ? buffer : &nowhere, length_of(len), &gave);
+    *out = gave;
+    return number;
+}
+
+uint16_t hz_read_end(hz_core *core, const hz_grant *ticket, const uint8_t *image, size_t len, hz_grant *pass)
+{
+    if (!core || !ticket || is_null(image, len) || !pass)
+        return HZ_NULL;
+    hz_grant own = *ticket, given = *pass;
+    uint16_t number = proved_hz_read_end(core, &own, image ? image : &nowhere, length_of(len), &given);
+    *pass = given;
+    return number;
+}
+
+uint16_t hz_read_failed(hz_core *core, const hz_grant *ticket, bool is_wrong_page)
+{
+    if (!core || !ticket)
+        return HZ_NULL;
+    hz_grant own = *ticket;
+    return proved_hz_read_failed(core, &own, is_wrong_page);
+}
+
+uint16_t hz_write_end(hz_core *core, const hz_grant *ticket, bool is_good, uint8_t *is_still_dirty)
+{
+    if (!core || !ticket || !is_still_dirty)
+        return HZ_NULL;
+    hz_grant own = *ticket;
+    uint8_t is_dirty = *is_still_dirty;
+    uint16_t number = proved_hz_write_end(core, &own, is_good, &is_dirty);
+    *is_still_dirty = is_dirty;
+    return number;
+}
+
+uint16_t hz_unfix(hz_core *core, const hz_grant *pass)
+{
+    if (!core || !pass)
+        return HZ_NULL;
+    hz_grant own = *pass;
+    return proved_hz_unfix(core, &own);
+}
+
+uint16_t hz_read(hz_core *core, const hz_grant *pass, size_t offset, uint8_t *into, size_t len)
+{
+    if (!core || !pass || is_null(into, len))
+        return HZ_NULL;
+    hz_grant own = *pass;
+    return proved_hz_read(core, &own, offset, into ? into : &nowhere, length_of(len));
+}
+
+uint16_t hz_write(hz_core *core, const hz_grant *pass, size_t offset, const uint8_t *bytes, size_t len, uint64_t lsn)
+{
+    if (!core || !pass || is_null(bytes, len))
+        return HZ_NULL;
+    hz_grant own = *pass;
+    return proved_hz_write(core, &own, offset, bytes ? bytes : &nowhere, length_of(len), lsn);
+}
+
+uint16_t hz_tick(hz_core *core, uint8_t client, uint64_t n)
+{
+    return core ? proved_hz_tick(core, client, n) : HZ_NULL;
+}
+
+uint16_t hz_mark(hz_core *core, uint8_t client, uint64_t lsn)
+{
+    return core ? proved_hz_mark(core, client, lsn) : HZ_NULL;
+}
+
+uint16_t hz_flush(hz_core *core, uint8_t client, uint64_t page, uint8_t *buffer, size_t len, hz_fixed *out)
+{
+    if (!core || is_null(buffer, len) || !out)
+        return HZ_NULL;
+    hz_fixed gave = *out;
+    uint16_t number = proved_hz_flush(core, client, page, buffer ? buffer : &nowhere, length_of(len), &gave);
+    *out = gave;
+    return number;
+}
+
+uint16_t hz_purge(hz_core *core, uint8_t client, uint64_t *count)
+{
+    if (!core || !count)
+        return HZ_NULL;
+    uint64_t forgotten = *count;
+    uint16_t number = proved_hz_purge(core, client, &forgotten);
+    *count = forgotten;
+    return number;
+}
+
+uint16_t hz_totals_of(hz_core *core, hz_totals *out)
+{
+    if (!core || !out)
+        return HZ_NULL;
+    hz_totals counted = *out;
+    uint16_t number = proved_hz_totals_of(core, &counted);
+    *out = counted;
+    return number;
+}
+
+size_t hz_text(uint16_t number, uint8_t *into, size_t len)
+{
+    return into ? proved_hz_text(number, into, length_of(len)) : proved_hz_text(number, &nowhere, 0);
+}
+
+uint32_t hz_version(void)
+{
+    return proved_hz_version();
+}

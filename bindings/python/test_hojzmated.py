@@ -1,0 +1,305 @@
+"""Tests of hojzmated.py: `python3 -m unittest discover -s bindings/python`.
+
+What lists of references come to is compared with the cases of check/program.cases, and with peers/simulation.py, which
+shares nothing with the library.
+"""
+import ctypes
+import doctest
+import importlib.util
+import os
+import re
+import threading
+import unittest
+from unittest import mock
+
+import hojzmated
+
+TOP = os.path.dirname(os.path.dirname(os.path.dirname(os.path.realpath(__file__))))
+
+
+def peer(name):
+    """A script of peers, as a module."""
+    spec = importlib.util.spec_from_file_location(name, os.path.join(TOP, "peers", f"{name}.py"))
+    module = importlib.util.module_from_spec(spec)
+    spec.loader.exec_module(module)
+    return module
+
+
+simulation, references = peer("simulation"), peer("references")
+
+
+def text_of(*path):
+    with open(os.path.join(TOP, *path), encoding="utf-8") as file:
+        return file.read()
+
+
+# ---- The sweeps of check/program.cases
+
+def escaped(text):
+    return text.replace("\\r", "\r").replace("\\n", "\n").removesuffix("\\")
+
+
+def blocks_of(cases):
+    """For each case its name and its lines."""
+    for block in cases.split("\n== ")[1:]:
+        name, *lines = block.splitlines()
+        yield name, [line for line in lines if line and not line.startswith("#")]
+
+
+def runs_of(lines):
+    """Each run of a case that has a list on standard input or in a file: its words, the list, and what it prints."""
+    files, runs = {}, []
+    for kind, rest in (line.split(" ", 1) for line in lines):
+        if kind == "@":
+            name, _, text = rest.partition(" text ")
+            files[name] = escaped(text)
+        elif kind == "$":
+            words = rest.split()
+            runs.append((words[1:], [files.get(words[1], "")] if len(words) > 1 else [], []))
+        elif kind == "<":
+            runs[-1][1].append(escaped(rest) + "\n")
+        elif kind == ">":
+            runs[-1][2].append(rest)
+        elif kind == ">=":
+            runs[-1][2].extend(text_of("check", "cases", rest).splitlines())
+    return runs
+
+
+def filled_in(lines):
+    """The lines of a case for each of its rows, which fill in %1, %2 and so on; once where it has none."""
+    rows = [[it.strip() for it in line[2:].split("=>")] for line in lines if line.startswith("* ")]
+    rest = [line for line in lines if not line.startswith("* ")]
+    for row in rows or [[]]:
+        yield [re.sub(r"%(\d)", lambda it: row[int(it[1]) - 1], line) if row else line for line in rest]
+
+
+def without_picture(words):
+    """The words without `--svg FILE`: no picture is drawn here."""
+    at = words.index("--svg") if "--svg" in words else len(words)
+    return words[:at] + words[at + 2:]
+
+
+def sweeps_of(cases):
+    """Each sweep of a list of numbers that prints a table: the case, its words, the list, the lines of the pools."""
+    for name, lines in blocks_of(cases):
+        if not name.startswith("sweep_"):
+            continue
+        for filled in filled_in(lines):
+            for words, pieces, printed in runs_of([it for it in filled if it[0] in "@$<>"]):
+                if printed and printed[0] == simulation.HEADER and "--column" not in words:
+                    yield name, without_picture(words), "".join(pieces), [it for it in printed[1:] if ",opt," not in it]
+
+
+def swept(words, text):
+    """The lines that the module counts for the words of a sweep."""
+    told = simulation.words_of(words)
+    pages = [int(it) for it in text.split()]
+    return [
+        f"{it.frames},{it.k},{it.counts.fixes},{it.counts.hits},{it.counts.faults},"
+        f"{simulation.ratio_text(it.counts.hits, it.counts.fixes)},{it.counts.evictions},0,0,{it.counts.refused}"
+        for it in hojzmated.sweep(pages, told.frames, told.k, told.correlated)
+    ]
+
+
+class Lists(unittest.TestCase):
+    def test_cases_of_the_program(self):
+        names = set()
+        for name, words, text, lines in sweeps_of(text_of("check", "program.cases")):
+            with self.subTest(case=name, words=words):
+                self.assertEqual(swept(words, text), lines)
+            names.add(name)
+        wanted = {"sweep_of_beladys_list", "sweep_of_a_textbook_list", "sweep_keeps_what_came_twice",
+                  "sweep_of_one_frame", "sweep_where_two_references_count_as_one", "sweep_where_a_burst_moves_a_stamp",
+                  "sweep_where_no_page_may_leave", "sweep_of_a_longest_period", "sweep_of_no_references",
+                  "sweep_where_all_pages_stay", "sweep_of_large_numbers", "sweep_of_two_pools",
+                  "sweep_of_zipfian_references"}
+        self.assertEqual(wanted - names, set())
+
+    def test_as_simulated(self):
+        for kind, frames, k, correlated in [
+            ("two_pools", 60, 1, 0), ("two_pools", 100, 2, 0), ("two_pools", 100, 3, 7), ("zipfian", 40, 1, 2),
+            ("zipfian", 40, 2, 3), ("zipfian", 100, 16, 1), ("zipfian", 3, 2, 5),
+        ]:
+            with self.subTest(kind=kind, frames=frames, k=k, correlated=correlated):
+                drawn = getattr(references, kind)(7)
+                pages = [next(drawn) for _ in range(20_000)]
+                hits, faults, evictions, refused = simulation.lru_k(pages, frames, k, correlated)
+                counts = hojzmated.count(pages, frames, k, correlated)
+                self.assertEqual(counts, (20_000, hits, faults, evictions, refused))
+
+    def test_references_are_what_can_be_a_key(self):
+        counts = hojzmated.count(["a", (1, 2), "a", None, (1, 2)], frames=1)
+        self.assertEqual(counts, (5, 0, 5, 4, 0))
+        self.assertEqual(hojzmated.count("aab", frames=2).hit_ratio, 1 / 3)
+        self.assertEqual(hojzmated.count([], frames=2).hit_ratio, 0)
+
+    def test_numbers_out_of_their_limits(self):
+        for frames, k, correlated in [(0, 2, 0), (65_537, 2, 0), (1, 0, 0), (1, 17, 0), (1, 2, (1 << 62) + 1)]:
+            for pages in ([], [1]):
+                with self.assertRaises(hojzmated.Refused) as refused:
+                    hojzmated.count(pages, frames, k, correlated)
+                self.assertEqual(refused.exception.number, 2)
+
+    # Want of memory is not taken for a reference that was refused.
+    def test_want_of_memory(self):
+        with mock.patch.object(hojzmated._hz, "hz_fix", return_value=22):
+            with self.assertRaises(hojzmated.Refused) as refused:
+                hojzmated.count([1], frames=1)
+        self.assertEqual(refused.exception.number, 22)
+
+    # Half of the references of two pools hit where the index fits: the line of docs/EXPERIMENTS.md for 100 frames.
+    @unittest.skipUnless(os.environ.get("HOJZMATED_LONG"), "a million references, three times: HOJZMATED_LONG=1")
+    def test_ratios_of_the_experiments(self):
+        drawn = references.two_pools(1)
+        pages = [next(drawn) for _ in range(1_000_000)]
+        line = re.search(r"^\| 100 \| (\S+) \| (\S+) \| (\S+) \|", text_of("docs", "EXPERIMENTS.md"), re.MULTILINE)
+        found = [simulation.ratio_text(it.counts.hits, 1_000_000) for it in hojzmated.sweep(pages, [100], [1, 2, 3])]
+        self.assertEqual(found, list(line.groups()))
+
+
+# ---- A pool
+
+class Pools(unittest.TestCase):
+    def refused(self, number, call, *arguments, **named):
+        with self.assertRaises(hojzmated.Refused) as refused:
+            call(*arguments, **named)
+        self.assertEqual(refused.exception.number, number)
+        return str(refused.exception)
+
+    # Pages 1, 2 and 3 are referenced at the times 1, 2 and 3. While page 1 is pinned, page 2 makes way, and afterwards
+    # page 1.
+    def test_pinned_page_stays(self):
+        with hojzmated.Pool(pages=16, frames=3, k=1) as pool:
+            first = pool.fix(1)
+            for page, evicted in [(2, None), (3, None), (4, 2)]:
+                pool.tick()
+                with pool.fix(page) as fixed:
+                    self.assertEqual((fixed.number, fixed.is_hit, fixed.evicted), (page, False, evicted))
+            pool.tick()
+            first.unfix()
+            self.assertEqual(repr(pool.fix(5)), "<page 5, fault, evicted 1>")
+            self.assertEqual(pool.stats(), (0, 5, 2, 0, 0))
+
+    # At time 7 page 1 has one reference, and page 2 has two, so that page 1 leaves, though page 2 is older.
+    def test_page_that_came_twice_stays(self):
+        with hojzmated.Pool(pages=16, frames=2, k=2) as pool:
+            pool.fix(2).unfix()
+            pool.tick()
+            again = pool.fix(2)
+            self.assertTrue(again.is_hit)
+            again.unfix()
+            pool.tick(2)
+            pool.fix(1).unfix()
+            pool.tick(3)
+            self.assertEqual(pool.fix(3).evicted, 1)
+            self.assertEqual(pool.stats().hit_ratio, 1 / 4)
+
+    def test_no_page_may_leave(self):
+        with hojzmated.Pool(pages=3, frames=1, correlated=1) as pool:
+            text = "no page may leave its frame (refusal 11)"
+            with pool.fix(0):
+                pool.tick(2)
+                self.assertEqual(self.refused(11, pool.fix, 1), text)
+            pool.fix(0).unfix()
+            pool.tick()
+            self.refused(11, pool.fix, 1)
+            pool.tick()
+            self.assertEqual(pool.fix(1).evicted, 0)
+
+    def test_refusals(self):
+        self.refused(1, hojzmated.Pool, 0, 1)
+        self.refused(1, hojzmated.Pool, 1_048_577, 1)
+        self.refused(2, hojzmated.Pool, 1, 0)
+        self.refused(2, hojzmated.Pool, 1, 1, clients=65)
+        with hojzmated.Pool(pages=8, frames=2, clients=2) as pool, hojzmated.Pool(pages=8, frames=2) as other:
+            self.refused(45, pool.fix, 8)
+            self.refused(41, pool.fix, 7, client=2)
+            self.refused(41, pool.tick, client=2)
+            self.refused(41, pool.purge, client=2)
+            page = pool.fix(7, client=1)
+            self.refused(14, other.unfix, page)
+            page.unfix()
+            self.refused(14, page.unfix)
+            pool.tick((1 << 62) - 1)
+            self.refused(21, pool.tick)
+            self.assertEqual(pool.stats(), (0, 1, 0, 0, 0))
+
+    # ctypes would take the last byte of 256, and the last eight of 2^64.
+    def test_numbers_that_do_not_fit(self):
+        with hojzmated.Pool(pages=8, frames=2) as pool:
+            for call, named in [(pool.fix, {"page": 1 << 64}), (pool.fix, {"page": -1}), (pool.tick, {"n": 1 << 64}),
+                                (pool.fix, {"page": 1, "client": 256}), (pool.tick, {"client": 256}),
+                                (hojzmated.Pool, {"pages": 1, "frames": 1, "k": 257}),
+                                (hojzmated.Pool, {"pages": 1, "frames": (1 << 64) + 1})]:
+                with self.assertRaises(ValueError):
+                    call(**named)
+            with self.assertRaises(TypeError):
+                pool.fix(1.0)
+            self.assertEqual(pool.stats(), (0, 0, 0, 0, 0))
+
+    # Page 0 was last referenced at time 1, and is forgotten one tick past the retained period.
+    def test_purge(self):
+        with hojzmated.Pool(pages=8, frames=1, retained=10) as pool:
+            pool.fix(0).unfix()
+            pool.tick(9)
+            pool.fix(1).unfix()
+            pool.tick()
+            self.assertEqual(pool.purge(), 0)
+            pool.tick()
+            self.assertEqual(pool.purge(), 1)
+
+    def test_closed_pool(self):
+        pool = hojzmated.Pool(pages=8, frames=2)
+        page = pool.fix(1)
+        pool.close()
+        pool.close()
+        for call in (page.unfix, pool.tick, pool.purge, pool.stats, lambda: pool.fix(1)):
+            self.refused(50, call)
+
+    def test_threads_share_a_pool(self):
+        with hojzmated.Pool(pages=64, frames=16, clients=4) as pool:
+            def work(client):
+                for number in range(2_000):
+                    pool.fix((number * 7 + client) % 64, client).unfix()
+                    pool.tick(client=client)
+            threads = [threading.Thread(target=work, args=(client,)) for client in range(4)]
+            for thread in threads:
+                thread.start()
+            for thread in threads:
+                thread.join()
+            stats = pool.stats()
+            self.assertEqual(stats.hits + stats.faults, 8_000)
+
+
+# ---- The library
+
+def load_tests(_loader, tests, _pattern):
+    tests.addTests(doctest.DocTestSuite(hojzmated))
+    return tests
+
+
+class Library(unittest.TestCase):
+    def test_version(self):
+        header = text_of("include", "hojzmated.h")
+        parts = [re.search(rf"#define HZ_VERSION_{it} (\d+)", header)[1] for it in ("MAJOR", "MINOR", "PATCH")]
+        self.assertEqual(hojzmated.version(), tuple(map(int, parts)))
+        with mock.patch.object(hojzmated._hz, "hz_version", return_value=20_304):
+            self.assertEqual(hojzmated.version(), (2, 3, 4))
+
+    # Each struct and field lies where peers/c/layout.c says that the header has it.
+    def test_layout(self):
+        text = text_of("peers", "c", "layout.c")
+        types = {"hz_core": hojzmated._Core, "hz_config": hojzmated._Config, "hz_grant": hojzmated._Grant,
+                 "hz_fixed": hojzmated._Fixed, "hz_totals": hojzmated._Totals}
+        sizes = dict(re.findall(r"^HOLDS\(sizeof\((hz_\w+)\) == (\d+)\);", text, re.MULTILINE))
+        self.assertEqual({name: str(ctypes.sizeof(it)) for name, it in types.items()}, sizes)
+        wanted = re.findall(r"^LIES\((hz_\w+), (\w+), (\d+), (\d+)\);", text, re.MULTILINE)
+        found = [
+            (name, field, str(getattr(it, field).offset), str(getattr(it, field).size))
+            for name, it in types.items() for field, _ in it._fields_
+        ]
+        self.assertEqual(found, wanted)
+
+
+if __name__ == "__main__":
+    unittest.main()

@@ -1,0 +1,68 @@
+//! Finds the archive `libhojzmated.a`, and has it linked.
+//!
+//! It is looked for where `HOJZMATED_PREFIX` says, then where pkg-config says, and then in the
+//! checkout that this crate stands in, where `make -C bindings/c` builds it.
+use std::env;
+use std::path::{Path, PathBuf};
+use std::process::{Command, Stdio};
+
+const ARCHIVE: &str = "libhojzmated.a";
+
+fn main() {
+    println!("cargo::rerun-if-env-changed=HOJZMATED_PREFIX");
+    println!("cargo::rerun-if-env-changed=PKG_CONFIG");
+    println!("cargo::rerun-if-env-changed=PKG_CONFIG_PATH");
+    match found_folder() {
+        Ok(folder) => {
+            println!("cargo::rerun-if-changed={}", folder.join(ARCHIVE).display());
+            println!("cargo::rustc-link-search=native={}", folder.display());
+            println!("cargo::rustc-link-lib=static=hojzmated");
+        }
+        Err(why) => println!("cargo::error={why}"),
+    }
+}
+
+/// The folder of the archive. A prefix that is named and has none is an error: no other archive is
+/// taken for it.
+fn found_folder() -> Result<PathBuf, String> {
+    if let Some(prefix) = env::var_os("HOJZMATED_PREFIX") {
+        let prefix = Path::new(&prefix);
+        let folder = prefix.join("lib");
+        let is_there = folder.join(ARCHIVE).is_file();
+        return is_there.then_some(folder).ok_or(format!(
+            "HOJZMATED_PREFIX is {}, and there is no lib/{ARCHIVE}",
+            prefix.display()
+        ));
+    }
+    told_by_pkg_config()
+        .or_else(built_in_the_checkout)
+        .ok_or(format!(
+            "no {ARCHIVE}: install it and set HOJZMATED_PREFIX, or have pkg-config find hojzmated.pc; in a checkout \
+             `make -C bindings/c` builds it"
+        ))
+}
+
+fn told_by_pkg_config() -> Option<PathBuf> {
+    let program = env::var_os("PKG_CONFIG").unwrap_or("pkg-config".into());
+    let told = Command::new(program)
+        .args(["--variable=libdir", "hojzmated"])
+        .output()
+        .ok()?;
+    let folder = PathBuf::from(String::from_utf8(told.stdout).ok()?.trim());
+    (told.status.success() && folder.join(ARCHIVE).is_file()).then_some(folder)
+}
+
+/// What `make` left in `bindings/c`, made now where it is not there yet.
+fn built_in_the_checkout() -> Option<PathBuf> {
+    let own = PathBuf::from(env::var_os("CARGO_MANIFEST_DIR")?);
+    let beside = own.parent()?.join("c");
+    let folder = beside.join("out").join("lib");
+    println!("cargo::rerun-if-changed={}", folder.join(ARCHIVE).display());
+    if !folder.join(ARCHIVE).is_file() && beside.join("Makefile").is_file() {
+        let mut make = Command::new("make");
+        // What it says would be taken for words to cargo.
+        make.arg("-C").arg(&beside).stdout(Stdio::null());
+        make.status().ok()?;
+    }
+    folder.join(ARCHIVE).is_file().then_some(folder)
+}

@@ -1,0 +1,237 @@
+use crate::sys;
+use std::fmt;
+use std::result;
+
+/// Why the pool refused a call. A refusal leaves the pool as it was.
+///
+/// Each has the number that `hojzmated.h` gives it, and its text, which [`Display`](fmt::Display)
+/// shows.
+#[derive(Clone, Copy, Debug, PartialEq, Eq, Hash)]
+#[non_exhaustive]
+pub enum Error {
+    /// 1: the number of pages or the page size is out of its limits.
+    BadGeometry,
+    /// 2: another setting of the pool is out of its limits.
+    BadSettings,
+    /// 11: no page may leave its frame. Each is being read, pinned, being written out, or was
+    /// referenced within the correlated period.
+    NoVictim,
+    /// 12: the log has to be durable as far as this LSN first.
+    NeedLog {
+        /// How far the log has to be durable.
+        lsn: u64,
+    },
+    /// 13: the page is being read or written out.
+    Busy,
+    /// 14: no such pass is out.
+    UnknownPass,
+    /// 16: no such ticket is out.
+    UnknownTicket,
+    /// 17: the page could not be read.
+    ReadFailed,
+    /// 18: the page could not be written.
+    WriteFailed,
+    /// 19: the page's place in its file has another page.
+    WrongPage,
+    /// 20: the pool has answered nearly as many calls as [`Config::room`](crate::Config::room)
+    /// says. What is left is kept for the passes and tickets that are out.
+    TrailFull,
+    /// 21: the clock would pass its end.
+    ClockFull,
+    /// 22: out of memory.
+    OutOfMemory,
+    /// 41: no client has this number here.
+    BadClient,
+    /// 45: the page is not of the file, or the bytes are not within the page, or the buffer has
+    /// another size than a page.
+    OutOfPage,
+    /// 50: the handle has no core. No call of this crate gives it.
+    NoCore,
+    /// 51: the handle has a core already. No call of this crate gives it.
+    HasCore,
+    /// 52: a pointer is null. No call of this crate gives it.
+    Null,
+    /// A number that a newer library has.
+    Other(u16),
+}
+
+/// What a call of the pool gives.
+pub type Result<T, E = Error> = result::Result<T, E>;
+
+/// Each refusal that has a number of its own.
+const NUMBERED: [Error; 18] = [
+    Error::BadGeometry,
+    Error::BadSettings,
+    Error::NoVictim,
+    Error::NeedLog { lsn: 0 },
+    Error::Busy,
+    Error::UnknownPass,
+    Error::UnknownTicket,
+    Error::ReadFailed,
+    Error::WriteFailed,
+    Error::WrongPage,
+    Error::TrailFull,
+    Error::ClockFull,
+    Error::OutOfMemory,
+    Error::BadClient,
+    Error::OutOfPage,
+    Error::NoCore,
+    Error::HasCore,
+    Error::Null,
+];
+
+impl Error {
+    /// The number that `hojzmated.h` gives it.
+    pub const fn number(self) -> u16 {
+        match self {
+            Error::BadGeometry => 1,
+            Error::BadSettings => 2,
+            Error::NoVictim => 11,
+            Error::NeedLog { .. } => 12,
+            Error::Busy => 13,
+            Error::UnknownPass => 14,
+            Error::UnknownTicket => 16,
+            Error::ReadFailed => 17,
+            Error::WriteFailed => 18,
+            Error::WrongPage => 19,
+            Error::TrailFull => 20,
+            Error::ClockFull => 21,
+            Error::OutOfMemory => 22,
+            Error::BadClient => 41,
+            Error::OutOfPage => 45,
+            Error::NoCore => 50,
+            Error::HasCore => 51,
+            Error::Null => 52,
+            Error::Other(number) => number,
+        }
+    }
+
+    /// The refusal with this number. Of one that needs the log, `lsn` is how far.
+    fn numbered(number: u16, lsn: u64) -> Error {
+        let known = NUMBERED.into_iter().find(|it| it.number() == number);
+        match known {
+            Some(Error::NeedLog { .. }) => Error::NeedLog { lsn },
+            Some(error) => error,
+            None => Error::Other(number),
+        }
+    }
+
+    /// What a call came to that answered with this number.
+    #[inline]
+    pub(crate) fn check(number: u16) -> Result<()> {
+        Error::check_with(number, 0)
+    }
+
+    /// The same of a call that also tells how far the log has to be durable.
+    #[inline]
+    pub(crate) fn check_with(number: u16, lsn: u64) -> Result<()> {
+        match number {
+            0 => Ok(()),
+            refused => Err(Error::numbered(refused, lsn)),
+        }
+    }
+}
+
+impl fmt::Display for Error {
+    fn fmt(&self, f: &mut fmt::Formatter<'_>) -> fmt::Result {
+        let mut text = [0; 128];
+        // SAFETY: the pointer leads to `text`, which has this length and may be written to.
+        let whole = unsafe { sys::hz_text(self.number(), text.as_mut_ptr(), text.len()) };
+        let shown = text.get(..whole).unwrap_or(&text);
+        write!(f, "{}", String::from_utf8_lossy(shown))?;
+        match self {
+            Error::NeedLog { lsn } => write!(f, " (LSN {lsn})"),
+            Error::Other(number) => write!(f, " ({number})"),
+            _ => Ok(()),
+        }
+    }
+}
+
+impl std::error::Error for Error {}
+
+/// A refusal of a call that would have taken a pass or a ticket. It comes back, and is still out
+/// where it was.
+#[derive(Debug, PartialEq, Eq)]
+pub struct Refused<T> {
+    /// Why the call was refused.
+    pub error: Error,
+    /// What the call would have taken.
+    pub token: T,
+}
+
+impl<T> Refused<T> {
+    /// What a call came to that took a token and answered with this number.
+    #[inline]
+    pub(crate) fn check(number: u16, token: T) -> Result<(), Refused<T>> {
+        Error::check(number).map_err(|error| Refused { error, token })
+    }
+}
+
+/// The token is lost then, and stays out where it was.
+impl<T> From<Refused<T>> for Error {
+    fn from(refused: Refused<T>) -> Error {
+        refused.error
+    }
+}
+
+impl<T> fmt::Display for Refused<T> {
+    fn fmt(&self, f: &mut fmt::Formatter<'_>) -> fmt::Result {
+        self.error.fmt(f)
+    }
+}
+
+impl<T: fmt::Debug> std::error::Error for Refused<T> {}
+
+#[cfg(test)]
+mod tests {
+    use super::*;
+    use crate::sys::tests::refusals_in_header;
+
+    /// The numbers here are those of the header's `enum hz_refusal`, all of them and in its order.
+    /// The header's names are those here, in its way of writing.
+    #[test]
+    fn numbers() {
+        let here: Vec<(String, u16)> = NUMBERED
+            .iter()
+            .map(|error| (name_in_c(*error), error.number()))
+            .collect();
+        assert_eq!(here, refusals_in_header());
+        for error in NUMBERED {
+            assert_eq!(Error::numbered(error.number(), 0), error);
+        }
+        assert_eq!(Error::numbered(12, 7), Error::NeedLog { lsn: 7 });
+        assert_eq!(Error::numbered(15, 7), Error::Other(15));
+        assert_eq!(Error::check(0), Ok(()));
+    }
+
+    /// `BadGeometry` as `HZ_BAD_GEOMETRY`.
+    fn name_in_c(error: Error) -> String {
+        let shown = format!("{error:?}");
+        let mut name = String::from("HZ");
+        for letter in shown.chars().take_while(|it| it.is_alphabetic()) {
+            if letter.is_uppercase() {
+                name.push('_');
+            }
+            name.push(letter.to_ascii_uppercase());
+        }
+        name
+    }
+
+    #[test]
+    fn texts() {
+        for (error, text) in [
+            (Error::NoVictim, "no page may leave its frame"),
+            (
+                Error::NeedLog { lsn: 5 },
+                "the log must first be durable up to the LSN that is told (LSN 5)",
+            ),
+            (
+                Error::OutOfPage,
+                "the page is not of the file, or the bytes are not within the page",
+            ),
+            (Error::Other(15), "unknown number (15)"),
+        ] {
+            assert_eq!(error.to_string(), text);
+        }
+    }
+}

@@ -1,0 +1,104 @@
+//! The buffer pool Hojzmated for engines in Rust.
+//!
+//! What this crate's own code does is tested, not proved. Below it is a library that is proved: no
+//! pinned page leaves its frame, the page that leaves is the one that LRU-K says, and no image goes
+//! out before its log record is durable. `docs/C.md` of the repository says what is proved of the
+//! library, and what a caller has to keep to. This crate keeps to that.
+//!
+//! A [`Pager`] is a pool with a device and a log, which are the engine's: three functions of
+//! [`PageIo`].
+//!
+//! ```
+//! use hojzmated::{Config, PageIo, Pager, ReadFault};
+//! use std::fs::File;
+//! use std::io;
+//! use std::os::unix::fs::FileExt;
+//!
+//! struct Files {
+//!     pages: File,
+//!     log: File,
+//! }
+//!
+//! impl PageIo for Files {
+//!     fn read_page(&self, page: u64, image: &mut [u8]) -> Result<(), ReadFault> {
+//!         Ok(self.pages.read_exact_at(image, page * image.len() as u64)?)
+//!     }
+//!
+//!     fn write_page(&self, page: u64, image: &[u8], _lsn: u64) -> io::Result<()> {
+//!         self.pages.write_all_at(image, page * image.len() as u64)
+//!     }
+//!
+//!     fn make_log_durable(&self, _lsn: u64) -> io::Result<()> {
+//!         self.log.sync_data()
+//!     }
+//! }
+//!
+//! # fn scratch() -> io::Result<File> {
+//! #     use std::sync::atomic::{AtomicU32, Ordering};
+//! #     static NEXT: AtomicU32 = AtomicU32::new(0);
+//! #     let number = NEXT.fetch_add(1, Ordering::Relaxed);
+//! #     let path = std::env::temp_dir().join(format!("hojzmated-{}-{number}", std::process::id()));
+//! #     let file = File::options().read(true).write(true).create_new(true).open(&path)?;
+//! #     std::fs::remove_file(path)?;
+//! #     Ok(file)
+//! # }
+//! # fn main() -> Result<(), Box<dyn std::error::Error>> {
+//! # let (pages, log) = (scratch()?, scratch()?);
+//! // A file of 1,000 pages of 4,096 bytes, of which 64 are in memory.
+//! pages.set_len(1_000 * 4_096)?;
+//! let pager = Pager::new(&Config::new(1_000, 4_096, 64), Files { pages, log })?;
+//!
+//! // Client 0 changes page 7 under the log record 1. The guard keeps the page in its frame until it is dropped.
+//! let page = pager.fix(0, 7)?;
+//! page.write(100, b"forty-two", 1)?;
+//! drop(page);
+//!
+//! // The log goes out before the page.
+//! pager.flush(0, 7)?;
+//! let mut found = [0; 9];
+//! pager.io().pages.read_exact_at(&mut found, 7 * 4_096 + 100)?;
+//! assert_eq!(&found, b"forty-two");
+//! # Ok(())
+//! # }
+//! ```
+//!
+//! An engine that reads and writes by its own means calls a [`Pool`]. That does no input or output,
+//! and says what is to be read or written by tickets, which may be kept while a mutex is open.
+//!
+//! Two threads do not use one pool at the same time:
+//!
+//! ```compile_fail,E0277
+//! fn is_sync<T: Sync>() {}
+//! is_sync::<hojzmated::Pool>();
+//! ```
+//!
+//! ```
+//! fn is_send<T: Send>() {}
+//! fn is_sync<T: Sync>() {}
+//! is_send::<hojzmated::Pool>();
+//! is_sync::<std::sync::Mutex<hojzmated::Pool>>();
+//! ```
+#![deny(missing_docs, unsafe_op_in_unsafe_fn)]
+#![warn(
+    clippy::undocumented_unsafe_blocks,
+    clippy::unwrap_used,
+    clippy::expect_used
+)]
+
+mod config;
+mod error;
+mod page;
+mod pager;
+mod pool;
+mod sys;
+
+pub use config::Config;
+pub use error::{Error, Refused, Result};
+pub use page::{PageGuard, Pass, ReadTicket, WriteTicket};
+pub use pager::{PageIo, Pager, PagerError, ReadFault};
+pub use pool::{Fixed, Flushed, Pool, Saved, Totals};
+
+/// The version of the library below, as major * 10,000 + minor * 100 + patch.
+pub fn version() -> u32 {
+    sys::hz_version()
+}

@@ -1,0 +1,173 @@
+use crate::sys::{hz_fixed, hz_grant};
+use crate::{Pool, Result};
+use std::mem;
+
+/// The right to a page: it stays in its frame while the pass is out. A [`PageGuard`] has one and
+/// gives it back; this is one without a guard, which may be kept while other threads use the pool.
+#[derive(Debug, PartialEq, Eq)]
+#[must_use = "the page is pinned until its pass goes back to the pool"]
+pub struct Pass {
+    pub(crate) grant: hz_grant,
+}
+
+/// The duty to read a page. The page's frame waits until [`Pool::end_read`] or [`Pool::fail_read`]
+/// has the ticket.
+#[derive(Debug, PartialEq, Eq)]
+#[must_use = "the frame waits until the ticket is ended"]
+pub struct ReadTicket {
+    pub(crate) grant: hz_grant,
+}
+
+/// The duty to write a page out. The page's frame waits until [`Pool::end_write`] or
+/// [`Pool::fail_write`] has the ticket.
+#[derive(Debug, PartialEq, Eq)]
+#[must_use = "the frame waits until the ticket is ended"]
+pub struct WriteTicket {
+    pub(crate) grant: hz_grant,
+    lsn: u64,
+}
+
+/// A page that is pinned. It is unpinned when the guard is dropped.
+///
+/// A guard borrows its pool, so it does not outlive it:
+///
+/// ```compile_fail,E0505
+/// # use hojzmated::{Config, Fixed, Pool};
+/// # fn main() -> hojzmated::Result<()> {
+/// let pool = Pool::new(&Config::new(8, 16, 2))?;
+/// let Fixed::Hit(guard) = pool.fix(0, 3, &mut [0; 16])? else { return Ok(()) };
+/// drop(pool);
+/// println!("{}", guard.page());
+/// # Ok(())
+/// # }
+/// ```
+///
+/// Nor does it go to another thread, since two threads would use the pool then.
+/// [`PageGuard::into_pass`] gives what may:
+///
+/// ```compile_fail,E0277
+/// fn is_send<T: Send>() {}
+/// is_send::<hojzmated::PageGuard<'static>>();
+/// ```
+#[derive(Debug)]
+#[must_use = "the page is unpinned when its guard is dropped"]
+pub struct PageGuard<'pool> {
+    pub(crate) pool: &'pool Pool,
+    pub(crate) pass: Pass,
+}
+
+impl Pass {
+    /// The page that it is for.
+    pub fn page(&self) -> u64 {
+        self.grant.page
+    }
+
+    /// The client that it was given to.
+    pub fn client(&self) -> u8 {
+        self.grant.client
+    }
+
+    /// Its number among the passes of the pool, which begins at 0.
+    pub fn serial(&self) -> u64 {
+        self.grant.serial
+    }
+}
+
+impl ReadTicket {
+    /// The page to read.
+    pub fn page(&self) -> u64 {
+        self.grant.page
+    }
+
+    /// The client that it was given to.
+    pub fn client(&self) -> u8 {
+        self.grant.client
+    }
+
+    /// Its number among the tickets of the pool, which begins at 0.
+    pub fn serial(&self) -> u64 {
+        self.grant.serial
+    }
+}
+
+impl WriteTicket {
+    pub(crate) fn of(out: hz_fixed) -> WriteTicket {
+        WriteTicket {
+            grant: out.grant,
+            lsn: out.lsn,
+        }
+    }
+
+    /// The page to write out.
+    pub fn page(&self) -> u64 {
+        self.grant.page
+    }
+
+    /// The client that it was given to.
+    pub fn client(&self) -> u8 {
+        self.grant.client
+    }
+
+    /// Its number among the tickets of the pool, which begins at 0.
+    pub fn serial(&self) -> u64 {
+        self.grant.serial
+    }
+
+    /// The page LSN of the image: the greatest LSN of the writes to the page since it was read into
+    /// its frame.
+    pub fn lsn(&self) -> u64 {
+        self.lsn
+    }
+}
+
+impl PageGuard<'_> {
+    /// The number of the page.
+    pub fn page(&self) -> u64 {
+        self.pass.page()
+    }
+
+    /// The pass that it has.
+    pub fn pass(&self) -> &Pass {
+        &self.pass
+    }
+
+    /// Copies a part of the page from the offset on, as much as `into` has room for.
+    ///
+    /// # Errors
+    /// [`OutOfPage`](crate::Error::OutOfPage) where the part is not within the page,
+    /// [`TrailFull`](crate::Error::TrailFull), [`OutOfMemory`](crate::Error::OutOfMemory). `into`
+    /// stays as it was then.
+    #[inline]
+    pub fn read(&self, offset: usize, into: &mut [u8]) -> Result<()> {
+        self.pool.read(&self.pass.grant, offset, into)
+    }
+
+    /// Puts bytes into the page from the offset on, under the log record with this LSN. The page
+    /// does not go out before the log is durable so far.
+    ///
+    /// # Errors
+    /// [`OutOfPage`](crate::Error::OutOfPage) where the bytes are not within the page,
+    /// [`TrailFull`](crate::Error::TrailFull), [`OutOfMemory`](crate::Error::OutOfMemory). The page
+    /// stays as it was then.
+    #[inline]
+    pub fn write(&self, offset: usize, bytes: &[u8], lsn: u64) -> Result<()> {
+        self.pool.write(&self.pass.grant, offset, bytes, lsn)
+    }
+
+    /// The pass, with which the page stays pinned. [`Pool::guard`] makes a guard of it again, and
+    /// [`Pool::unfix`] gives it back.
+    pub fn into_pass(self) -> Pass {
+        let grant = self.pass.grant;
+        mem::forget(self);
+        Pass { grant }
+    }
+}
+
+impl Drop for PageGuard<'_> {
+    #[inline]
+    fn drop(&mut self) {
+        // A pass of this pool always goes back. One of another pool is not out here, which changes
+        // nothing.
+        let _ = self.pool.unfix_grant(&self.pass.grant);
+    }
+}

@@ -1,0 +1,341 @@
+use crate::{
+    Config, Error, Fixed, Flushed, PageGuard, Pool, ReadTicket, Refused, Result, WriteTicket,
+};
+use std::cell::Cell;
+use std::{error, fmt, io};
+
+/// An engine's device and log, as a [`Pager`] uses them.
+///
+/// The functions take `&self`: what they have to change goes into a `Cell` or a `RefCell`. A file
+/// can be read and written through `&File`.
+pub trait PageIo {
+    /// Fills the image, which has the page size, with the page.
+    ///
+    /// # Errors
+    /// Where it fails the page is not in the pool, and the image may have anything.
+    fn read_page(&self, page: u64, image: &mut [u8]) -> Result<(), ReadFault>;
+
+    /// Writes the image, which has the page size, to the page's place. Its page LSN is `lsn`, and
+    /// the log is durable so far.
+    ///
+    /// The pool takes the page as saved where this goes well. A checkpoint has to see to it that
+    /// the device has it too, as by [`File::sync_data`](std::fs::File::sync_data).
+    ///
+    /// # Errors
+    /// Where it fails the page stays unsaved, in its frame.
+    fn write_page(&self, page: u64, image: &[u8], lsn: u64) -> io::Result<()>;
+
+    /// Makes the log durable as far as this LSN at least.
+    ///
+    /// # Errors
+    /// Where it fails nothing is written out.
+    fn make_log_durable(&self, lsn: u64) -> io::Result<()>;
+}
+
+/// Why a page could not be read.
+#[derive(Debug)]
+pub enum ReadFault {
+    /// The device failed.
+    Device(io::Error),
+    /// Another page was found in the page's place, as its own bytes tell.
+    WrongPage,
+}
+
+impl From<io::Error> for ReadFault {
+    fn from(error: io::Error) -> ReadFault {
+        ReadFault::Device(error)
+    }
+}
+
+/// Why a [`Pager`] could not do what was asked.
+#[derive(Debug)]
+#[non_exhaustive]
+pub enum PagerError {
+    /// The pool refused it.
+    Refused(Error),
+    /// A page could not be read.
+    Read {
+        /// The page.
+        page: u64,
+        /// What the device said.
+        source: io::Error,
+    },
+    /// A page could not be written out, and is still unsaved.
+    Write {
+        /// The page, which is another one than was asked for where it had to make way.
+        page: u64,
+        /// What the device said.
+        source: io::Error,
+    },
+    /// The log could not be made durable.
+    Log {
+        /// How far it has to be.
+        lsn: u64,
+        /// What the log said.
+        source: io::Error,
+    },
+}
+
+impl PagerError {
+    /// The refusal that says the same, with its number: 17 for a read, 18 for a write-out, 12 for
+    /// the log.
+    pub fn refusal(&self) -> Error {
+        match *self {
+            PagerError::Refused(error) => error,
+            PagerError::Read { .. } => Error::ReadFailed,
+            PagerError::Write { .. } => Error::WriteFailed,
+            PagerError::Log { lsn, .. } => Error::NeedLog { lsn },
+        }
+    }
+
+    fn of_read(page: u64, fault: ReadFault) -> PagerError {
+        match fault {
+            ReadFault::Device(source) => PagerError::Read { page, source },
+            ReadFault::WrongPage => PagerError::Refused(Error::WrongPage),
+        }
+    }
+}
+
+impl From<Error> for PagerError {
+    fn from(error: Error) -> PagerError {
+        PagerError::Refused(error)
+    }
+}
+
+impl fmt::Display for PagerError {
+    fn fmt(&self, f: &mut fmt::Formatter<'_>) -> fmt::Result {
+        match self {
+            PagerError::Refused(error) => error.fmt(f),
+            PagerError::Read { page, .. } => write!(f, "page {page} could not be read"),
+            PagerError::Write { page, .. } => write!(f, "page {page} could not be written"),
+            PagerError::Log { lsn, .. } => {
+                write!(f, "the log could not be made durable as far as LSN {lsn}")
+            }
+        }
+    }
+}
+
+impl error::Error for PagerError {
+    fn source(&self) -> Option<&(dyn error::Error + 'static)> {
+        match self {
+            PagerError::Refused(_) => None,
+            PagerError::Read { source, .. }
+            | PagerError::Write { source, .. }
+            | PagerError::Log { source, .. } => Some(source),
+        }
+    }
+}
+
+/// A pool with its device and log: it reads and writes pages where a call needs it, and makes the
+/// log durable first where the write-ahead rule asks for that.
+///
+/// Its clock moves on by one at each fix, so that the periods of [`Config`] count fixes. Where it
+/// is dropped, pages that were not written out are lost.
+///
+/// Several threads take turns with it, behind a mutex. Nobody else uses the pool while it reads or
+/// writes then; an engine that wants that calls a [`Pool`] itself.
+pub struct Pager<F> {
+    pool: Pool,
+    io: F,
+    /// An image of the page size, for the next call. A call that comes while another has it makes
+    /// its own.
+    spare: Cell<Vec<u8>>,
+}
+
+impl<F: PageIo> Pager<F> {
+    /// Makes a pager with empty frames.
+    ///
+    /// # Errors
+    /// Those of [`Pool::new`].
+    pub fn new(config: &Config, io: F) -> Result<Pager<F>> {
+        Ok(Pager {
+            pool: Pool::new(config)?,
+            io,
+            spare: Cell::default(),
+        })
+    }
+
+    /// The pool, for what needs no device: totals, purges, ticks.
+    pub fn pool(&self) -> &Pool {
+        &self.pool
+    }
+
+    /// The device and log.
+    pub fn io(&self) -> &F {
+        &self.io
+    }
+
+    /// Gives the device and log back. Pages that were not written out are lost.
+    pub fn into_io(self) -> F {
+        self.io
+    }
+
+    /// Fixes a page for a client, and reads it where it is in no frame. Other pages may be written
+    /// out for that.
+    ///
+    /// # Errors
+    /// [`PagerError::Read`], [`PagerError::Write`] and [`PagerError::Log`] where the device or the
+    /// log failed. [`PagerError::Refused`] for the other refusals of [`Pool::tick`],
+    /// [`Pool::fix`] and [`Pool::mark`], and where the page's place has another page. Pages
+    /// that were written out before that are saved.
+    pub fn fix(&self, client: u8, page: u64) -> Result<PageGuard<'_>, PagerError> {
+        self.pool.tick(client, 1)?;
+        self.with_image(|image| self.fix_by(client, page, image))
+    }
+
+    /// Writes a page out where it is unsaved.
+    ///
+    /// # Errors
+    /// [`PagerError::Write`] and [`PagerError::Log`] where the device or the log failed.
+    /// [`PagerError::Refused`] for the other refusals of [`Pool::flush`] and [`Pool::mark`].
+    pub fn flush(&self, client: u8, page: u64) -> Result<(), PagerError> {
+        self.with_image(|image| self.flush_by(client, page, image))
+    }
+
+    /// Writes out each page that is unsaved, in the order of their numbers. All pages of the file
+    /// are asked for.
+    ///
+    /// # Errors
+    /// Those of [`Pager::flush`]. Pages before the one that failed are saved.
+    pub fn flush_all(&self, client: u8) -> Result<(), PagerError> {
+        (0..self.pool.config().pages).try_for_each(|page| self.flush(client, page))
+    }
+
+    /// Does something with an image of the page size.
+    fn with_image<T>(&self, work: impl FnOnce(&mut [u8]) -> T) -> T {
+        let mut image = self.spare.take();
+        image.resize(self.pool.config().page_size, 0);
+        let done = work(&mut image);
+        self.spare.set(image);
+        done
+    }
+
+    fn fix_by(&self, client: u8, page: u64, image: &mut [u8]) -> Result<PageGuard<'_>, PagerError> {
+        loop {
+            match self.pool.fix(client, page, image) {
+                Ok(Fixed::Hit(guard)) => return Ok(guard),
+                Ok(Fixed::Load { ticket, .. }) => return self.load(ticket, image),
+                Ok(Fixed::WriteFirst(ticket)) => self.write_out(ticket, image)?,
+                Err(Error::NeedLog { lsn }) => self.make_log_durable(client, lsn)?,
+                Err(error) => return Err(error.into()),
+            }
+        }
+    }
+
+    fn flush_by(&self, client: u8, page: u64, image: &mut [u8]) -> Result<(), PagerError> {
+        loop {
+            match self.pool.flush(client, page, image) {
+                Ok(Flushed::Clean | Flushed::Absent) => return Ok(()),
+                Ok(Flushed::WriteFirst(ticket)) => self.write_out(ticket, image)?,
+                Err(Error::NeedLog { lsn }) => self.make_log_durable(client, lsn)?,
+                Err(error) => return Err(error.into()),
+            }
+        }
+    }
+
+    fn load(&self, ticket: ReadTicket, image: &mut [u8]) -> Result<PageGuard<'_>, PagerError> {
+        let page = ticket.page();
+        let mut reading = Reading::new(&self.pool, ticket);
+        match self.io.read_page(page, image) {
+            Ok(()) => Ok(reading.end(image)?),
+            Err(fault) => {
+                reading.fail(&fault);
+                Err(PagerError::of_read(page, fault))
+            }
+        }
+    }
+
+    fn write_out(&self, ticket: WriteTicket, image: &[u8]) -> Result<(), PagerError> {
+        let (page, lsn) = (ticket.page(), ticket.lsn());
+        let mut writing = Writing::new(&self.pool, ticket);
+        match self.io.write_page(page, image, lsn) {
+            Ok(()) => Ok(writing.end()?),
+            Err(source) => Err(PagerError::Write { page, source }),
+        }
+    }
+
+    fn make_log_durable(&self, client: u8, lsn: u64) -> Result<(), PagerError> {
+        match self.io.make_log_durable(lsn) {
+            Ok(()) => Ok(self.pool.mark(client, lsn)?),
+            Err(source) => Err(PagerError::Log { lsn, source }),
+        }
+    }
+}
+
+impl<F> fmt::Debug for Pager<F> {
+    fn fmt(&self, f: &mut fmt::Formatter<'_>) -> fmt::Result {
+        f.debug_struct("Pager")
+            .field("pool", &self.pool)
+            .finish_non_exhaustive()
+    }
+}
+
+/// A read that is under way. It is ended as failed where nothing else was said of it: also where
+/// the engine's code panicked, and where there was no memory for the page. So no frame waits for
+/// ever.
+struct Reading<'pool> {
+    pool: &'pool Pool,
+    ticket: Option<ReadTicket>,
+}
+
+impl<'pool> Reading<'pool> {
+    fn new(pool: &'pool Pool, ticket: ReadTicket) -> Reading<'pool> {
+        Reading {
+            pool,
+            ticket: Some(ticket),
+        }
+    }
+
+    fn end(&mut self, image: &[u8]) -> Result<PageGuard<'pool>> {
+        let ticket = self.ticket.take().ok_or(Error::UnknownTicket)?;
+        self.pool
+            .end_read(ticket, image)
+            .map_err(|Refused { error, token }| {
+                self.ticket = Some(token);
+                error
+            })
+    }
+
+    fn fail(&mut self, fault: &ReadFault) {
+        if let Some(ticket) = self.ticket.take() {
+            // A ticket of this pool that is out is always taken.
+            let _ = self.pool.fail_read(ticket, fault);
+        }
+    }
+}
+
+impl Drop for Reading<'_> {
+    fn drop(&mut self) {
+        self.fail(&ReadFault::Device(io::ErrorKind::Other.into()));
+    }
+}
+
+/// A write-out that is under way. It is ended as failed where nothing else was said of it.
+struct Writing<'pool> {
+    pool: &'pool Pool,
+    ticket: Option<WriteTicket>,
+}
+
+impl<'pool> Writing<'pool> {
+    fn new(pool: &'pool Pool, ticket: WriteTicket) -> Writing<'pool> {
+        Writing {
+            pool,
+            ticket: Some(ticket),
+        }
+    }
+
+    fn end(&mut self) -> Result<()> {
+        let ticket = self.ticket.take().ok_or(Error::UnknownTicket)?;
+        self.pool.end_write(ticket)?;
+        Ok(())
+    }
+}
+
+impl Drop for Writing<'_> {
+    fn drop(&mut self) {
+        if let Some(ticket) = self.ticket.take() {
+            // A ticket of this pool that is out is always taken.
+            let _ = self.pool.fail_write(ticket);
+        }
+    }
+}

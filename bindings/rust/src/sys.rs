@@ -1,0 +1,253 @@
+//! The calls of `hojzmated.h`, and its structs, as they stand there.
+#![allow(non_camel_case_types)]
+
+use std::ffi::c_void;
+
+#[cfg(not(target_pointer_width = "64"))]
+compile_error!("the pool is for machines with pointers of 64 bits");
+
+/// `HZ_HIT`, `HZ_LOAD`, `HZ_WRITE_FIRST`, `HZ_CLEAN` and `HZ_ABSENT`: what `hz_fixed.kind` may be.
+pub(crate) const HIT: u8 = 1;
+pub(crate) const LOAD: u8 = 2;
+pub(crate) const WRITE_FIRST: u8 = 3;
+pub(crate) const CLEAN: u8 = 4;
+#[cfg(test)]
+pub(crate) const ABSENT: u8 = 5;
+
+#[repr(C)]
+pub(crate) struct hz_seal {
+    pub(crate) pool: *mut c_void,
+}
+
+#[repr(C)]
+pub(crate) struct hz_core {
+    pub(crate) seal: hz_seal,
+    pub(crate) is_live: bool,
+}
+
+#[repr(C)]
+pub(crate) struct hz_config {
+    pub(crate) pages: u64,
+    pub(crate) page_size: usize,
+    pub(crate) frames: usize,
+    pub(crate) room: usize,
+    pub(crate) correlated: u64,
+    pub(crate) retained: u64,
+    pub(crate) k: u8,
+    pub(crate) clients: u8,
+}
+
+#[repr(C)]
+#[derive(Clone, Copy, Debug, Default, PartialEq, Eq, Hash)]
+pub(crate) struct hz_grant {
+    pub(crate) page: u64,
+    pub(crate) serial: u64,
+    pub(crate) client: u8,
+}
+
+#[repr(C)]
+#[derive(Default)]
+pub(crate) struct hz_fixed {
+    pub(crate) grant: hz_grant,
+    pub(crate) lsn: u64,
+    pub(crate) evicted: u64,
+    pub(crate) kind: u8,
+    pub(crate) has_evicted: u8,
+}
+
+#[repr(C)]
+#[derive(Default)]
+pub(crate) struct hz_totals {
+    pub(crate) hits: u64,
+    pub(crate) faults: u64,
+    pub(crate) evictions: u64,
+    pub(crate) writes: u64,
+    pub(crate) failed: u64,
+}
+
+// Each call but `hz_text` and `hz_version` requires: `core` is zero, or as these calls left it, and
+// no other call on it is under way; each pointer leads to memory of its type, with so many elements
+// where a length follows it, and may be written to where it is `*mut`; no two of a call overlap.
+unsafe extern "C" {
+    pub(crate) fn hz_core_new(config: *const hz_config, core: *mut hz_core) -> u16;
+    pub(crate) fn hz_core_free(core: *mut hz_core) -> u16;
+    pub(crate) fn hz_fix(
+        core: *mut hz_core,
+        client: u8,
+        page: u64,
+        buffer: *mut u8,
+        len: usize,
+        out: *mut hz_fixed,
+    ) -> u16;
+    pub(crate) fn hz_read_end(
+        core: *mut hz_core,
+        ticket: *const hz_grant,
+        image: *const u8,
+        len: usize,
+        pass: *mut hz_grant,
+    ) -> u16;
+    pub(crate) fn hz_read_failed(
+        core: *mut hz_core,
+        ticket: *const hz_grant,
+        is_wrong_page: bool,
+    ) -> u16;
+    pub(crate) fn hz_write_end(
+        core: *mut hz_core,
+        ticket: *const hz_grant,
+        is_good: bool,
+        is_still_dirty: *mut u8,
+    ) -> u16;
+    pub(crate) fn hz_unfix(core: *mut hz_core, pass: *const hz_grant) -> u16;
+    pub(crate) fn hz_read(
+        core: *mut hz_core,
+        pass: *const hz_grant,
+        offset: usize,
+        into: *mut u8,
+        len: usize,
+    ) -> u16;
+    pub(crate) fn hz_write(
+        core: *mut hz_core,
+        pass: *const hz_grant,
+        offset: usize,
+        bytes: *const u8,
+        len: usize,
+        lsn: u64,
+    ) -> u16;
+    pub(crate) fn hz_tick(core: *mut hz_core, client: u8, n: u64) -> u16;
+    pub(crate) fn hz_mark(core: *mut hz_core, client: u8, lsn: u64) -> u16;
+    pub(crate) fn hz_flush(
+        core: *mut hz_core,
+        client: u8,
+        page: u64,
+        buffer: *mut u8,
+        len: usize,
+        out: *mut hz_fixed,
+    ) -> u16;
+    pub(crate) fn hz_purge(core: *mut hz_core, client: u8, count: *mut u64) -> u16;
+    pub(crate) fn hz_totals_of(core: *mut hz_core, out: *mut hz_totals) -> u16;
+    pub(crate) fn hz_text(number: u16, into: *mut u8, len: usize) -> usize;
+    pub(crate) safe fn hz_version() -> u32;
+}
+
+#[cfg(test)]
+pub(crate) mod tests {
+    use super::*;
+    use std::mem::offset_of;
+
+    const HEADER: &str = include_str!("../../../include/hojzmated.h");
+    const LAYOUT: &str = include_str!("../../../peers/c/layout.c");
+
+    /// The size of a field that a struct of this type has.
+    const fn len_of<S, F>(_: fn(&S) -> &F) -> usize {
+        size_of::<F>()
+    }
+
+    /// The lines that `layout.c` has for a struct: its size, and where each field lies.
+    macro_rules! lines_of {
+        ($type:ident: $($field:ident)*) => {{
+            let size = format!("HOLDS(sizeof({}) == {});", stringify!($type), size_of::<$type>());
+            let fields = [$(format!(
+                "LIES({}, {}, {}, {});",
+                stringify!($type),
+                stringify!($field),
+                offset_of!($type, $field),
+                len_of(|it: &$type| &it.$field),
+            )),*];
+            [size].into_iter().chain(fields)
+        }};
+    }
+
+    /// Each struct has its size, and each field its place, as the header has them: in the order of
+    /// `layout.c`.
+    #[test]
+    fn layout() {
+        let here: Vec<String> = lines_of!(hz_core: seal is_live)
+            .chain(lines_of!(hz_config: pages page_size frames room correlated retained k clients))
+            .chain(lines_of!(hz_grant: page serial client))
+            .chain(lines_of!(hz_fixed: grant lsn evicted kind has_evicted))
+            .chain(lines_of!(hz_totals: hits faults evictions writes failed))
+            .collect();
+        let there: Vec<&str> = LAYOUT
+            .lines()
+            .filter(|line| line.starts_with("LIES(") || line.starts_with("HOLDS(sizeof(hz_"))
+            .collect();
+        assert_eq!(here, there);
+    }
+
+    /// The names of the functions that lines declare: in each, what stands before the bracket.
+    fn names_in<'a>(lines: impl Iterator<Item = &'a str>) -> Vec<&'a str> {
+        let mut names: Vec<&str> = lines
+            .filter_map(|line| line.split_once('('))
+            .filter_map(|(before, _)| before.split(' ').next_back())
+            .filter(|name| name.starts_with("hz_"))
+            .collect();
+        names.sort_unstable();
+        names
+    }
+
+    /// Each function of the header is declared here, and no other. In the header each stands at the
+    /// start of a line.
+    #[test]
+    fn functions() {
+        let declared = include_str!("sys.rs")
+            .split_once("unsafe extern \"C\" {")
+            .and_then(|(_, rest)| rest.split_once("\n}\n"))
+            .map_or("", |(block, _)| block);
+        let here = declared
+            .lines()
+            .filter_map(|line| line.trim().strip_prefix("pub(crate) "));
+        let there = HEADER
+            .lines()
+            .filter(|line| line.starts_with(|c: char| c.is_ascii_lowercase()));
+        assert_eq!(names_in(here), names_in(there));
+    }
+
+    /// The names and numbers of an enum of the header, in its order.
+    fn enum_in_header(name: &str) -> Vec<(String, u16)> {
+        let begin = format!("enum {name} {{\n");
+        let block = HEADER
+            .split_once(&begin)
+            .and_then(|(_, rest)| rest.split_once("};"))
+            .map_or("", |(block, _)| block);
+        block
+            .lines()
+            .filter_map(|line| line.split_once(','))
+            .filter_map(|(constant, _)| constant.split_once(" = "))
+            .filter_map(|(name, number)| Some((name.trim().to_owned(), number.parse().ok()?)))
+            .collect()
+    }
+
+    /// The refusals of the header, without `HZ_DONE`, which is 0.
+    pub(crate) fn refusals_in_header() -> Vec<(String, u16)> {
+        let mut found = enum_in_header("hz_refusal");
+        found.retain(|(_, number)| *number != 0);
+        found
+    }
+
+    #[test]
+    fn kinds() {
+        let here = [
+            ("HZ_HIT", HIT),
+            ("HZ_LOAD", LOAD),
+            ("HZ_WRITE_FIRST", WRITE_FIRST),
+            ("HZ_CLEAN", CLEAN),
+            ("HZ_ABSENT", ABSENT),
+        ];
+        let here: Vec<(String, u16)> = here
+            .into_iter()
+            .map(|(name, kind)| (name.to_owned(), kind.into()))
+            .collect();
+        assert_eq!(here, enum_in_header("hz_kind"));
+    }
+
+    /// The crate has the version of the library that it is linked with, and of the header.
+    #[test]
+    fn version() {
+        let parts: Vec<u32> = env!("CARGO_PKG_VERSION")
+            .split('.')
+            .filter_map(|part| part.parse().ok())
+            .collect();
+        assert_eq!(parts.len(), 3);
+        assert_eq!(hz_version(), parts[0] * 10_000 + parts[1] * 100 + parts[2]);
+    }
+}

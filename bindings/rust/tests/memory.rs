@@ -1,0 +1,187 @@
+//! Where memory is wanting: the call says so, and comes to what it had to when it is made again.
+//! The library asks this program for its memory, which refuses one request, and counts blocks.
+#![cfg(all(target_os = "linux", target_env = "gnu"))]
+
+use hojzmated::{Config, Error, Fixed, PageIo, Pager, PagerError, Pool, ReadFault, Refused};
+use std::cell::{Cell, RefCell};
+use std::ffi::c_void;
+use std::{io, ptr};
+
+unsafe extern "C" {
+    fn __libc_malloc(size: usize) -> *mut c_void;
+    fn __libc_realloc(old: *mut c_void, size: usize) -> *mut c_void;
+    fn __libc_free(old: *mut c_void);
+}
+
+thread_local! {
+    /// Which request of this thread is refused, of those to come: from 1. None where it is 0.
+    static REFUSED: Cell<usize> = const { Cell::new(0) };
+    /// How many blocks this thread has got and not given back, of those that are counted.
+    static BLOCKS: Cell<isize> = const { Cell::new(0) };
+}
+
+fn is_refused() -> bool {
+    let before = REFUSED.try_with(|left| left.replace(left.get().saturating_sub(1)));
+    before == Ok(1)
+}
+
+fn count(blocks: isize) {
+    let _ = BLOCKS.try_with(|it| it.set(it.get() + blocks));
+}
+
+/// The C library's `malloc`, but for the request that is refused.
+#[unsafe(no_mangle)]
+unsafe extern "C" fn malloc(size: usize) -> *mut c_void {
+    if is_refused() {
+        return ptr::null_mut();
+    }
+    count(1);
+    // SAFETY: this is `malloc` of the GNU C library by its other name.
+    unsafe { __libc_malloc(size) }
+}
+
+/// The C library's `realloc`, but for the request that is refused.
+#[unsafe(no_mangle)]
+unsafe extern "C" fn realloc(old: *mut c_void, size: usize) -> *mut c_void {
+    if is_refused() {
+        return ptr::null_mut();
+    }
+    count(old.is_null().into());
+    // SAFETY: this is `realloc` of the GNU C library by its other name, and the caller keeps to it.
+    unsafe { __libc_realloc(old, size) }
+}
+
+/// The C library's `free`.
+#[unsafe(no_mangle)]
+unsafe extern "C" fn free(old: *mut c_void) {
+    count(if old.is_null() { 0 } else { -1 });
+    // SAFETY: this is `free` of the GNU C library by its other name, and the caller keeps to it.
+    unsafe { __libc_free(old) }
+}
+
+/// Refuses the request of this number while something is done. Tells whether it came.
+fn refusing<T>(number: usize, work: impl FnOnce() -> T) -> (T, bool) {
+    REFUSED.set(number);
+    let done = work();
+    let left = REFUSED.replace(0);
+    (done, left == 0)
+}
+
+/// Four pages of 16 bytes.
+struct Memory(RefCell<[[u8; 16]; 4]>);
+
+impl PageIo for Memory {
+    fn read_page(&self, page: u64, image: &mut [u8]) -> Result<(), ReadFault> {
+        image.copy_from_slice(&self.0.borrow()[page as usize]);
+        Ok(())
+    }
+
+    fn write_page(&self, page: u64, image: &[u8], _lsn: u64) -> io::Result<()> {
+        self.0.borrow_mut()[page as usize].copy_from_slice(image);
+        Ok(())
+    }
+
+    fn make_log_durable(&self, _lsn: u64) -> io::Result<()> {
+        Ok(())
+    }
+}
+
+/// Makes a call, and makes it again where memory was wanting.
+fn again<T>(times: &Cell<u32>, call: impl Fn() -> Result<T, PagerError>) -> T {
+    call().unwrap_or_else(|error| {
+        assert_eq!(error.refusal(), Error::OutOfMemory);
+        times.set(times.get() + 1);
+        call().unwrap()
+    })
+}
+
+/// Writes to page 0 and then, in the one frame, to page 1. Tells how often memory was wanting.
+fn use_pages(pager: &Pager<Memory>) -> u32 {
+    let times = Cell::new(0);
+    for number in 0..2u8 {
+        let page = again(&times, || pager.fix(0, number.into()));
+        again(&times, || Ok(page.write(1, &[number + 7], 1)?));
+        let found = again(&times, || {
+            let mut part = [0xa5; 2];
+            page.read(0, &mut part)?;
+            Ok(part)
+        });
+        assert_eq!(found, [0, number + 7]);
+    }
+    again(&times, || pager.flush(0, 1));
+    times.get()
+}
+
+#[test]
+fn pager_without_memory() {
+    let mut refused = 0;
+    loop {
+        let memory = Memory(RefCell::new([[0; 16]; 4]));
+        let pager = Pager::new(&Config::new(4, 16, 1), memory).unwrap();
+        // The pager's own image has its memory before.
+        pager.fix(0, 3).map(drop).unwrap();
+        let (times, has_come) = refusing(refused + 1, || use_pages(&pager));
+        assert_eq!(times, u32::from(has_come), "request {}", refused + 1);
+        let pages = pager.into_io().0.into_inner();
+        assert_eq!([pages[0][1], pages[1][1]], [7, 8]);
+        if !has_come {
+            break;
+        }
+        refused += 1;
+    }
+    // A fix, a read, a write and a flush may all take some.
+    assert!(refused >= 4, "only {refused} requests");
+}
+
+#[test]
+fn ticket_comes_back_without_memory() {
+    let pool = Pool::new(&Config::new(4, 16, 1)).unwrap();
+    let Ok(Fixed::Load { ticket, .. }) = pool.fix(0, 2, &mut [0; 16]) else {
+        panic!("page 2 is away");
+    };
+    let (ended, has_come) = refusing(1, || pool.end_read(ticket, &[9; 16]));
+    assert!(has_come);
+    let Err(Refused { error, token }) = ended else {
+        panic!("the image takes memory");
+    };
+    assert_eq!((error, token.page()), (Error::OutOfMemory, 2));
+    let page = pool.end_read(token, &[9; 16]).unwrap();
+    let mut byte = [0];
+    page.read(15, &mut byte).unwrap();
+    assert_eq!(byte, [9]);
+}
+
+// The first request is this crate's own.
+#[test]
+fn pool_without_memory() {
+    let config = Config::new(4, 16, 1);
+    for number in 2.. {
+        let (pool, has_come) = refusing(number, || Pool::new(&config).map(drop));
+        if !has_come {
+            assert_eq!(pool, Ok(()));
+            assert!(number > 2);
+            break;
+        }
+        assert_eq!(pool, Err(Error::OutOfMemory));
+    }
+}
+
+// A pass is out, and a ticket.
+#[test]
+fn dropped_pool_gives_its_memory_back() {
+    let before = BLOCKS.get();
+    let pool = Pool::new(&Config::new(4, 16, 2)).unwrap();
+    let Ok(Fixed::Load { ticket, .. }) = pool.fix(0, 2, &mut [0; 16]) else {
+        panic!("page 2 is away");
+    };
+    let _pass = pool.end_read(ticket, &[9; 16]).unwrap().into_pass();
+    let Ok(Fixed::Load {
+        ticket: _ticket, ..
+    }) = pool.fix(0, 3, &mut [0; 16])
+    else {
+        panic!("page 3 is away");
+    };
+    assert!(BLOCKS.get() > before + 2);
+    drop(pool);
+    assert_eq!(BLOCKS.get(), before);
+}

@@ -1,0 +1,393 @@
+//! What a pager does with its device and log, step by step, and what it leaves where they fail.
+use hojzmated::{Config, Error, PageGuard, PageIo, Pager, PagerError, ReadFault, Totals};
+use std::cell::{Cell, RefCell};
+use std::error::Error as _;
+use std::io;
+use std::panic::{AssertUnwindSafe, catch_unwind};
+use std::rc::{Rc, Weak};
+
+/// What the device and the log were asked for.
+#[derive(Clone, Copy, Debug, PartialEq, Eq)]
+enum Asked {
+    Read(u64),
+    /// A page, the first byte of its image, and its page LSN.
+    Write(u64, u8, u64),
+    Log(u64),
+}
+
+/// How the next request ends.
+#[derive(Clone, Copy, Debug, Default, PartialEq, Eq)]
+enum Fate {
+    #[default]
+    Well,
+    Fails,
+    FindsAnother,
+    Panics,
+}
+
+/// Pages of 16 bytes and a log in memory, which write down what they were asked for.
+#[derive(Default)]
+struct Memory {
+    pages: RefCell<Vec<[u8; 16]>>,
+    asked: RefCell<Vec<Asked>>,
+    fate: Cell<Fate>,
+}
+
+impl Memory {
+    fn of(pages: u64) -> Memory {
+        let memory = Memory::default();
+        memory.pages.borrow_mut().resize(pages as usize, [0; 16]);
+        memory
+    }
+
+    /// What was asked for since the last time.
+    fn asked(&self) -> Vec<Asked> {
+        self.asked.take()
+    }
+
+    fn is_next(&self, fate: Fate) {
+        self.fate.set(fate);
+    }
+
+    fn note(&self, asked: Asked) -> Result<(), ReadFault> {
+        self.asked.borrow_mut().push(asked);
+        match self.fate.take() {
+            Fate::Well => Ok(()),
+            Fate::Fails => Err(io::Error::other("no such luck").into()),
+            Fate::FindsAnother => Err(ReadFault::WrongPage),
+            Fate::Panics => panic!("the engine's own code"),
+        }
+    }
+}
+
+fn device_fault(fault: ReadFault) -> io::Error {
+    match fault {
+        ReadFault::Device(error) => error,
+        ReadFault::WrongPage => io::ErrorKind::InvalidData.into(),
+    }
+}
+
+impl PageIo for Memory {
+    fn read_page(&self, page: u64, image: &mut [u8]) -> Result<(), ReadFault> {
+        self.note(Asked::Read(page))?;
+        image.copy_from_slice(&self.pages.borrow()[page as usize]);
+        Ok(())
+    }
+
+    fn write_page(&self, page: u64, image: &[u8], lsn: u64) -> io::Result<()> {
+        self.note(Asked::Write(page, image[0], lsn))
+            .map_err(device_fault)?;
+        self.pages.borrow_mut()[page as usize].copy_from_slice(image);
+        Ok(())
+    }
+
+    fn make_log_durable(&self, lsn: u64) -> io::Result<()> {
+        self.note(Asked::Log(lsn)).map_err(device_fault)
+    }
+}
+
+fn pager(frames: usize) -> Pager<Memory> {
+    Pager::new(&Config::new(16, 16, frames), Memory::of(16)).unwrap()
+}
+
+fn first_byte(page: &PageGuard<'_>) -> u8 {
+    let mut byte = [0];
+    page.read(0, &mut byte).unwrap();
+    byte[0]
+}
+
+/// A pager with one frame, in which page 1 is unsaved: it starts with a 9 under LSN 5.
+fn with_an_unsaved_page() -> Pager<Memory> {
+    let pager = pager(1);
+    pager.fix(0, 1).unwrap().write(0, &[9], 5).unwrap();
+    assert_eq!(pager.io().asked(), [Asked::Read(1)]);
+    pager
+}
+
+#[test]
+fn log_goes_before_the_page_that_makes_way() {
+    let pager = with_an_unsaved_page();
+    let page = pager.fix(0, 2).unwrap();
+    assert_eq!((page.page(), first_byte(&page)), (2, 0));
+    drop(page);
+    let asked = [Asked::Log(5), Asked::Write(1, 9, 5), Asked::Read(2)];
+    assert_eq!(pager.io().asked(), asked);
+    assert_eq!(first_byte(&pager.fix(0, 1).unwrap()), 9);
+    assert_eq!(pager.io().asked(), [Asked::Read(1)]);
+    let totals = Totals {
+        hits: 0,
+        faults: 3,
+        evictions: 2,
+        writes: 1,
+        failed: 0,
+    };
+    assert_eq!(pager.pool().totals(), totals);
+    assert_eq!(pager.into_io().pages.borrow()[1][0], 9);
+}
+
+#[test]
+fn flush_writes_what_is_unsaved_once() {
+    let pager = with_an_unsaved_page();
+    pager.flush(0, 1).unwrap();
+    assert_eq!(pager.io().asked(), [Asked::Log(5), Asked::Write(1, 9, 5)]);
+    pager.flush(0, 1).unwrap();
+    pager.flush(0, 2).unwrap();
+    assert_eq!(pager.io().asked(), []);
+    // The log is durable as far as LSN 5, and is not asked for less. The page LSN is the greatest of
+    // the page's writes since it was read.
+    pager.fix(0, 1).unwrap().write(0, &[8], 4).unwrap();
+    pager.flush(0, 1).unwrap();
+    assert_eq!(pager.io().asked(), [Asked::Write(1, 8, 5)]);
+}
+
+#[test]
+fn flush_of_all_pages() {
+    let pager = pager(3);
+    for (page, byte, lsn) in [(7, 70, 1), (2, 20, 3), (5, 50, 2)] {
+        pager.fix(0, page).unwrap().write(0, &[byte], lsn).unwrap();
+    }
+    assert_eq!(pager.io().asked().len(), 3);
+    pager.flush_all(0).unwrap();
+    let asked = [
+        Asked::Log(3),
+        Asked::Write(2, 20, 3),
+        Asked::Write(5, 50, 2),
+        Asked::Write(7, 70, 1),
+    ];
+    assert_eq!(pager.io().asked(), asked);
+}
+
+// Two guards of one page and one of another are out. Each sees what was written by another, and a
+// page with a guard stays.
+#[test]
+fn several_guards() {
+    let pager = pager(2);
+    let (one, other, third) = (
+        pager.fix(0, 1).unwrap(),
+        pager.fix(0, 1).unwrap(),
+        pager.fix(0, 2).unwrap(),
+    );
+    one.write(0, &[7], 1).unwrap();
+    assert_eq!((first_byte(&other), first_byte(&third)), (7, 0));
+    let refused = pager.fix(0, 3).map(|page| page.page());
+    assert_eq!(refused.map_err(|it| it.refusal()), Err(Error::NoVictim));
+    drop(third);
+    assert_eq!(pager.fix(0, 3).unwrap().page(), 3);
+    drop(one);
+    // Page 1 still has a guard, so page 3 makes way.
+    assert_eq!(pager.fix(0, 2).unwrap().page(), 2);
+    assert_eq!(first_byte(&other), 7);
+    let asked = [1, 2, 3, 2].map(Asked::Read);
+    assert_eq!(pager.io().asked(), asked);
+}
+
+#[test]
+fn parts_of_a_page() {
+    let pager = pager(1);
+    let page = pager.fix(0, 1).unwrap();
+    page.write(13, &[1, 2, 3], 1).unwrap();
+    let mut into = [0xa5; 4];
+    page.read(12, &mut into).unwrap();
+    assert_eq!(into, [0, 1, 2, 3]);
+    page.read(16, &mut []).unwrap();
+    assert_eq!(page.read(13, &mut into), Err(Error::OutOfPage));
+    assert_eq!(page.read(usize::MAX, &mut into), Err(Error::OutOfPage));
+    assert_eq!(page.write(14, &[4, 5, 6], 2), Err(Error::OutOfPage));
+    assert_eq!(into, [0, 1, 2, 3]);
+}
+
+#[test]
+fn failed_read_leaves_the_frame_free() {
+    let pager = pager(1);
+    pager.io().is_next(Fate::Fails);
+    let error = pager.fix(0, 1).map(drop).unwrap_err();
+    assert!(matches!(error, PagerError::Read { page: 1, .. }));
+    assert_eq!(error.refusal().number(), 17);
+    assert_eq!(error.to_string(), "page 1 could not be read");
+    assert_eq!(error.source().unwrap().to_string(), "no such luck");
+    pager.io().is_next(Fate::FindsAnother);
+    let error = pager.fix(0, 1).map(drop).unwrap_err();
+    assert_eq!(error.refusal(), Error::WrongPage);
+    assert!(error.source().is_none());
+    assert_eq!(pager.fix(0, 2).unwrap().page(), 2);
+    assert_eq!(pager.io().asked(), [1, 1, 2].map(Asked::Read));
+    let totals = pager.pool().totals();
+    assert_eq!((totals.faults, totals.failed), (1, 2));
+}
+
+#[test]
+fn failed_log_keeps_the_page_from_going_out() {
+    let pager = with_an_unsaved_page();
+    pager.io().is_next(Fate::Fails);
+    let error = pager.fix(0, 2).map(drop).unwrap_err();
+    assert!(matches!(error, PagerError::Log { lsn: 5, .. }));
+    assert_eq!(error.refusal(), Error::NeedLog { lsn: 5 });
+    assert_eq!(pager.io().asked(), [Asked::Log(5)]);
+    assert_eq!(first_byte(&pager.fix(0, 1).unwrap()), 9);
+    pager.fix(0, 2).map(drop).unwrap();
+    let asked = [Asked::Log(5), Asked::Write(1, 9, 5), Asked::Read(2)];
+    assert_eq!(pager.io().asked(), asked);
+}
+
+#[test]
+fn failed_write_out_leaves_the_page_unsaved() {
+    let pager = with_an_unsaved_page();
+    pager.pool().mark(0, 5).unwrap();
+    pager.io().is_next(Fate::Fails);
+    let error = pager.fix(0, 2).map(drop).unwrap_err();
+    assert!(matches!(error, PagerError::Write { page: 1, .. }));
+    assert_eq!(error.refusal().number(), 18);
+    assert_eq!(pager.io().asked(), [Asked::Write(1, 9, 5)]);
+    pager.flush(0, 1).unwrap();
+    assert_eq!(pager.io().asked(), [Asked::Write(1, 9, 5)]);
+    assert_eq!(pager.pool().totals().failed, 1);
+}
+
+// A page whose read or write-out the engine's code broke off by a panic is not waited for.
+#[test]
+fn panic_ends_the_ticket() {
+    let pager = with_an_unsaved_page();
+    pager.pool().mark(0, 5).unwrap();
+    for asked in [Asked::Write(1, 9, 5), Asked::Read(2)] {
+        pager.io().is_next(Fate::Panics);
+        let caught = catch_unwind(AssertUnwindSafe(|| pager.fix(0, 2).map(drop)));
+        assert!(caught.is_err());
+        assert_eq!(pager.io().asked().last(), Some(&asked));
+        if asked == Asked::Write(1, 9, 5) {
+            pager.flush(0, 1).unwrap();
+        }
+    }
+    assert_eq!(pager.fix(0, 2).unwrap().page(), 2);
+    assert_eq!(pager.pool().totals().failed, 2);
+}
+
+#[test]
+fn refusals_go_through() {
+    let pager = pager(1);
+    for (client, page, refusal) in [(1, 1, Error::BadClient), (0, 16, Error::OutOfPage)] {
+        let refused = pager.fix(client, page).map(drop).unwrap_err();
+        assert_eq!(refused.refusal(), refusal);
+        let refused = pager.flush(client, page).unwrap_err();
+        assert_eq!(refused.refusal(), refusal);
+        assert_eq!(refused.to_string(), refusal.to_string());
+    }
+    let refused = Pager::new(&Config::new(0, 16, 1), Memory::of(0)).map(drop);
+    assert_eq!(refused, Err(Error::BadGeometry));
+    assert_eq!(pager.io().asked(), []);
+}
+
+/// A device that fixes page 2 while page 1 is read. Each page has its number in each byte.
+struct Nested(RefCell<Weak<Pager<Nested>>>);
+
+impl PageIo for Nested {
+    fn read_page(&self, page: u64, image: &mut [u8]) -> Result<(), ReadFault> {
+        image.fill(page as u8);
+        if page == 1 {
+            let pager = self.0.borrow().upgrade().unwrap();
+            assert_eq!(first_byte(&pager.fix(0, 2).unwrap()), 2);
+        }
+        Ok(())
+    }
+
+    fn write_page(&self, _page: u64, _image: &[u8], _lsn: u64) -> io::Result<()> {
+        Ok(())
+    }
+
+    fn make_log_durable(&self, _lsn: u64) -> io::Result<()> {
+        Ok(())
+    }
+}
+
+#[test]
+fn device_that_uses_its_pager() {
+    let pager = Pager::new(&Config::new(16, 16, 2), Nested(RefCell::default())).unwrap();
+    let pager = Rc::new(pager);
+    pager.io().0.replace(Rc::downgrade(&pager));
+    let page = pager.fix(0, 1).unwrap();
+    let mut image = [0; 16];
+    page.read(0, &mut image).unwrap();
+    assert_eq!(image, [1; 16]);
+    assert_eq!(pager.pool().totals().faults, 2);
+}
+
+/// What references come to in a pager: hits, faults and evictions.
+fn counts(k: u8, correlated: u64, references: &[u64]) -> (u64, u64, u64) {
+    let config = Config {
+        k,
+        correlated,
+        ..Config::new(16, 16, 3)
+    };
+    let pager = Pager::new(&config, Memory::of(16)).unwrap();
+    for page in references {
+        pager.fix(0, *page).map(drop).unwrap();
+    }
+    let totals = pager.pool().totals();
+    (totals.hits, totals.faults, totals.evictions)
+}
+
+// The counts are reckoned in check/program.cases: sweep_keeps_what_came_twice, and
+// sweep_where_two_references_count_as_one.
+#[test]
+fn periods_and_k_count_fixes() {
+    let twice = [1, 2, 1, 2, 3, 4, 5, 6, 1, 2];
+    assert_eq!(counts(1, 0, &twice), (2, 8, 5));
+    assert_eq!(counts(2, 0, &twice), (4, 6, 3));
+    let as_one = [1, 1, 2, 2, 1, 4, 3, 1, 2];
+    assert_eq!(counts(2, 0, &as_one), (5, 4, 1));
+    assert_eq!(counts(2, 1, &as_one), (4, 5, 2));
+}
+
+/// Numbers that look random, the same ones each time.
+struct Numbers(u64);
+
+impl Numbers {
+    fn below(&mut self, end: u64) -> u64 {
+        let state = self.0;
+        self.0 = state
+            .wrapping_mul(6_364_136_223_846_793_005)
+            .wrapping_add(1_442_695_040_888_963_407);
+        (self.0 >> 33) % end
+    }
+}
+
+// Through four frames goes what is written to sixteen pages, at random. Each read has the newest
+// bytes, and so have the pages of the device at the end; no image went out ahead of the log.
+#[test]
+fn random_walk() {
+    let pager = pager(4);
+    let mut newest = [[0u8; 16]; 16];
+    let mut numbers = Numbers(1);
+    for lsn in 1..=20_000u64 {
+        let number = numbers.below(16) as usize;
+        let page = pager.fix(0, number as u64).unwrap();
+        let mut found = [0; 16];
+        page.read(0, &mut found).unwrap();
+        assert_eq!(found, newest[number]);
+        if numbers.below(3) == 0 {
+            let at = numbers.below(16) as usize;
+            let byte = numbers.below(256) as u8;
+            page.write(at, &[byte], lsn).unwrap();
+            newest[number][at] = byte;
+        }
+        if numbers.below(50) == 0 {
+            pager.flush(0, numbers.below(16)).unwrap();
+        }
+    }
+    pager.flush_all(0).unwrap();
+    let (mut durable, mut writes) = (0, 0);
+    for asked in pager.io().asked() {
+        match asked {
+            Asked::Log(lsn) => durable = lsn.max(durable),
+            Asked::Write(page, _, lsn) => {
+                assert!(lsn <= durable, "page {page} ahead of the log");
+                writes += 1;
+            }
+            Asked::Read(_) => {}
+        }
+    }
+    let totals = pager.pool().totals();
+    assert_eq!(totals.hits + totals.faults, 20_000);
+    assert_eq!(totals.writes, writes);
+    assert!(totals.hits > 0 && totals.evictions > 0 && writes > 0);
+    assert_eq!(*pager.into_io().pages.borrow(), newest);
+}

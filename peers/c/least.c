@@ -1,0 +1,38 @@
+/* The least engine: a counter in each page of a file, to which each run adds one. It keeps no log, so each write
+ * has LSN 0, which needs none. */
+#include "hz_file.h"
+#include <fcntl.h>
+#include <stdio.h>
+
+enum { PAGES = 100, SIZE = 4096 };
+
+int main(void)
+{
+    static uint8_t slot[HZ_FILE_HEAD + SIZE];
+    const hz_config config = {PAGES, SIZE, 8, (size_t)1 << 61, 0, 1000, 2, 1}; /* 8 frames, K 2, one client */
+    static hz_core core; /* all zero: none yet */
+    hz_fixed asked;
+    uint64_t count = 0;
+    hz_file file = {open("least.pages", O_RDWR | O_CREAT, 0600), 2, SIZE, slot};
+    uint16_t number = lseek(file.fd, 0, SEEK_END) == 0 ? hz_file_fill(&file, PAGES) : 0;
+    if (!number)
+        number = hz_core_new(&config, &core);
+    for (uint64_t page = 0; page < PAGES && !number; page++) {
+        if ((number = hz_file_fix(&core, &file, 0, page, &asked)))
+            break;
+        number = hz_read(&core, &asked.grant, 0, (uint8_t *)&count, sizeof count);
+        count++;
+        if (!number)
+            number = hz_write(&core, &asked.grant, 0, (uint8_t *)&count, sizeof count, 0);
+        hz_unfix(&core, &asked.grant);
+        hz_tick(&core, 0, 1); /* the page may now leave its frame */
+    }
+    for (uint64_t page = 0; page < PAGES && !number; page++)
+        number = hz_file_flush(&core, &file, 0, page, &asked);
+    if (!number)
+        number = hz_file_sync(&file);
+    uint8_t text[96];
+    printf("%.*s: the last page counts %lu\n", (int)hz_text(number, text, sizeof text), (char *)text, count);
+    hz_core_free(&core);
+    return number != 0;
+}
