@@ -1,5 +1,5 @@
 -- Try after try.
-use Rattle.std.proofs.Common.{◌≡◌, refl, sym, ap, subst, ◌∙◌, ◌⊎◌, ℕ, ◌+◌, ◌≤◌, Bool, true, false, Result, Ok, Err, arith}
+use Rattle.std.proofs.Common.{◌≡◌, ap, subst, ◌∙◌, ℕ, suc, ◌+◌, ◌-◌, ◌≤◌, ◌<◌, Bool, false, Result, Ok, Err, arith}
 use Rattle.bp_page.specs.declared.refusals.Refusal.{Refusal}
 use Rattle.bp_page.specs.declared.refusals.Refusal.TheVariants as refusal
 use Rattle.bp_core.specs.declared.passes.Pass.{Pass}
@@ -7,43 +7,75 @@ use Rattle.bp_trail.specs.Trail.{Trail}
 use Rattle.bp_shared.specs.Sessions.{FixSaid}
 use Rattle.bp_shared.proofs.Stepping.{err}
 use Rattle.bp_book.specs.Turns.{TickSaid}
-use Rattle.bp_engine.specs.Tries.{Tries, TriesUpTo, GoesOn, may_pass}
-use Rattle.bp_engine.specs.Tries.Tries.{last, again}
+use Rattle.bp_engine.specs.Tries.{GivesUp, GoesOn, Tries}
+use Rattle.bp_engine.specs.Tries.Tries.{again, at_last, fixed, given_up}
+
+module _ (client steps : ℕ) where
+  -- what goes on with the mark raised so far goes on with it raised further
+  goes-on-later : (raised later : ℕ) (why : Refusal) (ticked now : Bool) (said after : Trail) → raised ≤ later → GoesOn client steps raised why ticked now said after → GoesOn client steps later why ticked now said after
+  goes-on-later raised later (refusal.NeedLog lsn) ticked now said after le h = (omega (arith, le, h.0), h.1, h.2)
+  goes-on-later raised later refusal.NoVictim ticked now said after le h = h
+  goes-on-later raised later _ ticked now said after le h = absurd h
 
 -- what is tried from here on was tried from the start on
-abbrev pub LeadsTo : ℕ → ℕ → ℕ → Bool → ℕ → Trail → Trail → Type 0
-LeadsTo client page steps ticked done said now =
-    (n : ℕ) (answer : Result Pass Refusal) (after : Trail) → Tries client page steps ticked n answer now after → Tries client page steps false (n + done) answer said after
+abbrev pub LeadsTo : (client page steps rounds raised : ℕ) → Bool → ℕ → Trail → Trail → Type 0
+LeadsTo client page steps rounds raised ticked done said now =
+    (durable later left : ℕ) (answer : Result Pass Refusal) (after : Trail) → raised ≤ later → left + done ≡ rounds
+    → Tries client page steps durable later left ticked answer now after → Tries client page steps durable later rounds false answer said after
 
-module _ (client page steps : ℕ) where
-  pub leads-none : (said : Trail) → LeadsTo client page steps false 0 said said
-  leads-none said n answer after t = subst (λ k. Tries client page steps false k answer said after) (let e : n ≡ n + 0 = omega arith in e) t
+module _ (client page steps rounds : ℕ) where
+  pub leads-none : (raised : ℕ) (said : Trail) → LeadsTo client page steps rounds raised false 0 said said
+  leads-none raised said durable later left answer after le is t =
+      let e : left ≡ rounds = omega (arith, is) in
+      subst (λ n. Tries client page steps durable later n false answer said after) e t
 
-  pub leads-more : (ticked next : Bool) (done : ℕ) (said now tried mid : Trail) (why : Refusal) → LeadsTo client page steps ticked done said now → may_pass why ≡ true → FixSaid client page (Err why) now tried
-      → GoesOn client steps ticked next tried mid → LeadsTo client page steps next (done + 1) said mid
-  leads-more ticked next done said now tried mid why leads passes refused goes n answer after t =
-      let e : (n + 1) + done ≡ n + (done + 1) = omega arith in
-      subst (λ k. Tries client page steps false k answer said after) e (leads (n + 1) answer after (again why tried mid passes refused goes t))
+  pub leads-more : (raised higher : ℕ) (ticked next : Bool) (done : ℕ) (said now tried mid : Trail) (why : Refusal) → LeadsTo client page steps rounds raised ticked done said now → raised ≤ higher
+      → FixSaid client page (Err why) now tried → GoesOn client steps higher why ticked next tried mid → LeadsTo client page steps rounds higher next (done + 1) said mid
+  leads-more raised higher ticked next done said now tried mid why leads rises refused goes durable later left answer after le is t =
+      leads durable later (suc left) answer after (omega (arith, rises, le)) (omega (arith, is))
+      (again why tried mid refused (goes-on-later client steps higher later why ticked next tried mid le goes) t)
 
-  pub leads-end : (ticked : Bool) (done rounds : ℕ) (said now after : Trail) (answer : Result Pass Refusal) → LeadsTo client page steps ticked done said now → done ≤ rounds → FixSaid client page answer now after
-      → TriesUpTo client page steps rounds answer said after
-  leads-end ticked done rounds said now after answer leads few fixed = record {
-    tries = 0 + done;
-    few = omega (arith, few);
-    through = leads 0 answer after (last fixed);
-  }
+  pub leads-fixed : (durable raised : ℕ) (ticked : Bool) (done : ℕ) (said now after : Trail) (pass : Pass) → LeadsTo client page steps rounds raised ticked done said now → done ≤ rounds
+      → FixSaid client page (Ok pass) now after → Tries client page steps durable raised rounds false (Ok pass) said after
+  leads-fixed durable raised ticked done said now after pass leads few found =
+      leads durable raised (rounds - done) (Ok pass) after (omega arith) (omega (arith, few)) (fixed found)
+
+  pub leads-given_up : (durable raised higher : ℕ) (ticked : Bool) (done : ℕ) (said now tried after : Trail) (why answer : Refusal) → LeadsTo client page steps rounds raised ticked done said now → done < rounds → raised ≤ higher
+      → FixSaid client page (Err why) now tried → GivesUp client steps durable why ticked answer tried after → Tries client page steps durable higher rounds false (Err answer) said after
+  leads-given_up durable raised higher ticked done said now tried after why answer leads few rises refused ends =
+      leads durable higher (suc (rounds - (done + 1))) (Err answer) after rises (omega (arith, few)) (given_up why tried refused ends)
+
+  pub leads-end : (durable raised : ℕ) (ticked : Bool) (done : ℕ) (said now after : Trail) (answer : Result Pass Refusal) → LeadsTo client page steps rounds raised ticked done said now → done ≡ rounds
+      → FixSaid client page answer now after → Tries client page steps durable raised rounds false answer said after
+  leads-end durable raised ticked done said now after answer leads all found =
+      leads durable raised 0 answer after (omega arith) (omega (arith, all)) (at_last found)
 
 abbrev why-of : Result Pass Refusal → Refusal
 why-of (Ok pass) = refusal.NoVictim
 why-of (Err why) = why
 
--- a refusal that may be overcome is not that of a ticket
-pub passes-known : (why : Refusal) → may_pass why ≡ true → err Pass why ≡ err Pass refusal.UnknownTicket → ⊥
-passes-known why passes is = let no : false ≡ true = ap may_pass (ap why-of (sym is)) ∙ passes in cc
+-- a refusal after which the fix goes on is not that of a ticket
+pub goes-on-known : (client steps raised : ℕ) (why : Refusal) (ticked now : Bool) (said after : Trail) → GoesOn client steps raised why ticked now said after → err Pass why ≡ err Pass refusal.UnknownTicket → ⊥
+goes-on-known client steps raised (refusal.NeedLog lsn) ticked now said after h is = let no : refusal.NeedLog lsn ≡ refusal.UnknownTicket = ap why-of is in cc
+goes-on-known client steps raised refusal.NoVictim ticked now said after h is = let no : refusal.NoVictim ≡ refusal.UnknownTicket = ap why-of is in cc
+goes-on-known client steps raised _ ticked now said after h is = absurd h
+
+-- nor is one for which another refusal is answered
+pub gives-up-known : (client steps durable : ℕ) (why : Refusal) (ticked : Bool) (answer : Refusal) (said after : Trail) → GivesUp client steps durable why ticked answer said after
+    → (err Pass answer ≡ err Pass refusal.UnknownTicket → ⊥) → err Pass why ≡ err Pass refusal.UnknownTicket → ⊥
+gives-up-known client steps durable (refusal.NeedLog lsn) ticked answer said after h known is = let no : refusal.NeedLog lsn ≡ refusal.UnknownTicket = ap why-of is in cc
+gives-up-known client steps durable refusal.NoVictim ticked answer said after h known is = let no : refusal.NoVictim ≡ refusal.UnknownTicket = ap why-of is in cc
+gives-up-known client steps durable why ticked answer said after h known is = known (ap (λ w. err Pass w) h.0 ∙ is)
 
 -- a tick that was refused leaves the list
-pub tick-refused : (client n : ℕ) (why : Refusal) (said after : Trail) → TickSaid client n (err (Unit {0}) why) said after → after ≡ said
+tick-refused : (client n : ℕ) (why : Refusal) (said after : Trail) → TickSaid client n (err (Unit {0}) why) said after → after ≡ said
 tick-refused client n refusal.TrailFull said after h = h
 tick-refused client n refusal.ClockFull said after h = h
 tick-refused client n refusal.OutOfMemory said after h = h
 tick-refused client n _ said after h = absurd h
+
+-- who gives up adds nothing
+pub gives-up-stays : (client steps durable : ℕ) (why : Refusal) (ticked : Bool) (answer : Refusal) (said after : Trail) → GivesUp client steps durable why ticked answer said after → after ≡ said
+gives-up-stays client steps durable (refusal.NeedLog lsn) ticked answer said after h = h.2
+gives-up-stays client steps durable refusal.NoVictim ticked answer said after h = tick-refused client steps answer said after h.1
+gives-up-stays client steps durable _ ticked answer said after h = h.1

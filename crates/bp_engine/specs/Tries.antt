@@ -1,5 +1,5 @@
 -- A fix that is tried again.
-use Rattle.std.specs.Prelude.{◌≡◌, ◌⊎◌, ℕ, ◌+◌, ◌≤◌, Bool, true, false, ◌∷◌, Result, Ok, Err}
+use Rattle.std.specs.Prelude.{◌≡◌, ℕ, suc, ◌≤◌, ◌<◌, Bool, true, false, if◌then◌else◌, ◌∷◌, Result, Ok, Err}
 use Rattle.bp_page.specs.declared.refusals.Refusal.{Refusal}
 use Rattle.bp_page.specs.declared.refusals.Refusal.TheVariants as refusal
 use Rattle.bp_core.specs.declared.passes.Pass.{Pass}
@@ -7,27 +7,37 @@ use Rattle.bp_trail.specs.declared.entries.Call.TheVariants.{Tick}
 use Rattle.bp_trail.specs.declared.entries.Reply.TheVariants.{Done}
 use Rattle.bp_trail.specs.Trail.{Trail}
 use Rattle.bp_trail.specs.Pieces.{by}
+use Rattle.bp_book.specs.Turns.{TickSaid}
 use Rattle.bp_shared.specs.Sessions.{FixSaid}
 
--- a refusal that the log, the clock or a pass that goes back may overcome
-abbrev pub may_pass : Refusal → Bool
-may_pass refusal.NoVictim = true
-may_pass (refusal.NeedLog lsn) = true
-may_pass _ = false
+-- what comes between a refused fix and the next try. Where the log was wanted, the mark is raised so far; where no page
+-- may leave, the clock was moved, if it was not before
+abbrev pub GoesOn : ℕ → ℕ → ℕ → Refusal → Bool → Bool → Trail → Trail → Type 0
+GoesOn client steps raised (refusal.NeedLog lsn) ticked now said after = (lsn ≤ raised) × (now ≡ ticked) × (after ≡ said)
+GoesOn client steps raised refusal.NoVictim ticked now said after =
+    (now ≡ true) × (after ≡ (if ticked then said else by client (Tick steps) Done ∷ said))
+GoesOn client steps raised _ ticked now said after = ⊥
 
--- after a refusal the client's list is as it was; or, where the clock was not moved yet, it has that tick
-abbrev pub GoesOn : ℕ → ℕ → Bool → Bool → Trail → Trail → Type 0
-GoesOn client steps ticked now said after =
-    ((now ≡ ticked) × (after ≡ said)) ⊎ ((ticked ≡ false) × (now ≡ true) × (after ≡ by client (Tick steps) Done ∷ said))
+-- or what is answered for it: its own refusal, where the log is not durable so far, or nothing here overcomes it; and
+-- where no page may leave, the refusal of the clock's first move
+abbrev pub GivesUp : ℕ → ℕ → ℕ → Refusal → Bool → Refusal → Trail → Trail → Type 0
+GivesUp client steps durable (refusal.NeedLog lsn) ticked answer said after =
+    (durable < lsn) × (answer ≡ refusal.NeedLog lsn) × (after ≡ said)
+GivesUp client steps durable refusal.NoVictim ticked answer said after =
+    (ticked ≡ false) × TickSaid {A = Unit {0}} client steps (Err answer) said after
+GivesUp client steps durable why ticked answer said after = (answer ≡ why) × (after ≡ said)
 
--- a fix, and so many tries before it that were refused so
-pub data Tries (client page steps : ℕ) : Bool → ℕ → Result Pass Refusal → Trail → Trail → Type 0 where
-  last : {ticked : Bool} {answer : Result Pass Refusal} {said after : Trail} → FixSaid client page answer said after → Tries client page steps ticked 0 answer said after
-  again : {ticked now : Bool} {n : ℕ} {answer : Result Pass Refusal} {said after : Trail} (why : Refusal) (tried mid : Trail) → may_pass why ≡ true → FixSaid client page (Err why) said tried
-      → GoesOn client steps ticked now tried mid → Tries client page steps now n answer mid after → Tries client page steps ticked (n + 1) answer said after
-
--- one with so many tries before it at most
-pub record TriesUpTo (client page steps rounds : ℕ) (answer : Result Pass Refusal) (said after : Trail) : Type 0 where
-  pub tries : ℕ
-  pub few : tries ≤ rounds
-  pub through : Tries client page steps false tries answer said after
+-- fixes, each refused but the last, where so many more may be tried and the clock was moved or not: the log is durable,
+-- and the mark raised, up to these LSNs in the end
+pub data Tries (client page steps durable raised : ℕ) : ℕ → Bool → Result Pass Refusal → Trail → Trail → Type 0 where
+  at_last : {ticked : Bool} {answer : Result Pass Refusal} {said after : Trail} → FixSaid client page answer said after
+      → Tries client page steps durable raised 0 ticked answer said after
+  fixed : {left : ℕ} {ticked : Bool} {pass : Pass} {said after : Trail} → FixSaid client page (Ok pass) said after
+      → Tries client page steps durable raised left ticked (Ok pass) said after
+  given_up : {left : ℕ} {ticked : Bool} {answer : Refusal} {said after : Trail} (why : Refusal) (tried : Trail)
+      → FixSaid client page (Err why) said tried → GivesUp client steps durable why ticked answer tried after
+      → Tries client page steps durable raised (suc left) ticked (Err answer) said after
+  again : {left : ℕ} {ticked now : Bool} {answer : Result Pass Refusal} {said after : Trail} (why : Refusal) (tried mid : Trail)
+      → FixSaid client page (Err why) said tried → GoesOn client steps raised why ticked now tried mid
+      → Tries client page steps durable raised left now answer mid after
+      → Tries client page steps durable raised (suc left) ticked answer said after

@@ -1,11 +1,9 @@
 //! A fix that waits for the log and for a victim.
-ghost use Rattle.std.specs.Prelude.{◌≡◌, ◌≢◌, ◌<◌, ◌∷◌, true, false};
-ghost use Rattle.bp_trail.specs.declared.entries.Call.TheVariants.{Tick};
-ghost use Rattle.bp_trail.specs.declared.entries.Reply.TheVariants.{Done};
-ghost use Rattle.bp_trail.specs.Pieces.{by};
+ghost use Rattle.std.specs.Prelude.{◌≡◌, ◌≢◌, ◌<◌, false, OnOk, IfErr};
 ghost use Rattle.bp_page.specs.declared.refusals.Refusal.TheVariants as Refusal;
 ghost use Rattle.bp_shared.specs.Sessions.{DoesWorkSaid};
-ghost use Rattle.bp_engine.specs.Tries.{GoesOn, TriesUpTo, may_pass};
+ghost use Rattle.bp_engine.specs.Logs.{RaisesWithin};
+ghost use Rattle.bp_engine.specs.Tries.{GivesUp, GoesOn, Tries};
 
 use bp_core::Pass;
 use bp_device::Port;
@@ -19,32 +17,72 @@ use std::time::Duration;
 
 /// An engine's log, which can be made durable.
 pub trait Log: Drop {
+    ghost use Rattle.std.specs.Prelude.{◌≤◌, ◌↔◌, ℕ, IsTrue};
+
+    // The LSN up to which it is known to be durable.
+    ghost durable_to: { Self → ℕ };
+
     /// Makes the log durable up to this LSN at least. Whether it now is.
-    fn make_durable<R: Wait>(&mut self, rt: &R, lsn: Lsn) -> bool;
+    fn make_durable<R: Wait>(&mut self, rt: &R, lsn: Lsn) -> bool
+        ensures lasts { durable_to self.old ≤ durable_to self.new }
+        ensures reached { IsTrue result ↔ (lsn ≤ durable_to self.new) };
 }
 
 /// Who has the log of a pool made durable, and the pool's mark raised so far.
 ///
 /// For client 0 this is `Leading`. For any other client it is something that asks the worker of client 0, and waits.
 pub trait DurableLog<N: PoolName> {
-    /// Has the log made durable up to this LSN at least, and then the pool's mark raised so far. Whether both were done.
-    fn reach<K: ListKeeper, R: Wait>(&mut self, rt: &R, pool: &SharedPool<N, K>, lsn: Lsn) -> bool;
+    ghost use Rattle.std.specs.Prelude.{◌≡◌, ◌≤◌, ◌↔◌, ℕ, List, IsTrue};
+    ghost use Rattle.std.specs.Borrow.{GName};
+    ghost use Rattle.bp_engine.specs.Logs.{RaisesWithin};
+
+    // The LSN up to which the log is known to be durable.
+    ghost durable_to: { Self → ℕ };
+    // The LSN up to which the mark is known to be raised.
+    ghost raised_to: { Self → ℕ };
+    // The references that it works by, if any. They stay the same.
+    ghost lent: { Self → List GName };
+
+    /// Has the log made durable up to this LSN at least, and then the pool's mark raised so far. Whether both are done.
+    ///
+    /// The mark is raised no further than the log is durable.
+    fn reach<K: ListKeeper, R: Wait>(&mut self, rt: &R, pool: &SharedPool<N, K>, lsn: Lsn) -> bool
+        ensures lent { lent self.new ≡ lent self.old }
+        ensures raises { RaisesWithin (durable_to self.old) (raised_to self.old)
+            (durable_to self.new) (raised_to self.new) }
+        ensures durable { IsTrue result ↔ (lsn ≤ durable_to self.new) }
+        ensures raised { IsTrue result → lsn ≤ raised_to self.new };
 }
 
 /// The log, and who raises the pool's mark: the two with which client 0 works.
 #[derive(Drop)]
 pub struct Leading<'a, N: PoolName, L: Log> {
-    log: &'a mut L,
-    writer: &'a mut LogWriter<N>,
+    pub log: &'a mut L,
+    pub writer: &'a mut LogWriter<N>,
 }
 
 impl<'a, N: PoolName, L: Log> Leading<'a, N, L> {
-    pub fn new(log: &'a mut L, writer: &'a mut LogWriter<N>) -> Leading<'a, N, L> {
+    ghost use Rattle.std.specs.Prelude.{◌≡◌};
+
+    pub fn new(log: &'a mut L, writer: &'a mut LogWriter<N>) -> Leading<'a, N, L>
+        ensures by_log { (result.log.ghost_name ≡ log.entry.ghost_name)
+            × (result.log.now ≡ log.old) }
+        ensures by_writer { (result.writer.ghost_name ≡ writer.entry.ghost_name)
+            × (result.writer.now ≡ writer.old) }
+    {
         Leading { log, writer }
     }
 }
 
 impl<N: PoolName, L: Log> DurableLog<N> for Leading<'_, N, L> {
+    ghost use Rattle.std.specs.Prelude.{[], ◌∷◌};
+
+    ghost durable_to = { λ l. L.durable_to l.log.now };
+
+    ghost raised_to = { λ l. l.writer.now };
+
+    ghost lent = { λ l. l.log.ghost_name ∷ l.writer.ghost_name ∷ [] };
+
     /// Raises the mark only where the log says that it is durable so far.
     fn reach<K: ListKeeper, R: Wait>(&mut self, rt: &R, pool: &SharedPool<N, K>, lsn: Lsn) -> bool {
         if !self.log.make_durable(rt, lsn) {
@@ -67,61 +105,50 @@ pub struct Patience {
     pub pause: Duration,
 }
 
-/// Moves the clock on. Whether it could.
-fn move_clock<N: PoolName, K: ListKeeper, R: Wait>(
-    rt: &R,
-    pool: &SharedPool<N, K>,
-    session: &mut Session<N, K>,
-    steps: u64,
-) -> bool
-    ensures client { session.new.client ≡ session.old.client }
-    ensures before { session.new.before ≡ session.old.before }
-    ensures free { session.new.free ≡ session.old.free }
-    ensures moved { result ≡ true → session.new.said
-        ≡ by session.old.client (Tick steps) Done ∷ session.old.said }
-    ensures stays { result ≡ false → session.new.said ≡ session.old.said }
-{
-    match pool.tick(rt, session, steps) {
-        Ok(()) => true,
-        Err(_why) => false,
-    }
-}
-
-/// Does what may overcome a refusal. Whether the fix is to be tried again.
+/// Does what may overcome a refusal, after which the fix is to be tried again.
 ///
 /// Where the log is not durable far enough, it is made so. Where no page may leave, the clock is moved once, and each
 /// time after that some time goes by, in which the thread sleeps.
+///
+/// An error is what is to be answered for the fix: its own refusal, where that cannot be overcome or the log did not
+/// get durable so far, or the refusal of the tick.
 fn overcome<N: PoolName, K: ListKeeper, L: DurableLog<N>, R: Wait>(
     rt: &R,
     pool: &SharedPool<N, K>,
     session: &mut Session<N, K>,
     log: &mut L,
-    refusal: &Refusal,
+    why: Refusal,
     patience: Patience,
     is_ticked: &mut bool,
-) -> bool
+) -> Result<(), Refusal>
     ensures client { session.new.client ≡ session.old.client }
     ensures before { session.new.before ≡ session.old.before }
     ensures free { session.new.free ≡ session.old.free }
-    ensures passes { result ≡ true → may_pass refusal.now ≡ true }
-    ensures goes_on { result ≡ true → GoesOn session.old.client patience.steps is_ticked.old
-        is_ticked.new session.old.said session.new.said }
-    ensures gives_up { result ≡ false → session.new.said ≡ session.old.said }
+    ensures lent { L.lent log.new ≡ L.lent log.old }
+    ensures raises { RaisesWithin (L.durable_to log.old) (L.raised_to log.old)
+        (L.durable_to log.new) (L.raised_to log.new) }
+    ensures goes_on { OnOk result (GoesOn session.old.client patience.steps (L.raised_to log.new) why
+        is_ticked.old is_ticked.new session.old.said session.new.said) }
+    ensures gives_up { IfErr result (λ last. GivesUp session.old.client patience.steps
+        (L.durable_to log.new) why is_ticked.old last session.old.said session.new.said) }
 {
-    match refusal {
-        Refusal::NeedLog(_) => match refusal.needed() {
-            Some(lsn) => log.reach(rt, pool, lsn),
-            None => false,
-        },
+    match why {
+        Refusal::NeedLog(lsn) => {
+            if log.reach(rt, pool, lsn) {
+                Ok(())
+            } else {
+                Err(why)
+            }
+        }
         Refusal::NoVictim => {
             if *is_ticked {
                 Parker::new().park_timeout(rt, patience.pause);
-                return true;
+                return Ok(());
             }
-            *is_ticked = move_clock(rt, pool, session, patience.steps);
-            *is_ticked
+            *is_ticked = true;
+            pool.tick(rt, session, patience.steps)
         }
-        _ => false,
+        _ => Err(why),
     }
 }
 
@@ -130,11 +157,13 @@ fn overcome<N: PoolName, K: ListKeeper, L: DurableLog<N>, R: Wait>(
 /// Where the log is not durable far enough, which is `NeedLog`, the log is made durable first. Where no page may leave,
 /// which is `NoVictim`, the clock is moved on by `steps`, once; after that each try waits for `pause` before it.
 ///
-/// Each try adds what a fix adds: for one that is refused so an entry, and one more where the durable mark has risen, one
-/// for each wait for another client's device work, and two for each victim that went out before. The clock's move adds
-/// one. Any other refusal is answered at once, as `fix` gives it; and so are these two where the rounds are over, where
-/// the log was not made durable, and where the tick was refused. The device does the work of the entries, and nothing
-/// else.
+/// Each try adds what a fix adds. One that is refused so adds an entry, and one more where the durable mark has risen,
+/// one for each wait for another client's device work, and two for each victim that went out before. The clock's move
+/// adds one. The device does the work of the entries, and nothing else.
+///
+/// Any other refusal is answered at once, as `fix` gives it. `NoVictim` is answered only where the rounds are over, and
+/// `NeedLog` only there or where the log did not get durable so far. Where the tick is refused its refusal is answered,
+/// `TrailFull`, `ClockFull` or `OutOfMemory`: then the clock stands, and no page may leave.
 pub fn fix_durably<N: PoolName, P: Port, K: ListKeeper, L: DurableLog<N>, R: Wait>(
     rt: &R,
     pool: &SharedPool<N, K>,
@@ -148,8 +177,12 @@ pub fn fix_durably<N: PoolName, P: Port, K: ListKeeper, L: DurableLog<N>, R: Wai
     ensures before { client.new.session.before ≡ client.old.session.before }
     ensures free { client.new.session.free ≡ client.old.session.free }
     ensures port { P.geometry_of client.new.port ≡ P.geometry_of client.old.port }
-    ensures outcome { TriesUpTo client.old.session.client page patience.steps patience.rounds
-        result client.old.session.said client.new.session.said }
+    ensures lent { L.lent log.new ≡ L.lent log.old }
+    ensures raises { RaisesWithin (L.durable_to log.old) (L.raised_to log.old)
+        (L.durable_to log.new) (L.raised_to log.new) }
+    ensures outcome { Tries client.old.session.client page patience.steps (L.durable_to log.new)
+        (L.raised_to log.new) patience.rounds false result
+        client.old.session.said client.new.session.said }
     ensures work { result ≢ Err Refusal.UnknownTicket → DoesWorkSaid P.read_gives P.write_gives
         client.old.session.said client.new.session.said client.old.port client.new.port }
 {
@@ -157,17 +190,18 @@ pub fn fix_durably<N: PoolName, P: Port, K: ListKeeper, L: DurableLog<N>, R: Wai
     for _round in 0..patience.rounds {
         match pool.fix(rt, &mut client.session, &mut client.port, page) {
             Ok(pass) => return Ok(pass),
-            Err(refusal) => {
-                if !overcome(
+            Err(why) => {
+                match overcome(
                     rt,
                     pool,
                     &mut client.session,
                     log,
-                    &refusal,
+                    why,
                     patience,
                     &mut is_ticked,
                 ) {
-                    return Err(refusal);
+                    Ok(()) => {}
+                    Err(last) => return Err(last),
                 }
             }
         }

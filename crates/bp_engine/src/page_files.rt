@@ -1,5 +1,6 @@
 //! Page files that are made.
-ghost use Rattle.std.specs.Prelude.{◌≡◌, ◌⊎◌, IfOk, IfErr};
+ghost use Rattle.std.specs.Prelude.{◌≡◌, ◌⊎◌, OnOk, IfOk, IfErr};
+ghost use Rattle.bp_device.specs.Files.{IsOpenFault};
 ghost use Rattle.bp_device.specs.Ports.{has_headers};
 
 use bp_device::{FilePort, OpenFault, Port};
@@ -19,6 +20,7 @@ fn blank_pages<R: Wait>(
 ) -> Result<(), OpenFault>
     ensures device { port.new.device ≡ port.old.device }
     ensures headed { port.new.headed ≡ port.old.headed }
+    ensures uncounted { OnOk result (port.new.failures ≡ port.old.failures) }
     ensures refused { IfErr result (λ fault. (fault ≡ OpenFault.Port PortFault.Device) ⊎
         (fault ≡ OpenFault.Port PortFault.Memory)) }
 {
@@ -45,6 +47,8 @@ fn fill<R: Files<File = File> + Wait>(
     ensures made { IfOk result (λ port. (port.device.pages ≡ geometry.pages)
         × (port.device.size ≡ geometry.size)) }
     ensures headed { IfOk result (λ port. port.headed ≡ has_headers format) }
+    ensures fresh { IfOk result (λ port. port.failures ≡ 0) }
+    ensures refused { IfErr result IsOpenFault }
 {
     let bytes = geometry.pages * format.slot_size(geometry.size) as u64;
     let Ok(()) = file.set_len(bytes) else {
@@ -68,11 +72,12 @@ fn fill<R: Files<File = File> + Wait>(
     }
 }
 
-/// Makes a new page file of this version, whose pages have bytes 0, and opens it. What was written of it is synced.
+/// Makes a new page file of this version, whose pages have bytes 0, and opens it. What was written of it is synced. The
+/// port has counted no failure.
 ///
 /// `Port(Device)` where something stands at the path, which is then left as it is, or where the file can't be made, be
-/// written or be synced, and `Port(Memory)` where a page's bytes can't be had; `Refused(BadLength)` where somebody else
-/// changed its length meanwhile. A file that was begun is removed.
+/// written or be synced. `Port(Memory)` where a page's bytes can't be had, and `Refused(BadLength)` where somebody else
+/// changed its length meanwhile. No other fault comes, and a file that was begun is removed.
 pub fn create_page_file<R: Files<File = File> + Wait>(
     rt: &R,
     alloc: Global,
@@ -83,6 +88,8 @@ pub fn create_page_file<R: Files<File = File> + Wait>(
     ensures made { IfOk result (λ port. (port.device.pages ≡ geometry.pages)
         × (port.device.size ≡ geometry.size)) }
     ensures headed { IfOk result (λ port. port.headed ≡ has_headers format) }
+    ensures fresh { IfOk result (λ port. port.failures ≡ 0) }
+    ensures refused { IfErr result IsOpenFault }
 {
     let Ok(file) = File::create_new(rt, path) else {
         return Err(OpenFault::Port(PortFault::Device));

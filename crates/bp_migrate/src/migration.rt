@@ -1,7 +1,8 @@
 //! From the pages of a file of version 1 to a file of version 2.
-ghost use Rattle.std.specs.Prelude.{◌≡◌, OnOk, IfOk};
-ghost use Rattle.bp_page.specs.Limits.{IsGeometry};
+ghost use Rattle.std.specs.Prelude.{OnOk, IfErr};
+ghost use Rattle.std.specs.Io.KnownBytes.{Consumes};
 ghost use Rattle.bp_migrate.specs.Files.{Migrates, MigratesPage};
+ghost use Rattle.bp_migrate.specs.Faults.{OnWriteFault, ReadsAFront};
 
 use crate::progress::{Progress, Untold};
 use bp_page::{Geometry, Image, Lsn, PageNo, slot2};
@@ -18,6 +19,7 @@ pub enum MigrateFault {
     /// The writer failed. What it holds then is no page file.
     #[error("the new page file could not be written")]
     Write,
+    /// The memory of a page could not be had. What the writer holds then is no page file.
     #[error("out of memory")]
     Memory,
 }
@@ -32,6 +34,8 @@ fn migrate_page<I: Read, W: Write>(
 ) -> Result<(), MigrateFault>
     ensures migrated { OnOk result (MigratesPage page buffer.new (I.remaining reader.old)
         (I.remaining reader.new) (W.contents writer.old) (W.contents writer.new)) }
+    ensures cause { IfErr result (λ fault. OnWriteFault fault
+        (Consumes (I.remaining reader.old) (I.remaining reader.new) buffer.new)) }
 {
     let Ok(()) = reader.read_exact(buffer) else {
         return Err(MigrateFault::Read);
@@ -58,6 +62,8 @@ pub fn migrate_told<I: Read, W: Write, P: Progress>(
 ) -> Result<(), MigrateFault>
     ensures migrated { OnOk result (Migrates geometry.now (I.remaining reader.old)
         (I.remaining reader.new) (W.contents writer.old) (W.contents writer.new)) }
+    ensures cause { IfErr result (λ fault. OnWriteFault fault
+        (ReadsAFront geometry.now (I.remaining reader.old) (I.remaining reader.new))) }
 {
     let Ok(mut buffer) = vec![in alloc; 0u8; geometry.size] else {
         return Err(MigrateFault::Memory);
@@ -72,11 +78,13 @@ pub fn migrate_told<I: Read, W: Write, P: Progress>(
     Ok(())
 }
 
-/// Reads the pages of a file of version 1, and writes the file of version 2 of the same images, each with its page's number and LSN 0. It
-/// reads as many bytes as the pages have and no more, one page at a time, in the memory of a few pages.
+/// Reads the pages of a file of version 1, and writes the file of version 2 of the same images, each with its page's
+/// number and LSN 0. It reads as many bytes as the pages have and no more, one page at a time, in the memory of a few
+/// pages.
 ///
-/// `Read` where the reader fails or ends before, `Write` where the writer fails, and `Memory` where a page's bytes can't be had; what was
-/// written until then is no page file.
+/// `Read` where the reader fails or ends before. `Write` where the writer fails, which is after a page was read: then
+/// all that was read is whole pages. `Memory` where a page's bytes can't be had. What was written until then is no page
+/// file.
 pub fn migrate_with<I: Read, W: Write>(
     alloc: Global,
     reader: &mut I,
@@ -85,6 +93,8 @@ pub fn migrate_with<I: Read, W: Write>(
 ) -> Result<(), MigrateFault>
     ensures migrated { OnOk result (Migrates geometry.now (I.remaining reader.old)
         (I.remaining reader.new) (W.contents writer.old) (W.contents writer.new)) }
+    ensures cause { IfErr result (λ fault. OnWriteFault fault
+        (ReadsAFront geometry.now (I.remaining reader.old) (I.remaining reader.new))) }
 {
     migrate_told(alloc, reader, writer, geometry, &mut Untold)
 }

@@ -1,12 +1,15 @@
 //! Fixes that wait for the log, or for a victim.
+ghost use Rattle.std.specs.Prelude.{◌<◌};
+ghost use Rattle.bp_engine.specs.Logs.{RaisesWithin};
+
 use crate::making::{config, ports};
-use bp_core::{Call, RecordingKeeper};
+use bp_core::{Call, Pass, RecordingKeeper};
 use bp_device::{MemPort, Port};
 use bp_engine::{Leading, Log, Patience, fix_durably};
-use bp_page::{Lsn, Refusal};
+use bp_page::{Lsn, PageNo, Refusal};
 use bp_shared::{PoolName, SharedPool};
 use bp_totals::Totals;
-use bp_workers::{Client, Left, Upkeep, Worker, run_workers};
+use bp_workers::{Client, Left, LogWriter, Upkeep, Worker, run_workers};
 use std::alloc::Global;
 use std::process::Abort;
 use std::rt::HostRuntime;
@@ -21,15 +24,38 @@ use test_support::pools::{fix, give, write};
 struct Notes {
     asked: u64,
     times: u64,
+    durable: u64,
     is_broken: bool,
 }
 
 impl Log for Notes {
+    ghost durable_to = { λ n. n.durable };
+
     fn make_durable<R: Wait>(&mut self, _rt: &R, lsn: Lsn) -> bool {
         self.asked = lsn.number();
         self.times = self.times.saturating_add(1);
-        !self.is_broken
+        if !self.is_broken && self.durable < lsn.number() {
+            self.durable = lsn.number();
+        }
+        lsn.number() <= self.durable
     }
+}
+
+/// Fixes a page durably by this log and this mark. The mark is raised no further than the log is durable.
+fn fix_by<N: PoolName, P: Port, R: Wait>(
+    rt: &R,
+    pool: &SharedPool<N>,
+    client: &mut Client<N, P>,
+    log: &mut Notes,
+    writer: &mut LogWriter<N>,
+    page: PageNo,
+    patience: Patience,
+) -> Result<Pass, Refusal>
+    requires { page < N.parameters.pages }
+    ensures { RaisesWithin log.old.durable writer.old log.new.durable writer.new }
+{
+    let mut both = Leading::new(log, writer);
+    fix_durably(rt, pool, client, &mut both, page, patience)
 }
 
 /// Writes to page 0 under log record 5, and then wants page 1 durably, in a pool of one frame.
@@ -38,6 +64,8 @@ struct Waiter {
     alloc: Global,
     log: Notes,
     rounds: u32,
+    /// By how much the clock is moved.
+    steps: u64,
     /// Whether it holds the pass of page 0 meanwhile.
     holds: bool,
     is_fixed: bool,
@@ -93,11 +121,11 @@ impl<P: Port> Worker<P, RecordingKeeper> for Waiter {
         };
         let patience = Patience {
             rounds: self.rounds,
-            steps: 1,
+            steps: self.steps,
             pause: Duration::from_millis(1),
         };
-        let mut log = Leading::new(&mut self.log, &mut upkeep.log);
-        let fixed = match fix_durably(rt, pool, client, &mut log, second, patience) {
+        let writer = &mut upkeep.log;
+        let fixed = match fix_by(rt, pool, client, &mut self.log, writer, second, patience) {
             Ok(pass) => give(rt, pool, client, pass.note()),
             Err(refusal) => Err(refusal),
         };
@@ -109,6 +137,7 @@ impl<P: Port> Worker<P, RecordingKeeper> for Waiter {
 fn run<R: Abort + AllocGlobal + Threads + Wait + Sync>(
     rt: &R,
     rounds: u32,
+    steps: u64,
     holds: bool,
     is_broken: bool,
 ) -> Left<MemPort, Waiter> {
@@ -118,9 +147,11 @@ fn run<R: Abort + AllocGlobal + Threads + Wait + Sync>(
         log: Notes {
             asked: 0,
             times: 0,
+            durable: 0,
             is_broken,
         },
         rounds,
+        steps,
         holds,
         is_fixed: false,
         refused: None,
@@ -148,10 +179,11 @@ fn ticks(left: &Left<MemPort, Waiter>) -> usize {
 #[test]
 fn log_is_made_durable(rt: HostRuntime) {
     let rt = &rt;
-    let left = run(rt, 2, false, false);
+    let left = run(rt, 2, 1, false, false);
     assert!(rt; left.worker.is_fixed);
     assert_eq!(rt; left.worker.log.asked, 5);
     assert_eq!(rt; left.worker.log.times, 1);
+    assert_eq!(rt; left.worker.log.durable, 5);
     let totals = Totals::of(left.said());
     let wanted = Totals {
         hits: 0,
@@ -166,24 +198,29 @@ fn log_is_made_durable(rt: HostRuntime) {
     assert_eq!(rt; left.said().len(), 13);
 }
 
-/// A page that is held never leaves: each try is one entry, and the clock is moved once.
+/// A page that is held never leaves: each try is one entry, and the clock is moved once. A clock that cannot be moved so
+/// far ends the fix at once.
 #[test]
 fn held_page_stays(rt: HostRuntime) {
     let rt = &rt;
-    let left = run(rt, 3, true, false);
+    let left = run(rt, 3, 1, true, false);
     assert!(rt; !left.worker.is_fixed);
     assert_eq!(rt; left.worker.refused, Some(Refusal::NoVictim));
     assert_eq!(rt; left.worker.log.times, 0);
     assert_eq!(rt; Totals::of(left.said()).refused, 4);
     assert_eq!(rt; ticks(&left), 1);
     assert_eq!(rt; left.held, 1);
+    let left = run(rt, 3, 1 << 62, true, false);
+    assert_eq!(rt; left.worker.refused, Some(Refusal::ClockFull));
+    assert_eq!(rt; Totals::of(left.said()).refused, 1);
+    assert_eq!(rt; ticks(&left), 0);
 }
 
 /// A log that does not get durable ends the fix at once, whatever the rounds.
 #[test]
 fn broken_log_ends_the_fix(rt: HostRuntime) {
     let rt = &rt;
-    let left = run(rt, 1_000_000, false, true);
+    let left = run(rt, 1_000_000, 1, false, true);
     assert!(rt; !left.worker.is_fixed);
     assert_eq!(rt; left.worker.refused, Some(Refusal::NeedLog(Lsn::new(5))));
     assert_eq!(rt; left.worker.log.times, 1);

@@ -1,54 +1,59 @@
 -- Try after try.
-use Rattle.std.proofs.Common.{rules, arith, refl, ◌∙◌}
+use Rattle.std.proofs.Common.{arith, refl, ◌∙◌}
 use Rattle.bp_shared.proofs.Working.{none-yet}
-use Rattle.bp_engine.proofs.Trying.{leads-none, leads-more, leads-end, passes-known}
-use Rattle.bp_engine.proofs.Working.{work-on, goes-on-work}
+use Rattle.bp_engine.proofs.Raising.{raises-none, raises-then}
+use Rattle.bp_engine.proofs.Trying.{leads-none, leads-more, leads-fixed, leads-given_up, leads-end, goes-on-known, gives-up-known}
+use Rattle.bp_engine.proofs.Working.{work-on, goes-on-work, gives-up-work}
 use Rattle.bp_engine.proofs.durable.fix_durably.Goals as goal
 
 pub loop-round-init : goal.loop-round-init
-loop-round-init g c = record { client = refl; before = refl; free = refl; port = refl; leads = leads-none _ _ _ _; work = none-yet _ _ _ _ }
+loop-round-init g c = record { client = refl; before = refl; free = refl; port = refl; lent = refl; raises = raises-none _ _; leads = leads-none _ _ _ _ _ _; work = none-yet _ _ _ _ }
 
 pub loop-round-preserved : goal.loop-round-preserved
 loop-round-preserved g c =
     let i = c.loop-round.invariant in
-    let passes = c.overcome.ensures.passes (search rules) in
     let said = rw i.client at c.in-Err.ensures.outcome in
-    let goes = rw (c.fix.ensures.client ∙ i.client) at (c.overcome.ensures.goes_on (search rules)) in
+    let goes = rw (c.fix.ensures.client ∙ i.client) at c.in-Ok-overcome.ensures.goes_on in
+    let known = goes-on-known _ _ _ _ _ _ _ _ goes in
     record {
       client = c.overcome.ensures.client ∙ c.fix.ensures.client ∙ i.client;
       before = c.overcome.ensures.before ∙ c.fix.ensures.before ∙ i.before;
       free = c.overcome.ensures.free ∙ c.fix.ensures.free ∙ i.free;
       port = c.fix.ensures.port ∙ i.port;
-      leads = leads-more _ _ _ _ _ _ _ _ _ _ c.in-Err.refusal i.leads passes said goes;
-      work = goes-on-work _ _ _ _ _ _ _ _ _ _ _ (work-on _ _ _ _ _ _ _ _ i.work (c.in-Err.ensures.work (passes-known _ passes))) goes;
+      lent = c.overcome.ensures.lent ∙ i.lent;
+      raises = raises-then _ _ _ _ _ _ i.raises c.overcome.ensures.raises;
+      leads = leads-more _ _ _ _ _ _ _ _ _ _ _ _ _ c.in-Err.why i.leads c.overcome.ensures.raises.rises said goes;
+      work = goes-on-work _ _ _ _ _ _ _ _ _ _ _ _ _ (work-on _ _ _ _ _ _ _ _ i.work (c.in-Err.ensures.work known)) goes;
     }
 
 pub returns-in-Ok-clause-outcome : goal.returns-in-Ok-clause-outcome
 returns-in-Ok-clause-outcome g c =
     let i = c.loop-round.invariant in
-    leads-end _ _ _ _ _ _ _ _ _ _ i.leads (omega (arith, c.loop-round-test.true)) (rw i.client at c.in-Ok.ensures.outcome)
+    leads-fixed _ _ _ _ _ _ _ _ _ _ _ _ i.leads (omega (arith, c.loop-round-test.true)) (rw i.client at c.in-Ok.ensures.outcome)
 
 pub returns-in-Ok-clause-work : goal.returns-in-Ok-clause-work
 returns-in-Ok-clause-work g c =
     let i = c.loop-round.invariant in
     λ known. work-on _ _ _ _ _ _ _ _ i.work (c.in-Ok.ensures.work known)
 
-pub returns-then-not-overcome-clause-outcome : goal.returns-then-not-overcome-clause-outcome
-returns-then-not-overcome-clause-outcome g c =
+pub returns-in-Err-overcome-clause-outcome : goal.returns-in-Err-overcome-clause-outcome
+returns-in-Err-overcome-clause-outcome g c =
     let i = c.loop-round.invariant in
-    let same = c.overcome.ensures.gives_up (search rules) in
-    leads-end _ _ _ _ _ _ _ _ _ _ i.leads (omega (arith, c.loop-round-test.true)) (rw same (rw i.client at c.in-Err.ensures.outcome))
+    let ends = rw (c.fix.ensures.client ∙ i.client) at c.in-Err-overcome.ensures.gives_up in
+    leads-given_up _ _ _ _ _ _ _ _ _ _ _ _ _ _ _ i.leads c.loop-round-test.true c.overcome.ensures.raises.rises (rw i.client at c.in-Err.ensures.outcome) ends
 
-pub returns-then-not-overcome-clause-work : goal.returns-then-not-overcome-clause-work
-returns-then-not-overcome-clause-work g c =
+pub returns-in-Err-overcome-clause-work : goal.returns-in-Err-overcome-clause-work
+returns-in-Err-overcome-clause-work g c =
     let i = c.loop-round.invariant in
-    let same = c.overcome.ensures.gives_up (search rules) in
-    λ known. rw same (work-on _ _ _ _ _ _ _ _ i.work (c.in-Err.ensures.work known))
+    let ends = rw (c.fix.ensures.client ∙ i.client) at c.in-Err-overcome.ensures.gives_up in
+    let client = c.args.client.now.session.client in
+    let steps = c.args.patience.steps in
+    λ known. gives-up-work _ _ client steps _ _ _ _ _ _ _ _ _ (work-on _ _ _ _ _ _ _ _ i.work (c.in-Err.ensures.work (gives-up-known client steps _ _ _ _ _ _ ends known))) ends
 
 pub returns-clause-outcome : goal.returns-clause-outcome
 returns-clause-outcome g c =
     let i = c.loop-round.invariant in
-    leads-end _ _ _ _ _ _ _ _ _ _ i.leads (omega (arith, c.loop-round.auto._round-end)) (rw i.client at c.fix-2.ensures.outcome)
+    leads-end _ _ _ _ _ _ _ _ _ _ _ _ i.leads (omega (arith, c.loop-round.auto._round-end, c.loop-round-test.false)) (rw i.client at c.fix-2.ensures.outcome)
 
 pub returns-clause-work : goal.returns-clause-work
 returns-clause-work g c =

@@ -1,7 +1,7 @@
 -- One page more.
 use Rattle.std.proofs.Common.{rules, ◌≡◌, subst, length}
 use Rattle.bp_migrate.specs.Files.{MigratesPage}
-use Rattle.bp_migrate.proofs.Steps.{copies-more}
+use Rattle.bp_migrate.proofs.Steps.{copies-more, fails-after}
 use Rattle.bp_migrate.proofs.migration.migrate_told.Goals as goal
 
 pub loop-page-preserved : goal.loop-page-preserved
@@ -16,3 +16,13 @@ loop-page-preserved g c =
           (subst (λ p. MigratesPage p image (r c.loop-page.reader) (r c.migrate_page.new.reader) (w c.loop-page.writer) (w c.migrate_page.new.writer)) c.new-number.ensures c.in-Ok-migrate_page.ensures.migrated),
       c.loop-page.invariant.1,
     )
+
+pub returns-in-Err-clause-cause : goal.returns-in-Err-clause-cause
+returns-in-Err-clause-cause g c =
+    let r = g.I.Read.remaining in
+    let w = g.W.Write.contents in
+    let size = c.args.geometry.now.size in
+    let image = c.migrate_page.new.buffer in
+    let fits : length image ≡ size = search rules in
+    fails-after c.loop-page.page c.args.geometry.now.pages size image (r c.args.reader.now) (r c.loop-page.reader) (r c.migrate_page.new.reader) (w c.args.writer.now) (w c.loop-page.writer)
+    c.in-Err.fault c.loop-page.invariant.0 c.loop-page-test.true fits c.in-Err.ensures.cause
