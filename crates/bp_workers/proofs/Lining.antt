@@ -1,19 +1,19 @@
 -- Lists side by side: workers, their jobs and what these leave.
-use Rattle.std.proofs.Common.{◌≡◌, refl, sym, ◌∙◌, ap, subst, ℕ, zero, suc, ◌+◌, ◌<◌, arith, List, [], ◌∷◌, ◌++◌, All, length, take, drop, get_or, Option, Some, None}
-use Rattle.std.specs.Prelude.{IsSome}
+use Rattle.std.proofs.Common.{◌≡◌, refl, sym, ◌∙◌, ap, subst, ℕ, zero, suc, ◌+◌, ◌<◌, true, false, arith, List, [], ◌∷◌, ◌++◌, All, length, take, drop, get_or, Option, Some, None}
+use Rattle.std.specs.Prelude.{IsSome, is_some, zip}
 use Rattle.std.proofs.lemmas.List.{append_assoc, append-nil}
 use Rattle.std.proofs.lemmas.List.Elements.{All-nil, All-cons}
 use Rattle.bp_page.specs.declared.limits.Geometry.{Geometry}
 use Rattle.bp_trail.specs.Parameters.{Parameters}
-use Rattle.bp_trail.specs.Trail.{Trail}
 use Rattle.bp_trail.specs.Script.{held_passes}
+use Rattle.bp_core.specs.CoreView.{CoreView}
 use Rattle.bp_shared.specs.Sessions.{SessionValue, new_session, new_sessions}
 use Rattle.bp_workers.specs.declared.worker.Left.{Left}
 use Rattle.bp_workers.specs.Giving.{GoBack}
 use Rattle.bp_workers.specs.Lists.{SideBySide}
-use Rattle.bp_workers.specs.Workers.{UpkeepValue, new_upkeep}
-use Rattle.bp_workers.specs.Jobs.{JobValue, IsReady, Ran, IsLeftOf, taken_by, taken_of}
-use Rattle.bp_workers.specs.Runs.{IsNewJob, LeftBy}
+use Rattle.bp_workers.specs.Workers.{UpkeepValue, new_upkeep, Leaving}
+use Rattle.bp_workers.specs.Jobs.{IsOfPool, JobValue, IsReady, Ran, IsLeftOf, first_upkeep}
+use Rattle.bp_workers.specs.Runs.{IsNewJob, KeepsUp, LeftBy}
 
 pub as_long : {A B : Type 0} (P : ℕ → A → B → Type 0) (n : ℕ) (xs : List A) (ys : List B) → SideBySide P n xs ys → length xs ≡ length ys
 as_long P n [] [] each = refl
@@ -74,77 +74,99 @@ next_session n m left sessions rest s are begins some =
 
 -- ---- jobs
 
-pub all_ready : {W : Type 0} (n : ℕ) (workers : List W) (jobs : List (JobValue W)) → SideBySide IsNewJob n workers jobs → All IsReady jobs
+-- workers and ports one by one
+pub one_of_each : {W P : Type 0} (ws later : List W) (ps rest : List P) (w : W) (p : P) → ws ≡ w ∷ later → ps ≡ p ∷ rest → zip ws ps ≡ (w, p) ∷ zip later rest
+one_of_each ws later ps rest w p first second = ap (λ xs. zip xs ps) first ∙ ap (λ ys. zip (w ∷ later) ys) second
+
+pub none_of_each : {W P : Type 0} (ws : List W) (ps : List P) → length ws ≡ 0 → length (zip ws ps) ≡ 0
+none_of_each [] ps none = refl
+none_of_each (w ∷ ws) ps none = absurd (omega (arith, none))
+
+pub as_many : {W P : Type 0} (ws : List W) (ps : List P) → length ps ≡ length ws → length (zip ws ps) ≡ length ws
+as_many [] ps same = refl
+as_many (w ∷ ws) [] same = absurd (omega (arith, same))
+as_many (w ∷ ws) (p ∷ ps) same = ap suc (as_many ws ps (omega (arith, same)))
+
+pub all_ready : {W P : Type 0} (n : ℕ) (given : List (W × P)) (jobs : List (JobValue W P)) → SideBySide IsNewJob n given jobs → All IsReady jobs
 all_ready n [] [] each = All-nil IsReady
-all_ready n (w ∷ workers) (j ∷ jobs) each =
+all_ready n (x ∷ given) (j ∷ jobs) each =
     let new = each.0 in
     let client : n ≡ j.session.client = sym (ap (λ s. s.client) new.session) in
     All-cons IsReady j jobs (record {
       new = new.session ∙ ap new_session client;
       upkeep = new.upkeep ∙ ap new_upkeep client;
-    }) (all_ready (suc n) workers jobs each.1)
+    }) (all_ready (suc n) given jobs each.1)
 all_ready n [] (j ∷ jobs) each = absurd each
-all_ready n (w ∷ workers) [] each = absurd each
+all_ready n (x ∷ given) [] each = absurd each
 
-taken_first : (upkeep : Option UpkeepValue) → upkeep ≡ new_upkeep 0 → IsSome (taken_of upkeep)
-taken_first None is = absurd (let no = is in cc)
-taken_first (Some u) is = refl
+has_upkeep : (upkeep : Option UpkeepValue) → upkeep ≡ new_upkeep 0 → IsSome upkeep
+has_upkeep None is = absurd (let no = is in cc)
+has_upkeep (Some u) is = refl
 
-pub first_takes : {W : Type 0} (workers : List W) (jobs : List (JobValue W)) → SideBySide IsNewJob 0 workers jobs → 0 < length workers → IsSome (taken_by jobs)
-first_takes [] jobs each some = absurd (omega (arith, some))
-first_takes (w ∷ workers) [] each some = absurd each
-first_takes (w ∷ workers) (j ∷ jobs) each some = taken_first j.upkeep each.0.upkeep
-
-still_some : (old new : Option UpkeepValue) → (IsSome old → IsSome new) → IsSome (taken_of old) → IsSome (taken_of new)
-still_some None new keeps is = absurd (let no = is in cc)
-still_some (Some u) None keeps is = keeps refl
-still_some (Some u) (Some v) keeps is = refl
+pub first_keeps : {W P : Type 0} (given : List (W × P)) (jobs : List (JobValue W P)) → SideBySide IsNewJob 0 given jobs → 0 < length given → IsSome (first_upkeep jobs)
+first_keeps [] jobs each some = absurd (omega (arith, some))
+first_keeps (x ∷ given) [] each some = absurd each
+first_keeps (x ∷ given) (j ∷ jobs) each some = has_upkeep j.upkeep each.0.upkeep
 
 -- each job ran
-abbrev pub EachRan : {W : Type 0} → (ℕ → W → W → SessionValue → Option UpkeepValue → Type 0) → List (JobValue W) → List (JobValue W) → Type 0
+abbrev pub EachRan : {W P : Type 0} → Leaving W P → List (JobValue W P) → List (JobValue W P) → Type 0
 EachRan Leaves olds news = (k : ℕ) (d : _) → k < length olds → Ran Leaves (get_or olds k d) (get_or news k d)
 
-pub still_takes : {W : Type 0} (Leaves : ℕ → W → W → SessionValue → Option UpkeepValue → Type 0) (olds news : List (JobValue W)) → length news ≡ length olds → EachRan Leaves olds news → IsSome (taken_by olds) → IsSome (taken_by news)
-still_takes Leaves [] news len ran is = absurd (let no = is in cc)
-still_takes Leaves (j ∷ olds) [] len ran is = absurd (omega (arith, len))
-still_takes Leaves (j ∷ olds) (k ∷ news) len ran is = still_some j.upkeep k.upkeep (ran 0 j (omega arith)).upkeep is
+pub still_keeps : {W P : Type 0} (Leaves : Leaving W P) (olds news : List (JobValue W P)) → length news ≡ length olds → EachRan Leaves olds news → IsSome (first_upkeep olds) → IsSome (first_upkeep news)
+still_keeps Leaves [] news len ran is = absurd (let no = is in cc)
+still_keeps Leaves (j ∷ olds) [] len ran is = absurd (omega (arith, len))
+still_keeps Leaves (j ∷ olds) (k ∷ news) len ran is = (ran 0 j (omega arith)).upkeep ∙ is
 
--- what one job left is what its client's worker left
-left_by : {W P K I B S : Type 0} (p : Parameters) (geometry_of : P → Geometry) (Leaves : ℕ → W → W → SessionValue → Option UpkeepValue → Type 0) (before : Trail) (client : ℕ) (worker : W) (old new : JobValue W) (left : Left P W K I B S)
-    → IsNewJob client worker old → Ran Leaves old new → IsLeftOf p geometry_of new left → (client ≡ 0 → taken_of new.upkeep ≡ Some before) → LeftBy p geometry_of Leaves before client worker left
-left_by p geometry_of Leaves before client worker old new left is ran leaves taken = record {
-  returned = ran.returned;
-  upkeep = new.upkeep;
-  leaves = subst (λ (c : ℕ). Leaves c worker left.worker ran.returned new.upkeep) (ap (λ (s : SessionValue). s.client) is.session)
-      (subst (λ w. Leaves old.session.client w left.worker ran.returned new.upkeep) is.worker_is (subst (λ w. Leaves old.session.client old.worker w ran.returned new.upkeep) (sym leaves.worker) ran.leaves));
-  taken = taken;
-  of_pool = leaves.of_pool;
-  client_is = leaves.client ∙ ran.client;
-  held = leaves.held ∙ ran.held;
-  back = subst (GoBack ran.returned.said) (sym leaves.said) ran.back;
-  settled = (λ yes. ap held_passes leaves.said ∙ ran.settled.0 (sym leaves.settled ∙ yes), λ none. leaves.settled ∙ ran.settled.1 (sym (ap held_passes leaves.said) ∙ none));
-  cut = leaves.before ∙ ran.before;
-}
+-- only client 0 has the upkeep, and what it came to is known of that
+keeps_at : (core : CoreView) (n : ℕ) (old new : Option UpkeepValue) → old ≡ new_upkeep n → is_some new ≡ is_some old → (n ≡ 0 → KeepsUp core 0 new) → KeepsUp core n new
+keeps_at core zero old new given same first = first refl
+keeps_at core (suc n) old None given same first = tt
+keeps_at core (suc n) old (Some u) given same first = absurd (let no : true ≡ false = same ∙ ap (λ (o : Option UpkeepValue). is_some o) given in cc)
 
-each_left : {W P K I B S : Type 0} (p : Parameters) (geometry_of : P → Geometry) (Leaves : ℕ → W → W → SessionValue → Option UpkeepValue → Type 0) (before : Trail) (n : ℕ) (workers : List W) (olds news : List (JobValue W)) (lefts : List (Left P W K I B S))
-    → SideBySide IsNewJob n workers olds → length news ≡ length olds → EachRan Leaves olds news → SideBySide (λ _. IsLeftOf p geometry_of) n news lefts → (n ≡ 0 → 0 < length news → taken_by news ≡ Some before) → SideBySide (LeftBy p geometry_of Leaves before) n workers lefts
-each_left p geometry_of Leaves before n [] [] [] [] new len ran left taken = tt
-each_left p geometry_of Leaves before n (w ∷ workers) (o ∷ olds) (j ∷ news) (l ∷ lefts) new len ran left taken = (
-  left_by p geometry_of Leaves before n w o j l new.0 (ran 0 j (omega arith)) left.0 (λ none. taken none (omega arith)),
-  each_left p geometry_of Leaves before (suc n) workers olds news lefts new.1 (omega (arith, len)) (λ k d below. ran (suc k) d (omega (arith, below))) left.1 (λ none _. absurd (omega (arith, none))),
+-- what one job left is what is left of its client
+left_by : {W P K I B S : Type 0} (p : Parameters) (geometry_of : P → Geometry) (core : CoreView) (Leaves : Leaving W P) (client : ℕ) (given : W × P) (old new : JobValue W P) (left : Left P W K I B S)
+    → IsNewJob client given old → Ran Leaves old new → IsLeftOf p geometry_of new left → p ≡ core.parameters → (client ≡ 0 → KeepsUp core 0 new.upkeep) → LeftBy core geometry_of Leaves client given left
+left_by p geometry_of core Leaves client given old new left is ran leaves same keeps =
+    let own : old.session.client ≡ client = ap (λ (s : SessionValue). s.client) is.session in
+    record {
+      returned = ran.returned;
+      upkeep = new.upkeep;
+      leaves =
+          subst (λ (c : ℕ). Leaves c given.0 given.1 left.worker left.port ran.returned new.upkeep) own
+          (subst (λ w. Leaves old.session.client w given.1 left.worker left.port ran.returned new.upkeep) is.worker_is
+          (subst (λ q. Leaves old.session.client old.worker q left.worker left.port ran.returned new.upkeep) is.port_is
+          (subst (λ w. Leaves old.session.client old.worker old.port w left.port ran.returned new.upkeep) (sym leaves.worker)
+          (subst (λ q. Leaves old.session.client old.worker old.port new.worker q ran.returned new.upkeep) (sym leaves.port) ran.leaves))));
+      keeps_up = keeps_at core client old.upkeep new.upkeep is.upkeep ran.upkeep keeps;
+      of_pool = subst (λ q. IsOfPool q (geometry_of left.port)) same leaves.of_pool;
+      whose = leaves.client ∙ ran.whose ∙ own;
+      client_is = leaves.client ∙ ran.client;
+      held = leaves.held ∙ ran.held;
+      back = subst (GoBack ran.returned.said) (sym leaves.said) ran.back;
+      settled = (λ yes. ap held_passes leaves.said ∙ ran.settled.0 (sym leaves.settled ∙ yes), λ none. leaves.settled ∙ ran.settled.1 (sym (ap held_passes leaves.said) ∙ none));
+      cut = leaves.before ∙ ran.before;
+    }
+
+each_left : {W P K I B S : Type 0} (p : Parameters) (geometry_of : P → Geometry) (core : CoreView) (Leaves : Leaving W P) (n : ℕ) (given : List (W × P)) (olds news : List (JobValue W P)) (lefts : List (Left P W K I B S))
+    → SideBySide IsNewJob n given olds → length news ≡ length olds → EachRan Leaves olds news → SideBySide (λ _. IsLeftOf p geometry_of) n news lefts → p ≡ core.parameters
+    → (n ≡ 0 → 0 < length news → KeepsUp core 0 (first_upkeep news)) → SideBySide (LeftBy core geometry_of Leaves) n given lefts
+each_left p geometry_of core Leaves n [] [] [] [] new len ran left same keeps = tt
+each_left p geometry_of core Leaves n (x ∷ given) (o ∷ olds) (j ∷ news) (l ∷ lefts) new len ran left same keeps = (
+  left_by p geometry_of core Leaves n x o j l new.0 (ran 0 j (omega arith)) left.0 same (λ none. keeps none (omega arith)),
+  each_left p geometry_of core Leaves (suc n) given olds news lefts new.1 (omega (arith, len)) (λ k d below. ran (suc k) d (omega (arith, below))) left.1 same (λ none _. absurd (omega (arith, none))),
 )
-each_left p geometry_of Leaves before n [] (o ∷ olds) news lefts new len ran left taken = absurd new
-each_left p geometry_of Leaves before n (w ∷ workers) [] news lefts new len ran left taken = absurd new
-each_left p geometry_of Leaves before n [] [] (j ∷ news) lefts new len ran left taken = absurd (omega (arith, len))
-each_left p geometry_of Leaves before n [] [] [] (l ∷ lefts) new len ran left taken = absurd left
-each_left p geometry_of Leaves before n (w ∷ workers) (o ∷ olds) [] lefts new len ran left taken = absurd (omega (arith, len))
-each_left p geometry_of Leaves before n (w ∷ workers) (o ∷ olds) (j ∷ news) [] new len ran left taken = absurd left
+each_left p geometry_of core Leaves n [] (o ∷ olds) news lefts new len ran left same keeps = absurd new
+each_left p geometry_of core Leaves n (x ∷ given) [] news lefts new len ran left same keeps = absurd new
+each_left p geometry_of core Leaves n [] [] (j ∷ news) lefts new len ran left same keeps = absurd (omega (arith, len))
+each_left p geometry_of core Leaves n [] [] [] (l ∷ lefts) new len ran left same keeps = absurd left
+each_left p geometry_of core Leaves n (x ∷ given) (o ∷ olds) [] lefts new len ran left same keeps = absurd (omega (arith, len))
+each_left p geometry_of core Leaves n (x ∷ given) (o ∷ olds) (j ∷ news) [] new len ran left same keeps = absurd left
 
-pub all_left_by : {W P K I B S : Type 0} (p : Parameters) (geometry_of : P → Geometry) (q : Parameters) (Leaves : ℕ → W → W → SessionValue → Option UpkeepValue → Type 0) (taken before : Trail) (workers : List W) (olds news : List (JobValue W)) (lefts : List (Left P W K I B S))
-    → SideBySide IsNewJob 0 workers olds → length news ≡ length olds → EachRan Leaves olds news → SideBySide (λ _. IsLeftOf p geometry_of) 0 news lefts → taken_by news ≡ Some taken → before ≡ taken → p ≡ q → SideBySide (LeftBy q geometry_of Leaves before) 0 workers lefts
-all_left_by p geometry_of q Leaves taken before workers olds news lefts new len ran left is whole same =
-    subst (λ q. SideBySide (LeftBy q geometry_of Leaves before) 0 workers lefts) same
-    (each_left p geometry_of Leaves before 0 workers olds news lefts new len ran left (λ _ _. is ∙ ap Some (sym whole)))
+pub all_left_by : {W P K I B S : Type 0} (p : Parameters) (geometry_of : P → Geometry) (core : CoreView) (Leaves : Leaving W P) (u : UpkeepValue) (given : List (W × P)) (olds news : List (JobValue W P)) (lefts : List (Left P W K I B S))
+    → SideBySide IsNewJob 0 given olds → length news ≡ length olds → EachRan Leaves olds news → SideBySide (λ _. IsLeftOf p geometry_of) 0 news lefts → p ≡ core.parameters
+    → first_upkeep news ≡ Some u → KeepsUp core 0 (Some u) → SideBySide (LeftBy core geometry_of Leaves) 0 given lefts
+all_left_by p geometry_of core Leaves u given olds news lefts new len ran left same first keeps =
+    each_left p geometry_of core Leaves 0 given olds news lefts new len ran left same (λ _ _. subst (KeepsUp core 0) (sym first) keeps)
 
 -- a slice that is written back to the vector that lent it
 pub lent_back : {J : Type 0} (n : ℕ) (new old : List J) → length new ≡ n → take n (new ++ drop (length new) old) ≡ new

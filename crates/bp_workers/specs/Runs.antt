@@ -1,18 +1,19 @@
 -- What holds after a run of workers.
-use Rattle.std.specs.Prelude.{◌≡◌, ◌↔◌, ℕ, ◌≤◌, true, All, List, [], length, Option, Some, Result, Ok, Err}
+use Rattle.std.specs.Prelude.{◌≡◌, ◌↔◌, ℕ, ◌≤◌, zero, suc, true, All, List, [], length, Option, Some, None, Result, Ok, Err}
 use Rattle.bp_page.specs.declared.limits.Geometry.{Geometry}
 use Rattle.bp_page.specs.declared.refusals.Refusal.{Refusal}
 use Rattle.bp_page.specs.declared.refusals.Refusal.TheVariants as refusal
 use Rattle.bp_trail.specs.Parameters.{Parameters}
-use Rattle.bp_trail.specs.Trail.{Trail}
+use Rattle.bp_trail.specs.Clock.{durable}
 use Rattle.bp_trail.specs.Script.{held_passes}
+use Rattle.bp_core.specs.CoreView.{CoreView}
 use Rattle.bp_core.specs.Outcomes.{IsFitUpTo}
 use Rattle.bp_shared.specs.Sessions.{SessionValue, new_session}
 use Rattle.bp_workers.specs.declared.run.Config.{Config}
 use Rattle.bp_workers.specs.declared.worker.Left.{Left}
 use Rattle.bp_workers.specs.Giving.{GoBack}
-use Rattle.bp_workers.specs.Workers.{UpkeepValue, new_upkeep}
-use Rattle.bp_workers.specs.Jobs.{IsOfPool, JobValue, taken_of}
+use Rattle.bp_workers.specs.Workers.{UpkeepValue, new_upkeep, Leaving}
+use Rattle.bp_workers.specs.Jobs.{IsOfPool, JobValue}
 
 -- what the core of a run is made with
 abbrev pub run_parameters : Config → ℕ → Parameters
@@ -50,22 +51,34 @@ RunAnswers can_run (Err refusal.BadSettings) = ¬ can_run
 RunAnswers can_run (Err refusal.OutOfMemory) = can_run
 RunAnswers can_run (Err _) = ⊥
 
--- what a client's worker left, by its own word; then the passes go back that it held; the list of the session that it left is handed over, less
--- what was cut; its port is still one to the pool's pages; and what client 0's worker had taken of the trail is what comes before the core's
-pub record LeftBy {P W K I B S : Type 0} (p : Parameters) (geometry_of : P → Geometry) (Leaves : ℕ → W → W → SessionValue → Option UpkeepValue → Type 0) (before : Trail) (client : ℕ) (given : W) (left : Left P W K I B S) : Type 0 where
+-- client 0 alone has the upkeep still: what was taken is all that the core handed out, and the core was told of no LSN
+-- above what the mark was raised to
+abbrev pub KeepsUp : CoreView → ℕ → Option UpkeepValue → Type 0
+KeepsUp core zero None = ⊥
+KeepsUp core zero (Some u) = (u.taken ≡ core.before) × (durable core.past ≤ u.raised)
+KeepsUp core (suc client) None = Unit {0}
+KeepsUp core (suc client) (Some u) = ⊥
+
+-- what a client's worker left of itself and of the port that it was given, by its own word, and what client 0's upkeep
+-- came to; the port is still one to the pool's pages; the book is the client's. Then the passes go back that it held,
+-- and the session's list is handed over, less what was cut
+pub record LeftBy {P W K I B S : Type 0} (core : CoreView) (geometry_of : P → Geometry) (Leaves : Leaving W P)
+    (client : ℕ) (given : W × P) (left : Left P W K I B S) : Type 0 where
   pub returned : SessionValue
   pub upkeep : Option UpkeepValue
-  pub leaves : Leaves client given left.worker returned upkeep
-  pub taken : client ≡ 0 → taken_of upkeep ≡ Some before
-  pub of_pool : IsOfPool p (geometry_of left.port)
+  pub leaves : Leaves client given.0 given.1 left.worker left.port returned upkeep
+  pub keeps_up : KeepsUp core client upkeep
+  pub of_pool : IsOfPool core.parameters (geometry_of left.port)
+  pub whose : left.book.client ≡ client
   pub client_is : left.book.client ≡ returned.client
   pub held : left.held ≡ length (held_passes returned.said)
   pub back : GoBack returned.said left.book.said
   pub settled : (left.is_settled ≡ true) ↔ (held_passes left.book.said ≡ [])
   pub cut : left.book.before ≡ returned.before
 
--- the job of a client's worker, before its thread
-pub record IsNewJob {W : Type 0} (client : ℕ) (worker : W) (j : JobValue W) : Type 0 where
-  pub worker_is : j.worker ≡ worker
+-- the job of a client's worker over its port, before its thread
+pub record IsNewJob {W P : Type 0} (client : ℕ) (given : W × P) (j : JobValue W P) : Type 0 where
+  pub worker_is : j.worker ≡ given.0
+  pub port_is : j.port ≡ given.1
   pub session : j.session ≡ new_session client
   pub upkeep : j.upkeep ≡ new_upkeep client

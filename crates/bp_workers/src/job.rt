@@ -22,10 +22,11 @@ impl<N: PoolName, P: Port, K: ListKeeper, W: Worker<P, K>> Model for Job<N, P, K
     ghost use Rattle.bp_workers.specs.Workers.{held_upkeep};
     ghost use Rattle.bp_workers.specs.Jobs.{JobValue};
 
-    ghost Value = { JobValue W };
+    ghost Value = { JobValue W P };
 
     ghost view = { λ j. record {
       worker = j.worker;
+      port = j.client.port;
       session = j.client.session;
       upkeep = held_upkeep j.upkeep;
       held = j.held;
@@ -44,6 +45,7 @@ impl<N: PoolName, P: Port, K: ListKeeper, W: Worker<P, K>> Job<N, P, K, W> {
         upkeep: Option<Upkeep<N>>,
     ) -> Job<N, P, K, W>
         ensures worker { result.worker ≡ worker }
+        ensures port { result.port ≡ client.port }
         ensures session { result.session ≡ client.session }
         ensures upkeep { result.upkeep ≡ held_upkeep upkeep }
     {

@@ -55,4 +55,13 @@ impl<N: PoolName> LogWriter<N> {
     {
         self.end.raise(pool.mark(), lsn);
     }
+
+    /// The log end, with which the pool's mark is to be closed.
+    pub(crate) fn into_log_end(self) -> LogEnd
+        ensures mark { result.mark ≡ N.mark }
+        ensures frontier { result.frontier ≡ self }
+    {
+        let LogWriter { end, of: _ } = self;
+        end
+    }
 }

@@ -1,11 +1,11 @@
 //! A run: one thread for each worker.
 ghost use Rattle.std.specs.Prelude.{◌≡◌, ◌<◌, ◌≤◌, ◌↔◌, ℕ, [], length, IfOk, OnErr, Some, IsSome, IsTrue};
-ghost use Rattle.std.specs.Prelude.{All, vec_len, vec_capacity, slice_index_or};
+ghost use Rattle.std.specs.Prelude.{All, zip, vec_len, vec_capacity, slice_index_or};
 ghost use Rattle.bp_page.specs.declared.refusals.Refusal.TheVariants as Refusal;
 ghost use Rattle.bp_trail.specs.Legal.{Legal};
 ghost use Rattle.bp_shared.specs.Sessions.{new_sessions};
 ghost use Rattle.bp_workers.specs.Workers.{upkeep_value, unused_upkeep};
-ghost use Rattle.bp_workers.specs.Jobs.{IsReady, Ran, IsLeftOf, IsOfPool, taken_by};
+ghost use Rattle.bp_workers.specs.Jobs.{IsReady, Ran, IsLeftOf, IsOfPool, first_upkeep};
 ghost use Rattle.bp_workers.specs.Lists.{SideBySide};
 ghost use Rattle.bp_workers.specs.Runs.{run_parameters, FitTogether, CanRun, CanRunUpTo, RunAnswers, LeftBy, IsNewJob};
 
@@ -19,7 +19,7 @@ use bp_keeper::{ListKeeper, RecordingKeeper};
 use bp_lruk::Settings;
 use bp_mark::{LogEnd, Mark, Reader};
 use bp_page::{Geometry, Refusal};
-use bp_shared::{PoolName, Session, SharedPool, Taker, TrailRing};
+use bp_shared::{PoolName, Session, SharedPool, TrailRing};
 use std::alloc::Global;
 use std::marker::{Brand, Send, Sync};
 use std::sync::Wait;
@@ -57,7 +57,8 @@ fn make_jobs<N: PoolName, P: Port, K: ListKeeper, W: Worker<P, K>>(
     requires ports { vec_len ports ≡ vec_len workers }
     requires of_pool { All (λ p. IsOfPool N.parameters (P.geometry_of p)) ports.items }
     requires unused { upkeep_value upkeep ≡ unused_upkeep }
-    ensures jobs { IfOk result (λ jobs. SideBySide IsNewJob 0 workers.items jobs.items) }
+    ensures jobs { IfOk result (λ jobs.
+        SideBySide IsNewJob 0 (zip workers.items ports.items) jobs.items) }
     ensures refused { OnErr result (result ≡ Err Refusal.OutOfMemory) }
 {
     let mut jobs = Vec::new(alloc);
@@ -98,15 +99,15 @@ fn run_jobs<
     thread::for_each_mut(rt, jobs, count, &|_, job| job.run(rt, pool));
 }
 
-/// What the jobs left, and the taker that the first had. There is room for it, so that no memory is taken.
+/// What the jobs left, and the upkeep that the first had. There is room for it, so that no memory is taken.
 fn all_left<N: PoolName, P: Port, K: ListKeeper, W: Worker<P, K>>(
     jobs: Vec<Job<N, P, K, W>>,
     left: Vec<Left<P, W, K>>,
-) -> (Taker<N>, Vec<Left<P, W, K>>)
-    requires upkeep { IsSome (taken_by jobs.items) }
+) -> (Upkeep<N>, Vec<Left<P, W, K>>)
+    requires upkeep { IsSome (first_upkeep jobs.items) }
     requires empty { left.items ≡ [] }
     requires room { vec_len jobs ≤ vec_capacity left }
-    ensures taken { taken_by jobs.items ≡ Some result.0.past }
+    ensures upkeep { first_upkeep jobs.items ≡ Some (upkeep_value result.0) }
     ensures left { SideBySide (λ _. IsLeftOf N.parameters P.geometry_of) 0 jobs.items
         result.1.items }
 {
@@ -116,15 +117,13 @@ fn all_left<N: PoolName, P: Port, K: ListKeeper, W: Worker<P, K>>(
         unreachable!()
     };
     let (one, upkeep) = first.into_left();
-    let Some(Upkeep { log: _, taker }) = upkeep else {
-        unreachable!()
-    };
+    let Some(upkeep) = upkeep else { unreachable!() };
     left.push_reserved(one);
     for job in jobs {
         let (one, _) = job.into_left();
         left.push_reserved(one);
     }
-    (taker, left)
+    (upkeep, left)
 }
 
 /// Runs the jobs, each in a thread of its own, and ends the pool. The memory for what they leave is taken before any
@@ -143,11 +142,10 @@ fn run_pool<
 ) -> Result<Run<P, W, K>, Refusal>
     requires some { 0 < vec_len jobs }
     requires ready { All IsReady jobs.items }
-    requires upkeep { IsSome (taken_by jobs.items) }
+    requires upkeep { IsSome (first_upkeep jobs.items) }
     ensures parameters { IfOk result (λ run. run.core.parameters ≡ N.parameters) }
-    ensures left { (workers : _) → SideBySide IsNewJob 0 workers jobs.items → IfOk result (λ run.
-        SideBySide (LeftBy run.core.parameters P.geometry_of W.leaves run.core.before) 0 workers
-        run.left.items) }
+    ensures left { (given : _) → SideBySide IsNewJob 0 given jobs.items → IfOk result (λ run.
+        SideBySide (LeftBy run.core P.geometry_of W.leaves) 0 given run.left.items) }
     ensures refused { OnErr result (result ≡ Err Refusal.OutOfMemory) }
 {
     let Ok(left) = Vec::with_capacity(alloc, jobs.len()) else {
@@ -155,8 +153,11 @@ fn run_pool<
     };
     let mut jobs = jobs;
     run_jobs(rt, &pool, jobs.as_mut_slice());
-    let (taker, left) = all_left(jobs, left);
-    let (core, _, _) = pool.finish(taker);
+    let (upkeep, left) = all_left(jobs, left);
+    let Upkeep { log, taker } = upkeep;
+    let (core, mark, reader) = pool.finish(taker);
+    // The mark's last word bounds what its reader has seen, and so what the core was told.
+    mark.close(log.into_log_end(), reader);
     Ok(Run { core, left })
 }
 
@@ -188,8 +189,8 @@ fn run_named<
     requires of_pool { All (λ p. IsOfPool N.parameters (P.geometry_of p)) ports.items }
     ensures parameters { IfOk result (λ run. run.core.parameters ≡ N.parameters) }
     ensures left { IfOk result (λ run.
-        SideBySide (LeftBy run.core.parameters P.geometry_of W.leaves run.core.before) 0
-        workers.items run.left.items) }
+        SideBySide (LeftBy run.core P.geometry_of W.leaves) 0
+        (zip workers.items ports.items) run.left.items) }
     ensures refused { OnErr result (result ≡ Err Refusal.OutOfMemory) }
 {
     let (mark, end, reader) = parts;
@@ -257,8 +258,8 @@ fn fit_together<P: Port>(config: &Config, ports: &[P], workers: usize) -> bool
 /// returned, and gives back the passes that they still hold. The pool is of the kind that K says.
 ///
 /// It takes 1 to 64 workers, and as many ports on devices of the configuration's geometry. At `Ok` each worker did its
-/// work, and what it left stands at its place. The core's entries, those that were cut and its trail, are one legal
-/// history.
+/// work, and at its place stand the worker, its own port, and the book of its client's session. The core's entries,
+/// those that were cut and its trail, are one legal history, in which no mark is above what client 0 raised it to.
 ///
 /// `BadSettings` where the workers are not 1 to 64, the ports are not as many or one is of another geometry, the frames
 /// are not 1 to 65,536 or the room not 1 to its keeper's most, which is 16,777,216 entries in memory, or a count of
@@ -276,8 +277,8 @@ pub fn run_workers_over<K: Kind, P: Port + Send, W: Worker<P, K> + Send, R: Thre
     ensures parameters { IfOk result (λ run.
         run.core.parameters ≡ run_parameters config (vec_len workers)) }
     ensures left { IfOk result (λ run.
-        SideBySide (LeftBy run.core.parameters P.geometry_of W.leaves run.core.before) 0
-        workers.items run.left.items) }
+        SideBySide (LeftBy run.core P.geometry_of W.leaves) 0
+        (zip workers.items ports.items) run.left.items) }
     ensures answers { RunAnswers (CanRunUpTo K.MOST_ROOM P.geometry_of config ports.items
         (vec_len workers)) result }
 {
@@ -321,8 +322,8 @@ pub fn run_workers<P: Port + Send, W: Worker<P, RecordingKeeper> + Send, R: Thre
     ensures parameters { IfOk result (λ run.
         run.core.parameters ≡ run_parameters config (vec_len workers)) }
     ensures left { IfOk result (λ run.
-        SideBySide (LeftBy run.core.parameters P.geometry_of W.leaves run.core.before) 0
-        workers.items run.left.items) }
+        SideBySide (LeftBy run.core P.geometry_of W.leaves) 0
+        (zip workers.items ports.items) run.left.items) }
     ensures answers { RunAnswers (CanRun P.geometry_of config ports.items
         (vec_len workers)) result }
 {

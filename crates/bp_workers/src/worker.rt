@@ -29,15 +29,16 @@ pub struct Upkeep<N: PoolName> {
 /// or `SilentKeeper`. A worker that serves both is generic over K.
 ///
 /// A refusal is the worker's own to note. Passes that it holds when it returns are given back for it. It has to return,
-/// since the run waits for all workers.
+/// since the run waits for all workers. The session that it leaves is still its client's, as each call of the pool
+/// leaves it.
 pub trait Worker<P: Port, K: ListKeeper>: Drop {
-    ghost use Rattle.std.specs.Prelude.{◌≡◌, ◌<◌, ℕ, Option, Some, None};
-    ghost use Rattle.bp_shared.specs.Sessions.{SessionValue, new_session};
-    ghost use Rattle.bp_workers.specs.Workers.{UpkeepValue, upkeep_value, unused_upkeep};
+    ghost use Rattle.std.specs.Prelude.{◌≡◌, ◌<◌, Some, None};
+    ghost use Rattle.bp_shared.specs.Sessions.{new_session};
+    ghost use Rattle.bp_workers.specs.Workers.{Leaving, upkeep_value, unused_upkeep};
 
-    // What the work of a client leaves: by the client's number, the worker before and after, its session, and of
-    // client 0 the upkeep. A worker that says nothing of it may leave anything.
-    ghost leaves: { ℕ → Self → Self → SessionValue → Option UpkeepValue → Type 0 } = { λ _ _ _ _ _. Unit {0} };
+    // What the work of a client leaves: by the client's number, the worker and its port before, both after, its session
+    // after, and of client 0 the upkeep. A worker that says nothing of it may leave anything.
+    ghost leaves: { Leaving Self P } = { λ _ _ _ _ _ _ _. Unit {0} };
 
     /// Does the work of any client but client 0, with a session that said nothing yet.
     fn work<N: PoolName, R: Wait>(
@@ -48,7 +49,9 @@ pub trait Worker<P: Port, K: ListKeeper>: Drop {
     )
         requires new { client.old.session ≡ new_session client.old.session.client }
         requires other { 0 < client.old.session.client }
-        ensures leaves { leaves client.old.session.client self.old self.new client.new.session None };
+        ensures whose { client.new.session.client ≡ client.old.session.client }
+        ensures leaves { leaves client.old.session.client self.old client.old.port
+            self.new client.new.port client.new.session None };
 
     /// Does the work of client 0, who has the log writer and the taker of the trail too.
     fn lead<N: PoolName, R: Wait>(
@@ -60,14 +63,16 @@ pub trait Worker<P: Port, K: ListKeeper>: Drop {
     )
         requires new { client.old.session ≡ new_session 0 }
         requires unused { upkeep_value upkeep.old ≡ unused_upkeep }
-        ensures leaves { leaves 0 self.old self.new client.new.session
-            (Some (upkeep_value upkeep.new)) };
+        ensures whose { client.new.session.client ≡ client.old.session.client }
+        ensures leaves { leaves 0 self.old client.old.port
+            self.new client.new.port client.new.session (Some (upkeep_value upkeep.new)) };
 }
 
 /// What a worker left.
 #[derive(Drop)]
 pub struct Left<P: Port, W: Drop, K: ListKeeper = RecordingKeeper> {
     pub worker: W,
+    /// The port that it was given.
     pub port: P,
     /// What its session kept for itself: its list, and the passes that did not go back.
     pub book: Book<K>,

@@ -1,6 +1,7 @@
 //! Pools of four pages of 16 bytes over a device in memory, and what their clients call by the number of a page.
 //!
-//! A pass goes by its note, so that a test can hold it, give it back twice, or hand it to another client.
+//! A pass goes by its note, so that a test can hold it, give it back twice, or hand it to another client. Each call
+//! leaves the client's session that client's.
 ghost use Rattle.std.specs.Prelude.{◌≡◌, []};
 ghost use Rattle.bp_trail.specs.Parameters.{Parameters};
 ghost use Rattle.bp_page.specs.declared.limits.Geometry.{Geometry as AGeometry};
@@ -139,7 +140,9 @@ pub fn fix<N: PoolName, P: Port, K: ListKeeper, R: Wait>(
     pool: &SharedPool<N, K>,
     client: &mut Client<N, P, K>,
     number: u64,
-) -> Result<PassNote, Refusal> {
+) -> Result<PassNote, Refusal>
+    ensures client { client.new.session.client ≡ client.old.session.client }
+{
     let Some(page) = client.port.geometry().page(number) else {
         return Err(Refusal::OutOfPage);
     };
@@ -154,7 +157,9 @@ pub fn unfix<N: PoolName, P: Port, K: ListKeeper>(
     pool: &SharedPool<N, K>,
     client: &mut Client<N, P, K>,
     note: PassNote,
-) -> Result<(), (Refusal, u64)> {
+) -> Result<(), (Refusal, u64)>
+    ensures client { client.new.session.client ≡ client.old.session.client }
+{
     match pool.unfix(&mut client.session, note.pass()) {
         Ok(()) => Ok(()),
         Err((back, refusal)) => Err((refusal, back.note().serial())),
@@ -167,7 +172,9 @@ pub fn give<N: PoolName, P: Port, K: ListKeeper, R: Wait>(
     pool: &SharedPool<N, K>,
     client: &mut Client<N, P, K>,
     note: PassNote,
-) -> Result<(), Refusal> {
+) -> Result<(), Refusal>
+    ensures client { client.new.session.client ≡ client.old.session.client }
+{
     match give_back(rt, pool, &mut client.session, note.pass()) {
         Ok(()) => Ok(()),
         Err((back, refusal)) => {
@@ -183,7 +190,9 @@ pub fn read<N: PoolName, P: Port, K: ListKeeper, R: Wait>(
     pool: &SharedPool<N, K>,
     client: &mut Client<N, P, K>,
     note: PassNote,
-) -> Result<Image, Refusal> {
+) -> Result<Image, Refusal>
+    ensures client { client.new.session.client ≡ client.old.session.client }
+{
     let pass = note.pass();
     let read = pool.read(rt, &mut client.session, &pass);
     pass.note();
@@ -199,7 +208,9 @@ pub fn write<N: PoolName, P: Port, K: ListKeeper, R: Wait>(
     note: PassNote,
     byte: u8,
     lsn: u64,
-) -> Result<(), Refusal> {
+) -> Result<(), Refusal>
+    ensures client { client.new.session.client ≡ client.old.session.client }
+{
     let Ok(bytes) = Bytes::of(alloc, &[byte]) else {
         return Err(Refusal::OutOfMemory);
     };
@@ -218,7 +229,9 @@ pub fn flush<N: PoolName, P: Port, K: ListKeeper, R: Wait>(
     pool: &SharedPool<N, K>,
     client: &mut Client<N, P, K>,
     number: u64,
-) -> Result<Flushed, Refusal> {
+) -> Result<Flushed, Refusal>
+    ensures client { client.new.session.client ≡ client.old.session.client }
+{
     match client.port.geometry().page(number) {
         Some(page) => pool.flush(rt, &mut client.session, &mut client.port, page),
         None => Err(Refusal::OutOfPage),

@@ -1,5 +1,5 @@
 //! Fixes that wait for the log, or for a victim.
-ghost use Rattle.std.specs.Prelude.{◌<◌};
+ghost use Rattle.std.specs.Prelude.{◌≡◌, ◌<◌};
 ghost use Rattle.bp_engine.specs.Logs.{RaisesWithin};
 
 use crate::making::{config, ports};
@@ -88,7 +88,9 @@ fn change<N: PoolName, P: Port, R: Wait>(
     pool: &SharedPool<N>,
     client: &mut Client<N, P>,
     keeps: bool,
-) -> Result<(), Refusal> {
+) -> Result<(), Refusal>
+    ensures client { client.new.session.client ≡ client.old.session.client }
+{
     let note = fix(rt, pool, client, 0)?;
     let written = write(rt, alloc, pool, client, note, 7, 5);
     if !keeps {

@@ -1,5 +1,7 @@
 //! A worker over a silent pool, which has no entries in memory: it reads back what it wrote to pages that went out and
 //! came in again.
+ghost use Rattle.std.specs.Prelude.{◌≡◌};
+
 use crate::making::{PAGES, config, ports};
 use crate::writer::{DURABLE, write_page};
 use bp_core::SilentKeeper;
@@ -36,7 +38,9 @@ fn has_label<N: PoolName, P: Port, K: ListKeeper, R: Wait>(
     pool: &SharedPool<N, K>,
     client: &mut Client<N, P, K>,
     number: u64,
-) -> Result<bool, Refusal> {
+) -> Result<bool, Refusal>
+    ensures client { client.new.session.client ≡ client.old.session.client }
+{
     let note = fix(rt, pool, client, number)?;
     let image = read(rt, pool, client, note);
     give(rt, pool, client, note)?;
@@ -49,7 +53,9 @@ impl Labeler {
         rt: &R,
         pool: &SharedPool<N, K>,
         client: &mut Client<N, P, K>,
-    ) {
+    )
+        ensures client { client.new.session.client ≡ client.old.session.client }
+    {
         for number in 0..client.port.geometry().pages {
             match write_page(
                 rt,
@@ -72,7 +78,9 @@ impl Labeler {
         rt: &R,
         pool: &SharedPool<N, K>,
         client: &mut Client<N, P, K>,
-    ) {
+    )
+        ensures client { client.new.session.client ≡ client.old.session.client }
+    {
         for number in 0..client.port.geometry().pages {
             match has_label(rt, pool, client, number) {
                 Ok(true) => self.found = self.found.saturating_add(1),

@@ -14,6 +14,8 @@ mod labels;
 #[cfg(test)]
 mod making;
 #[cfg(test)]
+mod own_ports;
+#[cfg(test)]
 mod page_files;
 #[cfg(test)]
 mod rooms;

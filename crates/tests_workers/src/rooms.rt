@@ -1,4 +1,6 @@
 //! The room of a pool's trail, in a pool of either kind.
+ghost use Rattle.std.specs.Prelude.{◌≡◌};
+
 use crate::making::{config, ports};
 use bp_core::{RecordingKeeper, SilentKeeper};
 use bp_device::{MemPort, Port};
@@ -25,7 +27,9 @@ impl Ticker {
         rt: &R,
         pool: &SharedPool<N, K>,
         client: &mut Client<N, P, K>,
-    ) {
+    )
+        ensures client { client.new.session.client ≡ client.old.session.client }
+    {
         for _ in 0..8 {
             match pool.tick(rt, &mut client.session, 1) {
                 Ok(()) => self.done = self.done.saturating_add(1),

@@ -1,4 +1,6 @@
 //! What client 0 does besides: it cuts the trail. And a ring that is full.
+ghost use Rattle.std.specs.Prelude.{◌≡◌};
+
 use crate::making::{config, ports};
 use bp_core::{Entry, RecordingKeeper};
 use bp_device::Port;
@@ -26,7 +28,9 @@ impl Hoarder {
         rt: &R,
         pool: &SharedPool<N>,
         client: &mut Client<N, P>,
-    ) {
+    )
+        ensures client { client.new.session.client ≡ client.old.session.client }
+    {
         for _ in 0..PASSES {
             if fix(rt, pool, client, 0).is_ok() {
                 self.taken = self.taken.saturating_add(1);
@@ -39,7 +43,9 @@ impl Hoarder {
         rt: &R,
         pool: &SharedPool<N>,
         client: &mut Client<N, P>,
-    ) {
+    )
+        ensures client { client.new.session.client ≡ client.old.session.client }
+    {
         for _ in 0..PASSES {
             let Some(note) = client.session.held().first().copied() else {
                 return;

@@ -1,4 +1,6 @@
 //! Workers that write to all pages in turn.
+ghost use Rattle.std.specs.Prelude.{◌≡◌};
+
 use bp_device::Port;
 use bp_keeper::ListKeeper;
 use bp_page::{Lsn, Refusal};
@@ -52,7 +54,9 @@ impl Writer {
         rt: &R,
         pool: &SharedPool<N, K>,
         client: &mut Client<N, P, K>,
-    ) {
+    )
+        ensures client { client.new.session.client ≡ client.old.session.client }
+    {
         let byte = client.session.client();
         for round in 0..self.rounds {
             for number in 0..client.port.geometry().pages {
@@ -102,7 +106,9 @@ pub(crate) fn write_page<N: PoolName, P: Port, K: ListKeeper, R: Wait>(
     number: u64,
     byte: u8,
     lsn: u64,
-) -> Result<(), Refusal> {
+) -> Result<(), Refusal>
+    ensures client { client.new.session.client ≡ client.old.session.client }
+{
     let note = fix(rt, pool, client, number)?;
     let written = write(rt, alloc, pool, client, note, byte, lsn);
     give(rt, pool, client, note)?;

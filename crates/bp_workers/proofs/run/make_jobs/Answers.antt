@@ -1,20 +1,23 @@
 -- One job after the other.
 use Rattle.std.proofs.Common.{◌≡◌, sym, ◌∙◌, ap, suc, length, vec_len, arith, rules, Some}
 use Rattle.std.proofs.lemmas.List.Elements.{All-head, All-tail, All-same}
+use Rattle.std.specs.Prelude.{zip}
 use Rattle.std.specs.Vec.Iter.{into_iter_items}
 use Rattle.bp_workers.specs.Workers.{held_upkeep, new_upkeep}
 use Rattle.bp_workers.specs.Jobs.{IsOfPool}
 use Rattle.bp_workers.specs.Runs.{IsNewJob}
-use Rattle.bp_workers.proofs.Lining.{none_beside, one_beside, sessions_from, in_order, next_session}
+use Rattle.bp_workers.proofs.Lining.{none_beside, one_beside, all_beside, one_of_each, none_of_each, sessions_from, in_order, next_session}
 use Rattle.bp_workers.proofs.run.make_jobs.Goals as goal
 
 pub loop-worker-init : goal.loop-worker-init
 loop-worker-init g c =
     let sessions : into_iter_items c.into_iter-sessions.result ≡ c.args.sessions.items = search rules in
     let none : vec_len c.new-jobs.result ≡ 0 = search rules in
+    let workers : into_iter_items c.into_iter-worker-iterator.result ≡ c.args.workers.items = search rules in
+    let ports : into_iter_items c.into_iter-ports.result ≡ c.args.ports.items = search rules in
     let count : length (into_iter_items c.into_iter-worker-iterator.result) ≡ vec_len c.args.workers = search rules in
     record {
-      made = none_beside IsNewJob _ _ _ (search rules) c.new-jobs.ensures.items;
+      made = none_beside IsNewJob _ _ _ (ap (λ ws. zip ws (into_iter_items c.into_iter-ports.result)) workers ∙ ap (zip c.args.workers.items) ports) c.new-jobs.ensures.items;
       sessions = sessions ∙ c.requires.sessions ∙ in_order (vec_len c.args.workers) ∙ ap (λ n. sessions_from n (vec_len c.args.workers)) (sym none) ∙ ap (sessions_from (vec_len c.new-jobs.result)) (sym count);
       ports = search rules;
       of_pool = All-same (λ p. IsOfPool g.N.PoolName.parameters (g.P.Port.geometry_of p)) _ _ (search rules) c.requires.of_pool;
@@ -30,12 +33,14 @@ pub loop-worker-preserved : goal.loop-worker-preserved
 loop-worker-preserved g c =
     let i = c.loop-worker.invariant in
     let next = c.in-Some.ensures.steps.0 in
+    let pair = one_of_each (into_iter_items c.loop-worker.worker-iterator) (into_iter_items c.next.new.self) (into_iter_items c.loop-worker.ports) (into_iter_items c.next-in-loop-worker-2.new.self) c.in-Some.worker c.in-Some-next-2.port next c.in-Some-next-2.ensures.items in
     let s = next_session _ _ _ _ _ c.in-Some-next.session i.sessions c.in-Some-next.ensures.items (ap length next) in
     let one : vec_len c.push.new.self ≡ suc (vec_len c.loop-worker.jobs) = omega (arith, c.in-Ok.ensures.len) in
     let left = length (into_iter_items c.next.new.self) in
     record {
-      made = one_beside IsNewJob _ _ _ _ _ c.in-Some.worker c.new-job.result (vec_len c.loop-worker.jobs) i.made next c.in-Ok.ensures.items (omega (arith, c.loop-worker.jobs.ok)) (record {
+      made = one_beside IsNewJob _ _ _ _ _ (c.in-Some.worker, c.in-Some-next-2.port) c.new-job.result (vec_len c.loop-worker.jobs) i.made pair c.in-Ok.ensures.items (omega (arith, c.loop-worker.jobs.ok)) (record {
         worker_is = c.new-job.ensures.worker;
+        port_is = c.new-job.ensures.port;
         session = c.new-job.ensures.session ∙ s.is;
         upkeep = c.new-job.ensures.upkeep ∙ ap held_upkeep c.take.ensures.value ∙ i.upkeep;
       });
@@ -44,3 +49,10 @@ loop-worker-preserved g c =
       of_pool = All-tail (λ p. IsOfPool g.N.PoolName.parameters (g.P.Port.geometry_of p)) c.in-Some-next-2.port (into_iter_items c.next-in-loop-worker-2.new.self) (All-same (λ p. IsOfPool g.N.PoolName.parameters (g.P.Port.geometry_of p)) _ _ (sym c.in-Some-next-2.ensures.items) i.of_pool);
       upkeep = ap held_upkeep c.take.ensures.after ∙ ap new_upkeep (sym one);
     }
+
+pub returns-clause-jobs : goal.returns-clause-jobs
+returns-clause-jobs g c =
+    let workers = into_iter_items c.loop-worker.worker-iterator in
+    let ports = into_iter_items c.loop-worker.ports in
+    let none : length workers ≡ 0 = search (rules, c.in-None.ensures.steps) in
+    all_beside IsNewJob (zip c.args.workers.items c.args.ports.items) (zip workers ports) c.loop-worker.jobs.items c.loop-worker.invariant.made (none_of_each workers ports none)

@@ -1,5 +1,6 @@
 -- The jobs so far, and the sessions, ports and the upkeep that are left.
 use Rattle.std.proofs.Common.{◌≡◌, All, length, vec_len}
+use Rattle.std.specs.Prelude.{zip}
 use Rattle.std.specs.Vec.Iter.{into_iter_items}
 use Rattle.bp_workers.specs.Workers.{held_upkeep, new_upkeep}
 use Rattle.bp_workers.specs.Jobs.{IsOfPool}
@@ -9,7 +10,7 @@ use Rattle.bp_workers.proofs.run.make_jobs.Given as goal
 
 abbrev pub invariant-loop-worker : goal.invariant-loop-worker
 invariant-loop-worker g l = record {
-  made : Beside IsNewJob l.fn.workers.items (into_iter_items l.worker-iterator) l.jobs.items;
+  made : Beside IsNewJob (zip l.fn.workers.items l.fn.ports.items) (zip (into_iter_items l.worker-iterator) (into_iter_items l.ports)) l.jobs.items;
   sessions : into_iter_items l.sessions ≡ sessions_from (vec_len l.jobs) (length (into_iter_items l.worker-iterator));
   ports : length (into_iter_items l.ports) ≡ length (into_iter_items l.worker-iterator);
   of_pool : All (λ p. IsOfPool g.N.PoolName.parameters (g.P.Port.geometry_of p)) (into_iter_items l.ports);

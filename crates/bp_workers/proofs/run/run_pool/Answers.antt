@@ -1,25 +1,27 @@
 -- From the jobs that were made to what they left.
 use Rattle.std.proofs.Common.{◌≡◌, sym, ◌∙◌, ap, subst, arith, length}
 use Rattle.std.specs.Prelude.{IsSome}
-use Rattle.bp_workers.specs.Jobs.{taken_by}
-use Rattle.bp_workers.proofs.Lining.{lent_back, still_takes, all_left_by}
+use Rattle.bp_workers.specs.Workers.{upkeep_value}
+use Rattle.bp_workers.specs.Jobs.{first_upkeep}
+use Rattle.bp_workers.proofs.Lining.{lent_back, still_keeps, all_left_by}
 use Rattle.bp_workers.proofs.run.run_pool.Goals as goal
 
-pub all_left-taker-requires-clause-upkeep : goal.all_left-taker-requires-clause-upkeep
-all_left-taker-requires-clause-upkeep g c =
+pub all_left-upkeep-requires-clause-upkeep : goal.all_left-upkeep-requires-clause-upkeep
+all_left-upkeep-requires-clause-upkeep g c =
     let old = c.args.jobs.items in
     let new = c.run_jobs.new.jobs in
     let lent : c.as_mut_slice.result.now ≡ old = c.as_mut_slice.ensures.value in
     let kept : length new ≡ length old = c.run_jobs.ensures.counted ∙ ap length lent in
     let back = lent_back c.args.jobs.len new old (omega (arith, kept, c.args.jobs.ok)) in
-    subst (λ jobs. IsSome (taken_by jobs)) (sym back) (still_takes g.W.Worker.leaves old new kept (rw lent at c.run_jobs.ensures.ran) c.requires.upkeep)
+    subst (λ jobs. IsSome (first_upkeep jobs)) (sym back) (still_keeps g.W.Worker.leaves old new kept (rw lent at c.run_jobs.ensures.ran) c.requires.upkeep)
 
 pub returns-clause-left : goal.returns-clause-left
-returns-clause-left g c workers are =
+returns-clause-left g c given are =
     let old = c.args.jobs.items in
     let new = c.run_jobs.new.jobs in
     let lent : c.as_mut_slice.result.now ≡ old = c.as_mut_slice.ensures.value in
     let kept : length new ≡ length old = c.run_jobs.ensures.counted ∙ ap length lent in
     let back = lent_back c.args.jobs.len new old (omega (arith, kept, c.args.jobs.ok)) in
-    all_left_by g.N.PoolName.parameters g.P.Port.geometry_of c.finish-core.result.0.parameters g.W.Worker.leaves c.all_left-taker.result.0.past c.finish-core.result.0.before workers old new c.all_left-taker.result.1.items are kept (rw lent at c.run_jobs.ensures.ran) (rw back at c.all_left-taker.ensures.left)
-    (rw back at c.all_left-taker.ensures.taken) c.finish-core.ensures.before (sym c.finish-core.ensures.parameters)
+    let end = c.finish-core.ensures in
+    all_left_by g.N.PoolName.parameters g.P.Port.geometry_of c.finish-core.result.0 g.W.Worker.leaves (upkeep_value c.all_left-upkeep.result.0) given old new c.all_left-upkeep.result.1.items are kept (rw lent at c.run_jobs.ensures.ran) (rw back at c.all_left-upkeep.ensures.left) (sym end.parameters)
+    (rw back at c.all_left-upkeep.ensures.upkeep) (sym end.before, omega (arith, end.seen, c.close.ensures.seen, c.close.ensures.frontier, c.into_log_end.ensures.frontier))

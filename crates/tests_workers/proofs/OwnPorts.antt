@@ -1,0 +1,48 @@
+-- What the worker's own word comes to once the passes went back that it held.
+use Rattle.std.proofs.Common.{◌≡◌, refl, ap, ℕ, zero, suc, ◌≤◌, arith, List, [], ◌∷◌, Option, Some, None, Result, Ok, Err}
+use Rattle.std.specs.Prelude.{IfSome}
+use Rattle.bp_page.specs.declared.refusals.Refusal.{Refusal}
+use Rattle.bp_trail.specs.Trail.{Trail}
+use Rattle.bp_trail.specs.Clock.{durable}
+use Rattle.bp_trail.specs.Script.{give_back}
+use Rattle.bp_core.specs.CoreView.{CoreView}
+use Rattle.bp_device.specs.Work.{Reads, Writes}
+use Rattle.bp_shared.specs.Sessions.{DoesWorkSaid}
+use Rattle.bp_workers.specs.Giving.{GoBack}
+use Rattle.bp_workers.specs.Giving.GoBack.{no_more, one_more}
+use Rattle.bp_workers.specs.Lists.{SideBySide}
+use Rattle.bp_workers.specs.Workers.{UpkeepValue}
+use Rattle.bp_workers.specs.Runs.{KeepsUp}
+
+-- what follows at each place holds side by side
+pub side_weaker : {A B : Type 0} (P Q : ℕ → A → B → Type 0) → ((n : ℕ) (x : A) (y : B) → P n x y → Q n x y) → (n : ℕ) (xs : List A) (ys : List B) → SideBySide P n xs ys → SideBySide Q n xs ys
+side_weaker P Q follows n [] [] each = tt
+side_weaker P Q follows n (x ∷ xs) (y ∷ ys) each = (follows n x y each.0, side_weaker P Q follows (suc n) xs ys each.1)
+side_weaker P Q follows n [] (y ∷ ys) each = absurd each
+side_weaker P Q follows n (x ∷ xs) [] each = absurd each
+
+-- a pass that goes back is no work of the device
+pub back_work : {A : Type 0} (reads : Reads A) (writes : Writes A) (said after : Trail) (port kept : A) → GoBack said after → DoesWorkSaid reads writes [] said port kept → DoesWorkSaid reads writes [] after port kept
+back_work reads writes said after port kept no_more work = work
+back_work reads writes said after port kept (one_more g later rest held) work =
+    let so_far = back_work reads writes said _ port kept rest work in
+    record { piece = give_back g ∷ so_far.piece; grows = ap (λ es. give_back g ∷ es) so_far.grows; through = (kept, so_far.through, refl) }
+
+-- what client 0 did not raise is not marked
+pub unmarked : (core : CoreView) (client : ℕ) (upkeep : Option UpkeepValue) → KeepsUp core client upkeep → IfSome upkeep (λ u. u.raised ≡ 0) → client ≡ 0 → durable core.past ≡ 0
+unmarked core zero None keeps none first = absurd keeps
+unmarked core zero (Some u) keeps none first =
+    let bound : durable core.past ≤ u.raised = keeps.1 in
+    let raised : u.raised ≡ 0 = none in
+    omega (arith, bound, raised)
+unmarked core (suc client) upkeep keeps none first = absurd (omega (arith, first))
+
+-- why an answer was refused, if it was
+abbrev pub why : {A : Type 0} → Result A Refusal → Option Refusal
+why (Ok done) = None
+why (Err refusal) = Some refusal
+
+-- there is none where it was not
+pub no_reason : (r : Refusal) (reason : Option Refusal) → reason ≡ None → reason ≡ Some r → ⊥
+no_reason r None none some = let no = some in cc
+no_reason r (Some s) none some = let no = none in cc

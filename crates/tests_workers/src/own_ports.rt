@@ -1,0 +1,143 @@
+//! Which worker works over which port, and what that port did.
+ghost use Rattle.std.specs.Prelude.{◌≡◌, ◌≢◌, [], zip, Some, IfOk};
+ghost use Rattle.bp_page.specs.declared.refusals.Refusal.TheVariants as Refusal;
+ghost use Rattle.bp_trail.specs.Clock.{durable};
+ghost use Rattle.bp_shared.specs.Sessions.{DoesWorkSaid};
+ghost use Rattle.bp_workers.specs.Lists.{SideBySide};
+
+use crate::making::{PAGES, config};
+use bp_core::RecordingKeeper;
+use bp_device::{FusePort, MemDevice, MemPort, Port};
+use bp_page::{Geometry, Refusal};
+use bp_shared::{PoolName, SharedPool};
+use bp_workers::{Client, Config, Run, Upkeep, Worker, run_workers};
+use std::alloc::Global;
+use std::marker::{Send, Sync};
+use std::process::Abort;
+use std::rt::HostRuntime;
+use std::sync::Wait;
+use std::thread::Threads;
+use test_support::judging::unlawful_in;
+
+/// Fixes one page, and keeps its pass.
+#[derive(Drop)]
+struct Visitor {
+    page: u64,
+    refused: Option<Refusal>,
+}
+
+/// Fixes the page of this number, and says why it was refused, if it was.
+fn visit<N: PoolName, P: Port, R: Wait>(
+    rt: &R,
+    pool: &SharedPool<N>,
+    client: &mut Client<N, P>,
+    number: u64,
+) -> Option<Refusal>
+    requires fresh { client.old.session.said ≡ [] }
+    ensures client { client.new.session.client ≡ client.old.session.client }
+    ensures work { result ≢ Some Refusal.UnknownTicket → DoesWorkSaid P.read_gives P.write_gives
+        [] client.new.session.said client.old.port client.new.port }
+{
+    let Some(page) = client.port.geometry().page(number) else {
+        return Some(Refusal::OutOfPage);
+    };
+    match pool.fix(rt, &mut client.session, &mut client.port, page) {
+        Ok(pass) => {
+            pass.note();
+            None
+        }
+        Err(refusal) => Some(refusal),
+    }
+}
+
+impl<P: Port> Worker<P, RecordingKeeper> for Visitor {
+    ghost use Rattle.std.specs.Prelude.{◌≡◌, ◌≢◌, [], Some, IfSome};
+    ghost use Rattle.bp_page.specs.declared.refusals.Refusal.TheVariants as Refusal;
+    ghost use Rattle.bp_shared.specs.Sessions.{DoesWorkSaid};
+
+    // Its port did the work of its session's list, and nothing else; and it raised no mark.
+    ghost leaves = { λ _ _ given left kept session upkeep. (left.refused ≢ Some Refusal.UnknownTicket
+        → DoesWorkSaid P.read_gives P.write_gives [] session.said given kept)
+        × IfSome upkeep (λ u. u.raised ≡ 0) };
+
+    fn work<N: PoolName, R: Wait>(
+        &mut self,
+        rt: &R,
+        pool: &SharedPool<N>,
+        client: &mut Client<N, P>,
+    ) {
+        self.refused = visit(rt, pool, client, self.page);
+    }
+
+    fn lead<N: PoolName, R: Wait>(
+        &mut self,
+        rt: &R,
+        pool: &SharedPool<N>,
+        client: &mut Client<N, P>,
+        _upkeep: &mut Upkeep<N>,
+    ) {
+        self.refused = visit(rt, pool, client, self.page);
+    }
+}
+
+/// Runs visitors. The list left of client c is of client c, and the port that it was given did the work of that list, to
+/// which the unfix of the pass that went back adds none, and nothing else. Nothing is marked durable, since client 0
+/// raised no mark.
+fn visit_all<P: Port + Send, R: Threads + Wait + Sync>(
+    rt: &R,
+    alloc: Global,
+    config: Config,
+    ports: Vec<P>,
+    visitors: Vec<Visitor>,
+) -> Result<Run<P, Visitor>, Refusal>
+    ensures worked { IfOk result (λ run. SideBySide (λ client given left.
+        (left.book.client ≡ client)
+        × (left.worker.refused ≢ Some Refusal.UnknownTicket
+        → DoesWorkSaid P.read_gives P.write_gives [] left.book.said given.1 left.port)
+        × (client ≡ 0 → durable run.core.past ≡ 0))
+        0 (zip visitors.items ports.items) run.left.items) }
+{
+    run_workers(rt, alloc, config, ports, visitors)
+}
+
+/// Ports to one device, of which each fails at the call of this number.
+fn fuses<R: Abort + AllocGlobal>(rt: &R, calls: &[u64]) -> Vec<FusePort<MemPort>> {
+    let geometry = Geometry::new(PAGES, 16).expect(rt, "the geometry");
+    let device = MemDevice::new(rt.alloc(), geometry).expect(rt, "the device");
+    let mut fuses = Vec::new(rt.alloc());
+    for n in calls {
+        let port = device.port().expect(rt, "a port");
+        let fuse = FusePort::new(rt.alloc(), port, *n, false).expect(rt, "a port that fails");
+        fuses.push(fuse).expect(rt, "a place");
+    }
+    fuses
+}
+
+/// Each of three visitors has one page read by its port, and the first call of client 1's port fails.
+#[test]
+fn each_worker_works_over_its_own_port(rt: HostRuntime) {
+    let rt = &rt;
+    let mut visitors = Vec::new(rt.alloc());
+    for page in 0..3u64 {
+        let visitor = Visitor {
+            page,
+            refused: None,
+        };
+        visitors.push(visitor).expect(rt, "a place");
+    }
+    let ports = fuses(rt, &[100, 1, 100]);
+    let run = visit_all(rt, rt.alloc(), config(rt, 4), ports, visitors).expect(rt, "the run");
+    assert_eq!(rt; unlawful_in(rt.alloc(), &run.core), Ok(None));
+    assert_eq!(rt; run.left.len(), 3);
+    for client in 0..run.left.len() {
+        let left = &run.left[client];
+        let (failures, refused, held) = if client == 1 {
+            (1, Some(Refusal::ReadFailed), 0)
+        } else {
+            (0, None, 1)
+        };
+        assert_eq!(rt; left.port.failures(), failures);
+        assert_eq!(rt; left.worker.refused, refused);
+        assert_eq!(rt; left.held, held);
+    }
+}
