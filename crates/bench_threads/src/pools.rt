@@ -142,6 +142,7 @@ fn time_work<
     requires mark { made.mark ≡ N.mark }
     requires parameters { made.core.parameters ≡ N.parameters }
     requires before { made.core.before ≡ N.before }
+    requires past { made.core.past ≡ N.past }
     requires ring { made.ring ≡ N.ring }
 {
     let Made {

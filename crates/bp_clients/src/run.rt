@@ -189,7 +189,7 @@ fn run_named<N: PoolName + Send + Sync, P: Port + Send, R: Threads + Wait + Sync
     requires parameters { core.parameters ≡ N.parameters }
     requires before { (core.before ≡ N.before) × (core.before ≡ []) }
     requires ring { ring ≡ N.ring }
-    requires new { core.past ≡ [] }
+    requires new { (core.past ≡ N.past) × (core.past ≡ []) }
     requires clients { N.parameters.clients ≡ vec_len scripts }
     requires some { 0 < vec_len scripts }
     requires ports { vec_len ports ≡ vec_len scripts }

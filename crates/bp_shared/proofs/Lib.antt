@@ -5,3 +5,4 @@ pub mod Taking
 pub mod Fixing
 pub mod Making
 pub mod Flushing
+pub mod Telling

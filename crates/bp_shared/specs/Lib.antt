@@ -2,3 +2,4 @@
 pub mod Sessions
 pub mod Locked
 pub mod Taking
+pub mod Telling

@@ -22,9 +22,14 @@ pub record RingName : Type 0 where
   pub slots : Ptr
   pub names : ℕ × (ℕ × ℕ)
 
--- the name of no ring
-abbrev pub no_ring : RingName
-no_ring = record { words = null_ptr; slots = null_ptr; names = (0, (0, 0)) }
+-- the names of what is made before a pool: the ring by which its trail is taken, and the board of its sessions
+pub record PoolRing : Type 0 where
+  pub trail : RingName
+  pub board : ℕ
+
+-- the names of nothing
+abbrev pub no_ring : PoolRing
+no_ring = record { trail = record { words = null_ptr; slots = null_ptr; names = (0, (0, 0)) }; board = 0 }
 
 abbrev pub ring_of : {T A P : Type 0} → Producer T A P → RingName
 ring_of pieces = record { words = pieces.end.words; slots = pieces.end.slots; names = pieces.end.names }

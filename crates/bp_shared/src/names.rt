@@ -7,7 +7,7 @@ pub trait PoolName {
     ghost use Rattle.bp_mark.specs.Marks.{MarkName};
     ghost use Rattle.bp_trail.specs.Parameters.{Parameters};
     ghost use Rattle.bp_trail.specs.Trail.{Trail};
-    ghost use Rattle.bp_shared.specs.Taking.{RingName};
+    ghost use Rattle.bp_shared.specs.Taking.{PoolRing};
 
     // The mark.
     ghost mark: { MarkName };
@@ -15,8 +15,10 @@ pub trait PoolName {
     ghost parameters: { Parameters };
     // What earlier cuts had handed out of the core's trail.
     ghost before: { Trail };
-    // The ring by which the trail goes to its taker.
-    ghost ring: { RingName };
+    // The core's trail when the pool was made.
+    ghost past: { Trail };
+    // The ring by which the trail goes to its taker, and the board of the sessions.
+    ghost ring: { PoolRing };
 }
 
 impl PoolName for Brand {
@@ -30,6 +32,8 @@ impl PoolName for Brand {
     ghost parameters = { no_parameters };
 
     ghost before = { [] };
+
+    ghost past = { [] };
 
     ghost ring = { no_ring };
 }

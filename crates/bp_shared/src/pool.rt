@@ -1,15 +1,18 @@
 //! The pool: a core behind a lock, and the mark that it looks at.
-ghost use Rattle.std.specs.Prelude.{◌≡◌, IfOk, OnErr};
+ghost use Rattle.std.specs.Prelude.{◌≡◌, [], IfOk, OnOk, OnErr};
 ghost use Rattle.bp_page.specs.declared.refusals.Refusal.TheVariants as Refusal;
 ghost use Rattle.bp_shared.specs.Sessions.{new_sessions};
+ghost use Rattle.bp_shared.specs.Telling.{IsBlank};
 ghost use Rattle.bp_book.specs.Turns.{is_busy};
 
+use crate::closed_pool::ClosedPool;
 use crate::locking::locked;
 use crate::names::PoolName;
 use crate::session::Session;
 use crate::state::State;
 use crate::taker::Taker;
 use crate::trail_ring::TrailRing;
+use bp_board::Board;
 use bp_book::Posted;
 use bp_book::draining::RING;
 use bp_core::{Pass, PassNote, PoolCore};
@@ -44,14 +47,19 @@ fn found_busy<T>(answer: &Result<T, Refusal>) -> bool {
     }
 }
 
-/// A session for each client, and the taking end of its ring, in order.
+/// A session for each client, with the next line of the board, and the taking end of its ring, in order.
 fn new_clients<N: PoolName, K: ListKeeper>(
     alloc: Global,
     geometry: Geometry,
     clients: u8,
+    board: &mut Board,
 ) -> Result<(Vec<Session<N, K>>, Vec<Consumer<PassNote>>), Refusal>
     requires clients { clients ≡ N.parameters.clients }
     requires size { geometry.size ≡ N.parameters.size }
+    requires board { board.old.name ≡ N.ring.board }
+    requires empty { board.old.lists ≡ [] }
+    ensures board { board.new.name ≡ N.ring.board }
+    ensures blank { OnOk result (IsBlank board.new.lists) }
     ensures sessions { IfOk result (λ made. made.0.items ≡ new_sessions N.parameters.clients) }
     ensures refused { OnErr result (result ≡ Err Refusal.OutOfMemory) }
 {
@@ -61,7 +69,7 @@ fn new_clients<N: PoolName, K: ListKeeper>(
         let Ok((producer, consumer)) = RingBuffer::new(alloc, RING) else {
             return Err(Refusal::OutOfMemory);
         };
-        let session = Session::new(alloc, geometry, client, producer);
+        let session = Session::new(alloc, geometry, client, producer, board.line());
         let Ok(()) = sessions.push(session) else {
             return Err(Refusal::OutOfMemory);
         };
@@ -105,6 +113,7 @@ impl<N: PoolName, K: ListKeeper> SharedPool<N, K> {
     ghost use Rattle.bp_page.specs.declared.refusals.Refusal.TheVariants as Refusal;
     ghost use Rattle.bp_trail.specs.Clock.{durable};
     ghost use Rattle.bp_shared.specs.Sessions.{new_sessions, UnfixSaid};
+    ghost use Rattle.bp_shared.specs.Telling.{GoesOnFrom};
 
     /// A pool over a core, and one session for each client, in order. The reader is the mark's, and has seen what the core was told.
     ///
@@ -120,24 +129,31 @@ impl<N: PoolName, K: ListKeeper> SharedPool<N, K> {
         requires reader { reader.mark ≡ N.mark }
         requires parameters { core.parameters ≡ N.parameters }
         requires before { core.before ≡ N.before }
+        requires past { core.past ≡ N.past }
         requires ring { ring ≡ N.ring }
         requires seen { durable core.past ≤ reader.seen }
         ensures taker { IfOk result (λ made. made.2.past ≡ N.before) }
         ensures sessions { IfOk result (λ made. made.1.items ≡ new_sessions N.parameters.clients) }
         ensures refused { OnErr result (result ≡ Err Refusal.OutOfMemory) }
     {
-        let (sessions, consumers) = match new_clients(alloc, core.geometry(), core.clients()) {
+        let TrailRing {
+            pieces,
+            taken,
+            mut board,
+        } = ring;
+        let made = new_clients(alloc, core.geometry(), core.clients(), &mut board);
+        let (sessions, consumers) = match made {
             Ok(made) => made,
             Err(refusal) => return Err(refusal),
         };
         let room = core.room();
         let posted = Posted::nothing(core.clients());
-        let TrailRing { pieces, taken } = ring;
+        let state = State::new(core, reader, consumers, pieces, board);
         let pool = SharedPool {
             alloc,
             mark,
             room,
-            state: Mutex::new(State::new(core, reader, consumers, pieces)),
+            state: Mutex::new(state),
             ended: Condvar::new(),
             posted,
         };
@@ -177,15 +193,9 @@ impl<N: PoolName, K: ListKeeper> SharedPool<N, K> {
         locked(rt, &self.state).settle();
     }
 
-    /// Ends the pool: drains the rings once more, and gives back the core, the mark and its reader. It neither waits nor
-    /// takes memory. A pass that no ring has by then stays out. The core's trail goes on from all that the taker was handed.
-    pub fn finish(self, taker: Taker<N>) -> (PoolCore<K>, Mark, Reader)
-        ensures before { result.0.before ≡ taker.past }
-        ensures mark { result.1 ≡ N.mark }
-        ensures reader { result.2.mark ≡ N.mark }
-        ensures parameters { result.0.parameters ≡ N.parameters }
-        ensures seen { durable result.0.past ≤ result.2.seen }
-    {
+    /// Ends the sharing: drains the rings once more. The sessions may be ended after it, in any order, and then the pool. It
+    /// neither waits nor takes memory. A pass that no ring has by then stays out.
+    pub fn close(self) -> ClosedPool<N, K> {
         let SharedPool {
             alloc: _,
             mark,
@@ -196,7 +206,19 @@ impl<N: PoolName, K: ListKeeper> SharedPool<N, K> {
         } = self;
         let mut state = state.into_inner();
         state.settle();
-        let (core, reader) = state.into_parts(taker);
-        (core, mark, reader)
+        ClosedPool::new(mark, state)
+    }
+
+    /// Ends the pool, and with it what binds the lists of its sessions to its trail: closes it, and gives back the core, the
+    /// mark and its reader. It neither waits nor takes memory. The core's trail goes on from all that the taker was handed.
+    pub fn finish(self, taker: Taker<N>) -> (PoolCore<K>, Mark, Reader)
+        ensures goes_on { GoesOnFrom N.past result.0.past }
+        ensures before { result.0.before ≡ taker.past }
+        ensures mark { result.1 ≡ N.mark }
+        ensures reader { result.2.mark ≡ N.mark }
+        ensures parameters { result.0.parameters ≡ N.parameters }
+        ensures seen { durable result.0.past ≤ result.2.seen }
+    {
+        self.close().into_core(taker)
     }
 }

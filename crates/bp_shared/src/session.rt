@@ -2,6 +2,7 @@
 mod cutting;
 
 use crate::names::PoolName;
+use bp_board::{Line, Shows};
 use bp_book::Book;
 use bp_core::{Pass, PassNote};
 use bp_keeper::{ListKeeper, RecordingKeeper};
@@ -10,14 +11,26 @@ use rtrb::{Producer, PushError};
 use std::alloc::Global;
 use std::marker::{Model, PhantomData};
 
+/// The list of a book as it stands on a pool's board.
+pub(crate) struct Told;
+
+impl<K: ListKeeper> Shows<Book<K>> for Told {
+    ghost use Rattle.bp_shared.specs.Telling.{told};
+
+    ghost shown = { λ book. told book.said };
+}
+
 /// One client's end of a pool: the list of the client's own entries, and a ring by which its passes go back.
 ///
+/// The list is bound to the pool: [`ClosedPool::end_session`](crate::ClosedPool::end_session) says how.
 /// A pass that was given back stands in the list where the client posted it. The list gets no other entry than those of this
 /// session's calls, and room for all that it still owes is kept, so that an end and an unfix never want memory.
 #[derive(Drop)]
 pub struct Session<N: PoolName, K: ListKeeper = RecordingKeeper> {
     pub(crate) book: Book<K>,
     pub(crate) producer: Producer<PassNote>,
+    /// The session's line on the pool's board.
+    pub(crate) line: Line,
     pub(crate) of: PhantomData<N>,
 }
 
@@ -26,6 +39,7 @@ impl<N: PoolName, K: ListKeeper> Model for Session<N, K> {
     ghost use Rattle.rtrb.specs.Ring.{sent, known_free};
     ghost use Rattle.bp_book.specs.Books.{unfixes};
     ghost use Rattle.bp_shared.specs.Sessions.{SessionValue};
+    ghost use Rattle.bp_shared.specs.Telling.{IsLineOf};
 
     ghost Value = { SessionValue };
 
@@ -37,10 +51,11 @@ impl<N: PoolName, K: ListKeeper> Model for Session<N, K> {
       room = s.book.entries;
     } };
 
-    // The passes posted are those of the list's own unfixes, in order.
+    // The passes posted are those of the list's own unfixes, in order; the line has what else the list told.
     ghost invariant = { λ s. (s.book.client < N.parameters.clients)
         × (s.book.size ≡ N.parameters.size)
-        × (sent s.producer ≡ reverse (unfixes s.book.said)) };
+        × (sent s.producer ≡ reverse (unfixes s.book.said))
+        × IsLineOf N.ring.board s.line s.book.client s.book.said };
 }
 
 impl<N: PoolName, K: ListKeeper> Session<N, K> {
@@ -48,6 +63,7 @@ impl<N: PoolName, K: ListKeeper> Session<N, K> {
     ghost use Rattle.rtrb.specs.Ring.{sent, known_free};
     ghost use Rattle.bp_trail.specs.Script.{held_passes};
     ghost use Rattle.bp_shared.specs.Sessions.{UnfixSaid};
+    ghost use Rattle.bp_shared.specs.Telling.{IsLineOf};
 
     /// A session that said nothing yet.
     pub(crate) fn new(
@@ -55,10 +71,12 @@ impl<N: PoolName, K: ListKeeper> Session<N, K> {
         geometry: Geometry,
         client: u8,
         producer: Producer<PassNote>,
+        line: Line,
     ) -> Session<N, K>
         requires client_in { client < N.parameters.clients }
         requires size { geometry.size ≡ N.parameters.size }
         requires unused { (sent producer ≡ []) × (known_free producer ≡ 32) }
+        requires line { IsLineOf N.ring.board line client [] }
         ensures client { result.client ≡ client }
         ensures before { result.before ≡ [] }
         ensures said { result.said ≡ [] }
@@ -68,6 +86,7 @@ impl<N: PoolName, K: ListKeeper> Session<N, K> {
         Session {
             book: Book::new(alloc, geometry, client),
             producer,
+            line,
             of: PhantomData,
         }
     }
@@ -97,6 +116,7 @@ impl<N: PoolName, K: ListKeeper> Session<N, K> {
         let Session {
             book,
             producer: _,
+            line: _,
             of: _,
         } = self;
         book

@@ -1,7 +1,10 @@
 //! What lies under the lock: the core, its reader of the mark, and the ends of the rings at which passes come out.
 use crate::names::PoolName;
+use crate::session::{Session, Told};
 use crate::taker::Taker;
 use crate::trail_ring::meet;
+use bp_board::Board;
+use bp_book::Book;
 use bp_book::draining::{ALL, drain_all};
 use bp_core::{Entry, PassNote, PoolCore};
 use bp_keeper::ListKeeper;
@@ -26,6 +29,8 @@ pub(crate) struct State<N: PoolName, K: ListKeeper> {
     strays: u64,
     /// Where the trail is handed out.
     pieces: Producer<Vec<Entry>>,
+    /// What each session's list told.
+    board: Board,
     of: PhantomData<N>,
 }
 
@@ -34,6 +39,7 @@ impl<N: PoolName, K: ListKeeper> Model for State<N, K> {
     ghost use Rattle.bp_shared.specs.Locked.{LockedValue, IsLocked};
     ghost use Rattle.bp_book.specs.Rings.{ring_view};
     ghost use Rattle.bp_shared.specs.Taking.{IsHandedOut};
+    ghost use Rattle.bp_shared.specs.Telling.{IsShown};
 
     ghost Value = { LockedValue };
 
@@ -46,7 +52,8 @@ impl<N: PoolName, K: ListKeeper> Model for State<N, K> {
     } };
 
     ghost invariant = { λ s. IsLocked N.mark N.parameters s.core s.reader
-        × IsHandedOut N.ring N.before s.pieces s.core };
+        × IsHandedOut N.ring.trail N.before s.pieces s.core
+        × IsShown N.ring.board N.past s.board s.core.past };
 }
 
 impl<N: PoolName, K: ListKeeper> State<N, K> {
@@ -56,6 +63,7 @@ impl<N: PoolName, K: ListKeeper> State<N, K> {
     ghost use Rattle.bp_book.specs.Rings.{ring_view};
     ghost use Rattle.bp_shared.specs.Locked.{Settled};
     ghost use Rattle.bp_shared.specs.Taking.{ring_of, IsEmptied};
+    ghost use Rattle.bp_shared.specs.Telling.{GoesOnFrom, IsShown, IsToldBy};
 
     /// A core whose rings gave nothing yet.
     pub(crate) fn new(
@@ -63,13 +71,15 @@ impl<N: PoolName, K: ListKeeper> State<N, K> {
         reader: Reader,
         consumers: Vec<Consumer<PassNote>>,
         pieces: Producer<Vec<Entry>>,
+        board: Board,
     ) -> State<N, K>
         requires reader { reader.mark ≡ N.mark }
         requires parameters { core.parameters ≡ N.parameters }
         requires before { core.before ≡ N.before }
-        requires ring { ring_of pieces ≡ N.ring }
+        requires ring { ring_of pieces ≡ N.ring.trail }
         requires unused { IsEmptied pieces × (sent pieces ≡ []) }
         requires seen { durable core.past ≤ reader.seen }
+        requires shown { IsShown N.ring.board N.past board core.past }
         ensures core { result.core ≡ core }
         ensures rings { result.rings ≡ map ring_view consumers.items }
         ensures strays { result.strays ≡ 0 }
@@ -81,6 +91,7 @@ impl<N: PoolName, K: ListKeeper> State<N, K> {
             ends: 0,
             strays: 0,
             pieces,
+            board,
             of: PhantomData,
         }
     }
@@ -99,12 +110,32 @@ impl<N: PoolName, K: ListKeeper> State<N, K> {
         drain_all(&mut self.core, &mut self.strays, &mut self.consumers, ALL);
     }
 
+    /// Ends a session and gives its book. What its list told is what the trail tells of its client.
+    pub(crate) fn end_session(&mut self, session: Session<N, K>) -> Book<K>
+        ensures same { self.new ≡ self.old }
+        ensures client { result.client ≡ session.client }
+        ensures before { result.before ≡ session.before }
+        ensures said { result.said ≡ session.said }
+        ensures theirs { IsToldBy N.past self.old.core.past session.client session.said }
+    {
+        let Session {
+            book,
+            producer: _,
+            mut line,
+            of: _,
+        } = session;
+        self.board.write::<Book<K>, Told>(&mut line, &book);
+        book
+    }
+
     /// The core and its reader. The taker has all that the core handed out.
     pub(crate) fn into_parts(self, taker: Taker<N>) -> (PoolCore<K>, Reader)
         ensures before { result.0.before ≡ taker.past }
         ensures reader { result.1.mark ≡ N.mark }
         ensures parameters { result.0.parameters ≡ N.parameters }
         ensures seen { durable result.0.past ≤ result.1.seen }
+        ensures core { result.0 ≡ self.core }
+        ensures goes_on { GoesOnFrom N.past result.0.past }
     {
         let State {
             core,
@@ -113,6 +144,7 @@ impl<N: PoolName, K: ListKeeper> State<N, K> {
             ends: _,
             strays: _,
             mut pieces,
+            board: _,
             of: _,
         } = self;
         let Taker { mut taken, of: _ } = taker;

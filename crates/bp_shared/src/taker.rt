@@ -21,7 +21,7 @@ impl<N: PoolName> Model for Taker<N> {
 
     ghost view = { λ t. record { past = after_pieces N.before (received t.taken) } };
 
-    ghost invariant = { λ t. ring_at t.taken ≡ N.ring };
+    ghost invariant = { λ t. ring_at t.taken ≡ N.ring.trail };
 }
 
 impl<N: PoolName> Taker<N> {
@@ -31,7 +31,7 @@ impl<N: PoolName> Taker<N> {
 
     /// The taker of a pool that handed out nothing yet.
     pub(crate) fn new(taken: Consumer<Vec<Entry>>) -> Taker<N>
-        requires ring { ring_at taken ≡ N.ring }
+        requires ring { ring_at taken ≡ N.ring.trail }
         requires unused { received taken ≡ [] }
         ensures { result.past ≡ N.before }
     {

@@ -3,31 +3,33 @@ ghost use Rattle.std.specs.Prelude.{◌≡◌, ◌∷◌, ◌++◌, []};
 ghost use Rattle.rtrb.specs.Ring.{sent, received};
 ghost use Rattle.bp_shared.specs.Taking.{ring_of, ring_at, IsEmptied};
 
+use bp_board::Board;
 use bp_core::Entry;
 use bp_page::Refusal;
 use rtrb::{Consumer, Producer, RingBuffer};
 use std::alloc::Global;
 use std::marker::Model;
 
-/// A ring with room for one piece of a trail, made before its pool. Contracts see it as its name, by which it is told from
-/// every other ring.
+/// A ring with room for one piece of a trail, made before its pool. Contracts see its name and that of the board on which
+/// the pool's sessions will show their lists, by which it is told from every other ring.
 #[derive(Drop)]
 pub struct TrailRing {
     pub(crate) pieces: Producer<Vec<Entry>>,
     pub(crate) taken: Consumer<Vec<Entry>>,
+    pub(crate) board: Board,
 }
 
 impl Model for TrailRing {
     ghost use Rattle.std.specs.Prelude.{◌≡◌, []};
     ghost use Rattle.rtrb.specs.Ring.{sent, received};
-    ghost use Rattle.bp_shared.specs.Taking.{RingName, ring_of, ring_at, IsEmptied};
+    ghost use Rattle.bp_shared.specs.Taking.{PoolRing, ring_of, ring_at, IsEmptied};
 
-    ghost Value = { RingName };
+    ghost Value = { PoolRing };
 
-    ghost view = { λ r. ring_of r.pieces };
+    ghost view = { λ r. record { trail = ring_of r.pieces; board = r.board.name } };
 
     ghost invariant = { λ r. (ring_at r.taken ≡ ring_of r.pieces) × IsEmptied r.pieces
-        × (sent r.pieces ≡ []) × (received r.taken ≡ []) };
+        × (sent r.pieces ≡ []) × (received r.taken ≡ []) × (r.board.lists ≡ []) };
 }
 
 impl TrailRing {
@@ -41,7 +43,11 @@ impl TrailRing {
         let Ok((pieces, taken)) = RingBuffer::<Vec<Entry>>::new(alloc, 1) else {
             return Err(Refusal::OutOfMemory);
         };
-        Ok(TrailRing { pieces, taken })
+        Ok(TrailRing {
+            pieces,
+            taken,
+            board: Board::new(),
+        })
     }
 }
 

@@ -182,7 +182,7 @@ fn run_named<
     requires parameters { core.parameters ≡ N.parameters }
     requires before { (core.before ≡ N.before) × (core.before ≡ []) }
     requires ring { ring ≡ N.ring }
-    requires new { core.past ≡ [] }
+    requires new { (core.past ≡ N.past) × (core.past ≡ []) }
     requires clients { N.parameters.clients ≡ vec_len workers }
     requires some { 0 < vec_len workers }
     requires ports { vec_len ports ≡ vec_len workers }

@@ -69,6 +69,7 @@ pub fn open<N: PoolName>(alloc: Global, made: Made) -> Result<Opened<N>, Refusal
     requires mark { made.mark ≡ N.mark }
     requires parameters { made.core.parameters ≡ N.parameters }
     requires before { made.core.before ≡ N.before }
+    requires past { made.core.past ≡ N.past }
     requires ring { made.ring ≡ N.ring }
 {
     let Made {
@@ -105,6 +106,7 @@ pub fn open_pair<N: PoolName>(alloc: Global, made: Made) -> Result<Pair<N>, Refu
     requires mark { made.mark ≡ N.mark }
     requires parameters { made.core.parameters ≡ N.parameters }
     requires before { made.core.before ≡ N.before }
+    requires past { made.core.past ≡ N.past }
     requires ring { made.ring ≡ N.ring }
 {
     let Opened {

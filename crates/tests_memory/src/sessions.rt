@@ -223,6 +223,7 @@ fn play_over<N: PoolName, R: Wait + Abort + AllocGlobal>(
     requires mark { made.mark ≡ N.mark }
     requires parameters { made.core.parameters ≡ N.parameters }
     requires before { made.core.before ≡ N.before }
+    requires past { made.core.past ≡ N.past }
     requires ring { made.ring ≡ N.ring }
 {
     let Pair {

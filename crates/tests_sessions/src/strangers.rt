@@ -58,6 +58,7 @@ fn stranger<N: PoolName, R: Wait + Abort + AllocGlobal>(rt: &R, made: Made) -> P
     requires mark { made.mark ≡ N.mark }
     requires parameters { made.core.parameters ≡ N.parameters }
     requires before { made.core.before ≡ N.before }
+    requires past { made.core.past ≡ N.past }
     requires ring { made.ring ≡ N.ring }
 {
     let Pair {

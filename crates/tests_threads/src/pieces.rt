@@ -267,6 +267,7 @@ fn see_over<N: PoolName + Send + Sync, R: Threads + Wait + Abort + Sync + AllocG
     requires mark { made.mark ≡ N.mark }
     requires parameters { made.core.parameters ≡ N.parameters }
     requires before { made.core.before ≡ N.before }
+    requires past { made.core.past ≡ N.past }
     requires ring { made.ring ≡ N.ring }
 {
     let Opened {

@@ -88,7 +88,13 @@ impl<N: PoolName, K: ListKeeper> SharedPool<N, K> {
         };
         let mut state = locked(rt, &self.state);
         let asked = self.posted.take();
-        let answer = state.fix(&self.mark, &mut session.book, page, asked);
+        let answer = state.fix(
+            &self.mark,
+            &mut session.book,
+            &mut session.line,
+            page,
+            asked,
+        );
         if found_busy(&answer) {
             let seen = state.ends();
             drop(

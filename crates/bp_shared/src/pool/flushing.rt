@@ -47,7 +47,13 @@ impl<N: PoolName, K: ListKeeper> SharedPool<N, K> {
         };
         let mut state = locked(rt, &self.state);
         let asked = self.posted.take();
-        let answer = state.flush(&self.mark, &mut session.book, page, asked);
+        let answer = state.flush(
+            &self.mark,
+            &mut session.book,
+            &mut session.line,
+            page,
+            asked,
+        );
         if found_busy(&answer) {
             let seen = state.ends();
             drop(

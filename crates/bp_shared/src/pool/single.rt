@@ -26,7 +26,7 @@ impl<N: PoolName, K: ListKeeper> SharedPool<N, K> {
         };
         let mut state = locked(rt, &self.state);
         let asked = self.posted.take();
-        state.tick(&mut session.book, n, asked)
+        state.tick(&mut session.book, &mut session.line, n, asked)
     }
 
     /// Forgets old references, and counts their pages. `OutOfMemory` and `TrailFull` change nothing.
@@ -41,7 +41,7 @@ impl<N: PoolName, K: ListKeeper> SharedPool<N, K> {
         };
         let mut state = locked(rt, &self.state);
         let asked = self.posted.take();
-        state.purge(&mut session.book, asked)
+        state.purge(&mut session.book, &mut session.line, asked)
     }
 
     /// A copy of the image of a pass's page. `UnknownPass`, before all else, where the pass is another client's, and where the pool
@@ -67,7 +67,7 @@ impl<N: PoolName, K: ListKeeper> SharedPool<N, K> {
         };
         let mut state = locked(rt, &self.state);
         let asked = self.posted.take();
-        state.read(&mut session.book, pass, asked)
+        state.read(&mut session.book, &mut session.line, pass, asked)
     }
 
     /// Puts bytes into a pass's page, from the offset on, and raises the page LSN to `lsn` if that is greater. Refusals as from `read`.
@@ -99,6 +99,15 @@ impl<N: PoolName, K: ListKeeper> SharedPool<N, K> {
         };
         let mut state = locked(rt, &self.state);
         let asked = self.posted.take();
-        state.write(&mut session.book, pass, offset, bytes, lsn, spare, asked)
+        state.write(
+            &mut session.book,
+            &mut session.line,
+            pass,
+            offset,
+            bytes,
+            lsn,
+            spare,
+            asked,
+        )
     }
 }

@@ -1,6 +1,6 @@
 //! The critical sections of a session. Each drains the rings that it is to ask, bit c for that of client c, and then makes one event,
-//! which the session's list gets too; a fix and a flush first look at the mark once. None takes memory for the list: what an event
-//! wants there is taken before the lock.
+//! which the session's list gets too; a fix and a flush first look at the mark once. What the list then tells goes to the session's line
+//! of the board. None takes memory for the list: what an event wants there is taken before the lock.
 ghost use Rattle.std.specs.Prelude.{◌≡◌, ◌+◌, ◌<◌, ◌≤◌, length, IfOk};
 ghost use Rattle.bp_book.specs.Books.{SameOwner, OwesRead, OwesWrite};
 ghost use Rattle.bp_book.specs.Turns.{FixTurn, FlushTurn, EndReadOutcome, EndWriteOutcome};
@@ -8,10 +8,12 @@ ghost use Rattle.bp_book.specs.Turns.{TickSaid, PurgeSaid, ReadSaid, WriteSaid};
 ghost use Rattle.bp_book.specs.Causes.{EndsRead, EndsWrite};
 ghost use Rattle.bp_core.specs.Outcomes.{TickOutcome, PurgeOutcome, ReadOutcome, WriteOutcome};
 ghost use Rattle.bp_shared.specs.Locked.{InStep, FixStep, FlushStep, ends_after};
+ghost use Rattle.bp_shared.specs.Telling.{IsLineOf};
 
 use super::State;
 use crate::names::PoolName;
-use crate::session::Session;
+use crate::session::{Session, Told};
+use bp_board::Line;
 use bp_book::{Book, Fix, Flush, PendingRead, PendingWrite, drain_all};
 use bp_core::{Ended, Pass};
 use bp_keeper::ListKeeper;
@@ -34,6 +36,7 @@ impl<N: PoolName, K: ListKeeper> State<N, K> {
         &mut self,
         mark: &Mark,
         book: &mut Book<K>,
+        line: &mut Line,
         page: PageNo,
         asked: u64,
     ) -> Result<Fix, Refusal>
@@ -44,7 +47,9 @@ impl<N: PoolName, K: ListKeeper> State<N, K> {
         requires entries { 4 ≤ book.old.entries }
         requires passes { 1 ≤ book.old.passes }
         requires copies { 2 ≤ book.old.copies }
+        requires line { IsLineOf N.ring.board line.old book.old.client book.old.said }
         ensures owner { SameOwner book.old book.new }
+        ensures line { IsLineOf N.ring.board line.new book.new.client book.new.said }
         ensures ends { self.new.ends ≡ self.old.ends }
         ensures turn { FixTurn book.old.client page result book.old.said book.new.said }
         ensures in_step { InStep (FixStep book.old.client page self.new.seen result)
@@ -55,7 +60,9 @@ impl<N: PoolName, K: ListKeeper> State<N, K> {
             Ok(()) => {}
             Err(refusal) => return Err(refusal),
         }
-        book.ask_fix(&mut self.core, page)
+        let answer = book.ask_fix(&mut self.core, page);
+        self.board.write::<Book<K>, Told>(line, book);
+        answer
     }
 
     /// Asks that a page be written out, after one look at the mark.
@@ -63,6 +70,7 @@ impl<N: PoolName, K: ListKeeper> State<N, K> {
         &mut self,
         mark: &Mark,
         book: &mut Book<K>,
+        line: &mut Line,
         page: PageNo,
         asked: u64,
     ) -> Result<Flush, Refusal>
@@ -73,7 +81,9 @@ impl<N: PoolName, K: ListKeeper> State<N, K> {
         requires entries { 4 ≤ book.old.entries }
         requires passes { 1 ≤ book.old.passes }
         requires copies { 2 ≤ book.old.copies }
+        requires line { IsLineOf N.ring.board line.old book.old.client book.old.said }
         ensures owner { SameOwner book.old book.new }
+        ensures line { IsLineOf N.ring.board line.new book.new.client book.new.said }
         ensures ends { self.new.ends ≡ self.old.ends }
         ensures turn { FlushTurn book.old.client page result book.old.said book.new.said }
         ensures in_step { InStep (FlushStep book.old.client page self.new.seen result)
@@ -84,7 +94,9 @@ impl<N: PoolName, K: ListKeeper> State<N, K> {
             Ok(()) => {}
             Err(refusal) => return Err(refusal),
         }
-        book.ask_flush(&mut self.core, page)
+        let answer = book.ask_flush(&mut self.core, page);
+        self.board.write::<Book<K>, Told>(line, book);
+        answer
     }
 
     /// Ends a read. It takes no memory.
@@ -108,6 +120,8 @@ impl<N: PoolName, K: ListKeeper> State<N, K> {
         drain_all(&mut self.core, &mut self.strays, &mut self.consumers, asked);
         let ended = session.book.end_read(&mut self.core, ticket, read);
         self.ends = counted(self.ends, &ended);
+        self.board
+            .write::<Book<K>, Told>(&mut session.line, &session.book);
         ended
     }
 
@@ -131,41 +145,63 @@ impl<N: PoolName, K: ListKeeper> State<N, K> {
         drain_all(&mut self.core, &mut self.strays, &mut self.consumers, asked);
         let ended = session.book.end_write_out(&mut self.core, ticket, written);
         self.ends = counted(self.ends, &ended);
+        self.board
+            .write::<Book<K>, Told>(&mut session.line, &session.book);
         ended
     }
 
     /// Moves the clock.
-    pub(crate) fn tick(&mut self, book: &mut Book<K>, n: u64, asked: u64) -> Result<(), Refusal>
+    pub(crate) fn tick(
+        &mut self,
+        book: &mut Book<K>,
+        line: &mut Line,
+        n: u64,
+        asked: u64,
+    ) -> Result<(), Refusal>
         requires client_in { book.old.client < N.parameters.clients }
         requires room { 0 < book.old.entries }
+        requires line { IsLineOf N.ring.board line.old book.old.client book.old.said }
         ensures owner { SameOwner book.old book.new }
+        ensures line { IsLineOf N.ring.board line.new book.new.client book.new.said }
         ensures ends { self.new.ends ≡ self.old.ends }
         ensures outcome { TickSaid book.old.client n result book.old.said book.new.said }
         ensures in_step { InStep (λ core after. TickOutcome core book.old.client n result after)
             self.old book.old.said self.new book.new.said }
     {
         drain_all(&mut self.core, &mut self.strays, &mut self.consumers, asked);
-        book.ask_tick(&mut self.core, n)
+        let answer = book.ask_tick(&mut self.core, n);
+        self.board.write::<Book<K>, Told>(line, book);
+        answer
     }
 
     /// Forgets old references, and counts their pages.
-    pub(crate) fn purge(&mut self, book: &mut Book<K>, asked: u64) -> Result<u64, Refusal>
+    pub(crate) fn purge(
+        &mut self,
+        book: &mut Book<K>,
+        line: &mut Line,
+        asked: u64,
+    ) -> Result<u64, Refusal>
         requires client_in { book.old.client < N.parameters.clients }
         requires room { 0 < book.old.entries }
+        requires line { IsLineOf N.ring.board line.old book.old.client book.old.said }
         ensures owner { SameOwner book.old book.new }
+        ensures line { IsLineOf N.ring.board line.new book.new.client book.new.said }
         ensures ends { self.new.ends ≡ self.old.ends }
         ensures outcome { PurgeSaid book.old.client result book.old.said book.new.said }
         ensures in_step { InStep (λ core after. PurgeOutcome core book.old.client result after)
             self.old book.old.said self.new book.new.said }
     {
         drain_all(&mut self.core, &mut self.strays, &mut self.consumers, asked);
-        book.ask_purge(&mut self.core)
+        let answer = book.ask_purge(&mut self.core);
+        self.board.write::<Book<K>, Told>(line, book);
+        answer
     }
 
     /// Reads the page of a pass of the list's client.
     pub(crate) fn read(
         &mut self,
         book: &mut Book<K>,
+        line: &mut Line,
         pass: &Pass,
         asked: u64,
     ) -> Result<Image, Refusal>
@@ -173,20 +209,25 @@ impl<N: PoolName, K: ListKeeper> State<N, K> {
         requires size { book.old.size ≡ N.parameters.size }
         requires room { 0 < book.old.entries }
         requires copies { 0 < book.old.copies }
+        requires line { IsLineOf N.ring.board line.old book.old.client book.old.said }
         ensures owner { SameOwner book.old book.new }
+        ensures line { IsLineOf N.ring.board line.new book.new.client book.new.said }
         ensures ends { self.new.ends ≡ self.old.ends }
         ensures outcome { ReadSaid book.old.client pass.now result book.old.said book.new.said }
         ensures in_step { InStep (λ core after. ReadOutcome core pass.now result after)
             self.old book.old.said self.new book.new.said }
     {
         drain_all(&mut self.core, &mut self.strays, &mut self.consumers, asked);
-        book.ask_read(&mut self.core, pass)
+        let answer = book.ask_read(&mut self.core, pass);
+        self.board.write::<Book<K>, Told>(line, book);
+        answer
     }
 
     /// Writes to the page of a pass of the list's client.
     pub(crate) fn write(
         &mut self,
         book: &mut Book<K>,
+        line: &mut Line,
         pass: &Pass,
         offset: u32,
         bytes: &Bytes,
@@ -198,7 +239,9 @@ impl<N: PoolName, K: ListKeeper> State<N, K> {
         requires fits { offset + length bytes.now ≤ N.parameters.size }
         requires room { 0 < book.old.entries }
         requires spare { K.serves_bytes spare bytes.now }
+        requires line { IsLineOf N.ring.board line.old book.old.client book.old.said }
         ensures owner { SameOwner book.old book.new }
+        ensures line { IsLineOf N.ring.board line.new book.new.client book.new.said }
         ensures ends { self.new.ends ≡ self.old.ends }
         ensures outcome { WriteSaid book.old.client pass.now offset bytes.now lsn result
             book.old.said book.new.said }
@@ -207,6 +250,8 @@ impl<N: PoolName, K: ListKeeper> State<N, K> {
             self.old book.old.said self.new book.new.said }
     {
         drain_all(&mut self.core, &mut self.strays, &mut self.consumers, asked);
-        book.ask_write(&mut self.core, pass, offset, bytes, lsn, spare)
+        let answer = book.ask_write(&mut self.core, pass, offset, bytes, lsn, spare);
+        self.board.write::<Book<K>, Told>(line, book);
+        answer
     }
 }

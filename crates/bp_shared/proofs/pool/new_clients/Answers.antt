@@ -1,13 +1,39 @@
 -- One session after another.
-use Rattle.std.proofs.Common.{rules, arith, ◌≡◌, ap, ◌∙◌, add-one}
+use Rattle.std.proofs.Common.{rules, arith, refl, sym, subst, ◌≡◌, ap, ◌∙◌, ◌+◌, [], ◌∷◌, add-one, length, length-append}
 use Rattle.bp_shared.specs.Sessions.{new_sessions}
+use Rattle.bp_shared.specs.Telling.{IsBlank}
 use Rattle.bp_shared.proofs.Making.{sessions_more}
+use Rattle.bp_shared.proofs.Telling.{blank_more}
 use Rattle.bp_shared.proofs.pool.new_clients.Goals as goal
 
+pub loop-client-init : goal.loop-client-init
+loop-client-init g c = record {
+  sessions = c.new-sessions.ensures.items;
+  board = c.requires.board;
+  lines = ap length c.requires.empty;
+  blank = subst IsBlank (sym c.requires.empty) (λ _. refl);
+}
+
+pub new-session-requires-clause-line : goal.new-session-requires-clause-line
+new-session-requires-clause-line g c = record {
+  board_is = c.line.ensures.name_is ∙ c.loop-client.invariant.board;
+  number_is = c.line.ensures.number_is ∙ c.loop-client.invariant.lines;
+  list_is = c.line.ensures.empty;
+}
+
 pub loop-client-preserved : goal.loop-client-preserved
-loop-client-preserved g c = sessions_more c.loop-client.client _ _ _ c.new-session.result c.loop-client.invariant (search rules) c.new-session.ensures.client c.new-session.ensures.before c.new-session.ensures.said c.new-session.ensures.free c.new-session.ensures.room (add-one c.loop-client.client)
+loop-client-preserved g c =
+    let i = c.loop-client.invariant in
+    let more = c.line.ensures in
+    let counted : length c.line.new.self.lists ≡ length c.loop-client.board.lists + 1 = ap length more.lists ∙ length-append c.loop-client.board.lists ([] ∷ []) in
+    record {
+      sessions = sessions_more c.loop-client.client _ _ _ c.new-session.result i.sessions (search rules) c.new-session.ensures.client c.new-session.ensures.before c.new-session.ensures.said c.new-session.ensures.free c.new-session.ensures.room (add-one c.loop-client.client);
+      board = more.name ∙ i.board;
+      lines = omega (arith, counted, i.lines);
+      blank = subst IsBlank (sym more.lists) (blank_more _ i.blank);
+    }
 
 pub returns-clause-sessions : goal.returns-clause-sessions
 returns-clause-sessions g c =
     let all : c.loop-client.client ≡ c.args.clients = omega (arith, c.loop-client-test.false, c.loop-client.auto.client-end) in
-    c.loop-client.invariant ∙ ap new_sessions (all ∙ c.requires.clients)
+    c.loop-client.invariant.sessions ∙ ap new_sessions (all ∙ c.requires.clients)

@@ -1,7 +1,13 @@
--- So many sessions were made.
-use Rattle.std.proofs.Common.{◌≡◌}
+-- So many sessions were made, each with a line of the board.
+use Rattle.std.proofs.Common.{◌≡◌, length}
 use Rattle.bp_shared.specs.Sessions.{new_sessions}
+use Rattle.bp_shared.specs.Telling.{IsBlank}
 use Rattle.bp_shared.proofs.pool.new_clients.Given as goal
 
 abbrev pub invariant-loop-client : goal.invariant-loop-client
-invariant-loop-client g l = l.sessions.items ≡ new_sessions l.client
+invariant-loop-client g l = record {
+  sessions : l.sessions.items ≡ new_sessions l.client;
+  board : l.board.name ≡ g.N.PoolName.ring.board;
+  lines : length l.board.lists ≡ l.client;
+  blank : IsBlank l.board.lists;
+}

@@ -6,5 +6,6 @@ ghosts-run_named g a = record {
   mark = a.parts.0;
   parameters = a.core.parameters;
   before = a.core.before;
+  past = a.core.past;
   ring = a.ring;
 }

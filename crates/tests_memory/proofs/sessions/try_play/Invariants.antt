@@ -6,5 +6,6 @@ ghosts-play_over g a = record {
   mark = a.made.mark;
   parameters = a.made.core.parameters;
   before = a.made.core.before;
+  past = a.made.core.past;
   ring = a.made.ring;
 }

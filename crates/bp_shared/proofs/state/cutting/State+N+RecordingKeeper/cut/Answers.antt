@@ -8,7 +8,20 @@ use Rattle.bp_core.specs.Outcomes.{CutRefused}
 use Rattle.bp_book.specs.Rings.{ring_view}
 use Rattle.bp_shared.specs.Taking.{after_pieces}
 use Rattle.bp_shared.proofs.Taking.{one_more, handed_out, comes_next, gave_too_many, still_locked}
+use Rattle.bp_core.specs.CoreView.{CoreView}
+use Rattle.bp_shared.specs.Telling.{IsShown}
+use Rattle.bp_shared.proofs.Telling.{drained_unfixes, shown_drained, shown_cut}
 use Rattle.bp_shared.proofs.state.cutting.State+N+RecordingKeeper.cut.Goals as goal
+
+pub invariant_of-self : goal.invariant_of-self
+invariant_of-self g c =
+    let mid = c.drain_all.new.core in
+    let why = c.in-Err.ensures.enough (search rules) in
+    let full : CutRefused mid refusal.ClockFull c.cut_into.new.self = subst (λ r. IfErr r (λ e. CutRefused mid e c.cut_into.new.self)) why c.in-Err.ensures.refused in (
+      search rules,
+      search rules,
+      subst (λ (n : CoreView). IsShown g.N.PoolName.ring.board g.N.PoolName.past c.self.inside.board n.past) (sym full.1) (shown_drained _ _ _ _ _ c.self.invariant.2 (drained_unfixes 32 _ _ _ _ _ _ c.drain_all.ensures.drained)),
+    )
 
 pub invariant_of-self-2 : goal.invariant_of-self-2
 invariant_of-self-2 g c =
@@ -17,6 +30,7 @@ invariant_of-self-2 g c =
     let passed = c.pass_on.ensures in (
       still_locked _ _ _ _ _ _ _ c.self.invariant.0 drained.parameters drained.durable cut,
       handed_out _ _ _ _ c.in-Ok.entries _ c.drain_all.new.core c.cut_into.new.self c.self.invariant.1 drained.before cut passed.producer passed.emptied passed.sent,
+      shown_cut _ _ _ _ c.drain_all.new.core c.cut_into.new.self _ c.self.invariant.2 (drained_unfixes 32 _ _ _ _ _ _ drained.drained) cut,
     )
 
 pub returns-clause-done : goal.returns-clause-done

@@ -1,0 +1,44 @@
+-- What the lists of a pool's sessions have in common with the trail of its core.
+use Rattle.std.specs.Prelude.{◌≡◌, ℕ, ◌++◌, Bool, true, false, List, [], filter, slice_index_or}
+use Rattle.bp_trail.specs.declared.entries.Call.{Call}
+use Rattle.bp_trail.specs.declared.entries.Call.TheVariants.{Unfix}
+use Rattle.bp_trail.specs.Trail.{Trail}
+use Rattle.bp_audit.specs.Clients.{of_client}
+use Rattle.bp_board.specs.declared.boards.Board.{Board}
+use Rattle.bp_board.specs.declared.boards.Line.{Line}
+
+-- any call but an unfix
+abbrev pub is_told : Call → Bool
+is_told (Unfix n p) = false
+is_told _ = true
+
+-- all entries but the unfixes: a pass that was posted stands in the list at once, and in the trail when its ring is drained
+abbrev pub told : Trail → Trail
+told past = filter (λ e. is_told e.call) past
+
+-- a session's line is its client's on this board, and has what the session's list told
+pub record IsLineOf (board : ℕ) (line : Line) (client : ℕ) (said : Trail) : Type 0 where
+  pub board_is : line.name ≡ board
+  pub number_is : line.number ≡ client
+  pub list_is : line.list ≡ told said
+
+-- on a pool's board each client's line has what the core's trail tells of the client, since the pool was made
+pub record IsShown (board : ℕ) (start : Trail) (b : Board) (past : Trail) : Type 0 where
+  pub board_is : b.name ≡ board
+  pub since : Trail
+  pub goes_on : past ≡ since ++ start
+  pub each : (c : ℕ) → of_client c (told since) ≡ slice_index_or b.lists c []
+
+-- no list has an entry
+abbrev pub IsBlank : List Trail → Type 0
+IsBlank lists = (c : ℕ) → slice_index_or lists c [] ≡ []
+
+-- a trail has more entries than one before it
+abbrev pub GoesOnFrom : Trail → Trail → Type 0
+GoesOnFrom start past = (since : Trail) × (past ≡ since ++ start)
+
+-- since the pool was made, the trail tells of the client what its session's list tells, and nothing else
+pub record IsToldBy (start past : Trail) (client : ℕ) (said : Trail) : Type 0 where
+  pub since : Trail
+  pub goes_on : past ≡ since ++ start
+  pub theirs : of_client client (told since) ≡ told said

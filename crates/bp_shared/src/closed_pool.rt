@@ -1,0 +1,74 @@
+//! A pool that is shared no more.
+use crate::names::PoolName;
+use crate::session::Session;
+use crate::state::State;
+use crate::taker::Taker;
+use bp_book::Book;
+use bp_core::PoolCore;
+use bp_keeper::{ListKeeper, RecordingKeeper};
+use bp_mark::{Mark, Reader};
+use std::marker::Model;
+
+/// A pool that is shared no more: its sessions are ended one by one, and then its core is taken out. Contracts see it as its
+/// core.
+#[derive(Drop)]
+pub struct ClosedPool<N: PoolName, K: ListKeeper = RecordingKeeper> {
+    mark: Mark,
+    state: State<N, K>,
+}
+
+impl<N: PoolName, K: ListKeeper> Model for ClosedPool<N, K> {
+    ghost use Rattle.std.specs.Prelude.{◌≡◌};
+    ghost use Rattle.bp_core.specs.CoreView.{CoreView};
+
+    ghost Value = { CoreView };
+
+    ghost view = { λ p. p.state.core };
+
+    ghost invariant = { λ p. p.mark ≡ N.mark };
+}
+
+impl<N: PoolName, K: ListKeeper> ClosedPool<N, K> {
+    ghost use Rattle.std.specs.Prelude.{◌≡◌, ◌≤◌};
+    ghost use Rattle.bp_trail.specs.Clock.{durable};
+    ghost use Rattle.bp_shared.specs.Telling.{GoesOnFrom, IsToldBy};
+
+    /// A pool whose state nobody else has.
+    pub(crate) fn new(mark: Mark, state: State<N, K>) -> ClosedPool<N, K>
+        requires mark { mark ≡ N.mark }
+        ensures core { result ≡ state.core }
+    {
+        ClosedPool { mark, state }
+    }
+
+    /// Ends a session and gives what it kept for itself, as [`Session::into_book`] does. It takes no memory.
+    ///
+    /// What the session's list told is what the core's trail tells of its client since the pool was made, entry by entry and
+    /// with nothing between; only unfixes are left out, which the trail may have later than the list. So no call of the
+    /// session was answered by another core, and no entry of its client's was made by anybody else.
+    pub fn end_session(&mut self, session: Session<N, K>) -> Book<K>
+        ensures same { self.new ≡ self.old }
+        ensures client { result.client ≡ session.client }
+        ensures before { result.before ≡ session.before }
+        ensures said { result.said ≡ session.said }
+        ensures theirs { IsToldBy N.past self.old.past session.client session.said }
+    {
+        self.state.end_session(session)
+    }
+
+    /// Gives back the core, the mark and its reader. It neither waits nor takes memory. The core's trail goes on from all that
+    /// the taker was handed, and from what it had when the pool was made.
+    pub fn into_core(self, taker: Taker<N>) -> (PoolCore<K>, Mark, Reader)
+        ensures core { result.0 ≡ self }
+        ensures goes_on { GoesOnFrom N.past result.0.past }
+        ensures before { result.0.before ≡ taker.past }
+        ensures mark { result.1 ≡ N.mark }
+        ensures reader { result.2.mark ≡ N.mark }
+        ensures parameters { result.0.parameters ≡ N.parameters }
+        ensures seen { durable result.0.past ≤ result.2.seen }
+    {
+        let ClosedPool { mark, state } = self;
+        let (core, reader) = state.into_parts(taker);
+        (core, mark, reader)
+    }
+}
