@@ -6,8 +6,12 @@ use Rattle.std.proofs.lemmas.List.Elements.{All-nil, All-cons}
 use Rattle.bp_page.specs.declared.limits.Geometry.{Geometry}
 use Rattle.bp_trail.specs.Parameters.{Parameters}
 use Rattle.bp_trail.specs.Script.{held_passes}
+use Rattle.bp_trail.specs.Trail.{Trail}
+use Rattle.bp_audit.specs.Clients.{of_client}
 use Rattle.bp_core.specs.CoreView.{CoreView}
 use Rattle.bp_shared.specs.Sessions.{SessionValue, new_session, new_sessions}
+use Rattle.bp_shared.specs.Telling.{told, IsToldBy}
+use Rattle.bp_shared.proofs.Telling.{told_whole}
 use Rattle.bp_workers.specs.declared.worker.Left.{Left}
 use Rattle.bp_workers.specs.Giving.{GoBack}
 use Rattle.bp_workers.specs.Lists.{SideBySide}
@@ -125,9 +129,10 @@ keeps_at core (suc n) old (Some u) given same first = absurd (let no : true ≡ 
 
 -- what one job left is what is left of its client
 left_by : {W P K I B S : Type 0} (p : Parameters) (geometry_of : P → Geometry) (core : CoreView) (Leaves : Leaving W P) (client : ℕ) (given : W × P) (old new : JobValue W P) (left : Left P W K I B S)
-    → IsNewJob client given old → Ran Leaves old new → IsLeftOf p geometry_of new left → p ≡ core.parameters → (client ≡ 0 → KeepsUp core 0 new.upkeep) → LeftBy core geometry_of Leaves client given left
+    → IsNewJob client given old → Ran Leaves old new → IsLeftOf p geometry_of [] core.past new left → p ≡ core.parameters → (client ≡ 0 → KeepsUp core 0 new.upkeep) → LeftBy core geometry_of Leaves client given left
 left_by p geometry_of core Leaves client given old new left is ran leaves same keeps =
     let own : old.session.client ≡ client = ap (λ (s : SessionValue). s.client) is.session in
+    let whose : left.book.client ≡ client = leaves.client ∙ ran.whose ∙ own in
     record {
       returned = ran.returned;
       upkeep = new.upkeep;
@@ -139,16 +144,17 @@ left_by p geometry_of core Leaves client given old new left is ran leaves same k
           (subst (λ q. Leaves old.session.client old.worker old.port new.worker q ran.returned new.upkeep) (sym leaves.port) ran.leaves))));
       keeps_up = keeps_at core client old.upkeep new.upkeep is.upkeep ran.upkeep keeps;
       of_pool = subst (λ q. IsOfPool q (geometry_of left.port)) same leaves.of_pool;
-      whose = leaves.client ∙ ran.whose ∙ own;
+      whose = whose;
       client_is = leaves.client ∙ ran.client;
       held = leaves.held ∙ ran.held;
       back = subst (GoBack ran.returned.said) (sym leaves.said) ran.back;
       settled = (λ yes. ap held_passes leaves.said ∙ ran.settled.0 (sym leaves.settled ∙ yes), λ none. leaves.settled ∙ ran.settled.1 (sym (ap held_passes leaves.said) ∙ none));
       cut = leaves.before ∙ ran.before;
+      theirs = subst (λ c. of_client c (told core.past) ≡ told left.book.said) whose (told_whole core.past left.book.client left.book.said leaves.theirs);
     }
 
 each_left : {W P K I B S : Type 0} (p : Parameters) (geometry_of : P → Geometry) (core : CoreView) (Leaves : Leaving W P) (n : ℕ) (given : List (W × P)) (olds news : List (JobValue W P)) (lefts : List (Left P W K I B S))
-    → SideBySide IsNewJob n given olds → length news ≡ length olds → EachRan Leaves olds news → SideBySide (λ _. IsLeftOf p geometry_of) n news lefts → p ≡ core.parameters
+    → SideBySide IsNewJob n given olds → length news ≡ length olds → EachRan Leaves olds news → SideBySide (λ _. IsLeftOf p geometry_of [] core.past) n news lefts → p ≡ core.parameters
     → (n ≡ 0 → 0 < length news → KeepsUp core 0 (first_upkeep news)) → SideBySide (LeftBy core geometry_of Leaves) n given lefts
 each_left p geometry_of core Leaves n [] [] [] [] new len ran left same keeps = tt
 each_left p geometry_of core Leaves n (x ∷ given) (o ∷ olds) (j ∷ news) (l ∷ lefts) new len ran left same keeps = (
@@ -163,7 +169,7 @@ each_left p geometry_of core Leaves n (x ∷ given) (o ∷ olds) [] lefts new le
 each_left p geometry_of core Leaves n (x ∷ given) (o ∷ olds) (j ∷ news) [] new len ran left same keeps = absurd left
 
 pub all_left_by : {W P K I B S : Type 0} (p : Parameters) (geometry_of : P → Geometry) (core : CoreView) (Leaves : Leaving W P) (u : UpkeepValue) (given : List (W × P)) (olds news : List (JobValue W P)) (lefts : List (Left P W K I B S))
-    → SideBySide IsNewJob 0 given olds → length news ≡ length olds → EachRan Leaves olds news → SideBySide (λ _. IsLeftOf p geometry_of) 0 news lefts → p ≡ core.parameters
+    → SideBySide IsNewJob 0 given olds → length news ≡ length olds → EachRan Leaves olds news → SideBySide (λ _. IsLeftOf p geometry_of [] core.past) 0 news lefts → p ≡ core.parameters
     → first_upkeep news ≡ Some u → KeepsUp core 0 (Some u) → SideBySide (LeftBy core geometry_of Leaves) 0 given lefts
 all_left_by p geometry_of core Leaves u given olds news lefts new len ran left same first keeps =
     each_left p geometry_of core Leaves 0 given olds news lefts new len ran left same (λ _ _. subst (KeepsUp core 0) (sym first) keeps)

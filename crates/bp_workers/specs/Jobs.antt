@@ -3,7 +3,9 @@ use Rattle.std.specs.Prelude.{◌≡◌, ◌↔◌, ℕ, Bool, true, List, [], �
 use Rattle.bp_page.specs.declared.limits.Geometry.{Geometry}
 use Rattle.bp_trail.specs.Parameters.{Parameters}
 use Rattle.bp_trail.specs.Script.{held_passes}
+use Rattle.bp_trail.specs.Trail.{Trail}
 use Rattle.bp_shared.specs.Sessions.{SessionValue, new_session}
+use Rattle.bp_shared.specs.Telling.{IsToldBy}
 use Rattle.bp_workers.specs.declared.worker.Left.{Left}
 use Rattle.bp_workers.specs.Giving.{GoBack}
 use Rattle.bp_workers.specs.Workers.{UpkeepValue, new_upkeep, Leaving}
@@ -38,8 +40,9 @@ pub record Ran {W P : Type 0} (Leaves : Leaving W P) (old new : JobValue W P) : 
   pub settled : (new.is_settled ≡ true) ↔ (held_passes new.session.said ≡ [])
   pub upkeep : is_some new.upkeep ≡ is_some old.upkeep
 
--- what it leaves: the worker, its port, which is one to the pool's pages, and the session's own list, with what cuts handed out of that
-pub record IsLeftOf {P W K I B S : Type 0} (p : Parameters) (geometry_of : P → Geometry) (j : JobValue W P) (left : Left P W K I B S) : Type 0 where
+-- what it leaves: the worker, its port, which is one to the pool's pages, and the session's own list, with what cuts handed out of that;
+-- the list told what the trail tells of the client, since the pool was made
+pub record IsLeftOf {P W K I B S : Type 0} (p : Parameters) (geometry_of : P → Geometry) (start past : Trail) (j : JobValue W P) (left : Left P W K I B S) : Type 0 where
   pub worker : left.worker ≡ j.worker
   pub port : left.port ≡ j.port
   pub of_pool : IsOfPool p (geometry_of left.port)
@@ -48,6 +51,7 @@ pub record IsLeftOf {P W K I B S : Type 0} (p : Parameters) (geometry_of : P →
   pub said : left.book.said ≡ j.session.said
   pub held : left.held ≡ j.held
   pub settled : left.is_settled ≡ j.is_settled
+  pub theirs : IsToldBy start past left.book.client left.book.said
 
 -- the upkeep of the first of some jobs
 abbrev pub first_upkeep : {W P : Type 0} → List (JobValue W P) → Option UpkeepValue

@@ -4,7 +4,7 @@ use crate::giving::give_back_all;
 use crate::worker::{Client, Left, Upkeep, Worker};
 use bp_device::Port;
 use bp_keeper::ListKeeper;
-use bp_shared::{PoolName, SharedPool};
+use bp_shared::{ClosedPool, PoolName, SharedPool};
 use std::marker::Model;
 use std::sync::Wait;
 
@@ -71,9 +71,10 @@ impl<N: PoolName, P: Port, K: ListKeeper, W: Worker<P, K>> Job<N, P, K, W> {
         self.is_settled = give_back_all(rt, pool, &mut self.client.session);
     }
 
-    /// What the job left, and its upkeep. It takes no memory.
-    pub(crate) fn into_left(self) -> (Left<P, W, K>, Option<Upkeep<N>>)
-        ensures left { IsLeftOf N.parameters P.geometry_of self result.0 }
+    /// What the job left, its session being ended at its pool, and its upkeep. It takes no memory.
+    pub(crate) fn into_left(self, pool: &mut ClosedPool<N, K>) -> (Left<P, W, K>, Option<Upkeep<N>>)
+        ensures pool { pool.new ≡ pool.old }
+        ensures left { IsLeftOf N.parameters P.geometry_of N.past pool.old.past self result.0 }
         ensures upkeep { held_upkeep result.1 ≡ self.upkeep }
     {
         let Job {
@@ -87,7 +88,7 @@ impl<N: PoolName, P: Port, K: ListKeeper, W: Worker<P, K>> Job<N, P, K, W> {
         let left = Left {
             worker,
             port,
-            book: session.into_book(),
+            book: pool.end_session(session),
             held,
             is_settled,
         };

@@ -19,7 +19,7 @@ use bp_keeper::{ListKeeper, RecordingKeeper};
 use bp_lruk::Settings;
 use bp_mark::{LogEnd, Mark, Reader};
 use bp_page::{Geometry, Refusal};
-use bp_shared::{PoolName, Session, SharedPool, TrailRing};
+use bp_shared::{ClosedPool, PoolName, Session, SharedPool, TrailRing};
 use std::alloc::Global;
 use std::marker::{Brand, Send, Sync};
 use std::sync::Wait;
@@ -99,8 +99,10 @@ fn run_jobs<
     thread::for_each_mut(rt, jobs, count, &|_, job| job.run(rt, pool));
 }
 
-/// What the jobs left, and the upkeep that the first had. There is room for it, so that no memory is taken.
+/// What the jobs left, their sessions being ended at the pool, and the upkeep that the first had. There is room for it, so that no
+/// memory is taken.
 fn all_left<N: PoolName, P: Port, K: ListKeeper, W: Worker<P, K>>(
+    pool: &mut ClosedPool<N, K>,
     jobs: Vec<Job<N, P, K, W>>,
     left: Vec<Left<P, W, K>>,
 ) -> (Upkeep<N>, Vec<Left<P, W, K>>)
@@ -108,19 +110,20 @@ fn all_left<N: PoolName, P: Port, K: ListKeeper, W: Worker<P, K>>(
     requires empty { left.items ≡ [] }
     requires room { vec_len jobs ≤ vec_capacity left }
     ensures upkeep { first_upkeep jobs.items ≡ Some (upkeep_value result.0) }
-    ensures left { SideBySide (λ _. IsLeftOf N.parameters P.geometry_of) 0 jobs.items
-        result.1.items }
+    ensures pool { pool.new ≡ pool.old }
+    ensures left { SideBySide (λ _. IsLeftOf N.parameters P.geometry_of N.past pool.old.past) 0
+        jobs.items result.1.items }
 {
     let mut left = left;
     let mut jobs = jobs.into_iter();
     let Some(first) = jobs.next() else {
         unreachable!()
     };
-    let (one, upkeep) = first.into_left();
+    let (one, upkeep) = first.into_left(pool);
     let Some(upkeep) = upkeep else { unreachable!() };
     left.push_reserved(one);
     for job in jobs {
-        let (one, _) = job.into_left();
+        let (one, _) = job.into_left(pool);
         left.push_reserved(one);
     }
     (upkeep, left)
@@ -143,6 +146,7 @@ fn run_pool<
     requires some { 0 < vec_len jobs }
     requires ready { All IsReady jobs.items }
     requires upkeep { IsSome (first_upkeep jobs.items) }
+    requires new { N.past ≡ [] }
     ensures parameters { IfOk result (λ run. run.core.parameters ≡ N.parameters) }
     ensures left { (given : _) → SideBySide IsNewJob 0 given jobs.items → IfOk result (λ run.
         SideBySide (LeftBy run.core P.geometry_of W.leaves) 0 given run.left.items) }
@@ -153,9 +157,10 @@ fn run_pool<
     };
     let mut jobs = jobs;
     run_jobs(rt, &pool, jobs.as_mut_slice());
-    let (upkeep, left) = all_left(jobs, left);
+    let mut pool = pool.close();
+    let (upkeep, left) = all_left(&mut pool, jobs, left);
     let Upkeep { log, taker } = upkeep;
-    let (core, mark, reader) = pool.finish(taker);
+    let (core, mark, reader) = pool.into_core(taker);
     // The mark's last word bounds what its reader has seen, and so what the core was told.
     mark.close(log.into_log_end(), reader);
     Ok(Run { core, left })

@@ -1,5 +1,5 @@
 -- What was taken in so far, of the first job on.
-use Rattle.std.proofs.Common.{◌+◌, ◌≤◌, length, vec_len, vec_capacity}
+use Rattle.std.proofs.Common.{◌≡◌, ◌+◌, ◌≤◌, length, vec_len, vec_capacity}
 use Rattle.std.specs.Vec.Iter.{into_iter_items}
 use Rattle.bp_workers.specs.Jobs.{IsLeftOf}
 use Rattle.bp_workers.proofs.Lining.{Beside}
@@ -7,6 +7,7 @@ use Rattle.bp_workers.proofs.run.all_left.Given as goal
 
 abbrev pub invariant-loop-job : goal.invariant-loop-job
 invariant-loop-job g l = record {
-  made : Beside (λ _. IsLeftOf g.N.PoolName.parameters g.P.Port.geometry_of) l.fn.jobs.items (into_iter_items l.job-iterator) l.left.items;
+  pool : l.pool ≡ l.fn.pool.now;
+  made : Beside (λ _. IsLeftOf g.N.PoolName.parameters g.P.Port.geometry_of g.N.PoolName.past l.fn.pool.now.past) l.fn.jobs.items (into_iter_items l.job-iterator) l.left.items;
   room : vec_len l.left + length (into_iter_items l.job-iterator) ≤ vec_capacity l.left;
 }

@@ -1,6 +1,7 @@
 -- From the jobs that were made to what they left.
 use Rattle.std.proofs.Common.{◌≡◌, sym, ◌∙◌, ap, subst, arith, length}
 use Rattle.std.specs.Prelude.{IsSome}
+use Rattle.bp_core.specs.CoreView.{CoreView}
 use Rattle.bp_workers.specs.Workers.{upkeep_value}
 use Rattle.bp_workers.specs.Jobs.{first_upkeep}
 use Rattle.bp_workers.proofs.Lining.{lent_back, still_keeps, all_left_by}
@@ -22,6 +23,7 @@ returns-clause-left g c given are =
     let lent : c.as_mut_slice.result.now ≡ old = c.as_mut_slice.ensures.value in
     let kept : length new ≡ length old = c.run_jobs.ensures.counted ∙ ap length lent in
     let back = lent_back c.args.jobs.len new old (omega (arith, kept, c.args.jobs.ok)) in
-    let end = c.finish-core.ensures in
-    all_left_by g.N.PoolName.parameters g.P.Port.geometry_of c.finish-core.result.0 g.W.Worker.leaves (upkeep_value c.all_left-upkeep.result.0) given old new c.all_left-upkeep.result.1.items are kept (rw lent at c.run_jobs.ensures.ran) (rw back at c.all_left-upkeep.ensures.left) (sym end.parameters)
+    let end = c.into_core-core.ensures in
+    let whole : c.close-pool.result.past ≡ c.into_core-core.result.0.past = sym (ap (λ (core : CoreView). core.past) (end.core ∙ c.all_left-upkeep.ensures.pool)) in
+    all_left_by g.N.PoolName.parameters g.P.Port.geometry_of c.into_core-core.result.0 g.W.Worker.leaves (upkeep_value c.all_left-upkeep.result.0) given old new c.all_left-upkeep.result.1.items are kept (rw lent at c.run_jobs.ensures.ran) (rw whole at (rw c.requires.new at (rw back at c.all_left-upkeep.ensures.left))) (sym end.parameters)
     (rw back at c.all_left-upkeep.ensures.upkeep) (sym end.before, omega (arith, end.seen, c.close.ensures.seen, c.close.ensures.frontier, c.into_log_end.ensures.frontier))
