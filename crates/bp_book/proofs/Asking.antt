@@ -5,20 +5,18 @@ use Rattle.bp_page.specs.declared.refusals.Refusal.TheVariants as refusal
 use Rattle.bp_core.specs.declared.passes.Pass.{Pass}
 use Rattle.bp_core.specs.declared.passes.ReadTicket.{ReadTicket}
 use Rattle.bp_trail.specs.declared.entries.Call.{Call}
-use Rattle.bp_trail.specs.declared.entries.Call.TheVariants.{Fix, Flush, Read, ReadEnd}
+use Rattle.bp_trail.specs.declared.entries.Call.TheVariants.{Fix, Flush, ReadEnd}
 use Rattle.bp_trail.specs.declared.entries.Reply.{Reply}
-use Rattle.bp_trail.specs.declared.entries.Reply.TheVariants.{WriteFirst, Content, Fixed}
+use Rattle.bp_trail.specs.declared.entries.Reply.TheVariants.{WriteFirst, Fixed}
 use Rattle.bp_trail.specs.Parameters.{Parameters}
 use Rattle.bp_trail.specs.Trail.{Trail}
-use Rattle.bp_trail.specs.Passes.{passes_out}
 use Rattle.bp_trail.specs.Legal.{Legal}
 use Rattle.bp_core.specs.CoreView.{CoreView, with_entry}
 use Rattle.bp_core.specs.Outcomes.{Adds, FixOutcome, FlushOutcome, ReadEndOutcome}
 use Rattle.bp_trail.specs.Pieces.{by}
 use Rattle.bp_trail.proofs.Events.{Event, event-of}
-use Rattle.bp_trail.proofs.Events.Event.{fix_write, flush_write, page_read}
+use Rattle.bp_trail.proofs.Events.Event.{fix_write, flush_write}
 use Rattle.bp_trail.proofs.Victim.{victim-is, candidate-resident}
-use Rattle.bp_trail.proofs.Places.{places, out-of_page}
 use Rattle.bp_trail.proofs.Ranges.{sized}
 use Rattle.bp_book.specs.Books.{Alike}
 use Rattle.bp_book.specs.Turns.{fix_refuses, flush_refuses, refusal_reply}
@@ -63,11 +61,3 @@ pub loaded_alike : (old new : CoreView) (said after : Trail) (client : ℕ) (tic
 loaded_alike old new said after client ticket image pass whose ended grows =
     let e = λ (c : ℕ). by c (ReadEnd ticket.serial ticket.page (Some image)) (Fixed pass.serial) in
     inr (e ticket.client, ended.3.is, grows ∙ ap (λ c. e c ∷ said) (sym whose))
-
-read-event : (c : Parameters) (past : Trail) (who n p : ℕ) (image : List ℕ) → Legal c past → Event c past who (Read n p) (Content image) → length image ≡ c.size
-read-event c past who n p image l (page_read m q out) = sized c past l q ((places c past l).pinned q (out-of_page who q m (passes_out past) out))
-
-pub content_sized : (old new : CoreView) (client n p : ℕ) (image : List ℕ) → Adds old client (Read n p) (Content image) new → length image ≡ old.parameters.size
-content_sized old new client n p image adds =
-    let l : Legal old.parameters (by client (Read n p) (Content image) ∷ old.past) = subst (λ (core : CoreView). Legal core.parameters core.past) adds.is adds.legal in
-    read-event old.parameters old.past client n p image l.before (event-of old.parameters old.past (by client (Read n p) (Content image)) l.here)

@@ -184,13 +184,14 @@ impl<K: ListKeeper> Book<K> {
         }
     }
 
-    /// Reads the page of a pass of the client's. The trail and the list get the read, each with an image of its own.
-    /// `TrailFull`, `UnknownPass` and `OutOfMemory` add no entry.
+    /// Reads the page of a pass of the client's: the image has the page size. The trail and the list get the read, each
+    /// with an image of its own. `TrailFull`, `UnknownPass` and `OutOfMemory` add no entry.
     pub fn ask_read(&mut self, core: &mut PoolCore<K>, pass: &Pass) -> Result<Image, Refusal>
         requires own { pass.now.client ≡ self.old.client }
         requires size { self.old.size ≡ core.old.parameters.size }
         requires room { 0 < self.old.entries }
         requires copies { 0 < self.old.copies }
+        ensures size { IfOk result (λ image. length image ≡ self.old.size) }
         ensures durable { durable core.new.past ≡ durable core.old.past }
         ensures parameters { core.new.parameters ≡ core.old.parameters }
         ensures before { core.new.before ≡ core.old.before }

@@ -1,7 +1,6 @@
 -- The image of a page that is read has the page's size.
 use Rattle.std.proofs.Common.{sym, ◌∙◌}
-use Rattle.bp_book.proofs.Asking.{content_sized}
 use Rattle.bp_book.proofs.book.Book.ask_read.Goals as goal
 
 pub tell_read-requires-clause-size : goal.tell_read-requires-clause-size
-tell_read-requires-clause-size g c = content_sized _ _ _ _ _ _ c.in-Ok.ensures.outcome.2 ∙ sym c.requires.size
+tell_read-requires-clause-size g c = c.in-Ok.ensures.size ∙ sym c.requires.size
