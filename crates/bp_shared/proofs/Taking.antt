@@ -1,5 +1,5 @@
 -- What a cut hands out goes on from what was handed out before.
-use Rattle.std.proofs.Common.{◌≡◌, refl, sym, ap, subst, ◌∙◌, ◌≤◌, List, [], ◌∷◌, ◌++◌, length, reverse}
+use Rattle.std.proofs.Common.{◌≡◌, refl, sym, ap, subst, ◌∙◌, ◌+◌, ◌≤◌, List, [], ◌∷◌, ◌++◌, length, reverse}
 use Rattle.std.proofs.lemmas.List.{length-reverse}
 use Rattle.std.specs.declared.vec.Vec.{Vec}
 use Rattle.rtrb.specs.declared.producer.Producer.{Producer}
@@ -36,8 +36,8 @@ handed_out name before pieces now piece old mid new is same cut ring emptied mor
 
 -- the piece, in the words of its taker
 pub comes_next : (c : Parameters) (had has : TakerValue) (mid new : CoreView) (entries : List Entry) → mid.parameters ≡ c
-    → had.past ≡ mid.before → has.past ≡ reverse entries ++ had.past → Cuts mid entries new → ComesNext c had entries has
-comes_next c had has mid new entries same is takes cut = record { joins = takes; leads_on = leads; legal = legal }
+    → had.past ≡ mid.before → has.pieces ≡ had.pieces + 1 → has.past ≡ reverse entries ++ had.past → Cuts mid entries new → ComesNext c had entries has
+comes_next c had has mid new entries same is more takes cut = record { one_more = more; joins = takes; leads_on = leads; legal = legal }
   where
     same_new : new.parameters ≡ c
     same_new = ap (λ (n : CoreView). n.parameters) cut.is ∙ same

@@ -1,5 +1,5 @@
 -- The trail of a pool, as it is taken piece by piece.
-use Rattle.std.specs.Prelude.{◌≡◌, ◌⊎◌, ℕ, ◌<◌, ◌^◌, ◌≤◌, List, [], ◌∷◌, ◌++◌, length, reverse}
+use Rattle.std.specs.Prelude.{◌≡◌, ◌⊎◌, ℕ, ◌+◌, ◌<◌, ◌^◌, ◌≤◌, List, [], ◌∷◌, ◌++◌, length, reverse}
 use Rattle.std.specs.declared.vec.Vec.{Vec}
 use denote.RawPtr.{Ptr, null_ptr}
 use Rattle.rtrb.specs.declared.producer.Producer.{Producer}
@@ -41,9 +41,11 @@ ring_at taken = record { words = taken.end.words; slots = taken.end.slots; names
 abbrev pub IsEmptied : {T A P : Type 0} → Producer T A P → Type 0
 IsEmptied pieces = (producer_capacity pieces ≡ 1) × (known_free pieces ≡ 1)
 
--- the entries so far, newest first: those from before the pool, and those of the pieces that were taken
+-- the entries so far, newest first: those from before the pool, and those of the pieces that were taken; and how many
+-- pieces these are
 pub record TakerValue : Type 0 where
   pub past : Trail
+  pub pieces : ℕ
 
 -- the entries of some pieces, each of which is in order, after those before them
 abbrev pub after_pieces : {A : Type 0} → Trail → List (Vec Entry A) → Trail
@@ -57,8 +59,9 @@ pub record IsHandedOut {A B P : Type 0} (ring : RingName) (before : Trail) (piec
   pub emptied : IsEmptied pieces
   pub pieces_are : core.before ≡ after_pieces before (sent pieces)
 
--- the piece comes next: it goes on lawfully from where those before it led
+-- the piece comes next: it is one more, and goes on lawfully from where those before it led
 pub record ComesNext (c : Parameters) (had : TakerValue) (entries : List Entry) (has : TakerValue) : Type 0 where
+  pub one_more : has.pieces ≡ had.pieces + 1
   pub joins : has.past ≡ reverse entries ++ had.past
   pub leads_on : LeadsOn c (standing c had.past) (reverse entries) (standing c has.past)
   pub legal : Legal c has.past

@@ -133,6 +133,7 @@ impl<N: PoolName, K: ListKeeper> SharedPool<N, K> {
         requires ring { ring ≡ N.ring }
         requires seen { durable core.past ≤ reader.seen }
         ensures taker { IfOk result (λ made. made.2.past ≡ N.before) }
+        ensures pieces { IfOk result (λ made. made.2.pieces ≡ 0) }
         ensures sessions { IfOk result (λ made. made.1.items ≡ new_sessions N.parameters.clients) }
         ensures refused { OnErr result (result ≡ Err Refusal.OutOfMemory) }
     {

@@ -13,13 +13,16 @@ pub struct Taker<N: PoolName> {
 }
 
 impl<N: PoolName> Model for Taker<N> {
-    ghost use Rattle.std.specs.Prelude.{◌≡◌};
+    ghost use Rattle.std.specs.Prelude.{◌≡◌, length};
     ghost use Rattle.rtrb.specs.Ring.{received};
     ghost use Rattle.bp_shared.specs.Taking.{TakerValue, after_pieces, ring_at};
 
     ghost Value = { TakerValue };
 
-    ghost view = { λ t. record { past = after_pieces N.before (received t.taken) } };
+    ghost view = { λ t. record {
+      past = after_pieces N.before (received t.taken);
+      pieces = length (received t.taken);
+    } };
 
     ghost invariant = { λ t. ring_at t.taken ≡ N.ring.trail };
 }
@@ -33,7 +36,8 @@ impl<N: PoolName> Taker<N> {
     pub(crate) fn new(taken: Consumer<Vec<Entry>>) -> Taker<N>
         requires ring { ring_at taken ≡ N.ring.trail }
         requires unused { received taken ≡ [] }
-        ensures { result.past ≡ N.before }
+        ensures past { result.past ≡ N.before }
+        ensures pieces { result.pieces ≡ 0 }
     {
         Taker {
             taken,

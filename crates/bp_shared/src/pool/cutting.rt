@@ -12,7 +12,8 @@ impl<N: PoolName> SharedPool<N, RecordingKeeper> {
     ghost use Rattle.bp_page.specs.declared.refusals.Refusal.TheVariants as Refusal;
     ghost use Rattle.bp_shared.specs.Taking.{ComesNext, GaveTooMany};
 
-    /// Hands the trail to its taker, the oldest entry first, and goes on with an empty one: the rings are drained before.
+    /// Hands the trail to its taker as one piece more, the oldest entry first, and goes on with an empty one: the rings
+    /// are drained before.
     /// Nothing else changes: frames, passes and tickets that are out, the clock, histories. It may be called at any time.
     ///
     /// `ClockFull` where more than 2^62 passes or tickets were given; `OutOfMemory` where the room of a trail can't be

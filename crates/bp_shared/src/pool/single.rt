@@ -11,7 +11,7 @@ use bp_page::{Bytes, Image, Lsn, Refusal};
 use std::sync::Wait;
 
 impl<N: PoolName, K: ListKeeper> SharedPool<N, K> {
-    ghost use Rattle.std.specs.Prelude.{◌≡◌, ◌≢◌, ◌+◌, ◌≤◌, length};
+    ghost use Rattle.std.specs.Prelude.{◌≡◌, ◌≢◌, ◌+◌, ◌≤◌, length, IfOk};
     ghost use Rattle.bp_book.specs.Turns.{TickSaid, PurgeSaid, ReadSaid, WriteSaid};
 
     /// Moves the clock on. `OutOfMemory`, `TrailFull` and `ClockFull` change nothing.
@@ -44,8 +44,9 @@ impl<N: PoolName, K: ListKeeper> SharedPool<N, K> {
         state.purge(&mut session.book, &mut session.line, asked)
     }
 
-    /// A copy of the image of a pass's page. `UnknownPass`, before all else, where the pass is another client's, and where the pool
-    /// does not know it; `OutOfMemory`, which may come before the pool is asked, and `TrailFull`. All change nothing.
+    /// A copy of the image of a pass's page, which has the page size. `UnknownPass`, before all else, where the pass is
+    /// another client's, and where the pool does not know it; `OutOfMemory`, which may come before the pool is asked,
+    /// and `TrailFull`. All change nothing.
     pub fn read<R: Wait>(
         &self,
         rt: &R,
@@ -55,6 +56,7 @@ impl<N: PoolName, K: ListKeeper> SharedPool<N, K> {
         ensures client { session.new.client ≡ session.old.client }
         ensures before { session.new.before ≡ session.old.before }
         ensures free { session.new.free ≡ session.old.free }
+        ensures size { IfOk result (λ image. length image ≡ N.parameters.size) }
         ensures stranger { pass.now.client ≢ session.old.client → result ≡ Err Refusal.UnknownPass }
         ensures outcome { ReadSaid session.old.client pass.now result
             session.old.said session.new.said }

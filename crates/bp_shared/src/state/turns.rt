@@ -210,6 +210,7 @@ impl<N: PoolName, K: ListKeeper> State<N, K> {
         requires room { 0 < book.old.entries }
         requires copies { 0 < book.old.copies }
         requires line { IsLineOf N.ring.board line.old book.old.client book.old.said }
+        ensures size { IfOk result (λ image. length image ≡ N.parameters.size) }
         ensures owner { SameOwner book.old book.new }
         ensures line { IsLineOf N.ring.board line.new book.new.client book.new.said }
         ensures ends { self.new.ends ≡ self.old.ends }

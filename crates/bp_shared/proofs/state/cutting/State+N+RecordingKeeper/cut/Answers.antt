@@ -1,5 +1,5 @@
 -- The core is cut, and its taker gets the piece.
-use Rattle.std.proofs.Common.{rules, ◌≡◌, refl, sym, ap, subst, ◌∙◌, length, map}
+use Rattle.std.proofs.Common.{rules, ◌≡◌, refl, sym, ap, subst, ◌∙◌, [], ◌∷◌, length, length-append, map}
 use Rattle.std.proofs.lemmas.List.{with_items_is}
 use Rattle.std.specs.Prelude.{IfErr}
 use Rattle.rtrb.specs.Ring.{received}
@@ -57,9 +57,10 @@ returns-clause-next g c =
     let same = drained.parameters ∙ c.self.invariant.0.parameters_are in
     let had = ap (after_pieces before) passed.all ∙ sym c.self.invariant.1.pieces_are ∙ sym drained.before in
     let takes = ap (after_pieces before) passed.received ∙ one_more before (received c.taker.inside.taken) c.in-Ok.entries in
+    let more = ap length passed.received ∙ length-append (received c.taker.inside.taken) (c.in-Ok.entries ∷ []) in
     let entries = c.in-Ok.entries.items in
     rw (← c.taker.view_is) (rw passed.same
-    (comes_next _ _ _ c.drain_all.new.core c.cut_into.new.self entries same had takes c.in-Ok.ensures.done))
+    (comes_next _ _ _ c.drain_all.new.core c.cut_into.new.self entries same had more takes c.in-Ok.ensures.done))
 
 pub returns-in-Err-clause-cause : goal.returns-in-Err-clause-cause
 returns-in-Err-clause-cause g c =
