@@ -1,5 +1,5 @@
 -- A report that is told piece by piece is that of the pieces joined.
-use Rattle.std.proofs.Common.{◌≡◌, refl, sym, ap, ◌∙◌, ℕ, ◌+◌, ◌≤◌, ◌<◌, cond, List, [], ◌∷◌, ◌++◌, length, drop, get_or, append_assoc, arith}
+use Rattle.std.proofs.Common.{◌≡◌, refl, sym, ap, ◌∙◌, ℕ, ◌+◌, ◌≤◌, ◌<◌, cond, List, [], ◌∷◌, ◌++◌, length, drop, get_or, append_assoc, length-append, arith}
 use Rattle.std.specs.Prelude.{Bool}
 use Rattle.std.proofs.lemmas.List.Sums.{sum_by-cons}
 use Rattle.bp_trail.specs.declared.entries.Entry.{Entry}
@@ -10,7 +10,7 @@ use Rattle.bp_trace.specs.declared.totals.Totals.{Totals}
 use Rattle.bp_trace.specs.Lines.{event_line}
 use Rattle.bp_trace.specs.Totals.{counted, is_eviction, is_failure, is_fault, is_hit, is_refusal, is_write, one, replies, totals_of, totals_text}
 use Rattle.bp_trace.specs.Report.{lines_after, report_text, steps_of}
-use Rattle.bp_trace.specs.Pieces.{lines_from, Taken, none_taken, and_one, and_taken, text_of_pieces, joined}
+use Rattle.bp_trace.specs.Pieces.{lines_from, Taken, none_taken, and_one, and_taken, text_of_pieces, joined, MayTake, TakesNoMore}
 use Rattle.bp_trace.proofs.Entries.{clock-next, drop-item}
 
 module _ (taken : Taken) (entries : List Entry) (i : ℕ) (e : Entry) (h : i < length entries) (is : e ≡ get_or entries i e) where
@@ -38,6 +38,18 @@ and_taken-append : (taken : Taken) (xs ys : List Entry) → and_taken taken (xs 
 unfolding and_taken
 and_taken-append taken [] ys = refl
 and_taken-append taken (e ∷ xs) ys = and_taken-append (and_one e taken) xs ys
+
+-- from an earlier time the same entries lead to an earlier one
+time-earlier : (a b : Taken) (entries : List Entry) → a.time ≤ b.time → (and_taken a entries).time ≤ (and_taken b entries).time
+unfolding and_taken
+time-earlier a b [] le = le
+time-earlier a b (e ∷ later) le = time-earlier (and_one e a) (and_one e b) later (omega (arith, le))
+
+pub may-come : (old new : Taken) (piece next : List Entry) → TakesNoMore old piece new → MayTake old (piece ++ next) → MayTake new next
+may-come old new piece next taken may = (
+  omega (arith, time-earlier new (and_taken old piece) next taken.0, ap (λ (t : Taken). t.time) (and_taken-append old piece next), may.0),
+  omega (arith, taken.1, may.1, length-append piece next),
+)
 
 lines_from-append : (taken : Taken) (xs ys : List Entry) → lines_from taken.time (xs ++ ys) ≡ lines_from taken.time xs ++ lines_from (and_taken taken xs).time ys
 unfolding and_taken lines_from

@@ -32,6 +32,10 @@ and_taken taken (e ∷ later) = and_taken (and_one e taken) later
 abbrev pub MayTake : Taken → List Entry → Type 0
 MayTake taken entries = ((and_taken taken entries).time ≤ 2 ^ 62) × (taken.entries + length entries < 2 ^ 64)
 
+-- no more than these entries was taken in: what may be taken in after them may be taken in then
+abbrev pub TakesNoMore : Taken → List Entry → Taken → Type 0
+TakesNoMore old entries new = (new.time ≤ (and_taken old entries).time) × (new.entries ≤ old.entries + length entries)
+
 abbrev pub taken_by : ReportRun → Taken
 taken_by run = record { time = run.time; entries = run.entries; totals = run.totals }
 

@@ -1,11 +1,11 @@
 //! Laws of the format, which hold of every row and every number.
-ghost use Rattle.std.specs.Prelude.{◌≡◌, ◌≤◌, ◌^◌, List, Some, Ok, map};
+ghost use Rattle.std.specs.Prelude.{◌≡◌, ◌≤◌, ◌^◌, ◌++◌, List, Some, Ok, map};
 ghost use Rattle.std.specs.Fmt.{decimal};
 ghost use Rattle.bp_trace.specs.InRange.{IsScript};
 ghost use Rattle.bp_trace.specs.Numbers.{number_in};
 ghost use Rattle.bp_trace.specs.Script.{script_from};
 ghost use Rattle.bp_trail.specs.declared.entries.Entry.{Entry};
-ghost use Rattle.bp_trace.specs.Pieces.{none_taken, text_of_pieces, joined};
+ghost use Rattle.bp_trace.specs.Pieces.{Taken, none_taken, text_of_pieces, joined, MayTake, TakesNoMore};
 ghost use Rattle.bp_trace.specs.Report.{report_text};
 ghost use Rattle.bp_trace.specs.Written.{written_row};
 
@@ -24,8 +24,15 @@ pub fn written_rows_read_back(geometry: &Geometry, rows: &[Row])
     ensures { script_from geometry.now 1 (map written_row rows.now) ≡ Ok rows.now }
 {}
 
-/// The lines of the pieces of a trail, one piece after the other, and then the totals of all, are the report of the pieces joined.
+/// The lines of the pieces of a trail, one piece after the other, and then the totals of all, are the report of the
+/// pieces joined.
 pub fn pieces_report_as_the_whole()
     ensures { (pieces : List (List Entry)) → text_of_pieces none_taken pieces ≡ report_text
         (joined pieces) }
+{}
+
+/// After a fault in a piece, what may come after that piece may still come.
+pub fn next_piece_may_come_after_a_fault()
+    ensures { (old new : Taken) (piece next : List Entry) → TakesNoMore old piece new
+        → MayTake old (piece ++ next) → MayTake new next }
 {}

@@ -31,7 +31,7 @@ impl ReportRun {
     ghost use Rattle.bp_trace.specs.Lines.{event_line};
     ghost use Rattle.bp_trace.specs.Report.{steps_of};
     ghost use Rattle.bp_trace.specs.Totals.{totals_text};
-    ghost use Rattle.bp_trace.specs.Pieces.{lines_from, taken_by, none_taken, and_one, and_taken, MayTake};
+    ghost use Rattle.bp_trace.specs.Pieces.{lines_from, taken_by, none_taken, and_one, and_taken, MayTake, TakesNoMore};
 
     /// A report of no entries.
     pub fn new() -> ReportRun
@@ -46,7 +46,8 @@ impl ReportRun {
         }
     }
 
-    /// Whether these entries may come next: with them the ticks sum to less than 2^62, and there are fewer than 2^64 entries.
+    /// Whether these entries may come next: with them the ticks sum to less than 2^62, and there are fewer than 2^64
+    /// entries.
     pub fn takes(&self, entries: &[Entry]) -> bool
         ensures { Decides result (MayTake (taken_by self.now) entries.now) }
     {
@@ -65,6 +66,7 @@ impl ReportRun {
         ensures line { OnOk result (Appends (W.contents writer.old) (W.contents writer.new)
             (event_line self.old.time entry.now)) }
         ensures taken { OnOk result (taken_by self.new ≡ and_one entry.now (taken_by self.old)) }
+        ensures stays { OnErr result (taken_by self.new ≡ taken_by self.old) }
         ensures well { self.new.has_failed ≡ self.old.has_failed }
     {
         write_event(u128::from(self.time), entry, writer)?;
@@ -74,10 +76,11 @@ impl ReportRun {
         Ok(())
     }
 
-    /// Writes the lines of the next piece, oldest entry first. In all pieces so far the ticks sum to less than 2^62, and there are fewer
-    /// than 2^64 entries.
+    /// Writes the lines of the next piece, oldest entry first. In all pieces so far the ticks sum to less than 2^62,
+    /// and there are fewer than 2^64 entries.
     ///
-    /// A fault of the writer is passed on; after one there is a fault from each later call, and nothing more is written.
+    /// A fault of the writer is passed on. After one there is a fault from each later call, and nothing more is
+    /// written. No more than the piece was taken in then, so that what may come after the piece may still come.
     pub fn lines<W: Write>(&mut self, entries: &[Entry], writer: &mut W) -> io::Result<()>
         requires taken { MayTake (taken_by self.old) entries.now }
         ensures lines { OnOk result (Appends (W.contents writer.old) (W.contents writer.new)
@@ -87,6 +90,8 @@ impl ReportRun {
         ensures well { OnOk result (self.new.has_failed ≡ false) }
         ensures refused { OnOk result (self.old.has_failed ≡ false) }
         ensures fault { OnErr result (self.new.has_failed ≡ true) }
+        ensures no_more { OnErr result (TakesNoMore
+            (taken_by self.old) entries.now (taken_by self.new)) }
         ensures silent { self.old.has_failed ≡ true → writer.new ≡ writer.old }
     {
         if self.has_failed {

@@ -38,6 +38,21 @@ loop-entry-preserved g c =
           ∙ inv.left;
     }
 
+-- what stands before this entry is of the piece
+pub returns-in-Err-clause-no_more : goal.returns-in-Err-clause-no_more
+returns-in-Err-clause-no_more g c =
+    let inv = c.loop-entry.invariant in
+    let i = c.loop-entry.entry-index in
+    let es = c.args.entries.now in
+    let now = taken_by c.loop-entry.self in
+    let same = c.in-Err.ensures.stays in (
+      omega (arith, ap (λ (t : Taken). t.time) same, time-grows now (drop i es), ap (λ (t : Taken). t.time) inv.taken),
+      omega (arith, ap (λ (t : Taken). t.entries) same, inv.count, c.loop-entry-test.true),
+    )
+
+pub returns-then-has_failed-clause-no_more : goal.returns-then-has_failed-clause-no_more
+returns-then-has_failed-clause-no_more g c = (time-grows (taken_by c.args.self.now) c.args.entries.now, omega arith)
+
 pub returns-clause-lines : goal.returns-clause-lines
 unfolding lines_from
 returns-clause-lines g c =
