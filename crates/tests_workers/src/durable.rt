@@ -52,7 +52,8 @@ fn fix_by<N: PoolName, P: Port, R: Wait>(
     patience: Patience,
 ) -> Result<Pass, Refusal>
     requires { page < N.parameters.pages }
-    ensures { RaisesWithin log.old.durable writer.old log.new.durable writer.new }
+    ensures client { client.new.session.client ≡ client.old.session.client }
+    ensures raises { RaisesWithin log.old.durable writer.old log.new.durable writer.new }
 {
     let mut both = Leading::new(log, writer);
     fix_durably(rt, pool, client, &mut both, page, patience)
