@@ -1,30 +1,10 @@
-//! The core's answers to whole tables of calls, reckoned by hand; the histories and candidates of LRU-K; and what the
-//! judge of trails says.
+//! What only code can show of LRU-K and the core: that two bodies of the candidates agree over a long row of calls, and
+//! that a ticket goes to another core and back. All else of them is scenarios.
 //!
-//! They stand apart from the crates that they call, so that these are not proved a second time with their tests.
+//! The tests stand here, apart from the crates that they call, so that these are not proved a second time with them.
 #![tactic(auto)]
 
 #[cfg(test)]
-mod calls;
-#[cfg(test)]
-mod candidates;
-#[cfg(test)]
-mod cuts;
-#[cfg(test)]
-mod histories;
-#[cfg(test)]
-mod judged;
-#[cfg(test)]
-mod limits;
-#[cfg(test)]
-mod reads;
-#[cfg(test)]
-mod rows;
-#[cfg(test)]
-mod strangers;
+mod tickets;
 #[cfg(test)]
 mod two_bodies;
-#[cfg(test)]
-mod write_outs;
-#[cfg(test)]
-mod wrong_pages;

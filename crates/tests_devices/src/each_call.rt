@@ -1,17 +1,14 @@
-//! One client, and the n-th call of its port fails, by a driver and by a thread.
+//! One client's thread, and the n-th call of its port fails.
 use crate::making::{
-    Failing, NINE, ONES, TWO_PAGES, ZEROS, config, content_in, device, expect_page, fuse, run,
+    Failing, NINE, ONES, TWO_PAGES, ZEROS, config, content_in, device, expect_page, run,
 };
-use bp_clients::Config;
-use bp_core::{Core, Entry, Refused, Row};
-use bp_device::{MemDevice, Port, drive_all};
+use bp_core::{Entry, Refused};
+use bp_device::MemDevice;
 use bp_totals::Totals;
 use std::marker::Sync;
 use std::process::Abort;
 use std::sync::Wait;
 use std::thread::Threads;
-use test_support::judging::unlawful_in;
-use test_support::scripts::{rows_fit, rows_of};
 
 /// What is left where the n-th call fails.
 #[derive(Clone, Copy)]
@@ -101,47 +98,7 @@ fn expect_left<R: Wait + Abort>(
     expect_page(rt, &mut port, 1, &bytes);
 }
 
-/// A new core with one client.
-pub(crate) fn new_core<R: Abort + AllocGlobal>(rt: &R, config: &Config) -> Core {
-    let core = Core::new(
-        rt.alloc(),
-        config.geometry,
-        config.settings,
-        config.frames,
-        1,
-        config.room,
-    );
-    core.expect(rt, "the core")
-}
-
-/// Drives the rows over the core, which allows them.
-pub(crate) fn drive<P: Port, R: Wait + Abort + AllocGlobal>(
-    rt: &R,
-    core: &mut Core,
-    port: &mut P,
-    rows: &[Row],
-) -> Vec<Refused> {
-    let same_size = port.geometry().size == core.geometry().size;
-    assert!(rt; same_size);
-    assert!(rt; rows_fit(core, rows));
-    drive_all(rt, rt.alloc(), core, port, rows).expect(rt, "the rows are driven")
-}
-
-/// By a driver, over a core of its own.
-fn expect_driven<R: Wait + Abort + AllocGlobal>(rt: &R, left: &Left, spoil: bool) {
-    let config = config(rt);
-    let device = device(rt, config.geometry);
-    let mut port = fuse(rt, &device, left.n, spoil);
-    let mut core = new_core(rt, &config);
-    let rows = rows_of(rt.alloc(), &config.geometry, TWO_PAGES).expect(rt, "the rows");
-    let refused = drive(rt, &mut core, &mut port, &rows);
-    expect_left(rt, left, spoil, &refused, core.trail(), &device);
-    let place = unlawful_in(rt.alloc(), &core);
-    assert_eq!(rt; place, Ok(None), "the first entry that is not lawful");
-    assert_eq!(rt; port.failures(), left.failures);
-}
-
-/// By a thread, over a pool of its own.
+/// By a client's thread, over a pool of its own.
 fn expect_run<R: Threads + Wait + Sync + Abort + AllocGlobal>(rt: &R, left: &Left, spoil: bool) {
     let config = config(rt);
     let device = device(rt, config.geometry);
@@ -165,20 +122,7 @@ fn each_device_call_fails(rt: HostRuntime) {
         WITHOUT_A_FOURTH,
     ] {
         for spoil in [false, true] {
-            expect_driven(&rt, &left, spoil);
             expect_run(&rt, &left, spoil);
         }
     }
-}
-
-// The rows of one owner, none of whose calls fails.
-#[test]
-fn one_owner_refusals(rt: HostRuntime) {
-    expect_driven(&rt, &WITHOUT_A_FOURTH, false);
-}
-
-#[test]
-fn failing_second_call(rt: HostRuntime) {
-    expect_driven(&rt, &WITHOUT_THE_SECOND, false);
-    expect_driven(&rt, &WITHOUT_THE_SECOND, true);
 }

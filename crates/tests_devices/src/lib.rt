@@ -1,13 +1,11 @@
 //! Devices and the ways to them: ports in memory and on files, also files that are cut while they are open; ports that
-//! meet; drivers; each call of a device failing in turn, under one owner and under client threads; and the durable mark.
-//! What is left was reckoned by hand. Each trail goes to the judge.
+//! meet; each call of a device failing in turn, under client threads; and the durable mark. What is left was reckoned by
+//! hand. Each trail goes to the judge. Drivers, and a device that fails under one owner, are scenarios.
 //!
 //! The tests stand here, on top of the crates that they call, so that none of those is proved once more for them. The
 //! library itself has no item.
 #![tactic(auto)]
 
-#[cfg(test)]
-mod drivers;
 #[cfg(test)]
 mod each_call;
 #[cfg(test)]

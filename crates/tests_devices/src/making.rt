@@ -15,8 +15,6 @@ use test_support::scripts::scripts_of;
 
 pub(crate) const ZEROS: [u8; 16] = [0; 16];
 
-pub(crate) const FIVE: [u8; 16] = [5, 0, 0, 0, 0, 0, 0, 0, 0, 0, 0, 0, 0, 0, 0, 0];
-
 pub(crate) const ONES: [u8; 16] = [255; 16];
 
 pub(crate) const NINE: [u8; 16] = [9, 0, 0, 0, 0, 0, 0, 0, 0, 0, 0, 0, 0, 0, 0, 0];

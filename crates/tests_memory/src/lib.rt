@@ -1,10 +1,10 @@
-//! What is left where memory is refused: to histories, candidates, a core, page files, a mark, a driver, sessions and
-//! runs of a client thread. With memory the tests pass as they stand; `check/refused_memory` runs each of them again and
-//! again, and refuses the first request for memory, then the second, and so on.
+//! What is left where memory is refused: to page files, a mark, a driver, sessions and runs of a client thread. With
+//! memory the tests pass as they stand; `check/refused_memory` runs each of them again and again, and refuses the first
+//! request for memory, then the second, and so on. It does so with scenarios of a core and of LRU-K too.
 //!
-//! A call of a core that is refused leaves all that can be told as it was, the whole trail too. What a session or a run
-//! did before a refusal stands in the pool's trail and in the client's list alike, and all passes and tickets go back.
-//! The same call with memory answers what it would have answered. All entries of each core go to the judge.
+//! What a session or a run did before a refusal stands in the pool's trail and in the client's list alike, and all passes
+//! and tickets go back. The same call with memory answers what it would have answered. All entries of each core go to the
+//! judge.
 //!
 //! The tests stand here, on top of the crates that they call, so that none of those is proved once more for them. The
 //! library itself has no item.
@@ -13,15 +13,11 @@
 #[cfg(test)]
 mod answers;
 #[cfg(test)]
-mod cores;
-#[cfg(test)]
 mod devices;
 #[cfg(test)]
 mod files;
 #[cfg(test)]
 mod marks;
-#[cfg(test)]
-mod ranks;
 #[cfg(test)]
 mod runs;
 #[cfg(test)]

@@ -1,4 +1,4 @@
-//! Rows of calls with what each gives, reckoned by hand: those of `crates/tests_core` that a caller
+//! Rows of calls with what each gives, reckoned by hand: those of `crates/scenarios` that a caller
 //! of the library can see. What they tell of stamps, of the clock and of the trail is left out.
 mod calls;
 

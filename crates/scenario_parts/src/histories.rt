@@ -1,0 +1,110 @@
+//! Histories of LRU-K by themselves.
+ghost use Rattle.std.specs.Prelude.{ℕ, ◌≤◌};
+ghost use Rattle.bp_lruk.specs.Histories.{last_of};
+
+use bp_lruk::{Histories, Settings};
+use bp_page::{PageNo, Refusal};
+use bp_trail::Reply;
+use scenario_words::{Answer, Call, Shape, mixed};
+use std::alloc::Global;
+
+/// Of how many pages the digest tells, from 0: more than the first memory for blocks has place for.
+const PAGES: u64 = 24;
+
+/// Histories, and the time of the newest reference.
+#[derive(Drop)]
+pub struct Timed {
+    histories: Histories,
+    now: u64,
+    ghost by_now: { (page : ℕ) → last_of histories page ≤ now },
+}
+
+/// Histories without a reference. `BadSettings` where a setting is out of its limits.
+pub fn new_timed(alloc: Global, shape: &Shape) -> Result<Timed, Refusal> {
+    match Settings::new(shape.k, shape.correlated, shape.retained) {
+        Ok(settings) => Ok(Timed {
+            histories: Histories::new(alloc, settings),
+            now: 0,
+        }),
+        Err(refusal) => Err(refusal),
+    }
+}
+
+fn done() -> Answer {
+    Answer::Reply(Reply::Done)
+}
+
+impl Timed {
+    fn prepare(&mut self, page: PageNo) -> Answer {
+        if self.histories.holds(page) {
+            return Answer::BadLine;
+        }
+        match self.histories.prepare(page) {
+            Ok(()) => done(),
+            Err(refusal) => Answer::Refused(refusal),
+        }
+    }
+
+    fn unprepare(&mut self, page: PageNo) -> Answer {
+        if !self.histories.holds(page) {
+            return Answer::BadLine;
+        }
+        self.histories.unprepare(page);
+        done()
+    }
+
+    fn fault(&mut self, page: PageNo, t: u64) -> Answer {
+        if t == 0 || t < self.now || !self.histories.holds(page) {
+            return Answer::BadLine;
+        }
+        self.now = t;
+        self.histories.fault(page, t);
+        done()
+    }
+
+    fn hit(&mut self, page: PageNo, t: u64) -> Answer {
+        if t == 0 || t < self.now || !self.histories.holds(page) || self.histories.last(page) == 0 {
+            return Answer::BadLine;
+        }
+        self.now = t;
+        self.histories.hit(page, t);
+        done()
+    }
+
+    fn forget(&mut self, t: u64) -> Answer {
+        if t == 0 || t < self.now {
+            return Answer::BadLine;
+        }
+        self.now = t;
+        Answer::Reply(Reply::Forgot(self.histories.purge(t)))
+    }
+
+    /// Makes a call. A page is held before it is faulted and until it leaves, and no time is before the one before it;
+    /// else the line is a bad one, and nothing is called.
+    pub fn call(&mut self, call: &Call) -> Answer {
+        match call {
+            Call::Prepare(page) => self.prepare(PageNo::new(*page)),
+            Call::Unprepare(page) => self.unprepare(PageNo::new(*page)),
+            Call::Fault(page, t) => self.fault(PageNo::new(*page), *t),
+            Call::Hit(page, t) => self.hit(PageNo::new(*page), *t),
+            Call::Forget(t) => self.forget(*t),
+            Call::Last(page) => Answer::Number(self.histories.last(PageNo::new(*page))),
+            Call::Stamp(page, i) => Answer::Number(self.histories.stamp(PageNo::new(*page), *i)),
+            _ => Answer::BadLine,
+        }
+    }
+
+    /// One number of what is told of the first pages: which are held, their three newest stamps and newest references.
+    pub fn told(&self) -> u64 {
+        let mut digest = 0;
+        for number in 0..PAGES {
+            let page = PageNo::new(number);
+            digest = mixed(digest, u64::from(self.histories.holds(page)));
+            digest = mixed(digest, self.histories.last(page));
+            digest = mixed(digest, self.histories.stamp(page, 1));
+            digest = mixed(digest, self.histories.stamp(page, 2));
+            digest = mixed(digest, self.histories.stamp(page, 3));
+        }
+        digest
+    }
+}

@@ -1,0 +1,73 @@
+//! A ticket that is brought to another core.
+ghost use Rattle.std.specs.Prelude.{◌≡◌, length};
+
+use bp_core::{Core, EndRefusal, Fix, ReadTicket};
+use bp_lruk::Settings;
+use bp_page::{Geometry, Image, PageNo};
+use std::process::Abort;
+
+/// A core of one frame for one client, over four pages of 16 bytes.
+fn new_core(rt: &(impl Abort + AllocGlobal)) -> Core {
+    let geometry = Geometry::new(4, 16).expect(rt, "the geometry");
+    let settings = Settings::new(2, 0, 1000).expect(rt, "the settings");
+    Core::new(rt.alloc(), geometry, settings, 1, 1, 100).expect(rt, "the core")
+}
+
+/// The ticket to read that a fix of page 1 gives.
+fn ticket_of(rt: &impl Abort, core: &mut Core) -> ReadTicket {
+    assert!(rt; core.clients() == 1);
+    assert!(rt; core.geometry().pages == 4);
+    match core.fix(0, PageNo::new(1)) {
+        Ok(Fix::Load(ticket, _)) => ticket,
+        Ok(Fix::Hit(pass)) => panic!(rt; "pass {} was given", pass.note().serial()),
+        Ok(Fix::WriteFirst(ticket)) => {
+            ticket.forfeit();
+            panic!(rt; "a page has to go out")
+        }
+        Err(refusal) => panic!(rt; "{refusal}"),
+    }
+}
+
+fn blank(rt: &(impl Abort + AllocGlobal), geometry: &Geometry) -> Image
+    ensures { length result ≡ geometry.now.size }
+{
+    Image::blank(rt.alloc(), geometry).expect(rt, "the image")
+}
+
+/// Ends the read with an image of zeros. The ticket comes back where the core did not give it.
+fn end_read(
+    rt: &(impl Abort + AllocGlobal),
+    core: &mut Core,
+    ticket: ReadTicket,
+) -> Option<ReadTicket> {
+    let geometry = core.geometry();
+    let image = blank(rt, &geometry);
+    match core.read_end(ticket, Ok(image)) {
+        Ok(pass) => {
+            assert!(rt; pass.note().serial() == 0);
+            None
+        }
+        Err(EndRefusal::Failed(refusal)) => panic!(rt; "{refusal}"),
+        Err(EndRefusal::Unknown(ticket, read)) => {
+            assert!(rt; read.is_ok());
+            Some(ticket)
+        }
+    }
+}
+
+// The other core gives it back with the image, and it is good for its own.
+#[test]
+fn ticket_goes_to_another_core_and_back(rt: HostRuntime) {
+    let mut own = new_core(&rt);
+    let mut other = new_core(&rt);
+    let ticket = ticket_of(&rt, &mut own);
+    let Some(ticket) = end_read(&rt, &mut other, ticket) else {
+        panic!(&rt; "the other core gave a pass");
+    };
+    assert!(rt; other.trail().is_empty());
+    if let Some(ticket) = end_read(&rt, &mut own, ticket) {
+        ticket.forfeit();
+        panic!(&rt; "its own core does not know it");
+    }
+    assert_eq!(rt; own.trail().len(), 2);
+}
