@@ -1,11 +1,11 @@
 //! What the judge says of the entries of a pool.
 use bp_check::{Setup, first_unlawful};
 use bp_clients::Config;
-use bp_core::{Core, Entry};
+use bp_core::{Core, Entry, Keeper, PoolCore};
 use std::alloc::{AllocError, Global};
 
 /// What the entries of a core are judged by.
-pub fn setup_of(core: &Core) -> Setup {
+pub fn setup_of<K: Keeper>(core: &PoolCore<K>) -> Setup {
     Setup {
         geometry: core.geometry(),
         settings: core.settings(),

@@ -1,4 +1,5 @@
-//! Pools of four pages of 16 bytes over a device in memory, and what their clients call by the number of a page.
+//! Pools of either kind of four pages of 16 bytes over a device in memory, and what their clients call by the number of
+//! a page.
 //!
 //! A pass goes by its note, so that a test can hold it, give it back twice, or hand it to another client. Each call
 //! leaves the client's session that client's.
@@ -6,9 +7,9 @@ ghost use Rattle.std.specs.Prelude.{◌≡◌, []};
 ghost use Rattle.bp_trail.specs.Parameters.{Parameters};
 ghost use Rattle.bp_page.specs.declared.limits.Geometry.{Geometry as AGeometry};
 
-use bp_core::{Call, Core, Entry, PassNote};
+use bp_core::{Call, Entry, PassNote, PoolCore};
 use bp_device::{Flushed, MemDevice, MemPort, Port};
-use bp_keeper::ListKeeper;
+use bp_keeper::{ListKeeper, RecordingKeeper};
 use bp_lruk::Settings;
 use bp_mark::{LogEnd, Mark, Reader};
 use bp_page::{Bytes, Geometry, Image, Lsn, Refusal};
@@ -18,8 +19,8 @@ use std::alloc::Global;
 use std::sync::Wait;
 
 /// What a pool is made of, and its device of zeros: four pages of 16 bytes.
-pub struct Made {
-    pub core: Core,
+pub struct Made<K: ListKeeper = RecordingKeeper> {
+    pub core: PoolCore<K>,
     pub mark: Mark,
     pub end: LogEnd,
     pub reader: Reader,
@@ -36,10 +37,15 @@ pub struct Made {
 
 /// The parts of a pool with K 2, no correlated period and a retained one of 1000, whose trail has room for so many
 /// entries.
-pub fn make(alloc: Global, frames: usize, clients: u8, room: usize) -> Result<Made, Refusal> {
+pub fn make<K: ListKeeper>(
+    alloc: Global,
+    frames: usize,
+    clients: u8,
+    room: usize,
+) -> Result<Made<K>, Refusal> {
     let geometry = Geometry::new(4, 16)?;
     let settings = Settings::new(2, 0, 1000)?;
-    let core = Core::new(alloc, geometry, settings, frames, clients, room)?;
+    let core = PoolCore::<K>::new(alloc, geometry, settings, frames, clients, room)?;
     let (mark, end, reader) = Mark::new(alloc)?;
     Ok(Made {
         core,
@@ -53,9 +59,9 @@ pub fn make(alloc: Global, frames: usize, clients: u8, room: usize) -> Result<Ma
 
 /// A pool, a session for each client, and its device.
 #[derive(Drop)]
-pub struct Opened<N: PoolName> {
-    pub pool: SharedPool<N>,
-    pub sessions: Vec<Session<N>>,
+pub struct Opened<N: PoolName, K: ListKeeper = RecordingKeeper> {
+    pub pool: SharedPool<N, K>,
+    pub sessions: Vec<Session<N, K>>,
     pub taker: Taker<N>,
     pub end: LogEnd,
     pub device: MemDevice,
@@ -65,7 +71,10 @@ pub struct Opened<N: PoolName> {
 }
 
 /// A pool over what was made.
-pub fn open<N: PoolName>(alloc: Global, made: Made) -> Result<Opened<N>, Refusal>
+pub fn open<N: PoolName, K: ListKeeper>(
+    alloc: Global,
+    made: Made<K>,
+) -> Result<Opened<N, K>, Refusal>
     requires mark { made.mark ≡ N.mark }
     requires parameters { made.core.parameters ≡ N.parameters }
     requires before { made.core.before ≡ N.before }
@@ -80,7 +89,7 @@ pub fn open<N: PoolName>(alloc: Global, made: Made) -> Result<Opened<N>, Refusal
         ring,
         device,
     } = made;
-    let (pool, sessions, taker) = SharedPool::new(alloc, core, mark, reader, ring)?;
+    let (pool, sessions, taker) = SharedPool::<N, K>::new(alloc, core, mark, reader, ring)?;
     Ok(Opened {
         pool,
         sessions,
@@ -92,17 +101,20 @@ pub fn open<N: PoolName>(alloc: Global, made: Made) -> Result<Opened<N>, Refusal
 
 /// The last two clients of a pool, each with a port of its own to the device.
 #[derive(Drop)]
-pub struct Pair<N: PoolName> {
-    pub pool: SharedPool<N>,
+pub struct Pair<N: PoolName, K: ListKeeper = RecordingKeeper> {
+    pub pool: SharedPool<N, K>,
     pub taker: Taker<N>,
     pub end: LogEnd,
-    pub first: Client<N, MemPort>,
-    pub second: Client<N, MemPort>,
+    pub first: Client<N, MemPort, K>,
+    pub second: Client<N, MemPort, K>,
     pub ghost end_is: { end.mark ≡ N.mark },
 }
 
 /// A pool over what was made, with its last two clients. `BadSettings` where it has fewer.
-pub fn open_pair<N: PoolName>(alloc: Global, made: Made) -> Result<Pair<N>, Refusal>
+pub fn open_pair<N: PoolName, K: ListKeeper>(
+    alloc: Global,
+    made: Made<K>,
+) -> Result<Pair<N, K>, Refusal>
     requires mark { made.mark ≡ N.mark }
     requires parameters { made.core.parameters ≡ N.parameters }
     requires before { made.core.before ≡ N.before }
@@ -115,7 +127,7 @@ pub fn open_pair<N: PoolName>(alloc: Global, made: Made) -> Result<Pair<N>, Refu
         taker,
         end,
         device,
-    } = open::<N>(alloc, made)?;
+    } = open::<N, K>(alloc, made)?;
     let (Some(second), Some(first)) = (sessions.pop(), sessions.pop()) else {
         return Err(Refusal::BadSettings);
     };

@@ -1,6 +1,7 @@
-//! Page files.
+//! Page files that are opened, and that are made.
 use bp_device::{FilePort, OpenFault, Port};
-use bp_page::{Format, PageNo, PortFault, Refusal};
+use bp_engine::create_page_file;
+use bp_page::{Format, Geometry, PageNo, PortFault, Refusal};
 use std::fs::File;
 use std::path::PathBuf;
 use std::process::Abort;
@@ -9,8 +10,8 @@ use std::sync::Wait;
 use std::{env, fs, process};
 
 /// A path that no other test and no other run uses.
-fn try_scratch<R: Env + Abort + AllocGlobal>(rt: &R, run: u32) -> Option<PathBuf> {
-    let Ok(name) = format!(in rt.alloc(); "tests_memory-{run}") else {
+fn try_scratch<R: Env + Abort + AllocGlobal>(rt: &R, run: u32, name: &str) -> Option<PathBuf> {
+    let Ok(name) = format!(in rt.alloc(); "tests_memory-{run}{name}") else {
         return None;
     };
     match env::temp_dir(rt) {
@@ -19,58 +20,124 @@ fn try_scratch<R: Env + Abort + AllocGlobal>(rt: &R, run: u32) -> Option<PathBuf
     }
 }
 
-fn scratch<R: Env + Abort + AllocGlobal>(rt: &R, run: u32) -> PathBuf {
-    match try_scratch(rt, run) {
+fn scratch<R: Env + Abort + AllocGlobal>(rt: &R, run: u32, name: &str) -> PathBuf {
+    match try_scratch(rt, run, name) {
         Some(path) => path,
-        None => try_scratch(rt, run).expect(rt, "the path"),
+        None => try_scratch(rt, run, name).expect(rt, "the path"),
     }
 }
 
-/// Makes a page file of so many zeros.
+/// Makes a file of these bytes.
 fn make_file<R: Files + Abort>(rt: &R, path: &str, bytes: &[u8]) {
     if fs::write(rt, path, bytes).is_err() {
         fs::write(rt, path, bytes).expect(rt, "the file");
     }
 }
 
+fn remove<R: Files + Abort>(rt: &R, path: &str) {
+    if fs::remove_file(rt, path).is_err() {
+        fs::remove_file(rt, path).expect(rt, "the file is removed");
+    }
+}
+
 /// Opens a page file, once more where memory was refused.
-fn open<R: Files<File = File> + AllocGlobal>(rt: &R, path: &str) -> Result<FilePort, OpenFault> {
-    match FilePort::open(rt, rt.alloc(), path, 16, Format::Plain) {
+fn open<R: Files<File = File> + AllocGlobal>(
+    rt: &R,
+    path: &str,
+    format: Format,
+) -> Result<FilePort, OpenFault> {
+    match FilePort::open(rt, rt.alloc(), path, 16, format) {
         Err(OpenFault::Port(PortFault::Memory)) => {
-            FilePort::open(rt, rt.alloc(), path, 16, Format::Plain)
+            FilePort::open(rt, rt.alloc(), path, 16, format)
         }
         answer => answer,
     }
 }
 
-/// Reads a page of zeros, once more where memory was refused. That is no failure of the device.
-fn expect_zeros<R: Wait + Abort>(rt: &R, port: &mut FilePort, page: PageNo) {
-    let read = match port.read(rt, page) {
-        Err(PortFault::Memory) => port.read(rt, page),
-        read => read,
-    };
-    match read {
-        Ok(image) => assert!(rt; image.bytes() == [0u8; 16].as_slice()),
-        Err(fault) => panic!(rt; "{fault}"),
+/// Makes a page file of two pages, once more where memory was refused: for a page's bytes, or for a name. Then nothing
+/// stands at the path, since a file is made only there.
+fn create<R: Files<File = File> + AllocGlobal + Wait + Abort>(
+    rt: &R,
+    path: &str,
+    format: Format,
+) -> FilePort {
+    let geometry = Geometry::new(2, 16).expect(rt, "the geometry");
+    match create_page_file(rt, rt.alloc(), path, geometry, format) {
+        Ok(port) => port,
+        Err(fault) => {
+            assert!(rt;
+                matches!(
+                    fault,
+                    OpenFault::Port(PortFault::Memory | PortFault::Device)
+                )
+            );
+            let again = create_page_file(rt, rt.alloc(), path, geometry, format);
+            again.expect(rt, "the page file, with memory")
+        }
+    }
+}
+
+/// Whether no page file can be made there, as where something stands at the path.
+fn cannot_be_made<R: Files<File = File> + AllocGlobal + Wait + Abort>(rt: &R, path: &str) -> bool {
+    let geometry = Geometry::new(2, 16).expect(rt, "the geometry");
+    let made = create_page_file(rt, rt.alloc(), path, geometry, Format::Plain);
+    made.err() == Some(OpenFault::Port(PortFault::Device))
+}
+
+/// A file of two pages of zeros, of which each is read once more where memory was refused. That is no failure of the
+/// device.
+fn expect_zeros<R: Wait + Abort>(rt: &R, mut port: FilePort) {
+    assert_eq!(rt; (port.geometry().pages, port.geometry().size), (2, 16));
+    for number in 0..2 {
+        let page = PageNo::new(number);
+        let read = match port.read(rt, page) {
+            Err(PortFault::Memory) => port.read(rt, page),
+            read => read,
+        };
+        match read {
+            Ok(image) => assert!(rt; image.bytes() == [0u8; 16].as_slice()),
+            Err(fault) => panic!(rt; "{fault}"),
+        }
     }
     assert!(rt; port.failures() == 0);
 }
 
+/// A file that is made has two pages of zeros, in these slots, and is left as it is by whoever would make it again.
+fn expect_made<R: Files<File = File> + AllocGlobal + Wait + Abort>(
+    rt: &R,
+    path: &str,
+    format: Format,
+    slots: &[u8],
+) {
+    let port = create(rt, path, format);
+    assert!(rt; cannot_be_made(rt, path));
+    let found = match fs::read(rt, path) {
+        Ok(found) => found,
+        Err(_) => fs::read(rt, path).expect(rt, "the bytes of the file"),
+    };
+    assert_eq!(rt; found.as_slice(), slots);
+    expect_zeros(rt, port);
+    expect_zeros(rt, open(rt, path, format).expect(rt, "the page file"));
+    remove(rt, path);
+}
+
+/// Of slots of version 2 each has its page's number, an LSN of 0, and the page. In a folder that is not there no file is
+/// made.
 #[test]
-fn page_files_are_opened_and_read(rt: HostRuntime) {
-    let path = scratch(&rt, process::id(rt.process()));
+fn page_files_are_opened_and_made(rt: HostRuntime) {
+    let run = process::id(rt.process());
+    let path = scratch(&rt, run, "");
     let path = path.as_path().as_str();
-    let zeros = [0u8; 40];
     for length in [0, 40] {
-        make_file(&rt, path, &zeros[..length]);
-        let refused = open(&rt, path).err();
+        make_file(&rt, path, &[0u8; 40][..length]);
+        let refused = open(&rt, path, Format::Plain).err();
         assert!(rt; refused == Some(OpenFault::Refused(Refusal::BadLength)));
     }
-    make_file(&rt, path, &zeros[..32]);
-    let mut port = open(&rt, path).expect(&rt, "the page file");
-    assert!(rt; port.geometry().pages == 2);
-    expect_zeros(&rt, &mut port, PageNo::new(1));
-    if fs::remove_file(&rt, path).is_err() {
-        fs::remove_file(&rt, path).expect(&rt, "the file is removed");
-    }
+    remove(&rt, path);
+    let mut headed = [0u8; 64];
+    headed[32] = 1;
+    expect_made(&rt, path, Format::Plain, &[0u8; 32]);
+    expect_made(&rt, path, Format::Headed, &headed);
+    let nowhere = scratch(&rt, run, "-none/made");
+    assert!(rt; cannot_be_made(&rt, nowhere.as_path().as_str()));
 }

@@ -1,224 +1,261 @@
-//! Two sessions in turn over one frame: a call that was refused for want of memory is made once more.
+//! Two sessions of a pool of either kind, in turn over one frame: a call that was refused for want of memory is made
+//! once more. Trail and lists are cut in the midst of each turn and at its end.
 ghost use Rattle.std.specs.Prelude.{◌≡◌};
 
+use crate::kinds::Shows;
 use crate::telling::{all_went_back, no_ticket_is_out, text_of};
-use bp_audit::agrees;
-use bp_core::{Entry, PassNote};
+use bp_core::{Entry, PoolCore, RecordingKeeper, SilentKeeper};
 use bp_device::{Flushed, MemPort};
-use bp_mark::LogEnd;
 use bp_page::{Lsn, Refusal};
-use bp_shared::{PoolName, SharedPool, Taker};
+use bp_shared::{PoolName, SharedPool};
 use bp_totals::Totals;
 use bp_workers::Client;
 use std::marker::Brand;
 use std::process::Abort;
 use std::sync::Wait;
-use test_support::judging::unlawful_in;
-use test_support::pools::{Made, Pair, fix, flush, make, open_pair, unfix, write};
+use test_support::judging::{setup_of, unlawful};
+use test_support::pools::{Made, Pair, fix, flush, make, open_pair, read, unfix, write};
 
-/// Whether it is for want of memory: of the pool, or of the port at the end of a read.
-fn is_for_memory(refusal: Refusal) -> bool {
-    refusal == Refusal::OutOfMemory || refusal == Refusal::ReadFailed
-}
+/// How many entries there may be.
+const ROOM: usize = 200;
 
-/// What a client's list has now.
-fn told<N: PoolName, R: Abort + AllocGlobal>(rt: &R, client: &Client<N, MemPort>) -> String {
-    text_of(rt, client.session.said())
-}
-
-/// Asserts of a fix that was refused for want of memory: no pass was given, what the list had still stands there,
-/// and all tickets went back. Where the list has more, memory was wanted after the first event.
-fn expect_no_pass<N: PoolName, R: Abort + AllocGlobal>(
-    rt: &R,
-    client: &Client<N, MemPort>,
-    passes: usize,
-    entries: usize,
-    text: &str,
-) {
-    assert!(rt; client.session.held().len() == passes);
-    let said = client.session.said();
-    let earlier = said.get(..entries).expect(rt, "the earlier entries");
-    assert_eq!(rt; text_of(rt, earlier).as_str(), text);
-    assert!(rt; no_ticket_is_out(said));
-}
-
-/// Fixes a page. Where memory was refused, what was done before stands in the list, and no pass was given.
-fn fix_a_page<N: PoolName, R: Wait + Abort + AllocGlobal>(
-    rt: &R,
-    pool: &SharedPool<N>,
-    client: &mut Client<N, MemPort>,
-    number: u64,
-) -> PassNote {
-    let held = client.session.held().len();
-    let entries = client.session.said().len();
-    let before = told(rt, client);
-    match fix(rt, pool, client, number) {
-        Ok(note) => note,
-        Err(refusal) => {
-            assert!(rt; is_for_memory(refusal), "{refusal}");
-            expect_no_pass(rt, client, held, entries, before.as_str());
-            fix(rt, pool, client, number).expect(rt, "the fix, with memory")
-        }
-    }
-}
-
-/// Gives a pass back, which is never refused for want of memory.
-fn post<N: PoolName, R: Abort>(
-    rt: &R,
-    pool: &SharedPool<N>,
-    client: &mut Client<N, MemPort>,
-    note: PassNote,
-) {
-    let posted = unfix(pool, client, note);
-    assert!(rt; posted.is_ok());
-}
-
-/// Writes the byte 5 at the front of a pass's page, at LSN 3. Where memory was refused, the list is as it was.
-fn write_five<N: PoolName, R: Wait + Abort + AllocGlobal>(
-    rt: &R,
-    pool: &SharedPool<N>,
-    client: &mut Client<N, MemPort>,
-    note: PassNote,
-) {
-    let said = told(rt, client);
-    if let Err(refusal) = write(rt, rt.alloc(), pool, client, note, 5, 3) {
-        assert!(rt; refusal == Refusal::OutOfMemory && told(rt, client) == said);
-        let again = write(rt, rt.alloc(), pool, client, note, 5, 3);
-        again.expect(rt, "the write, with memory");
-    }
-}
-
-/// Moves the clock. Where memory was refused, the list is as it was.
-fn tick<N: PoolName, R: Wait + Abort + AllocGlobal>(
-    rt: &R,
-    pool: &SharedPool<N>,
-    client: &mut Client<N, MemPort>,
-) {
-    let said = told(rt, client);
-    if let Err(refusal) = pool.tick(rt, &mut client.session, 1) {
-        assert!(rt; refusal == Refusal::OutOfMemory && told(rt, client) == said);
-        let again = pool.tick(rt, &mut client.session, 1);
-        again.expect(rt, "the clock, with memory");
-    }
-}
-
-/// Flushes page 1, which is away. Where memory was refused, the list is as it was.
-fn flush_page_one<N: PoolName, R: Wait + Abort + AllocGlobal>(
-    rt: &R,
-    pool: &SharedPool<N>,
-    client: &mut Client<N, MemPort>,
-) -> Flushed {
-    let said = told(rt, client);
-    match flush(rt, pool, client, 1) {
-        Ok(flushed) => flushed,
-        Err(refusal) => {
-            assert!(rt; refusal == Refusal::OutOfMemory && told(rt, client) == said);
-            flush(rt, pool, client, 1).expect(rt, "the flush, with memory")
-        }
-    }
-}
-
-/// What a pool's trail tells at the end.
-#[derive(Drop)]
-struct Done {
-    totals: Totals,
-    trail: String,
-}
-
-/// What the two clients do.
+/// What a client asks: of a page, or by the first of the passes that it holds.
 #[derive(Clone, Copy)]
-enum Turn {
-    FullRing,
-    PostedPass,
-    OneFrame,
+enum Ask {
+    Fix(u64),
+    Flush(u64),
+    Tick,
+    Purge,
+    Settle,
+    /// The byte 5 at the front, at LSN 3.
+    Write,
+    Read,
+    Unfix,
+}
+
+/// What it is answered.
+#[derive(Clone, Copy, PartialEq, Eq, Debug)]
+enum Said {
+    Done,
+    Byte(Option<u8>),
+    Flushed(Flushed),
+    /// That the log has to be durable so far first.
+    NeedLog(u64),
+    RingFull,
+}
+
+/// A client, how often it asks, and what it is answered each time.
+type Row = (u8, u32, Ask, Said);
+
+/// What the two clients do before the first cut, between it and the raise of the mark, and then.
+struct Turn {
+    opening: &'static [Row],
+    middle: &'static [Row],
+    durable: u64,
+    ending: &'static [Row],
+    clock: u64,
+    /// The entries, and the hits, faults and write-outs among them.
+    entries: usize,
+    counts: (u64, u64, u64),
 }
 
 /// The ring takes 32 passes, and the last one once it was drained.
-fn fill_a_ring<N: PoolName, R: Wait + Abort + AllocGlobal>(
-    rt: &R,
-    pool: &SharedPool<N>,
-    client: &mut Client<N, MemPort>,
-) {
-    let mut notes = match Vec::with_capacity(rt.alloc(), 32) {
-        Ok(notes) => notes,
-        Err(_) => Vec::with_capacity(rt.alloc(), 32).expect(rt, "the notes"),
-    };
-    for _ in 0..32 {
-        let note = fix_a_page(rt, pool, client, 1);
-        notes.push(note).expect(rt, "the place that was reserved");
-    }
-    let last = fix_a_page(rt, pool, client, 1);
-    for note in &notes {
-        post(rt, pool, client, *note);
-    }
-    let full = unfix(pool, client, last);
-    assert_eq!(rt; full, Err((Refusal::RingFull, 32)));
-    pool.settle(rt, &mut client.session);
-    post(rt, pool, client, last);
-}
+const FULL_RING: Turn = Turn {
+    opening: &[(0, 33, Ask::Fix(1), Said::Done)],
+    middle: &[
+        (0, 32, Ask::Unfix, Said::Done),
+        (0, 1, Ask::Unfix, Said::RingFull),
+    ],
+    durable: 0,
+    ending: &[
+        (0, 1, Ask::Settle, Said::Done),
+        (0, 1, Ask::Unfix, Said::Done),
+    ],
+    clock: 1,
+    entries: 67,
+    counts: (32, 1, 0),
+};
 
 /// The first client posts its pass, and the second one takes the frame.
-fn post_before_a_fix<N: PoolName, R: Wait + Abort + AllocGlobal>(
+const POSTED_PASS: Turn = Turn {
+    opening: &[(0, 1, Ask::Fix(1), Said::Done)],
+    middle: &[
+        (0, 1, Ask::Tick, Said::Done),
+        (0, 1, Ask::Unfix, Said::Done),
+    ],
+    durable: 0,
+    ending: &[
+        (1, 1, Ask::Fix(2), Said::Done),
+        (1, 1, Ask::Unfix, Said::Done),
+    ],
+    clock: 2,
+    entries: 7,
+    counts: (0, 2, 0),
+};
+
+/// The first client holds page 1 while all is cut, and changes it then. The second one needs its frame: page 1 goes out
+/// in the midst of that fix, and not before the log is durable so far.
+const ONE_FRAME: Turn = Turn {
+    opening: &[
+        (0, 1, Ask::Fix(1), Said::Done),
+        (1, 1, Ask::Fix(1), Said::Done),
+        (1, 1, Ask::Unfix, Said::Done),
+    ],
+    middle: &[
+        (0, 1, Ask::Write, Said::Done),
+        (0, 1, Ask::Read, Said::Byte(Some(5))),
+        (0, 1, Ask::Unfix, Said::Done),
+        (0, 1, Ask::Tick, Said::Done),
+        (1, 1, Ask::Fix(2), Said::NeedLog(3)),
+    ],
+    durable: 3,
+    ending: &[
+        (1, 1, Ask::Fix(2), Said::Done),
+        (1, 1, Ask::Flush(1), Said::Flushed(Flushed::Absent)),
+        (1, 1, Ask::Purge, Said::Done),
+        (1, 1, Ask::Unfix, Said::Done),
+    ],
+    clock: 2,
+    entries: 17,
+    counts: (1, 2, 1),
+};
+
+/// Asks by the first of the passes that the client holds.
+fn ask_by_pass<N: PoolName, K: Shows, R: Wait + Abort + AllocGlobal>(
     rt: &R,
-    pool: &SharedPool<N>,
-    first: &mut Client<N, MemPort>,
-    second: &mut Client<N, MemPort>,
+    pool: &SharedPool<N, K>,
+    client: &mut Client<N, MemPort, K>,
+    ask: Ask,
+) -> Result<Said, Refusal> {
+    let Some(note) = client.session.held().first().copied() else {
+        return Err(Refusal::UnknownPass);
+    };
+    match ask {
+        Ask::Write => write(rt, rt.alloc(), pool, client, note, 5, 3)?,
+        Ask::Read => {
+            let image = read(rt, pool, client, note)?;
+            return Ok(Said::Byte(image.bytes().first().copied()));
+        }
+        _ => {
+            match unfix(pool, client, note) {
+                Ok(()) => {}
+                Err((Refusal::RingFull, _)) => return Ok(Said::RingFull),
+                Err((refusal, _)) => return Err(refusal),
+            }
+        }
+    }
+    Ok(Said::Done)
+}
+
+fn ask_once<N: PoolName, K: Shows, R: Wait + Abort + AllocGlobal>(
+    rt: &R,
+    pool: &SharedPool<N, K>,
+    client: &mut Client<N, MemPort, K>,
+    ask: Ask,
+) -> Result<Said, Refusal> {
+    match ask {
+        Ask::Fix(number) => match fix(rt, pool, client, number) {
+            Ok(_) => {}
+            Err(Refusal::NeedLog(lsn)) => return Ok(Said::NeedLog(lsn.number())),
+            Err(refusal) => return Err(refusal),
+        },
+        Ask::Flush(number) => return Ok(Said::Flushed(flush(rt, pool, client, number)?)),
+        Ask::Tick => pool.tick(rt, &mut client.session, 1)?,
+        Ask::Purge => {
+            pool.purge(rt, &mut client.session)?;
+        }
+        Ask::Settle => pool.settle(rt, &mut client.session),
+        Ask::Write | Ask::Read | Ask::Unfix => return ask_by_pass(rt, pool, client, ask),
+    }
+    Ok(Said::Done)
+}
+
+/// Asks, and once more where memory was refused: of the pool, or of the port at the end of a read. Then the passes are
+/// those that were held, and all tickets went back. A fix alone may have left entries, where memory was wanted after
+/// its first event. Unfixes and `settle` are not refused.
+fn ask_again<N: PoolName, K: Shows, R: Wait + Abort + AllocGlobal>(
+    rt: &R,
+    pool: &SharedPool<N, K>,
+    client: &mut Client<N, MemPort, K>,
+    ask: Ask,
+) -> Result<Said, Refusal> {
+    let held = client.session.held().len();
+    let entries = K::said(&client.session).len();
+    let answer = ask_once(rt, pool, client, ask);
+    let is_refused = match answer {
+        Err(Refusal::OutOfMemory) => !matches!(ask, Ask::Unfix | Ask::Settle),
+        Err(Refusal::ReadFailed) => matches!(ask, Ask::Fix(_)),
+        _ => false,
+    };
+    if !is_refused {
+        return answer;
+    }
+    let said = K::said(&client.session);
+    assert_eq!(rt; client.session.held().len(), held);
+    assert!(rt; said.len() == entries || matches!(ask, Ask::Fix(_)));
+    assert!(rt; no_ticket_is_out(said));
+    ask_once(rt, pool, client, ask)
+}
+
+/// Asks as often as the row says.
+fn ask_often<N: PoolName, K: Shows, R: Wait + Abort + AllocGlobal>(
+    rt: &R,
+    pool: &SharedPool<N, K>,
+    client: &mut Client<N, MemPort, K>,
+    row: &Row,
 ) {
-    let note = fix_a_page(rt, pool, first, 1);
-    tick(rt, pool, first);
-    post(rt, pool, first, note);
-    let note = fix_a_page(rt, pool, second, 2);
-    assert!(rt; note.serial() == 1);
-    post(rt, pool, second, note);
+    let (_, times, asked, wanted) = *row;
+    for _ in 0..times {
+        let answer = ask_again(rt, pool, client, asked);
+        assert_eq!(rt; answer, Ok(wanted));
+    }
 }
 
-/// The first client changes page 1, and the second one needs its frame: page 1 goes out in the midst of that fix.
-fn share_one_frame<N: PoolName, R: Wait + Abort + AllocGlobal>(
+fn play_rows<N: PoolName, K: Shows, R: Wait + Abort + AllocGlobal>(
     rt: &R,
-    pool: &SharedPool<N>,
-    end: &mut LogEnd,
-    first: &mut Client<N, MemPort>,
-    second: &mut Client<N, MemPort>,
-)
-    requires end { end.old.mark ≡ N.mark }
-{
-    let note = fix_a_page(rt, pool, first, 1);
-    write_five(rt, pool, first, note);
-    post(rt, pool, first, note);
-    tick(rt, pool, first);
-    end.raise(pool.mark(), Lsn::new(3));
-    let note = fix_a_page(rt, pool, second, 2);
-    let flushed = flush_page_one(rt, pool, second);
-    assert!(rt; flushed == Flushed::Absent);
-    post(rt, pool, second, note);
+    pool: &SharedPool<N, K>,
+    first: &mut Client<N, MemPort, K>,
+    second: &mut Client<N, MemPort, K>,
+    rows: &[Row],
+) {
+    for row in rows {
+        if row.0 == 0 {
+            ask_often(rt, pool, first, row);
+        } else {
+            ask_often(rt, pool, second, row);
+        }
+    }
 }
 
-/// Ends the pool: each list has the trail's entries of its client, which are all legal, and all passes and tickets went
-/// back. It tells what the trail counts up to, and the whole trail as text.
-fn end_of<N: PoolName, R: Abort + AllocGlobal>(
-    rt: &R,
-    pool: SharedPool<N>,
-    taker: Taker<N>,
-    first: &[Entry],
-    second: &[Entry],
-) -> Done {
-    let (core, _, _) = pool.finish(taker);
-    let trail = core.trail();
-    assert!(rt; agrees(trail, first, 0) && agrees(trail, second, 1));
-    assert_eq!(rt; unlawful_in(rt.alloc(), &core), Ok(None));
+/// The clock, the durable LSN, and the hits, faults and write-outs of the entries that were in memory.
+type Told = (u64, Lsn, (u64, u64, u64));
+
+/// What a pool tells at its end, and the trail that was cut of it.
+#[derive(Drop)]
+struct Done {
+    told: Told,
+    entries: usize,
+    trail: String,
+}
+
+/// What was cut is legal, and all passes and tickets went back.
+fn done_of<K: Shows, R: Abort + AllocGlobal>(rt: &R, core: &PoolCore<K>, trail: &[Entry]) -> Done {
+    assert_eq!(rt; unlawful(rt.alloc(), &setup_of(core), trail), Ok(None));
     assert!(rt; all_went_back(trail));
-    assert!(rt; first.len().checked_add(second.len()) == Some(trail.len()));
+    let totals = Totals::of(trail);
+    let counts = (totals.hits, totals.faults, totals.writes);
     Done {
-        totals: Totals::of(trail),
+        told: (core.clock(), core.durable(), counts),
+        entries: ROOM.saturating_sub(core.free()).saturating_add(trail.len()),
         trail: text_of(rt, trail),
     }
 }
 
-/// What the trail tells, or nothing where no pool could be made: then all that was made is gone.
-fn play_over<N: PoolName, R: Wait + Abort + AllocGlobal>(
+/// What came of it, or nothing where no pool could be made: then all that was made is gone.
+fn play_over<N: PoolName, K: Shows, R: Wait + Abort + AllocGlobal>(
     rt: &R,
-    made: Made,
-    turn: Turn,
+    made: Made<K>,
+    turn: &Turn,
 ) -> Option<Done>
     requires mark { made.mark ≡ N.mark }
     requires parameters { made.core.parameters ≡ N.parameters }
@@ -228,28 +265,45 @@ fn play_over<N: PoolName, R: Wait + Abort + AllocGlobal>(
 {
     let Pair {
         pool,
-        taker,
+        mut taker,
         mut end,
         mut first,
         mut second,
-    } = match open_pair::<N>(rt.alloc(), made) {
+    } = match open_pair::<N, K>(rt.alloc(), made) {
         Ok(pair) => pair,
         Err(refusal) => {
             assert!(rt; refusal == Refusal::OutOfMemory);
             return None;
         }
     };
-    match turn {
-        Turn::FullRing => fill_a_ring(rt, &pool, &mut first),
-        Turn::PostedPass => post_before_a_fix(rt, &pool, &mut first, &mut second),
-        Turn::OneFrame => share_one_frame(rt, &pool, &mut end, &mut first, &mut second),
-    }
-    Some(end_of(rt, pool, taker, first.session.said(), second.session.said()))
+    let mut trail = Vec::new(rt.alloc());
+    play_rows(rt, &pool, &mut first, &mut second, turn.opening);
+    K::cut(
+        rt,
+        &pool,
+        &mut taker,
+        &mut first.session,
+        &mut second.session,
+        &mut trail,
+    );
+    play_rows(rt, &pool, &mut first, &mut second, turn.middle);
+    end.raise(pool.mark(), Lsn::new(turn.durable));
+    play_rows(rt, &pool, &mut first, &mut second, turn.ending);
+    K::cut(
+        rt,
+        &pool,
+        &mut taker,
+        &mut first.session,
+        &mut second.session,
+        &mut trail,
+    );
+    let (core, _, _) = pool.finish(taker);
+    Some(done_of(rt, &core, &trail))
 }
 
-fn try_play<R: Wait + Abort + AllocGlobal>(rt: &R, turn: Turn) -> Option<Done> {
-    match make(rt.alloc(), 1, 2, 200) {
-        Ok(made) => play_over::<Brand, R>(rt, made, turn),
+fn try_play<K: Shows, R: Wait + Abort + AllocGlobal>(rt: &R, turn: &Turn) -> Option<Done> {
+    match make::<K>(rt.alloc(), 1, 2, ROOM) {
+        Ok(made) => play_over::<Brand, K, R>(rt, made, turn),
         Err(refusal) => {
             assert!(rt; refusal == Refusal::OutOfMemory);
             None
@@ -258,39 +312,36 @@ fn try_play<R: Wait + Abort + AllocGlobal>(rt: &R, turn: Turn) -> Option<Done> {
 }
 
 /// A turn of the two clients of a new pool, of which another is made where the first was refused memory.
-fn play_once<R: Wait + Abort + AllocGlobal>(rt: &R, turn: Turn) -> Done {
-    match try_play(rt, turn) {
+fn play_once<K: Shows, R: Wait + Abort + AllocGlobal>(rt: &R, turn: &Turn) -> Done {
+    match try_play::<K, R>(rt, turn) {
         Some(done) => done,
-        None => try_play(rt, turn).expect(rt, "the pool, with memory"),
+        None => try_play::<K, R>(rt, turn).expect(rt, "the pool, with memory"),
     }
 }
 
-/// The same turn over two pools: so many hits, faults and write-outs. One request is refused at most, so one of the
-/// pools was refused nothing. The trail of the other is the same, but for a read that its port refused.
-fn play<R: Wait + Abort + AllocGlobal>(rt: &R, turn: Turn, wanted: (u64, u64, u64)) {
-    let first = play_once(rt, turn);
-    let second = play_once(rt, turn);
-    let failed = first.totals.failed.saturating_add(second.totals.failed);
-    assert!(rt; failed <= 1);
-    if failed == 0 {
-        assert_eq!(rt; first.trail, second.trail);
+/// The turn over two pools of a kind. One request is refused at most, so one of the pools was refused nothing. The other
+/// tells the same, but for a read that its port refused, which is two entries more.
+fn play<K: Shows, R: Wait + Abort + AllocGlobal>(rt: &R, turn: &Turn) -> Told {
+    let one = play_once::<K, R>(rt, turn);
+    let other = play_once::<K, R>(rt, turn);
+    assert_eq!(rt; one.told, other.told);
+    assert_eq!(rt; one.entries.min(other.entries), turn.entries);
+    if one.entries == other.entries {
+        assert_eq!(rt; one.trail, other.trail);
+    } else {
+        let more = one.entries.max(other.entries);
+        assert_eq!(rt; more.checked_sub(turn.entries), Some(2));
     }
-    for totals in [first.totals, second.totals] {
-        assert_eq!(rt; (totals.hits, totals.faults, totals.writes), wanted);
+    one.told
+}
+
+#[test]
+fn turns_of_two_sessions(rt: HostRuntime) {
+    for turn in [&FULL_RING, &POSTED_PASS, &ONE_FRAME] {
+        let durable = Lsn::new(turn.durable);
+        let told = play::<SilentKeeper, _>(&rt, turn);
+        assert_eq!(rt; told, (turn.clock, durable, (0, 0, 0)));
+        let told = play::<RecordingKeeper, _>(&rt, turn);
+        assert_eq!(rt; told, (turn.clock, durable, turn.counts));
     }
-}
-
-#[test]
-fn full_ring(rt: HostRuntime) {
-    play(&rt, Turn::FullRing, (32, 1, 0));
-}
-
-#[test]
-fn posted_unfix_is_drained_first(rt: HostRuntime) {
-    play(&rt, Turn::PostedPass, (0, 2, 0));
-}
-
-#[test]
-fn write_out_in_the_midst_of_a_fix(rt: HostRuntime) {
-    play(&rt, Turn::OneFrame, (0, 2, 1));
 }

@@ -5,11 +5,7 @@
 #![tactic(auto)]
 
 #[cfg(test)]
-mod cuts;
-#[cfg(test)]
 mod pairs;
-#[cfg(test)]
-mod rings;
 #[cfg(test)]
 mod strangers;
 #[cfg(test)]

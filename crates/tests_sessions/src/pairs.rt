@@ -1,24 +1,22 @@
 //! Two clients of a pool of their own, in turn.
 ghost use Rattle.std.specs.Prelude.{◌≡◌};
 
-use super::{cuts, rings, strangers, turns};
-use bp_core::{Core, Entry, PassNote};
+use super::{strangers, turns};
+use bp_core::{Core, PassNote};
 use bp_device::MemPort;
 use bp_mark::LogEnd;
 use bp_page::Refusal;
-use bp_shared::{PoolName, SharedPool, Taker};
+use bp_shared::{PoolName, SharedPool};
 use bp_workers::Client;
 use std::marker::Brand;
 use std::process::Abort;
 use std::sync::Wait;
-use test_support::judging::{setup_of, unlawful};
+use test_support::judging::unlawful_in;
 use test_support::pools::{Made, Pair, make, open_pair};
 
 /// What the two clients do.
 #[derive(Clone, Copy)]
 pub(super) enum Turn {
-    Cuts,
-    FullRing,
     AnotherClientsPass,
     AnotherPoolsPass(PassNote),
     OneFrame,
@@ -28,18 +26,14 @@ pub(super) enum Turn {
 fn act<N: PoolName, R: Wait + Abort + AllocGlobal>(
     rt: &R,
     pool: &SharedPool<N>,
-    taker: &mut Taker<N>,
     end: &mut LogEnd,
     first: &mut Client<N, MemPort>,
     second: &mut Client<N, MemPort>,
-    taken: &mut Vec<Entry>,
     turn: &Turn,
 ) -> Result<(), Refusal>
     requires end { end.old.mark ≡ N.mark }
 {
     match turn {
-        Turn::Cuts => cuts::cut_thrice(rt, pool, taker, first, second, taken),
-        Turn::FullRing => rings::fill_a_ring(rt, pool, first),
         Turn::AnotherClientsPass => { strangers::use_another_clients_pass(rt, pool, first, second) }
         Turn::AnotherPoolsPass(stranger) => {
             strangers::use_another_pools_pass(rt, pool, first, second, *stranger);
@@ -62,8 +56,7 @@ fn see<N: PoolName, R: Abort>(
     turn: &Turn,
 ) {
     match turn {
-        Turn::Cuts | Turn::AnotherPoolsPass(_) => assert!(rt; core.trail().is_empty()),
-        Turn::FullRing => rings::see_a_full_ring(rt, core),
+        Turn::AnotherPoolsPass(_) => assert!(rt; core.trail().is_empty()),
         Turn::AnotherClientsPass => assert!(rt; core.trail().len() == 3),
         Turn::OneFrame => turns::see_the_shared_frame(rt, core, first, second),
         Turn::PostedPass => turns::see_the_posted_pass(rt, core),
@@ -79,29 +72,16 @@ fn play_over<N: PoolName, R: Wait + Abort + AllocGlobal>(rt: &R, made: Made, tur
 {
     let Pair {
         pool,
-        mut taker,
+        taker,
         mut end,
         mut first,
         mut second,
-    } = open_pair::<N>(rt.alloc(), made).expect(rt, "the pool");
-    let mut entries = Vec::new(rt.alloc());
-    let acted = act(
-        rt,
-        &pool,
-        &mut taker,
-        &mut end,
-        &mut first,
-        &mut second,
-        &mut entries,
-        turn,
-    );
+    } = open_pair::<N, _>(rt.alloc(), made).expect(rt, "the pool");
+    let acted = act(rt, &pool, &mut end, &mut first, &mut second, turn);
     acted.expect(rt, "the turn");
     let (core, _, _) = pool.finish(taker);
     see(rt, &core, &first, &second, turn);
-    let setup = setup_of(&core);
-    let mut left = core.into_trail();
-    entries.append(&mut left).expect(rt, "the entries");
-    assert_eq!(rt; unlawful(rt.alloc(), &setup, &entries), Ok(None));
+    assert_eq!(rt; unlawful_in(rt.alloc(), &core), Ok(None));
 }
 
 /// A turn of the last two clients of a new pool.

@@ -67,7 +67,7 @@ fn stranger<N: PoolName, R: Wait + Abort + AllocGlobal>(rt: &R, made: Made) -> P
         end: _,
         mut first,
         second: _,
-    } = open_pair::<N>(rt.alloc(), made).expect(rt, "the other pool");
+    } = open_pair::<N, _>(rt.alloc(), made).expect(rt, "the other pool");
     fix(rt, &pool, &mut first, 1).expect(rt, "the pass")
 }
 

@@ -116,11 +116,6 @@ pub(super) fn see_the_posted_pass<R: Abort>(rt: &R, core: &Core) {
     }
 }
 
-#[test]
-fn posted_unfix_is_drained_first(rt: HostRuntime) {
-    play(&rt, 1, 2, Turn::PostedPass);
-}
-
 // From 17 clients on, rings are asked where a pass was told of.
 #[test]
 fn seventeenth_client_posts(rt: HostRuntime) {

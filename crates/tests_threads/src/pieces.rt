@@ -276,7 +276,7 @@ fn see_over<N: PoolName + Send + Sync, R: Threads + Wait + Abort + Sync + AllocG
         taker,
         end: _,
         device,
-    } = open::<N>(rt.alloc(), made).expect(rt, "the pool");
+    } = open::<N, _>(rt.alloc(), made).expect(rt, "the pool");
     let mut runners = make_runners(rt, &device, sessions, plan);
     let takings = Mutex::new(Takings {
         taker,

@@ -247,7 +247,7 @@ fn run_over<N: PoolName + Send + Sync, R: Threads + Wait + Abort + Sync + AllocG
         taker,
         end: _,
         device,
-    } = open::<N>(rt.alloc(), made).expect(rt, "the pool");
+    } = open::<N, _>(rt.alloc(), made).expect(rt, "the pool");
     let mut runners = runners_of(rt, clients_of(rt, &device, sessions, fails));
     let gate = prepare(rt, &pool, &mut runners, ask);
     let takings = Mutex::new(Takings {

@@ -16,8 +16,6 @@ mod making;
 #[cfg(test)]
 mod own_ports;
 #[cfg(test)]
-mod page_files;
-#[cfg(test)]
 mod rooms;
 #[cfg(test)]
 mod sharing;

@@ -1,0 +1,182 @@
+//! Runs of two workers, each on a page of its own, over a pool of either kind.
+ghost use Rattle.std.specs.Prelude.{◌≡◌};
+
+use crate::devices::{device, port_of};
+use crate::telling::all_went_back;
+use bp_audit::agrees;
+use bp_core::{RecordingKeeper, SilentKeeper};
+use bp_device::{MemPort, Port};
+use bp_keeper::ListKeeper;
+use bp_lruk::Settings;
+use bp_page::{Geometry, Refusal};
+use bp_shared::{PoolName, SharedPool};
+use bp_workers::{Client, Config, Kind, Run, Upkeep, Worker, run_workers_over};
+use std::alloc::Global;
+use std::marker::Sync;
+use std::process::Abort;
+use std::sync::Wait;
+use std::thread::Threads;
+use test_support::judging::unlawful_in;
+use test_support::pools::{fix, give, read, write};
+
+/// How many entries there may be.
+const ROOM: usize = 100;
+
+/// Visits the page of its client's number, once more where that was refused.
+#[derive(Drop)]
+struct Visitor {
+    alloc: Global,
+    refused: Option<Refusal>,
+    /// The page's first byte at the end of the visit, or why that was refused.
+    seen: Result<u8, Refusal>,
+}
+
+/// Puts the byte 7 into a page and reads it, gives the page back in any case, and moves the clock.
+fn visit<N: PoolName, P: Port, K: ListKeeper, R: Wait>(
+    rt: &R,
+    alloc: Global,
+    pool: &SharedPool<N, K>,
+    client: &mut Client<N, P, K>,
+) -> Result<u8, Refusal>
+    ensures client { client.new.session.client ≡ client.old.session.client }
+{
+    let number = u64::from(client.session.client());
+    let note = fix(rt, pool, client, number)?;
+    let wrote = write(rt, alloc, pool, client, note, 7, 0);
+    let image = read(rt, pool, client, note);
+    give(rt, pool, client, note)?;
+    wrote?;
+    let byte = image?.bytes().first().copied();
+    pool.tick(rt, &mut client.session, 1)?;
+    Ok(byte.unwrap_or(0))
+}
+
+impl Visitor {
+    ghost use Rattle.std.specs.Prelude.{◌≡◌};
+
+    fn run<N: PoolName, P: Port, K: ListKeeper, R: Wait>(
+        &mut self,
+        rt: &R,
+        pool: &SharedPool<N, K>,
+        client: &mut Client<N, P, K>,
+    )
+        ensures client { client.new.session.client ≡ client.old.session.client }
+    {
+        self.seen = visit(rt, self.alloc, pool, client);
+        if let Err(refusal) = self.seen {
+            self.refused = Some(refusal);
+            self.seen = visit(rt, self.alloc, pool, client);
+        }
+    }
+}
+
+impl<P: Port, K: ListKeeper> Worker<P, K> for Visitor {
+    fn work<N: PoolName, R: Wait>(
+        &mut self,
+        rt: &R,
+        pool: &SharedPool<N, K>,
+        client: &mut Client<N, P, K>,
+    ) {
+        self.run(rt, pool, client);
+    }
+
+    fn lead<N: PoolName, R: Wait>(
+        &mut self,
+        rt: &R,
+        pool: &SharedPool<N, K>,
+        client: &mut Client<N, P, K>,
+        _upkeep: &mut Upkeep<N>,
+    ) {
+        self.run(rt, pool, client);
+    }
+}
+
+/// A list of two. Where memory is refused it is made once more.
+fn two_of<T: Drop, R: Abort + AllocGlobal>(rt: &R, one: T, other: T) -> Vec<T> {
+    let mut two = match Vec::with_capacity(rt.alloc(), 2) {
+        Ok(two) => two,
+        Err(_) => Vec::with_capacity(rt.alloc(), 2).expect(rt, "the list, with memory"),
+    };
+    two.push_reserved(one);
+    two.push_reserved(other);
+    two
+}
+
+fn new_visitor(alloc: Global) -> Visitor {
+    Visitor {
+        alloc,
+        refused: None,
+        seen: Ok(0),
+    }
+}
+
+/// A run of two visitors, or none where memory was refused outside their visits.
+fn try_run<K: Kind, R: Threads + Wait + Sync + Abort + AllocGlobal>(
+    rt: &R,
+) -> Option<Run<MemPort, Visitor, K>> {
+    let config = Config {
+        geometry: Geometry::new(4, 16).expect(rt, "the geometry"),
+        settings: Settings::new(2, 0, 1000).expect(rt, "the settings"),
+        frames: 2,
+        room: ROOM,
+    };
+    let device = device(rt, config.geometry);
+    let ports = two_of(rt, port_of(rt, &device), port_of(rt, &device));
+    let workers = two_of(rt, new_visitor(rt.alloc()), new_visitor(rt.alloc()));
+    match run_workers_over::<K, MemPort, Visitor, R>(rt, rt.alloc(), config, ports, workers) {
+        Ok(run) => Some(run),
+        Err(refusal) => {
+            assert!(rt; refusal == Refusal::OutOfMemory);
+            None
+        }
+    }
+}
+
+/// A run of two visitors, each of whom has seen its byte in the end, and left no pass. One visit at most was refused,
+/// for want of memory of the pool, or of the port at the end of a read. A visit has six entries, and is as long where it
+/// is made once more. The one that was refused has two where its read failed, and one entry less than a second visit
+/// then has no read of the page: three more in all where the write or the read by its pass was refused, and four where
+/// the clock was.
+fn expect_visits<K: Kind, R: Threads + Wait + Sync + Abort + AllocGlobal>(
+    rt: &R,
+) -> Run<MemPort, Visitor, K> {
+    let run = match try_run::<K, R>(rt) {
+        Some(run) => run,
+        None => try_run::<K, R>(rt).expect(rt, "the run, with memory"),
+    };
+    let [one, other] = run.left.as_slice() else {
+        panic!(rt; "not two workers")
+    };
+    for left in [one, other] {
+        assert_eq!(rt;
+            (left.worker.seen, left.held, left.is_settled),
+            (Ok(7), 0, true)
+        );
+    }
+    let more = match (one.worker.refused, other.worker.refused) {
+        (None, None) => 0..=0,
+        (Some(Refusal::ReadFailed), None) | (None, Some(Refusal::ReadFailed)) => 2..=2,
+        (Some(Refusal::OutOfMemory), None) | (None, Some(Refusal::OutOfMemory)) => 0..=4,
+        _ => panic!(rt; "two visits were refused"),
+    };
+    let entries = ROOM.saturating_sub(run.core.free());
+    assert!(rt;
+        more.contains(&entries.saturating_sub(12)) && entries >= 12,
+        "{entries} entries"
+    );
+    assert_eq!(rt; run.core.clock(), 3);
+    run
+}
+
+#[test]
+fn workers_visit_their_pages(rt: HostRuntime) {
+    expect_visits::<SilentKeeper, _>(&rt);
+    let run = expect_visits::<RecordingKeeper, _>(&rt);
+    let trail = run.core.trail();
+    assert_eq!(rt; unlawful_in(rt.alloc(), &run.core), Ok(None));
+    assert!(rt; all_went_back(trail));
+    for client in 0..2u8 {
+        let left = run.left.get(usize::from(client)).expect(&rt, "the worker");
+        assert!(rt; agrees(trail, left.said(), client));
+    }
+}
