@@ -8,6 +8,7 @@ use bp_device::{FusePort, MemDevice, MemPort, Port};
 use bp_keeper::ListKeeper;
 use bp_page::{PageNo, Refusal};
 use bp_shared::{PoolName, Session, SharedPool};
+use bp_totals::Totals;
 use bp_workers::Client;
 use std::process::Abort;
 use std::sync::Wait;
@@ -104,4 +105,16 @@ pub(crate) fn on_device<R: Wait + Abort>(rt: &R, device: &MemDevice) -> Option<u
         Ok(image) => image.bytes().first().copied(),
         Err(fault) => panic!(rt; "{fault}"),
     }
+}
+
+/// What a trail counts up to: hits, faults, evictions, write-outs and failures. How often a page was found in flight is
+/// up to the schedule.
+pub(crate) fn counts(totals: &Totals) -> [u64; 5] {
+    [
+        totals.hits,
+        totals.faults,
+        totals.evictions,
+        totals.writes,
+        totals.failed,
+    ]
 }

@@ -5,7 +5,7 @@
 ghost use Rattle.std.specs.Prelude.{◌≡◌};
 
 use crate::gates::Gate;
-use crate::making::{Fails, Way, change, clients_of, look, on_device};
+use crate::making::{Fails, Way, change, clients_of, counts, look, on_device};
 use bp_core::{Entry, Reply};
 use bp_device::Flushed;
 use bp_page::Refusal;
@@ -285,18 +285,6 @@ fn run_together<R: Threads + Wait + Abort + Sync + AllocGlobal>(
         is_held: true,
     };
     run_over::<Brand, R>(rt, made, &fails, ask)
-}
-
-/// What a trail counts up to: hits, faults, evictions, write-outs and failures. How often a page was found in flight is
-/// up to the schedule.
-fn counts(totals: &Totals) -> [u64; 5] {
-    [
-        totals.hits,
-        totals.faults,
-        totals.evictions,
-        totals.writes,
-        totals.failed,
-    ]
 }
 
 /// Whether the first client was answered so, and both others otherwise.
