@@ -9,8 +9,8 @@ use bp_keeper::{ListKeeper, RecordingKeeper};
 use bp_mark::{Mark, Reader};
 use std::marker::Model;
 
-/// A pool that is shared no more: its sessions are ended one by one, and then its core is taken out. Contracts see it as its
-/// core.
+/// A pool that is shared no more: its sessions are ended one by one, and then its core is taken out. Contracts see it as
+/// its core.
 #[derive(Drop)]
 pub struct ClosedPool<N: PoolName, K: ListKeeper = RecordingKeeper> {
     mark: Mark,
@@ -43,9 +43,10 @@ impl<N: PoolName, K: ListKeeper> ClosedPool<N, K> {
 
     /// Ends a session and gives what it kept for itself, as [`Session::into_book`] does. It takes no memory.
     ///
-    /// What the session's list told is what the core's trail tells of its client since the pool was made, entry by entry and
-    /// with nothing between; only unfixes are left out, which the trail may have later than the list. So no call of the
-    /// session was answered by another core, and no entry of its client's was made by anybody else.
+    /// What the session's list told is what the core's trail tells of its client since the pool was made, entry by entry
+    /// and with nothing between. Unfixes are left out of both: the trail may have one later than the list, and which ones
+    /// it has no clause says. So this core gave each answer that the list has, and the client has no other entry but
+    /// unfixes. A refusal that adds no entry is not bound by it.
     pub fn end_session(&mut self, session: Session<N, K>) -> Book<K>
         ensures same { self.new ≡ self.old }
         ensures client { result.client ≡ session.client }

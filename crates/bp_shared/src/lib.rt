@@ -3,8 +3,8 @@
 //! Each call of a session is one or more critical sections, and in each the locked core makes its events. Device work is done
 //! outside the lock (Gray and Reuter, chapter 13). A pass goes back through the session's own ring, with no lock.
 //!
-//! The lists of the sessions are bound to the trail of the core, whether some memory has them or not: a session that ends at
-//! a [`ClosedPool`] told what the trail tells of its client since the pool was made, and nothing else.
+//! The lists of the sessions are bound to the trail of the core, whether some memory has them or not: a session that ends
+//! at a [`ClosedPool`] told what the trail tells of its client since the pool was made, and nothing else, but for unfixes.
 #![tactic(auto)]
 
 pub mod closed_pool;
@@ -25,8 +25,8 @@ pub use session::Session;
 pub use taker::Taker;
 pub use trail_ring::TrailRing;
 
-/// A shared pool that only counts the entries of its core and of its sessions. Its calls have the same clauses. Trail and
-/// lists stand in proofs alone, and agree as those of a recording pool do.
+/// A shared pool that only counts the entries of its core and of its sessions. Its calls have the same clauses. Trail
+/// and lists stand in proofs alone, and agree as those of a recording pool do.
 pub type SilentPool<N> = SharedPool<N, SilentKeeper>;
 
 /// A client's end of a [`SilentPool`]: it has the passes that it holds and its ring, and no list.

@@ -194,8 +194,8 @@ impl<N: PoolName, K: ListKeeper> SharedPool<N, K> {
         locked(rt, &self.state).settle();
     }
 
-    /// Ends the sharing: drains the rings once more. The sessions may be ended after it, in any order, and then the pool. It
-    /// neither waits nor takes memory. A pass that no ring has by then stays out.
+    /// Ends the sharing: drains the rings once more. The sessions may be ended after it, in any order, and then the
+    /// pool. It neither waits nor takes memory. A pass that no ring has by then stays out.
     pub fn close(self) -> ClosedPool<N, K> {
         let SharedPool {
             alloc: _,
@@ -210,8 +210,9 @@ impl<N: PoolName, K: ListKeeper> SharedPool<N, K> {
         ClosedPool::new(mark, state)
     }
 
-    /// Ends the pool, and with it what binds the lists of its sessions to its trail: closes it, and gives back the core, the
-    /// mark and its reader. It neither waits nor takes memory. The core's trail goes on from all that the taker was handed.
+    /// Ends the pool, and with it what binds the lists of its sessions to its trail: closes it, and gives back the core,
+    /// the mark and its reader. It neither waits nor takes memory. The core's trail goes on from all that the taker was
+    /// handed.
     pub fn finish(self, taker: Taker<N>) -> (PoolCore<K>, Mark, Reader)
         ensures goes_on { GoesOnFrom N.past result.0.past }
         ensures before { result.0.before ≡ taker.past }

@@ -99,8 +99,8 @@ fn run_jobs<
     thread::for_each_mut(rt, jobs, count, &|_, job| job.run(rt, pool));
 }
 
-/// What the jobs left, their sessions being ended at the pool, and the upkeep that the first had. There is room for it, so that no
-/// memory is taken.
+/// What the jobs left, their sessions being ended at the pool, and the upkeep that the first had. There is room for it,
+/// so that no memory is taken.
 fn all_left<N: PoolName, P: Port, K: ListKeeper, W: Worker<P, K>>(
     pool: &mut ClosedPool<N, K>,
     jobs: Vec<Job<N, P, K, W>>,

@@ -113,7 +113,7 @@ fn fuses<R: Abort + AllocGlobal>(rt: &R, calls: &[u64]) -> Vec<FusePort<MemPort>
     fuses
 }
 
-/// Each of three visitors has one page read by its port, and the first call of client 1's port fails.
+/// Each of three visitors has one page read by its port, and the first call of client 0's port fails.
 #[test]
 fn each_worker_works_over_its_own_port(rt: HostRuntime) {
     let rt = &rt;
@@ -125,13 +125,13 @@ fn each_worker_works_over_its_own_port(rt: HostRuntime) {
         };
         visitors.push(visitor).expect(rt, "a place");
     }
-    let ports = fuses(rt, &[100, 1, 100]);
+    let ports = fuses(rt, &[1, 100, 100]);
     let run = visit_all(rt, rt.alloc(), config(rt, 4), ports, visitors).expect(rt, "the run");
     assert_eq!(rt; unlawful_in(rt.alloc(), &run.core), Ok(None));
     assert_eq!(rt; run.left.len(), 3);
     for client in 0..run.left.len() {
         let left = &run.left[client];
-        let (failures, refused, held) = if client == 1 {
+        let (failures, refused, held) = if client == 0 {
             (1, Some(Refusal::ReadFailed), 0)
         } else {
             (0, None, 1)

@@ -1,6 +1,7 @@
-//! The critical sections of a session. Each drains the rings that it is to ask, bit c for that of client c, and then makes one event,
-//! which the session's list gets too; a fix and a flush first look at the mark once. What the list then tells goes to the session's line
-//! of the board. None takes memory for the list: what an event wants there is taken before the lock.
+//! The critical sections of a session. Each drains the rings that it is to ask, bit c for that of client c, and then
+//! makes one event, which the session's list gets too; a fix and a flush first look at the mark once. What the list then
+//! tells goes to the session's line of the board. None takes memory for the list: what an event wants there is taken
+//! before the lock.
 ghost use Rattle.std.specs.Prelude.{◌≡◌, ◌+◌, ◌<◌, ◌≤◌, length, IfOk};
 ghost use Rattle.bp_book.specs.Books.{SameOwner, OwesRead, OwesWrite};
 ghost use Rattle.bp_book.specs.Turns.{FixTurn, FlushTurn, EndReadOutcome, EndWriteOutcome};

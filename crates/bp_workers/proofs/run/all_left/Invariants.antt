@@ -7,7 +7,7 @@ use Rattle.bp_workers.proofs.run.all_left.Given as goal
 
 abbrev pub invariant-loop-job : goal.invariant-loop-job
 invariant-loop-job g l = record {
-  pool : l.pool ≡ l.fn.pool.now;
-  made : Beside (λ _. IsLeftOf g.N.PoolName.parameters g.P.Port.geometry_of g.N.PoolName.past l.fn.pool.now.past) l.fn.jobs.items (into_iter_items l.job-iterator) l.left.items;
+  pool : l.pool ≡ l.fn.pool;
+  made : Beside (λ _. IsLeftOf g.N.PoolName.parameters g.P.Port.geometry_of g.N.PoolName.past l.fn.pool.past) l.fn.jobs.items (into_iter_items l.job-iterator) l.left.items;
   room : vec_len l.left + length (into_iter_items l.job-iterator) ≤ vec_capacity l.left;
 }

@@ -50,8 +50,8 @@ returns-in-Err-clause-no_more g c =
       omega (arith, ap (λ (t : Taken). t.entries) same, inv.count, c.loop-entry-test.true),
     )
 
-pub returns-then-has_failed-clause-no_more : goal.returns-then-has_failed-clause-no_more
-returns-then-has_failed-clause-no_more g c = (time-grows (taken_by c.args.self.now) c.args.entries.now, omega arith)
+pub returns-then-self-clause-no_more : goal.returns-then-self-clause-no_more
+returns-then-self-clause-no_more g c = (time-grows (taken_by c.args.self.now) c.args.entries.now, omega arith)
 
 pub returns-clause-lines : goal.returns-clause-lines
 unfolding lines_from
