@@ -133,10 +133,9 @@ fn try_run<K: Kind, R: Threads + Wait + Sync + Abort + AllocGlobal>(
 }
 
 /// A run of two visitors, each of whom has seen its byte in the end, and left no pass. One visit at most was refused,
-/// for want of memory of the pool, or of the port at the end of a read. A visit has six entries, and is as long where it
-/// is made once more. The one that was refused has two where its read failed, and one entry less than a second visit
-/// then has no read of the page: three more in all where the write or the read by its pass was refused, and four where
-/// the clock was.
+/// for want of memory of the pool, or of the port at the end of a read. A visit has six entries. One that was refused
+/// adds none where that was its fix, two where its read failed, three where it was the write or the read by its pass,
+/// and four where it was the clock.
 fn expect_visits<K: Kind, R: Threads + Wait + Sync + Abort + AllocGlobal>(
     rt: &R,
 ) -> Run<MemPort, Visitor, K> {
@@ -153,17 +152,14 @@ fn expect_visits<K: Kind, R: Threads + Wait + Sync + Abort + AllocGlobal>(
             (Ok(7), 0, true)
         );
     }
-    let more = match (one.worker.refused, other.worker.refused) {
-        (None, None) => 0..=0,
-        (Some(Refusal::ReadFailed), None) | (None, Some(Refusal::ReadFailed)) => 2..=2,
-        (Some(Refusal::OutOfMemory), None) | (None, Some(Refusal::OutOfMemory)) => 0..=4,
-        _ => panic!(rt; "two visits were refused"),
+    assert!(rt; one.worker.refused.is_none() || other.worker.refused.is_none());
+    let more = ROOM.saturating_sub(run.core.free()).checked_sub(12);
+    let is_counted = match one.worker.refused.or(other.worker.refused) {
+        None => more == Some(0),
+        Some(Refusal::ReadFailed) => more == Some(2),
+        Some(refusal) => refusal == Refusal::OutOfMemory && matches!(more, Some(0 | 3 | 4)),
     };
-    let entries = ROOM.saturating_sub(run.core.free());
-    assert!(rt;
-        more.contains(&entries.saturating_sub(12)) && entries >= 12,
-        "{entries} entries"
-    );
+    assert!(rt; is_counted, "{more:?}");
     assert_eq!(rt; run.core.clock(), 3);
     run
 }
