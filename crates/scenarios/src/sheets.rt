@@ -111,9 +111,9 @@ impl Sheet {
     /// How many calls were refused memory, and made once more.
     fn again(&self) -> u64 {
         self.whole
-            .again()
-            .saturating_add(self.pieces.again())
-            .saturating_add(self.counted.again())
+            .again
+            .saturating_add(self.pieces.again)
+            .saturating_add(self.counted.again)
     }
 
     /// Ends what the scenario made, in each way.

@@ -4,9 +4,10 @@ use bp_check::first_unlawful;
 use bp_core::{RecordingKeeper, SilentKeeper};
 use bp_page::Refusal;
 use bp_trail::Reply;
-use scenario_cores::{Ended, Served, new_served};
-use scenario_parts::{Judged, Ranked, Timed, new_judged, new_ranked, new_timed};
-use scenario_words::{Answer, Call, Command, Keeps, Shape, Thing, command_of};
+use scenario_cores::{
+    Ended, Judged, Pool, Ranked, Timed, new_judged, new_pool, new_ranked, new_timed,
+};
+use scenario_words::{Answer, Keeps, Said, Shape, Thing, Verb, call_of, maker_of};
 use std::alloc::{AllocError, Global};
 use std::sync::Wait;
 
@@ -24,8 +25,8 @@ pub enum Way {
 /// What a line made.
 #[derive(Drop)]
 enum Made {
-    Kept(Served<RecordingKeeper>),
-    Counted(Served<SilentKeeper>),
+    Kept(Pool<RecordingKeeper>),
+    Counted(Pool<SilentKeeper>),
     Histories(Timed),
     Candidates(Ranked),
     Judged(Judged),
@@ -42,59 +43,40 @@ pub struct World {
     /// A line made what there is not in this way. The rest of the scenario passes it over.
     is_out: bool,
     /// How many calls were refused memory, and made once more.
-    again: u64,
+    pub again: u64,
 }
 
-/// A core, if there is one in this way.
-fn made_core(
-    alloc: Global,
-    way: Way,
-    thing: Thing,
-    shape: &Shape,
-) -> Result<Option<Made>, Refusal> {
-    match (way, shape.keeps) {
-        (Way::Whole, Keeps::Each | Keeps::Whole) | (Way::Pieces, Keeps::Each) => {
-            Ok(Some(Made::Kept(new_served(alloc, thing, shape)?)))
-        }
-        (Way::Whole, Keeps::Counted) | (Way::Counted, Keeps::Each) => {
-            Ok(Some(Made::Counted(new_served(alloc, thing, shape)?)))
-        }
-        _ => Ok(None),
+/// Whether what a line makes is there in this way. What has no core, or names how its core keeps its trail, is there in
+/// the first alone.
+fn is_there(way: Way, thing: Thing, keeps: Keeps) -> bool {
+    match (way, thing, keeps) {
+        (Way::Whole, _, _) => true,
+        (_, Thing::Core | Thing::Driven, Keeps::Each) => true,
+        _ => false,
     }
 }
 
-/// What a line makes that has no core.
-fn made_part(alloc: Global, thing: Thing, shape: &Shape) -> Result<Option<Made>, Refusal> {
-    match thing {
-        Thing::Histories => Ok(Some(Made::Histories(new_timed(alloc, shape)?))),
-        Thing::Candidates => Ok(Some(Made::Candidates(new_ranked(alloc, shape)?))),
-        _ => Ok(Some(Made::Judged(new_judged(alloc, shape)?))),
-    }
-}
-
-/// What a line makes, if it is there in this way. What has no core is there in the first alone.
-fn new_made(alloc: Global, way: Way, thing: Thing, shape: &Shape) -> Result<Option<Made>, Refusal> {
-    match (thing, way) {
-        (Thing::Core | Thing::Driven, _) => made_core(alloc, way, thing, shape),
-        (_, Way::Whole) => made_part(alloc, thing, shape),
-        _ => Ok(None),
+/// What a line makes.
+fn new_made(alloc: Global, way: Way, thing: Thing, shape: &Shape) -> Result<Made, Refusal> {
+    match (thing, way, shape.keeps) {
+        (Thing::Histories, _, _) => Ok(Made::Histories(new_timed(alloc, shape)?)),
+        (Thing::Candidates, _, _) => Ok(Made::Candidates(new_ranked(alloc, shape)?)),
+        (Thing::Judged, _, _) => Ok(Made::Judged(new_judged(alloc, shape)?)),
+        (_, Way::Counted, _) | (_, _, Keeps::Counted) => {
+            Ok(Made::Counted(new_pool(alloc, thing, shape)?))
+        }
+        _ => Ok(Made::Kept(new_pool(alloc, thing, shape)?)),
     }
 }
 
 impl Made {
-    fn call(&mut self, rt: &impl Wait, call: &Call) -> Answer {
+    fn call(&mut self, rt: &impl Wait, call: &Said) -> Answer {
         match self {
             Made::Kept(core) => core.ask(rt, call),
             Made::Counted(core) => core.call(rt, call),
             Made::Histories(timed) => timed.call(call),
             Made::Candidates(ranked) => ranked.call(call),
             Made::Judged(_) => Answer::BadLine,
-        }
-    }
-
-    fn cut(&mut self) {
-        if let Made::Kept(core) = self {
-            core.cut();
         }
     }
 
@@ -105,13 +87,6 @@ impl Made {
             Made::Counted(core) => core.told(),
             Made::Histories(timed) => timed.told(),
             Made::Candidates(_) | Made::Judged(_) => 0,
-        }
-    }
-
-    fn end(self) -> Option<Ended> {
-        match self {
-            Made::Kept(core) => Some(core.end()),
-            _ => None,
         }
     }
 }
@@ -136,75 +111,73 @@ impl World {
         }
     }
 
-    /// How many calls were refused memory, and made once more.
-    pub fn again(&self) -> u64 {
-        self.again
-    }
-
     /// Has what was made, which is called from here on.
     fn have(&mut self, made: Made) -> Answer {
         let at = self.made.len();
-        if self.made.push(made).is_err() {
-            return Answer::Refused(Refusal::OutOfMemory);
+        match self.made.push(made) {
+            Ok(()) => {
+                self.at = at;
+                Answer::Reply(Reply::Done)
+            }
+            Err(_) => Answer::Refused(Refusal::OutOfMemory),
         }
-        self.at = at;
-        Answer::Reply(Reply::Done)
     }
 
     fn make(&mut self, thing: Thing, shape: &Shape) -> Option<Answer> {
+        if !is_there(self.way, thing, shape.keeps) {
+            self.is_out = true;
+            return None;
+        }
         match new_made(self.alloc, self.way, thing, shape) {
-            Ok(Some(made)) => Some(self.have(made)),
-            Ok(None) => {
-                self.is_out = true;
-                None
-            }
+            Ok(made) => Some(self.have(made)),
             Err(refusal) => Some(Answer::Refused(refusal)),
         }
     }
 
     fn go_on(&mut self, at: u64) -> Answer {
-        let at = at as usize;
-        if at >= self.made.len() {
-            return Answer::Nothing;
+        if at as usize >= self.made.len() {
+            return Answer::Word("nothing to call");
         }
-        self.at = at;
+        self.at = at as usize;
         Answer::Reply(Reply::Done)
     }
 
-    fn call(&mut self, rt: &impl Wait, call: &Call) -> Option<Answer> {
-        let way = self.way;
+    fn call(&mut self, rt: &impl Wait, call: &Said) -> Option<Answer> {
         let Some(made) = self.made.get_mut(self.at) else {
-            return Some(Answer::Nothing);
+            return Some(Answer::Word("nothing to call"));
         };
-        match (way, call) {
-            (Way::Whole, _) => Some(made.call(rt, call)),
-            // The trail is another one in these ways.
-            (_, Call::Trail | Call::Fresh | Call::Cut | Call::Entry(_)) => None,
-            (Way::Pieces, _) => {
-                let answer = made.call(rt, call);
-                made.cut();
-                Some(answer)
-            }
-            (Way::Counted, _) => Some(made.call(rt, call)),
+        let answer = match (self.way, call.verb) {
+            // The trail is another one in the ways beside the first.
+            (Way::Pieces | Way::Counted, Verb::Trail | Verb::Fresh | Verb::Cut | Verb::Entry) =>
+                return None,
+            _ => made.call(rt, call),
+        };
+        if let (Way::Pieces, Made::Kept(core)) = (self.way, made) {
+            core.cut();
         }
+        Some(answer)
     }
 
     /// Takes a line `CALL gives REPLY`.
     fn claim(&mut self, call: &str, reply: &str) -> Answer {
-        match (command_of(self.alloc, call), self.made.get_mut(self.at)) {
-            (Some(Command::Call(call)), Some(Made::Judged(judged))) => judged.claim(&call, reply),
+        match (call_of(self.alloc, call), self.made.get_mut(self.at)) {
+            (Some(call), Some(Made::Judged(judged))) => judged.claim(&call, reply),
             _ => Answer::BadLine,
         }
     }
 
     fn obey(&mut self, rt: &impl Wait, line: &str) -> Option<Answer> {
         if let Some((call, reply)) = line.split_once(" gives ") {
-            return Some(self.claim(call, reply.trim()));
+            return Some(self.claim(call, reply));
         }
-        match command_of(self.alloc, line) {
-            Some(Command::Make(thing, shape)) => self.make(thing, &shape),
-            Some(Command::On(at)) => Some(self.go_on(at)),
-            Some(Command::Call(call)) => self.call(rt, &call),
+        if let Some((thing, shape)) = maker_of(self.alloc, line) {
+            return self.make(thing, &shape);
+        }
+        match call_of(self.alloc, line) {
+            Some(call) => match call.verb {
+                Verb::On => Some(self.go_on(call.numbers.list[0])),
+                _ => self.call(rt, &call),
+            },
             None => Some(Answer::BadLine),
         }
     }
@@ -223,19 +196,27 @@ impl World {
             return None;
         }
         let before = self.told();
-        let answer = self.obey(rt, line)?;
-        if !lacks_memory(&answer) {
-            return Some(answer);
+        match self.obey(rt, line) {
+            Some(answer) if lacks_memory(&answer) => {
+                if self.told() == before {
+                    self.once_more(rt, line)
+                } else {
+                    Some(Answer::Word("22, and something has changed"))
+                }
+            }
+            answer => answer,
         }
-        if self.told() != before {
-            return Some(Answer::Changed);
-        }
-        if let Answer::Refused(_) = answer {
-            self.again = self.again.saturating_add(1);
-        }
-        self.obey(rt, line)
     }
 
+    fn once_more(&mut self, rt: &impl Wait, line: &str) -> Option<Answer> {
+        let answer = self.obey(rt, line)?;
+        if !lacks_memory(&answer) {
+            self.again = self.again.saturating_add(1);
+        }
+        Some(answer)
+    }
+
+    /// What it made, if all of that is there in this way.
     fn into_made(self) -> Vec<Made> {
         let World {
             alloc,
@@ -245,10 +226,7 @@ impl World {
             is_out,
             again: _,
         } = self;
-        if is_out {
-            return Vec::new(alloc);
-        }
-        made
+        if is_out { Vec::new(alloc) } else { made }
     }
 }
 
@@ -271,16 +249,24 @@ fn unlawful(alloc: Global, ended: &Ended) -> Result<Option<usize>, AllocError> {
     }
 }
 
-fn verdict_of(alloc: Global, whole: &Ended, pieces: Option<&Ended>) -> Verdict {
-    match unlawful(alloc, whole) {
-        Ok(None) => {}
-        Ok(Some(place)) => return Verdict::Unlawful((place as u64).saturating_add(1)),
-        Err(_) => return Verdict::NoMemory,
-    }
-    let Some(pieces) = pieces else {
+/// What became of a core, and of the one beside it that was cut after each call, if there was one.
+fn verdict_of(alloc: Global, whole: Made, pieces: Option<Made>) -> Verdict {
+    let Made::Kept(whole) = whole else {
         return Verdict::Good;
     };
-    if pieces.entries.as_slice() == whole.entries.as_slice() {
+    let whole = whole.end();
+    match unlawful(alloc, &whole) {
+        Ok(None) => torn_or_good(&whole, pieces),
+        Ok(Some(place)) => Verdict::Unlawful((place as u64).saturating_add(1)),
+        Err(_) => Verdict::NoMemory,
+    }
+}
+
+fn torn_or_good(whole: &Ended, pieces: Option<Made>) -> Verdict {
+    let Some(Made::Kept(pieces)) = pieces else {
+        return Verdict::Good;
+    };
+    if pieces.end().entries.as_slice() == whole.entries.as_slice() {
         Verdict::Good
     } else {
         Verdict::Torn
@@ -293,12 +279,9 @@ pub fn judge(alloc: Global, whole: World, pieces: World) -> Verdict {
     let mut verdict = Verdict::Good;
     let mut joined = pieces.into_made().into_iter();
     for made in whole.into_made() {
-        let pieces = match joined.next() {
-            Some(other) => other.end(),
-            None => None,
-        };
-        if let (Verdict::Good, Some(ended)) = (verdict, made.end()) {
-            verdict = verdict_of(alloc, &ended, pieces.as_ref());
+        let pieces = joined.next();
+        if let Verdict::Good = verdict {
+            verdict = verdict_of(alloc, made, pieces);
         }
     }
     verdict
