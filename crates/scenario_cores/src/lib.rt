@@ -15,4 +15,3 @@ pub use histories::{Timed, new_timed};
 pub use judged::{Judged, new_judged};
 pub use pools::{Pool, new_pool};
 pub use ranks::{Ranked, new_ranked};
-pub use trails::Ended;

@@ -1,19 +1,11 @@
 //! The trail of a core that has it in memory.
 
-use crate::lists::Lists;
 use crate::pools::Pool;
 use bp_check::Setup;
 use bp_core::RecordingKeeper;
 use bp_trail::Entry;
 use scenario_words::{Answer, Said, Shown, Verb};
 use std::sync::Wait;
-
-/// What is left of a core: its entries, the oldest first, and what they are judged by.
-#[derive(Drop)]
-pub struct Ended {
-    pub setup: Setup,
-    pub entries: Vec<Entry>,
-}
 
 impl Pool<RecordingKeeper> {
     /// Cuts its trail, which is put after the pieces that were cut before.
@@ -53,24 +45,26 @@ impl Pool<RecordingKeeper> {
         }
     }
 
-    /// Ends it. All its entries are left, the cut ones too.
-    pub fn end(self) -> Ended {
-        let Pool {
-            alloc: _,
-            core,
-            device: _,
-            lists,
-        } = self;
-        let setup = Setup {
-            geometry: core.geometry(),
-            settings: core.settings(),
-            frames: core.frames(),
-            clients: core.clients(),
-        };
-        let Lists { mut entries, .. } = lists;
-        for entry in core.into_trail() {
-            let _ = entries.push(entry);
+    /// Cuts the rest of its trail, and once more where memory is refused. Tells whether all its entries are here then.
+    pub fn gather(&mut self) -> bool {
+        if let Answer::Refused(_) = self.cut() {
+            self.cut();
         }
-        Ended { setup, entries }
+        self.core.trail().is_empty()
+    }
+
+    /// The entries that were cut, the oldest first.
+    pub fn entries(&self) -> &[Entry] {
+        &self.lists.entries
+    }
+
+    /// What its trail is judged by.
+    pub fn setup(&self) -> Setup {
+        Setup {
+            geometry: self.core.geometry(),
+            settings: self.core.settings(),
+            frames: self.core.frames(),
+            clients: self.core.clients(),
+        }
     }
 }

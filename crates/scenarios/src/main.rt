@@ -16,8 +16,7 @@ use std::sync::Wait;
 /// Plays the scenarios of a text. It prints `ok` and the name of each that holds, each line of the others that answers
 /// otherwise, and at the end how many hold and how many do not. True where all hold. It fails where a line can't be
 /// printed, or by want of memory for the text of an answer or for a name.
-fn play(rt: &(impl Print + Wait + AllocGlobal), text: &str) -> io::Result<bool> {
-    let mut sheet = Sheet::new(rt.alloc());
+fn play(rt: &(impl Print + Wait), sheet: &mut Sheet, text: &str) -> io::Result<bool> {
     for line in text.lines() {
         sheet.take(rt, line)?;
     }
@@ -26,7 +25,8 @@ fn play(rt: &(impl Print + Wait + AllocGlobal), text: &str) -> io::Result<bool> 
 
 fn run(rt: &(impl Print + Input + Wait + Alloc<A = Global>)) -> io::Result<bool> {
     let text = io::read_to_string(rt.alloc(), rt.reader())?;
-    play(rt, text.as_str())
+    let mut sheet = Sheet::new(rt.alloc());
+    play(rt, &mut sheet, text.as_str())
 }
 
 fn main(rt: HostRuntime) -> ExitCode {

@@ -3,10 +3,8 @@
 use bp_check::first_unlawful;
 use bp_core::{RecordingKeeper, SilentKeeper};
 use bp_page::Refusal;
-use bp_trail::Reply;
-use scenario_cores::{
-    Ended, Judged, Pool, Ranked, Timed, new_judged, new_pool, new_ranked, new_timed,
-};
+use bp_trail::{Entry, Reply};
+use scenario_cores::{Judged, Pool, Ranked, Timed, new_judged, new_pool, new_ranked, new_timed};
 use scenario_words::{Answer, Keeps, Said, Shape, Thing, Verb, call_of, maker_of};
 use std::alloc::{AllocError, Global};
 use std::sync::Wait;
@@ -216,17 +214,12 @@ impl World {
         Some(answer)
     }
 
-    /// What it made, if all of that is there in this way.
-    fn into_made(self) -> Vec<Made> {
-        let World {
-            alloc,
-            way: _,
-            made,
-            at: _,
-            is_out,
-            again: _,
-        } = self;
-        if is_out { Vec::new(alloc) } else { made }
+    /// Lets go what was made.
+    pub fn clear(&mut self) {
+        self.made.clear();
+        self.at = 0;
+        self.is_out = false;
+        self.again = 0;
     }
 }
 
@@ -242,46 +235,52 @@ pub enum Verdict {
 }
 
 /// The place of the first entry that is not lawful. Where memory is refused, it is looked for once more.
-fn unlawful(alloc: Global, ended: &Ended) -> Result<Option<usize>, AllocError> {
-    match first_unlawful(alloc, &ended.setup, &ended.entries) {
+fn unlawful(alloc: Global, core: &Pool<RecordingKeeper>) -> Result<Option<usize>, AllocError> {
+    let setup = core.setup();
+    match first_unlawful(alloc, &setup, core.entries()) {
         Ok(place) => Ok(place),
-        Err(_) => first_unlawful(alloc, &ended.setup, &ended.entries),
+        Err(_) => first_unlawful(alloc, &setup, core.entries()),
     }
 }
 
-/// What became of a core, and of the one beside it that was cut after each call, if there was one.
-fn verdict_of(alloc: Global, whole: Made, pieces: Option<Made>) -> Verdict {
+/// What became of a core, and of the one beside it that was cut after each call, if there is one.
+fn verdict_of(alloc: Global, whole: &mut Made, pieces: Option<&mut Made>) -> Verdict {
     let Made::Kept(whole) = whole else {
         return Verdict::Good;
     };
-    let whole = whole.end();
-    match unlawful(alloc, &whole) {
-        Ok(None) => torn_or_good(&whole, pieces),
+    if !whole.gather() {
+        return Verdict::NoMemory;
+    }
+    match unlawful(alloc, whole) {
+        Ok(None) => torn_or_good(whole.entries(), pieces),
         Ok(Some(place)) => Verdict::Unlawful((place as u64).saturating_add(1)),
         Err(_) => Verdict::NoMemory,
     }
 }
 
-fn torn_or_good(whole: &Ended, pieces: Option<Made>) -> Verdict {
+fn torn_or_good(whole: &[Entry], pieces: Option<&mut Made>) -> Verdict {
     let Some(Made::Kept(pieces)) = pieces else {
         return Verdict::Good;
     };
-    if pieces.end().entries.as_slice() == whole.entries.as_slice() {
+    if pieces.gather() && pieces.entries() == whole {
         Verdict::Good
     } else {
         Verdict::Torn
     }
 }
 
-/// Ends what a scenario made. Each trail goes to the judge, and its pieces are compared with it where all of its cores
+/// Judges what a scenario made. Each trail goes to the judge, and its pieces are compared with it where all of its cores
 /// were cut after each call too. The first verdict that is not good is given.
-pub fn judge(alloc: Global, whole: World, pieces: World) -> Verdict {
+pub fn judge(alloc: Global, whole: &mut World, pieces: &mut World) -> Verdict {
     let mut verdict = Verdict::Good;
-    let mut joined = pieces.into_made().into_iter();
-    for made in whole.into_made() {
-        let pieces = joined.next();
-        if let Verdict::Good = verdict {
-            verdict = verdict_of(alloc, made, pieces);
+    for at in 0..whole.made.len() {
+        let beside = if pieces.is_out {
+            None
+        } else {
+            pieces.made.get_mut(at)
+        };
+        if let (Verdict::Good, Some(made)) = (verdict, whole.made.get_mut(at)) {
+            verdict = verdict_of(alloc, made, beside);
         }
     }
     verdict
