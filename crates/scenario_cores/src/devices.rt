@@ -3,7 +3,7 @@
 use bp_device::{FusePort, MemDevice, MemPort, Port};
 use bp_page::{Bytes, Geometry, Lsn, PageNo, Refusal};
 use bp_trail::Reply;
-use scenario_words::{Answer, Call, Shape, filled};
+use scenario_words::{Answer, Said, Shape, Thing, Verb, filled};
 use std::alloc::Global;
 use std::sync::Wait;
 
@@ -16,8 +16,7 @@ pub struct Device {
 }
 
 /// A device of zeros, and a port to it.
-pub fn new_device(alloc: Global, shape: &Shape) -> Result<Device, Refusal> {
-    let geometry = Geometry::new(shape.pages, shape.size)?;
+fn new_device(alloc: Global, geometry: Geometry, shape: &Shape) -> Result<Device, Refusal> {
     let memory = MemDevice::new(alloc, geometry)?;
     let port = memory.port()?;
     match FusePort::new(alloc, port, shape.fuse, shape.spoils) {
@@ -30,17 +29,35 @@ pub fn new_device(alloc: Global, shape: &Shape) -> Result<Device, Refusal> {
     }
 }
 
+/// The device of what a line makes, if it has one.
+pub fn device_for(
+    alloc: Global,
+    thing: Thing,
+    geometry: Geometry,
+    shape: &Shape,
+) -> Result<Option<Device>, Refusal> {
+    match thing {
+        Thing::Driven => match new_device(alloc, geometry, shape) {
+            Ok(device) => Ok(Some(device)),
+            Err(refusal) => Err(refusal),
+        },
+        _ => Ok(None),
+    }
+}
+
 impl Device {
+    /// Writes an image, which may be longer than a page.
     fn put(&self, rt: &impl Wait, page: u64, front: &Bytes) -> Answer {
         let Ok(mut port) = self.memory.port() else {
             return Answer::BadLine;
         };
-        let Some(image) = filled(self.alloc, port.geometry().size, front) else {
-            return Answer::BadLine;
-        };
-        match port.write(rt, PageNo::new(page), &image, Lsn::new(0)) {
-            Ok(()) => Answer::Reply(Reply::Done),
-            Err(_) => Answer::BadLine,
+        let size = port.geometry().size.max(front.bytes().len());
+        match filled(self.alloc, size, front) {
+            Some(image) => match port.write(rt, PageNo::new(page), &image, Lsn::new(0)) {
+                Ok(()) => Answer::Reply(Reply::Done),
+                Err(_) => Answer::Word("failed"),
+            },
+            None => Answer::BadLine,
         }
     }
 
@@ -50,17 +67,18 @@ impl Device {
         };
         match port.read(rt, PageNo::new(page)) {
             Ok(image) => Answer::Reply(Reply::Content(image)),
-            Err(_) => Answer::BadLine,
+            Err(_) => Answer::Word("failed"),
         }
     }
 
     /// Puts a page on the device, tells what it has of one, or how many calls of the core's port failed. It goes by a
     /// port of its own, so that no call of the core's port is used up.
-    pub fn call(&self, rt: &impl Wait, call: &Call) -> Answer {
-        match call {
-            Call::Put(page, front) => self.put(rt, *page, front),
-            Call::Device(page) => self.page(rt, *page),
-            Call::Failures => Answer::Number(self.port.failures()),
+    pub fn call(&self, rt: &impl Wait, call: &Said) -> Answer {
+        let [page, _, _] = call.numbers.list;
+        match (call.verb, &call.bytes) {
+            (Verb::Put, Some(front)) => self.put(rt, page, front),
+            (Verb::Device, _) => self.page(rt, page),
+            (Verb::Failures, _) => Answer::Number(self.port.failures()),
             _ => Answer::BadLine,
         }
     }

@@ -15,26 +15,18 @@ pub enum Answer {
     Out(Reply, Lsn),
     Refused(Refusal),
     /// A pass or a ticket that comes back, and what came with the end of a read.
-    PassBack(Grant),
-    ReadBack(Grant, Option<Image>),
-    WriteBack(Grant),
+    Back(Refusal, Grant, Option<Image>),
     Number(u64),
-    None,
-    Is(bool),
-    /// A K-th stamp, a newest reference and a page.
-    Candidate(u64, u64, u64),
-    /// An entry of the trail.
-    Entry(String),
-    /// An entry is not lawful after those before it.
-    Unlawful,
-    /// The two bodies of the candidates do not agree.
-    Differ,
-    /// What was refused for want of memory has changed something.
-    Changed,
-    /// There is nothing to call.
-    Nothing,
+    Word(&'static str),
+    Text(String),
     /// It asks for what there is not, or names what is out of its limits, or there was no memory for its words.
     BadLine,
+}
+
+impl Answer {
+    pub fn yes_or_no(is_so: bool) -> Answer {
+        Answer::Word(if is_so { "yes" } else { "no" })
+    }
 }
 
 fn write_refusal<W: fmt::Write>(refusal: Refusal, f: &mut fmt::Formatter<W>) -> fmt::Result {
@@ -47,33 +39,17 @@ fn write_refusal<W: fmt::Write>(refusal: Refusal, f: &mut fmt::Formatter<W>) -> 
 fn write_back<W: fmt::Write>(
     refusal: Refusal,
     back: &Grant,
+    came: &Option<Image>,
     f: &mut fmt::Formatter<W>,
 ) -> fmt::Result {
     let (client, page, serial) = (back.client, back.page.number(), back.serial);
-    write!(f, "{} back {client}/{page}/{serial}", refusal.number())
-}
-
-fn write_came<W: fmt::Write>(came: &Option<Image>, f: &mut fmt::Formatter<W>) -> fmt::Result {
+    write!(f, "{} back {client}/{page}/{serial}", refusal.number())?;
     match came {
         Some(image) => {
             write!(f, " image ")?;
             write_image(image, f)
         }
         None => Ok(()),
-    }
-}
-
-/// A word that is the whole answer.
-fn word_of(answer: &Answer) -> &'static str {
-    match answer {
-        Answer::None => "none",
-        Answer::Is(true) => "yes",
-        Answer::Is(false) => "no",
-        Answer::Unlawful => "unlawful",
-        Answer::Differ => "the two bodies differ",
-        Answer::Changed => "22, and something has changed",
-        Answer::Nothing => "nothing to call",
-        _ => "bad line",
     }
 }
 
@@ -86,16 +62,11 @@ impl fmt::Display for Answer {
                 write!(f, " lsn {}", lsn.number())
             }
             Answer::Refused(refusal) => write_refusal(*refusal, f),
-            Answer::PassBack(back) => write_back(Refusal::UnknownPass, back, f),
-            Answer::WriteBack(back) => write_back(Refusal::UnknownTicket, back, f),
-            Answer::ReadBack(back, came) => {
-                write_back(Refusal::UnknownTicket, back, f)?;
-                write_came(came, f)
-            }
+            Answer::Back(refusal, back, came) => write_back(*refusal, back, came, f),
             Answer::Number(number) => write!(f, "{number}"),
-            Answer::Candidate(stamp, last, page) => write!(f, "{stamp} {last} {page}"),
-            Answer::Entry(text) => write!(f, "{text}"),
-            other => write!(f, "{}", word_of(other)),
+            Answer::Word(word) => write!(f, "{word}"),
+            Answer::Text(text) => write!(f, "{text}"),
+            Answer::BadLine => write!(f, "bad line"),
         }
     }
 }

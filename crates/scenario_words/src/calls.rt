@@ -1,131 +1,192 @@
 //! What a line asks for.
 
+use crate::forms::CALLS;
+use crate::images::{bytes_of, front_of};
 use bp_page::{Bytes, PageNo, PortFault};
 use bp_trail::Grant;
+use std::alloc::Global;
 
-/// A pass or a ticket: the serial number that its core gave it, or the client, page and number that a core may have
-/// given it.
+/// What is called or replied. A call that what is called does not have makes a bad line.
 #[derive(Clone, Copy)]
-pub enum Name {
-    Own(u64),
-    Full(u8, u64, u64),
+pub enum Verb {
+    Fix,
+    Flush,
+    Tick,
+    Mark,
+    Purge,
+    ReadEnd,
+    ReadFails(PortFault),
+    WriteEnd,
+    WriteFails(PortFault),
+    Read,
+    Write,
+    Unfix,
+    /// The newest reference of a page, and its stamp of a number.
+    Last,
+    Stamp,
+    Unsaved,
+    Clock,
+    Durable,
+    Free,
+    /// How many entries the trail has, and which stands at a place.
+    Trail,
+    Entry,
+    Cut,
+    Fresh,
+    /// A page on the device, and how many calls of the device failed.
+    Put,
+    Device,
+    Failures,
+    /// The histories of LRU-K.
+    Prepare,
+    Unprepare,
+    Fault,
+    Hit,
+    Forget,
+    /// The candidates of LRU-K.
+    Enter,
+    Leave,
+    Victim,
+    Nth,
+    Walk,
+    /// Goes back to what was made before.
+    On,
+    /// Replies.
+    Done,
+    NoVictim,
+    Busy,
+    ReadFailed,
+    WriteFailed,
+    WrongPage,
+    Cleaned,
+    StillDirty,
+    Clean,
+    Absent,
+    Pass,
+    Load,
+    LoadEvicts,
+    WriteFirst,
+    NeedLog,
+    Forgot,
+    Content,
 }
 
-/// What a name stands for, among what was given by serial numbers.
-pub fn named(given: &[Grant], name: Name) -> Option<Grant> {
-    match name {
-        Name::Own(serial) => given.get(serial as usize).copied(),
-        Name::Full(client, page, serial) => Some(Grant {
+/// Up to three numbers, in the order of their words.
+#[derive(Clone, Copy)]
+pub struct Numbers {
+    pub list: [u64; 3],
+    pub count: usize,
+}
+
+/// What a line or a reply says, with its numbers, the numbers of its pass or ticket, and its bytes: those before the
+/// zeros at the end, where it is an image.
+#[derive(Drop)]
+pub struct Said {
+    pub verb: Verb,
+    pub numbers: Numbers,
+    pub name: Numbers,
+    pub bytes: Option<Bytes>,
+}
+
+const NO_NUMBERS: Numbers = Numbers {
+    list: [0; 3],
+    count: 0,
+};
+
+impl Numbers {
+    /// Takes one more number. False where the word is none, or has no place.
+    fn take(&mut self, word: &str) -> bool {
+        match (self.list.get_mut(self.count), word.parse::<u64>()) {
+            (Some(place), Ok(number)) => {
+                *place = number;
+                self.count = self.count.saturating_add(1);
+                true
+            }
+            _ => false,
+        }
+    }
+
+    /// Takes the numbers between strokes.
+    fn take_all(&mut self, word: &str) -> bool {
+        let mut fits = true;
+        for part in word.split('/') {
+            fits = fits && self.take(part);
+        }
+        fits
+    }
+}
+
+impl Said {
+    /// Takes a word of a line where a form has this one. False where it does not fit, or there is no memory for it.
+    fn take(&mut self, alloc: Global, slot: &str, word: &str) -> bool {
+        match slot {
+            "N" => self.numbers.take(word),
+            "G" => self.name.take_all(word),
+            "B" => {
+                self.bytes = bytes_of(alloc, word);
+                self.bytes.is_some()
+            }
+            "I" => {
+                self.bytes = front_of(alloc, word);
+                self.bytes.is_some()
+            }
+            slot => slot == word,
+        }
+    }
+}
+
+/// What a line says, if it has this form. None too where there is no memory for it.
+fn said_by(alloc: Global, form: &str, verb: Verb, line: &str) -> Option<Said> {
+    let mut said = Said {
+        verb,
+        numbers: NO_NUMBERS,
+        name: NO_NUMBERS,
+        bytes: None,
+    };
+    let mut words = line.split_whitespace();
+    let mut fits = true;
+    for slot in form.split_whitespace() {
+        fits = match words.next() {
+            Some(word) if fits => said.take(alloc, slot, word),
+            _ => false,
+        };
+    }
+    if fits && words.next().is_none() {
+        Some(said)
+    } else {
+        None
+    }
+}
+
+/// What a line says by the first of these forms that it has, if it has one.
+pub(crate) fn said_of(alloc: Global, forms: &[(&str, Verb)], line: &str) -> Option<Said> {
+    let mut found = None;
+    for (form, verb) in forms {
+        if found.is_none() {
+            found = said_by(alloc, *form, *verb, line);
+        }
+    }
+    found
+}
+
+/// The call that a line is, if it is one. None too where there is no memory for it.
+pub fn call_of(alloc: Global, line: &str) -> Option<Said> {
+    said_of(alloc, &CALLS, line)
+}
+
+/// What a name stands for, among what was given by serial numbers: one of these, or what a core may have given to a
+/// client for a page under a number.
+pub fn named(given: &[Grant], name: &Numbers) -> Option<Grant> {
+    let [first, page, serial] = name.list;
+    if name.count == 1 {
+        return given.get(first as usize).copied();
+    }
+    match u8::try_from(first) {
+        Ok(client) if name.count == 3 => Some(Grant {
             client,
             page: PageNo::new(page),
             serial,
         }),
+        _ => None,
     }
-}
-
-/// How the cores of a line keep their trails.
-#[derive(Clone, Copy)]
-pub enum Keeps {
-    /// Each in its own way: whole, in pieces, or counted.
-    Each,
-    /// The first alone, which keeps it whole.
-    Whole,
-    /// One alone, which counts its entries.
-    Counted,
-}
-
-/// What a line makes.
-#[derive(Clone, Copy)]
-pub enum Thing {
-    Core,
-    /// A core with a device of its own.
-    Driven,
-    Histories,
-    Candidates,
-    /// A list of entries before the judge of trails.
-    Judged,
-}
-
-/// The numbers that it is made with.
-#[derive(Clone, Copy)]
-pub struct Shape {
-    pub keeps: Keeps,
-    pub frames: usize,
-    pub clients: u8,
-    pub pages: u64,
-    pub size: usize,
-    pub k: usize,
-    pub correlated: u64,
-    pub retained: u64,
-    pub room: usize,
-    /// The call of the device that fails, from 1, or 0, and whether a write that fails spoils its page.
-    pub fuse: u64,
-    pub spoils: bool,
-}
-
-/// A call. A number that what is called does not have makes a bad line of it.
-#[derive(Drop)]
-pub enum Call {
-    Fix(u8, u64),
-    Flush(u8, u64),
-    /// The image begins with these bytes, and has zeros after them.
-    ReadEnd(Name, Bytes),
-    ReadFails(Name, PortFault),
-    WriteEnd(Name),
-    WriteFails(Name, PortFault),
-    Read(Name),
-    Write {
-        pass: Name,
-        offset: u32,
-        bytes: Bytes,
-        lsn: u64,
-    },
-    Unfix(Name),
-    /// A client, and by how much the clock goes on.
-    Tick(u8, u64),
-    /// A client, and the LSN to which the log is durable.
-    Mark(u8, u64),
-    Purge(u8),
-    /// The newest reference of a page.
-    Last(u64),
-    /// A page's stamp of a number, from 1.
-    Stamp(u64, usize),
-    Unsaved(u64),
-    Clock,
-    Durable,
-    Free,
-    /// How many entries the trail has.
-    Trail,
-    Cut,
-    Fresh,
-    /// The n-th entry, from 1.
-    Entry(u64),
-    /// A page on the device, which begins with these bytes and has zeros after them.
-    Put(u64, Bytes),
-    /// The page as the device has it.
-    Device(u64),
-    /// How many calls of the device failed.
-    Failures,
-    Prepare(u64),
-    Unprepare(u64),
-    /// A page and the time of its reference.
-    Fault(u64, u64),
-    Hit(u64, u64),
-    Forget(u64),
-    /// A page with its K-th stamp and its newest reference.
-    Enter(u64, u64, u64),
-    Leave(u64),
-    /// The victim at a time.
-    Victim(u64),
-    /// The candidate that leaves as the n-th, from 1, were all old enough.
-    Nth(u64),
-}
-
-/// A line.
-#[derive(Drop)]
-pub enum Command {
-    Make(Thing, Shape),
-    /// Goes back to what was made as the n-th, from 0.
-    On(u64),
-    Call(Call),
 }

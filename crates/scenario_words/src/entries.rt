@@ -1,6 +1,7 @@
 //! An entry of a trail as text, which says it as a line of a judged list does.
 
 use crate::images::{write_bytes, write_image};
+use bp_page::{Image, PageNo};
 use bp_trail::{Call, Entry, Reply};
 use std::fmt;
 
@@ -17,49 +18,60 @@ impl fmt::Display for Shown<'_> {
     }
 }
 
+/// A call by a client, with a number.
 fn write_call<W: fmt::Write>(client: u8, call: &Call, f: &mut fmt::Formatter<W>) -> fmt::Result {
-    match call {
-        Call::Tick(n) => write!(f, "tick {client} {n}"),
-        Call::Mark(lsn) => write!(f, "mark {client} {}", lsn.number()),
-        Call::Fix(page) => write!(f, "fix {client} {}", page.number()),
-        Call::Flush(page) => write!(f, "flush {client} {}", page.number()),
-        Call::Purge => write!(f, "purge {client}"),
-        _ => write_use(client, call, f),
-    }
+    let (verb, number) = match call {
+        Call::Tick(n) => ("tick", *n),
+        Call::Mark(lsn) => ("mark", lsn.number()),
+        Call::Fix(page) => ("fix", page.number()),
+        Call::Flush(page) => ("flush", page.number()),
+        Call::Purge => return write!(f, "purge {client}"),
+        _ => return write_use(client, call, f),
+    };
+    write!(f, "{verb} {client} {number}")
 }
 
 /// A call with a pass or a ticket.
 fn write_use<W: fmt::Write>(client: u8, call: &Call, f: &mut fmt::Formatter<W>) -> fmt::Result {
+    let (verb, page, serial) = grant_of(call);
+    write!(f, "{verb} {client}/{page}/{serial}", page = page.number())?;
     match call {
-        Call::ReadEnd {
-            ticket,
-            page,
-            image,
-        } => {
-            write!(f, "read_end {client}/{}/{ticket} ", page.number())?;
-            match image {
-                Some(image) => write_image(image, f),
-                None => write!(f, "failed"),
-            }
-        }
-        Call::WriteEnd { ticket, page, good } => {
-            let ended = if *good { "good" } else { "failed" };
-            write!(f, "write_end {client}/{}/{ticket} {ended}", page.number())
-        }
+        Call::ReadEnd { image, .. } => write_read(image, f),
+        Call::WriteEnd { good: true, .. } => write!(f, " good"),
+        Call::WriteEnd { good: false, .. } => write!(f, " failed"),
         Call::Write {
-            pass,
-            page,
             offset,
             bytes,
             lsn,
+            ..
         } => {
-            write!(f, "write {client}/{}/{pass} at {offset} ", page.number())?;
+            write!(f, " at {offset} ")?;
             write_bytes(bytes.bytes(), bytes.bytes().len(), f)?;
             write!(f, " lsn {}", lsn.number())
         }
-        Call::Read { pass, page } => write!(f, "read {client}/{}/{pass}", page.number()),
-        Call::Unfix { pass, page } => write!(f, "unfix {client}/{}/{pass}", page.number()),
         _ => Ok(()),
+    }
+}
+
+/// The name of a call with a pass or a ticket, and the page and serial number of that.
+fn grant_of(call: &Call) -> (&'static str, PageNo, u64) {
+    match call {
+        Call::ReadEnd { ticket, page, .. } => ("read_end", *page, *ticket),
+        Call::WriteEnd { ticket, page, .. } => ("write_end", *page, *ticket),
+        Call::Write { pass, page, .. } => ("write", *page, *pass),
+        Call::Read { pass, page } => ("read", *page, *pass),
+        Call::Unfix { pass, page } => ("unfix", *page, *pass),
+        _ => ("", PageNo::new(0), 0),
+    }
+}
+
+fn write_read<W: fmt::Write>(image: &Option<Image>, f: &mut fmt::Formatter<W>) -> fmt::Result {
+    match image {
+        Some(image) => {
+            write!(f, " ")?;
+            write_image(image, f)
+        }
+        None => write!(f, " failed"),
     }
 }
 

@@ -32,11 +32,6 @@ pub fn filled(alloc: Global, size: usize, front: &Bytes) -> Option<Image> {
     Image::of(alloc, bytes.as_slice()).ok()
 }
 
-pub(crate) fn image_of(alloc: Global, size: usize, word: &str) -> Option<Image> {
-    let front = front_of(alloc, word)?;
-    filled(alloc, size, &front)
-}
-
 /// How many bytes come before the zeros at the end.
 fn before_zeros(bytes: &[u8]) -> usize {
     let mut count = 0;

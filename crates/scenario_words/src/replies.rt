@@ -1,79 +1,65 @@
 //! Replies of entries, as they are written.
 
-use crate::calls::Call;
-use crate::images::image_of;
-use crate::names::number;
-use bp_page::{Lsn, PageNo};
+use crate::calls::{Said, Verb, said_of};
+use crate::forms::REPLIES;
+use crate::images::filled;
+use bp_page::{Image, Lsn, PageNo};
 use bp_trail::Reply;
 use std::alloc::Global;
 
-/// A reply that has no number and no image.
-fn plain(words: &[&str]) -> Option<Reply> {
-    match *words {
-        ["done"] => Some(Reply::Done),
-        ["11"] => Some(Reply::NoVictim),
-        ["13"] => Some(Reply::Busy),
-        ["17"] => Some(Reply::ReadFailed),
-        ["18"] => Some(Reply::WriteFailed),
-        ["19"] => Some(Reply::WrongPage),
-        ["cleaned"] => Some(Reply::Cleaned),
-        ["still", "dirty"] => Some(Reply::StillDirty),
-        ["clean"] => Some(Reply::Clean),
-        ["absent"] => Some(Reply::Absent),
+/// A reply without an image. `call` is what was called: the end of a read gives a pass under another name than a fix.
+fn without_image(said: &Said, call: Verb) -> Option<Reply> {
+    let [first, second, _] = said.numbers.list;
+    match said.verb {
+        Verb::Done => Some(Reply::Done),
+        Verb::NoVictim => Some(Reply::NoVictim),
+        Verb::NeedLog => Some(Reply::NeedLog(Lsn::new(first))),
+        Verb::Busy => Some(Reply::Busy),
+        Verb::ReadFailed => Some(Reply::ReadFailed),
+        Verb::WriteFailed => Some(Reply::WriteFailed),
+        Verb::WrongPage => Some(Reply::WrongPage),
+        Verb::Cleaned => Some(Reply::Cleaned),
+        Verb::StillDirty => Some(Reply::StillDirty),
+        Verb::Clean => Some(Reply::Clean),
+        Verb::Absent => Some(Reply::Absent),
+        Verb::Forgot => Some(Reply::Forgot(first)),
+        Verb::Load => Some(Reply::Load {
+            ticket: first,
+            evicted: None,
+        }),
+        Verb::LoadEvicts => Some(Reply::Load {
+            ticket: first,
+            evicted: Some(PageNo::new(second)),
+        }),
+        Verb::Pass => match call {
+            Verb::ReadEnd | Verb::ReadFails(_) => Some(Reply::Fixed(first)),
+            _ => Some(Reply::Hit(first)),
+        },
         _ => None,
     }
 }
 
-/// A pass, which the end of a read gives under another name than a fix.
-fn pass(call: &Call, serial: u64) -> Reply {
-    match call {
-        Call::ReadEnd(_, _) | Call::ReadFails(_, _) => Reply::Fixed(serial),
-        _ => Reply::Hit(serial),
-    }
-}
-
-fn load(ticket: &str, evicted: Option<&str>) -> Option<Reply> {
-    let ticket = number(ticket)?;
-    let evicted = match evicted {
-        Some(page) => Some(PageNo::new(number(page)?)),
-        None => None,
-    };
-    Some(Reply::Load { ticket, evicted })
-}
-
-fn write_first(alloc: Global, size: usize, words: [&str; 3]) -> Option<Reply> {
-    let [ticket, page, image] = words;
-    let ticket = number(ticket)?;
-    let page = PageNo::new(number(page)?);
-    let image = image_of(alloc, size, image)?;
-    Some(Reply::WriteFirst {
-        ticket,
-        page,
-        image,
-    })
-}
-
-fn numbered(alloc: Global, size: usize, call: &Call, words: &[&str]) -> Option<Reply> {
-    match *words {
-        ["pass", serial] => Some(pass(call, number(serial)?)),
-        ["load", ticket] => load(ticket, None),
-        ["load", ticket, "evicts", page] => load(ticket, Some(page)),
-        ["write", ticket, "page", page, "image", image] => {
-            write_first(alloc, size, [ticket, page, image])
-        }
-        ["12", "lsn", lsn] => Some(Reply::NeedLog(Lsn::new(number(lsn)?))),
-        ["forgot", count] => Some(Reply::Forgot(number(count)?)),
-        [image] => Some(Reply::Content(image_of(alloc, size, image)?)),
-        _ => None,
+fn with_image(said: &Said, image: Image) -> Reply {
+    let [ticket, page, _] = said.numbers.list;
+    match said.verb {
+        Verb::WriteFirst => Reply::WriteFirst {
+            ticket,
+            page: PageNo::new(page),
+            image,
+        },
+        _ => Reply::Content(image),
     }
 }
 
 /// The reply to a call that a text says, over pages of this size, if it says one. None too where there is no memory for
 /// it.
-pub fn reply_of(alloc: Global, size: usize, call: &Call, text: &str) -> Option<Reply> {
-    let words: Vec<&str> = text.split_whitespace().collect(alloc).ok()?;
-    match plain(&words) {
-        Some(reply) => Some(reply),
-        None => numbered(alloc, size, call, &words),
+pub fn reply_of(alloc: Global, size: usize, call: Verb, text: &str) -> Option<Reply> {
+    let said = said_of(alloc, &REPLIES, text)?;
+    match &said.bytes {
+        None => without_image(&said, call),
+        Some(front) => match filled(alloc, size, front) {
+            Some(image) => Some(with_image(&said, image)),
+            None => None,
+        },
     }
 }

@@ -1,16 +1,32 @@
-//! Plays the scenarios of standard input. The status is 0 where all hold, 1 where one does not, and 2 where they could
-//! not be read or told.
+//! Plays the scenarios of standard input: calls with the replies that were reckoned by hand, as text.
+//!
+//! A scenario is a line with its name, a line that makes something to call, and a line for each call. docs/SCENARIOS.md
+//! has every line. The status is 0 where all hold, 1 where one does not, and 2 where they could not be read or told.
 #![tactic(auto)]
 
-use scenario_play::play;
+mod sheets;
+mod worlds;
+
+use sheets::Sheet;
 use std::alloc::Global;
 use std::io;
 use std::process::ExitCode;
 use std::sync::Wait;
 
+/// Plays the scenarios of a text. It prints `ok` and the name of each that holds, each line of the others that answers
+/// otherwise, and at the end how many hold and how many do not. True where all hold. It fails where a line can't be
+/// printed, or by want of memory for the text of an answer or for a name.
+fn play(rt: &(impl Print + Wait), sheet: &mut Sheet, text: &str) -> io::Result<bool> {
+    for line in text.lines() {
+        sheet.take(rt, line)?;
+    }
+    sheet.end(rt)
+}
+
 fn run(rt: &(impl Print + Input + Wait + Alloc<A = Global>)) -> io::Result<bool> {
     let text = io::read_to_string(rt.alloc(), rt.reader())?;
-    play(rt, text.as_str())
+    let mut sheet = Sheet::new(rt.alloc());
+    play(rt, &mut sheet, text.as_str())
 }
 
 fn main(rt: HostRuntime) -> ExitCode {

@@ -14,9 +14,10 @@ use std::thread::Threads;
 #[derive(Clone, Copy)]
 struct Left {
     n: u64,
+    rows: &'static str,
     refused: &'static [Refused],
-    /// Whether row 7 reads what row 2 wrote; else it reads nothing.
-    reads_nine: bool,
+    /// What the read brings, if it brings something.
+    read: Option<[u8; 16]>,
     entries: usize,
     failures: u64,
     /// Page 1 on the device, and where a failing write spoils it.
@@ -27,6 +28,7 @@ struct Left {
 /// With the first call failing page 1 is never here.
 const WITHOUT_THE_FIRST: Left = Left {
     n: 1,
+    rows: TWO_PAGES,
     refused: &[
         Refused { row: 1, number: 17 },
         Refused { row: 2, number: 14 },
@@ -34,7 +36,7 @@ const WITHOUT_THE_FIRST: Left = Left {
         Refused { row: 6, number: 11 },
         Refused { row: 7, number: 14 },
     ],
-    reads_nine: false,
+    read: None,
     entries: 7,
     failures: 1,
     on_device: ZEROS,
@@ -44,8 +46,9 @@ const WITHOUT_THE_FIRST: Left = Left {
 /// With the second call failing page 1 stays in its frame, and is found there.
 const WITHOUT_THE_SECOND: Left = Left {
     n: 2,
+    rows: TWO_PAGES,
     refused: &[Refused { row: 5, number: 18 }],
-    reads_nine: true,
+    read: Some(NINE),
     entries: 10,
     failures: 1,
     on_device: ZEROS,
@@ -55,8 +58,9 @@ const WITHOUT_THE_SECOND: Left = Left {
 /// With the third call failing the frame is free, and page 1 comes back from the device.
 const WITHOUT_THE_THIRD: Left = Left {
     n: 3,
+    rows: TWO_PAGES,
     refused: &[Refused { row: 5, number: 17 }],
-    reads_nine: true,
+    read: Some(NINE),
     entries: 13,
     failures: 1,
     on_device: NINE,
@@ -66,18 +70,43 @@ const WITHOUT_THE_THIRD: Left = Left {
 /// There is no fourth call: page 2 stays fixed in the only frame.
 const WITHOUT_A_FOURTH: Left = Left {
     n: 4,
+    rows: TWO_PAGES,
     refused: &[
         Refused { row: 6, number: 11 },
         Refused { row: 7, number: 14 },
     ],
-    reads_nine: false,
+    read: None,
     entries: 11,
     failures: 0,
     on_device: NINE,
     spoiled: NINE,
 };
 
-/// Asserts what was refused, what row 7 read, how much was done, and what the device has.
+/// The page is read by the next fix, and what is fixed then is that page.
+const READ_ONCE_MORE: Left = Left {
+    n: 1,
+    rows: "0,fix,1,,,\n0,fix,1,,,\n0,read,1,,,\n0,unfix,1,,,\n",
+    refused: &[Refused { row: 1, number: 17 }],
+    read: Some(ZEROS),
+    entries: 6,
+    failures: 1,
+    on_device: ZEROS,
+    spoiled: ZEROS,
+};
+
+/// The page stays unsaved, so that the next flush writes it out, over what a failing write left there.
+const WRITTEN_ONCE_MORE: Left = Left {
+    n: 2,
+    rows: "0,fix,1,,,\n0,write,1,0,09,0\n0,flush,1,,,\n0,read,1,,,\n0,flush,1,,,\n0,flush,1,,,\n0,unfix,1,,,\n",
+    refused: &[Refused { row: 3, number: 18 }],
+    read: Some(NINE),
+    entries: 10,
+    failures: 1,
+    on_device: NINE,
+    spoiled: NINE,
+};
+
+/// Asserts what was refused, what was read, how much was done, and what the device has.
 fn expect_left<R: Wait + Abort>(
     rt: &R,
     left: &Left,
@@ -89,9 +118,9 @@ fn expect_left<R: Wait + Abort>(
     assert_eq!(rt; refused, left.refused, "call {}", left.n);
     assert_eq!(rt; trail.len(), left.entries, "call {}", left.n);
     assert_eq!(rt; Totals::of(trail).failed, left.failures, "call {}", left.n);
-    match content_in(trail) {
-        Some(image) => assert!(rt; left.reads_nine && image.bytes() == NINE.as_slice()),
-        None => assert!(rt; !left.reads_nine),
+    match (content_in(trail), &left.read) {
+        (Some(image), Some(bytes)) => assert_eq!(rt; image.bytes(), bytes.as_slice()),
+        (read, wanted) => assert!(rt; read.is_none() && wanted.is_none(), "call {}", left.n),
     }
     let bytes = if spoil { left.spoiled } else { left.on_device };
     let mut port = device.port().expect(rt, "the port");
@@ -107,12 +136,13 @@ fn expect_run<R: Threads + Wait + Sync + Abort + AllocGlobal>(rt: &R, left: &Lef
         n: left.n,
         spoil,
     };
-    let done = run(rt, config, &device, 1, TWO_PAGES, failing);
+    let done = run(rt, config, &device, 1, left.rows, failing);
     expect_left(rt, left, spoil, &done.refused, &done.trail, &device);
 }
 
-/// The rows take three calls of the device: page 1 is read, then written out for page 2, which is read. Each of them
-/// fails in turn, and then a fourth would. A failing write leaves the device alone, or spoils the page.
+/// The rows of `TWO_PAGES` take three calls of the device: page 1 is read, then written out for page 2, which is read.
+/// Each of them fails in turn, and then a fourth would. Then what failed once is asked for once more. A failing write
+/// leaves the device alone, or spoils the page.
 #[test]
 fn each_device_call_fails(rt: HostRuntime) {
     for left in [
@@ -120,6 +150,8 @@ fn each_device_call_fails(rt: HostRuntime) {
         WITHOUT_THE_SECOND,
         WITHOUT_THE_THIRD,
         WITHOUT_A_FOURTH,
+        READ_ONCE_MORE,
+        WRITTEN_ONCE_MORE,
     ] {
         for spoil in [false, true] {
             expect_run(&rt, &left, spoil);

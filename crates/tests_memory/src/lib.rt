@@ -1,7 +1,7 @@
 //! What is left where memory is refused: to page files that are opened or made, a mark, a driver, sessions and cuts of a
 //! pool of either kind, and runs of client threads and of workers. With memory the tests pass as they stand;
 //! `check/refused_memory` runs each of them again and again, and refuses the first request for memory, then the second,
-//! and so on. It does so with scenarios of a core and of LRU-K too.
+//! and so on. It does so with scenarios without a device too.
 //!
 //! What a session or a run did before a refusal stands in the pool's trail and in the client's list alike, and all passes
 //! and tickets go back. The same call with memory answers what it would have answered. All entries that a core or a pool

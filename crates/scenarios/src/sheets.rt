@@ -3,8 +3,8 @@
 use crate::worlds::{Verdict, Way, World, judge};
 use scenario_words::Answer;
 use std::alloc::Global;
+use std::io;
 use std::sync::Wait;
-use std::{io, mem};
 
 /// What was printed and counted so far, and the scenario that goes on, which is played in three ways side by side.
 #[derive(Drop)]
@@ -111,25 +111,26 @@ impl Sheet {
     /// How many calls were refused memory, and made once more.
     fn again(&self) -> u64 {
         self.whole
-            .again()
-            .saturating_add(self.pieces.again())
-            .saturating_add(self.counted.again())
+            .again
+            .saturating_add(self.pieces.again)
+            .saturating_add(self.counted.again)
     }
 
     /// Ends what the scenario made, in each way.
     fn end_worlds(&mut self) -> Verdict {
-        let alloc = self.alloc;
-        self.counted = World::new(alloc, Way::Counted);
-        let whole = mem::replace(&mut self.whole, World::new(alloc, Way::Whole));
-        let pieces = mem::replace(&mut self.pieces, World::new(alloc, Way::Pieces));
-        judge(alloc, whole, pieces)
+        let verdict = judge(self.alloc, &mut self.whole, &mut self.pieces);
+        self.whole.clear();
+        self.pieces.clear();
+        self.counted.clear();
+        verdict
     }
 
     /// Ends the scenario that goes on, if there is one.
     fn close(&mut self, rt: &impl Print) -> io::Result<()> {
         let again = self.again();
         let verdict = self.end_worlds();
-        let holds = mem::replace(&mut self.holds, true);
+        let holds = self.holds;
+        self.holds = true;
         if self.name.is_empty() {
             return Ok(());
         }
@@ -162,7 +163,7 @@ impl Sheet {
     }
 
     /// Ends the last scenario, and tells how many hold and how many do not. True where all hold.
-    pub fn end(mut self, rt: &impl Print) -> io::Result<bool> {
+    pub fn end(&mut self, rt: &impl Print) -> io::Result<bool> {
         self.close(rt)?;
         let (passed, failed) = (self.passed, self.failed);
         println!(rt; "{passed} passed, {failed} failed")?;

@@ -2,10 +2,11 @@
 ghost use Rattle.std.specs.Prelude.{ℕ, ◌≤◌};
 ghost use Rattle.bp_lruk.specs.Histories.{last_of};
 
+use crate::pools::done;
 use bp_lruk::{Histories, Settings};
 use bp_page::{PageNo, Refusal};
 use bp_trail::Reply;
-use scenario_words::{Answer, Call, Shape, mixed};
+use scenario_words::{Answer, Said, Shape, Verb, mixed};
 use std::alloc::Global;
 
 /// Of how many pages the digest tells, from 0: more than the first memory for blocks has place for.
@@ -30,19 +31,12 @@ pub fn new_timed(alloc: Global, shape: &Shape) -> Result<Timed, Refusal> {
     }
 }
 
-fn done() -> Answer {
-    Answer::Reply(Reply::Done)
-}
-
 impl Timed {
     fn prepare(&mut self, page: PageNo) -> Answer {
         if self.histories.holds(page) {
             return Answer::BadLine;
         }
-        match self.histories.prepare(page) {
-            Ok(()) => done(),
-            Err(refusal) => Answer::Refused(refusal),
-        }
+        done(self.histories.prepare(page))
     }
 
     fn unprepare(&mut self, page: PageNo) -> Answer {
@@ -50,7 +44,7 @@ impl Timed {
             return Answer::BadLine;
         }
         self.histories.unprepare(page);
-        done()
+        done(Ok(()))
     }
 
     fn fault(&mut self, page: PageNo, t: u64) -> Answer {
@@ -59,7 +53,7 @@ impl Timed {
         }
         self.now = t;
         self.histories.fault(page, t);
-        done()
+        done(Ok(()))
     }
 
     fn hit(&mut self, page: PageNo, t: u64) -> Answer {
@@ -68,7 +62,7 @@ impl Timed {
         }
         self.now = t;
         self.histories.hit(page, t);
-        done()
+        done(Ok(()))
     }
 
     fn forget(&mut self, t: u64) -> Answer {
@@ -81,15 +75,17 @@ impl Timed {
 
     /// Makes a call. A page is held before it is faulted and until it leaves, and no time is before the one before it;
     /// else the line is a bad one, and nothing is called.
-    pub fn call(&mut self, call: &Call) -> Answer {
-        match call {
-            Call::Prepare(page) => self.prepare(PageNo::new(*page)),
-            Call::Unprepare(page) => self.unprepare(PageNo::new(*page)),
-            Call::Fault(page, t) => self.fault(PageNo::new(*page), *t),
-            Call::Hit(page, t) => self.hit(PageNo::new(*page), *t),
-            Call::Forget(t) => self.forget(*t),
-            Call::Last(page) => Answer::Number(self.histories.last(PageNo::new(*page))),
-            Call::Stamp(page, i) => Answer::Number(self.histories.stamp(PageNo::new(*page), *i)),
+    pub fn call(&mut self, call: &Said) -> Answer {
+        let [first, second, _] = call.numbers.list;
+        let page = PageNo::new(first);
+        match call.verb {
+            Verb::Prepare => self.prepare(page),
+            Verb::Unprepare => self.unprepare(page),
+            Verb::Fault => self.fault(page, second),
+            Verb::Hit => self.hit(page, second),
+            Verb::Forget => self.forget(first),
+            Verb::Last => Answer::Number(self.histories.last(page)),
+            Verb::Stamp => Answer::Number(self.histories.stamp(page, second as usize)),
             _ => Answer::BadLine,
         }
     }

@@ -1,0 +1,141 @@
+//! Candidates of LRU-K by themselves: a plain list and one in the order of replacement, side by side.
+
+use crate::pools::done;
+use bp_lruk::{Candidates, Settings, scan};
+use bp_page::{PageNo, Refusal};
+use scenario_words::{Answer, Said, Shape, Verb};
+use std::alloc::Global;
+
+/// Both bodies of the candidates that rank pages by themselves.
+#[derive(Drop)]
+pub struct Ranked {
+    alloc: Global,
+    index: Candidates,
+    list: scan::Candidates,
+}
+
+const DIFFER: Answer = Answer::Word("the two bodies differ");
+
+/// Candidates for so many frames. `BadSettings` where a setting is out of its limits, `OutOfMemory` where the lists
+/// can't be had.
+pub fn new_ranked(alloc: Global, shape: &Shape) -> Result<Ranked, Refusal> {
+    let settings = Settings::new(shape.k, shape.correlated, shape.retained)?;
+    let index = Candidates::new(alloc, shape.frames, settings)?;
+    match scan::Candidates::new(alloc, shape.frames, settings) {
+        Ok(list) => Ok(Ranked { alloc, index, list }),
+        Err(refusal) => Err(refusal),
+    }
+}
+
+impl Ranked {
+    fn enter(&mut self, page: PageNo, stamp: u64, last: u64) -> Answer {
+        if self.index.is_full() || self.index.contains(page) {
+            return Answer::BadLine;
+        }
+        if self.list.is_full() || self.list.contains(page) {
+            return DIFFER;
+        }
+        self.index.enter(page, stamp, last);
+        self.list.enter(page, stamp, last);
+        done(Ok(()))
+    }
+
+    fn leave(&mut self, page: PageNo) -> Answer {
+        if !self.index.contains(page) {
+            return Answer::BadLine;
+        }
+        if !self.list.contains(page) {
+            return DIFFER;
+        }
+        self.index.leave(page);
+        self.list.leave(page);
+        done(Ok(()))
+    }
+
+    fn victim(&self, t: u64) -> Answer {
+        let victim = self.index.victim(t);
+        if self.list.victim(t) != victim {
+            return DIFFER;
+        }
+        match victim {
+            Some(page) => Answer::Number(page.number()),
+            None => Answer::Word("none"),
+        }
+    }
+
+    fn nth(&self, n: u64) -> Answer {
+        match self.index.ordered().get(n.saturating_sub(1) as usize) {
+            Some((stamp, last, page)) => {
+                match format!(in self.alloc; "{stamp} {last} {page}", page = page.number()) {
+                    Ok(text) => Answer::Text(text),
+                    Err(_) => Answer::BadLine,
+                }
+            }
+            None => Answer::Word("none"),
+        }
+    }
+
+    /// References a page of 64: one that is there leaves and enters anew, and for another one the victim leaves where
+    /// there is no room. Tells whether there was a victim.
+    fn refer(&mut self, state: u64, now: u64) -> bool {
+        let page = PageNo::new((state >> 33) % 64);
+        let stamp = if (state >> 32) % 2 == 0 {
+            0
+        } else {
+            (state >> 16) % now.max(1)
+        };
+        let is_here = self.index.contains(page);
+        let victim = if is_here || !self.index.is_full() {
+            None
+        } else {
+            self.index.victim(now)
+        };
+        self.leave(victim.unwrap_or(page));
+        self.enter(page, stamp, now);
+        victim.is_some()
+    }
+
+    /// Whether both bodies have this page or not, and the same victim.
+    fn agrees(&self, state: u64, t: u64) -> bool {
+        let page = PageNo::new((state >> 33) % 64);
+        let is_in_both = self.index.contains(page) == self.list.contains(page);
+        is_in_both && self.index.victim(t) == self.list.victim(t)
+    }
+
+    /// References so many pages at random, at times that go on, and compares the two bodies after each, also at an
+    /// earlier time. Tells how many victims left.
+    fn walk(&mut self, seed: u64, references: u64) -> Answer {
+        let (mut state, mut now, mut left, mut is_same) = (seed, 1u64, 0u64, true);
+        for _ in 0..references {
+            state = state
+                .wrapping_mul(6364136223846793005)
+                .wrapping_add(1442695040888963407);
+            now = now.saturating_add((state >> 50) % 3);
+            if self.refer(state, now) {
+                left = left.saturating_add(1);
+            }
+            is_same = is_same
+                && self.agrees(state, now)
+                && self.agrees(state, now.saturating_sub(5));
+        }
+        if is_same {
+            Answer::Number(left)
+        } else {
+            DIFFER
+        }
+    }
+
+    /// Makes a call. A page enters where it is not and has room, and leaves where it is; else the line is a bad one,
+    /// and nothing is called.
+    pub fn call(&mut self, call: &Said) -> Answer {
+        let [first, second, third] = call.numbers.list;
+        match call.verb {
+            Verb::Enter => self.enter(PageNo::new(first), second, third),
+            Verb::Leave => self.leave(PageNo::new(first)),
+            Verb::Victim => self.victim(first),
+            Verb::Nth => self.nth(first),
+            Verb::Walk => self.walk(first, second),
+            _ => Answer::BadLine,
+        }
+    }
+}

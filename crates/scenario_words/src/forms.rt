@@ -1,0 +1,75 @@
+//! The forms of lines and of replies. N stands for a number, G for a pass or a ticket, B for bytes and I for an image.
+
+use crate::calls::Verb;
+use bp_page::PortFault;
+
+/// Each call.
+pub(crate) const CALLS: [(&str, Verb); 40] = [
+    ("fix N N", Verb::Fix),
+    ("flush N N", Verb::Flush),
+    ("tick N N", Verb::Tick),
+    ("mark N N", Verb::Mark),
+    ("purge N", Verb::Purge),
+    ("read_end G failed", Verb::ReadFails(PortFault::Device)),
+    ("read_end G memory", Verb::ReadFails(PortFault::Memory)),
+    (
+        "read_end G wrong_page",
+        Verb::ReadFails(PortFault::WrongPage),
+    ),
+    ("read_end G I", Verb::ReadEnd),
+    ("write_end G good", Verb::WriteEnd),
+    ("write_end G failed", Verb::WriteFails(PortFault::Device)),
+    ("write_end G memory", Verb::WriteFails(PortFault::Memory)),
+    (
+        "write_end G wrong_page",
+        Verb::WriteFails(PortFault::WrongPage),
+    ),
+    ("read G", Verb::Read),
+    ("write G at N B lsn N", Verb::Write),
+    ("unfix G", Verb::Unfix),
+    ("last N", Verb::Last),
+    ("stamp N N", Verb::Stamp),
+    ("unsaved N", Verb::Unsaved),
+    ("clock", Verb::Clock),
+    ("durable", Verb::Durable),
+    ("free", Verb::Free),
+    ("trail", Verb::Trail),
+    ("entry N", Verb::Entry),
+    ("cut", Verb::Cut),
+    ("fresh", Verb::Fresh),
+    ("put N I", Verb::Put),
+    ("device N", Verb::Device),
+    ("failures", Verb::Failures),
+    ("prepare N", Verb::Prepare),
+    ("unprepare N", Verb::Unprepare),
+    ("fault N N", Verb::Fault),
+    ("hit N N", Verb::Hit),
+    ("forget N", Verb::Forget),
+    ("enter N N N", Verb::Enter),
+    ("leave N", Verb::Leave),
+    ("victim N", Verb::Victim),
+    ("nth N", Verb::Nth),
+    ("walk N N", Verb::Walk),
+    ("on N", Verb::On),
+];
+
+/// Each reply of an entry.
+pub(crate) const REPLIES: [(&str, Verb); 17] = [
+    ("done", Verb::Done),
+    ("11", Verb::NoVictim),
+    ("12 lsn N", Verb::NeedLog),
+    ("13", Verb::Busy),
+    ("17", Verb::ReadFailed),
+    ("18", Verb::WriteFailed),
+    ("19", Verb::WrongPage),
+    ("cleaned", Verb::Cleaned),
+    ("still dirty", Verb::StillDirty),
+    ("clean", Verb::Clean),
+    ("absent", Verb::Absent),
+    ("pass N", Verb::Pass),
+    ("load N", Verb::Load),
+    ("load N evicts N", Verb::LoadEvicts),
+    ("write N page N image I", Verb::WriteFirst),
+    ("forgot N", Verb::Forgot),
+    ("I", Verb::Content),
+];

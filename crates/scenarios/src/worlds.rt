@@ -1,0 +1,287 @@
+//! What a scenario made, and which of it is called.
+
+use bp_check::first_unlawful;
+use bp_core::{RecordingKeeper, SilentKeeper};
+use bp_page::Refusal;
+use bp_trail::{Entry, Reply};
+use scenario_cores::{Judged, Pool, Ranked, Timed, new_judged, new_pool, new_ranked, new_timed};
+use scenario_words::{Answer, Keeps, Said, Shape, Thing, Verb, call_of, maker_of};
+use std::alloc::{AllocError, Global};
+use std::sync::Wait;
+
+/// How the cores of a world keep their trails.
+#[derive(Clone, Copy)]
+pub enum Way {
+    /// Each keeps it whole, and cuts it where a line says so.
+    Whole,
+    /// Each cuts it after each call.
+    Pieces,
+    /// Each only counts its entries.
+    Counted,
+}
+
+/// What a line made.
+#[derive(Drop)]
+enum Made {
+    Kept(Pool<RecordingKeeper>),
+    Counted(Pool<SilentKeeper>),
+    Histories(Timed),
+    Candidates(Ranked),
+    Judged(Judged),
+}
+
+/// What a scenario made in one of the ways.
+#[derive(Drop)]
+pub struct World {
+    alloc: Global,
+    way: Way,
+    made: Vec<Made>,
+    /// The place of what is called.
+    at: usize,
+    /// A line made what there is not in this way. The rest of the scenario passes it over.
+    is_out: bool,
+    /// How many calls were refused memory, and made once more.
+    pub again: u64,
+}
+
+/// Whether what a line makes is there in this way. What has no core, or names how its core keeps its trail, is there in
+/// the first alone.
+fn is_there(way: Way, thing: Thing, keeps: Keeps) -> bool {
+    match (way, thing, keeps) {
+        (Way::Whole, _, _) => true,
+        (_, Thing::Core | Thing::Driven, Keeps::Each) => true,
+        _ => false,
+    }
+}
+
+/// What a line makes.
+fn new_made(alloc: Global, way: Way, thing: Thing, shape: &Shape) -> Result<Made, Refusal> {
+    match (thing, way, shape.keeps) {
+        (Thing::Histories, _, _) => Ok(Made::Histories(new_timed(alloc, shape)?)),
+        (Thing::Candidates, _, _) => Ok(Made::Candidates(new_ranked(alloc, shape)?)),
+        (Thing::Judged, _, _) => Ok(Made::Judged(new_judged(alloc, shape)?)),
+        (_, Way::Counted, _) | (_, _, Keeps::Counted) => {
+            Ok(Made::Counted(new_pool(alloc, thing, shape)?))
+        }
+        _ => Ok(Made::Kept(new_pool(alloc, thing, shape)?)),
+    }
+}
+
+impl Made {
+    fn call(&mut self, rt: &impl Wait, call: &Said) -> Answer {
+        match self {
+            Made::Kept(core) => core.ask(rt, call),
+            Made::Counted(core) => core.call(rt, call),
+            Made::Histories(timed) => timed.call(call),
+            Made::Candidates(ranked) => ranked.call(call),
+            Made::Judged(_) => Answer::BadLine,
+        }
+    }
+
+    /// One number of what is told without a call.
+    fn told(&self) -> u64 {
+        match self {
+            Made::Kept(core) => core.told(),
+            Made::Counted(core) => core.told(),
+            Made::Histories(timed) => timed.told(),
+            Made::Candidates(_) | Made::Judged(_) => 0,
+        }
+    }
+}
+
+/// Whether memory may have been refused.
+fn lacks_memory(answer: &Answer) -> bool {
+    matches!(
+        answer,
+        Answer::Refused(Refusal::OutOfMemory) | Answer::BadLine
+    )
+}
+
+impl World {
+    pub fn new(alloc: Global, way: Way) -> World {
+        World {
+            alloc,
+            way,
+            made: Vec::new(alloc),
+            at: 0,
+            is_out: false,
+            again: 0,
+        }
+    }
+
+    /// Has what was made, which is called from here on.
+    fn have(&mut self, made: Made) -> Answer {
+        let at = self.made.len();
+        match self.made.push(made) {
+            Ok(()) => {
+                self.at = at;
+                Answer::Reply(Reply::Done)
+            }
+            Err(_) => Answer::Refused(Refusal::OutOfMemory),
+        }
+    }
+
+    fn make(&mut self, thing: Thing, shape: &Shape) -> Option<Answer> {
+        if !is_there(self.way, thing, shape.keeps) {
+            self.is_out = true;
+            return None;
+        }
+        match new_made(self.alloc, self.way, thing, shape) {
+            Ok(made) => Some(self.have(made)),
+            Err(refusal) => Some(Answer::Refused(refusal)),
+        }
+    }
+
+    fn go_on(&mut self, at: u64) -> Answer {
+        if at as usize >= self.made.len() {
+            return Answer::Word("nothing to call");
+        }
+        self.at = at as usize;
+        Answer::Reply(Reply::Done)
+    }
+
+    fn call(&mut self, rt: &impl Wait, call: &Said) -> Option<Answer> {
+        let Some(made) = self.made.get_mut(self.at) else {
+            return Some(Answer::Word("nothing to call"));
+        };
+        let answer = match (self.way, call.verb) {
+            // The trail is another one in the ways beside the first.
+            (Way::Pieces | Way::Counted, Verb::Trail | Verb::Fresh | Verb::Cut | Verb::Entry) =>
+                return None,
+            _ => made.call(rt, call),
+        };
+        if let (Way::Pieces, Made::Kept(core)) = (self.way, made) {
+            core.cut();
+        }
+        Some(answer)
+    }
+
+    /// Takes a line `CALL gives REPLY`.
+    fn claim(&mut self, call: &str, reply: &str) -> Answer {
+        match (call_of(self.alloc, call), self.made.get_mut(self.at)) {
+            (Some(call), Some(Made::Judged(judged))) => judged.claim(&call, reply),
+            _ => Answer::BadLine,
+        }
+    }
+
+    fn obey(&mut self, rt: &impl Wait, line: &str) -> Option<Answer> {
+        if let Some((call, reply)) = line.split_once(" gives ") {
+            return Some(self.claim(call, reply));
+        }
+        if let Some((thing, shape)) = maker_of(self.alloc, line) {
+            return self.make(thing, &shape);
+        }
+        match call_of(self.alloc, line) {
+            Some(call) => match call.verb {
+                Verb::On => Some(self.go_on(call.numbers.list[0])),
+                _ => self.call(rt, &call),
+            },
+            None => Some(Answer::BadLine),
+        }
+    }
+
+    fn told(&self) -> u64 {
+        match self.made.get(self.at) {
+            Some(made) => made.told(),
+            None => 0,
+        }
+    }
+
+    /// Does what a line asks for. None where this way passes it over. What was refused memory is to have changed
+    /// nothing that is told, and is asked for once more.
+    pub fn take(&mut self, rt: &impl Wait, line: &str) -> Option<Answer> {
+        if self.is_out {
+            return None;
+        }
+        let before = self.told();
+        match self.obey(rt, line) {
+            Some(answer) if lacks_memory(&answer) => {
+                if self.told() == before {
+                    self.once_more(rt, line)
+                } else {
+                    Some(Answer::Word("22, and something has changed"))
+                }
+            }
+            answer => answer,
+        }
+    }
+
+    fn once_more(&mut self, rt: &impl Wait, line: &str) -> Option<Answer> {
+        let answer = self.obey(rt, line)?;
+        if !lacks_memory(&answer) {
+            self.again = self.again.saturating_add(1);
+        }
+        Some(answer)
+    }
+
+    /// Lets go what was made.
+    pub fn clear(&mut self) {
+        self.made.clear();
+        self.at = 0;
+        self.is_out = false;
+        self.again = 0;
+    }
+}
+
+/// What the trails of a scenario's cores come to.
+#[derive(Clone, Copy)]
+pub enum Verdict {
+    Good,
+    /// The number of the first entry that is not lawful, from 1.
+    Unlawful(u64),
+    /// The pieces of a trail, joined, are not the trail that was kept whole.
+    Torn,
+    NoMemory,
+}
+
+/// The place of the first entry that is not lawful. Where memory is refused, it is looked for once more.
+fn unlawful(alloc: Global, core: &Pool<RecordingKeeper>) -> Result<Option<usize>, AllocError> {
+    let setup = core.setup();
+    match first_unlawful(alloc, &setup, core.entries()) {
+        Ok(place) => Ok(place),
+        Err(_) => first_unlawful(alloc, &setup, core.entries()),
+    }
+}
+
+/// What became of a core, and of the one beside it that was cut after each call, if there is one.
+fn verdict_of(alloc: Global, whole: &mut Made, pieces: Option<&mut Made>) -> Verdict {
+    let Made::Kept(whole) = whole else {
+        return Verdict::Good;
+    };
+    if !whole.gather() {
+        return Verdict::NoMemory;
+    }
+    match unlawful(alloc, whole) {
+        Ok(None) => torn_or_good(whole.entries(), pieces),
+        Ok(Some(place)) => Verdict::Unlawful((place as u64).saturating_add(1)),
+        Err(_) => Verdict::NoMemory,
+    }
+}
+
+fn torn_or_good(whole: &[Entry], pieces: Option<&mut Made>) -> Verdict {
+    let Some(Made::Kept(pieces)) = pieces else {
+        return Verdict::Good;
+    };
+    if pieces.gather() && pieces.entries() == whole {
+        Verdict::Good
+    } else {
+        Verdict::Torn
+    }
+}
+
+/// Judges what a scenario made. Each trail goes to the judge, and its pieces are compared with it where all of its cores
+/// were cut after each call too. The first verdict that is not good is given.
+pub fn judge(alloc: Global, whole: &mut World, pieces: &mut World) -> Verdict {
+    let mut verdict = Verdict::Good;
+    for at in 0..whole.made.len() {
+        let beside = if pieces.is_out {
+            None
+        } else {
+            pieces.made.get_mut(at)
+        };
+        if let (Verdict::Good, Some(made)) = (verdict, whole.made.get_mut(at)) {
+            verdict = verdict_of(alloc, made, beside);
+        }
+    }
+    verdict
+}
