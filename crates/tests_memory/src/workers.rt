@@ -146,7 +146,7 @@ fn expect_visits<K: Kind, R: Threads + Wait + Sync + Abort + AllocGlobal>(
     let [one, other] = run.left.as_slice() else {
         panic!(rt; "not two workers")
     };
-    for left in [one, other] {
+    for left in &run.left {
         assert_eq!(rt;
             (left.worker.seen, left.held, left.is_settled),
             (Ok(7), 0, true)
