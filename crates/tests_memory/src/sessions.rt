@@ -137,10 +137,8 @@ fn ask_by_pass<N: PoolName, K: Shows, R: Wait + Abort + AllocGlobal>(
             return Ok(Said::Byte(image.bytes().first().copied()));
         }
         _ => {
-            match unfix(pool, client, note) {
-                Ok(()) => {}
-                Err((Refusal::RingFull, _)) => return Ok(Said::RingFull),
-                Err((refusal, _)) => return Err(refusal),
+            if let Err((refusal, _)) = unfix(pool, client, note) {
+                return Err(refusal);
             }
         }
     }
@@ -154,11 +152,9 @@ fn ask_once<N: PoolName, K: Shows, R: Wait + Abort + AllocGlobal>(
     ask: Ask,
 ) -> Result<Said, Refusal> {
     match ask {
-        Ask::Fix(number) => match fix(rt, pool, client, number) {
-            Ok(_) => {}
-            Err(Refusal::NeedLog(lsn)) => return Ok(Said::NeedLog(lsn.number())),
-            Err(refusal) => return Err(refusal),
-        },
+        Ask::Fix(number) => {
+            fix(rt, pool, client, number)?;
+        }
         Ask::Flush(number) => return Ok(Said::Flushed(flush(rt, pool, client, number)?)),
         Ask::Tick => pool.tick(rt, &mut client.session, 1)?,
         Ask::Purge => {
@@ -170,30 +166,40 @@ fn ask_once<N: PoolName, K: Shows, R: Wait + Abort + AllocGlobal>(
     Ok(Said::Done)
 }
 
-/// Asks, and once more where memory was refused: of the pool, or of the port at the end of a read. Then the passes are
-/// those that were held, and all tickets went back. A fix alone may have left entries, where memory was wanted after
-/// its first event. Unfixes and `settle` are not refused.
+/// Whether memory was refused: of the pool, or of the port at the end of a read. Unfixes and `settle` are not refused.
+fn is_for_memory(ask: Ask, answer: &Result<Said, Refusal>) -> bool {
+    match answer {
+        Err(Refusal::OutOfMemory) => !matches!(ask, Ask::Unfix | Ask::Settle),
+        Err(Refusal::ReadFailed) => matches!(ask, Ask::Fix(_)),
+        _ => false,
+    }
+}
+
+/// How many passes a client holds, and how long its list is.
+fn counts_of<N: PoolName, K: Shows>(client: &Client<N, MemPort, K>) -> (usize, usize) {
+    (client.session.held().len(), K::said(&client.session).len())
+}
+
+fn no_ticket_is_out_of<N: PoolName, K: Shows>(client: &Client<N, MemPort, K>) -> bool {
+    no_ticket_is_out(K::said(&client.session))
+}
+
+/// Asks, and once more where memory was refused. Then the passes are those that were held, and all tickets went back. A
+/// fix alone may have left entries, where memory was wanted after its first event.
 fn ask_again<N: PoolName, K: Shows, R: Wait + Abort + AllocGlobal>(
     rt: &R,
     pool: &SharedPool<N, K>,
     client: &mut Client<N, MemPort, K>,
     ask: Ask,
 ) -> Result<Said, Refusal> {
-    let held = client.session.held().len();
-    let entries = K::said(&client.session).len();
+    let (held, entries) = counts_of(client);
     let answer = ask_once(rt, pool, client, ask);
-    let is_refused = match answer {
-        Err(Refusal::OutOfMemory) => !matches!(ask, Ask::Unfix | Ask::Settle),
-        Err(Refusal::ReadFailed) => matches!(ask, Ask::Fix(_)),
-        _ => false,
-    };
-    if !is_refused {
+    if !is_for_memory(ask, &answer) {
         return answer;
     }
-    let said = K::said(&client.session);
-    assert_eq!(rt; client.session.held().len(), held);
-    assert!(rt; said.len() == entries || matches!(ask, Ask::Fix(_)));
-    assert!(rt; no_ticket_is_out(said));
+    let after = counts_of(client);
+    assert!(rt; after.0 == held && no_ticket_is_out_of(client));
+    assert!(rt; after.1 == entries || matches!(ask, Ask::Fix(_)));
     ask_once(rt, pool, client, ask)
 }
 
@@ -204,10 +210,15 @@ fn ask_often<N: PoolName, K: Shows, R: Wait + Abort + AllocGlobal>(
     client: &mut Client<N, MemPort, K>,
     row: &Row,
 ) {
-    let (_, times, asked, wanted) = *row;
+    let (_, times, asked, said) = *row;
     for _ in 0..times {
         let answer = ask_again(rt, pool, client, asked);
-        assert_eq!(rt; answer, Ok(wanted));
+        let wanted = match said {
+            Said::NeedLog(lsn) => Err(Refusal::NeedLog(Lsn::new(lsn))),
+            Said::RingFull => Err(Refusal::RingFull),
+            said => Ok(said),
+        };
+        assert_eq!(rt; answer, wanted);
     }
 }
 

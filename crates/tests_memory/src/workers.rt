@@ -143,18 +143,18 @@ fn expect_visits<K: Kind, R: Threads + Wait + Sync + Abort + AllocGlobal>(
         Some(run) => run,
         None => try_run::<K, R>(rt).expect(rt, "the run, with memory"),
     };
-    let [one, other] = run.left.as_slice() else {
-        panic!(rt; "not two workers")
-    };
+    assert_eq!(rt; run.left.len(), 2);
+    let mut refused = None;
     for left in &run.left {
         assert_eq!(rt;
             (left.worker.seen, left.held, left.is_settled),
             (Ok(7), 0, true)
         );
+        assert!(rt; refused.is_none() || left.worker.refused.is_none());
+        refused = refused.or(left.worker.refused);
     }
-    assert!(rt; one.worker.refused.is_none() || other.worker.refused.is_none());
     let more = ROOM.saturating_sub(run.core.free()).checked_sub(12);
-    let is_counted = match one.worker.refused.or(other.worker.refused) {
+    let is_counted = match refused {
         None => more == Some(0),
         Some(Refusal::ReadFailed) => more == Some(2),
         Some(refusal) => refusal == Refusal::OutOfMemory && matches!(more, Some(0 | 3 | 4)),
