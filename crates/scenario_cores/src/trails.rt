@@ -45,11 +45,15 @@ impl Pool<RecordingKeeper> {
         }
     }
 
-    /// Cuts the rest of its trail, and once more where memory is refused. Tells whether all its entries are here then.
-    pub fn gather(&mut self) -> bool {
+    /// Cuts the rest of its trail, and once more where memory is refused.
+    pub fn gather(&mut self) {
         if let Answer::Refused(_) = self.cut() {
             self.cut();
         }
+    }
+
+    /// Whether all its entries were cut.
+    pub fn is_gathered(&self) -> bool {
         self.core.trail().is_empty()
     }
 

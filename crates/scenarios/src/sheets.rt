@@ -118,7 +118,9 @@ impl Sheet {
 
     /// Ends what the scenario made, in each way.
     fn end_worlds(&mut self) -> Verdict {
-        let verdict = judge(self.alloc, &mut self.whole, &mut self.pieces);
+        self.whole.gather();
+        self.pieces.gather();
+        let verdict = judge(self.alloc, &self.whole, &self.pieces);
         self.whole.clear();
         self.pieces.clear();
         self.counted.clear();

@@ -3,7 +3,7 @@
 use bp_check::first_unlawful;
 use bp_core::{RecordingKeeper, SilentKeeper};
 use bp_page::Refusal;
-use bp_trail::{Entry, Reply};
+use bp_trail::Reply;
 use scenario_cores::{Judged, Pool, Ranked, Timed, new_judged, new_pool, new_ranked, new_timed};
 use scenario_words::{Answer, Keeps, Said, Shape, Thing, Verb, call_of, maker_of};
 use std::alloc::{AllocError, Global};
@@ -38,7 +38,7 @@ pub struct World {
     made: Vec<Made>,
     /// The place of what is called.
     at: usize,
-    /// A line made what there is not in this way. The rest of the scenario passes it over.
+    /// A line made what there is not in this way, which then has nothing. The rest of the scenario passes it over.
     is_out: bool,
     /// How many calls were refused memory, and made once more.
     pub again: u64,
@@ -124,6 +124,7 @@ impl World {
     fn make(&mut self, thing: Thing, shape: &Shape) -> Option<Answer> {
         if !is_there(self.way, thing, shape.keeps) {
             self.is_out = true;
+            self.made.clear();
             return None;
         }
         match new_made(self.alloc, self.way, thing, shape) {
@@ -214,6 +215,15 @@ impl World {
         Some(answer)
     }
 
+    /// Gathers the entries of its cores.
+    pub fn gather(&mut self) {
+        for at in 0..self.made.len() {
+            if let Some(Made::Kept(core)) = self.made.get_mut(at) {
+                core.gather();
+            }
+        }
+    }
+
     /// Lets go what was made.
     pub fn clear(&mut self) {
         self.made.clear();
@@ -244,43 +254,27 @@ fn unlawful(alloc: Global, core: &Pool<RecordingKeeper>) -> Result<Option<usize>
 }
 
 /// What became of a core, and of the one beside it that was cut after each call, if there is one.
-fn verdict_of(alloc: Global, whole: &mut Made, pieces: Option<&mut Made>) -> Verdict {
-    let Made::Kept(whole) = whole else {
-        return Verdict::Good;
-    };
-    if !whole.gather() {
+fn verdict_of(alloc: Global, core: &Pool<RecordingKeeper>, beside: Option<&Made>) -> Verdict {
+    if !core.is_gathered() {
         return Verdict::NoMemory;
     }
-    match unlawful(alloc, whole) {
-        Ok(None) => torn_or_good(whole.entries(), pieces),
+    match unlawful(alloc, core) {
+        Ok(None) => match beside {
+            Some(Made::Kept(pieces)) if pieces.entries() != core.entries() => Verdict::Torn,
+            _ => Verdict::Good,
+        },
         Ok(Some(place)) => Verdict::Unlawful((place as u64).saturating_add(1)),
         Err(_) => Verdict::NoMemory,
     }
 }
 
-fn torn_or_good(whole: &[Entry], pieces: Option<&mut Made>) -> Verdict {
-    let Some(Made::Kept(pieces)) = pieces else {
-        return Verdict::Good;
-    };
-    if pieces.gather() && pieces.entries() == whole {
-        Verdict::Good
-    } else {
-        Verdict::Torn
-    }
-}
-
-/// Judges what a scenario made. Each trail goes to the judge, and its pieces are compared with it where all of its cores
-/// were cut after each call too. The first verdict that is not good is given.
-pub fn judge(alloc: Global, whole: &mut World, pieces: &mut World) -> Verdict {
+/// Judges what a scenario made, after all its entries were gathered. Each trail goes to the judge, and its pieces are
+/// compared with it where all of its cores were cut after each call too. The first verdict that is not good is given.
+pub fn judge(alloc: Global, whole: &World, pieces: &World) -> Verdict {
     let mut verdict = Verdict::Good;
-    for at in 0..whole.made.len() {
-        let beside = if pieces.is_out {
-            None
-        } else {
-            pieces.made.get_mut(at)
-        };
-        if let (Verdict::Good, Some(made)) = (verdict, whole.made.get_mut(at)) {
-            verdict = verdict_of(alloc, made, beside);
+    for (at, made) in whole.made.iter().enumerate() {
+        if let (Verdict::Good, Made::Kept(core)) = (verdict, made) {
+            verdict = verdict_of(alloc, core, pieces.made.get(at));
         }
     }
     verdict
