@@ -6,7 +6,7 @@
 //! number of rounds and the bytes of a page it makes such a second run.
 #![tactic(auto)]
 
-ghost use Rattle.std.specs.Prelude.{◌≡◌, ◌+◌, ◌<◌, ◌≤◌, length};
+ghost use Rattle.std.specs.Prelude.{◌≡◌, ◌+◌, ◌<◌, ◌≤◌, IfOk, length};
 ghost use Rattle.long_run.specs.declared.TheConstants.{PAGES};
 
 use bp_core::{Entry, Keeper, Pass, PoolCore, RecordingKeeper, SilentKeeper};
@@ -65,6 +65,14 @@ fn byte_of(round: u64) -> u8 {
     (round % 251) as u8
 }
 
+/// The port of a device in memory.
+fn new_port(alloc: Global, geometry: Geometry) -> Result<MemPort, Refusal>
+    ensures { IfOk result (λ port. port.device ≡ geometry) }
+{
+    let device = MemDevice::new(alloc, geometry)?;
+    device.port()
+}
+
 fn new_pool<K: Keeper>(
     alloc: Global,
     frames: usize,
@@ -76,7 +84,7 @@ fn new_pool<K: Keeper>(
     let Ok(bytes) = Bytes::of(alloc, &[0]) else {
         return Err(Refusal::OutOfMemory);
     };
-    let port = MemDevice::new(alloc, geometry)?.port()?;
+    let port = new_port(alloc, geometry)?;
     let core = PoolCore::new(alloc, geometry, settings, frames, 1, room)?;
     Ok(Pool {
         core,
@@ -207,7 +215,31 @@ fn run_cut(
     Ok(cut)
 }
 
-/// The first run. Its entries are told of.
+/// The first run over this pool. Its entries are told of.
+fn tell_recorded(
+    rt: &(impl Runtime<A = Global> + Wait),
+    pool: &mut Pool<RecordingKeeper>,
+    pieces: u64,
+) -> Result<(), anyhow::Error>
+    requires { 0 < pieces }
+{
+    let Cut {
+        entries,
+        odd_pieces,
+        totals,
+    } = run_cut(rt, pool, pieces)?;
+    let left = pool.core.trail().len();
+    println!(rt;
+        "{entries} entries in {pieces} pieces, {odd_pieces} of them in more or less memory than the room needs; {left} left"
+    )?;
+    println!(rt;
+        "{} hits, {} faults, {} evictions, {} writes, {} failed, {} refused",
+        totals.hits, totals.faults, totals.evictions, totals.writes, totals.failed, totals.refused
+    )?;
+    print_end(rt, pool)
+}
+
+/// The first run.
 fn run_recorded(
     rt: &(impl Runtime<A = Global> + Wait),
     pieces: u64,
@@ -216,23 +248,7 @@ fn run_recorded(
     requires { 0 < pieces }
 {
     let mut pool = new_pool(rt.alloc(), PAGES as usize, 16, room)?;
-    let cut = run_cut(rt, &mut pool, pieces)?;
-    println!(rt;
-        "{} entries in {pieces} pieces, {} of them in more or less memory than the room needs; {} left",
-        cut.entries,
-        cut.odd_pieces,
-        pool.core.trail().len()
-    )?;
-    println!(rt;
-        "{} hits, {} faults, {} evictions, {} writes, {} failed, {} refused",
-        cut.totals.hits,
-        cut.totals.faults,
-        cut.totals.evictions,
-        cut.totals.writes,
-        cut.totals.failed,
-        cut.totals.refused
-    )?;
-    print_end(rt, &pool)
+    tell_recorded(rt, &mut pool, pieces)
 }
 
 fn print_end<K: Keeper>(
@@ -244,12 +260,42 @@ fn print_end<K: Keeper>(
     Ok(())
 }
 
+/// The second number of a line.
+fn second_number(line: &str) -> Option<u64> {
+    let word = line.split_whitespace().nth(1)?;
+    word.parse::<u64>().ok()
+}
+
 /// How many blocks of 4 KiB the program has in memory, as the system tells it.
 fn resident(rt: &(impl Runtime<A = Global> + Files)) -> Option<u64> {
-    let Ok(told) = fs::read_to_string(rt, "/proc/self/statm") else {
-        return None;
-    };
-    told.split_whitespace().nth(1)?.parse::<u64>().ok()
+    match fs::read_to_string(rt, "/proc/self/statm") {
+        Ok(line) => second_number(line.as_str()),
+        Err(_) => None,
+    }
+}
+
+fn print_resident(rt: &(impl Runtime<A = Global> + Files)) -> Result<(), anyhow::Error> {
+    match resident(rt) {
+        Some(blocks) if blocks < FEW_BLOCKS => println!(rt; "less than 64 MiB in memory")?,
+        Some(blocks) => println!(rt; "{blocks} blocks of 4 KiB in memory")?,
+        None => println!(rt; "it is not known how much is in memory")?,
+    }
+    Ok(())
+}
+
+/// The second run over this pool.
+fn tell_silent(
+    rt: &(impl Runtime<A = Global> + Files + Wait),
+    pool: &mut Pool<SilentKeeper>,
+    rounds: u64,
+) -> Result<(), anyhow::Error> {
+    pool.run_rounds(rt, rounds)?;
+    println!(rt;
+        "{} pages used, {} of them as the round before wrote them, {} refused",
+        pool.used, pool.as_written, pool.refused
+    )?;
+    print_end(rt, pool)?;
+    print_resident(rt)
 }
 
 /// The second run, in half as many frames as pages: each fix brings its page in, and another that was changed goes out.
@@ -259,18 +305,7 @@ fn run_silent(
     size: usize,
 ) -> Result<(), anyhow::Error> {
     let mut pool = new_pool::<SilentKeeper>(rt.alloc(), 2, size, SilentKeeper::MOST_ROOM)?;
-    pool.run_rounds(rt, rounds)?;
-    println!(rt;
-        "{} pages used, {} of them as the round before wrote them, {} refused",
-        pool.used, pool.as_written, pool.refused
-    )?;
-    print_end(rt, &pool)?;
-    match resident(rt) {
-        Some(blocks) if blocks < FEW_BLOCKS => println!(rt; "less than 64 MiB in memory")?,
-        Some(blocks) => println!(rt; "{blocks} blocks of 4 KiB in memory")?,
-        None => println!(rt; "it is not known how much is in memory")?,
-    }
-    Ok(())
+    tell_silent(rt, &mut pool, rounds)
 }
 
 fn main(rt: HostRuntime) -> Result<(), anyhow::Error> {
