@@ -71,28 +71,48 @@ fn rank_table(histories: &Histories, blocks: &[BlockNo], calls: u64) -> u64
     sum
 }
 
-// Times the calls over so many pages, which are loaded first.
-fn time_table(rt: &(impl Runtime<A = Global> + CpuClock), pages: u64) -> Result<(), anyhow::Error>
-    requires some { 0 < pages }
+// Times hits and ranks of pages that have one reference each.
+fn time_loaded(
+    rt: &(impl Runtime<A = Global> + CpuClock),
+    histories: &mut Histories,
+    blocks: &[BlockNo],
+) -> Result<(), anyhow::Error>
+    requires some { 0 < length blocks.now }
+    requires loaded { IsLoaded histories.old (length blocks.now) 1 }
+    requires table { IsTable histories.old blocks.now }
 {
-    println!(rt; "{pages} pages")?;
-    let mut histories = Histories::new(rt.alloc(), Settings::new(2, 0, 0)?);
     let since = rt.thread_cpu_time()?;
-    let blocks = load_table(rt.alloc(), &mut histories, pages)?;
-    tell(rt, "prepare_block and fault_at", since, pages)?;
-    let since = rt.thread_cpu_time()?;
-    hit_table(&mut histories, &blocks, CALLS);
+    hit_table(histories, blocks, CALLS);
     tell(rt, "hit_at", since, CALLS)?;
     let since = rt.thread_cpu_time()?;
-    let sum = rank_table(&histories, &blocks, CALLS);
+    let sum = rank_table(histories, blocks, CALLS);
     tell(rt, "rank_at", since, CALLS)?;
     println!(rt; "the ranks sum up to {sum}")?;
     Ok(())
 }
 
+// Times the calls over so many pages, which are loaded first.
+fn time_table(
+    rt: &(impl Runtime<A = Global> + CpuClock),
+    histories: &mut Histories,
+    pages: u64,
+) -> Result<(), anyhow::Error>
+    requires some { 0 < pages }
+    requires nothing_held { (page : ℕ) → is_held histories.old page ≡ false }
+    requires nothing_known { (page : ℕ) → last_of histories.old page ≡ 0 }
+{
+    println!(rt; "{pages} pages")?;
+    let since = rt.thread_cpu_time()?;
+    let blocks = load_table(rt.alloc(), histories, pages)?;
+    tell(rt, "prepare_block and fault_at", since, pages)?;
+    time_loaded(rt, histories, &blocks)
+}
+
 pub(crate) fn time_blocks(rt: &(impl Runtime<A = Global> + CpuClock)) -> Result<(), anyhow::Error> {
+    let settings = Settings::new(2, 0, 0)?;
     for pages in [256, 4096, 65536, PAGES] {
-        time_table(rt, pages)?;
+        let mut histories = Histories::new(rt.alloc(), settings);
+        time_table(rt, &mut histories, pages)?;
     }
     Ok(())
 }

@@ -214,6 +214,21 @@ fn time_round(
 }
 
 /// Times rounds over the first and the second half of the pages in turn.
+fn time_rounds(
+    rt: &(impl Runtime<A = Global> + CpuClock),
+    bench: &mut Bench,
+    frames: u64,
+) -> Result<(), anyhow::Error>
+    requires some { 0 < frames }
+    requires few { frames ≤ MAX_FRAMES }
+{
+    for round in 0..ROUNDS {
+        time_round(rt, bench, round % 2 * frames, frames)?;
+    }
+    Ok(())
+}
+
+/// Times the calls of a core with so many frames, if it may have as many.
 pub(crate) fn time_calls(
     rt: &(impl Runtime<A = Global> + CpuClock),
     frames: u64,
@@ -222,8 +237,5 @@ pub(crate) fn time_calls(
         return Ok(());
     }
     let mut bench = new_bench(rt.alloc(), frames)?;
-    for round in 0..ROUNDS {
-        time_round(rt, &mut bench, round % 2 * frames, frames)?;
-    }
-    Ok(())
+    time_rounds(rt, &mut bench, frames)
 }

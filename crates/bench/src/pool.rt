@@ -172,6 +172,22 @@ fn time_pages<K: Tended>(
     Ok(())
 }
 
+/// Times uses of so many pages of a file by a pool of its own.
+fn time_pool<K: Tended>(
+    rt: &(impl Runtime<A = Global> + CpuClock + Files<File = File> + Wait),
+    path: &str,
+    frames: usize,
+    pages: u64,
+    calls: u64,
+    room: usize,
+    cut_at: usize,
+) -> Result<(), anyhow::Error>
+    requires { 0 < pages }
+{
+    let mut bench = new_bench::<K>(rt, path, frames, pages, room, cut_at)?;
+    time_pages(rt, &mut bench, frames, calls)
+}
+
 /// Times hits, and then fixes of more pages than there are frames.
 pub(crate) fn time_pools<K: Tended>(
     rt: &(impl Runtime<A = Global> + CpuClock + Files<File = File> + Wait),
@@ -181,13 +197,9 @@ pub(crate) fn time_pools<K: Tended>(
 ) -> Result<(), anyhow::Error> {
     for (frames, hits, fixes) in POOLS {
         println!(rt; "{frames} frames")?;
-        for (pages, calls) in [
-            (frames as u64, hits),
-            (frames as u64 * PAGES_A_FRAME, fixes),
-        ] {
-            let mut bench = new_bench::<K>(rt, path, frames, pages, room, cut_at)?;
-            time_pages(rt, &mut bench, frames, calls)?;
-        }
+        let pages = frames as u64;
+        time_pool::<K>(rt, path, frames, pages, hits, room, cut_at)?;
+        time_pool::<K>(rt, path, frames, pages * PAGES_A_FRAME, fixes, room, cut_at)?;
     }
     Ok(())
 }

@@ -223,18 +223,21 @@ fn tell_recorded(
 ) -> Result<(), anyhow::Error>
     requires { 0 < pieces }
 {
-    let Cut {
-        entries,
-        odd_pieces,
-        totals,
-    } = run_cut(rt, pool, pieces)?;
-    let left = pool.core.trail().len();
+    let cut = run_cut(rt, pool, pieces)?;
     println!(rt;
-        "{entries} entries in {pieces} pieces, {odd_pieces} of them in more or less memory than the room needs; {left} left"
+        "{} entries in {pieces} pieces, {} of them in more or less memory than the room needs; {} left",
+        cut.entries,
+        cut.odd_pieces,
+        pool.core.trail().len()
     )?;
     println!(rt;
         "{} hits, {} faults, {} evictions, {} writes, {} failed, {} refused",
-        totals.hits, totals.faults, totals.evictions, totals.writes, totals.failed, totals.refused
+        cut.totals.hits,
+        cut.totals.faults,
+        cut.totals.evictions,
+        cut.totals.writes,
+        cut.totals.failed,
+        cut.totals.refused
     )?;
     print_end(rt, pool)
 }
