@@ -127,8 +127,8 @@ fn overcome<N: PoolName, K: ListKeeper, L: DurableLog<N>, R: Wait>(
     ensures lent { L.lent log.new ≡ L.lent log.old }
     ensures raises { RaisesWithin (L.durable_to log.old) (L.raised_to log.old)
         (L.durable_to log.new) (L.raised_to log.new) }
-    ensures goes_on { OnOk result (GoesOn session.old.client patience.steps (L.raised_to log.new) why
-        is_ticked.old is_ticked.new session.old.said session.new.said) }
+    ensures goes_on { OnOk result (GoesOn session.old.client patience.steps
+        (L.raised_to log.new) why is_ticked.old is_ticked.new session.old.said session.new.said) }
     ensures gives_up { IfErr result (λ last. GivesUp session.old.client patience.steps
         (L.durable_to log.new) why is_ticked.old last session.old.said session.new.said) }
 {

@@ -12,7 +12,8 @@ fn add_plans(
     ks: &[usize],
     correlated: u64,
 ) -> Result<(), AllocError>
-    ensures { OnOk result (plans.new.items ≡ plans.old.items ++ plans_with frames ks.now correlated) }
+    ensures { OnOk result
+        (plans.new.items ≡ plans.old.items ++ plans_with frames ks.now correlated) }
 {
     for k in ks {
         plans.push(Plan {
