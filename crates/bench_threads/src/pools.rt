@@ -132,6 +132,27 @@ fn time_jobs<
     })
 }
 
+// Times threads over this pool, each with one of its sessions and of the ports.
+fn time_sessions<
+    N: PoolName + Send + Sync,
+    P: Port + Send,
+    K: Kind,
+    R: Runtime<A = Global> + Clock + Threads + Wait + Sync,
+>(
+    rt: &R,
+    pool: &SharedPool<N, K>,
+    takings: &Mutex<Takings<N>>,
+    sessions: Vec<Session<N, K>>,
+    ports: Vec<P>,
+    work: Work,
+) -> Result<Outcome, anyhow::Error>
+    requires pages { N.parameters.pages ≡ FILE_PAGES }
+    requires size { N.parameters.size ≡ SIZE }
+{
+    let mut jobs = make_jobs(rt.alloc(), sessions, ports)?;
+    time_jobs(rt, pool, takings, &mut jobs, work)
+}
+
 // Times threads over a new pool.
 fn time_work<
     N: PoolName + Send + Sync,
@@ -152,12 +173,11 @@ fn time_work<
         ring,
     } = made;
     let (pool, sessions, taker) = SharedPool::<N, K>::new(rt.alloc(), core, mark, reader, ring)?;
-    let mut jobs = make_jobs(rt.alloc(), sessions, ports)?;
     let takings = Mutex::new(Takings {
         taker,
         spare: Vec::new(rt.alloc()),
     });
-    time_jobs(rt, &pool, &takings, &mut jobs, work)
+    time_sessions(rt, &pool, &takings, sessions, ports, work)
 }
 
 /// Times threads over a pool of their own, each with one of the ports.
