@@ -26,7 +26,7 @@ not_before_winner a b leads = elim (cases_Bool (is_before b a)) [
   | inl lower ↦ (let same : b ≡ a = same_Some b a (rw lower at leads) in subst (λ x. is_before x a ≡ false) (sym same) (not_before_itself a))
 ]
 
-winner_from_not_before : (a b : Candidate) → is_before b a ≡ false → winner (Some a) (Some b) ≡ Some a
+pub winner_from_not_before : (a b : Candidate) → is_before b a ≡ false → winner (Some a) (Some b) ≡ Some a
 winner_from_not_before a b not = rw not refl
 
 pub leads_itself : (a : Option Candidate) → winner a a ≡ a
@@ -76,7 +76,7 @@ leads_right (Some a) (Some b) = elim (cases_Bool (is_before b a)) [
   | inr higher ↦ rw higher (winner_from_not_before a b higher)
 ]
 
-leads_later : (c b a : Option Candidate) → winner c b ≡ c → winner b a ≡ b → winner c a ≡ c
+pub leads_later : (c b a : Option Candidate) → winner c b ≡ c → winner b a ≡ b → winner c a ≡ c
 leads_later None b a cb ba = sym (ap (λ x. winner x a) cb) ∙ ba ∙ cb
 leads_later (Some c) None a cb ba = ap (winner (Some c)) ba ∙ cb
 leads_later (Some c) (Some b) None cb ba = refl
@@ -409,7 +409,7 @@ node_empty zero k w d = inr (omega arith)
 node_empty (suc n) zero w d = inl refl
 node_empty (suc n) (suc k) w d = elim (node_empty n k w d) [ inl is ↦ inl is | inr past ↦ inr (omega arith) ]
 
-seat_empty : (n k : ℕ) → seat_at (replicate n None) k ≡ None
+pub seat_empty : (n k : ℕ) → seat_at (replicate n None) k ≡ None
 seat_empty zero k = refl
 seat_empty (suc n) zero = refl
 seat_empty (suc n) (suc k) = seat_empty n k
@@ -446,7 +446,7 @@ empty_won n nodes seats nodes_are seats_are len seats_len = record {
 
 -- ---- the first below a node
 
-seat_within : (seats : List (Option Candidate)) (k : ℕ) (x : Candidate) → seat_at seats k ≡ Some x → k < length seats
+pub seat_within : (seats : List (Option Candidate)) (k : ℕ) (x : Candidate) → seat_at seats k ≡ Some x → k < length seats
 seat_within seats k x is = elim (cases_lt k (length seats)) [
   | inl lt ↦ lt
   | inr ge ↦ absurd (none-some x (sym (get_or_past seats k None ge) ∙ is))

@@ -5,26 +5,10 @@ use Rattle.std.proofs.lemmas.Bool.Decides.{nat_tests}
 use Rattle.std.proofs.lemmas.Option.{none-some, same_Some}
 use Rattle.std.proofs.lemmas.List.{set-set}
 use Rattle.bp_lruk.specs.Candidates.{Candidate, is_eligible, IsVictim, NoPageTwice}
-use Rattle.bp_lruk.specs.Seats.{emptied, unless, Seated, entered, seated_in, IsFirst, seat_at}
+use Rattle.bp_lruk.specs.Seats.{Seated, entered, seated_in, IsFirst, seat_at}
 use Rattle.bp_lruk.proofs.Lists.{IsIn, in_filtered, filtered_in}
 use Rattle.bp_lruk.proofs.SeatLaws.{not_before_winner}
 use Rattle.bp_lruk.proofs.VictimLaws.{is_old, earliest_victim, none_eligible}
-
--- ---- the seat that was left last
-
-set_apart : (seats : List (Option Candidate)) (i j : ℕ) (a b : Option Candidate) → i ≢ j → set (set seats i a) j b ≡ set (set seats j b) i a
-set_apart [] i j a b other = refl
-set_apart (s ∷ seats) zero zero a b other = absurd (other refl)
-set_apart (s ∷ seats) zero (suc j) a b other = refl
-set_apart (s ∷ seats) (suc i) zero a b other = refl
-set_apart (s ∷ seats) (suc i) (suc j) a b other = ap (λ xs. s ∷ xs) (set_apart seats i j a b (omega arith))
-
-pub entered_emptied : (seats : List (Option Candidate)) (left : Option ℕ) (seat : ℕ) (e : Option Candidate) → emptied (unless seat left) (set seats seat e) ≡ set (emptied left seats) seat e
-entered_emptied seats None seat e = refl
-entered_emptied seats (Some left) seat e = elim (cases_eq left seat) [
-  | inl same ↦ rw (eq-eqb left seat same) (sym (ap (λ k. set (set seats k None) seat e) same ∙ set-set seats seat None e))
-  | inr other ↦ rw (ne_eqb left seat other) (sym (set_apart seats left seat None e other))
-]
 
 -- ---- who is seated
 

@@ -1,5 +1,6 @@
--- Candidates that are entered by seats: each stands at a seat of its own, as a page stands in a frame.
-use Rattle.std.specs.Prelude.{◌≡◌, ◌⊎◌, ℕ, ◌*◌, ◌+◌, ◌-◌, ◌/◌, ◌≢◌, ◌<◌, ◌≤◌, ◌&&◌, ◌==◌, nat_lt, zero, suc, Bool, true, List, [], ◌∷◌, length, slice_index_or, set, Option, Some, None, if◌then◌else◌}
+-- Candidates that are entered by seats: each stands at a seat of its own, as a page stands in a
+-- frame.
+use Rattle.std.specs.Prelude.{◌≡◌, ◌⊎◌, ℕ, ◌*◌, ◌+◌, ◌-◌, ◌/◌, ◌≢◌, ◌<◌, ◌≤◌, ◌&&◌, ◌==◌, nat_lt, zero, suc, Bool, true, false, IsFalse, List, [], ◌∷◌, length, slice_index_or, set, Option, Some, None, if◌then◌else◌}
 use Rattle.bp_lruk.specs.Candidates.{Candidate, Entered, is_before}
 use Rattle.bp_lruk.specs.declared.tournament.Winners.{Winners}
 
@@ -16,7 +17,8 @@ seated_in (Some e ∷ seats) = e ∷ seated_in seats
 
 -- the same candidates, of as many frames as there are seats
 abbrev pub entered : Seated → Entered
-entered c = record { frames = length c.seats; correlated = c.correlated; entries = seated_in c.seats }
+entered c =
+    record { frames = length c.seats; correlated = c.correlated; entries = seated_in c.seats }
 
 abbrev pub seat_at : List (Option Candidate) → ℕ → Option Candidate
 seat_at seats k = slice_index_or seats k None
@@ -28,19 +30,6 @@ seat_of c seat = slice_index_or c.seats seat None
 abbrev pub with_seat : Seated → ℕ → Option Candidate → Seated
 with_seat c seat e = record c { seats = set c.seats seat e }
 
--- the seats without the page of the seat that was left last, if one was
-abbrev pub emptied : Option ℕ → List (Option Candidate) → List (Option Candidate)
-emptied None seats = seats
-emptied (Some left) seats = set seats left None
-
--- the seat that was left last, unless it is this one
-abbrev pub unless : ℕ → Option ℕ → Option ℕ
-unless seat None = None
-unless seat (Some left) = if left == seat then None else Some left
-
-abbrev pub IsSeatOf : List (Option Candidate) → Option ℕ → Type 0
-IsSeatOf seats left = (k : ℕ) → left ≡ Some k → k < length seats
-
 -- ---- who comes first
 
 -- of two seats, the one that comes first; an empty one comes last
@@ -50,9 +39,47 @@ winner (Some a) None = Some a
 winner (Some a) (Some b) = if is_before b a then Some b else Some a
 
 -- the first of those at the seats of whom P holds, none where it holds of none
-pub record IsFirst (seats : List (Option Candidate)) (P : Candidate → Type 0) (first : Option Candidate) : Type 0 where
+pub record IsFirst (seats : List (Option Candidate)) (P : Candidate → Type 0)
+    (first : Option Candidate) : Type 0 where
   pub there : (x : Candidate) → first ≡ Some x → (k : ℕ) × (seat_at seats k ≡ Some x) × P x
-  pub none_before : (k : ℕ) (x : Candidate) → seat_at seats k ≡ Some x → P x → winner first (Some x) ≡ first
+  pub none_before : (k : ℕ) (x : Candidate) → seat_at seats k ≡ Some x → P x
+      → winner first (Some x) ≡ first
+
+-- the same by the number of the seat
+pub record IsFirstAt (seats : List (Option Candidate)) (P : Candidate → Type 0)
+    (seat : ℕ) : Type 0 where
+  pub in_range : seat < length seats
+  pub first : IsFirst seats P (seat_at seats seat)
+
+-- ---- a tree that may lag behind who stands at the seats
+
+-- whether the same stands at two seats
+abbrev pub same_seat : Option Candidate → Option Candidate → Bool
+same_seat None None = true
+same_seat (Some a) (Some b) = a.0 == b.0 && a.1 == b.1 && a.2 == b.2
+same_seat _ _ = false
+
+-- whoever stands there does not come before the one that is known, and was not last referenced
+-- before that one
+pub record FollowsOn (known : Candidate) (here : Option Candidate) : Type 0 where
+  pub not_before : (x : Candidate) → here ≡ Some x → IsFalse (is_before x known)
+  pub no_earlier : (x : Candidate) → here ≡ Some x → known.1 ≤ x.1
+
+-- nobody is known where nobody stands
+abbrev pub Lags : Option Candidate → Option Candidate → Type 0
+Lags None here = here ≡ None
+Lags (Some known) here = FollowsOn known here
+
+pub record LagsBehind (known seats : List (Option Candidate)) : Type 0 where
+  pub length_is : length known ≡ length seats
+  pub lags : (k : ℕ) → Lags (seat_at known k) (seat_at seats k)
+
+-- at how many seats another stands than is known
+abbrev pub unsettled : List (Option Candidate) → List (Option Candidate) → ℕ
+unsettled [] seats = 0
+unsettled (known ∷ others) [] = 0
+unsettled (known ∷ others) (here ∷ seats) =
+    (if same_seat known here then 0 else 1) + unsettled others seats
 
 -- ---- a tree of winners: below the node i stand the nodes 2 i and 2 i + 1
 
@@ -70,11 +97,13 @@ abbrev pub is_aged : ℕ → Option Candidate → Bool
 is_aged time None = true
 is_aged time (Some e) = nat_lt e.1 time
 
--- who comes first of those last referenced before a time; one who was not where the node does not know
+-- who comes first of those last referenced before a time; one who was not where the node does not
+-- know
 unfoldable pub aged_first : ℕ → Known → Option Candidate
 aged_first time w = if is_aged time w.first then w.first else w.older
 
--- below two nodes, who comes first of those last referenced before `first`; where a node does not know, `first` again
+-- below two nodes, who comes first of those last referenced before `first`; where a node does not
+-- know, `first` again
 unfoldable pub older_of : Known → Known → Option Candidate → Option Candidate
 older_of a b None = None
 older_of a b (Some e) =
@@ -98,7 +127,9 @@ node nodes i =
     else record { first = i - length nodes; older = length nodes }
 
 abbrev pub IsWon : List Winners → List (Option Candidate) → ℕ → Type 0
-IsWon nodes seats i = known_by seats (node nodes i) ≡ both (known_by seats (node nodes (2 * i))) (known_by seats (node nodes (2 * i + 1)))
+IsWon nodes seats i =
+    known_by seats (node nodes i)
+    ≡ both (known_by seats (node nodes (2 * i))) (known_by seats (node nodes (2 * i + 1)))
 
 -- a node has the number of a seat
 abbrev pub Has : Winners → ℕ → Type 0
@@ -134,6 +165,9 @@ abbrev pub IsBelow : ℕ → ℕ → Type 0
 IsBelow i j = (steps : ℕ) × (above steps j ≡ i)
 
 -- the first of those below a node
-pub record IsFirstBelow (seats : List (Option Candidate)) (i : ℕ) (P : Candidate → Type 0) (first : Option Candidate) : Type 0 where
-  pub there : (x : Candidate) → first ≡ Some x → (k : ℕ) × IsBelow i (length seats + k) × (seat_at seats k ≡ Some x) × P x
-  pub none_before : (k : ℕ) (x : Candidate) → IsBelow i (length seats + k) → seat_at seats k ≡ Some x → P x → winner first (Some x) ≡ first
+pub record IsFirstBelow (seats : List (Option Candidate)) (i : ℕ) (P : Candidate → Type 0)
+    (first : Option Candidate) : Type 0 where
+  pub there : (x : Candidate) → first ≡ Some x
+      → (k : ℕ) × IsBelow i (length seats + k) × (seat_at seats k ≡ Some x) × P x
+  pub none_before : (k : ℕ) (x : Candidate) → IsBelow i (length seats + k)
+      → seat_at seats k ≡ Some x → P x → winner first (Some x) ≡ first

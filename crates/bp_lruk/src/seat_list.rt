@@ -65,6 +65,18 @@ impl SeatList {
         }
     }
 
+    /// Who stands at a seat.
+    pub fn find(&self, seat: usize) -> Seat
+        requires { seat < length self.now }
+        ensures { result ≡ seat_at self.now seat }
+    {
+        if self.is_taken(seat) {
+            self.at(seat)
+        } else {
+            None
+        }
+    }
+
     /// Changes who stands at a seat.
     pub fn put(&mut self, seat: usize, entry: Seat)
         requires { seat < length self.old }

@@ -1,59 +1,43 @@
 //! Candidates for replacement that stand at seats, as their pages stand in frames.
 ghost use Rattle.std.specs.Prelude.{◌≡◌, ℕ, ◌<◌, IsFalse, Some, None, IfOk, IfSome, IfNone, length, replicate};
 ghost use Rattle.bp_lruk.specs.Candidates.{is_eligible, IsVictim, NoPageTwice};
-ghost use Rattle.bp_lruk.specs.Seats.{entered, seat_of, with_seat, seated_in, emptied, unless, IsSeatOf};
+ghost use Rattle.bp_lruk.specs.Seats.{entered, seat_of, with_seat, seated_in};
 
 use crate::settings::Settings;
-use crate::tournament::Tournament;
+use crate::standing::Standing;
 use bp_page::PageNo;
 use std::alloc::{AllocError, Global};
 use std::marker::Model;
 
+/// How many seats the tree may lag behind at once, and so how many walks one `victim` takes at most.
+const MOST_LAGGING: usize = 64;
+
 /// The pages that may be replaced, each at a seat of its own, with its K-th stamp and the time of its newest reference.
 ///
-/// A tree of winners stands over the seats. A page that leaves stands in the tree until another leaves or a victim is
-/// looked for, so that one that enters again at once is put there once. To put a page there or to take it out goes up
-/// as far as that changes what the tree knows, and never further than the tree is high: so `enter` and `leave` are
-/// O(log frames), and for a hot page mostly a step or two. `victim` takes the page that left last out, and else moves
-/// none. With no correlated period, at a time that is not before any reference, the root knows the victim, so that
-/// `victim` is O(log frames), and O(1) where no page left. Else it looks at O(log frames) nodes for each page that is
-/// still too young, and never at more than two for each frame. The memory is taken once, by `new`: 41 bytes a seat.
+/// A tree of winners stands over the seats, and lags behind a seat that was left. A page that enters again, and comes
+/// later in the order than the one that the tree knows there, stays where it was: so a hot page leaves and enters in
+/// O(1), with no walk up the tree. `victim` puts such a page in its place where it would come first otherwise. The tree
+/// lags behind 64 seats at most: for one more, the one that it may have lagged behind for longest is put in its place.
+///
+/// A walk goes up as far as that changes what the tree knows, O(log frames) at most: `enter` and `leave` take one at
+/// most, `victim` one for each seat that the tree lags behind. With no correlated period, at a time that is not before
+/// any reference, the root knows who comes first. Else each look goes to O(log frames) nodes for each page that is
+/// still too young, and never to more than two for each frame. The memory is taken once, by `new`: 66 bytes a seat.
 #[derive(Drop)]
 pub struct Candidates {
     correlated: u64,
-    tree: Tournament,
-    /// The seat that was left last, if its page stands in the tree still.
-    left: Option<usize>,
+    standing: Standing,
+    /// The seats that the tree may lag behind, in a ring, and where the next one goes.
+    lagging: [usize; MOST_LAGGING],
+    next: usize,
 }
 
 impl Model for Candidates {
-    ghost use Rattle.bp_lruk.specs.Seats.{Seated, emptied, IsSeatOf};
+    ghost use Rattle.bp_lruk.specs.Seats.{Seated};
 
     ghost Value = { Seated };
 
-    ghost view = { λ c. record { correlated = c.correlated; seats = emptied c.left c.tree } };
-
-    ghost invariant = { λ c. IsSeatOf c.tree c.left };
-}
-
-// Takes the page of the seat that was left last out of the tree.
-fn settle(tree: &mut Tournament, left: Option<usize>)
-    requires { IsSeatOf tree.old left }
-    ensures { tree.new ≡ emptied left tree.old }
-{
-    if let Some(seat) = left {
-        tree.put(seat, None);
-    }
-}
-
-// The seat that was left last, unless it is this one.
-fn unless(seat: usize, left: Option<usize>) -> Option<usize>
-    ensures { result ≡ unless seat left }
-{
-    match left {
-        Some(other) if other != seat => left,
-        _ => None,
-    }
+    ghost view = { λ c. record { correlated = c.correlated; seats = c.standing } };
 }
 
 impl Candidates {
@@ -66,11 +50,12 @@ impl Candidates {
               frames None;
         }) }
     {
-        let tree = Tournament::new(alloc, frames)?;
+        let standing = Standing::new(alloc, frames)?;
         Ok(Candidates {
             correlated: settings.correlated,
-            tree,
-            left: None,
+            standing,
+            lagging: [0; MOST_LAGGING],
+            next: 0,
         })
     }
 
@@ -80,8 +65,17 @@ impl Candidates {
         requires empty { seat_of self.old seat ≡ None }
         ensures { self.new ≡ with_seat self.old seat (Some (hist_k, last, page)) }
     {
-        self.left = unless(seat, self.left);
-        self.tree.put(seat, Some((hist_k, last, page)));
+        self.standing.put(seat, Some((hist_k, last, page)));
+    }
+
+    // Lets the tree lag behind a seat, in place of the one that it has lagged behind for longest.
+    fn let_lag(&mut self, seat: usize)
+        ensures { self.new ≡ self.old }
+    {
+        let at = self.next % MOST_LAGGING;
+        self.standing.settle(self.lagging[at]);
+        self.lagging[at] = seat;
+        self.next = at + 1;
     }
 
     /// Empties a seat.
@@ -89,8 +83,10 @@ impl Candidates {
         requires { seat < length self.old.seats }
         ensures { self.new ≡ with_seat self.old seat None }
     {
-        settle(&mut self.tree, self.left);
-        self.left = Some(seat);
+        if self.standing.is_settled(seat) {
+            self.let_lag(seat);
+        }
+        self.standing.put(seat, None);
     }
 
     /// The page to replace at the time `t`: of those last referenced more than the correlated period before, the first
@@ -102,9 +98,9 @@ impl Candidates {
         ensures none { IfNone result ((page : ℕ) → IsFalse
             (is_eligible (entered self.old) t page)) }
     {
-        settle(&mut self.tree, self.left);
-        self.left = None;
-        let first = self.tree.first_before(t.saturating_sub(self.correlated))?;
+        let first = self
+            .standing
+            .first_before(t.saturating_sub(self.correlated))?;
         Some(first.2)
     }
 }

@@ -1,7 +1,7 @@
 //! A tree of winners over a number of seats.
-ghost use Rattle.std.specs.Prelude.{◌≡◌, ◌⊎◌, ℕ, ◌*◌, ◌+◌, ◌-◌, ◌/◌, ◌^◌, ◌<◌, ◌≤◌, [], IsTrue, IsFalse, Some, None, IfOk, IsSome, length, replicate, set, slice_index_or};
+ghost use Rattle.std.specs.Prelude.{◌≡◌, ◌⊎◌, ℕ, ◌*◌, ◌+◌, ◌-◌, ◌/◌, ◌^◌, ◌<◌, ◌≤◌, [], IsTrue, IsFalse, Some, None, IfOk, IfSome, IfNone, IsSome, length, replicate, set, slice_index_or};
 ghost use Rattle.bp_lruk.specs.Candidates.{Candidate};
-ghost use Rattle.bp_lruk.specs.Seats.{winner, seat_at, is_aged, aged_first, older_of, both, node, known_by, Has, IsOfBoth, IsTaken, AreTaken, IsFirst, IsFirstBelow, IsTournament, older_at};
+ghost use Rattle.bp_lruk.specs.Seats.{winner, seat_at, is_aged, aged_first, older_of, both, node, known_by, Has, IsOfBoth, IsTaken, AreTaken, IsFirst, IsFirstAt, IsFirstBelow, IsTournament, older_at};
 ghost use Rattle.bp_lruk.specs.Replay.{IsWonUpTo};
 
 use crate::candidates::precedes;
@@ -210,15 +210,28 @@ impl Tournament {
         Ok(Tournament { nodes, seats })
     }
 
-    /// Who comes first of those that were last referenced before a time.
-    pub fn first_before(&self, time: u64) -> Seat
-        ensures { IsFirst self.now (λ e. e.1 < time) result }
+    /// Who stands at a seat.
+    pub fn find(&self, seat: usize) -> Seat
+        requires { seat < length self.now }
+        ensures { result ≡ seat_at self.now seat }
+    {
+        self.seats.find(seat)
+    }
+
+    /// The seat of who comes first of those that were last referenced before a time.
+    pub fn first_before(&self, time: u64) -> Option<usize>
+        ensures found { IfSome result (IsFirstAt self.now (λ e. e.1 < time)) }
+        ensures none { IfNone result (IsFirst self.now (λ e. e.1 < time) None) }
     {
         if self.seats.len() == 0 {
             return None;
         }
         let first = first_below(&self.nodes, &self.seats, 1, time);
-        self.seats.at(first)
+        if first < self.seats.len() {
+            Some(first)
+        } else {
+            None
+        }
     }
 
     /// Changes who stands at a seat.

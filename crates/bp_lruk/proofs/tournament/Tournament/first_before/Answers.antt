@@ -1,12 +1,23 @@
-use Rattle.std.proofs.Common.{sym, subst, ◌<◌, List, Option}
+use Rattle.std.proofs.Common.{◌∙◌, ap, sym, subst, length, ◌<◌, None, List, Option, arith}
+use Rattle.std.proofs.lemmas.List.{get_or_past}
 use Rattle.bp_lruk.specs.Candidates.{Candidate}
-use Rattle.bp_lruk.specs.Seats.{seat_at, IsFirst}
+use Rattle.bp_lruk.specs.Seats.{seat_at, IsFirst, IsFirstAt}
 use Rattle.bp_lruk.proofs.SeatLaws.{first_of_all}
 use Rattle.bp_lruk.proofs.tournament.Tournament.first_before.Goals as goal
 
-pub returns : goal.returns
-returns c =
+pub returns-then-first-len-clause-found : goal.returns-then-first-len-clause-found
+returns-then-first-len-clause-found c =
     let seats : List (Option Candidate) = c.self.inside.seats in
-    let first = first_of_all seats (λ (e : Candidate). e.1 < c.args.time) (seat_at seats c.first_below-first.result) c.first_below-first.ensures.first in
-    subst (λ (s : List (Option Candidate)). IsFirst s (λ (e : Candidate). e.1 < c.args.time) c.at.result) c.self.view_is
-    (subst (IsFirst seats (λ (e : Candidate). e.1 < c.args.time)) (sym c.at.ensures) first)
+    let seat = c.first_below-first.result in
+    subst (λ (s : List (Option Candidate)). IsFirstAt s (λ (e : Candidate). e.1 < c.args.time) seat) c.self.view_is (record {
+      in_range = omega (arith, c.if-first-len.true, c.len-2.ensures);
+      first = first_of_all seats (λ (e : Candidate). e.1 < c.args.time) (seat_at seats seat) c.first_below-first.ensures.first;
+    })
+
+pub returns-else-first-len-clause-none : goal.returns-else-first-len-clause-none
+returns-else-first-len-clause-none c =
+    let seats : List (Option Candidate) = c.self.inside.seats in
+    let seat = c.first_below-first.result in
+    let first = first_of_all seats (λ (e : Candidate). e.1 < c.args.time) (seat_at seats seat) c.first_below-first.ensures.first in
+    subst (λ (s : List (Option Candidate)). IsFirst s (λ (e : Candidate). e.1 < c.args.time) None) c.self.view_is
+    (subst (IsFirst seats (λ (e : Candidate). e.1 < c.args.time)) (get_or_past seats seat None (omega (arith, c.if-first-len.false, c.len-2.ensures))) first)
