@@ -1,5 +1,6 @@
 //! What is asked of one page, looked for in the entries so far. These are in the order of time.
 ghost use Rattle.std.specs.Prelude.{◌≡◌, max, unwrap_or, false, reverse, slice_index_or, OnOk, IfOk};
+ghost use Rattle.bp_page.specs.Patched.{patched};
 ghost use Rattle.bp_trail.specs.Trail.{Trail};
 ghost use Rattle.bp_trail.specs.Event as event;
 ghost use Rattle.bp_trail.specs.Saved as saved;
@@ -101,7 +102,7 @@ fn read_into(image: &mut Vec<u8>, call: &Call) -> Result<(), AllocError>
 
 /// Puts the bytes in place of as many from the offset on, and those past the end of the image after it.
 fn patch(image: &mut Vec<u8>, offset: usize, bytes: &[u8]) -> Result<(), AllocError>
-    ensures { OnOk result (image.new.items ≡ event.patched offset bytes.now image.old.items) }
+    ensures { OnOk result (image.new.items ≡ patched offset bytes.now image.old.items) }
 {
     if offset <= image.len() && bytes.len() <= image.len() - offset {
         let end = offset + bytes.len();

@@ -1,5 +1,6 @@
 -- How each observation changes with one entry. Those with `refl` need no citation: they hold by computation where the entry is written out.
 use Rattle.std.proofs.Common.{◌≡◌, refl, ap, ℕ, suc, ◌+◌, max, Bool, true, false, not, ◌||◌, ◌==◌, if◌then◌else◌, List, [], ◌∷◌, filter, length, Option, Some, None, arith}
+use Rattle.bp_page.specs.Patched.{patched}
 use Rattle.bp_lruk.specs.Burst.Reference.{hit, fault}
 use Rattle.bp_trail.specs.declared.entries.Entry.{Entry}
 use Rattle.bp_trail.specs.declared.entries.Call.{Call}
@@ -7,17 +8,16 @@ use Rattle.bp_trail.specs.declared.entries.Call.TheVariants.{Tick, Mark, Fix, Re
 use Rattle.bp_trail.specs.declared.entries.Reply.{Reply}
 use Rattle.bp_trail.specs.declared.entries.Reply.TheVariants.{Done, Hit, Load, WriteFirst, Fixed, WriteFailed, Forgot}
 use Rattle.bp_trail.specs.Parameters.{Parameters}
-use Rattle.bp_trail.specs.Event.{Grant, grant, patched}
+use Rattle.bp_trail.specs.Event.{Grant, grant}
 use Rattle.bp_trail.specs.Trail.{Trail}
 use Rattle.bp_trail.specs.Clock.{clock, durable}
 use Rattle.bp_trail.specs.Passes.{passes, tickets, passes_out, reads_out, is_of, pins}
 use Rattle.bp_trail.specs.Places.{residents, resident, loading, writing}
 use Rattle.bp_trail.specs.Saved.{unsaved, top}
 use Rattle.bp_trail.specs.Images.{held}
-use Rattle.bp_trail.specs.Room.{free}
 use Rattle.bp_trail.specs.References.{references, forgets}
 use Rattle.bp_trail.specs.Legal.{is_out, Legal}
-use Rattle.bp_trail.proofs.Serials.{numbered, count-rest, rest}
+use Rattle.bp_trail.proofs.Serials.{numbered, count-rest}
 
 abbrev pub by : ℕ → Call → Reply → Entry
 by client call reply = record { client = client; call = call; reply = reply }
@@ -107,16 +107,3 @@ module _ (past : Trail) (who : ℕ) where
 
   pub references-purge : (c : Parameters) (n q : ℕ) → references c (by who Purge (Forgot n) ∷ past) q ≡ (if forgets c past q (references c past q) then [] else references c past q)
   references-purge c n q = refl
-
-  -- room: a load takes one entry and owes two, its end takes one and owes one, and an unfix takes what was owed
-  pub free-read-end : (c : Parameters) (t p n : ℕ) (image : List ℕ) → Legal c past → is_out (grant who p t) (reads_out past) ≡ true
-      → free c (by who (ReadEnd t p (Some image)) (Fixed n) ∷ past) ≡ free c past
-  free-read-end c t p n image l o =
-      let k : length (filter (λ g. true) (reads_out past)) ≡ suc (length (filter (λ g. true) (rest t (reads_out past)))) = count-rest (λ g. true) who p t (reads_out past) (numbered c past l).reads_once o in
-      let a = all-pass (reads_out past) in
-      let b = all-pass (rest t (reads_out past)) in
-      omega arith
-    where
-      all-pass : (gs : List Grant) → length (filter (λ g. true) gs) ≡ length gs
-      all-pass [] = refl
-      all-pass (g ∷ gs) = ap suc (all-pass gs)

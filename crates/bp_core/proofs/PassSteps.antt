@@ -2,6 +2,7 @@
 use Rattle.std.proofs.Common.{inl, ◌≡◌, ◌≢◌, ℕ, suc, ◌+◌, ◌-◌, ◌≤◌, nat_lt, max, Bool, true, false, not, if◌then◌else◌, ◌||◌, ◌==◌, List, ◌∷◌, length, filter, refl, sym, ◌∙◌, ap, subst, arith}
 use Rattle.std.proofs.lemmas.Bool.{le-leb, and_from, eqb-true, eqb-false, false_from_ne_true, true≢false}
 use Rattle.std.proofs.lemmas.Bool.Decides.{nat_tests}
+use Rattle.bp_page.specs.Patched.{patched}
 use Rattle.bp_lruk.specs.Burst.Reference.{hit}
 use Rattle.bp_lruk.specs.Histories.{Blocks, is_held, HasStampsOf, SameAt, SameSettings}
 use Rattle.bp_trail.specs.declared.entries.Call.TheVariants.{Fix, Write, Unfix}
@@ -9,7 +10,7 @@ use Rattle.bp_trail.specs.declared.entries.Reply.TheVariants.{Done, Hit}
 use Rattle.bp_frames.specs.declared.frame.Frame.{Frame}
 use Rattle.bp_trail.specs.Parameters.{Parameters}
 use Rattle.bp_trail.specs.Lists.{some, count}
-use Rattle.bp_trail.specs.Event.{Grant, grant, patched}
+use Rattle.bp_trail.specs.Event.{Grant, grant}
 use Rattle.bp_trail.specs.Trail.{Trail}
 use Rattle.bp_trail.specs.Clock.{clock}
 use Rattle.bp_trail.specs.Passes.{passes, passes_out, is_of, pins}

@@ -94,9 +94,6 @@ KnowsWrite core ticket = EachPast core (λ past. write_is_out ticket past ≡ tr
 abbrev pub LacksWrite : CoreView → WriteTicket → Type 0
 LacksWrite core ticket = EachPast core (λ past. write_is_out ticket past ≡ false)
 
-abbrev pub knows : CoreView → Pass → Bool
-knows core pass = pass_is_out pass core.past
-
 -- an entry that changes nothing but the trail
 pub data IsQuiet : Call → Reply → Type 0 where
   fix_busy : (p : ℕ) → IsQuiet (Fix p) Busy

@@ -19,5 +19,6 @@ pub use pool::PoolCore;
 /// A core that has its trail in memory, where it can be read, compared and cut.
 pub type Core = PoolCore<RecordingKeeper>;
 
-/// A core that only counts its entries. What its calls promise is proved of the same list, which stands in proofs alone.
+/// A core that only counts its entries. What its calls promise is proved of the same list, which stands in proofs
+/// alone.
 pub type SilentCore = PoolCore<SilentKeeper>;

@@ -14,7 +14,8 @@ pub struct Pass {
     pub(crate) serial: u64,
 }
 
-/// The duty to read a page from the device. Its serial number is the number of tickets of both kinds given before it, from 0.
+/// The duty to read a page from the device. Its serial number is the number of tickets of both kinds given before it,
+/// from 0.
 #[derive(Debug)]
 pub struct ReadTicket {
     pub(crate) client: u8,
@@ -53,23 +54,32 @@ impl Model for PassNote {
 /// What `fix` gave.
 #[derive(Debug)]
 pub enum Fix {
+    /// The page is in a frame: the pass of it.
     Hit(Pass),
+    /// The page is to be read by this ticket. The page that left its frame for it is named; none where a frame was
+    /// free.
     Load(ReadTicket, Option<PageNo>),
+    /// The victim is to be written out by this ticket, and then the page fixed again.
     WriteFirst(WriteTicket),
 }
 
 /// What `flush` gave.
 #[derive(Debug)]
 pub enum Flush {
+    /// The page is in a frame and not unsaved: nothing is to be written.
     Clean,
+    /// The page is in no frame: nothing is to be written.
     Absent,
+    /// The page is to be written out by this ticket.
     WriteFirst(WriteTicket),
 }
 
 /// How a write-out ended.
 #[derive(Clone, Copy, PartialEq, Eq, Debug, Drop)]
 pub enum Ended {
+    /// The page is saved.
     Cleaned,
+    /// The page was written since the write-out began, and is unsaved still.
     StillDirty,
 }
 

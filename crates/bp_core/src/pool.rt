@@ -19,8 +19,8 @@ use bp_page::{Geometry, Refusal};
 use std::alloc::Global;
 use std::marker::Model;
 
-/// A buffer pool without its device: frames, passes, tickets and the trail of all that was done, which its keeper has. Each
-/// call is one step.
+/// A buffer pool without its device: frames, passes, tickets and the trail of all that was done, which its keeper
+/// has. Each call is one step.
 #[derive(Drop)]
 pub struct PoolCore<K: Keeper> {
     alloc: Global,
@@ -41,9 +41,9 @@ impl<K: Keeper> Model for PoolCore<K> {
 }
 
 impl<K: Keeper> PoolCore<K> {
-    /// A core with empty frames, the clock at 1 and nothing durable. `BadSettings` where the frames are not 1 to 65,536,
-    /// the clients not 1 to 64 or the room not 1 to its keeper's most, which is 16,777,216 entries in memory, or a count of 2^61;
-    /// `OutOfMemory` where the lists can't be reserved.
+    /// A core with empty frames, the clock at 1 and nothing durable. `BadSettings` where the frames are not 1 to
+    /// 65,536, the clients not 1 to 64 or the room not 1 to its keeper's most, which is 16,777,216 entries in memory,
+    /// or a count of 2^61; `OutOfMemory` where the lists can't be reserved.
     pub fn new(
         alloc: Global,
         geometry: Geometry,

@@ -16,7 +16,7 @@ use Rattle.bp_trail.specs.Legal.{Legal}
 use Rattle.bp_core.specs.CoreView.{CoreView, with_entry}
 use Rattle.bp_core.specs.Outcomes.{Adds, FixOutcome}
 use Rattle.bp_trail.specs.Pieces.{by}
-use Rattle.bp_core.proofs.SecondFix.{begun, cleaned, not-dirty, cleaned-loads}
+use Rattle.bp_trail.proofs.SecondFix.{begun, cleaned, not-dirty, cleaned-loads}
 use Rattle.bp_device.specs.Drivers.{SaveOutcome}
 
 -- the trail with an added entry, which is lawful

@@ -1,6 +1,6 @@
 -- Lists of frames.
 use Rattle.std.specs.Prelude.{ℕ, ◌+◌, ◌-◌, max, Bool, true, false, not, ◌==◌, List, filter, map, Some, if◌then◌else◌}
-use Rattle.bp_trail.specs.Event.{patched}
+use Rattle.bp_page.specs.Patched.{patched}
 use Rattle.bp_frames.specs.declared.frame.Frame.{Frame}
 
 abbrev pub is_frame_of : ℕ → Frame → Bool
@@ -8,7 +8,17 @@ is_frame_of page frame = frame.page == page
 
 -- what a good read leaves, with the block of the page's references and the pass that it gives
 abbrev pub loaded_with : ℕ → ℕ → List ℕ → Frame
-loaded_with page block image = record { page = page; block = Some block; pins = 1; is_unsaved = false; is_rewritten = false; is_writing = false; top = 0; image = image }
+loaded_with page block image =
+    record {
+      page = page;
+      block = Some block;
+      pins = 1;
+      is_unsaved = false;
+      is_rewritten = false;
+      is_writing = false;
+      top = 0;
+      image = image;
+    }
 
 -- one more pass, and one fewer
 abbrev pub pinned : Frame → Frame
@@ -18,7 +28,13 @@ abbrev pub unpinned : Frame → Frame
 unpinned f = record f { pins = f.pins - 1 }
 
 abbrev pub written_on : ℕ → List ℕ → ℕ → Frame → Frame
-written_on offset bytes lsn f = record f { is_unsaved = true; is_rewritten = true; top = max lsn f.top; image = patched offset bytes f.image }
+written_on offset bytes lsn f =
+    record f {
+      is_unsaved = true;
+      is_rewritten = true;
+      top = max lsn f.top;
+      image = patched offset bytes f.image;
+    }
 
 -- a write-out begins, ends well, and fails
 abbrev pub saving : Frame → Frame

@@ -1,17 +1,24 @@
--- What a list of passes or tickets is seen as: those that are out, newest first, and which more may be given.
+-- What a list of passes or tickets is seen as: those that are out, newest first, and which more may
+-- be given.
 use Rattle.std.specs.Prelude.{◌≡◌, ℕ, ◌+◌, ◌-◌, ◌≤◌, max, List, [], ◌∷◌, length, reverse, if◌then◌else◌}
 use Rattle.bp_frames.specs.declared.grant_list.Slot.{Slot}
 use Rattle.bp_frames.specs.Rising.{IsRisingBy}
 use Rattle.bp_trail.specs.Event.{Grant, grant}
 
--- the passes or tickets that are out, how many more may be given with no memory taken, and from which serial number on
+-- the passes or tickets that are out, how many more may be given with no memory taken, and from
+-- which serial number on
 pub record Given : Type 0 where
   pub out : List Grant
   pub room : ℕ
   pub next : ℕ
 
 abbrev pub with_grant : Given → ℕ → ℕ → ℕ → Given
-with_grant given client page serial = record given { out = grant client page serial ∷ given.out; room = given.room - 1; next = serial + 1 }
+with_grant given client page serial =
+    record given {
+      out = grant client page serial ∷ given.out;
+      room = given.room - 1;
+      next = serial + 1;
+    }
 
 -- what the one may give, the other may give
 pub record GivesAsMuch (one other : Given) : Type 0 where
@@ -34,4 +41,5 @@ given_by slots room = record { out = reverse (grants_out slots); room = room; ne
 
 -- slots in the order of their numbers, so many of which have a grant that is out
 abbrev pub AreInOrder : List Slot → ℕ → Type 0
-AreInOrder slots count = IsRisingBy (λ (s : Slot). s.grant.serial) slots × (count ≡ length (grants_out slots))
+AreInOrder slots count =
+    IsRisingBy (λ (s : Slot). s.grant.serial) slots × (count ≡ length (grants_out slots))

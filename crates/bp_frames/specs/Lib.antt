@@ -1,5 +1,7 @@
--- What a table of frames and a list of grants are seen as, and what changes of them leave.
+-- What is promised: what a table of frames and a list of grants are seen as, and what changes of
+-- them leave.
 pub mod Frames
-pub mod Rising
 pub mod GrantLists
 pub mod Tables
+-- What a body keeps: numbers that rise along a list.
+pub mod Rising

@@ -2,7 +2,9 @@
 use Rattle.std.specs.Prelude.{◌≡◌, ◌≢◌, ℕ, ◌<◌, ◌≤◌, List, length, slice_index_or, Option, Some, None}
 
 abbrev pub IsRisingBy : {X : Type 0} → (X → ℕ) → List X → Type 0
-IsRisingBy {X} key xs = (i j : ℕ) (d : X) → i < j → j < length xs → key (slice_index_or xs i d) < key (slice_index_or xs j d)
+IsRisingBy {X} key xs =
+    (i j : ℕ) (d : X) → i < j → j < length xs
+    → key (slice_index_or xs i d) < key (slice_index_or xs j d)
 
 -- where an element with this number stands or would stand: after those with a lower one
 pub record IsPlaceFor {X : Type 0} (key : X → ℕ) (xs : List X) (n at : ℕ) : Type 0 where

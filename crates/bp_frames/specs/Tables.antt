@@ -1,11 +1,13 @@
--- The frames of a core: each serves one page after another, and is found through a list that has an entry for each page of the file.
+-- The frames of a core: each serves one page after another, and is found through a list that has an
+-- entry for each page of the file.
 use Rattle.std.specs.Prelude.{◌≡◌, ◌≢◌, ℕ, zero, suc, ◌+◌, ◌<◌, ◌≤◌, All, List, [], ◌∷◌, map, length, slice_index, slice_index_or, false, Option, Some, None}
 use Rattle.bp_lruk.specs.Candidates.{Candidate, Entered}
 use Rattle.bp_frames.specs.declared.frame.Frame.{Frame}
 use Rattle.bp_frames.specs.Frames.{changed_at}
 use Rattle.bp_frames.specs.Rising.{IsRisingBy}
 
--- the frames of pages, in the order of page numbers; how many wait for a page; the bytes of an image; how many frames there may be;
+-- the frames of pages, in the order of page numbers; how many wait for a page; the bytes of an
+-- image; how many frames there may be;
 -- how many pages the file has; and the candidates for replacement
 pub record Table : Type 0 where
   pub frames : List Frame
@@ -20,11 +22,13 @@ pub record Place : Type 0 where
   pub page : ℕ
   pub slot : ℕ
 
--- the places that such a list has, from a page on: 0 for a page with no frame, else one more than the slot
+-- the places that such a list has, from a page on: 0 for a page with no frame, else one more than
+-- the slot
 abbrev pub places_from : ℕ → List ℕ → List Place
 places_from page [] = []
 places_from page (zero ∷ slots) = places_from (suc page) slots
-places_from page (suc slot ∷ slots) = record { page = page; slot = slot } ∷ places_from (suc page) slots
+places_from page (suc slot ∷ slots) =
+    record { page = page; slot = slot } ∷ places_from (suc page) slots
 
 -- the slot of a page's frame, if it has one
 abbrev pub IsSlotOf : List ℕ → ℕ → Option ℕ → Type 0
@@ -36,7 +40,17 @@ abbrev pub with_changed : Table → ℕ → (Frame → Frame) → Table
 with_changed table page change = record table { frames = changed_at page change table.frames }
 
 abbrev pub no_frame : Frame
-no_frame = record { page = 0; block = None; pins = 0; is_unsaved = false; is_rewritten = false; is_writing = false; top = 0; image = [] }
+no_frame =
+    record {
+      page = 0;
+      block = None;
+      pins = 0;
+      is_unsaved = false;
+      is_rewritten = false;
+      is_writing = false;
+      top = 0;
+      image = [];
+    }
 
 abbrev pub frame_at : List Frame → Place → Frame
 frame_at slots place = slice_index_or slots place.slot no_frame
@@ -45,16 +59,29 @@ abbrev pub frames_of : List Frame → List Place → List Frame
 frames_of slots places = map (frame_at slots) places
 
 abbrev pub table_of : ℕ → ℕ → List Frame → List Place → List ℕ → ℕ → Entered → Table
-table_of size limit slots places spare pages candidates = record { frames = frames_of slots places; spare = length spare; size = size; limit = limit; pages = pages; candidates = candidates }
+table_of size limit slots places spare pages candidates =
+    record {
+      frames = frames_of slots places;
+      spare = length spare;
+      size = size;
+      limit = limit;
+      pages = pages;
+      candidates = candidates;
+    }
 
 -- each slot has one page or waits for one, and each place is where its page's frame is
-pub record IsTable (size limit : ℕ) (slots : List Frame) (places : List Place) (spare : List ℕ) : Type 0 where
+pub record IsTable (size limit : ℕ) (slots : List Frame) (places : List Place)
+    (spare : List ℕ) : Type 0 where
   pub rising : IsRisingBy (λ (p : Place). p.page) places
-  pub within : (k : ℕ) (d : Place) → k < length places → (slice_index_or places k d).slot < length slots
-  pub points : (k : ℕ) (d : Place) → k < length places → (frame_at slots (slice_index_or places k d)).page ≡ (slice_index_or places k d).page
+  pub within : (k : ℕ) (d : Place) → k < length places
+      → (slice_index_or places k d).slot < length slots
+  pub points : (k : ℕ) (d : Place) → k < length places
+      → (frame_at slots (slice_index_or places k d)).page ≡ (slice_index_or places k d).page
   pub spare_within : (j d : ℕ) → j < length spare → slice_index_or spare j d < length slots
-  pub spare_once : (i j d : ℕ) → i < j → j < length spare → slice_index_or spare i d ≢ slice_index_or spare j d
-  pub apart : (k j : ℕ) (d : Place) (e : ℕ) → k < length places → j < length spare → (slice_index_or places k d).slot ≢ slice_index_or spare j e
+  pub spare_once : (i j d : ℕ) → i < j → j < length spare
+      → slice_index_or spare i d ≢ slice_index_or spare j d
+  pub apart : (k j : ℕ) (d : Place) (e : ℕ) → k < length places → j < length spare
+      → (slice_index_or places k d).slot ≢ slice_index_or spare j e
   pub sized : All (λ (f : Frame). length f.image ≡ size) slots
   pub whole : length slots ≡ length places + length spare
   pub few : length slots ≤ limit
@@ -65,6 +92,8 @@ pub record HasTableRoom (limit slots_capacity spare_capacity : ℕ) : Type 0 whe
   pub for_spare : limit ≤ spare_capacity
 
 -- each slot has a seat, where its page alone may stand
-pub record IsSeating (limit : ℕ) (whereabouts : List ℕ) (seats : List (Option Candidate)) : Type 0 where
+pub record IsSeating (limit : ℕ) (whereabouts : List ℕ)
+    (seats : List (Option Candidate)) : Type 0 where
   pub seats_is : length seats ≡ limit
-  pub own : (seat : ℕ) (e : Candidate) → slice_index_or seats seat None ≡ Some e → slice_index whereabouts e.2 ≡ seat + 1
+  pub own : (seat : ℕ) (e : Candidate) → slice_index_or seats seat None ≡ Some e
+      → slice_index whereabouts e.2 ≡ seat + 1

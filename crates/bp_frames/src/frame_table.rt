@@ -35,9 +35,12 @@ impl Model for FrameTable {
 
     ghost Value = { Table };
 
-    ghost view = { λ t. table_of t.geometry.size t.limit t.slots.items (places_from 0 t.places.items) t.spare.items (length t.places.items) (entered t.candidates) };
+    ghost view = { λ t. table_of t.geometry.size t.limit t.slots.items
+        (places_from 0 t.places.items) t.spare.items (length t.places.items)
+        (entered t.candidates) };
 
-    ghost invariant = { λ t. IsTable t.geometry.size t.limit t.slots.items (places_from 0 t.places.items) t.spare.items
+    ghost invariant = { λ t. IsTable t.geometry.size t.limit t.slots.items
+        (places_from 0 t.places.items) t.spare.items
         × HasTableRoom t.limit (vec_capacity t.slots) (vec_capacity t.spare)
         × IsSeating t.limit t.places.items t.candidates.seats };
 }

@@ -20,9 +20,10 @@ struct Slot {
 
 /// The passes or tickets of a kind that are out, in the order of their serial numbers.
 ///
-/// `has` and `take_back` take O(log n) for n slots, `len` and `give` O(1). None of them moves a grant or takes memory:
-/// a grant that is taken back leaves its slot, which keeps the order. A slot that was left goes once it is the oldest or
-/// the newest, at most two of each at a call; so a list that is taken back from its ends alone has no such slots.
+/// `has` and `take_back` take O(log n) for n slots, `len` and `give` O(1). None of them moves a grant or takes
+/// memory: a grant that is taken back leaves its slot, which keeps the order. A slot that was left goes once it is
+/// the oldest or the newest, at most two of each at a call; so a list that is taken back from its ends alone has no
+/// such slots.
 ///
 /// `reserve` alone may move grants, and takes O(1) on average. Where room is wanted it first closes the slots that were
 /// left, if they are half of all or more; where that is not enough, the list grows to at least twice its size.

@@ -1,4 +1,5 @@
--- What a keeper of a trail is seen as: its entries, newest first, and how many there may be with no memory taken.
+-- What a keeper of a trail is seen as: its entries, newest first, and how many there may be with no
+-- memory taken.
 use Rattle.std.specs.Prelude.{◌≡◌, ℕ, suc, Bool, true, List, [], ◌∷◌, Some}
 use Rattle.bp_trail.specs.declared.entries.Grant.{Grant}
 use Rattle.bp_trail.specs.declared.entries.Call.{Call}
@@ -7,7 +8,8 @@ use Rattle.bp_trail.specs.declared.entries.Reply.{Reply}
 use Rattle.bp_trail.specs.declared.entries.Reply.TheVariants.{WriteFirst}
 use Rattle.bp_trail.specs.Trail.{Trail}
 
--- the entries so far, with those that cuts have handed out; how many are kept; and whether the kept ones open where no entries lead
+-- the entries so far, with those that cuts have handed out; how many are kept; and whether the kept
+-- ones open where no entries lead
 pub record Kept : Type 0 where
   pub before : Trail
   pub past : Trail
@@ -16,7 +18,11 @@ pub record Kept : Type 0 where
   pub fresh : Bool
 
 abbrev pub with_next : Kept → ℕ → Call → Reply → Kept
-with_next kept client call reply = record kept { past = record { client = client; call = call; reply = reply } ∷ kept.past; len = suc kept.len }
+with_next kept client call reply =
+    record kept {
+      past = record { client = client; call = call; reply = reply } ∷ kept.past;
+      len = suc kept.len;
+    }
 
 -- the same entries, with room for so many
 abbrev pub with_capacity : Kept → ℕ → Kept
@@ -25,7 +31,8 @@ with_capacity kept capacity = record kept { capacity = capacity }
 abbrev pub IsEmpty : Kept → Type 0
 IsEmpty kept = (kept.before ≡ []) × (kept.past ≡ []) × (kept.len ≡ 0) × (kept.fresh ≡ true)
 
--- a read and a write by a pass, the end of a read that went well, and the reply that gives a ticket to write out
+-- a read and a write by a pass, the end of a read that went well, and the reply that gives a ticket
+-- to write out
 abbrev pub read_by : Grant → Call
 read_by pass = Read pass.serial pass.page
 

@@ -1,16 +1,17 @@
-//! A trail that stands in proofs alone, and an image. Each of the five functions that make ghost data stands in this file,
-//! to be read by eye.
+//! A trail that stands in proofs alone, and an image. Each of the five functions that make ghost data stands in this
+//! file, to be read by eye.
 //!
-//! A `GhostTrail` and a `GhostImage` have no bytes, and their functions do nothing when they run. Their proofs, by hand,
-//! pick the list that the clause names, and no memory of the program ties it down. So a reviewer has to see that the
-//! clause of each says what its name says: no entries; these entries after them; this entry after them, with its bytes
-//! or with borrowed ones; the bytes of this image.
+//! A `GhostTrail` and a `GhostImage` have no bytes, and their functions do nothing when they run. Their proofs, by
+//! hand, pick the list that the clause names, and no memory of the program ties it down. So a reviewer has to see
+//! that the clause of each says what its name says: no entries; these entries after them; this entry after them, with
+//! its bytes or with borrowed ones; the bytes of this image.
 //!
 //! What is proved over such a list is not vacuous. The outcome of each call of a core says which entry the list gets:
-//! the call and its arguments, with the very answer that the caller was given. The list stays legal, and in a legal list
-//! each answer is the one that the entries before it give. So the list binds the answers, which are real, whether some
-//! memory has it or not. A keeper that left an entry out, or added one too many, would break the contract of [`Keeper`],
-//! as the edits in `must-fail` show. And the proof is one for every keeper, also for the one that has all in memory.
+//! the call and its arguments, with the very answer that the caller was given. The list stays legal, and in a legal
+//! list each answer is the one that the entries before it give. So the list binds the answers, which are real,
+//! whether some memory has it or not. A keeper that left an entry out, or added one too many, would break the
+//! contract of [`Keeper`], as the edits in `must-fail` show. And the proof is one for every keeper, also for the one
+//! that has all in memory.
 //!
 //! [`Keeper`]: crate::Keeper
 ghost use Rattle.std.specs.Prelude.{◌≡◌, ℕ, List, [], ◌∷◌, ◌++◌, reverse};

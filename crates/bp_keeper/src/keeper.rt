@@ -8,7 +8,8 @@ use std::alloc::{AllocError, Global};
 
 /// Keeps the entries of a trail, in memory or for the proofs alone.
 ///
-/// What an entry needs beside what its caller has is taken beforehand, as a *spare*. So to add an entry takes no memory.
+/// What an entry needs beside what its caller has is taken beforehand, as a *spare*. So to add an entry takes no
+/// memory.
 pub trait Keeper: Drop {
     ghost use Rattle.bp_keeper.specs.Kept.{Kept, IsEmpty, with_next, read_by, write_by, write_first};
 

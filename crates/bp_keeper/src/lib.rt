@@ -1,8 +1,8 @@
 //! Who keeps the entries of a core's trail, and those of a client's own list: in memory, or for the proofs alone.
 //!
-//! A core is generic over its [`Keeper`], and a client's list over its [`ListKeeper`]. [`RecordingKeeper`] has the entries
-//! in memory, and can hand them out. [`SilentKeeper`] counts them, and has no bytes of them; what is promised of its core
-//! or list is proved of the same entries, which stand in ghost data.
+//! A core is generic over its [`Keeper`], and a client's list over its [`ListKeeper`]. [`RecordingKeeper`] has the
+//! entries in memory, and can hand them out. [`SilentKeeper`] counts them, and has no bytes of them; what is promised
+//! of its core or list is proved of the same entries, which stand in ghost data.
 #![tactic(auto)]
 
 pub mod ghost_trail;

@@ -7,7 +7,8 @@ use bp_page::{Geometry, Image};
 use bp_trail::Grant;
 use std::alloc::{AllocError, Global};
 
-/// Keeps the entries of a client's own list. Its room grows, and the spare for an image is taken before the image is known.
+/// Keeps the entries of a client's own list. Its room grows, and the spare for an image is taken before the image is
+/// known.
 pub trait ListKeeper: Keeper {
     ghost use Rattle.bp_keeper.specs.Kept.{Kept, IsEmpty, with_next, with_capacity, read_end};
 

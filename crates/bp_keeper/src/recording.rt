@@ -25,7 +25,13 @@ impl Model for RecordingKeeper {
 
     ghost Value = { Kept };
 
-    ghost view = { λ t. record { before = t.before.past; past = reverse t.entries.items ++ t.before.past; len = length t.entries.items; capacity = vec_capacity t.entries; fresh = t.is_fresh } };
+    ghost view = { λ t. record {
+      before = t.before.past;
+      past = reverse t.entries.items ++ t.before.past;
+      len = length t.entries.items;
+      capacity = vec_capacity t.entries;
+      fresh = t.is_fresh;
+    } };
 }
 
 impl Keeper for RecordingKeeper {
@@ -184,8 +190,8 @@ impl RecordingKeeper {
         self.is_fresh
     }
 
-    /// Hands out all of them, the oldest first, and begins anew in the spare's memory, which is taken to so much room. What
-    /// the spare has is dropped.
+    /// Hands out all of them, the oldest first, and begins anew in the spare's memory, which is taken to so much
+    /// room. What the spare has is dropped.
     pub fn cut(
         &mut self,
         spare: Vec<Entry>,

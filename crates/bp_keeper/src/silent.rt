@@ -24,7 +24,13 @@ impl Model for SilentKeeper {
 
     ghost invariant = { λ t. t.room < 2 ^ 64 };
 
-    ghost view = { λ t. record { before = []; past = t.trail.past; len = t.count; capacity = t.room; fresh = true } };
+    ghost view = { λ t. record {
+      before = [];
+      past = t.trail.past;
+      len = t.count;
+      capacity = t.room;
+      fresh = true;
+    } };
 }
 
 impl Keeper for SilentKeeper {

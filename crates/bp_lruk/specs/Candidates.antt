@@ -34,7 +34,8 @@ is_entered c page = is_some (entry_of c page)
 
 -- the triple of an entered page
 abbrev pub candidate_of : Entered → ℕ → Candidate
-candidate_of c page = let entry : ℕ × ℕ = unwrap_or (entry_of c page) (0, 0) in (entry.0, entry.1, page)
+candidate_of c page =
+    let entry : ℕ × ℕ = unwrap_or (entry_of c page) (0, 0) in (entry.0, entry.1, page)
 
 -- entered, and last referenced more than the correlated period before t
 abbrev pub is_eligible : Entered → ℕ → ℕ → Bool
@@ -43,7 +44,8 @@ is_eligible c t page = option_map_or (λ e. nat_lt c.correlated (t - e.1)) (entr
 -- the eligible page that comes before every other one
 pub record IsVictim (c : Entered) (t page : ℕ) : Type 0 where
   pub eligible : IsTrue (is_eligible c t page)
-  pub first : (q : ℕ) → IsTrue (is_eligible c t q) → q ≢ page → IsTrue (is_before (candidate_of c page) (candidate_of c q))
+  pub first : (q : ℕ) → IsTrue (is_eligible c t q) → q ≢ page
+      → IsTrue (is_before (candidate_of c page) (candidate_of c q))
 
 -- no page stands twice in a list
 abbrev pub NoPageTwice : List Candidate → Type 0

@@ -1,7 +1,8 @@
 -- The backward K-distance, by which LRU-K chooses.
 use Rattle.std.specs.Prelude.{ℕ, ◌-◌, ◌==◌, nat_lt, Bool, true, false, Option, Some, None, if◌then◌else◌}
 
--- how far back from t the K-th newest reference is, by its stamp; none, so farther than any, where there are fewer
+-- how far back from t the K-th newest reference is, by its stamp; none, so farther than any, where
+-- there are fewer
 abbrev pub backward_distance : ℕ → ℕ → Option ℕ
 backward_distance t stamp = if stamp == 0 then None else Some (t - stamp)
 

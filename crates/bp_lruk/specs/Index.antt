@@ -12,7 +12,8 @@ IsInOrder es = AllPairs (λ a b. IsTrue (is_before a b)) es
 pub record IsPlaceFor (es : List Candidate) (x : Candidate) (at : ℕ) : Type 0 where
   pub in_range : at ≤ length es
   pub before : (k : ℕ) (d : Candidate) → k < at → IsTrue (is_before (slice_index_or es k d) x)
-  pub not_before : (k : ℕ) (d : Candidate) → at ≤ k → k < length es → is_before (slice_index_or es k d) x ≡ false
+  pub not_before : (k : ℕ) (d : Candidate) → at ≤ k → k < length es
+      → is_before (slice_index_or es k d) x ≡ false
 
 -- ---- by page numbers
 
@@ -30,7 +31,8 @@ entered_in es = filter_map (λ e. option_map (λ p. (p.0, p.1, e.page)) e.entere
 pub record IsGapFor (es : List PageEntry) (page at : ℕ) : Type 0 where
   pub in_range : at ≤ length es
   pub lower : (k : ℕ) (d : PageEntry) → k < at → (slice_index_or es k d).page < page
-  pub higher : (k : ℕ) (d : PageEntry) → at ≤ k → k < length es → page < (slice_index_or es k d).page
+  pub higher : (k : ℕ) (d : PageEntry) → at ≤ k → k < length es
+      → page < (slice_index_or es k d).page
 
 -- what a list by page numbers shows: the candidates in it, and how many there may be
 pub record Listed : Type 0 where

@@ -22,8 +22,10 @@ pub record IsSound (k : ℕ) (b : Block) : Type 0 where
 
 -- each page with a number has a sound block in that slot, and no other page has that number
 pub record IsKept (k : ℕ) (slots : List (Option Block)) (places : List (ℕ × ℕ)) : Type 0 where
-  pub sound : (page at : ℕ) → lookup (nat_eq page) places ≡ Some at → IsSomeAnd (slot slots at) (IsSound k)
-  pub apart : (p q at : ℕ) → lookup (nat_eq p) places ≡ Some at → lookup (nat_eq q) places ≡ Some at → p ≡ q
+  pub sound : (page at : ℕ) → lookup (nat_eq page) places ≡ Some at
+      → IsSomeAnd (slot slots at) (IsSound k)
+  pub apart : (p q at : ℕ) → lookup (nat_eq p) places ≡ Some at → lookup (nat_eq q) places ≡ Some at
+      → p ≡ q
 
 -- ---- the queue of the pages that are not held
 
@@ -31,9 +33,12 @@ abbrev pub waits_in : Option Block → Bool
 waits_in None = false
 waits_in (Some b) = b.waits
 
--- a page that is marked so waits since its newest reference or an earlier one, and each block has room in the queue
-pub record IsQueued (slots : List (Option Block)) (places : List (ℕ × ℕ)) (queue : Waiting) : Type 0 where
-  pub waiting : (page at : ℕ) (b : Block) → lookup (nat_eq page) places ≡ Some at → slot slots at ≡ Some b → b.waits ≡ true
+-- a page that is marked so waits since its newest reference or an earlier one, and each block has
+-- room in the queue
+pub record IsQueued (slots : List (Option Block)) (places : List (ℕ × ℕ))
+    (queue : Waiting) : Type 0 where
+  pub waiting : (page at : ℕ) (b : Block) → lookup (nat_eq page) places ≡ Some at
+      → slot slots at ≡ Some b → b.waits ≡ true
       → IsWaiting queue.pages page b.last
   pub few : length queue.pages ≤ count_by waits_in slots
   pub room : count_by is_some slots ≤ queue.room

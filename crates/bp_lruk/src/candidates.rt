@@ -31,9 +31,15 @@ impl Model for Candidates {
 
     ghost Value = { Entered };
 
-    ghost view = { λ c. record { frames = c.frames; correlated = c.correlated; entries = c.order.items } };
+    ghost view = { λ c. record {
+      frames = c.frames;
+      correlated = c.correlated;
+      entries = c.order.items;
+    } };
 
-    ghost invariant = { λ c. IsInOrder c.order.items × NoPageTwice c.order.items × AreAlike c.order.items c.pages.entries × (c.pages.frames ≡ c.frames) × (vec_len c.order ≤ c.frames) × (c.frames ≤ vec_capacity c.order) };
+    ghost invariant = { λ c. IsInOrder c.order.items × NoPageTwice c.order.items ×
+        AreAlike c.order.items c.pages.entries × (c.pages.frames ≡ c.frames) ×
+        (vec_len c.order ≤ c.frames) × (c.frames ≤ vec_capacity c.order) };
 }
 
 impl Candidates {

@@ -46,19 +46,20 @@ impl BlockNo {
     }
 }
 
-/// What LRU-K knows of each page (figure 2.1 of "The LRU-K Page Replacement Algorithm", SIGMOD 1993): the stamps HIST(1)
-/// to HIST(K), newest first, with correlated references discounted, and LAST, the time of its newest reference of any
-/// kind. A stamp of 0 is absent. A page has a block while it is held or has a reference, and a purge forgets pages that
-/// are not held.
+/// What LRU-K knows of each page (figure 2.1 of "The LRU-K Page Replacement Algorithm", SIGMOD 1993): the stamps
+/// HIST(1) to HIST(K), newest first, with correlated references discounted, and LAST, the time of its newest
+/// reference of any kind. A stamp of 0 is absent. A page has a block while it is held or has a reference, and a purge
+/// forgets pages that are not held.
 ///
 /// Times are counted from 1 and never fall. The blocks, of 152 bytes, stand in numbered slots, and a hash map has the
-/// number of each page's block. A call by a page looks its number up; one by a block's number, whose name ends in `_at`,
-/// looks nothing up, and takes the page to be the one whose block it is. Both take a time that does not grow with the
-/// number of pages.
+/// number of each page's block. A call by a page looks its number up; one by a block's number, whose name ends in
+/// `_at`, looks nothing up, and takes the page to be the one whose block it is. Both take a time that does not grow
+/// with the number of pages.
 ///
 /// A page that is let go waits in a queue, by the time of its newest reference. A purge takes out those whose time is
-/// past the retained period: it forgets them, but for those that were held or referenced since they were let go, each of
-/// which it meets once for that. So it costs what it forgets, and no more than a few steps a page, whatever else is kept.
+/// past the retained period: it forgets them, but for those that were held or referenced since they were let go, each
+/// of which it meets once for that. So it costs what it forgets, and no more than a few steps a page, whatever else
+/// is kept.
 ///
 /// A `prepare` that finds the slots, the map's table or the queue full doubles them. Only it takes memory.
 #[derive(Drop)]
@@ -77,9 +78,16 @@ impl Model for Histories {
 
     ghost use Rattle.bp_lruk.specs.Kept.{blocks_in, IsKept, IsQueued};
 
-    ghost view = { λ h. record { k = h.settings.k; correlated = h.settings.correlated; retained = h.settings.retained; entries = blocks_in h.blocks.slots h.places.entries; places = h.places.entries } };
+    ghost view = { λ h. record {
+      k = h.settings.k;
+      correlated = h.settings.correlated;
+      retained = h.settings.retained;
+      entries = blocks_in h.blocks.slots h.places.entries;
+      places = h.places.entries;
+    } };
 
-    ghost invariant = { λ h. IsKept h.settings.k h.blocks.slots h.places.entries × IsQueued h.blocks.slots h.places.entries h.waiting };
+    ghost invariant = { λ h. IsKept h.settings.k h.blocks.slots h.places.entries ×
+        IsQueued h.blocks.slots h.places.entries h.waiting };
 }
 
 // Moves each stamp one place on, adds the width to those that are there, and puts t in front.
@@ -234,8 +242,8 @@ impl Histories {
         Ok(block)
     }
 
-    /// Lets a page go that is held: its read failed, or it leaves its frame. Its stamps stay, and a block without stamps
-    /// vanishes.
+    /// Lets a page go that is held: its read failed, or it leaves its frame. Its stamps stay, and a block without
+    /// stamps vanishes.
     pub fn unprepare(&mut self, page: PageNo)
         requires { is_held self.old page ≡ true }
         ensures held { is_held self.new page ≡ false }
@@ -330,8 +338,8 @@ impl Histories {
         kept.last = t;
     }
 
-    /// Forgets each page that is not held and was last referenced more than the retained period before the time `t`, and
-    /// counts them.
+    /// Forgets each page that is not held and was last referenced more than the retained period before the time `t`,
+    /// and counts them.
     pub fn purge(&mut self, t: u64) -> u64
         requires { IsNow self.old t }
         ensures forgotten { (page : ℕ) → IsTrue (forgets self.old t page) →

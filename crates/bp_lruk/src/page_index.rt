@@ -34,7 +34,8 @@ impl Model for PageIndex {
 
     ghost view = { λ p. record { frames = p.frames; entries = entered_in p.entries.items } };
 
-    ghost invariant = { λ p. IsByPage p.entries.items × (p.frames ≤ p.room) × (vec_len p.entries ≤ p.room) × (p.room ≤ vec_capacity p.entries) };
+    ghost invariant = { λ p. IsByPage p.entries.items × (p.frames ≤ p.room) ×
+        (vec_len p.entries ≤ p.room) × (p.room ≤ vec_capacity p.entries) };
 }
 
 impl PageIndex {

@@ -7,8 +7,8 @@ use std::cmp::Reverse;
 use std::collections::BinaryHeap;
 use std::marker::Model;
 
-/// Pages with times, of which the one of the least time is taken out first. A page may wait more than once. Putting one in or
-/// taking one out moves no more than one page a level of a binary tree, and only `reserve` takes memory.
+/// Pages with times, of which the one of the least time is taken out first. A page may wait more than once. Putting
+/// one in or taking one out moves no more than one page a level of a binary tree, and only `reserve` takes memory.
 #[derive(Drop)]
 pub(crate) struct Queue {
     pages: BinaryHeap<Reverse<(u64, u64)>>,
@@ -23,7 +23,10 @@ impl Model for Queue {
     ghost use Rattle.std.specs.BinaryHeap.{heap_items, heap_len, heap_capacity};
     ghost use Rattle.bp_lruk.specs.Queue.{IsInOrder};
 
-    ghost view = { λ q. record { pages = map (λ e. e.0) (heap_items q.pages); room = heap_capacity q.pages } };
+    ghost view = { λ q. record {
+      pages = map (λ e. e.0) (heap_items q.pages);
+      room = heap_capacity q.pages;
+    } };
 
     ghost invariant = { λ q. IsInOrder (heap_items q.pages) (heap_len q.pages) };
 }

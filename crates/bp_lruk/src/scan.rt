@@ -26,9 +26,14 @@ impl Model for Candidates {
 
     ghost Value = { Entered };
 
-    ghost view = { λ c. record { frames = c.frames; correlated = c.correlated; entries = c.entries.items } };
+    ghost view = { λ c. record {
+      frames = c.frames;
+      correlated = c.correlated;
+      entries = c.entries.items;
+    } };
 
-    ghost invariant = { λ c. NoPageTwice c.entries.items × (vec_len c.entries ≤ c.frames) × (c.frames ≤ vec_capacity c.entries) };
+    ghost invariant = { λ c. NoPageTwice c.entries.items × (vec_len c.entries ≤ c.frames) ×
+        (c.frames ≤ vec_capacity c.entries) };
 }
 
 impl Candidates {

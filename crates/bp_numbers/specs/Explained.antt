@@ -8,7 +8,7 @@ explanations =
     ∷ (3, codes "the page file is no positive number of whole pages, or has too many")
     ∷ (11, codes "no page may leave its frame")
     ∷ (12, codes "the log must first be durable as far as the page was changed")
-    ∷ (13, codes "another client's device operation on the page is under way")
+    ∷ (13, codes "a device operation on the page is under way")
     ∷ (14, codes "no such pass is out")
     ∷ (16, codes "no such ticket is out")
     ∷ (17, codes "the page could not be read")

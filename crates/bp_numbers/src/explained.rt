@@ -14,7 +14,7 @@ pub fn explanation_of(number: u64) -> Option<&'static str>
         3 => Some("the page file is no positive number of whole pages, or has too many"),
         11 => Some("no page may leave its frame"),
         12 => Some("the log must first be durable as far as the page was changed"),
-        13 => Some("another client's device operation on the page is under way"),
+        13 => Some("a device operation on the page is under way"),
         14 => Some("no such pass is out"),
         16 => Some("no such ticket is out"),
         17 => Some("the page could not be read"),

@@ -17,7 +17,9 @@ pub const MAX_PAGE_SIZE: usize = 65536;
 /// How many pages a file has, and the bytes of each.
 #[derive(Clone, Copy, Debug)]
 pub struct Geometry {
+    /// How many pages, 1 to 1,048,576.
     pub pages: u64,
+    /// The bytes of each page, 16 to 65,536 and a multiple of 16.
     pub size: usize,
     pub ghost in_limits: { IsGeometry pages size },
 }

@@ -8,52 +8,76 @@ use thiserror::Error;
 /// Why a call of this workspace was refused. What holds afterwards, the call itself says.
 #[derive(Clone, Copy, PartialEq, Eq, Debug, Error)]
 pub enum Refusal {
+    /// The file has no page or more than 1,048,576, or the bytes of a page are no multiple of 16 from 16 to 65,536.
     #[error("the number of pages or the page size is out of its limits")]
     BadGeometry,
+    /// K, a period, the frames, the clients or the room of the trail are out of their limits.
     #[error("a setting of the pool is out of its limits")]
     BadSettings,
+    /// The bytes of a page file are no whole number of pages from 1 to 1,048,576.
     #[error("the page file is no positive number of whole pages, or has too many")]
     BadLength,
+    /// Each page in a frame is pinned, is being written out, or was referenced within the correlated period.
     #[error("no page may leave its frame")]
     NoVictim,
+    /// The page has a change whose log record, this LSN, lies beyond the durable mark.
     #[error("the log must first be durable up to {0}")]
     NeedLog(Lsn),
-    #[error("another client's device operation on the page is under way")]
+    /// A read or a write-out of the page is out, whosever it is: one's own counts too.
+    #[error("a device operation on the page is under way")]
     Busy,
+    /// The core did not give this pass, or has taken it back.
     #[error("no such pass is out")]
     UnknownPass,
+    /// The core did not give this ticket, or its operation has ended.
     #[error("no such ticket is out")]
     UnknownTicket,
+    /// The device failed at the read; the page is in no frame.
     #[error("the page could not be read")]
     ReadFailed,
+    /// The device failed at the write; the page is in its frame, and not saved.
     #[error("the page could not be written")]
     WriteFailed,
+    /// The read found the number of another page; the page is in no frame.
     #[error("the page's place in its file has another page")]
     WrongPage,
+    /// The entries left until the next cut do not suffice for the call and what it would owe.
     #[error("the trail has no room for the call")]
     TrailFull,
+    /// The clock would stand above 2^62, the greatest time.
     #[error("the clock would pass its end")]
     ClockFull,
+    /// The memory that the call needs could not be had.
     #[error("out of memory")]
     OutOfMemory,
+    /// Each of the 32 places of the session's ring has a pass that the pool has not taken yet.
     #[error("the ring of passes to give back is full")]
     RingFull,
+    /// After a run a client's list is not its part of the trail, or its log was ahead of its rows.
     #[error("the clients' lists and the trail do not agree")]
     Disagree,
+    /// The record has not six fields, or one that its operation has no use for is not empty.
     #[error("a record does not have the fields of its operation")]
     BadShape,
+    /// The client is no number from 0 to 63, or has no place in this run.
     #[error("no client has this number here")]
     BadClient,
+    /// The word of the operation is none of the eight.
     #[error("no operation has this name")]
     BadOp,
+    /// A page, offset, LSN or number of ticks is no decimal number within its limits.
     #[error("a field is not a number within the limits")]
     BadNumber,
+    /// The digits of the bytes are odd in number, or one of them is none of 0 to 9, a to f, A to F.
     #[error("the bytes are not pairs of hexadecimal digits")]
     BadHex,
+    /// The file has no such page, or the last byte would stand past the end of the page.
     #[error("the page is not of the file, or the bytes are not within the page")]
     OutOfPage,
+    /// The trace has more than 262,144 rows or 67,108,864 bytes.
     #[error("the trace is too long")]
     TooLong,
+    /// The file of the trace could not be opened, or a read of it failed.
     #[error("the trace could not be read")]
     ReadFault,
 }
@@ -106,10 +130,13 @@ impl Refusal {
 /// Why a device operation failed.
 #[derive(Clone, Copy, PartialEq, Eq, Debug, Error)]
 pub enum PortFault {
+    /// The device failed: what it did, it does not say.
     #[error("the device failed")]
     Device,
+    /// The memory of a page's bytes could not be had; the device itself did not fail.
     #[error("out of memory")]
     Memory,
+    /// Where the page's bytes should stand, the file has the number of another page.
     #[error("the page's place in its file has another page")]
     WrongPage,
 }

@@ -66,8 +66,8 @@ fn header_of(page: PageNo, lsn: Lsn) -> [u8; HEADER]
     header
 }
 
-/// The bytes of a page's image in a page file of version 2, after the page's number and its page LSN. `OutOfMemory` where they can't be
-/// had.
+/// The bytes of a page's image in a page file of version 2, after the page's number and its page LSN. `OutOfMemory`
+/// where they can't be had.
 #[tactic(auto, unfolding(crate::specs::Slots::headed_slot))]
 pub fn slot2(alloc: Global, page: PageNo, lsn: Lsn, image: &Image) -> Result<Vec<u8>, Refusal>
     ensures bytes { IfOk result (λ slot. slot.items ≡ headed_slot page lsn image.now) }
@@ -105,8 +105,8 @@ fn numbers_in(slot: &[u8]) -> (PageNo, Lsn)
     (PageNo::new(page), Lsn::new(lsn))
 }
 
-/// The page LSN and the image of a page, whose bytes these are in a page file of version 2. They need to be 16 at least. `WrongPage`
-/// where the slot has the number of another page, and `Memory` where the image can't be had.
+/// The page LSN and the image of a page, whose bytes these are in a page file of version 2. They need to be 16 at
+/// least. `WrongPage` where the slot has the number of another page, and `Memory` where the image can't be had.
 pub fn unslot2(alloc: Global, page: PageNo, slot: &[u8]) -> Result<(Lsn, Image), PortFault>
     requires { 16 ≤ length slot.now }
     // A slot of another page is told, and no other slot is taken for one.

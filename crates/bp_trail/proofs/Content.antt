@@ -1,6 +1,7 @@
 -- Over a device that gives back what was written, a resident page holds the plain map's image.
 use Rattle.std.proofs.Common.{subst, ◌≡◌, refl, ◌∙◌, ap, ℕ, Bool, true, false, not, ◌&&◌, ◌||◌, ◌==◌, if◌then◌else◌, List, [], ◌∷◌, Some}
 use Rattle.std.proofs.lemmas.Bool.{eqb-true, eq-eqb, and_parts, or_parts, false_from_ne_true}
+use Rattle.bp_page.specs.Patched.{patched}
 use Rattle.bp_trail.specs.declared.entries.Entry.{Entry}
 use Rattle.bp_trail.specs.declared.entries.Call.{Call}
 use Rattle.bp_trail.specs.declared.entries.Call.TheVariants.{Fix, Flush}
@@ -8,7 +9,7 @@ use Rattle.bp_trail.specs.declared.entries.Reply.{Reply}
 use Rattle.bp_trail.specs.declared.entries.Reply.TheVariants.{WriteFirst}
 use Rattle.bp_trail.specs.Parameters.{Parameters}
 use Rattle.bp_trail.specs.Lists.{some, since, after_last}
-use Rattle.bp_trail.specs.Event.{grant, begins_of, ends_well, writes, patched}
+use Rattle.bp_trail.specs.Event.{grant, begins_of, ends_well, writes}
 use Rattle.bp_trail.specs.Trail.{Trail}
 use Rattle.bp_trail.specs.Passes.{tickets, reads_out}
 use Rattle.bp_trail.specs.Places.{residents, resident}

@@ -1,19 +1,19 @@
 -- Passes and tickets that are out are those that were given and that no entry gives back; and each serial number is given once.
-use Rattle.std.proofs.Common.{◌≡◌, refl, sym, ap, subst, ◌∙◌, ℕ, suc, ◌≤◌, Bool, true, false, not, ◌||◌, ◌==◌, cond, List, [], ◌∷◌, length, filter, filter_map, Contains, Decides, Option, Some, None, inl, inr, arith}
+use Rattle.std.proofs.Common.{◌≡◌, refl, sym, ap, subst, ◌∙◌, ℕ, suc, ◌≤◌, Bool, true, false, not, ◌||◌, ◌&&◌, ◌==◌, cond, List, [], ◌∷◌, length, filter, filter_map, Contains, Decides, Option, Some, None, inl, inr, arith}
 use Rattle.std.specs.List.{cons_option}
 use Rattle.std.specs.Option.{option_map_or}
-use Rattle.std.proofs.lemmas.Bool.{true≢false, and_from, or_cases, or_left, or_right, eqb-true, eq-eqb, not-true, false_from_ne_true}
+use Rattle.std.proofs.lemmas.Bool.{true≢false, and_from, and_parts, or_cases, or_left, or_right, eqb-true, eq-eqb, not-true, false_from_ne_true}
 use Rattle.bp_trail.specs.declared.entries.Entry.{Entry}
 use Rattle.bp_trail.specs.declared.entries.Call.{Call}
 use Rattle.bp_trail.specs.declared.entries.Reply.{Reply}
 use Rattle.bp_trail.specs.Parameters.{Parameters}
-use Rattle.bp_trail.specs.Lists.{some, without, and_given, outstanding, EachEntry}
+use Rattle.bp_trail.specs.Lists.{some, since, without, and_given, outstanding, EachEntry}
 use Rattle.bp_trail.specs.Event.{Grant, grant, same_grant, page_of, pass_given, read_ticket_given, write_ticket_given, ticket_given, pass_back, read_ticket_back, write_ticket_back}
 use Rattle.bp_trail.specs.Trail.{Trail}
 use Rattle.bp_trail.specs.Passes.{pass_of, read_ticket_of, write_ticket_of, passes, tickets, passes_out, reads_out, writes_out, is_of}
 use Rattle.bp_trail.specs.Legal.{is_out, Legal}
-use Rattle.bp_trail.specs.Sentences.{gives_back, unended, IsUnended, HasUnended}
-use Rattle.bp_trail.proofs.Elements.{contains-here, contains-later, contains-cases, contains-none}
+use Rattle.bp_trail.specs.Sentences.{gives_it, gives_back, IsGivenSince, unended, IsUnended, HasUnended}
+use Rattle.bp_trail.proofs.Elements.{contains-here, contains-later, contains-cases, contains-none, since-lasts}
 use Rattle.bp_trail.proofs.Events.{Event, event-of}
 use Rattle.bp_trail.proofs.Events.Event.{fix_hit, fix_load, fix_replace, fix_write, flush_write, read_good, read_bad, read_wrong, write_bad, write_clean, write_dirty, unfixed}
 use Rattle.bp_trail.proofs.Serials.{numbered, out-serial, same-grant-is}
@@ -153,6 +153,53 @@ module _ (gives : Entry → Option Grant) (ends : Entry → Option ℕ) where
     pub all-fresh : (past : Trail) → Legal c past → EachEntry IsFresh past
     all-fresh [] l = tt
     all-fresh (e ∷ past) l = record { here = fresh-at past e l; before = all-fresh past l.before }
+
+-- ---- over all lists: what is out was given, and no later entry gives it back
+
+module _ (g : Grant) where
+  it-without : (o : Option ℕ) (gs : List Grant) → is_out g (without number o gs) ≡ (not (option_map_or (λ n. g.serial == n) o false) && is_out g gs)
+  it-without None gs = refl
+  it-without (Some n) gs = each gs
+    where
+      nothing : (b : Bool) → false ≡ (not b && false)
+      nothing true = refl
+      nothing false = refl
+
+      -- one of another serial number is another one
+      clash : (x : Grant) → same_grant g x ≡ true → (a b : Bool) → (x.serial == n) ≡ a → (g.serial == n) ≡ b → a ≡ b
+      clash x k a b i j =
+          let same : g.serial ≡ x.serial = eqb-true g.serial x.serial (and_parts (g.page == x.page) _ (and_parts (g.client == x.client) _ k).1).1 in
+          sym i ∙ ap (λ m. m == n) (sym same) ∙ j
+
+      at : (x : Grant) (gs : List Grant) (a b : Bool) → (x.serial == n) ≡ a → (g.serial == n) ≡ b → (d : Bool) → same_grant g x ≡ d
+          → is_out g (filter (λ y. not (y.serial == n)) gs) ≡ (not b && is_out g gs)
+          → is_out g (cond (not a) (x ∷ filter (λ y. not (y.serial == n)) gs) (filter (λ y. not (y.serial == n)) gs)) ≡ (not b && (same_grant g x || is_out g gs))
+      at x gs true true i j d k ih = ih
+      at x gs true false i j true k ih = absurd (true≢false (clash x k true false i j))
+      at x gs true false i j false k ih = ih ∙ sym (ap (λ z. z || is_out g gs) k)
+      at x gs false true i j true k ih = absurd (true≢false (sym (clash x k false true i j)))
+      at x gs false true i j false k ih = ap (λ z. z || is_out g (filter (λ y. not (y.serial == n)) gs)) k ∙ ih
+      at x gs false false i j d k ih = ap (λ z. same_grant g x || z) ih
+
+      each : (gs : List Grant) → is_out g (filter (λ y. not (y.serial == n)) gs) ≡ (not (g.serial == n) && is_out g gs)
+      each [] = nothing (g.serial == n)
+      each (x ∷ gs) = at x gs (x.serial == n) (g.serial == n) refl refl (same_grant g x) refl (each gs)
+
+  it-given : (o : Option Grant) (gs : List Grant) → is_out g (and_given o gs) ≡ (option_map_or (same_grant g) o false || is_out g gs)
+  it-given None gs = refl
+  it-given (Some x) gs = refl
+
+  module _ (gives : Entry → Option Grant) (ends : Entry → Option ℕ) where
+    out-since : (past : Trail) → is_out g (outstanding number gives ends past) ≡ since (gives_it gives g) (gives_back ends g) past
+    out-since [] = refl
+    out-since (e ∷ past) =
+        it-given (gives e) (without number (ends e) (outstanding number gives ends past))
+        ∙ ap (λ b. gives_it gives g e || b) (it-without (ends e) (outstanding number gives ends past) ∙ ap (λ b. not (gives_back ends g e) && b) (out-since past))
+
+    pub out-lasts : (past : Trail) → Decides (is_out g (outstanding number gives ends past)) (IsGivenSince gives ends past g)
+    out-lasts past =
+        let d = since-lasts (gives_it gives g) (gives_back ends g) past in
+        (λ h. d.0 (sym (out-since past) ∙ h), λ w. out-since past ∙ d.1 w)
 
 -- ---- the three kinds
 

@@ -26,3 +26,5 @@ pub mod StandingsAlike
 pub mod Fresh
 pub mod Since
 pub mod Cuts
+pub mod SecondFix
+pub mod Rows

@@ -1,6 +1,7 @@
 -- Since a cut: over a device that was honest since, a resident page holds what a plain_map map holds that began with the images held at the cut.
 use Rattle.std.proofs.Common.{subst, ◌≡◌, refl, sym, ◌∙◌, ap, ℕ, ◌≤◌, Bool, true, false, ◌||◌, ◌==◌, if◌then◌else◌, List, [], ◌∷◌, ◌++◌, filter_map, length, Some, None, Option, arith}
 use Rattle.std.proofs.lemmas.Bool.{eqb-true, eq-eqb, and_parts, or_parts, false_from_ne_true}
+use Rattle.bp_page.specs.Patched.{patched}
 use Rattle.bp_trail.specs.declared.entries.Entry.{Entry}
 use Rattle.bp_trail.specs.declared.entries.Call.{Call}
 use Rattle.bp_trail.specs.declared.entries.Call.TheVariants.{Fix, Flush}
@@ -8,7 +9,7 @@ use Rattle.bp_trail.specs.declared.entries.Reply.{Reply}
 use Rattle.bp_trail.specs.declared.entries.Reply.TheVariants.{WriteFirst}
 use Rattle.bp_trail.specs.Parameters.{Parameters}
 use Rattle.bp_trail.specs.Lists.{some, after_last}
-use Rattle.bp_trail.specs.Event.{grant, begins_of, ends_well, writes, patched, ticket_given}
+use Rattle.bp_trail.specs.Event.{grant, begins_of, ends_well, writes, ticket_given}
 use Rattle.bp_trail.specs.Trail.{Trail}
 use Rattle.bp_trail.specs.Passes.{tickets, reads_out}
 use Rattle.bp_trail.specs.Places.{residents, resident}

@@ -15,7 +15,7 @@ use Rattle.bp_trail.specs.Passes.{passes, tickets}
 use Rattle.bp_trail.specs.Images.{held}
 use Rattle.bp_trail.specs.Legal.{Legal}
 use Rattle.bp_trail.specs.Sentences.{evicts}
-use Rattle.bp_trail.specs.Wording.{FitsItsCall, IsHit, IsGoodReadEnd, IsEviction, IsWrite, IsBegin, IsGoodWriteEnd, GivesPass, GivesReadTicket, GivesWriteTicket, SaysSo}
+use Rattle.bp_trail.specs.Wording.{can_answer, FitsItsCall, IsHit, IsGoodReadEnd, IsEviction, IsWrite, IsBegin, IsGoodWriteEnd, GivesPass, GivesReadTicket, GivesWriteTicket, SaysSo}
 use Rattle.bp_trail.proofs.Events.{Event, event-of}
 use Rattle.bp_trail.proofs.Events.Event.{fix_hit, fix_load, fix_replace, fix_write, flush_write, read_good, read_bad, read_wrong, write_clean, write_dirty, page_written}
 
@@ -74,6 +74,10 @@ module _ (c : Parameters) (past : Trail) (who : ℕ) where
   end-reply _ _ (write_clean u q o w) t p i = inl refl
   end-reply _ _ (write_dirty u q o w) t p i = inr refl
   end-reply _ _ _ t p i = cc
+
+  table-answers : (call : Call) (reply : Reply) → Event c past who call reply → can_answer call reply ≡ true
+  table-answers _ _ (flush_write q r w g) = eq-eqb q q refl
+  table-answers _ _ _ = refl
 
   -- each word, read off the form of the entry
   hits-sound : (call : Call) (reply : Reply) → Event c past who call reply → (p : ℕ) → hits p (entry who call reply) ≡ true → IsHit p (entry who call reply)
@@ -136,6 +140,9 @@ fits c = of-all c (λ past e. FitsItsCall e) (λ past e l. let v = event-of c pa
   saved = saved-call c past e.client e.call e.reply v;
   written_well = end-reply c past e.client e.call e.reply v;
 })
+
+pub answers : (c : Parameters) (past : Trail) → Legal c past → EachEntry (λ past e. can_answer e.call e.reply ≡ true) past
+answers c = of-all c (λ past e. can_answer e.call e.reply ≡ true) (λ past e l. table-answers c past e.client e.call e.reply (event-of c past e l.here))
 
 -- the other way, of any entry
 module _ (e : Entry) where

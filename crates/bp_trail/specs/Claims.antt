@@ -13,22 +13,32 @@ use Rattle.bp_trail.specs.Device.{due, Honest}
 
 -- with a device that gives back what was written, a resident page holds the plain map's image
 abbrev pub HeldIsPlain : Trail → Type 0
-HeldIsPlain past = (m : ℕ → List ℕ) (p : ℕ) → Honest m past → resident past p ≡ true → held past p ≡ plain_map m past p
+HeldIsPlain past =
+    (m : ℕ → List ℕ) (p : ℕ) → Honest m past → resident past p ≡ true
+    → held past p ≡ plain_map m past p
 
 -- what each read that is out is due to give is known
 abbrev pub ReadsAreKnown : Trail → Type 0
-ReadsAreKnown past = (m : ℕ → List ℕ) (who p t : ℕ) → is_out (grant who p t) (reads_out past) ≡ true → IsSome (due m past p)
+ReadsAreKnown past =
+    (m : ℕ → List ℕ) (who p t : ℕ) → is_out (grant who p t) (reads_out past) ≡ true
+    → IsSome (due m past p)
 
 -- ---- of one entry, and what stands before it
 
 -- a read end finds known what is due
 abbrev pub FindsDue : Trail → Entry → Type 0
-FindsDue past e = (m : ℕ → List ℕ) (t p : ℕ) (image : Option (List ℕ)) → e.call ≡ ReadEnd t p image → IsSome (due m past p)
+FindsDue past e =
+    (m : ℕ → List ℕ) (t p : ℕ) (image : Option (List ℕ)) → e.call ≡ ReadEnd t p image
+    → IsSome (due m past p)
 
 -- where the device was honest so far, the content that is answered is the plain map's
 abbrev pub AnswersPlain : Trail → Entry → Type 0
-AnswersPlain past e = (m : ℕ → List ℕ) (n p : ℕ) (image : List ℕ) → Honest m past → e.call ≡ Read n p → e.reply ≡ Content image → image ≡ plain_map m past p
+AnswersPlain past e =
+    (m : ℕ → List ℕ) (n p : ℕ) (image : List ℕ) → Honest m past → e.call ≡ Read n p
+    → e.reply ≡ Content image → image ≡ plain_map m past p
 
 -- and so is each image that goes out
 abbrev pub SendsPlain : Trail → Entry → Type 0
-SendsPlain past e = (m : ℕ → List ℕ) (t p : ℕ) (image : List ℕ) → Honest m past → e.reply ≡ WriteFirst t p image → image ≡ plain_map m past p
+SendsPlain past e =
+    (m : ℕ → List ℕ) (t p : ℕ) (image : List ℕ) → Honest m past → e.reply ≡ WriteFirst t p image
+    → image ≡ plain_map m past p

@@ -25,14 +25,19 @@ AfterEach c opening trail P = (h : Trail) → Precedes c opening h → P (trail 
 abbrev pub LeadsOn : Parameters → Standing → Trail → Standing → Type 0
 LeadsOn c opening trail next = AfterEach c opening trail (Precedes c next)
 
--- pieces of a trail, the newest first, each with the standing that it opens from: that where the one before it led, and the first that of no entries
+-- pieces of a trail, the newest first, each with the standing that it opens from: that where the
+-- one before it led, and the first that of no entries
 pub record Piece : Type 0 where
   pub opening : Standing
   pub trail : Trail
 
 abbrev pub Chained : Parameters → List Piece → Standing → Type 0
 Chained c [] next = next ≡ standing c []
-Chained c (piece ∷ older) next = record { here : LeadsOn c piece.opening piece.trail next; before : Chained c older piece.opening }
+Chained c (piece ∷ older) next =
+    record {
+      here : LeadsOn c piece.opening piece.trail next;
+      before : Chained c older piece.opening;
+    }
 
 abbrev pub joined : List Piece → Trail
 joined [] = []
@@ -40,8 +45,14 @@ joined (piece ∷ older) = piece.trail ++ joined older
 
 -- a read answers the image of the plain map
 abbrev pub AnswersBy : (ℕ → List ℕ) → Trail → Entry → Type 0
-AnswersBy m past e = (n p : ℕ) (image : List ℕ) → e.call ≡ Read n p → e.reply ≡ Content image → image ≡ plain_map m past p
+AnswersBy m past e =
+    (n p : ℕ) (image : List ℕ) → e.call ≡ Read n p → e.reply ≡ Content image
+    → image ≡ plain_map m past p
 
--- each read since answers by each plain map that begins with the images held at the opening, over a device that was honest since
+-- each read since answers by each plain map that begins with the images held at the opening, over a
+-- device that was honest since
 abbrev pub ReadsSince : Parameters → Standing → Trail → Type 0
-ReadsSince c opening trail = (h : Trail) → Precedes c opening h → (m : ℕ → List ℕ) → ((p : ℕ) → resident h p ≡ true → m p ≡ held h p) → Honest m trail → EachEntry (AnswersBy m) trail
+ReadsSince c opening trail =
+    (h : Trail) → Precedes c opening h → (m : ℕ → List ℕ)
+    → ((p : ℕ) → resident h p ≡ true → m p ≡ held h p) → Honest m trail
+    → EachEntry (AnswersBy m) trail

@@ -1,5 +1,6 @@
 -- What one entry does.
-use Rattle.std.specs.Prelude.{Option, None, ℕ, ◌+◌, Bool, true, false, ◌&&◌, ◌==◌, if◌then◌else◌, List, [], ◌++◌, take, drop, length, Some}
+use Rattle.std.specs.Prelude.{Option, None, ℕ, Bool, true, false, ◌&&◌, ◌==◌, if◌then◌else◌, List, [], Some}
+use Rattle.bp_page.specs.Patched.{patched}
 use Rattle.bp_trail.specs.declared.entries.Grant.{Grant as GivenGrant}
 use Rattle.bp_trail.specs.declared.entries.Entry.{Entry}
 use Rattle.bp_trail.specs.declared.entries.Call.{Call}
@@ -37,7 +38,8 @@ abbrev pub marked : Call → Option ℕ
 marked (Mark lsn) = Some lsn
 marked _ = None
 
--- the pass or ticket that a reply gives to a client, of the page that the call named or that is written out
+-- the pass or ticket that a reply gives to a client, of the page that the call named or that is
+-- written out
 abbrev pub pass_given : ℕ → ℕ → Reply → Option Grant
 pass_given c p (Hit n) = Some (grant c p n)
 pass_given c p (Fixed n) = Some (grant c p n)
@@ -125,10 +127,6 @@ lsn_of _ = 0
 
 abbrev pub lsn_written : ℕ → Entry → Option ℕ
 lsn_written p e = if writes p e then Some (lsn_of e.call) else None
-
--- the image with the bytes in place of as many from the offset on
-abbrev pub patched : ℕ → List ℕ → List ℕ → List ℕ
-patched offset bytes image = take offset image ++ bytes ++ drop (offset + length bytes) image
 
 abbrev pub patched_by : Call → List ℕ → List ℕ
 patched_by (Write n p offset bytes lsn) image = patched offset bytes image

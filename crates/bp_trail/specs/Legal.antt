@@ -27,7 +27,8 @@ allowed c past who (Flush p) = nat_lt p c.pages
 allowed c past who (ReadEnd t p image) = is_out (grant who p t) (reads_out past) && has_size c image
 allowed c past who (WriteEnd t p good) = is_out (grant who p t) (writes_out past)
 allowed c past who (Read n p) = is_out (grant who p n) (passes_out past)
-allowed c past who (Write n p offset bytes lsn) = is_out (grant who p n) (passes_out past) && nat_le (offset + length bytes) c.size
+allowed c past who (Write n p offset bytes lsn) =
+    is_out (grant who p n) (passes_out past) && nat_le (offset + length bytes) c.size
 allowed c past who (Unfix n p) = is_out (grant who p n) (passes_out past)
 allowed c past who Purge = true
 

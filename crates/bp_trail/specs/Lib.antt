@@ -1,4 +1,5 @@
--- What a trail of entries says. Each trail here is newest first: the entries before one are those that follow it in the list.
+-- What is promised: what a trail of entries says, and which are legal. Each trail here is newest
+-- first: the entries before one are those that follow it in the list.
 pub mod Parameters
 pub mod Lists
 pub mod Event
@@ -10,16 +11,20 @@ pub mod Saved
 pub mod Images
 pub mod References
 pub mod Victim
-pub mod Room
 pub mod PageMap
 pub mod Legal
 pub mod Device
+-- The laws: what each legal trail keeps, and the definitions once more, each in one sentence over
+-- the whole list.
 pub mod Safety
 pub mod Claims
 pub mod Sentences
 pub mod Wording
+-- What the rows of a script make of a trail.
 pub mod Pieces
 pub mod Script
 pub mod Fits
+-- What a core has room for, and where a piece of a trail leads.
+pub mod Room
 pub mod Standing
 pub mod Cuts

@@ -1,10 +1,12 @@
--- Words on lists. A trail is newest first, so that what stands before an element follows it in the list.
+-- Words on lists. A trail is newest first, so that what stands before an element follows it in the
+-- list.
 --     total ns, greatest ns      the sum of numbers, and the greatest, or 0
---     some p xs, every p xs, count p xs      whether some element passes, whether each does, and how many do
+--     some p xs, every p xs, count p xs      some element passes, each does, and how many do
 --     EachEntry P xs      P of each element and what stands before it
 --     after_last p xs      the elements after the last that passes p, or all where none does
 --     since start stop xs      some element passes start, and no later one passes stop
---     outstanding key gives ends xs      what the elements gave that no later one ended, newest first; one ends all that have its key
+--     outstanding key gives ends xs      what elements gave and no later one ended, newest first;
+--                                        one ends all that have its key
 use Rattle.std.specs.Prelude.{ℕ, zero, suc, ◌+◌, max, Bool, true, false, not, ◌&&◌, ◌||◌, ◌==◌, if◌then◌else◌, List, [], ◌∷◌, filter, length, Option, Some, None}
 use Rattle.std.specs.List.{list_any}
 
@@ -43,9 +45,11 @@ abbrev pub without : {Y : Type 0} → (Y → ℕ) → Option ℕ → List Y → 
 without key None ys = ys
 without key (Some n) ys = filter (λ y. not (key y == n)) ys
 
-abbrev pub outstanding : {X Y : Type 0} → (Y → ℕ) → (X → Option Y) → (X → Option ℕ) → List X → List Y
+abbrev pub outstanding : {X Y : Type 0} → (Y → ℕ) → (X → Option Y) → (X → Option ℕ) → List X
+    → List Y
 outstanding key gives ends [] = []
-outstanding key gives ends (x ∷ xs) = and_given (gives x) (without key (ends x) (outstanding key gives ends xs))
+outstanding key gives ends (x ∷ xs) =
+    and_given (gives x) (without key (ends x) (outstanding key gives ends xs))
 
 -- P of each element and what stands before it
 abbrev pub EachEntry : {X : Type 0} → (List X → X → Type 0) → List X → Type 0

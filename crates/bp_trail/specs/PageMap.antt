@@ -25,7 +25,8 @@ write_out_reply past p =
 
 abbrev pub replace_reply : Trail → Option ℕ → Reply
 replace_reply past None = NoVictim
-replace_reply past (Some v) = if unsaved past v then write_out_reply past v else Load (tickets past) (Some v)
+replace_reply past (Some v) =
+    if unsaved past v then write_out_reply past v else Load (tickets past) (Some v)
 
 abbrev pub fix_reply : Parameters → Trail → ℕ → Reply
 fix_reply c past p =

@@ -1,4 +1,5 @@
--- Passes and tickets: those that are out, and how many were ever given, which is the next serial number.
+-- Passes and tickets: those that are out, and how many were ever given, which is the next serial
+-- number.
 use Rattle.std.specs.Prelude.{ℕ, Bool, ◌==◌, List, length, filter_map, Option}
 use Rattle.bp_trail.specs.declared.entries.Entry.{Entry}
 use Rattle.bp_trail.specs.Trail.{Trail}

@@ -13,7 +13,8 @@ writing past p = some (is_of p) (writes_out past)
 
 -- the pages whose read ended well and that no later entry evicts
 abbrev pub residents : Trail → List ℕ
-residents past = outstanding (λ p. p) (λ e. loaded (page_of e.call) e.reply) (λ e. evicted e.reply) past
+residents past =
+    outstanding (λ p. p) (λ e. loaded (page_of e.call) e.reply) (λ e. evicted e.reply) past
 
 abbrev pub resident : Trail → ℕ → Bool
 resident past p = some (λ q. q == p) (residents past)

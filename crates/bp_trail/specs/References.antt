@@ -15,9 +15,12 @@ abbrev pub is_empty : List Reference → Bool
 is_empty [] = true
 is_empty (r ∷ older) = false
 
--- a purge after past forgets p, whose references are these: p is away, and its last reference is older than the retained period
+-- a purge after past forgets p, whose references are these: p is away, and its last reference is
+-- older than the retained period
 abbrev pub forgets : Parameters → Trail → ℕ → List Reference → Bool
-forgets c past p known = not (is_empty known) && (not (resident past p || loading past p) && nat_lt c.retained (clock past - last_time known))
+forgets c past p known =
+    not (is_empty known)
+    && (not (resident past p || loading past p) && nat_lt c.retained (clock past - last_time known))
 
 -- the references of p after the entry e, where past stands before it and gave the ones known
 abbrev pub references_with : Parameters → Entry → Trail → ℕ → List Reference → List Reference

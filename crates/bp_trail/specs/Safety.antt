@@ -1,4 +1,5 @@
--- What each entry of a legal trail keeps: no pinned and no unsaved page leaves, the victim is the one that LRU-K names, and no image goes out beyond the durable log.
+-- What each entry of a legal trail keeps: no pinned and no unsaved page leaves, the victim is the
+-- one that LRU-K names, and no image goes out beyond the durable log.
 use Rattle.std.specs.Prelude.{◌≡◌, ℕ, ◌≤◌, List, Some, filter_map, Contains, IsTrue, IsFalse}
 use Rattle.bp_trail.specs.declared.entries.Entry.{Entry}
 use Rattle.bp_trail.specs.declared.entries.Reply.TheVariants.{Load, WriteFirst}
@@ -21,7 +22,9 @@ EvictsSafely c past e = (t v : ℕ) → e.reply ≡ Load t (Some v) → Evicts c
 
 -- where a write-out of p begins, every earlier write of p has a durable LSN
 abbrev pub WritesBehindLog : Trail → Entry → Type 0
-WritesBehindLog past e = (t p : ℕ) (image : List ℕ) → e.reply ≡ WriteFirst t p image → greatest (filter_map (lsn_written p) past) ≤ durable past
+WritesBehindLog past e =
+    (t p : ℕ) (image : List ℕ) → e.reply ≡ WriteFirst t p image
+    → greatest (filter_map (lsn_written p) past) ≤ durable past
 
 pub record IsSafe (c : Parameters) (past : Trail) (e : Entry) : Type 0 where
   pub evicts : EvictsSafely c past e
@@ -32,4 +35,6 @@ Safe c past = EachEntry (IsSafe c) past
 
 -- the same of each earlier write
 abbrev pub WritesAreDurable : Trail → Entry → Type 0
-WritesAreDurable past e = (t p : ℕ) (image : List ℕ) (w : Entry) → e.reply ≡ WriteFirst t p image → Contains past w → IsTrue (writes p w) → lsn_of w.call ≤ durable past
+WritesAreDurable past e =
+    (t p : ℕ) (image : List ℕ) (w : Entry) → e.reply ≡ WriteFirst t p image → Contains past w
+    → IsTrue (writes p w) → lsn_of w.call ≤ durable past

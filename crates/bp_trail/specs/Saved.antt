@@ -1,4 +1,5 @@
--- Which writes of a page have not reached the device, and how far the log must be durable for them: the page LSN.
+-- Which writes of a page have not reached the device, and how far the log must be durable for them:
+-- the page LSN.
 use Rattle.std.specs.Prelude.{false, ℕ, Bool, ◌&&◌, ◌==◌, filter_map}
 use Rattle.bp_trail.specs.declared.entries.Reply.{Reply}
 use Rattle.bp_trail.specs.declared.entries.Reply.TheVariants.{WriteFirst}

@@ -1,4 +1,5 @@
--- Entries that follow a script: one piece for each row, in order, then the passes still held go back.
+-- Entries that follow a script: one piece for each row, in order, then the passes still held go
+-- back.
 use Rattle.std.specs.Prelude.{◌≡◌, ℕ, Bool, ◌&&◌, ◌==◌, nat_le, List, [], ◌∷◌, ◌++◌, reverse, find, length, Option, Some, None}
 use Rattle.bp_trail.specs.declared.entries.Entry.{Entry}
 use Rattle.bp_trail.specs.declared.entries.Call.{Call}
@@ -26,7 +27,8 @@ latest_pass past client page = find (is_pass_of client page) (passes_out past)
 -- a row on that pass, refused where there is none
 abbrev pub WithPass : List ℕ → ℕ → (ℕ → Call) → Trail → Outcome → Option Grant → Type 0
 WithPass numbers client call piece outcome None = (piece ≡ []) × (outcome ≡ refused 14)
-WithPass numbers client call piece outcome (Some g) = OneCall numbers client (call g.serial) piece outcome
+WithPass numbers client call piece outcome (Some g) =
+    OneCall numbers client (call g.serial) piece outcome
 
 -- a driver marks what a log row says; in a session the log row only raises the durable mark
 abbrev pub LogPiece : Manner → ℕ → ℕ → Trail → Outcome → Type 0
@@ -37,10 +39,16 @@ LogPiece driver client lsn piece outcome = OneCall (20 ∷ []) client (Mark lsn)
 abbrev pub RowPiece : Manner → Trail → ℕ → Step → Trail → Outcome → Type 0
 RowPiece m past client (step.Fix page) piece outcome = FixPiece m client page piece outcome
 RowPiece m past client (step.Flush page) piece outcome = FlushPiece m client page piece outcome
-RowPiece m past client (step.Read page) piece outcome = WithPass (20 ∷ 22 ∷ []) client (λ pass. Read pass page) piece outcome (latest_pass past client page)
-RowPiece m past client (step.Write page offset bytes lsn) piece outcome = WithPass (20 ∷ 22 ∷ []) client (λ pass. Write pass page offset bytes lsn) piece outcome (latest_pass past client page)
-RowPiece m past client (step.Unfix page) piece outcome = WithPass [] client (λ pass. Unfix pass page) piece outcome (latest_pass past client page)
-RowPiece m past client (step.Tick n) piece outcome = OneCall (20 ∷ 21 ∷ 22 ∷ []) client (Tick n) piece outcome
+RowPiece m past client (step.Read page) piece outcome =
+    WithPass (20 ∷ 22 ∷ []) client (λ pass. Read pass page) piece outcome
+    (latest_pass past client page)
+RowPiece m past client (step.Write page offset bytes lsn) piece outcome =
+    WithPass (20 ∷ 22 ∷ []) client (λ pass. Write pass page offset bytes lsn) piece outcome
+    (latest_pass past client page)
+RowPiece m past client (step.Unfix page) piece outcome =
+    WithPass [] client (λ pass. Unfix pass page) piece outcome (latest_pass past client page)
+RowPiece m past client (step.Tick n) piece outcome =
+    OneCall (20 ∷ 21 ∷ 22 ∷ []) client (Tick n) piece outcome
 RowPiece m past client step.Purge piece outcome = OneCall (20 ∷ 22 ∷ []) client Purge piece outcome
 RowPiece m past client (step.Log lsn) piece outcome = LogPiece m client lsn piece outcome
 
@@ -49,14 +57,16 @@ refused_row row accepted = []
 refused_row row (refused n) = record { row = row; number = n } ∷ []
 
 -- one more row: its piece, and its refusal if it has one
-pub record AddsRow (m : Manner) (row : Row) (past after : Trail) (refusals refusals_after : List Refused) : Type 0 where
+pub record AddsRow (m : Manner) (row : Row) (past after : Trail)
+    (refusals refusals_after : List Refused) : Type 0 where
   pub piece : Trail
   pub outcome : Outcome
   pub of_row : RowPiece m past row.client row.step piece outcome
   pub grows : after ≡ piece ++ past
   pub refuses : refusals_after ≡ refused_row row.row outcome ++ refusals
 
--- the rows, their refusals and the entries, each newest first; and where each row's piece ends, by the number of entries then
+-- the rows, their refusals and the entries, each newest first; and where each row's piece ends, by
+-- the number of entries then
 abbrev pub FollowsBy : Manner → List Row → List ℕ → Trail → List Refused → Type 0
 FollowsBy m [] [] past refusals = (past ≡ []) × (refusals ≡ [])
 FollowsBy m [] (end ∷ ends) past refusals = ⊥
@@ -73,7 +83,8 @@ FollowsBy m (row ∷ rows) (end ∷ ends) past refusals = record {
 abbrev pub held_passes : Trail → List Grant
 held_passes past = reverse (passes_out past)
 
--- of some passes in the order taken, the one to go back next: of the lowest client that holds any, the first
+-- of some passes in the order taken, the one to go back next: of the lowest client that holds any,
+-- the first
 abbrev pub first_to_go_back : List Grant → Option Grant
 first_to_go_back held = find (λ g. every (λ h. nat_le g.client h.client) held) held
 
@@ -86,10 +97,12 @@ give_back g = by g.client (Unfix g.serial g.page) Done
 -- passes go back until none is held
 pub data GivesBack : Trail → Trail → Type 0 where
   none_held : {past : Trail} → passes_out past ≡ [] → GivesBack past past
-  next : {past after : Trail} (g : Grant) → next_to_go_back past ≡ Some g → GivesBack (give_back g ∷ past) after → GivesBack past after
+  next : {past after : Trail} (g : Grant) → next_to_go_back past ≡ Some g
+      → GivesBack (give_back g ∷ past) after → GivesBack past after
 
 -- the entries follow the script: the pieces of its rows, by one cut, and then the passes still held
-pub record Follows (m : Manner) (script : List Row) (past : Trail) (refusals : List Refused) : Type 0 where
+pub record Follows (m : Manner) (script : List Row) (past : Trail)
+    (refusals : List Refused) : Type 0 where
   pub by_rows : Trail
   pub ends : List ℕ
   pub pieces : FollowsBy m (reverse script) ends by_rows (reverse refusals)

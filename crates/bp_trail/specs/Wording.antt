@@ -1,23 +1,59 @@
 -- What the words on one entry of a legal trail say, in its call and its reply.
-use Rattle.std.specs.Prelude.{◌≡◌, ℕ, Bool, true, List, Option, Some, None, ◌⊎◌, ◌↔◌, Decides}
+use Rattle.std.specs.Prelude.{◌≡◌, ℕ, Bool, true, false, ◌==◌, List, Option, Some, None, ◌⊎◌, ◌↔◌, Decides}
 use Rattle.bp_trail.specs.declared.entries.Entry.{Entry}
-use Rattle.bp_trail.specs.declared.entries.Call.TheVariants.{Fix, ReadEnd, WriteEnd, Write, Unfix, Flush}
-use Rattle.bp_trail.specs.declared.entries.Reply.TheVariants.{Done, Hit, Load, WriteFirst, Fixed, ReadFailed, WrongPage, Cleaned, StillDirty}
+use Rattle.bp_trail.specs.declared.entries.Call.{Call}
+use Rattle.bp_trail.specs.declared.entries.Call.TheVariants.{Tick, Mark, Fix, ReadEnd, WriteEnd, Read, Write, Unfix, Flush, Purge}
+use Rattle.bp_trail.specs.declared.entries.Reply.{Reply}
+use Rattle.bp_trail.specs.declared.entries.Reply.TheVariants.{Done, Hit, Load, WriteFirst, NoVictim, NeedLog, Busy, Fixed, ReadFailed, WrongPage, Cleaned, StillDirty, WriteFailed, Content, Clean, Absent, Forgot}
 use Rattle.bp_trail.specs.Event.{Grant, hits, loads, writes, begins_of, ends_well, pass_back, read_ticket_back, write_ticket_back}
 use Rattle.bp_trail.specs.Passes.{pass_of, read_ticket_of, write_ticket_of}
 use Rattle.bp_trail.specs.Sentences.{evicts, gives_back}
+
+-- the whole table: which replies can stand with a call
+abbrev pub can_answer : Call → Reply → Bool
+can_answer (Tick n) Done = true
+can_answer (Mark lsn) Done = true
+can_answer (Fix p) (Hit pass) = true
+can_answer (Fix p) (Load t victim) = true
+can_answer (Fix p) (WriteFirst t victim image) = true
+can_answer (Fix p) NoVictim = true
+can_answer (Fix p) (NeedLog lsn) = true
+can_answer (Fix p) Busy = true
+can_answer (ReadEnd t p (Some image)) (Fixed pass) = true
+can_answer (ReadEnd t p None) ReadFailed = true
+can_answer (ReadEnd t p None) WrongPage = true
+can_answer (WriteEnd t p true) Cleaned = true
+can_answer (WriteEnd t p true) StillDirty = true
+can_answer (WriteEnd t p false) WriteFailed = true
+can_answer (Read pass p) (Content image) = true
+can_answer (Write pass p offset bytes lsn) Done = true
+can_answer (Unfix pass p) Done = true
+can_answer (Flush p) (WriteFirst t q image) = q == p
+can_answer (Flush p) (NeedLog lsn) = true
+can_answer (Flush p) Busy = true
+can_answer (Flush p) Clean = true
+can_answer (Flush p) Absent = true
+can_answer Purge (Forgot pages) = true
+can_answer _ _ = false
 
 -- which calls each reply is of, and how good ends are answered, and reads that end without an image
 pub record FitsItsCall (e : Entry) : Type 0 where
   pub hit : (n : ℕ) → e.reply ≡ Hit n → (p : ℕ) × (e.call ≡ Fix p)
   pub load : (t : ℕ) (victim : Option ℕ) → e.reply ≡ Load t victim → (p : ℕ) × (e.call ≡ Fix p)
-  pub write_first : (t p : ℕ) (image : List ℕ) → e.reply ≡ WriteFirst t p image → ((q : ℕ) × (e.call ≡ Fix q)) ⊎ (e.call ≡ Flush p)
-  pub fixed : (n : ℕ) → e.reply ≡ Fixed n → (t : ℕ) × (p : ℕ) × (image : List ℕ) × (e.call ≡ ReadEnd t p (Some image))
-  pub read_well : (t p : ℕ) (image : List ℕ) → e.call ≡ ReadEnd t p (Some image) → (n : ℕ) × (e.reply ≡ Fixed n)
-  pub unread : (e.reply ≡ ReadFailed) ⊎ (e.reply ≡ WrongPage) → (t : ℕ) × (p : ℕ) × (e.call ≡ ReadEnd t p None)
-  pub read_badly : (t p : ℕ) → e.call ≡ ReadEnd t p None → (e.reply ≡ ReadFailed) ⊎ (e.reply ≡ WrongPage)
-  pub saved : (e.reply ≡ Cleaned) ⊎ (e.reply ≡ StillDirty) → (t : ℕ) × (p : ℕ) × (e.call ≡ WriteEnd t p true)
-  pub written_well : (t p : ℕ) → e.call ≡ WriteEnd t p true → (e.reply ≡ Cleaned) ⊎ (e.reply ≡ StillDirty)
+  pub write_first : (t p : ℕ) (image : List ℕ) → e.reply ≡ WriteFirst t p image
+      → ((q : ℕ) × (e.call ≡ Fix q)) ⊎ (e.call ≡ Flush p)
+  pub fixed : (n : ℕ) → e.reply ≡ Fixed n
+      → (t : ℕ) × (p : ℕ) × (image : List ℕ) × (e.call ≡ ReadEnd t p (Some image))
+  pub read_well : (t p : ℕ) (image : List ℕ) → e.call ≡ ReadEnd t p (Some image)
+      → (n : ℕ) × (e.reply ≡ Fixed n)
+  pub unread : (e.reply ≡ ReadFailed) ⊎ (e.reply ≡ WrongPage)
+      → (t : ℕ) × (p : ℕ) × (e.call ≡ ReadEnd t p None)
+  pub read_badly : (t p : ℕ) → e.call ≡ ReadEnd t p None
+      → (e.reply ≡ ReadFailed) ⊎ (e.reply ≡ WrongPage)
+  pub saved : (e.reply ≡ Cleaned) ⊎ (e.reply ≡ StillDirty)
+      → (t : ℕ) × (p : ℕ) × (e.call ≡ WriteEnd t p true)
+  pub written_well : (t p : ℕ) → e.call ≡ WriteEnd t p true
+      → (e.reply ≡ Cleaned) ⊎ (e.reply ≡ StillDirty)
 
 pub record IsHit (p : ℕ) (e : Entry) : Type 0 where
   pub pass : ℕ
@@ -59,7 +95,9 @@ pub record IsGoodWriteEnd (ticket : ℕ) (e : Entry) : Type 0 where
 -- a pass given to a client: by a hit, or by a read that ended well
 pub record GivesPass (g : Grant) (e : Entry) : Type 0 where
   pub client : e.client ≡ g.client
-  pub how : ((e.call ≡ Fix g.page) × (e.reply ≡ Hit g.serial)) ⊎ ((t : ℕ) × (image : List ℕ) × (e.call ≡ ReadEnd t g.page (Some image)) × (e.reply ≡ Fixed g.serial))
+  pub how : ((e.call ≡ Fix g.page) × (e.reply ≡ Hit g.serial))
+      ⊎ ((t : ℕ) × (image : List ℕ) × (e.call ≡ ReadEnd t g.page (Some image))
+      × (e.reply ≡ Fixed g.serial))
 
 pub record GivesReadTicket (g : Grant) (e : Entry) : Type 0 where
   pub client : e.client ≡ g.client
@@ -83,6 +121,11 @@ pub record SaysSo (e : Entry) : Type 0 where
   pub pass_of : (g : Grant) → (pass_of e ≡ Some g) ↔ GivesPass g e
   pub read_ticket_of : (g : Grant) → (read_ticket_of e ≡ Some g) ↔ GivesReadTicket g e
   pub write_ticket_of : (g : Grant) → (write_ticket_of e ≡ Some g) ↔ GivesWriteTicket g e
-  pub unfixes : (g : Grant) → Decides (gives_back (λ e. pass_back e.call) g e) ((p : ℕ) × (e.call ≡ Unfix g.serial p))
-  pub ends_read : (g : Grant) → Decides (gives_back (λ e. read_ticket_back e.call) g e) ((p : ℕ) × (image : Option (List ℕ)) × (e.call ≡ ReadEnd g.serial p image))
-  pub ends_write : (g : Grant) → Decides (gives_back (λ e. write_ticket_back e.call) g e) ((p : ℕ) × (good : Bool) × (e.call ≡ WriteEnd g.serial p good))
+  pub unfixes : (g : Grant)
+      → Decides (gives_back (λ e. pass_back e.call) g e) ((p : ℕ) × (e.call ≡ Unfix g.serial p))
+  pub ends_read : (g : Grant)
+      → Decides (gives_back (λ e. read_ticket_back e.call) g e)
+      ((p : ℕ) × (image : Option (List ℕ)) × (e.call ≡ ReadEnd g.serial p image))
+  pub ends_write : (g : Grant)
+      → Decides (gives_back (λ e. write_ticket_back e.call) g e)
+      ((p : ℕ) × (good : Bool) × (e.call ≡ WriteEnd g.serial p good))

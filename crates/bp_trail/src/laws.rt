@@ -1,12 +1,12 @@
 //! Laws of the definitions in `specs/`. Each function does nothing: its contract is the law.
-ghost use Rattle.std.specs.Prelude.{◌≡◌, ◌≢◌, ℕ, suc, ◌+◌, ◌<◌, ◌≤◌, ◌==◌, nat_lt, Bool, true, false, IsFalse, Decides, List, [], ◌∷◌, ◌++◌, length, filter_map, Contains, Option, Some, None, if◌then◌else◌};
+ghost use Rattle.std.specs.Prelude.{◌≡◌, ◌≢◌, ℕ, suc, ◌+◌, ◌<◌, ◌≤◌, ◌==◌, nat_lt, Bool, true, false, IsTrue, IsFalse, Decides, List, [], ◌∷◌, ◌++◌, length, filter_map, Contains, Option, Some, None, if◌then◌else◌};
 ghost use Rattle.bp_lruk.specs.Burst.{Burst, last_time};
 ghost use Rattle.bp_lruk.specs.Cut.{IsCut};
 ghost use Rattle.bp_lruk.specs.Distance.{is_farther};
 ghost use Rattle.bp_lruk.specs.Stamp.{burst_at, burst_stamp, IsTimed};
 ghost use Rattle.bp_trail.specs.declared.entries.Entry.{Entry};
-ghost use Rattle.bp_trail.specs.declared.entries.Call.TheVariants.{Fix, ReadEnd};
-ghost use Rattle.bp_trail.specs.declared.entries.Reply.TheVariants.{Load, WriteFirst, Fixed};
+ghost use Rattle.bp_trail.specs.declared.entries.Call.TheVariants.{Fix, ReadEnd, WriteEnd};
+ghost use Rattle.bp_trail.specs.declared.entries.Reply.TheVariants.{Load, WriteFirst, Fixed, Cleaned};
 ghost use Rattle.bp_trail.specs.Parameters.{Parameters};
 ghost use Rattle.bp_trail.specs.Lists.{greatest, some, count, after_last, since, EachEntry};
 ghost use Rattle.bp_trail.specs.Event.{Grant, ticket_given, pass_back, read_ticket_back, write_ticket_back, ends_well, begins, begins_of, loads, writes, lsn_written, marked};
@@ -18,21 +18,25 @@ ghost use Rattle.bp_trail.specs.Saved.{unsaved, written_since, top};
 ghost use Rattle.bp_trail.specs.Images.{held, plain_map};
 ghost use Rattle.bp_trail.specs.References.{references, forgets, last, hist};
 ghost use Rattle.bp_trail.specs.Victim.{backward_distance, candidate, victim};
+ghost use Rattle.bp_trail.specs.PageMap.{reply_of};
 ghost use Rattle.bp_trail.specs.Legal.{is_out, Legal};
 ghost use Rattle.bp_trail.specs.Device.{due};
 ghost use Rattle.bp_trail.specs.Standing.{Standing, standing};
 ghost use Rattle.bp_trail.specs.Cuts.{Precedes, AfterEach, Piece, Chained, joined, ReadsSince};
 ghost use Rattle.bp_trail.specs.Safety.{EvictsSafely, WritesAreDurable, Safe};
 ghost use Rattle.bp_trail.specs.Claims.{HeldIsPlain, ReadsAreKnown, FindsDue, AnswersPlain, SendsPlain};
-ghost use Rattle.bp_trail.specs.Wording.{FitsItsCall, SaysSo};
-ghost use Rattle.bp_trail.specs.Sentences.{Lasts, AreAfterLast, IsGreatest, evicts, unended, IsUnended, HasUnended, pass_number, gives_pass, begins_operation, IsNext, IsNew, references_since, IsForgotten, IsCandidate, IsFirst, IsUnsaved};
+ghost use Rattle.bp_trail.specs.Wording.{can_answer, FitsItsCall, SaysSo};
+ghost use Rattle.bp_trail.specs.Sentences.{Lasts, AreAfterLast, IsGreatest, evicts, IsGivenSince, unended, IsUnended, HasUnended, pass_number, gives_pass, begins_operation, IsNext, IsNew, references_since, IsForgotten, IsCandidate, IsFirst, IsUnsaved, victim_begun, victim_saved};
 
-/// In a legal trail each reply stands with its call: a hit and a load with a fix, a write-out's begin with a fix or with a
-/// flush of that page; a read end is answered with a pass exactly where it brought an image, and else that the read failed
-/// or that it found another page; a write end is good exactly where the write was. So each word on one entry says of its call and its reply what it seems to.
+/// In a legal trail each reply stands with its call: a hit and a load with a fix, a write-out's begin with a fix or
+/// with a flush of that page; a read end is answered with a pass exactly where it brought an image, and else that the
+/// read failed or that it found another page; a write end is good exactly where the write was. The table has them
+/// all. So each word on one entry says of its call and its reply what it seems to.
 pub fn words_on_entries()
     ensures replies { (c : Parameters) (past : Trail) → Legal c past →
         EachEntry (λ before e. FitsItsCall e) past }
+    ensures table { (c : Parameters) (past : Trail) → Legal c past →
+        EachEntry (λ before e. IsTrue (can_answer e.call e.reply)) past }
     ensures words { (c : Parameters) (past : Trail) → Legal c past →
         EachEntry (λ before e. SaysSo e) past }
 {}
@@ -51,8 +55,9 @@ pub fn words_on_trails()
 {}
 
 /// A pass or ticket is out in a legal trail exactly where it was given so, to this client and for this page, and no
-/// entry of the trail gives it back: a pass by an unfix, a read ticket by a read end, a write ticket by a write end. The
-/// pins of a page are the passes of it that are out; it is loading, or being written out, where such a ticket of it is out.
+/// entry of the trail gives it back: a pass by an unfix, a read ticket by a read end, a write ticket by a write end.
+/// The pins of a page are the passes of it that are out; it is loading, or being written out, where such a ticket of
+/// it is out.
 pub fn out_is_given_and_not_ended()
     ensures passes { (c : Parameters) (past : Trail) (g : Grant) → Legal c past →
         Decides (is_out g (passes_out past)) (IsUnended pass_of (λ e. pass_back e.call) past g) }
@@ -71,6 +76,17 @@ pub fn out_is_given_and_not_ended()
     ensures writing { (c : Parameters) (past : Trail) (p : ℕ) → Legal c past →
         Decides (writing past p) (HasUnended write_ticket_of
         (λ e. write_ticket_back e.call) past p) }
+{}
+
+/// After any entries, legal or not, a pass or ticket is out exactly where some entry gives it, to this client and for
+/// this page, and no later entry gives it back.
+pub fn out_is_given_and_not_ended_since()
+    ensures passes { (past : Trail) (g : Grant) → Decides (is_out g (passes_out past))
+        (IsGivenSince pass_of (λ e. pass_back e.call) past g) }
+    ensures reads { (past : Trail) (g : Grant) → Decides (is_out g (reads_out past))
+        (IsGivenSince read_ticket_of (λ e. read_ticket_back e.call) past g) }
+    ensures writes { (past : Trail) (g : Grant) → Decides (is_out g (writes_out past))
+        (IsGivenSince write_ticket_of (λ e. write_ticket_back e.call) past g) }
 {}
 
 /// A page is resident exactly where a read of it ended well and no later entry evicts it.
@@ -93,10 +109,10 @@ pub fn serials_count_the_replies()
         EachEntry (IsNew (λ e. ticket_given e.reply)) past }
 {}
 
-/// The references of a page are its hits and good read ends, each with the clock at it, after the last purge that forgot
-/// the page; a resident page has some, and only pages in range have any. A purge forgets a page exactly where it has
-/// references, is neither resident nor loading, and its LAST lies more than the retained period back. Their times never
-/// fall and never pass the clock.
+/// The references of a page are its hits and good read ends, each with the clock at it, after the last purge that
+/// forgot the page; a resident page has some, and only pages in range have any. A purge forgets a page exactly where
+/// it has references, is neither resident nor loading, and its LAST lies more than the retained period back. Their
+/// times never fall and never pass the clock.
 pub fn references_since_the_last_forgetting()
     ensures references { (c : Parameters) (past : Trail) (p : ℕ) → Legal c past →
         references c past p ≡ references_since c past p }
@@ -121,9 +137,9 @@ pub fn stamps_are_of_the_bursts()
         last c past p ≡ last_time (burst_at pieces 0) }
 {}
 
-/// The victim is the candidate that comes before every other one by (HIST(K), LAST, page), so that no candidate is farther
-/// by its backward K-distance; there is none only where there is no candidate. A candidate is resident, has no pins, is not
-/// being written out, and its LAST lies more than the correlated period back.
+/// The victim is the candidate that comes before every other one by (HIST(K), LAST, page), so that no candidate is
+/// farther by its backward K-distance; there is none only where there is no candidate. A candidate is resident, has
+/// no pins, is not being written out, and its LAST lies more than the correlated period back.
 pub fn victim_is_the_first_candidate()
     ensures candidate { (c : Parameters) (past : Trail) (p : ℕ) →
         Decides (candidate c past p) (IsCandidate c past p) }
@@ -140,9 +156,20 @@ pub fn victim_is_the_first_candidate()
         victim c past ≡ None }
 {}
 
-/// A page is unsaved exactly where some write of it has no good write-out of it that began after it. Its page LSN is the
-/// greatest LSN of its writes after its last good read end, or 0; the durable mark the greatest LSN marked, or 0. It was
-/// written since a write-out began where some write of it came after that.
+/// Where a fix has its victim written out and nobody else acts, a good end is answered with `Cleaned`, and the same fix
+/// made again with a load into the victim's frame.
+pub fn saved_victim_leaves_at_the_next_fix()
+    ensures ends { (c : Parameters) (past : Trail) (client t p v : ℕ) (image : List ℕ) →
+        reply_of c (victim_begun client p t v image past) (WriteEnd t v true) ≡ Cleaned }
+    ensures loads { (c : Parameters) (past : Trail) (client t p v : ℕ) (image : List ℕ) →
+        Legal c past → WriteFirst t v image ≡ reply_of c past (Fix p) →
+        let saved = victim_saved client p t v image past in
+        reply_of c saved (Fix p) ≡ Load (tickets saved) (Some v) }
+{}
+
+/// A page is unsaved exactly where some write of it has no good write-out of it that began after it. Its page LSN is
+/// the greatest LSN of its writes after its last good read end, or 0; the durable mark the greatest LSN marked, or 0.
+/// It was written since a write-out began where some write of it came after that.
 pub fn unsaved_since_the_last_good_write_out()
     ensures unsaved { (past : Trail) (p : ℕ) → Decides (unsaved past p) (IsUnsaved past p) }
     ensures top { (past newest : Trail) (p : ℕ) → AreAfterLast (loads p) past newest →
@@ -154,8 +181,8 @@ pub fn unsaved_since_the_last_good_write_out()
         (durable past) }
 {}
 
-/// A page's held image is that of its last good read end, with the page's later writes applied in order. A resident page
-/// has such a read end, and an image of the page size.
+/// A page's held image is that of its last good read end, with the page's later writes applied in order. A resident
+/// page has such a read end, and an image of the page size.
 pub fn held_is_the_last_read_with_later_writes()
     ensures there { (past : Trail) (p : ℕ) → resident past p ≡ true →
         Lasts (loads p) (loads p) past }
@@ -177,8 +204,9 @@ pub fn due_is_the_last_write_out()
         due m past p ≡ (if some (λ d. ends_well t d.call) past then Some image else None) }
 {}
 
-/// After every legal trail a page stands at most once among the residents, and one that is loading is not among them; a
-/// pinned page and an unsaved page are resident; pages resident and loading are in range, and at most as many as frames.
+/// After every legal trail a page stands at most once among the residents, and one that is loading is not among them;
+/// a pinned page and an unsaved page are resident; pages resident and loading are in range, and at most as many as
+/// frames.
 pub fn pages_have_one_place()
     ensures once { (c : Parameters) (past : Trail) (p : ℕ) → Legal c past →
         count (λ q. q == p) (residents past) ≤ 1 }
@@ -228,18 +256,18 @@ pub fn read_ends_find_what_is_due()
     ensures out { (c : Parameters) (past : Trail) → Legal c past → ReadsAreKnown past }
 {}
 
-/// Over a device that gives back what was written, whatever was in it at the opening: after every legal trail a resident
-/// page holds the image of the plain map, and each content that was answered and each image that went out is the plain
-/// map's at that place.
+/// Over a device that gives back what was written, whatever was in it at the opening: after every legal trail a
+/// resident page holds the image of the plain map, and each content that was answered and each image that went out is
+/// the plain map's at that place.
 pub fn pages_hold_the_plain_map()
     ensures held { (c : Parameters) (past : Trail) → Legal c past → HeldIsPlain past }
     ensures content { (c : Parameters) (past : Trail) → Legal c past → EachEntry AnswersPlain past }
     ensures sent { (c : Parameters) (past : Trail) → Legal c past → EachEntry SendsPlain past }
 {}
 
-/// At each eviction of a legal trail the page is the victim, a candidate that comes before every other and that none is
-/// farther than by its backward K-distance; it has no pins and is not unsaved. A page that is written out first for a fix
-/// is the victim too.
+/// At each eviction of a legal trail the page is the victim, a candidate that comes before every other and that none
+/// is farther than by its backward K-distance; it has no pins and is not unsaved. A page that is written out first
+/// for a fix is the victim too.
 pub fn evictions_are_safe()
     ensures safe { (c : Parameters) (past : Trail) → Legal c past →
         EachEntry (EvictsSafely c) past }
@@ -253,7 +281,8 @@ pub fn evictions_are_safe()
         e.reply ≡ WriteFirst t v image → IsFirst c before v) past }
 {}
 
-/// At each begin of a write-out in a legal trail every earlier write of that page has an LSN of at most the durable mark.
+/// At each begin of a write-out in a legal trail every earlier write of that page has an LSN of at most the durable
+/// mark.
 pub fn write_outs_stay_behind_the_log()
     ensures { (c : Parameters) (past : Trail) → Legal c past → EachEntry WritesAreDurable past }
 {}
@@ -263,8 +292,8 @@ pub fn legal_trails_are_safe()
     ensures { (c : Parameters) (past : Trail) → Legal c past → Safe c past }
 {}
 
-/// A standing decides what may come. Trails that may follow one history may follow each legal one of the same standing, and lead to
-/// the same standing; four numbers tell whether a legal trail leads where no entries do.
+/// A standing decides what may come. Trails that may follow one history may follow each legal one of the same
+/// standing, and lead to the same standing; four numbers tell whether a legal trail leads where no entries do.
 pub fn standings_decide_what_may_come()
     ensures follows { (c : Parameters) (trail h k : Trail) → Legal c (trail ++ h) → Legal c k →
         standing c h ≡ standing c k → Precedes c (standing c (trail ++ h)) (trail ++ k) }
@@ -272,8 +301,9 @@ pub fn standings_decide_what_may_come()
         durable past ≡ 0 → passes past ≡ 0 → tickets past ≡ 0 → standing c past ≡ standing c [] }
 {}
 
-/// Pieces of a trail, each of which opens where the one before it led, are one legal trail when they are joined. Over a device that was
-/// honest since, the reads of a piece answer by each plain map that begins with the images held at its opening.
+/// Pieces of a trail, each of which opens where the one before it led, are one legal trail when they are joined. Over
+/// a device that was honest since, the reads of a piece answer by each plain map that begins with the images held at
+/// its opening.
 pub fn pieces_are_one_legal_trail()
     ensures joined { (c : Parameters) (pieces : List Piece) (next : Standing) →
         Chained c pieces next → Precedes c next (joined pieces) }

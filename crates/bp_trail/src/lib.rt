@@ -1,4 +1,5 @@
-//! The trail of a buffer pool: its entries, the scripts of its clients, and what a list of entries says, by definitions and laws.
+//! The trail of a buffer pool: its entries, the scripts of its clients, and what a list of entries says, by
+//! definitions and laws.
 //!
 //! The behaviour is that of the page buffer manager of Gray and Reuter (Transaction Processing, chapter 13), with
 //! replacement by LRU-K (O'Neil, O'Neil and Weikum, SIGMOD 1993, figure 2.1).

@@ -84,7 +84,7 @@ Numbers after the word refused:
   3   the page file is no positive number of whole pages, or has too many
   11  no page may leave its frame
   12  the log must first be durable as far as the page was changed
-  13  another client's device operation on the page is under way
+  13  a device operation on the page is under way
   14  no such pass is out
   16  no such ticket is out
   17  the page could not be read

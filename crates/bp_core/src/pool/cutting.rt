@@ -14,8 +14,9 @@ use bp_trail::Entry;
 const SERIALS_END: u64 = 4611686018427387904;
 
 impl PoolCore<RecordingKeeper> {
-    /// Hands out the trail, the oldest entry first, and leaves an empty one of the same room. All else goes on: the clock, the durable
-    /// mark, histories, frames, passes and tickets that are out, and serial numbers. It may be called at any time.
+    /// Hands out the trail, the oldest entry first, and leaves an empty one of the same room. All else goes on: the
+    /// clock, the durable mark, histories, frames, passes and tickets that are out, and serial numbers. It may be
+    /// called at any time.
     ///
     /// `ClockFull` where more than 2^62 passes or tickets were given, else `OutOfMemory`; both change nothing.
     pub fn cut(&mut self) -> Result<Vec<Entry>, Refusal>
@@ -26,8 +27,8 @@ impl PoolCore<RecordingKeeper> {
         self.cut_into(Vec::new(self.alloc))
     }
 
-    /// A cut that goes on in the memory of a spare list: more is taken only where that has not the trail's room. What the
-    /// spare has is dropped. A list that was handed out has the room: a core that is cut into it takes no memory.
+    /// A cut that goes on in the memory of a spare list: more is taken only where that has not the trail's room. What
+    /// the spare has is dropped. A list that was handed out has the room: a core that is cut into it takes no memory.
     pub fn cut_into(&mut self, spare: Vec<Entry>) -> Result<Vec<Entry>, Refusal>
         ensures done { IfOk result (λ entries. Cuts self.old entries.items self.new) }
         ensures refused { IfErr result (λ e. CutRefused self.old e self.new) }

@@ -12,12 +12,14 @@ use bp_page::{PageNo, Refusal};
 use bp_trail::{Call, Reply};
 
 impl<K: Keeper> PoolCore<K> {
-    /// Asks for a page (Gray and Reuter, chapter 13): a pass where it is resident; else a ticket to read it into a free frame or
-    /// into that of the victim; else, where the victim is unsaved, a ticket to write the victim out first.
+    /// Asks for a page (Gray and Reuter, chapter 13): a pass where it is resident; else a ticket to read it into a
+    /// free frame or into that of the victim; else, where the victim is unsaved, a ticket to write the victim out
+    /// first.
     ///
-    /// `TrailFull` where fewer than three entries are free, else `OutOfMemory`, where it would have given a pass or a ticket; both
-    /// change nothing. `Busy` where the page is loading, `NoVictim` where no page may leave, `NeedLog` where the log is not durable as
-    /// far as the victim's page LSN; these three are entries, take no memory and change nothing else.
+    /// `TrailFull` where fewer than three entries are free, else `OutOfMemory`, where it would have given a pass or a
+    /// ticket; both change nothing. `Busy` where the page is loading, `NoVictim` where no page may leave, `NeedLog`
+    /// where the log is not durable as far as the victim's page LSN; these three are entries, take no memory and
+    /// change nothing else.
     pub fn fix(&mut self, client: u8, page: PageNo) -> Result<Fix, Refusal>
         requires client_in { client < self.old.parameters.clients }
         requires page_in { page < self.old.parameters.pages }

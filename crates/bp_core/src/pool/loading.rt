@@ -89,9 +89,10 @@ impl<K: Keeper> PoolCore<K> {
         Ok(Fix::Load(ticket, Some(gone)))
     }
 
-    /// Ends a read. Where it went well the page is resident, with the pass that comes back. Where it found another page, which is
-    /// `WrongPage`, or failed otherwise, which is `ReadFailed`, its frame is free and nothing of the page is remembered. A ticket that
-    /// is not out here comes back with the result, which is `Unknown`, and nothing changes. It takes no memory.
+    /// Ends a read. Where it went well the page is resident, with the pass that comes back. Where it found another
+    /// page, which is `WrongPage`, or failed otherwise, which is `ReadFailed`, its frame is free and nothing of the
+    /// page is remembered. A ticket that is not out here comes back with the result, which is `Unknown`, and nothing
+    /// changes. It takes no memory.
     pub fn read_end(
         &mut self,
         ticket: ReadTicket,
@@ -181,8 +182,8 @@ impl<K: Keeper> PoolCore<K> {
     }
 }
 
-/// Takes the memory that a page's read will need, but for its frame: room for its ticket, for its pass beside those of the reads
-/// that are out, and its history's block. Where that is refused no page is held more than before.
+/// Takes the memory that a page's read will need, but for its frame: room for its ticket, for its pass beside those
+/// of the reads that are out, and its history's block. Where that is refused no page is held more than before.
 #[tactic(auto, unfolding(bp_lruk::specs::Histories::KeepsPlaces))]
 fn make_ready(
     passes: &mut GrantList,

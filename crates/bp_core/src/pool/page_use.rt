@@ -10,8 +10,8 @@ use bp_page::{Bytes, Image, Lsn, Refusal};
 use bp_trail::{Call, Grant, Reply};
 
 impl<K: Keeper> PoolCore<K> {
-    /// A copy of the image of the page of a pass, which has the page size. `TrailFull` where no entry is free, else `UnknownPass` where the pass is not out
-    /// here, else `OutOfMemory`; all three change nothing.
+    /// A copy of the image of the page of a pass, which has the page size. `TrailFull` where no entry is free, else
+    /// `UnknownPass` where the pass is not out here, else `OutOfMemory`; all three change nothing.
     pub fn read(&mut self, pass: &Pass) -> Result<Image, Refusal>
         ensures outcome { ReadOutcome self.old pass.now result self.new }
         ensures size { IfOk result (λ image. length image ≡ self.old.parameters.size) }
@@ -35,8 +35,8 @@ impl<K: Keeper> PoolCore<K> {
         Ok(image)
     }
 
-    /// Puts bytes into the page of a pass, from the offset on, and raises the page LSN to `lsn` if that is greater. `TrailFull`,
-    /// `UnknownPass` and `OutOfMemory` as from `read`.
+    /// Puts bytes into the page of a pass, from the offset on, and raises the page LSN to `lsn` if that is greater.
+    /// `TrailFull`, `UnknownPass` and `OutOfMemory` as from `read`.
     pub fn write(
         &mut self,
         pass: &Pass,

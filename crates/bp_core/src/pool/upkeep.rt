@@ -12,7 +12,8 @@ use bp_trail::{Call, Reply};
 const CLOCK_END: u64 = 4611686018427387904;
 
 impl<K: Keeper> PoolCore<K> {
-    /// Moves the clock on. `TrailFull` where no entry is free, else `ClockFull` where the clock would pass 2^62; both change nothing.
+    /// Moves the clock on. `TrailFull` where no entry is free, else `ClockFull` where the clock would pass 2^62; both
+    /// change nothing.
     pub fn tick(&mut self, client: u8, n: u64) -> Result<(), Refusal>
         requires client_in { client < self.old.parameters.clients }
         ensures outcome { TickOutcome self.old client n result self.new }
@@ -28,7 +29,8 @@ impl<K: Keeper> PoolCore<K> {
         Ok(())
     }
 
-    /// Notes that the log is durable as far as an LSN. `durable` never falls. `TrailFull` where no entry is free, which changes nothing.
+    /// Notes that the log is durable as far as an LSN. `durable` never falls. `TrailFull` where no entry is free,
+    /// which changes nothing.
     pub fn mark(&mut self, client: u8, lsn: Lsn) -> Result<(), Refusal>
         requires client_in { client < self.old.parameters.clients }
         ensures outcome { StepOutcome self.old client (Call.Mark lsn) result self.new }
@@ -41,8 +43,9 @@ impl<K: Keeper> PoolCore<K> {
         Ok(())
     }
 
-    /// Forgets the pages that are neither resident nor loading and whose newest reference is older than the retained period, and
-    /// counts them (figure 2.1's retained information). `TrailFull` where no entry is free, which changes nothing.
+    /// Forgets the pages that are neither resident nor loading and whose newest reference is older than the retained
+    /// period, and counts them (figure 2.1's retained information). `TrailFull` where no entry is free, which changes
+    /// nothing.
     pub fn purge(&mut self, client: u8) -> Result<u64, Refusal>
         requires client_in { client < self.old.parameters.clients }
         ensures outcome { PurgeOutcome self.old client result self.new }

@@ -18,12 +18,12 @@ use bp_page::{Image, PageNo, PortFault, Refusal};
 use bp_trail::{Call, Grant, Reply};
 
 impl<K: Keeper> PoolCore<K> {
-    /// Asks that a page be written out if it is unsaved: a ticket to do so; `Absent` where it is not resident, `Clean` where it is
-    /// saved. The page stays in its frame.
+    /// Asks that a page be written out if it is unsaved: a ticket to do so; `Absent` where it is not resident,
+    /// `Clean` where it is saved. The page stays in its frame.
     ///
-    /// `TrailFull` where fewer than two entries are free, else `OutOfMemory`, where it would have given a ticket; both change nothing.
-    /// `Busy` where the page is loading or being written out, `NeedLog` where the log is not durable as far as its page LSN; both are
-    /// entries, take no memory and change nothing else.
+    /// `TrailFull` where fewer than two entries are free, else `OutOfMemory`, where it would have given a ticket;
+    /// both change nothing. `Busy` where the page is loading or being written out, `NeedLog` where the log is not
+    /// durable as far as its page LSN; both are entries, take no memory and change nothing else.
     pub fn flush(&mut self, client: u8, page: PageNo) -> Result<Flush, Refusal>
         requires client_in { client < self.old.parameters.clients }
         requires page_in { page < self.old.parameters.pages }
@@ -108,9 +108,9 @@ impl<K: Keeper> PoolCore<K> {
         })
     }
 
-    /// Ends a write-out: `Cleaned`, or `StillDirty` where the page was written since it began. Where it failed, which is
-    /// `WriteFailed`, the page stays resident and unsaved. A ticket that is not out here comes back with the result, which is
-    /// `Unknown`, and nothing changes. It takes no memory.
+    /// Ends a write-out: `Cleaned`, or `StillDirty` where the page was written since it began. Where it failed, which
+    /// is `WriteFailed`, the page stays resident and unsaved. A ticket that is not out here comes back with the
+    /// result, which is `Unknown`, and nothing changes. It takes no memory.
     pub fn write_end(
         &mut self,
         ticket: WriteTicket,

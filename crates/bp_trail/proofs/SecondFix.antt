@@ -17,16 +17,16 @@ use Rattle.bp_trail.specs.References.{last}
 use Rattle.bp_trail.specs.Victim.{rank, before, victim}
 use Rattle.bp_trail.specs.PageMap.{has_free_frame, replace_reply, write_end_reply, reply_of}
 use Rattle.bp_trail.specs.Legal.{Legal}
+use Rattle.bp_trail.specs.Sentences.{victim_begun, victim_saved}
 use Rattle.bp_trail.proofs.Serials.{has_serial, fresh, none-goes, numbered}
-use Rattle.bp_core.proofs.Steps.{by}
 
 module _ (c : Parameters) (past : Trail) (who p t v : ℕ) (image : List ℕ) where
   -- the write-out of v by a fix of p, and its good end
   abbrev pub begun : Trail
-  begun = by who (Fix p) (WriteFirst t v image) ∷ past
+  begun = victim_begun who p t v image past
 
   abbrev pub cleaned : Trail
-  cleaned = by who (WriteEnd t v true) Cleaned ∷ begun
+  cleaned = victim_saved who p t v image past
 
   saved : unsaved cleaned v ≡ false
   saved = rw (eq-eqb v v refl, eq-eqb t t refl) refl
@@ -47,8 +47,11 @@ module _ (c : Parameters) (past : Trail) (who p t v : ℕ) (image : List ℕ) wh
     victim-stays = ap victim_writing landed
 
   -- no write of the page stands after the begin
+  pub ends-cleaned : write_end_reply begun t v true ≡ Cleaned
+  ends-cleaned = rw (eq-eqb t t refl) refl
+
   pub not-dirty : StillDirty ≡ write_end_reply begun t v true → ⊥
-  not-dirty is = let e : write_end_reply begun t v true ≡ Cleaned = rw (eq-eqb t t refl) refl in cc
+  not-dirty is = let e = ends-cleaned in cc
 
   pub cleaned-loads : Legal c past → WriteFirst t v image ≡ reply_of c past (Fix p) → reply_of c cleaned (Fix p) ≡ Load (tickets cleaned) (Some v)
   cleaned-loads legal is = go (loading past p) (resident past p) (has_free_frame c past) (victim c past) refl is
