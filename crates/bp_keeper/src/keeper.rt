@@ -1,5 +1,5 @@
 //! What a core asks of the keeper of its trail.
-ghost use Rattle.std.specs.Prelude.{◌≡◌, ℕ, ◌^◌, ◌<◌, ◌≤◌, List, IfOk};
+ghost use Rattle.std.specs.Prelude.{◌≡◌, ℕ, ◌^◌, ◌<◌, ◌≤◌, Bool, false, List, IsOk, IfOk};
 ghost use Rattle.bp_trail.specs.declared.entries.Reply.TheVariants.{Done, Content};
 
 use bp_page::{Bytes, Image, Lsn};
@@ -24,6 +24,9 @@ pub trait Keeper: Drop {
 
     const MOST_ROOM: usize;
 
+    /// Whether what it asks for may be refused. One that asks for no memory refuses nothing.
+    ghost REFUSES: { Bool };
+
     /// The entries, newest first, and how many there may be.
     ghost kept: { Self → Kept };
 
@@ -36,15 +39,18 @@ pub trait Keeper: Drop {
     /// No entries, and room for so many.
     fn with_capacity(alloc: Global, room: usize) -> Result<Self, AllocError>
         ensures empty { IfOk result (λ t. IsEmpty (kept t)) }
-        ensures room { IfOk result (λ t. room ≤ (kept t).capacity) };
+        ensures room { IfOk result (λ t. room ≤ (kept t).capacity) }
+        ensures memory { REFUSES ≡ false → IsOk result };
 
     /// What an entry with this image will need. It fails by want of memory alone.
     fn spare_image(alloc: Global, image: &Image) -> Result<Self::SpareImage, AllocError>
-        ensures { IfOk result (λ spare. serves_image spare image.now) };
+        ensures serves { IfOk result (λ spare. serves_image spare image.now) }
+        ensures memory { REFUSES ≡ false → IsOk result };
 
     /// What an entry with these bytes will need. It fails by want of memory alone.
     fn spare_bytes(alloc: Global, bytes: &Bytes) -> Result<Self::SpareBytes, AllocError>
-        ensures { IfOk result (λ spare. serves_bytes spare bytes.now) };
+        ensures serves { IfOk result (λ spare. serves_bytes spare bytes.now) }
+        ensures memory { REFUSES ≡ false → IsOk result };
 
     /// How many there are since the last cut.
     fn len(&self) -> usize

@@ -1,5 +1,5 @@
 //! What a client of a shared pool asks of the keeper of its own list.
-ghost use Rattle.std.specs.Prelude.{◌≡◌, ℕ, ◌+◌, ◌<◌, ◌≤◌, List, length, Some, IfOk, OnOk};
+ghost use Rattle.std.specs.Prelude.{◌≡◌, ℕ, ◌+◌, ◌<◌, ◌≤◌, false, List, length, Some, IsOk, IfOk, OnOk};
 ghost use Rattle.bp_trail.specs.declared.entries.Reply.TheVariants.{Fixed};
 
 use crate::keeper::Keeper;
@@ -36,7 +36,8 @@ pub trait ListKeeper: Keeper {
 
     /// A blank for an image of a page. It fails by want of memory alone.
     fn blank(alloc: Global, geometry: &Geometry) -> Result<Self::Blank, AllocError>
-        ensures { IfOk result (λ blank. fits blank geometry.now.size) };
+        ensures fits { IfOk result (λ blank. fits blank geometry.now.size) }
+        ensures memory { Self.REFUSES ≡ false → IsOk result };
 
     /// The spare for this image, which takes no memory.
     fn fill(blank: Self::Blank, image: &Image) -> Self::SpareImage

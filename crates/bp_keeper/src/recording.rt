@@ -35,7 +35,7 @@ impl Model for RecordingKeeper {
 }
 
 impl Keeper for RecordingKeeper {
-    ghost use Rattle.std.specs.Prelude.{◌≡◌};
+    ghost use Rattle.std.specs.Prelude.{◌≡◌, true};
     ghost use Rattle.std.proofs.Common.{arith};
 
     type SpareImage = Image;
@@ -45,6 +45,8 @@ impl Keeper for RecordingKeeper {
     ghost MOST_ROOM = { 16777216 };
 
     const MOST_ROOM: usize = 16777216;
+
+    ghost REFUSES = { true };
 
     ghost kept = { λ t. t };
 

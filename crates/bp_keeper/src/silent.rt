@@ -34,7 +34,7 @@ impl Model for SilentKeeper {
 }
 
 impl Keeper for SilentKeeper {
-    ghost use Rattle.std.specs.Prelude.{◌≡◌, ◌^◌};
+    ghost use Rattle.std.specs.Prelude.{◌≡◌, ◌^◌, false};
     ghost use Rattle.std.proofs.Common.{arith};
 
     type SpareImage = GhostImage;
@@ -44,6 +44,8 @@ impl Keeper for SilentKeeper {
     ghost MOST_ROOM = { 2 ^ 61 };
 
     const MOST_ROOM: usize = 2305843009213693952;
+
+    ghost REFUSES = { false };
 
     ghost kept = { λ t. t };
 

@@ -1,5 +1,5 @@
 //! Reading, writing and giving back a page by its pass.
-ghost use Rattle.std.specs.Prelude.{◌≡◌, ◌+◌, ◌≤◌, length, IfOk};
+ghost use Rattle.std.specs.Prelude.{◌≡◌, ◌≢◌, ◌+◌, ◌≤◌, false, length, IfOk};
 ghost use Rattle.bp_core.specs.Outcomes.{ReadOutcome, WriteOutcome, UnfixOutcome};
 
 use crate::passes::Pass;
@@ -46,6 +46,7 @@ impl<K: Keeper> PoolCore<K> {
     ) -> Result<(), Refusal>
         requires fits { offset + length bytes.now ≤ self.old.parameters.size }
         ensures outcome { WriteOutcome self.old pass.now offset bytes.now lsn result self.new }
+        ensures memory { K.REFUSES ≡ false → result ≢ Err Refusal.OutOfMemory }
     {
         if self.free() < 1 {
             return Err(Refusal::TrailFull);
