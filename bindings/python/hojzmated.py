@@ -123,7 +123,9 @@ def _text_of(number):
 
 
 class Refused(Exception):
-    """The pool refused a call, and is as it was. `number` is the refusal's, which `hojzmated.h` lists."""
+    """The pool refused a call. Nothing changed, but that 11, 12 and 13 count as calls.
+
+    `number` is the refusal's, which `hojzmated.h` lists."""
 
     def __init__(self, number):
         super().__init__(f"{_text_of(number)} (refusal {number})")

@@ -2,7 +2,8 @@ use crate::sys;
 use std::fmt;
 use std::result;
 
-/// Why the pool refused a call. A refusal leaves the pool as it was.
+/// Why the pool refused a call. A refusal changes nothing, but that 11, 12 and 13 count as calls,
+/// and 17, 18 and 19 end the ticket.
 ///
 /// Each has the number that `hojzmated.h` gives it, and its text, which [`Display`](fmt::Display)
 /// shows.

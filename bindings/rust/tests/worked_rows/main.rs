@@ -12,7 +12,7 @@ fn usual(frames: usize, rows: &[(Do, Gives)]) {
     Run::of(pool(2, 1000, frames, 100)).follow(rows);
 }
 
-// ---- reads.rt and wrong_pages.rt
+// ---- Reads
 
 #[test]
 fn failed_read_records_nothing() {
@@ -107,7 +107,7 @@ fn wrong_page_records_nothing() {
     usual(1, &rows);
 }
 
-// ---- write_outs.rt
+// ---- Write-outs
 
 // Page 1 is written while it is written out, and has to be written out once more before it makes
 // way.
@@ -208,7 +208,7 @@ fn mark_never_falls() {
     Run::of(pool(1, 1000, 1, 100)).follow(&rows);
 }
 
-// ---- judged.rt
+// ---- A reckoned trail
 
 // Of two frames, with two stamps. The first twelve rows bring in pages 1 and 2, and write page 1: at
 // time 7 page 1 has one reference, and page 2 has two. Then page 1 has to leave. It is written out
@@ -251,7 +251,7 @@ fn reckoned_trail() {
     usual(2, &rows);
 }
 
-// ---- strangers.rt
+// ---- Strangers
 
 const BRINGS: [(Do, Gives); 2] = [
     (Do::Fix(0, 1), Gives::Load(1, 0, None)),
@@ -307,7 +307,7 @@ fn passes_from_the_middle() {
     run.follow(&[(Do::Unfix(39), Gives::Done), (Do::Unfix(0), Gives::Done)]);
 }
 
-// ---- limits.rt
+// ---- Limits
 
 #[test]
 fn keeps_the_limits_of_a_pool() {
