@@ -52,7 +52,8 @@ frame_of past p block =
       image = held past p;
     }
 
--- what a core keeps beside its trail, but for the room of its lists; passes and tickets newest first
+-- what a core keeps beside its trail, but for the room of its lists; passes and tickets newest
+-- first
 pub record Parts : Type 0 where
   pub now : ℕ
   pub mark : ℕ
@@ -90,7 +91,8 @@ Observed c past x = record {
   out_is : x.out ≡ passes_out past;
   reads_is : x.reads ≡ reads_out past;
   writes_is : x.writes ≡ writes_out past;
-  -- in any order: each test passes as many frames as it passes of those that the resident pages have
+  -- in any order: each test passes as many frames as it passes of those that the resident pages
+  -- have
   frames_is : (test : Frame → Bool)
       → count test x.frames ≡ count (λ p. test (frame_of past p (x.places p))) (residents past);
   stamps_are : (p : ℕ) → HasStampsOf x.blocks p (references c past p);
@@ -105,7 +107,8 @@ pub record Agrees (c : Parameters) (past : Trail) (x : Parts) : Type 0 where
   pub retained_is : x.blocks.retained ≡ c.retained
   pub in_time : clock past ≤ 2 ^ 62
 
--- the room that later calls rely on, list by list: for the entries that are owed, of which so many are kept already,
+-- the room that later calls rely on: the trail has it for as many entries as the parameters say,
+-- and counts those that are kept
 pub record HasTrailRoom (c : Parameters) (trail : Kept) : Type 0 where
   pub small : c.room ≤ 2 ^ 61
   pub reserved : c.room ≤ trail.capacity
@@ -146,7 +149,8 @@ pub record HasNextNumbers (passes reads writes given begun : ℕ) : Type 0 where
   pub of_read : reads ≤ begun
   pub of_write : writes ≤ begun
 
--- the candidates for replacement: the pages that nobody uses, each with its K-th stamp and its last time
+-- the candidates for replacement: the pages that nobody uses, each with its K-th stamp and its last
+-- time
 abbrev pub unused : Trail → ℕ → Bool
 unused past p = resident past p && ((pins past p == 0) && not (writing past p))
 

@@ -1,5 +1,6 @@
--- What a caller sees of a core: what it was made with, and its entries so far, newest first. Those that cuts have
--- handed out are among them; the others are its trail. None of those that were handed out is kept.
+-- What a caller sees of a core: what it was made with, and its entries so far, newest first. Those
+-- that cuts have handed out are among them; the others are its trail. None of those that were
+-- handed out is kept.
 use Rattle.std.specs.Prelude.{ℕ, ◌-◌, ◌≤◌, ◌<◌, ◌∷◌, length}
 use Rattle.bp_trail.specs.declared.entries.Call.{Call}
 use Rattle.bp_trail.specs.declared.entries.Reply.{Reply}

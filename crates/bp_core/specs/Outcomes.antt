@@ -37,7 +37,8 @@ use Rattle.bp_core.specs.declared.passes.Ended.TheVariants as ended
 use Rattle.bp_core.specs.declared.passes.EndRefusal.{EndRefusal}
 use Rattle.bp_core.specs.declared.passes.EndRefusal.TheVariants as end_refusal
 
--- the replies for which memory is taken: for a pass, for a ticket and the page's history, for the image that goes out
+-- the replies for which memory is taken: for a pass, for a ticket and the page's history, for the
+-- image that goes out
 abbrev pub takes_memory : Reply → Bool
 takes_memory (Hit pass) = true
 takes_memory (Load ticket victim) = true

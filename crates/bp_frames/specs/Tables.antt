@@ -7,8 +7,8 @@ use Rattle.bp_frames.specs.Frames.{changed_at}
 use Rattle.bp_frames.specs.Rising.{IsRisingBy}
 
 -- the frames of pages, in the order of page numbers; how many wait for a page; the bytes of an
--- image; how many frames there may be;
--- how many pages the file has; and the candidates for replacement
+-- image; how many frames there may be; how many pages the file has; and the candidates for
+-- replacement
 pub record Table : Type 0 where
   pub frames : List Frame
   pub spare : ℕ

@@ -25,6 +25,7 @@ use std::marker::{Model, Send};
 /// Entries, newest first. They stand in proofs alone, and take no memory.
 #[derive(Drop)]
 pub struct GhostTrail {
+    /// The entries.
     pub ghost past: { Trail },
 }
 
@@ -38,6 +39,7 @@ unsafe impl Send for GhostTrail {}
 /// The bytes of an image. They stand in proofs alone, and take no memory.
 #[derive(Drop)]
 pub struct GhostImage {
+    /// The bytes.
     pub ghost bytes: { List ℕ },
 }
 

@@ -7,6 +7,7 @@
 
 pub mod ghost_trail;
 pub mod keeper;
+pub mod laws;
 pub mod list_keeper;
 pub mod recording;
 pub mod silent;

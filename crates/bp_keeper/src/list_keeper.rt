@@ -1,5 +1,5 @@
 //! What a client of a shared pool asks of the keeper of its own list.
-ghost use Rattle.std.specs.Prelude.{◌≡◌, ℕ, ◌+◌, ◌<◌, ◌≤◌, false, List, length, Some, IsOk, IfOk, OnOk};
+ghost use Rattle.std.specs.Prelude.{◌≡◌, ℕ, ◌+◌, ◌^◌, ◌<◌, ◌≤◌, false, List, length, Some, IsOk, IfOk, OnOk};
 ghost use Rattle.bp_trail.specs.declared.entries.Reply.TheVariants.{Fixed};
 
 use crate::keeper::Keeper;
@@ -32,7 +32,9 @@ pub trait ListKeeper: Keeper {
             ≡ with_capacity (Self.kept self.old) (Self.kept self.new).capacity }
         ensures grows { (Self.kept self.old).capacity ≤ (Self.kept self.new).capacity }
         ensures room { OnOk result
-            ((Self.kept self.old).len + more ≤ (Self.kept self.new).capacity) };
+            ((Self.kept self.old).len + more ≤ (Self.kept self.new).capacity) }
+        ensures memory { Self.REFUSES ≡ false → (Self.kept self.old).len + more < 2 ^ 64
+            → IsOk result };
 
     /// A blank for an image of a page. It fails by want of memory alone.
     fn blank(alloc: Global, geometry: &Geometry) -> Result<Self::Blank, AllocError>

@@ -10,8 +10,7 @@ IsUntold nodes seat i =
     (Has (node nodes (2 * i)) seat → ⊥) × (Has (node nodes (2 * i + 1)) seat → ⊥)
 
 -- a seat was changed, and the nodes up to one above it are right again: not yet the node right
--- above that one, nor those
--- further above that were told of the seat
+-- above that one, nor those further above that were told of the seat
 pub record IsWonUpTo (nodes : List Winners) (seats : List (Option Candidate))
     (seat at : ℕ) : Type 0 where
   pub length_is : length nodes ≡ length seats

@@ -45,10 +45,11 @@ pub record IsFirst (seats : List (Option Candidate)) (P : Candidate → Type 0)
   pub none_before : (k : ℕ) (x : Candidate) → seat_at seats k ≡ Some x → P x
       → winner first (Some x) ≡ first
 
--- the same by the number of the seat
+-- somebody stands at this seat, and is that one
 pub record IsFirstAt (seats : List (Option Candidate)) (P : Candidate → Type 0)
     (seat : ℕ) : Type 0 where
   pub in_range : seat < length seats
+  pub stands : seat_at seats seat ≢ None
   pub first : IsFirst seats P (seat_at seats seat)
 
 -- ---- a tree that may lag behind who stands at the seats
@@ -65,7 +66,7 @@ pub record FollowsOn (known : Candidate) (here : Option Candidate) : Type 0 wher
   pub not_before : (x : Candidate) → here ≡ Some x → IsFalse (is_before x known)
   pub no_earlier : (x : Candidate) → here ≡ Some x → known.1 ≤ x.1
 
--- nobody is known where nobody stands
+-- of who is known at a seat and who stands there: where nobody is known, nobody stands
 abbrev pub Lags : Option Candidate → Option Candidate → Type 0
 Lags None here = here ≡ None
 Lags (Some known) here = FollowsOn known here

@@ -3,8 +3,8 @@ ghost use Rattle.std.specs.Prelude.{◌≡◌, ℕ, ◌<◌, IsFalse, Some, None
 ghost use Rattle.bp_lruk.specs.Candidates.{is_eligible, IsVictim, NoPageTwice};
 ghost use Rattle.bp_lruk.specs.Seats.{entered, seat_of, with_seat, seated_in};
 
+use crate::lagging_tree::LaggingTree;
 use crate::settings::Settings;
-use crate::standing::Standing;
 use bp_page::PageNo;
 use std::alloc::{AllocError, Global};
 use std::marker::Model;
@@ -17,19 +17,23 @@ const MOST_LAGGING: usize = 64;
 /// A tree of winners stands over the seats, and lags behind a seat that was left. A page that enters again, and comes
 /// later in the order than the one that the tree knows there, stays where it was: so a hot page leaves and enters in
 /// O(1), with no walk up the tree. `victim` puts such a page in its place where it would come first otherwise. The tree
-/// lags behind 64 seats at most: for one more, the one that it may have lagged behind for longest is put in its place.
+/// lags behind 64 seats at most. Each of them is noted once, and for one more the tree catches up with the one that was
+/// noted first. So 64 hot pages take no walk, however often they are hit.
 ///
 /// A walk goes up as far as that changes what the tree knows, O(log frames) at most: `enter` and `leave` take one at
-/// most, `victim` one for each seat that the tree lags behind. With no correlated period, at a time that is not before
-/// any reference, the root knows who comes first. Else each look goes to O(log frames) nodes for each page that is
-/// still too young, and never to more than two for each frame. The memory is taken once, by `new`: 66 bytes a seat.
+/// most, `victim` one for each seat that the tree lags behind, and looks again after each. With no correlated period,
+/// at a time that is not before any reference, the root knows who comes first. Else each look goes to O(log frames)
+/// nodes for each page that is still too young, and never to more than two for each frame. The memory is taken once,
+/// by `new`: 67 bytes a seat.
 #[derive(Drop)]
 pub struct Candidates {
     correlated: u64,
-    standing: Standing,
-    /// The seats that the tree may lag behind, in a ring, and where the next one goes.
-    lagging: [usize; MOST_LAGGING],
+    tree: LaggingTree,
+    /// The seats that are noted, in a ring, and where the next one goes. The tree lags behind no other.
+    noted: [usize; MOST_LAGGING],
     next: usize,
+    /// Whether each seat is noted.
+    is_noted: Vec<bool>,
 }
 
 impl Model for Candidates {
@@ -37,7 +41,7 @@ impl Model for Candidates {
 
     ghost Value = { Seated };
 
-    ghost view = { λ c. record { correlated = c.correlated; seats = c.standing } };
+    ghost view = { λ c. record { correlated = c.correlated; seats = c.tree } };
 }
 
 impl Candidates {
@@ -50,12 +54,15 @@ impl Candidates {
               frames None;
         }) }
     {
-        let standing = Standing::new(alloc, frames)?;
+        let tree = LaggingTree::new(alloc, frames)?;
+        let is_noted = vec![in alloc; false; frames]?;
+        // The number of seats is none of them: nothing is noted yet.
         Ok(Candidates {
             correlated: settings.correlated,
-            standing,
-            lagging: [0; MOST_LAGGING],
+            tree,
+            noted: [frames; MOST_LAGGING],
             next: 0,
+            is_noted,
         })
     }
 
@@ -65,16 +72,23 @@ impl Candidates {
         requires empty { seat_of self.old seat ≡ None }
         ensures { self.new ≡ with_seat self.old seat (Some (hist_k, last, page)) }
     {
-        self.standing.put(seat, Some((hist_k, last, page)));
+        self.tree.put(seat, Some((hist_k, last, page)));
     }
 
-    // Lets the tree lag behind a seat, in place of the one that it has lagged behind for longest.
-    fn let_lag(&mut self, seat: usize)
+    // Notes a seat that the tree is about to lag behind, in place of the one that was noted first.
+    fn note(&mut self, seat: usize)
         ensures { self.new ≡ self.old }
     {
         let at = self.next % MOST_LAGGING;
-        self.standing.settle(self.lagging[at]);
-        self.lagging[at] = seat;
+        let first = self.noted[at];
+        self.tree.catch_up(first);
+        if first < self.is_noted.len() {
+            self.is_noted[first] = false;
+        }
+        if seat < self.is_noted.len() {
+            self.is_noted[seat] = true;
+        }
+        self.noted[at] = seat;
         self.next = at + 1;
     }
 
@@ -83,10 +97,11 @@ impl Candidates {
         requires { seat < length self.old.seats }
         ensures { self.new ≡ with_seat self.old seat None }
     {
-        if self.standing.is_settled(seat) {
-            self.let_lag(seat);
+        let is_noted = seat < self.is_noted.len() && self.is_noted[seat];
+        if !is_noted && self.tree.is_taken(seat) {
+            self.note(seat);
         }
-        self.standing.put(seat, None);
+        self.tree.put(seat, None);
     }
 
     /// The page to replace at the time `t`: of those last referenced more than the correlated period before, the first
@@ -98,9 +113,7 @@ impl Candidates {
         ensures none { IfNone result ((page : ℕ) → IsFalse
             (is_eligible (entered self.old) t page)) }
     {
-        let first = self
-            .standing
-            .first_before(t.saturating_sub(self.correlated))?;
+        let first = self.tree.first_before(t.saturating_sub(self.correlated))?;
         Some(first.2)
     }
 }

@@ -8,7 +8,8 @@ use Rattle.bp_page.specs.declared.slots.Format.TheVariants.{Plain, Headed}
 abbrev pub raw_slot : List ℕ → List ℕ
 raw_slot image = image
 
--- a slot of version 2: the page number and the page LSN, eight bytes each and little end first, and then the image
+-- a slot of version 2: the page number and the page LSN, eight bytes each and little end first, and
+-- then the image
 unfoldable pub headed_slot : ℕ → ℕ → List ℕ → List ℕ
 headed_slot page lsn image = little_bytes 8 page ++ little_bytes 8 lsn ++ image
 

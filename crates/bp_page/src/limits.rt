@@ -21,6 +21,7 @@ pub struct Geometry {
     pub pages: u64,
     /// The bytes of each page, 16 to 65,536 and a multiple of 16.
     pub size: usize,
+    /// Both are within these limits.
     pub ghost in_limits: { IsGeometry pages size },
 }
 

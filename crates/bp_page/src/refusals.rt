@@ -8,7 +8,8 @@ use thiserror::Error;
 /// Why a call of this workspace was refused. What holds afterwards, the call itself says.
 #[derive(Clone, Copy, PartialEq, Eq, Debug, Error)]
 pub enum Refusal {
-    /// The file has no page or more than 1,048,576, or the bytes of a page are no multiple of 16 from 16 to 65,536.
+    /// The file has no page or more than 1,048,576, or the bytes of a page are no multiple of 16 from 16 to 65,536. Of
+    /// references: they are of more different pages.
     #[error("the number of pages or the page size is out of its limits")]
     BadGeometry,
     /// K, a period, the frames, the clients or the room of the trail are out of their limits.
@@ -17,13 +18,14 @@ pub enum Refusal {
     /// The bytes of a page file are no whole number of pages from 1 to 1,048,576.
     #[error("the page file is no positive number of whole pages, or has too many")]
     BadLength,
-    /// Each page in a frame is pinned, is being written out, or was referenced within the correlated period.
+    /// No frame is free, and the page of each is pinned, is being read or written out, or was referenced within the
+    /// correlated period.
     #[error("no page may leave its frame")]
     NoVictim,
     /// The page has a change whose log record, this LSN, lies beyond the durable mark.
     #[error("the log must first be durable up to {0}")]
     NeedLog(Lsn),
-    /// A read or a write-out of the page is out, whosever it is: one's own counts too.
+    /// A read of the page is out, or for a flush a write-out of it. Whosever it is: one's own counts too.
     #[error("a device operation on the page is under way")]
     Busy,
     /// The core did not give this pass, or has taken it back.
@@ -32,10 +34,10 @@ pub enum Refusal {
     /// The core did not give this ticket, or its operation has ended.
     #[error("no such ticket is out")]
     UnknownTicket,
-    /// The device failed at the read; the page is in no frame.
+    /// The read failed, by its device or for want of memory; the page is in no frame.
     #[error("the page could not be read")]
     ReadFailed,
-    /// The device failed at the write; the page is in its frame, and not saved.
+    /// The write failed; the page is in its frame, and not saved.
     #[error("the page could not be written")]
     WriteFailed,
     /// The read found the number of another page; the page is in no frame.
@@ -44,7 +46,7 @@ pub enum Refusal {
     /// The entries left until the next cut do not suffice for the call and what it would owe.
     #[error("the trail has no room for the call")]
     TrailFull,
-    /// The clock would stand above 2^62, the greatest time.
+    /// The clock would stand above 2^62, the greatest time; of a cut, more than 2^62 passes or tickets were given.
     #[error("the clock would pass its end")]
     ClockFull,
     /// The memory that the call needs could not be had.
@@ -53,19 +55,21 @@ pub enum Refusal {
     /// Each of the 32 places of the session's ring has a pass that the pool has not taken yet.
     #[error("the ring of passes to give back is full")]
     RingFull,
-    /// After a run a client's list is not its part of the trail, or its log was ahead of its rows.
+    /// In a run of threads a client held a pass that the pool did not know, or could not give one back. Or after it a
+    /// client's list is not its part of the trail, or the log was marked ahead of client 0's rows.
     #[error("the clients' lists and the trail do not agree")]
     Disagree,
-    /// The record has not six fields, or one that its operation has no use for is not empty.
+    /// The record has not six fields, or one that its operation has no use for is not empty. Of references: it has no
+    /// such field.
     #[error("a record does not have the fields of its operation")]
     BadShape,
-    /// The client is no number from 0 to 63, or has no place in this run.
+    /// The client is no number from 0 to 63, none of the pool's, or in a `log` row not 0.
     #[error("no client has this number here")]
     BadClient,
     /// The word of the operation is none of the eight.
     #[error("no operation has this name")]
     BadOp,
-    /// A page, offset, LSN or number of ticks is no decimal number within its limits.
+    /// A page, offset, LSN, number of ticks or reference is no decimal number within its limits.
     #[error("a field is not a number within the limits")]
     BadNumber,
     /// The digits of the bytes are odd in number, or one of them is none of 0 to 9, a to f, A to F.
@@ -74,10 +78,10 @@ pub enum Refusal {
     /// The file has no such page, or the last byte would stand past the end of the page.
     #[error("the page is not of the file, or the bytes are not within the page")]
     OutOfPage,
-    /// The trace has more than 262,144 rows or 67,108,864 bytes.
+    /// The trace has more than 262,144 rows or 67,108,864 bytes, or the list more than 268,435,456 references.
     #[error("the trace is too long")]
     TooLong,
-    /// The file of the trace could not be opened, or a read of it failed.
+    /// A read of the trace or of the list failed.
     #[error("the trace could not be read")]
     ReadFault,
 }

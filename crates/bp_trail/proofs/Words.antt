@@ -1,15 +1,16 @@
 -- The words on one entry of a legal trail say what they seem to.
-use Rattle.std.proofs.Common.{◌≡◌, refl, sym, ap, subst, ◌∙◌, ℕ, Bool, true, false, ◌==◌, List, [], ◌∷◌, Option, Some, None, ◌⊎◌, inl, inr}
+use Rattle.std.proofs.Common.{◌≡◌, refl, sym, ap, subst, ◌∙◌, ℕ, Bool, true, false, ◌==◌, if◌then◌else◌, List, [], ◌∷◌, Option, Some, None, ◌⊎◌, inl, inr}
 use Rattle.std.specs.Option.{option_map_or}
-use Rattle.std.proofs.lemmas.Bool.{eqb-true, eq-eqb}
+use Rattle.std.proofs.lemmas.Bool.{cases_Bool, eqb-true, eq-eqb}
+use Rattle.std.proofs.lemmas.Option.{none-some, same_Some}
 use Rattle.bp_trail.specs.declared.entries.Entry.{Entry}
 use Rattle.bp_trail.specs.declared.entries.Call.{Call}
-use Rattle.bp_trail.specs.declared.entries.Call.TheVariants.{Fix, ReadEnd, WriteEnd, Write, Unfix, Flush}
+use Rattle.bp_trail.specs.declared.entries.Call.TheVariants.{Tick, Mark, Fix, ReadEnd, WriteEnd, Write, Unfix, Flush}
 use Rattle.bp_trail.specs.declared.entries.Reply.{Reply}
 use Rattle.bp_trail.specs.declared.entries.Reply.TheVariants.{Hit, Load, WriteFirst, Fixed, ReadFailed, WrongPage, Cleaned, StillDirty}
 use Rattle.bp_trail.specs.Parameters.{Parameters}
 use Rattle.bp_trail.specs.Lists.{EachEntry}
-use Rattle.bp_trail.specs.Event.{Grant, grant, hits, loads, writes, begins_of, ends_well, page_of, pass_given, read_ticket_given, write_ticket_given, pass_back, read_ticket_back, write_ticket_back}
+use Rattle.bp_trail.specs.Event.{Grant, grant, ticks, marked, lsn_of, lsn_written, hits, loads, writes, begins_of, ends_well, page_of, pass_given, read_ticket_given, write_ticket_given, pass_back, read_ticket_back, write_ticket_back}
 use Rattle.bp_trail.specs.Trail.{Trail}
 use Rattle.bp_trail.specs.Passes.{passes, tickets}
 use Rattle.bp_trail.specs.Images.{held}
@@ -128,6 +129,14 @@ module _ (c : Parameters) (past : Trail) (who : ℕ) where
   write-sound _ _ (flush_write v r w b) g h = let j : grant who v (tickets past) ≡ g = cc in record { client = ap (λ x. x.client) j; image = held past v; reply = ap (λ x. WriteFirst x.serial x.page (held past v)) j }
   write-sound _ _ _ g h = cc
 
+  written-sound : (call : Call) (reply : Reply) → Event c past who call reply → (p lsn : ℕ) → lsn_written p (entry who call reply) ≡ Some lsn → (w : IsWrite p (entry who call reply)) × (w.lsn ≡ lsn)
+  written-sound call reply v p lsn h =
+      let found : (b : Bool) → writes p (entry who call reply) ≡ b → (if b then Some (lsn_of call) else None) ≡ Some lsn = λ b is. sym (ap (λ b. if b then Some (lsn_of call) else None) is) ∙ h in
+      elim (cases_Bool (writes p (entry who call reply))) [
+        | inl is ↦ (let w = writes-sound call reply v p is in (w, sym (ap lsn_of w.call) ∙ same_Some (lsn_of call) lsn (found true is)))
+        | inr not ↦ absurd (none-some lsn (found false not))
+      ]
+
 pub fits : (c : Parameters) (past : Trail) → Legal c past → EachEntry (λ past e. FitsItsCall e) past
 fits c = of-all c (λ past e. FitsItsCall e) (λ past e l. let v = event-of c past e l.here in record {
   hit = hit-call c past e.client e.call e.reply v;
@@ -158,6 +167,9 @@ module _ (e : Entry) where
   writes-complete : (p : ℕ) → IsWrite p e → writes p e ≡ true
   writes-complete p w = rw w.call (eq-eqb p p refl)
 
+  written-complete : (p lsn : ℕ) → (w : IsWrite p e) × (w.lsn ≡ lsn) → lsn_written p e ≡ Some lsn
+  written-complete p lsn w = ap (λ b. if b then Some (lsn_of e.call) else None) (writes-complete p w.0) ∙ ap Some (ap lsn_of w.0.call ∙ w.1)
+
   begins-complete : (p : ℕ) → IsBegin p e → begins_of p e.reply ≡ true
   begins-complete p w = rw w.reply (eq-eqb p p refl)
 
@@ -173,6 +185,15 @@ module _ (e : Entry) where
 
   write-complete : (g : Grant) → GivesWriteTicket g e → write_ticket_given e.client e.reply ≡ Some g
   write-complete g w = rw w.reply (same g e.client w.client)
+
+-- the clock's steps, and the mark
+ticks-sound : (n : ℕ) (call : Call) → ticks call ≡ Some n → call ≡ Tick n
+ticks-sound n (Tick m) h = let j : m ≡ n = cc in ap Tick j
+ticks-sound n _ h = cc
+
+marked-sound : (lsn : ℕ) (call : Call) → marked call ≡ Some lsn → call ≡ Mark lsn
+marked-sound lsn (Mark m) h = let j : m ≡ lsn = cc in ap Mark j
+marked-sound lsn _ h = cc
 
 -- what a call gives back
 unfix-sound : (g : Grant) (call : Call) → option_map_or (λ n. g.serial == n) (pass_back call) false ≡ true → (p : ℕ) × (call ≡ Unfix g.serial p)
@@ -204,4 +225,7 @@ says c = of-all c (λ past e. SaysSo e) (λ past e l. let v = event-of c past e 
   unfixes = λ g. (unfix-sound g e.call, λ w. back (pass_back e.call) g.serial (ap pass_back w.1));
   ends_read = λ g. (end_read-sound g e.call, λ w. back (read_ticket_back e.call) g.serial (ap read_ticket_back w.2));
   ends_write = λ g. (end_write-sound g e.call, λ w. back (write_ticket_back e.call) g.serial (ap write_ticket_back w.2));
+  ticks = λ n. (ticks-sound n e.call, λ w. ap ticks w);
+  marked = λ lsn. (marked-sound lsn e.call, λ w. ap marked w);
+  lsn_written = λ p lsn. (written-sound c past e.client e.call e.reply v p lsn, written-complete e p lsn);
 })

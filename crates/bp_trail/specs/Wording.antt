@@ -5,7 +5,7 @@ use Rattle.bp_trail.specs.declared.entries.Call.{Call}
 use Rattle.bp_trail.specs.declared.entries.Call.TheVariants.{Tick, Mark, Fix, ReadEnd, WriteEnd, Read, Write, Unfix, Flush, Purge}
 use Rattle.bp_trail.specs.declared.entries.Reply.{Reply}
 use Rattle.bp_trail.specs.declared.entries.Reply.TheVariants.{Done, Hit, Load, WriteFirst, NoVictim, NeedLog, Busy, Fixed, ReadFailed, WrongPage, Cleaned, StillDirty, WriteFailed, Content, Clean, Absent, Forgot}
-use Rattle.bp_trail.specs.Event.{Grant, hits, loads, writes, begins_of, ends_well, pass_back, read_ticket_back, write_ticket_back}
+use Rattle.bp_trail.specs.Event.{Grant, ticks, marked, lsn_written, hits, loads, writes, begins_of, ends_well, pass_back, read_ticket_back, write_ticket_back}
 use Rattle.bp_trail.specs.Passes.{pass_of, read_ticket_of, write_ticket_of}
 use Rattle.bp_trail.specs.Sentences.{evicts, gives_back}
 
@@ -129,3 +129,7 @@ pub record SaysSo (e : Entry) : Type 0 where
   pub ends_write : (g : Grant)
       → Decides (gives_back (λ e. write_ticket_back e.call) g e)
       ((p : ℕ) × (good : Bool) × (e.call ≡ WriteEnd g.serial p good))
+  pub ticks : (n : ℕ) → (ticks e.call ≡ Some n) ↔ (e.call ≡ Tick n)
+  pub marked : (lsn : ℕ) → (marked e.call ≡ Some lsn) ↔ (e.call ≡ Mark lsn)
+  pub lsn_written : (p lsn : ℕ)
+      → (lsn_written p e ≡ Some lsn) ↔ ((w : IsWrite p e) × (w.lsn ≡ lsn))

@@ -30,8 +30,8 @@ ghost use Rattle.bp_trail.specs.Sentences.{Lasts, AreAfterLast, IsGreatest, evic
 
 /// In a legal trail each reply stands with its call: a hit and a load with a fix, a write-out's begin with a fix or
 /// with a flush of that page; a read end is answered with a pass exactly where it brought an image, and else that the
-/// read failed or that it found another page; a write end is good exactly where the write was. The table has them
-/// all. So each word on one entry says of its call and its reply what it seems to.
+/// read failed or that it found another page; a write end is good exactly where the write was. The table `can_answer`
+/// has all replies. So each word on one entry says of its call and its reply what it seems to.
 pub fn words_on_entries()
     ensures replies { (c : Parameters) (past : Trail) → Legal c past →
         EachEntry (λ before e. FitsItsCall e) past }

@@ -1,8 +1,8 @@
 //! The text of each number.
 //!
 //! They are those of `Refusal`, which can't be had here: it writes them out piece by piece, with an LSN in one, and C
-//! asks for a text by its number, and has the LSN in a field. So 12 and 13 are worded for C, where one client may have many
-//! calls under way. `peers/c/refusals.c` has each text once more, and looks whether it comes.
+//! asks for a text by its number, and has the LSN in a field. So 12 is worded for C. `peers/c/refusals.c` has each text
+//! once more, and looks whether it comes.
 ghost use Rattle.std.specs.Prelude.{◌≡◌};
 ghost use Rattle.hojzmated_c.specs.Texts.{text_of};
 

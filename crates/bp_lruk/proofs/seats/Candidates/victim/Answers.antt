@@ -6,10 +6,10 @@ use Rattle.bp_lruk.proofs.SeatSteps.{first_victim, no_victim}
 use Rattle.bp_lruk.proofs.seats.Candidates.victim.Goals as goal
 
 seated : Inside → Seated
-seated i = record { correlated = i.correlated; seats = i.standing }
+seated i = record { correlated = i.correlated; seats = i.tree }
 
 -- what the tree answers is the first of those old enough
-old_enough : (i : Inside) (t time : ℕ) (seats : List (Option Candidate)) (answer first : Option Candidate) → seats ≡ i.standing → time ≡ t - i.correlated → answer ≡ first → IsFirst seats (λ x. x.1 < time) answer → IsFirst i.standing (λ x. x.1 < t - i.correlated) first
+old_enough : (i : Inside) (t time : ℕ) (seats : List (Option Candidate)) (answer first : Option Candidate) → seats ≡ i.tree → time ≡ t - i.correlated → answer ≡ first → IsFirst seats (λ x. x.1 < time) answer → IsFirst i.tree (λ x. x.1 < t - i.correlated) first
 old_enough i t time seats answer first same at is f =
     subst (λ (seats : List (Option Candidate)). IsFirst seats (λ (x : Candidate). x.1 < t - i.correlated) first) same
     (subst (IsFirst seats (λ (x : Candidate). x.1 < t - i.correlated)) is (subst (λ n. IsFirst seats (λ (x : Candidate). x.1 < n) answer) at f))

@@ -9,8 +9,10 @@ pub returns-then-first-len-clause-found : goal.returns-then-first-len-clause-fou
 returns-then-first-len-clause-found c =
     let seats : List (Option Candidate) = c.self.inside.seats in
     let seat = c.first_below-first.result in
+    let in_range : seat < length seats = omega (arith, c.if-first-len.true, c.len-2.ensures) in
     subst (λ (s : List (Option Candidate)). IsFirstAt s (λ (e : Candidate). e.1 < c.args.time) seat) c.self.view_is (record {
-      in_range = omega (arith, c.if-first-len.true, c.len-2.ensures);
+      in_range = in_range;
+      stands = c.first_below-first.ensures.taken in_range;
       first = first_of_all seats (λ (e : Candidate). e.1 < c.args.time) (seat_at seats seat) c.first_below-first.ensures.first;
     })
 

@@ -1,6 +1,6 @@
 use Rattle.std.proofs.Common.{◌≡◌}
 use Rattle.bp_lruk.specs.Seats.{LagsBehind, unsettled}
-use Rattle.bp_lruk.proofs.standing.Standing.first_before.Given as goal
+use Rattle.bp_lruk.proofs.lagging_tree.LaggingTree.first_before.Given as goal
 
 abbrev pub invariant-loop-seat : goal.invariant-loop-seat
 invariant-loop-seat l = record {

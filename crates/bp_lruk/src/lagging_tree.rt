@@ -1,5 +1,6 @@
 //! Who stands at each seat, and who comes first of them, by a tree that may lag behind.
 ghost use Rattle.std.specs.Prelude.{◌≡◌, ◌⊎◌, ◌<◌, IsTrue, Some, None, IfOk, length, replicate, set};
+ghost use Rattle.std.specs.Option.{is_some};
 ghost use Rattle.bp_lruk.specs.Seats.{seat_at, same_seat, Lags, LagsBehind, IsFirst};
 
 use crate::candidates::precedes;
@@ -10,16 +11,17 @@ use std::marker::Model;
 
 /// Who stands at each seat, and a tree of winners over them.
 ///
-/// The tree may lag behind a seat: it may know somebody there who comes before whoever stands there now, and was last
-/// referenced before. Then nobody comes first in the tree but by such a seat, or rightly. So a page that is referenced
-/// again, and whose order only falls, waits until it would come first, and is put in its place in the tree then.
+/// The tree may lag behind a seat: it may know somebody there who has left, or who comes before whoever stands there
+/// now and was last referenced before. So who comes first in the tree does so of all, or the tree lags behind that
+/// seat. A page that is referenced again only falls in the order: it stays where it was in the tree until it would
+/// come first there, and is put in its place then.
 #[derive(Drop)]
-pub struct Standing {
+pub struct LaggingTree {
     seats: SeatList,
     tree: Tournament,
 }
 
-impl Model for Standing {
+impl Model for LaggingTree {
     ghost use Rattle.std.specs.Prelude.{List, Option};
     ghost use Rattle.bp_lruk.specs.Candidates.{Candidate};
     ghost use Rattle.bp_lruk.specs.Seats.{LagsBehind};
@@ -53,29 +55,33 @@ fn same_seat(a: &Seat, b: &Seat) -> bool
     }
 }
 
-impl Standing {
+impl LaggingTree {
     /// So many seats, and nobody on them.
-    pub fn new(alloc: Global, size: usize) -> Result<Standing, AllocError>
+    pub fn new(alloc: Global, size: usize) -> Result<LaggingTree, AllocError>
         ensures { IfOk result (λ s. s ≡ replicate size None) }
     {
         let seats = SeatList::new(alloc, size)?;
         let tree = Tournament::new(alloc, size)?;
-        Ok(Standing { seats, tree })
+        Ok(LaggingTree { seats, tree })
     }
 
-    /// Whether the tree knows who stands at a seat.
-    pub fn is_settled(&self, seat: usize) -> bool
+    /// Whether somebody stands at a seat.
+    pub fn is_taken(&self, seat: usize) -> bool
         requires { seat < length self.now }
+        ensures { result ≡ is_some (seat_at self.now seat) }
     {
-        same_seat(&self.tree.find(seat), &self.seats.find(seat))
+        self.seats.is_taken(seat)
     }
 
     /// Has the tree know who stands at a seat, if it is one.
-    pub fn settle(&mut self, seat: usize)
+    pub fn catch_up(&mut self, seat: usize)
         ensures { self.new ≡ self.old }
     {
-        if seat < self.seats.len() && !self.is_settled(seat) {
-            self.tree.put(seat, self.seats.find(seat));
+        if seat < self.seats.len() {
+            let here = self.seats.find(seat);
+            if !same_seat(&self.tree.find(seat), &here) {
+                self.tree.put(seat, here);
+            }
         }
     }
 
@@ -90,8 +96,8 @@ impl Standing {
         }
     }
 
-    /// Who comes first of those that were last referenced before a time. Seats that the tree lags behind are settled
-    /// until one comes first that is.
+    /// Who comes first of those that were last referenced before a time. The tree catches up with each seat that comes
+    /// first in it wrongly, until one does so rightly.
     pub fn first_before(&mut self, time: u64) -> Seat
         ensures same { self.new ≡ self.old }
         ensures first { IsFirst self.new (λ e. e.1 < time) result }

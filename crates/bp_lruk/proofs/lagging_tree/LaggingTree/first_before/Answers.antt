@@ -1,6 +1,6 @@
 use Rattle.std.proofs.Common.{◌∙◌, sym}
-use Rattle.bp_lruk.proofs.StandingLaws.{behind_less, first_stands}
-use Rattle.bp_lruk.proofs.standing.Standing.first_before.Goals as goal
+use Rattle.bp_lruk.proofs.LaggingLaws.{behind_less, first_stands}
+use Rattle.bp_lruk.proofs.lagging_tree.LaggingTree.first_before.Goals as goal
 
 pub returns-then-same_seat-clause-first : goal.returns-then-same_seat-clause-first
 returns-then-same_seat-clause-first c =
