@@ -5,7 +5,7 @@ use std::os::unix::fs::MetadataExt;
 use std::rt::Files;
 
 /// A file, of all that the machine has. Two that are there at one time are one file exactly where these are equal.
-#[derive(Clone, Copy, PartialEq, Eq, Debug)]
+#[derive(Clone, Copy, PartialEq, Eq)]
 pub(crate) struct FileId {
     device: u64,
     number: u64,

@@ -240,7 +240,7 @@ fn connect_file<R: Files<File = File>>(
 }
 
 /// Opens the page files that words name.
-#[derive(Clone, Copy, Debug)]
+#[derive(Clone, Copy)]
 pub struct PageFiles {
     alloc: Global,
     is_watched: bool,

@@ -28,7 +28,7 @@ const LONGEST: u64 = 1 << 62;
 const PAGE_SIZE: usize = 16;
 
 /// The pool of a cell.
-#[derive(Clone, Copy, PartialEq, Eq, Debug, Drop)]
+#[derive(Clone, Copy, Drop)]
 pub struct Plan {
     /// How many frames the pool has, from 1 to 65,536.
     pub frames: usize,
@@ -37,7 +37,7 @@ pub struct Plan {
 }
 
 /// Which page leaves where a page comes into a full pool.
-#[derive(Clone, Copy, PartialEq, Eq, Debug, Drop)]
+#[derive(Clone, Copy, Drop)]
 pub enum Policy {
     /// By LRU-K. No page's history is forgotten.
     LruK {

@@ -8,7 +8,7 @@ pub trait Progress {
 }
 
 /// Nobody is told.
-#[derive(Clone, Copy, Debug)]
+#[derive(Clone, Copy)]
 pub struct Untold;
 
 impl Progress for Untold {
@@ -16,7 +16,7 @@ impl Progress for Untold {
 }
 
 /// Which cell is counted, from 1, and of how many.
-#[derive(Clone, Copy, Debug)]
+#[derive(Clone, Copy)]
 pub struct Turn {
     pub cell: u64,
     pub cells: u64,

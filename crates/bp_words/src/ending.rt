@@ -14,7 +14,7 @@ use std::{fmt, io};
 pub const VERSION: &str = "0.9.0";
 
 /// How the program ends where it makes no report. Its `Display` is what is said.
-#[derive(Debug, Drop)]
+#[derive(Drop)]
 pub enum Ending {
     /// The words ask for help, which is this text.
     Help(String),

@@ -47,7 +47,7 @@ pub(crate) fn plain(alloc: Global, text: &str) -> Result<String, AllocError>
 }
 
 /// A text without a line end or another control character of ASCII.
-#[derive(Debug, Drop)]
+#[derive(Drop)]
 pub struct Line {
     text: String,
     pub ghost unbroken: { is_line (string_bytes text) ≡ true },

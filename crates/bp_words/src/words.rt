@@ -26,7 +26,7 @@ const MAX_FRAMES: usize = 65_536;
 const MAX_K: usize = 16;
 
 /// Where a run reads its trace, or a sweep its references.
-#[derive(Clone, Copy, Debug, PartialEq, Eq)]
+#[derive(Clone, Copy)]
 pub enum TraceSource<'a> {
     /// Standard input.
     Stdin,
@@ -35,7 +35,7 @@ pub enum TraceSource<'a> {
 }
 
 /// The order in which the rows of a trace are run.
-#[derive(Clone, Copy, Debug, PartialEq, Eq)]
+#[derive(Clone, Copy)]
 pub enum Order {
     /// That of the trace.
     Trace,
@@ -44,7 +44,7 @@ pub enum Order {
 }
 
 /// What the words of a run name.
-#[derive(Clone, Copy, Debug, PartialEq, Eq)]
+#[derive(Clone, Copy)]
 pub struct RunWords<'a> {
     /// Where the trace is read.
     pub trace: TraceSource<'a>,
@@ -69,7 +69,7 @@ pub struct RunWords<'a> {
 }
 
 /// What the words of a migration name.
-#[derive(Clone, Copy, Debug, PartialEq, Eq)]
+#[derive(Clone, Copy)]
 pub struct MigrationWords<'a> {
     /// The path of the page file of version 1.
     pub old: &'a str,
@@ -80,7 +80,7 @@ pub struct MigrationWords<'a> {
 }
 
 /// What the words of a sweep name: it runs each number of frames with each K.
-#[derive(Debug, PartialEq, Eq, Drop)]
+#[derive(Drop)]
 pub struct SweepWords<'a> {
     /// Where the references are read.
     pub references: TraceSource<'a>,
@@ -97,7 +97,7 @@ pub struct SweepWords<'a> {
 }
 
 /// What the words of a command line ask for.
-#[derive(Debug, PartialEq, Eq, Drop)]
+#[derive(Drop)]
 pub enum Task<'a> {
     /// A run of a trace.
     Run(RunWords<'a>),
