@@ -1,7 +1,8 @@
-//! The device of a core whose pages come and go by drivers.
+//! The device of a core whose pages come and go by drivers, or of sessions.
+ghost use Rattle.std.specs.Prelude.{◌≡◌, IfOk};
 
 use bp_device::{FusePort, MemDevice, MemPort, Port};
-use bp_page::{Bytes, Geometry, Lsn, PageNo, Refusal};
+use bp_page::{Bytes, Geometry, Lsn, PageNo, PortFault, Refusal};
 use bp_trail::Reply;
 use scenario_words::{Answer, Said, Shape, Thing, Verb, filled};
 use std::alloc::Global;
@@ -11,15 +12,23 @@ use std::sync::Wait;
 #[derive(Drop)]
 pub struct Device {
     alloc: Global,
-    memory: MemDevice,
+    pub memory: MemDevice,
     pub port: FusePort<MemPort>,
 }
 
-/// A device of zeros, and a port to it.
-fn new_device(alloc: Global, geometry: Geometry, shape: &Shape) -> Result<Device, Refusal> {
+/// A device of zeros, and a port to it whose n-th call fails, or none where n is 0. A write that fails may spoil its
+/// page.
+pub fn new_device(
+    alloc: Global,
+    geometry: Geometry,
+    n: u64,
+    spoils: bool,
+) -> Result<Device, Refusal>
+    ensures { IfOk result (λ device. device.memory ≡ geometry) }
+{
     let memory = MemDevice::new(alloc, geometry)?;
     let port = memory.port()?;
-    match FusePort::new(alloc, port, shape.fuse, shape.spoils) {
+    match FusePort::new(alloc, port, n, spoils) {
         Ok(port) => Ok(Device {
             alloc,
             memory,
@@ -37,7 +46,7 @@ pub fn device_for(
     shape: &Shape,
 ) -> Result<Option<Device>, Refusal> {
     match thing {
-        Thing::Driven => match new_device(alloc, geometry, shape) {
+        Thing::Driven => match new_device(alloc, geometry, shape.fuse, shape.spoils) {
             Ok(device) => Ok(Some(device)),
             Err(refusal) => Err(refusal),
         },
@@ -67,6 +76,7 @@ impl Device {
         };
         match port.read(rt, PageNo::new(page)) {
             Ok(image) => Answer::Reply(Reply::Content(image)),
+            Err(PortFault::Memory) => Answer::BadLine,
             Err(_) => Answer::Word("failed"),
         }
     }

@@ -1,6 +1,6 @@
 //! Lists of entries that no core made, before the judge of trails.
 
-use crate::lists::{Lists, new_lists};
+use crate::lists::{LOST, Lists, new_lists};
 use bp_check::{Setup, first_unlawful};
 use bp_lruk::Settings;
 use bp_page::{Bytes, Geometry, Image, Lsn, PageNo, Refusal};
@@ -181,12 +181,16 @@ impl Judged {
     }
 
     fn keep(&mut self, gave: Option<(bool, Grant)>) -> Answer {
-        let _ = match gave {
-            Some((true, pass)) => self.lists.passes.push(pass),
-            Some((false, ticket)) => self.lists.tickets.push(ticket),
-            None => Ok(()),
+        let is_kept = match gave {
+            Some((true, pass)) => self.lists.keep_pass(pass),
+            Some((false, ticket)) => self.lists.keep_ticket(ticket),
+            None => true,
         };
-        Answer::Reply(Reply::Done)
+        if is_kept {
+            Answer::Reply(Reply::Done)
+        } else {
+            LOST
+        }
     }
 
     /// Adds the entry that a call and its reply are, if it is lawful after those before it.

@@ -11,7 +11,9 @@ pub mod ranks;
 pub mod trails;
 pub mod uses;
 
+pub use devices::{Device, new_device};
 pub use histories::{Timed, new_timed};
 pub use judged::{Judged, new_judged};
-pub use pools::{Pool, new_pool};
+pub use lists::{LOST, Lists, grant_of, join, new_lists, pass_of};
+pub use pools::{Pool, done, new_pool, pool_of};
 pub use ranks::{Ranked, new_ranked};

@@ -2,8 +2,8 @@
 ghost use Rattle.std.specs.Prelude.{◌≡◌, ◌<◌, IfSome, IsTrue};
 
 use crate::devices::{Device, device_for};
-use crate::lists::{Lists, new_lists};
-use bp_core::{Fix, Flush, Keeper, Pass, PoolCore, ReadTicket, WriteTicket};
+use crate::lists::{LOST, Lists, new_lists};
+use bp_core::{Fix, Flush, Keeper, PoolCore, ReadTicket, WriteTicket};
 use bp_device::{Flushed, Port, drive_fix, drive_flush};
 use bp_lruk::Settings;
 use bp_page::{Geometry, Image, Lsn, PageNo, Refusal};
@@ -23,6 +23,9 @@ pub struct Pool<K: Keeper> {
     pub(crate) core: PoolCore<K>,
     pub(crate) device: Option<Device>,
     pub(crate) lists: Lists,
+    /// How many reads by sessions failed for want of memory alone, and were asked for once more. Each left two entries,
+    /// which are not counted.
+    pub(crate) unread: u64,
 }
 
 /// A core of this shape, with a device of its own where it is driven.
@@ -40,12 +43,14 @@ pub fn new_pool<K: Keeper>(alloc: Global, thing: Thing, shape: &Shape) -> Result
             core,
             device,
             lists,
+            unread: 0,
         }),
         Err(refusal) => Err(refusal),
     }
 }
 
-pub(crate) fn done(outcome: Result<(), Refusal>) -> Answer {
+/// What a call answers that gives nothing.
+pub fn done(outcome: Result<(), Refusal>) -> Answer {
     match outcome {
         Ok(()) => Answer::Reply(Reply::Done),
         Err(refusal) => Answer::Refused(refusal),
@@ -57,6 +62,23 @@ fn copy_of(alloc: Global, image: &Image) -> Option<Image> {
     match Image::of(alloc, image.bytes()) {
         Ok(copy) => Some(copy),
         Err(_) => Image::of(alloc, image.bytes()).ok(),
+    }
+}
+
+/// A core that sessions used, with the device that they used, and what they were given.
+pub fn pool_of<K: Keeper>(
+    alloc: Global,
+    core: PoolCore<K>,
+    device: Device,
+    lists: Lists,
+    unread: u64,
+) -> Pool<K> {
+    Pool {
+        alloc,
+        core,
+        device: Some(device),
+        lists,
+        unread,
     }
 }
 
@@ -77,24 +99,17 @@ impl<K: Keeper> Pool<K> {
         page.number() < self.core.geometry().pages
     }
 
-    pub(crate) fn keep_pass(&mut self, pass: Pass) -> Answer {
-        let note = pass.note();
-        let _ = self.lists.passes.push(Grant {
-            client: note.client(),
-            page: note.page(),
-            serial: note.serial(),
-        });
-        Answer::Reply(Reply::Hit(note.serial()))
-    }
-
     fn keep_read(&mut self, ticket: ReadTicket, evicted: Option<PageNo>) -> Answer {
         let serial = ticket.serial();
-        let _ = self.lists.tickets.push(Grant {
+        let is_kept = self.lists.keep_ticket(Grant {
             client: ticket.client(),
             page: ticket.page(),
             serial,
         });
         ticket.forfeit();
+        if !is_kept {
+            return LOST;
+        }
         Answer::Reply(Reply::Load {
             ticket: serial,
             evicted,
@@ -104,14 +119,14 @@ impl<K: Keeper> Pool<K> {
     fn keep_write(&mut self, ticket: WriteTicket) -> Answer {
         let image = copy_of(self.alloc, ticket.image());
         let (page, serial, lsn) = (ticket.page(), ticket.serial(), ticket.lsn());
-        let _ = self.lists.tickets.push(Grant {
+        let is_kept = self.lists.keep_ticket(Grant {
             client: ticket.client(),
             page,
             serial,
         });
         ticket.forfeit();
         match image {
-            Some(image) => {
+            Some(image) if is_kept => {
                 let reply = Reply::WriteFirst {
                     ticket: serial,
                     page,
@@ -119,7 +134,7 @@ impl<K: Keeper> Pool<K> {
                 };
                 Answer::Out(reply, lsn)
             }
-            None => Answer::BadLine,
+            _ => LOST,
         }
     }
 
@@ -130,7 +145,7 @@ impl<K: Keeper> Pool<K> {
         let size = self.core.geometry().size;
         let Some(device) = &mut self.device else {
             return match self.core.fix(client, page) {
-                Ok(Fix::Hit(pass)) => self.keep_pass(pass),
+                Ok(Fix::Hit(pass)) => self.lists.give(pass),
                 Ok(Fix::Load(ticket, evicted)) => self.keep_read(ticket, evicted),
                 Ok(Fix::WriteFirst(ticket)) => self.keep_write(ticket),
                 Err(refusal) => Answer::Refused(refusal),
@@ -140,7 +155,7 @@ impl<K: Keeper> Pool<K> {
             return Answer::BadLine;
         }
         match drive_fix(rt, &mut self.core, &mut device.port, client, page) {
-            Ok(pass) => self.keep_pass(pass),
+            Ok(pass) => self.lists.give(pass),
             Err(refusal) => Answer::Refused(refusal),
         }
     }
@@ -186,6 +201,11 @@ impl<K: Keeper> Pool<K> {
         }
     }
 
+    /// The room that is free, and that of the reads that are not counted.
+    pub fn free(&self) -> u64 {
+        (self.core.free() as u64).saturating_add(self.unread.saturating_mul(2))
+    }
+
     /// What the core tells, or its device.
     fn tell(&self, rt: &impl Wait, call: &Said) -> Answer {
         let [page, i, _] = call.numbers.list;
@@ -195,7 +215,7 @@ impl<K: Keeper> Pool<K> {
             (Verb::Unsaved, _) => Answer::yes_or_no(self.core.is_unsaved(PageNo::new(page))),
             (Verb::Clock, _) => Answer::Number(self.core.clock()),
             (Verb::Durable, _) => Answer::Number(self.core.durable().number()),
-            (Verb::Free, _) => Answer::Number(self.core.free() as u64),
+            (Verb::Free, _) => Answer::Number(self.free()),
             (_, Some(device)) => device.call(rt, call),
             _ => Answer::BadLine,
         }

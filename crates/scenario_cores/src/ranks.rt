@@ -27,29 +27,41 @@ pub fn new_ranked(alloc: Global, shape: &Shape) -> Result<Ranked, Refusal> {
     }
 }
 
+/// What a call comes to that takes a page in or out: true where it did, and false where nothing was called. None where
+/// the two bodies differ.
+type Taken = Option<bool>;
+
+fn answer_of(taken: Taken) -> Answer {
+    match taken {
+        Some(true) => done(Ok(())),
+        Some(false) => Answer::BadLine,
+        None => DIFFER,
+    }
+}
+
 impl Ranked {
-    fn enter(&mut self, page: PageNo, stamp: u64, last: u64) -> Answer {
+    fn enter(&mut self, page: PageNo, stamp: u64, last: u64) -> Taken {
         if self.index.is_full() || self.index.contains(page) {
-            return Answer::BadLine;
+            return Some(false);
         }
         if self.list.is_full() || self.list.contains(page) {
-            return DIFFER;
+            return None;
         }
         self.index.enter(page, stamp, last);
         self.list.enter(page, stamp, last);
-        done(Ok(()))
+        Some(true)
     }
 
-    fn leave(&mut self, page: PageNo) -> Answer {
+    fn leave(&mut self, page: PageNo) -> Taken {
         if !self.index.contains(page) {
-            return Answer::BadLine;
+            return Some(false);
         }
         if !self.list.contains(page) {
-            return DIFFER;
+            return None;
         }
         self.index.leave(page);
         self.list.leave(page);
-        done(Ok(()))
+        Some(true)
     }
 
     fn victim(&self, t: u64) -> Answer {
@@ -76,8 +88,8 @@ impl Ranked {
     }
 
     /// References a page of 64: one that is there leaves and enters anew, and for another one the victim leaves where
-    /// there is no room. Tells whether there was a victim.
-    fn refer(&mut self, state: u64, now: u64) -> bool {
+    /// there is no room. Tells whether there was a victim, unless the two bodies differ.
+    fn refer(&mut self, state: u64, now: u64) -> Option<bool> {
         let page = PageNo::new((state >> 33) % 64);
         let stamp = if (state >> 32) % 2 == 0 {
             0
@@ -90,9 +102,13 @@ impl Ranked {
         } else {
             self.index.victim(now)
         };
-        self.leave(victim.unwrap_or(page));
-        self.enter(page, stamp, now);
-        victim.is_some()
+        let left = self.leave(victim.unwrap_or(page));
+        let entered = self.enter(page, stamp, now);
+        if left.is_some() && entered.is_some() {
+            Some(victim.is_some())
+        } else {
+            None
+        }
     }
 
     /// Whether both bodies have this page or not, and the same victim.
@@ -111,10 +127,12 @@ impl Ranked {
                 .wrapping_mul(6364136223846793005)
                 .wrapping_add(1442695040888963407);
             now = now.saturating_add((state >> 50) % 3);
-            if self.refer(state, now) {
+            let referred = self.refer(state, now);
+            if referred == Some(true) {
                 left = left.saturating_add(1);
             }
             is_same = is_same
+                && referred.is_some()
                 && self.agrees(state, now)
                 && self.agrees(state, now.saturating_sub(5));
         }
@@ -130,8 +148,8 @@ impl Ranked {
     pub fn call(&mut self, call: &Said) -> Answer {
         let [first, second, third] = call.numbers.list;
         match call.verb {
-            Verb::Enter => self.enter(PageNo::new(first), second, third),
-            Verb::Leave => self.leave(PageNo::new(first)),
+            Verb::Enter => answer_of(self.enter(PageNo::new(first), second, third)),
+            Verb::Leave => answer_of(self.leave(PageNo::new(first))),
             Verb::Victim => self.victim(first),
             Verb::Nth => self.nth(first),
             Verb::Walk => self.walk(first, second),

@@ -2,34 +2,17 @@
 
 use crate::pools::Pool;
 use bp_check::Setup;
-use bp_core::RecordingKeeper;
+use bp_core::{RecordingKeeper, SilentKeeper};
 use bp_trail::Entry;
-use scenario_words::{Answer, Said, Shown, Verb};
+use scenario_words::{Answer, Said, Verb, entry_of, refusals_of, totals_of};
 use std::sync::Wait;
 
 impl Pool<RecordingKeeper> {
     /// Cuts its trail, which is put after the pieces that were cut before.
     pub fn cut(&mut self) -> Answer {
         match self.core.cut() {
-            Ok(piece) => {
-                let count = piece.len();
-                for entry in piece {
-                    let _ = self.lists.entries.push(entry);
-                }
-                Answer::Number(count as u64)
-            }
+            Ok(mut piece) => self.lists.keep_entries(&mut piece),
             Err(refusal) => Answer::Refused(refusal),
-        }
-    }
-
-    /// The n-th entry of its trail, from 1.
-    fn entry(&self, n: u64) -> Answer {
-        match self.core.trail().get(n.saturating_sub(1) as usize) {
-            Some(entry) => match format!(in self.alloc; "{}", Shown(entry)) {
-                Ok(text) => Answer::Text(text),
-                Err(_) => Answer::BadLine,
-            },
-            None => Answer::Word("none"),
         }
     }
 
@@ -37,10 +20,12 @@ impl Pool<RecordingKeeper> {
     pub fn ask(&mut self, rt: &impl Wait, call: &Said) -> Answer {
         let [n, _, _] = call.numbers.list;
         match call.verb {
-            Verb::Trail => Answer::Number(self.core.trail().len() as u64),
+            Verb::Trail => Answer::Number(self.counted(self.core.trail())),
+            Verb::Totals => totals_of(self.alloc, self.core.trail(), self.unread),
+            Verb::Refusals => refusals_of(self.core.trail()),
             Verb::Fresh => Answer::yes_or_no(self.core.fresh()),
             Verb::Cut => self.cut(),
-            Verb::Entry => self.entry(n),
+            Verb::Entry => entry_of(self.alloc, self.core.trail(), n),
             _ => self.call(rt, call),
         }
     }
@@ -52,9 +37,27 @@ impl Pool<RecordingKeeper> {
         }
     }
 
-    /// Whether all its entries were cut.
+    /// Whether all its entries were cut, and none of them was lost.
     pub fn is_gathered(&self) -> bool {
-        self.core.trail().is_empty()
+        self.core.trail().is_empty() && !self.lists.is_short
+    }
+
+    /// How many entries these are, without the reads that are not counted.
+    fn counted(&self, entries: &[Entry]) -> u64 {
+        (entries.len() as u64).saturating_sub(self.unread.saturating_mul(2))
+    }
+
+    /// Whether another core made the same entries. Where reads are not counted it is asked whether it made as many.
+    pub fn is_joined(&self, pieces: &Pool<RecordingKeeper>) -> bool {
+        if self.unread == 0 && pieces.unread == 0 {
+            return self.entries() == pieces.entries();
+        }
+        self.counted(self.entries()) == pieces.counted(pieces.entries())
+    }
+
+    /// Whether a core that only counts made as many entries. All entries of this one were cut.
+    pub fn is_counted(&self, counted: &Pool<SilentKeeper>) -> bool {
+        self.core.free() as u64 == counted.free().saturating_add(self.counted(self.entries()))
     }
 
     /// The entries that were cut, the oldest first.

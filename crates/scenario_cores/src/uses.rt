@@ -1,23 +1,19 @@
 //! Uses of a page by a pass, and ends of reads and write-outs by a ticket.
 ghost use Rattle.std.specs.Prelude.{◌≡◌, IfOk, length};
 
+use crate::lists::{grant_of, pass_of};
 use crate::pools::{Pool, done};
-use bp_core::{EndRefusal, Ended as WriteEnded, Keeper, Pass, PassNote};
+use bp_core::{EndRefusal, Ended as WriteEnded, Keeper};
 use bp_page::{Bytes, Image, Lsn, PortFault, Refusal};
 use bp_trail::{Grant, Reply};
 use scenario_words::{Answer, Said, Verb, filled, named};
-
-/// The pass that was given so.
-fn pass_of(grant: Grant) -> Pass {
-    PassNote::of(grant.client, grant.page, grant.serial).pass()
-}
 
 impl<K: Keeper> Pool<K> {
     fn end_read(&mut self, ticket: Grant, read: Result<Image, PortFault>) -> Answer
         requires size { IfOk read (λ image. length image ≡ self.old.core.parameters.size) }
     {
         match self.core.read_end_by(ticket, read) {
-            Ok(pass) => self.keep_pass(pass),
+            Ok(pass) => self.lists.give(pass),
             Err(EndRefusal::Failed(refusal)) => Answer::Refused(refusal),
             Err(EndRefusal::Unknown(back, read)) => {
                 Answer::Back(Refusal::UnknownTicket, back, read.ok())
@@ -86,15 +82,7 @@ impl<K: Keeper> Pool<K> {
     fn unfix(&mut self, grant: Grant) -> Answer {
         match self.core.unfix(pass_of(grant)) {
             Ok(()) => Answer::Reply(Reply::Done),
-            Err(pass) => {
-                let note = pass.note();
-                let back = Grant {
-                    client: note.client(),
-                    page: note.page(),
-                    serial: note.serial(),
-                };
-                Answer::Back(Refusal::UnknownPass, back, None)
-            }
+            Err(pass) => Answer::Back(Refusal::UnknownPass, grant_of(pass), None),
         }
     }
 

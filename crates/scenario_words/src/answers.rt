@@ -27,6 +27,14 @@ impl Answer {
     pub fn yes_or_no(is_so: bool) -> Answer {
         Answer::Word(if is_so { "yes" } else { "no" })
     }
+
+    /// Whether memory may have been refused.
+    pub fn lacks_memory(&self) -> bool {
+        matches!(
+            self,
+            Answer::Refused(Refusal::OutOfMemory) | Answer::BadLine
+        )
+    }
 }
 
 fn write_refusal<W: fmt::Write>(refusal: Refusal, f: &mut fmt::Formatter<W>) -> fmt::Result {

@@ -1,6 +1,6 @@
 //! What a line asks for.
 
-use crate::forms::CALLS;
+use crate::forms::{CALLS, SESSION_CALLS};
 use crate::images::{bytes_of, front_of};
 use bp_page::{Bytes, PageNo, PortFault};
 use bp_trail::Grant;
@@ -33,6 +33,19 @@ pub enum Verb {
     Entry,
     Cut,
     Fresh,
+    /// What the entries count up to, and how many of them are refusals.
+    Totals,
+    Refusals,
+    /// How many reads, or write-outs, began before one had ended.
+    ReadsAtOnce,
+    WritesAtOnce,
+    /// Of a session how long its list is, and how many passes it holds.
+    List,
+    Held,
+    CutList,
+    Settle,
+    /// The log is durable so far.
+    Raise,
     /// A page on the device, and how many calls of the device failed.
     Put,
     Device,
@@ -172,6 +185,12 @@ pub(crate) fn said_of(alloc: Global, forms: &[(&str, Verb)], line: &str) -> Opti
 /// The call that a line is, if it is one. None too where there is no memory for it.
 pub fn call_of(alloc: Global, line: &str) -> Option<Said> {
     said_of(alloc, &CALLS, line)
+}
+
+/// The call that a line is while sessions use a pool, if it is one. The client stands first. None too where there is no
+/// memory for it.
+pub fn session_call_of(alloc: Global, line: &str) -> Option<Said> {
+    said_of(alloc, &SESSION_CALLS, line)
 }
 
 /// What a name stands for, among what was given by serial numbers: one of these, or what a core may have given to a

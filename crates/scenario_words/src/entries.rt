@@ -1,8 +1,10 @@
 //! An entry of a trail as text, which says it as a line of a judged list does.
 
+use crate::answers::Answer;
 use crate::images::{write_bytes, write_image};
 use bp_page::{Image, PageNo};
 use bp_trail::{Call, Entry, Reply};
+use std::alloc::Global;
 use std::fmt;
 
 /// An entry that is printed: its call, the word `gives`, and its reply.
@@ -15,6 +17,17 @@ impl fmt::Display for Shown<'_> {
         write_call(entry.client, &entry.call, f)?;
         write!(f, " gives ")?;
         write_reply(&entry.reply, f)
+    }
+}
+
+/// The n-th entry of a trail, from 1, as it is printed, or `none`.
+pub fn entry_of(alloc: Global, trail: &[Entry], n: u64) -> Answer {
+    match trail.get(n.saturating_sub(1) as usize) {
+        Some(entry) => match format!(in alloc; "{}", Shown(entry)) {
+            Ok(text) => Answer::Text(text),
+            Err(_) => Answer::BadLine,
+        },
+        None => Answer::Word("none"),
     }
 }
 

@@ -4,7 +4,7 @@ use crate::calls::Verb;
 use bp_page::PortFault;
 
 /// Each call.
-pub(crate) const CALLS: [(&str, Verb); 40] = [
+pub(crate) const CALLS: [(&str, Verb); 44] = [
     ("fix N N", Verb::Fix),
     ("flush N N", Verb::Flush),
     ("tick N N", Verb::Tick),
@@ -37,6 +37,10 @@ pub(crate) const CALLS: [(&str, Verb); 40] = [
     ("entry N", Verb::Entry),
     ("cut", Verb::Cut),
     ("fresh", Verb::Fresh),
+    ("totals", Verb::Totals),
+    ("refusals", Verb::Refusals),
+    ("reads_at_once", Verb::ReadsAtOnce),
+    ("writes_at_once", Verb::WritesAtOnce),
     ("put N I", Verb::Put),
     ("device N", Verb::Device),
     ("failures", Verb::Failures),
@@ -51,6 +55,26 @@ pub(crate) const CALLS: [(&str, Verb); 40] = [
     ("nth N", Verb::Nth),
     ("walk N N", Verb::Walk),
     ("on N", Verb::On),
+];
+
+/// Each call while sessions use a pool. That of a session has its client first.
+pub(crate) const SESSION_CALLS: [(&str, Verb); 16] = [
+    ("N fix N", Verb::Fix),
+    ("N flush N", Verb::Flush),
+    ("N tick N", Verb::Tick),
+    ("N purge", Verb::Purge),
+    ("N read G", Verb::Read),
+    ("N write G at N B lsn N", Verb::Write),
+    ("N unfix G", Verb::Unfix),
+    ("N settle", Verb::Settle),
+    ("N list", Verb::List),
+    ("N held", Verb::Held),
+    ("N cut", Verb::CutList),
+    ("N failures", Verb::Failures),
+    ("raise N", Verb::Raise),
+    ("cut", Verb::Cut),
+    ("put N I", Verb::Put),
+    ("device N", Verb::Device),
 ];
 
 /// Each reply of an entry.

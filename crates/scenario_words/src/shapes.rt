@@ -2,6 +2,17 @@
 
 use std::alloc::Global;
 
+/// How a scenario is played: what keeps a trail does so in one way.
+#[derive(Clone, Copy)]
+pub enum Way {
+    /// It keeps its trail whole, and cuts it where a line says so.
+    Whole,
+    /// It cuts its trail after each call.
+    Pieces,
+    /// It only counts its entries.
+    Counted,
+}
+
 /// How the cores of a line keep their trails.
 #[derive(Clone, Copy)]
 pub enum Keeps {
@@ -19,6 +30,10 @@ pub enum Thing {
     Core,
     /// A core with a device of its own.
     Driven,
+    /// A pool that sessions use in turn.
+    Pool,
+    /// A pool that client threads use.
+    Run,
     Histories,
     Candidates,
     /// A list of entries before the judge of trails.
@@ -40,6 +55,8 @@ pub struct Shape {
     /// The call of the device that fails, from 1, or 0, and whether a write that fails spoils its page.
     pub fuse: u64,
     pub spoils: bool,
+    /// How often a call of a port looks for one of the other port, where two ports wait for one another, or 0.
+    pub turns: u64,
 }
 
 /// What a line makes that names no number: one frame over sixteen pages of sixteen bytes, two clients and LRU-2.
@@ -55,6 +72,7 @@ const USUAL: Shape = Shape {
     room: 10_000,
     fuse: 0,
     spoils: false,
+    turns: 0,
 };
 
 impl Shape {
@@ -83,6 +101,7 @@ impl Shape {
                 self.keeps = Keeps::Counted;
                 self.room = number as usize;
             }
+            "turns" => self.turns = number,
             "fuse" => self.fuse = number,
             "spoiling_fuse" => {
                 self.fuse = number;
@@ -112,6 +131,8 @@ fn thing_of(word: &str) -> Option<Thing> {
     match word {
         "core" => Some(Thing::Core),
         "driven" => Some(Thing::Driven),
+        "pool" => Some(Thing::Pool),
+        "run" => Some(Thing::Run),
         "histories" => Some(Thing::Histories),
         "candidates" => Some(Thing::Candidates),
         "judged" => Some(Thing::Judged),

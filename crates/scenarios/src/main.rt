@@ -10,20 +10,26 @@ mod worlds;
 use sheets::Sheet;
 use std::alloc::Global;
 use std::io;
+use std::marker::Sync;
 use std::process::ExitCode;
 use std::sync::Wait;
+use std::thread::Threads;
 
 /// Plays the scenarios of a text. It prints `ok` and the name of each that holds, each line of the others that answers
 /// otherwise, and at the end how many hold and how many do not. True where all hold. It fails where a line can't be
 /// printed, or by want of memory for the text of an answer or for a name.
-fn play(rt: &(impl Print + Wait), sheet: &mut Sheet, text: &str) -> io::Result<bool> {
+fn play(
+    rt: &(impl Print + Threads + Wait + Sync),
+    sheet: &mut Sheet,
+    text: &str,
+) -> io::Result<bool> {
     for line in text.lines() {
         sheet.take(rt, line)?;
     }
     sheet.end(rt)
 }
 
-fn run(rt: &(impl Print + Input + Wait + Alloc<A = Global>)) -> io::Result<bool> {
+fn run(rt: &(impl Print + Input + Threads + Wait + Sync + Alloc<A = Global>)) -> io::Result<bool> {
     let text = io::read_to_string(rt.alloc(), rt.reader())?;
     let mut sheet = Sheet::new(rt.alloc());
     play(rt, &mut sheet, text.as_str())

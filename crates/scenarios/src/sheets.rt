@@ -1,10 +1,23 @@
 //! The lines of all scenarios, one after the other.
 
-use crate::worlds::{Verdict, Way, World, judge};
-use scenario_words::Answer;
+use crate::worlds::{Verdict, World, judge};
+use scenario_sessions::Answers;
+use scenario_words::{Answer, Way};
 use std::alloc::Global;
-use std::io;
+use std::marker::Sync;
 use std::sync::Wait;
+use std::thread::Threads;
+use std::{io, mem};
+
+/// The line that ends a pool that clients share.
+const END: &str = "finish";
+
+/// What a line has to answer, and its number.
+#[derive(Drop)]
+struct Wanted {
+    line: u64,
+    text: String,
+}
 
 /// What was printed and counted so far, and the scenario that goes on, which is played in three ways side by side.
 #[derive(Drop)]
@@ -13,6 +26,9 @@ pub struct Sheet {
     whole: World,
     pieces: World,
     counted: World,
+    /// The lines so far of a pool that clients share, which are played together, and what they have to answer.
+    lines: Vec<String>,
+    wanted: Vec<Wanted>,
     name: String,
     /// Whether its lines held so far.
     holds: bool,
@@ -38,6 +54,21 @@ fn row(line: &str) -> (&str, &str) {
     }
 }
 
+/// Whether a line makes a pool that clients share.
+fn makes_a_pool(call: &str) -> bool {
+    let (word, _) = call.split_once(' ').unwrap_or((call, ""));
+    word == "pool" || word == "run"
+}
+
+/// Whether an answer is one of those that may come, which strokes part.
+fn may_come(wanted: &str, text: &str) -> bool {
+    let mut found = false;
+    for one in wanted.split('|') {
+        found = found || one.trim() == text;
+    }
+    found
+}
+
 impl Sheet {
     pub fn new(alloc: Global) -> Sheet {
         Sheet {
@@ -45,6 +76,8 @@ impl Sheet {
             whole: World::new(alloc, Way::Whole),
             pieces: World::new(alloc, Way::Pieces),
             counted: World::new(alloc, Way::Counted),
+            lines: Vec::new(alloc),
+            wanted: Vec::new(alloc),
             name: String::new(alloc),
             holds: true,
             line: 0,
@@ -54,7 +87,11 @@ impl Sheet {
     }
 
     /// Takes a line.
-    pub fn take(&mut self, rt: &(impl Print + Wait), line: &str) -> io::Result<()> {
+    pub fn take(
+        &mut self,
+        rt: &(impl Print + Threads + Wait + Sync),
+        line: &str,
+    ) -> io::Result<()> {
         self.line = self.line.saturating_add(1);
         for part in said(line).split(';') {
             self.take_part(rt, part.trim())?;
@@ -62,7 +99,11 @@ impl Sheet {
         Ok(())
     }
 
-    fn take_part(&mut self, rt: &(impl Print + Wait), part: &str) -> io::Result<()> {
+    fn take_part(
+        &mut self,
+        rt: &(impl Print + Threads + Wait + Sync),
+        part: &str,
+    ) -> io::Result<()> {
         if part.is_empty() {
             return Ok(());
         }
@@ -72,40 +113,125 @@ impl Sheet {
         }
     }
 
-    fn begin(&mut self, rt: &impl Print, name: &str) -> io::Result<()> {
+    fn begin(&mut self, rt: &(impl Print + Threads + Wait + Sync), name: &str) -> io::Result<()> {
         self.close(rt)?;
         self.name = String::from_str(self.alloc, name)?;
         Ok(())
     }
 
-    fn call(&mut self, rt: &(impl Print + Wait), line: &str) -> io::Result<()> {
+    /// Makes a call, or keeps it for the end of the pool that it is of.
+    fn call(&mut self, rt: &(impl Print + Threads + Wait + Sync), line: &str) -> io::Result<()> {
         let (call, wanted) = row(line);
+        if self.lines.is_empty() && !makes_a_pool(call) {
+            return self.call_at_once(rt, call, wanted);
+        }
+        self.keep(call, wanted)?;
+        if call == END {
+            self.play(rt)?;
+        }
+        Ok(())
+    }
+
+    fn call_at_once(
+        &mut self,
+        rt: &(impl Print + Threads + Wait + Sync),
+        call: &str,
+        wanted: &str,
+    ) -> io::Result<()> {
+        let line = self.line;
         let answer = self.whole.take(rt, call);
-        self.compare(rt, "", wanted, answer)?;
+        self.compare(rt, line, "", wanted, &answer)?;
         let answer = self.pieces.take(rt, call);
-        self.compare(rt, ", cut after each call", wanted, answer)?;
+        self.compare(rt, line, ", cut after each call", wanted, &answer)?;
         let answer = self.counted.take(rt, call);
-        self.compare(rt, ", counted", wanted, answer)
+        self.compare(rt, line, ", counted", wanted, &answer)
+    }
+
+    fn keep(&mut self, call: &str, wanted: &str) -> io::Result<()> {
+        let call = String::from_str(self.alloc, call)?;
+        let text = String::from_str(self.alloc, wanted)?;
+        self.lines.push(call)?;
+        self.wanted.push(Wanted {
+            line: self.line,
+            text,
+        })?;
+        Ok(())
+    }
+
+    /// Plays the lines that were kept, in each way.
+    fn play(&mut self, rt: &(impl Print + Threads + Wait + Sync)) -> io::Result<()> {
+        let lines = mem::replace(&mut self.lines, Vec::new(self.alloc));
+        let wanted = mem::replace(&mut self.wanted, Vec::new(self.alloc));
+        let Some((first, lines)) = lines.split_first() else {
+            return Ok(());
+        };
+        let answers = self.whole.play(rt, first.as_str(), lines);
+        self.compare_all(rt, "", &wanted, &answers)?;
+        let answers = self.pieces.play(rt, first.as_str(), lines);
+        self.compare_all(rt, ", cut after each call", &wanted, &answers)?;
+        let answers = self.counted.play(rt, first.as_str(), lines);
+        self.compare_all(rt, ", counted", &wanted, &answers)
+    }
+
+    /// Plays the lines that were kept of a pool that no line ended.
+    fn end_pool(&mut self, rt: &(impl Print + Threads + Wait + Sync)) -> io::Result<()> {
+        if self.lines.is_empty() {
+            return Ok(());
+        }
+        self.keep(END, "done")?;
+        self.play(rt)
+    }
+
+    /// Tells where the answers of one of the ways are not the wanted ones.
+    fn compare_all(
+        &mut self,
+        rt: &impl Print,
+        way: &str,
+        wanted: &[Wanted],
+        answers: &Option<Answers>,
+    ) -> io::Result<()> {
+        let Some(answers) = answers else {
+            return Ok(());
+        };
+        for (at, wanted) in wanted.iter().enumerate() {
+            match answers.list.get(at) {
+                Some(answer) => self.compare(rt, wanted.line, way, wanted.text.as_str(), answer)?,
+                None => self.tell(rt, wanted.line, way, wanted.text.as_str(), "no answer")?,
+            }
+        }
+        Ok(())
     }
 
     /// Tells where the answer of one of the ways is not the wanted one.
     fn compare(
         &mut self,
         rt: &impl Print,
+        line: u64,
         way: &str,
         wanted: &str,
-        answer: Option<Answer>,
+        answer: &Option<Answer>,
     ) -> io::Result<()> {
         let Some(answer) = answer else {
             return Ok(());
         };
         let text = format!(in self.alloc; "{answer}")?;
-        if text.as_str() == wanted {
+        if may_come(wanted, text.as_str()) {
             return Ok(());
         }
+        self.tell(rt, line, way, wanted, text.as_str())
+    }
+
+    fn tell(
+        &mut self,
+        rt: &impl Print,
+        line: u64,
+        way: &str,
+        wanted: &str,
+        got: &str,
+    ) -> io::Result<()> {
         self.holds = false;
-        let (name, number) = (self.name.as_str(), self.line);
-        println!(rt; "{name} line {number}{way}: wanted {wanted}, got {text}")
+        let name = self.name.as_str();
+        println!(rt; "{name} line {line}{way}: wanted {wanted}, got {got}")
     }
 
     /// How many calls were refused memory, and made once more.
@@ -120,23 +246,23 @@ impl Sheet {
     fn end_worlds(&mut self) -> Verdict {
         self.whole.gather();
         self.pieces.gather();
-        let verdict = judge(self.alloc, &self.whole, &self.pieces);
+        let verdict = judge(self.alloc, &self.whole, &self.pieces, &self.counted);
         self.whole.clear();
         self.pieces.clear();
         self.counted.clear();
         verdict
     }
 
-    /// Ends the scenario that goes on, if there is one.
-    fn close(&mut self, rt: &impl Print) -> io::Result<()> {
+    /// Ends the scenario that goes on, if there is one. What came before the first is to ask for nothing: it fails
+    /// where a line of it answers otherwise, and is not counted where none does.
+    fn close(&mut self, rt: &(impl Print + Threads + Wait + Sync)) -> io::Result<()> {
+        self.end_pool(rt)?;
         let again = self.again();
         let verdict = self.end_worlds();
         let holds = self.holds;
         self.holds = true;
-        if self.name.is_empty() {
-            return Ok(());
-        }
         match verdict {
+            Verdict::Good if holds && self.name.is_empty() => Ok(()),
             Verdict::Good if holds => self.tell_passed(rt, again),
             verdict => self.tell_failed(rt, verdict),
         }
@@ -160,12 +286,13 @@ impl Sheet {
                 println!(rt; "{name}: entry {place} of its trail is not lawful")
             }
             Verdict::Torn => println!(rt; "{name}: the pieces of its trail are not its trail"),
+            Verdict::Miscounted => println!(rt; "{name}: what only counts made other entries"),
             Verdict::NoMemory => println!(rt; "{name}: there was no memory to judge its trail"),
         }
     }
 
     /// Ends the last scenario, and tells how many hold and how many do not. True where all hold.
-    pub fn end(&mut self, rt: &impl Print) -> io::Result<bool> {
+    pub fn end(&mut self, rt: &(impl Print + Threads + Wait + Sync)) -> io::Result<bool> {
         self.close(rt)?;
         let (passed, failed) = (self.passed, self.failed);
         println!(rt; "{passed} passed, {failed} failed")?;

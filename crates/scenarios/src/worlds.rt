@@ -1,24 +1,16 @@
 //! What a scenario made, and which of it is called.
 
-use bp_check::first_unlawful;
+use bp_check::{Setup, first_unlawful};
 use bp_core::{RecordingKeeper, SilentKeeper};
 use bp_page::Refusal;
-use bp_trail::Reply;
+use bp_trail::{Entry, Reply};
 use scenario_cores::{Judged, Pool, Ranked, Timed, new_judged, new_pool, new_ranked, new_timed};
-use scenario_words::{Answer, Keeps, Said, Shape, Thing, Verb, call_of, maker_of};
+use scenario_sessions::{Answers, Ran, play_pool, play_run};
+use scenario_words::{Answer, Keeps, Said, Shape, Thing, Verb, Way, call_of, maker_of};
 use std::alloc::{AllocError, Global};
+use std::marker::Sync;
 use std::sync::Wait;
-
-/// How the cores of a world keep their trails.
-#[derive(Clone, Copy)]
-pub enum Way {
-    /// Each keeps it whole, and cuts it where a line says so.
-    Whole,
-    /// Each cuts it after each call.
-    Pieces,
-    /// Each only counts its entries.
-    Counted,
-}
+use std::thread::Threads;
 
 /// What a line made.
 #[derive(Drop)]
@@ -28,6 +20,23 @@ enum Made {
     Histories(Timed),
     Candidates(Ranked),
     Judged(Judged),
+    Ran(Ran),
+}
+
+/// Whether a call asks of the trail, which is another one in the ways beside the first.
+fn asks_the_trail(verb: Verb) -> bool {
+    matches!(
+        verb,
+        Verb::Trail | Verb::Fresh | Verb::Cut | Verb::Entry | Verb::Totals | Verb::Refusals
+    )
+}
+
+/// What a line makes. Where memory may have been refused, the line is read once more.
+fn made_again(alloc: Global, line: &str) -> Option<(Thing, Shape)> {
+    match maker_of(alloc, line) {
+        Some(made) => Some(made),
+        None => maker_of(alloc, line),
+    }
 }
 
 /// What a scenario made in one of the ways.
@@ -49,7 +58,7 @@ pub struct World {
 fn is_there(way: Way, thing: Thing, keeps: Keeps) -> bool {
     match (way, thing, keeps) {
         (Way::Whole, _, _) => true,
-        (_, Thing::Core | Thing::Driven, Keeps::Each) => true,
+        (_, Thing::Core | Thing::Driven | Thing::Pool, Keeps::Each) => true,
         _ => false,
     }
 }
@@ -74,6 +83,7 @@ impl Made {
             Made::Counted(core) => core.call(rt, call),
             Made::Histories(timed) => timed.call(call),
             Made::Candidates(ranked) => ranked.call(call),
+            Made::Ran(ran) => ran.call(rt, call),
             Made::Judged(_) => Answer::BadLine,
         }
     }
@@ -84,17 +94,37 @@ impl Made {
             Made::Kept(core) => core.told(),
             Made::Counted(core) => core.told(),
             Made::Histories(timed) => timed.told(),
-            Made::Candidates(_) | Made::Judged(_) => 0,
+            Made::Candidates(_) | Made::Judged(_) | Made::Ran(_) => 0,
         }
     }
 }
 
-/// Whether memory may have been refused.
-fn lacks_memory(answer: &Answer) -> bool {
-    matches!(
-        answer,
-        Answer::Refused(Refusal::OutOfMemory) | Answer::BadLine
-    )
+/// What the lines of a pool leave that clients share, if they leave something.
+fn played<R: Threads + Wait + Sync>(
+    rt: &R,
+    alloc: Global,
+    way: Way,
+    made: (Thing, Shape),
+    lines: &[String],
+    answers: &mut Answers,
+) -> Option<Made> {
+    let (thing, shape) = made;
+    if matches!(thing, Thing::Run) {
+        return match play_run(rt, alloc, &shape, lines, answers) {
+            Some(ran) => Some(Made::Ran(ran)),
+            None => None,
+        };
+    }
+    if matches!((way, shape.keeps), (Way::Counted, _) | (_, Keeps::Counted)) {
+        return match play_pool::<SilentKeeper, R>(rt, alloc, way, &shape, lines, answers) {
+            Some(pool) => Some(Made::Counted(pool)),
+            None => None,
+        };
+    }
+    match play_pool::<RecordingKeeper, R>(rt, alloc, way, &shape, lines, answers) {
+        Some(pool) => Some(Made::Kept(pool)),
+        None => None,
+    }
 }
 
 impl World {
@@ -109,22 +139,32 @@ impl World {
         }
     }
 
-    /// Has what was made, which is called from here on.
+    /// Has what was made, which is called from here on. Where memory for it is refused, it is asked for once more.
     fn have(&mut self, made: Made) -> Answer {
         let at = self.made.len();
-        match self.made.push(made) {
-            Ok(()) => {
-                self.at = at;
-                Answer::Reply(Reply::Done)
-            }
-            Err(_) => Answer::Refused(Refusal::OutOfMemory),
+        let had = match self.made.push(made) {
+            Ok(()) => true,
+            Err(failed) => self.made.push(failed.value).is_ok(),
+        };
+        if had {
+            self.at = at;
+            Answer::Reply(Reply::Done)
+        } else {
+            Answer::Refused(Refusal::OutOfMemory)
         }
     }
 
-    fn make(&mut self, thing: Thing, shape: &Shape) -> Option<Answer> {
+    /// Whether what a line makes is there in this way. Else the rest of the scenario is passed over.
+    fn goes_on(&mut self, thing: Thing, shape: &Shape) -> bool {
         if !is_there(self.way, thing, shape.keeps) {
             self.is_out = true;
             self.made.clear();
+        }
+        !self.is_out
+    }
+
+    fn make(&mut self, thing: Thing, shape: &Shape) -> Option<Answer> {
+        if !self.goes_on(thing, shape) {
             return None;
         }
         match new_made(self.alloc, self.way, thing, shape) {
@@ -146,15 +186,46 @@ impl World {
             return Some(Answer::Word("nothing to call"));
         };
         let answer = match (self.way, call.verb) {
-            // The trail is another one in the ways beside the first.
-            (Way::Pieces | Way::Counted, Verb::Trail | Verb::Fresh | Verb::Cut | Verb::Entry) =>
-                return None,
+            (Way::Pieces | Way::Counted, verb) if asks_the_trail(verb) => return None,
             _ => made.call(rt, call),
         };
         if let (Way::Pieces, Made::Kept(core)) = (self.way, made) {
             core.cut();
         }
         Some(answer)
+    }
+
+    /// Plays the lines of a pool after the one that makes it, of which the last ends it. What they leave is called from
+    /// here on. None where this way passes them over.
+    pub fn play<R: Threads + Wait + Sync>(
+        &mut self,
+        rt: &R,
+        first: &str,
+        lines: &[String],
+    ) -> Option<Answers> {
+        if self.is_out {
+            return None;
+        }
+        let mut answers = Answers::new(self.alloc, lines.len().saturating_add(1));
+        let Some((thing, shape)) = made_again(self.alloc, first) else {
+            answers.add(Some(Answer::BadLine));
+            return Some(answers);
+        };
+        if !self.goes_on(thing, &shape) {
+            return None;
+        }
+        if let Some(made) = played(
+            rt,
+            self.alloc,
+            self.way,
+            (thing, shape),
+            lines,
+            &mut answers,
+        ) {
+            self.have(made);
+        }
+        self.again = self.again.saturating_add(answers.again);
+        Some(answers)
     }
 
     /// Takes a line `CALL gives REPLY`.
@@ -196,7 +267,7 @@ impl World {
         }
         let before = self.told();
         match self.obey(rt, line) {
-            Some(answer) if lacks_memory(&answer) => {
+            Some(answer) if answer.lacks_memory() => {
                 if self.told() == before {
                     self.once_more(rt, line)
                 } else {
@@ -209,7 +280,7 @@ impl World {
 
     fn once_more(&mut self, rt: &impl Wait, line: &str) -> Option<Answer> {
         let answer = self.obey(rt, line)?;
-        if !lacks_memory(&answer) {
+        if !answer.lacks_memory() {
             self.again = self.again.saturating_add(1);
         }
         Some(answer)
@@ -241,41 +312,66 @@ pub enum Verdict {
     Unlawful(u64),
     /// The pieces of a trail, joined, are not the trail that was kept whole.
     Torn,
+    /// What only counts its entries counted others.
+    Miscounted,
     NoMemory,
 }
 
 /// The place of the first entry that is not lawful. Where memory is refused, it is looked for once more.
-fn unlawful(alloc: Global, core: &Pool<RecordingKeeper>) -> Result<Option<usize>, AllocError> {
-    let setup = core.setup();
-    match first_unlawful(alloc, &setup, core.entries()) {
+fn unlawful(alloc: Global, setup: &Setup, trail: &[Entry]) -> Result<Option<usize>, AllocError> {
+    match first_unlawful(alloc, setup, trail) {
         Ok(place) => Ok(place),
-        Err(_) => first_unlawful(alloc, &setup, core.entries()),
+        Err(_) => first_unlawful(alloc, setup, trail),
     }
 }
 
-/// What became of a core, and of the one beside it that was cut after each call, if there is one.
-fn verdict_of(alloc: Global, core: &Pool<RecordingKeeper>, beside: Option<&Made>) -> Verdict {
-    if !core.is_gathered() {
-        return Verdict::NoMemory;
-    }
-    match unlawful(alloc, core) {
-        Ok(None) => match beside {
-            Some(Made::Kept(pieces)) if pieces.entries() != core.entries() => Verdict::Torn,
-            _ => Verdict::Good,
-        },
+/// What the judge says of a trail.
+fn judged(alloc: Global, setup: &Setup, trail: &[Entry]) -> Verdict {
+    match unlawful(alloc, setup, trail) {
+        Ok(None) => Verdict::Good,
         Ok(Some(place)) => Verdict::Unlawful((place as u64).saturating_add(1)),
         Err(_) => Verdict::NoMemory,
     }
 }
 
-/// Judges what a scenario made, after all its entries were gathered. Each trail goes to the judge, and its pieces are
-/// compared with it where all of its cores were cut after each call too. The first verdict that is not good is given.
-pub fn judge(alloc: Global, whole: &World, pieces: &World) -> Verdict {
+/// What the cores beside one tell of its entries: the one that was cut after each call, and the one that only counts.
+fn beside(core: &Pool<RecordingKeeper>, pieces: Option<&Made>, counted: Option<&Made>) -> Verdict {
+    match (pieces, counted) {
+        (Some(Made::Kept(pieces)), _) if !core.is_joined(pieces) => Verdict::Torn,
+        (_, Some(Made::Counted(counted))) if !core.is_counted(counted) => Verdict::Miscounted,
+        _ => Verdict::Good,
+    }
+}
+
+/// What became of a core, and of those beside it, where there are some.
+fn verdict_of(
+    alloc: Global,
+    core: &Pool<RecordingKeeper>,
+    pieces: Option<&Made>,
+    counted: Option<&Made>,
+) -> Verdict {
+    if !core.is_gathered() {
+        return Verdict::NoMemory;
+    }
+    match judged(alloc, &core.setup(), core.entries()) {
+        Verdict::Good => beside(core, pieces, counted),
+        verdict => verdict,
+    }
+}
+
+/// Judges what a scenario made, after all its entries were gathered. Each trail goes to the judge, its pieces are
+/// compared with it where all of its cores were cut after each call too, and its entries are counted where a core only
+/// counts them. The first verdict that is not good is given.
+pub fn judge(alloc: Global, whole: &World, pieces: &World, counted: &World) -> Verdict {
     let mut verdict = Verdict::Good;
     for (at, made) in whole.made.iter().enumerate() {
-        if let (Verdict::Good, Made::Kept(core)) = (verdict, made) {
-            verdict = verdict_of(alloc, core, pieces.made.get(at));
-        }
+        verdict = match (verdict, made) {
+            (Verdict::Good, Made::Kept(core)) => {
+                verdict_of(alloc, core, pieces.made.get(at), counted.made.get(at))
+            }
+            (Verdict::Good, Made::Ran(ran)) => judged(alloc, &ran.setup(), ran.trail()),
+            _ => verdict,
+        };
     }
     verdict
 }

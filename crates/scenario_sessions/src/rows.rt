@@ -1,0 +1,90 @@
+//! What the rows of client threads answered.
+
+use crate::answers::Answers;
+use crate::scripts::Asked;
+use bp_clients::Outcome;
+use bp_core::{Entry, Refused, Reply};
+use bp_page::Image;
+use scenario_words::Answer;
+use std::alloc::Global;
+
+/// The number of the refusal of a row, if it was refused.
+fn refusal_of(refused: &[Refused], row: u64) -> Option<u16> {
+    for it in refused {
+        if it.row == row {
+            return Some(it.number);
+        }
+    }
+    None
+}
+
+/// A copy of an image. Where memory is refused, it is asked for once more.
+fn copy_of(alloc: Global, image: &Image) -> Answer {
+    let copied = match Image::of(alloc, image.bytes()) {
+        Ok(copy) => Ok(copy),
+        Err(_) => Image::of(alloc, image.bytes()),
+    };
+    match copied {
+        Ok(copy) => Answer::Reply(Reply::Content(copy)),
+        Err(_) => Answer::BadLine,
+    }
+}
+
+/// The image that a list has after so many others.
+fn image_after(alloc: Global, list: &[Entry], before: u64) -> Answer {
+    let mut seen = 0u64;
+    for entry in list {
+        if let Reply::Content(image) = &entry.reply {
+            if seen == before {
+                return copy_of(alloc, image);
+            }
+            seen = seen.saturating_add(1);
+        }
+    }
+    Answer::Word("nothing")
+}
+
+/// How many of the first of these lines read for a client, and were not refused.
+fn reads_of(asked: &[Option<Asked>], count: usize, refused: &[Refused], client: u8) -> u64 {
+    let (mut reads, mut row) = (0u64, 0u64);
+    for it in asked.iter().take(count) {
+        row = row.saturating_add(1);
+        if let Some(it) = it
+            && it.client == client
+            && it.reads
+            && refusal_of(refused, row).is_none()
+        {
+            reads = reads.saturating_add(1);
+        }
+    }
+    reads
+}
+
+/// What the line at a place answered: the number of a refusal, the image that a read gave, or `done`.
+fn answer_at(alloc: Global, asked: &[Option<Asked>], at: usize, outcome: &Outcome) -> Answer {
+    let Some(Some(it)) = asked.get(at) else {
+        return Answer::BadLine;
+    };
+    if let Some(number) = refusal_of(&outcome.refused, (at as u64).saturating_add(1)) {
+        return Answer::Number(u64::from(number));
+    }
+    if !it.reads {
+        return Answer::Reply(Reply::Done);
+    }
+    let before = reads_of(asked, at, &outcome.refused, it.client);
+    match outcome.said.get(it.client as usize) {
+        Some(list) => image_after(alloc, list, before),
+        None => Answer::BadLine,
+    }
+}
+
+impl Answers {
+    /// Adds the answers of a run: of the line that makes it, of its rows, and of the line that ends it.
+    pub(crate) fn tell(&mut self, alloc: Global, asked: &[Option<Asked>], outcome: &Outcome) {
+        self.add(Some(Answer::Reply(Reply::Done)));
+        for at in 0..asked.len() {
+            self.add(Some(answer_at(alloc, asked, at, outcome)));
+        }
+        self.add(Some(Answer::Reply(Reply::Done)));
+    }
+}

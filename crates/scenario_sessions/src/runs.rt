@@ -1,0 +1,215 @@
+//! A run of client threads.
+ghost use Rattle.std.specs.Prelude.{◌≡◌, All, IfOk};
+ghost use Rattle.bp_page.specs.declared.limits.Geometry.{Geometry as AGeometry};
+
+use crate::answers::Answers;
+use crate::making::new_port;
+use crate::ran::Ran;
+use crate::scripts::{Asked, Script, script_of};
+use bp_check::Setup;
+use bp_clients::{Config, Outcome, run_clients, scripts_fit};
+use bp_core::Row;
+use bp_device::{FusePort, GatePort, MemDevice, MemPort, Port};
+use bp_lruk::Settings;
+use bp_page::{Geometry, Refusal};
+use scenario_cores::{Device, new_device};
+use scenario_words::Shape;
+use std::alloc::Global;
+use std::marker::{Send, Sync};
+use std::sync::Wait;
+use std::thread::Threads;
+
+/// What a run of these lines left.
+#[derive(Drop)]
+struct Run {
+    device: Device,
+    asked: Vec<Option<Asked>>,
+    outcome: Outcome,
+}
+
+/// A port for each client. That of client 0 may fail once.
+fn fuses(
+    alloc: Global,
+    device: &MemDevice,
+    shape: &Shape,
+) -> Result<Vec<FusePort<MemPort>>, Refusal>
+    ensures { IfOk result (λ ports. All (λ p. p.inner.device ≡ device.now) ports.items) }
+{
+    let mut ports = Vec::new(alloc);
+    for client in 0..shape.clients {
+        let n = if client == 0 { shape.fuse } else { 0 };
+        let port = new_port(alloc, device, n, shape.spoils)?;
+        let Ok(()) = ports.push(port) else {
+            return Err(Refusal::OutOfMemory);
+        };
+    }
+    Ok(ports)
+}
+
+/// Two ports that wait for one another. The first may fail once.
+fn gates(
+    alloc: Global,
+    device: &MemDevice,
+    shape: &Shape,
+) -> Result<Vec<GatePort<FusePort<MemPort>>>, Refusal>
+    ensures { IfOk result (λ ports. All (λ p. p.inner.inner.device ≡ device.now) ports.items) }
+{
+    let first = new_port(alloc, device, shape.fuse, shape.spoils)?;
+    let second = new_port(alloc, device, 0, false)?;
+    let (first, second) = GatePort::pair(alloc, first, second, shape.turns)?;
+    let Ok(mut ports) = Vec::with_capacity(alloc, 2) else {
+        return Err(Refusal::OutOfMemory);
+    };
+    ports.push_reserved(first);
+    ports.push_reserved(second);
+    Ok(ports)
+}
+
+/// A run of these scripts, as long as they may be run: `BadSettings` where they may not.
+fn run_over<P: Port + Send, R: Threads + Wait + Sync>(
+    rt: &R,
+    alloc: Global,
+    config: Config,
+    scripts: Vec<Vec<Row>>,
+    ports: Vec<P>,
+) -> Result<Outcome, Refusal>
+    requires geometry { All (λ p. P.geometry_of p ≡ config.geometry) ports.items }
+{
+    if ports.len() == scripts.len() && scripts_fit(&config, &scripts) {
+        run_clients(rt, alloc, config, scripts, ports)
+    } else {
+        Err(Refusal::BadSettings)
+    }
+}
+
+/// A run over ports to this device.
+fn run_on<R: Threads + Wait + Sync>(
+    rt: &R,
+    alloc: Global,
+    config: Config,
+    device: &MemDevice,
+    shape: &Shape,
+    scripts: Vec<Vec<Row>>,
+) -> Result<Outcome, Refusal>
+    requires { device.now ≡ config.geometry }
+{
+    if shape.turns > 0 {
+        return match gates(alloc, device, shape) {
+            Ok(ports) => run_over(rt, alloc, config, scripts, ports),
+            Err(refusal) => Err(refusal),
+        };
+    }
+    match fuses(alloc, device, shape) {
+        Ok(ports) => run_over(rt, alloc, config, scripts, ports),
+        Err(refusal) => Err(refusal),
+    }
+}
+
+/// What a run of this shape is made with.
+fn config_of(shape: &Shape) -> Result<Config, Refusal> {
+    Ok(Config {
+        geometry: Geometry::new(shape.pages, shape.size)?,
+        settings: Settings::new(shape.k, shape.correlated, shape.retained)?,
+        frames: shape.frames,
+        room: shape.room,
+    })
+}
+
+fn try_run<R: Threads + Wait + Sync>(
+    rt: &R,
+    alloc: Global,
+    config: Config,
+    shape: &Shape,
+    lines: &[String],
+) -> Result<Run, Refusal> {
+    let Some(script) = script_of(alloc, &config.geometry, shape.clients, lines) else {
+        return Err(Refusal::OutOfMemory);
+    };
+    let Script { asked, by_client } = script;
+    let device = new_device(alloc, config.geometry, 0, false)?;
+    match run_on(rt, alloc, config, &device.memory, shape, by_client) {
+        Ok(outcome) => Ok(Run {
+            device,
+            asked,
+            outcome,
+        }),
+        Err(refusal) => Err(refusal),
+    }
+}
+
+/// Whether one row was refused memory, or a port had none for the image of a read: no port of this shape fails
+/// otherwise. One request is refused at most, so a run with two such rows is not made once more, and is told.
+fn lacks_memory(run: &Run, shape: &Shape) -> bool {
+    let is_sound = shape.fuse == 0 && shape.turns == 0;
+    let mut lacking = 0u64;
+    for refused in &run.outcome.refused {
+        if refused.number == 22 || (is_sound && refused.number == 17) {
+            lacking = lacking.saturating_add(1);
+        }
+    }
+    lacking == 1
+}
+
+/// A run, and once more where memory was refused.
+fn run_again<R: Threads + Wait + Sync>(
+    rt: &R,
+    alloc: Global,
+    config: Config,
+    shape: &Shape,
+    lines: &[String],
+    answers: &mut Answers,
+) -> Result<Run, Refusal> {
+    match try_run(rt, alloc, config, shape, lines) {
+        Err(Refusal::OutOfMemory) => {}
+        Ok(run) if lacks_memory(&run, shape) => {}
+        run => return run,
+    }
+    answers.count();
+    try_run(rt, alloc, config, shape, lines)
+}
+
+fn left_by(alloc: Global, config: &Config, clients: u8, run: Run, answers: &mut Answers) -> Ran {
+    let Run {
+        device,
+        asked,
+        outcome,
+    } = run;
+    answers.tell(alloc, &asked, &outcome);
+    let setup = Setup {
+        geometry: config.geometry,
+        settings: config.settings,
+        frames: config.frames,
+        clients,
+    };
+    Ran::new(alloc, device, setup, outcome.trail)
+}
+
+/// Runs client threads over a pool of this shape, by the lines after the one that makes it, of which the last ends it.
+/// Each other line is a row of a trace. Where a run was refused memory, it is made once more; where it is refused, no
+/// line was called.
+pub fn play_run<R: Threads + Wait + Sync>(
+    rt: &R,
+    alloc: Global,
+    shape: &Shape,
+    lines: &[String],
+    answers: &mut Answers,
+) -> Option<Ran> {
+    let rows = match lines.split_last() {
+        Some((_, rows)) => rows,
+        None => lines,
+    };
+    let ran = match config_of(shape) {
+        Ok(config) => match run_again(rt, alloc, config, shape, rows, answers) {
+            Ok(run) => Ok(left_by(alloc, &config, shape.clients, run, answers)),
+            Err(refusal) => Err(refusal),
+        },
+        Err(refusal) => Err(refusal),
+    };
+    match ran {
+        Ok(ran) => Some(ran),
+        Err(refusal) => {
+            answers.refuse(refusal, lines.len().saturating_add(1));
+            None
+        }
+    }
+}

@@ -1,0 +1,25 @@
+//! What entries count up to, as an answer.
+
+use crate::answers::Answer;
+use bp_totals::Totals;
+use bp_trail::Entry;
+use std::alloc::Global;
+
+/// What these entries count up to, but for so many of the reads that failed.
+pub fn totals_of(alloc: Global, entries: &[Entry], unread: u64) -> Answer {
+    let totals = Totals::of(entries);
+    let (hits, faults, evictions) = (totals.hits, totals.faults, totals.evictions);
+    let (writes, failed) = (totals.writes, totals.failed.saturating_sub(unread));
+    let text = format!(in alloc;
+        "hits {hits} faults {faults} evictions {evictions} writes {writes} failed {failed}"
+    );
+    match text {
+        Ok(text) => Answer::Text(text),
+        Err(_) => Answer::BadLine,
+    }
+}
+
+/// How many of these entries are refusals with 11, 12 or 13.
+pub fn refusals_of(entries: &[Entry]) -> Answer {
+    Answer::Number(Totals::of(entries).refused)
+}
