@@ -8,7 +8,7 @@ ghost use Rattle.bp_trail.specs.Parameters.{Parameters};
 ghost use Rattle.bp_page.specs.declared.limits.Geometry.{Geometry as AGeometry};
 
 use bp_core::{Call, Entry, PassNote, PoolCore};
-use bp_device::{Flushed, MemDevice, MemPort, Port};
+use bp_device::{Flushed, MemDevice, Port};
 use bp_keeper::{ListKeeper, RecordingKeeper};
 use bp_lruk::Settings;
 use bp_mark::{LogEnd, Mark, Reader};
@@ -45,15 +45,17 @@ pub fn make<K: ListKeeper>(
 ) -> Result<Made<K>, Refusal> {
     let geometry = Geometry::new(4, 16)?;
     let settings = Settings::new(2, 0, 1000)?;
-    let core = PoolCore::<K>::new(alloc, geometry, settings, frames, clients, room)?;
+    let device = MemDevice::new(alloc, geometry)?;
+    let ring = TrailRing::new(alloc)?;
     let (mark, end, reader) = Mark::new(alloc)?;
+    let core = PoolCore::<K>::new(alloc, geometry, settings, frames, clients, room)?;
     Ok(Made {
         core,
         mark,
         end,
         reader,
-        ring: TrailRing::new(alloc)?,
-        device: MemDevice::new(alloc, geometry)?,
+        ring,
+        device,
     })
 }
 
@@ -96,55 +98,6 @@ pub fn open<N: PoolName, K: ListKeeper>(
         taker,
         end,
         device,
-    })
-}
-
-/// The last two clients of a pool, each with a port of its own to the device.
-#[derive(Drop)]
-pub struct Pair<N: PoolName, K: ListKeeper = RecordingKeeper> {
-    pub pool: SharedPool<N, K>,
-    pub taker: Taker<N>,
-    pub end: LogEnd,
-    pub first: Client<N, MemPort, K>,
-    pub second: Client<N, MemPort, K>,
-    pub ghost end_is: { end.mark ≡ N.mark },
-}
-
-/// A pool over what was made, with its last two clients. `BadSettings` where it has fewer.
-pub fn open_pair<N: PoolName, K: ListKeeper>(
-    alloc: Global,
-    made: Made<K>,
-) -> Result<Pair<N, K>, Refusal>
-    requires mark { made.mark ≡ N.mark }
-    requires parameters { made.core.parameters ≡ N.parameters }
-    requires before { made.core.before ≡ N.before }
-    requires past { made.core.past ≡ N.past }
-    requires ring { made.ring ≡ N.ring }
-{
-    let Opened {
-        pool,
-        mut sessions,
-        taker,
-        end,
-        device,
-    } = open::<N, K>(alloc, made)?;
-    let (Some(second), Some(first)) = (sessions.pop(), sessions.pop()) else {
-        return Err(Refusal::BadSettings);
-    };
-    let first = Client {
-        session: first,
-        port: device.port()?,
-    };
-    let second = Client {
-        session: second,
-        port: device.port()?,
-    };
-    Ok(Pair {
-        pool,
-        taker,
-        end,
-        first,
-        second,
     })
 }
 

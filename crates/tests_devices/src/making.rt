@@ -2,7 +2,6 @@
 ghost use Rattle.std.specs.Prelude.{◌≡◌, All, vec_len};
 
 use bp_clients::{Config, Outcome, run_clients, scripts_fit};
-use bp_core::{Entry, Reply};
 use bp_device::{FusePort, MemDevice, MemPort, Port};
 use bp_lruk::Settings;
 use bp_page::{Geometry, Image, Lsn, PageNo};
@@ -15,13 +14,7 @@ use test_support::scripts::scripts_of;
 
 pub(crate) const ZEROS: [u8; 16] = [0; 16];
 
-pub(crate) const ONES: [u8; 16] = [255; 16];
-
 pub(crate) const NINE: [u8; 16] = [9, 0, 0, 0, 0, 0, 0, 0, 0, 0, 0, 0, 0, 0, 0, 0];
-
-/// Page 1 is changed, and has to go out for page 2, which stays fixed; so page 1 finds no frame.
-pub(crate) const TWO_PAGES: &str =
-    "0,fix,1,,,\n0,write,1,0,09,0\n0,unfix,1,,,\n0,tick,1,,,\n0,fix,2,,,\n0,fix,1,,,\n0,read,1,,,\n";
 
 /// An image of these bytes.
 pub(crate) fn image<R: Abort + AllocGlobal>(rt: &R, bytes: &[u8]) -> Image {
@@ -128,14 +121,4 @@ pub(crate) fn run<R: Threads + Wait + Sync + Abort + AllocGlobal>(
     let place = unlawful(rt.alloc(), &setup_of_run(&config, clients), &done.trail);
     assert_eq!(rt; place, Ok(None), "the first entry that is not lawful");
     done
-}
-
-/// The content that the first read brought.
-pub(crate) fn content_in(trail: &[Entry]) -> Option<&Image> {
-    for entry in trail {
-        if let Reply::Content(image) = &entry.reply {
-            return Some(image);
-        }
-    }
-    None
 }

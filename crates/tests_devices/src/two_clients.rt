@@ -5,7 +5,7 @@ use bp_core::Reply;
 use bp_totals::Totals;
 use std::process::Abort;
 
-/// Each client has the rows of `TWO_PAGES`.
+/// Each client changes page 1, which has to go out for page 2. That stays fixed, so that page 1 may find no frame.
 const ROWS: &str = "\
 0,fix,1,,,
 0,write,1,0,09,0
@@ -23,9 +23,9 @@ const ROWS: &str = "\
 1,read,1,,,
 ";
 
-/// Asserts what holds of such a run under every schedule. What failed was refused; any other row found no frame, or lacked
-/// its pass. Nothing that was never there was read: zeros, or what the clients write. A page that a failing write spoiled
-/// stays in its frame until it is written out well, so that it is not read again before.
+/// Asserts what holds of such a run under every schedule. What failed was refused; any other row found no frame, or
+/// lacked its pass. Nothing that was never there was read: zeros, or what the clients write. A page that a failing
+/// write spoiled stays in its frame until it is written out well, so that it is not read again before.
 fn expect_sound<R: Abort>(rt: &R, done: &Outcome, n: u64) {
     for entry in &done.trail {
         if let Reply::Content(image) = &entry.reply {

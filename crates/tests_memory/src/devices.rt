@@ -12,7 +12,7 @@ use test_support::judging::unlawful_in;
 use test_support::scripts::{rows_fit, rows_of};
 
 /// Page 1 is changed, and has to go out for page 2, which stays fixed; so page 1 finds no frame.
-pub(crate) const TWO_PAGES: &str = "
+const TWO_PAGES: &str = "
 0,fix,1,,,
 0,write,1,0,09,0
 0,unfix,1,,,
@@ -23,7 +23,7 @@ pub(crate) const TWO_PAGES: &str = "
 ";
 
 /// With memory row 6 finds no victim, so that row 7 has no pass.
-pub(crate) const NO_VICTIM_NO_PASS: [Refused; 2] = [
+const NO_VICTIM_NO_PASS: [Refused; 2] = [
     Refused { row: 6, number: 11 },
     Refused { row: 7, number: 14 },
 ];

@@ -31,7 +31,12 @@ struct Visitor {
     seen: Result<u8, Refusal>,
 }
 
-/// Puts the byte 7 into a page and reads it, gives the page back in any case, and moves the clock.
+/// What a client puts into its page: a byte of its own, so that none is taken for another's.
+fn byte_of(client: u8) -> u8 {
+    client.saturating_add(7)
+}
+
+/// Puts the client's byte into its page and reads it, gives the page back in any case, and moves the clock.
 fn visit<N: PoolName, P: Port, K: ListKeeper, R: Wait>(
     rt: &R,
     alloc: Global,
@@ -40,9 +45,9 @@ fn visit<N: PoolName, P: Port, K: ListKeeper, R: Wait>(
 ) -> Result<u8, Refusal>
     ensures client { client.new.session.client ≡ client.old.session.client }
 {
-    let number = u64::from(client.session.client());
-    let note = fix(rt, pool, client, number)?;
-    let wrote = write(rt, alloc, pool, client, note, 7, 0);
+    let own = client.session.client();
+    let note = fix(rt, pool, client, u64::from(own))?;
+    let wrote = write(rt, alloc, pool, client, note, byte_of(own), 0);
     let image = read(rt, pool, client, note);
     give(rt, pool, client, note)?;
     wrote?;
@@ -132,10 +137,10 @@ fn try_run<K: Kind, R: Threads + Wait + Sync + Abort + AllocGlobal>(
     }
 }
 
-/// A run of two visitors, each of whom has seen its byte in the end, and left no pass. One visit at most was refused,
-/// for want of memory of the pool, or of the port at the end of a read. A visit has six entries. One that was refused
-/// adds none where that was its fix, two where its read failed, three where it was the write or the read by its pass,
-/// and four where it was the clock.
+/// A run of two visitors, each of whom has seen its own byte in the end, and left no pass. One visit at most was
+/// refused, for want of memory of the pool, or of the port at the end of a read. A visit has six entries. One that was
+/// refused adds none where that was its fix, two where its read failed, three where it was the write or the read by its
+/// pass, and four where it was the clock.
 fn expect_visits<K: Kind, R: Threads + Wait + Sync + Abort + AllocGlobal>(
     rt: &R,
 ) -> Run<MemPort, Visitor, K> {
@@ -145,10 +150,11 @@ fn expect_visits<K: Kind, R: Threads + Wait + Sync + Abort + AllocGlobal>(
     };
     assert_eq!(rt; run.left.len(), 2);
     let mut refused = None;
-    for left in &run.left {
+    for client in 0..2u8 {
+        let left = run.left.get(usize::from(client)).expect(rt, "the worker");
         assert_eq!(rt;
             (left.worker.seen, left.held, left.is_settled),
-            (Ok(7), 0, true)
+            (Ok(byte_of(client)), 0, true)
         );
         assert!(rt; refused.is_none() || left.worker.refused.is_none());
         refused = refused.or(left.worker.refused);

@@ -1,5 +1,5 @@
-//! Tests of threads that share a pool, and of sessions whose device fails: the refusal reaches its caller, whoever waits
-//! wakes, and the page can be read or written again.
+//! Tests of threads that share a pool, also where the device of one fails: the refusal reaches its caller, whoever
+//! waits wakes, and the page can be read or written again.
 //!
 //! They stand here, on top of the crates that they call, so that none of those is proved once more for its tests.
 //! The library itself has no item. What is asserted holds whatever the schedule. All entries of each pool go to the
@@ -12,7 +12,5 @@ mod gates;
 mod making;
 #[cfg(test)]
 mod pieces;
-#[cfg(test)]
-mod turns;
 #[cfg(test)]
 mod waiting;

@@ -5,7 +5,6 @@ ghost use Rattle.bp_page.specs.declared.limits.Geometry.{Geometry as AGeometry};
 use crate::gates::{Gate, HeldPort};
 use bp_core::PassNote;
 use bp_device::{FusePort, MemDevice, MemPort, Port};
-use bp_keeper::ListKeeper;
 use bp_page::{PageNo, Refusal};
 use bp_shared::{PoolName, Session, SharedPool};
 use bp_totals::Totals;
@@ -36,12 +35,12 @@ fn way<R: Abort + AllocGlobal>(rt: &R, device: &MemDevice, fails: &Fails) -> Way
 }
 
 /// A client for each session. The first one's port fails, and no other.
-pub(crate) fn clients_of<N: PoolName, K: ListKeeper, R: Abort + AllocGlobal>(
+pub(crate) fn clients_of<N: PoolName, R: Abort + AllocGlobal>(
     rt: &R,
     device: &MemDevice,
-    sessions: Vec<Session<N, K>>,
+    sessions: Vec<Session<N>>,
     fails: &Fails,
-) -> Vec<Client<N, Way, K>>
+) -> Vec<Client<N, Way>>
     requires pages { device.now.pages ≡ N.parameters.pages }
     requires size { device.now.size ≡ N.parameters.size }
 {
@@ -61,10 +60,10 @@ pub(crate) fn clients_of<N: PoolName, K: ListKeeper, R: Abort + AllocGlobal>(
 }
 
 /// Gives a pass back and moves the clock.
-fn leave<N: PoolName, K: ListKeeper, R: Wait + Abort>(
+fn leave<N: PoolName, R: Wait + Abort>(
     rt: &R,
-    pool: &SharedPool<N, K>,
-    client: &mut Client<N, Way, K>,
+    pool: &SharedPool<N>,
+    client: &mut Client<N, Way>,
     note: PassNote,
 ) {
     let back = unfix(pool, client, note);
@@ -74,10 +73,10 @@ fn leave<N: PoolName, K: ListKeeper, R: Wait + Abort>(
 }
 
 /// Fixes a page, gives it back, and moves the clock: the page's first byte.
-pub(crate) fn look<N: PoolName, K: ListKeeper, R: Wait + Abort>(
+pub(crate) fn look<N: PoolName, R: Wait + Abort>(
     rt: &R,
-    pool: &SharedPool<N, K>,
-    client: &mut Client<N, Way, K>,
+    pool: &SharedPool<N>,
+    client: &mut Client<N, Way>,
     number: u64,
 ) -> Result<Option<u8>, Refusal> {
     let note = fix(rt, pool, client, number)?;
@@ -87,10 +86,10 @@ pub(crate) fn look<N: PoolName, K: ListKeeper, R: Wait + Abort>(
 }
 
 /// Puts the byte 5 at the front of page 1, at LSN 0, and moves the clock.
-pub(crate) fn change<N: PoolName, K: ListKeeper, R: Wait + Abort + AllocGlobal>(
+pub(crate) fn change<N: PoolName, R: Wait + Abort + AllocGlobal>(
     rt: &R,
-    pool: &SharedPool<N, K>,
-    client: &mut Client<N, Way, K>,
+    pool: &SharedPool<N>,
+    client: &mut Client<N, Way>,
 ) {
     let note = fix(rt, pool, client, 1).expect(rt, "the page");
     let wrote = write(rt, rt.alloc(), pool, client, note, 5, 0);
