@@ -27,7 +27,7 @@ left-none client held = refl
 pub left-all : (client : ℕ) (held : List Grant) (n : ℕ) → length held ≤ n → left_from client held n ≡ filter (λ g. not (g.client == client)) held
 left-all client held n past = ap (λ gs. filter (λ g. not (g.client == client)) gs ++ drop n held) (take_all n held past) ∙ ap (λ gs. filter (λ g. not (g.client == client)) held ++ gs) (drop_all n held past) ∙ append-nil (filter (λ g. not (g.client == client)) held)
 
-fewer-filter : (t p : Grant → Bool) (xs : List Grant) → count t (filter p xs) ≤ count t xs
+pub fewer-filter : (t p : Grant → Bool) (xs : List Grant) → count t (filter p xs) ≤ count t xs
 fewer-filter t p [] = omega arith
 fewer-filter t p (x ∷ xs) = go (p x) (fewer-filter t p xs)
   where

@@ -31,7 +31,7 @@ above-lowest n lowest above (g ∷ gs) any = go (g.client == lowest) refl any (a
     go true is any ih = ap (λ m. nat_le n m && every (λ h. nat_le n h.client) gs) (eqb-true g.client lowest is) ∙ ap (λ b. b && every (λ h. nat_le n h.client) gs) above
     go false is any ih = ap (λ b. nat_le n g.client && b) (ih any) ∙ and-false (nat_le n g.client)
 
-no-more : (n : ℕ) (gs : List Grant) → length (filter (λ g. not (g.serial == n)) gs) ≤ length gs
+pub no-more : (n : ℕ) (gs : List Grant) → length (filter (λ g. not (g.serial == n)) gs) ≤ length gs
 no-more n [] = omega arith
 no-more n (g ∷ gs) = go (g.serial == n) (no-more n gs)
   where

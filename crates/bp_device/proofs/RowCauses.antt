@@ -1,5 +1,5 @@
 -- Why a row is refused, and that each refused row of a script had its cause.
-use Rattle.std.proofs.Common.{List, ◌≡◌, refl, sym, ap, subst, ℕ, ◌++◌, ◌∷◌, [], length, Result, Ok, Err}
+use Rattle.std.proofs.Common.{List, ◌≡◌, sym, subst, ℕ, ◌++◌, ◌∷◌, [], length, Result, Ok, Err}
 use Rattle.std.specs.Prelude.{IfErr, reverse}
 use Rattle.bp_page.specs.declared.refusals.Refusal.{Refusal}
 use Rattle.bp_page.specs.declared.refusals.Refusal.TheVariants as refusal
@@ -14,7 +14,7 @@ use Rattle.bp_trail.specs.Script.{refused_row}
 use Rattle.bp_trail.proofs.Counting.{reverse-push}
 use Rattle.bp_core.specs.CoreView.{CoreView, HasRoomFor, LacksRoomFor}
 use Rattle.bp_core.specs.Outcomes.{ReadOutcome, WriteOutcome, TickOutcome, StepOutcome, PurgeOutcome}
-use Rattle.bp_device.specs.Drivers.{IsCaused, with_piece}
+use Rattle.bp_device.specs.Drivers.{IsCaused}
 use Rattle.bp_device.specs.Rows.{DrivesRow, GaveBack, RowCaused, IsLate, CausedRows, DrivesRowsCaused, ScriptCaused}
 use Rattle.bp_device.specs.Rows.CausedRows.{none, accepted, refused}
 use Rattle.bp_device.proofs.ScriptSteps.{rows-none, rows-step, two-pieces}

@@ -1,10 +1,8 @@
 -- Where no two passes have one serial number, a pass that goes back is the only one that is struck.
-use Rattle.std.proofs.Common.{◌≡◌, refl, sym, ◌∙◌, ap, subst, ℕ, suc, ◌<◌, ◌≤◌, arith, cond, List, [], ◌∷◌, ◌++◌, true, false, not, Bool, ◌==◌, Option, Some, None, length, get_or, take, drop}
+use Rattle.std.proofs.Common.{◌≡◌, refl, sym, ◌∙◌, ap, subst, ℕ, ◌≤◌, arith, cond, List, [], ◌∷◌, ◌++◌, true, false, not, Bool, ◌==◌, Option, Some, None, length}
 use Rattle.std.specs.Prelude.{filter}
-use Rattle.std.specs.List.{remove}
-use Rattle.std.proofs.Math.Seq.{drop-cons}
 use Rattle.std.proofs.lemmas.Bool.{eq-eqb}
-use Rattle.std.proofs.lemmas.List.{take-append-drop, length-reverse}
+use Rattle.std.proofs.lemmas.List.{length-reverse}
 use Rattle.std.proofs.lemmas.List.Elements.{filter-append}
 use Rattle.bp_trail.specs.Lists.{count, without, and_given}
 use Rattle.bp_trail.specs.Event.{Grant, pass_back}
@@ -72,22 +70,3 @@ one-struck xs ys g once =
     filter-append (λ h. not (h.serial == g.serial)) xs (g ∷ ys)
     ∙ ap (λ b. filter (λ h. not (h.serial == g.serial)) xs ++ cond (not b) (g ∷ filter (λ h. not (h.serial == g.serial)) ys) (filter (λ h. not (h.serial == g.serial)) ys)) itself
     ∙ ap (λ hs. hs ++ filter (λ h. not (h.serial == g.serial)) ys) (none-struck g.serial xs before) ∙ ap (λ hs. xs ++ hs) (none-struck g.serial ys after)
-
-around : (held : List Grant) (place : ℕ) (d : Grant) → place < length held → held ≡ take place held ++ get_or held place d ∷ drop (suc place) held
-around held place d within = sym (take-append-drop place held) ∙ ap (λ gs. take place held ++ gs) (drop-cons held place d within)
-
-pub struck-at : (n : ℕ) (held : List Grant) (place : ℕ) (d : Grant) → SerialsDiffer held → place < length held → (get_or held place d).serial ≡ n → remove held place ≡ filter (λ g. not (g.serial == n)) held
-struck-at n held place d differ within is =
-    let g = get_or held place d in
-    let there = around held place d within in
-    sym (ap (λ m. filter (λ h. not (h.serial == m)) held) (sym is) ∙ ap (filter (λ h. not (h.serial == g.serial))) there
-    ∙ one-struck (take place held) (drop (suc place) held) g (subst (λ gs. count (λ (h : Grant). h.serial == g.serial) gs ≤ 1) there (differ g.serial)))
-
--- from a place on none has the number
-pub none-from : (n : ℕ) (held : List Grant) (place : ℕ) (d : Grant) → place < length held → ((get_or held place d).serial == n) ≡ false → filter (λ g. not (g.serial == n)) (drop (suc place) held) ≡ drop (suc place) held
-    → filter (λ g. not (g.serial == n)) (drop place held) ≡ drop place held
-none-from n held place d within other later =
-    let here = drop-cons held place d within in
-    ap (filter (λ g. not (g.serial == n))) here
-    ∙ ap (λ b. cond (not b) (get_or held place d ∷ filter (λ g. not (g.serial == n)) (drop (suc place) held)) (filter (λ g. not (g.serial == n)) (drop (suc place) held))) other
-    ∙ ap (λ gs. get_or held place d ∷ gs) later ∙ sym here

@@ -1,7 +1,9 @@
--- What a port says of itself, which files are page files, and what a driver adds to its core: for one fix or flush, for a row, and for a whole script.
+-- What a port says of itself, which files are page files, what a list of passes held is, and what a driver adds to its core: for one fix or flush, for a
+-- row, and for a whole script.
 pub mod Ports
 pub mod Files
 pub mod Fuses
 pub mod Drivers
 pub mod Work
+pub mod HeldLists
 pub mod Rows

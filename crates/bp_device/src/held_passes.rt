@@ -1,5 +1,5 @@
 //! The passes that a script's clients hold, as notes in the order taken.
-ghost use Rattle.std.specs.Prelude.{IfNone, IfSome, All, Any, true, not, ◌==◌, find, filter, reverse, slice_index_or, length, ◌≡◌, ◌<◌, ◌≤◌, [], vec_len, vec_capacity};
+ghost use Rattle.std.specs.Prelude.{IfNone, IfSome, All, Any, List, true, not, ◌==◌, find, filter, reverse, ◌≡◌, ◌≤◌, []};
 ghost use Rattle.bp_trail.specs.declared.entries.Call.TheVariants as Call;
 ghost use Rattle.bp_trail.specs.declared.entries.Reply.TheVariants as Reply;
 ghost use Rattle.bp_trail.specs.Event.{Grant};
@@ -37,7 +37,7 @@ pub fn latest_pass(held: &[PassNote], client: u8, page: PageNo) -> Option<PassNo
 }
 
 /// Gives the pass back. Its note stays.
-fn give<K: Keeper>(core: &mut PoolCore<K>, note: PassNote)
+pub(crate) fn give<K: Keeper>(core: &mut PoolCore<K>, note: PassNote)
     requires known { EachPast core.old (λ past. is_out note (passes_out past) ≡ true) }
     ensures entry { core.new ≡ with_entry core.old note.client
         (Call.Unfix note.serial note.page) Reply.Done }
@@ -48,57 +48,12 @@ fn give<K: Keeper>(core: &mut PoolCore<K>, note: PassNote)
     }
 }
 
-/// That no two of the passes held have one serial number. It does nothing.
-fn serials_differ<K: Keeper>(core: &PoolCore<K>, held: &[PassNote])
-    requires ends_in { EndsIn core.now held.now }
-    ensures { SerialsDiffer held.now }
+/// That no two of the passes that a core's newest entries leave out have one serial number. It does nothing.
+pub(crate) fn serials_differ<K: Keeper>(core: &PoolCore<K>)
+    ensures { (held : List Grant) → EndsIn core.now held → SerialsDiffer held }
 {
     // A core's trail is legal, and a legal trail gives no number twice.
     core.vouch();
-}
-
-/// Where the note with this serial number stands. The one taken latest is looked at first.
-fn place_of(held: &[PassNote], serial: u64) -> Option<usize>
-    ensures within { IfSome result (λ place. place < length held.now) }
-    ensures found { IfSome result (λ place. (d : Grant) →
-        (slice_index_or held.now place d).serial ≡ serial) }
-    ensures none { IfNone result (filter (λ g. not (g.serial == serial)) held.now ≡ held.now) }
-{
-    let mut place = held.len();
-    while place > 0 {
-        place -= 1;
-        if held[place].serial() == serial {
-            return Some(place);
-        }
-    }
-    None
-}
-
-/// Strikes the note with this serial number. Only those taken later move.
-fn strike(held: &mut Vec<PassNote>, serial: u64)
-    requires differ { SerialsDiffer held.old.items }
-    ensures held { held.new.items ≡ filter (λ g. not (g.serial == serial)) held.old.items }
-    ensures fewer { vec_len held.new ≤ vec_len held.old }
-    ensures capacity { vec_capacity held.new ≡ vec_capacity held.old }
-{
-    if let Some(place) = place_of(held, serial) {
-        held.remove(place);
-    }
-}
-
-/// Gives the pass back, and strikes its note.
-pub(crate) fn give_one<K: Keeper>(core: &mut PoolCore<K>, held: &mut Vec<PassNote>, note: PassNote)
-    requires ends_in { EndsIn core.old held.old.items }
-    requires known { EachPast core.old (λ past. is_out note (passes_out past) ≡ true) }
-    ensures entry { core.new ≡ with_entry core.old note.client
-        (Call.Unfix note.serial note.page) Reply.Done }
-    ensures held { held.new.items ≡ filter (λ g. not (g.serial == note.serial)) held.old.items }
-    ensures fewer { vec_len held.new ≤ vec_len held.old }
-    ensures capacity { vec_capacity held.new ≡ vec_capacity held.old }
-{
-    serials_differ(core, held);
-    give(core, note);
-    strike(held, note.serial());
 }
 
 /// The lowest client that holds a pass.
@@ -127,7 +82,7 @@ fn give_back_of<K: Keeper>(core: &mut PoolCore<K>, held: &[PassNote], client: u8
     ensures outcome { GoingBack core.old held.now (filter
         (λ g. not (g.client == client)) held.now) core.new }
 {
-    serials_differ(core, held);
+    serials_differ(core);
     for note in held {
         if is_taken_by(note, client) {
             give(core, *note);

@@ -1,5 +1,5 @@
 //! What each row of a script does.
-ghost use Rattle.std.specs.Prelude.{◌+◌, ◌≡◌, ◌<◌, ◌≤◌, IfErr, length, vec_len, vec_capacity};
+ghost use Rattle.std.specs.Prelude.{◌+◌, ◌≡◌, ◌<◌, ◌≤◌, IfErr, length};
 ghost use Rattle.bp_trail.specs.declared.scripts.Step.TheVariants as Step;
 ghost use Rattle.bp_trail.specs.Fits.{RowFits};
 ghost use Rattle.bp_trail.specs.Pieces.{outcome_of};
@@ -7,25 +7,26 @@ ghost use Rattle.bp_device.specs.Rows.{EndsIn, DrivesRow, RowCaused};
 ghost use Rattle.bp_device.specs.Work.{DoesWork};
 
 use crate::drivers::{drive_fix, drive_flush};
-use crate::held_passes::{give_one, latest_pass};
+use crate::held_list::HeldList;
+use crate::held_passes::{give, serials_differ};
 use crate::port::Port;
-use bp_core::{Keeper, PassNote, PoolCore, Row, Step};
+use bp_core::{Keeper, PoolCore, Row, Step};
 use bp_page::{Bytes, Lsn, PageNo, Refusal};
 use std::sync::Wait;
 
 /// Reads the page by the pass that the client took latest.
 fn read_row<K: Keeper>(
     core: &mut PoolCore<K>,
-    held: &[PassNote],
+    held: &HeldList,
     client: u8,
     page: PageNo,
 ) -> Result<(), Refusal>
-    requires ends_in { EndsIn core.old held.now }
+    requires ends_in { EndsIn core.old held.now.passes }
     ensures outcome { DrivesRow core.old client (Step.Read page)
-        (outcome_of result) held.now held.now core.new }
+        (outcome_of result) held.now.passes held.now.passes core.new }
     ensures cause { IfErr result (λ why. RowCaused (Step.Read page) why core.new) }
 {
-    let Some(note) = latest_pass(held, client, page) else {
+    let Some(note) = held.latest(client, page) else {
         return Err(Refusal::UnknownPass);
     };
     let pass = note.pass();
@@ -41,21 +42,21 @@ fn read_row<K: Keeper>(
 /// Writes to the page by the pass that the client took latest.
 fn write_row<K: Keeper>(
     core: &mut PoolCore<K>,
-    held: &[PassNote],
+    held: &HeldList,
     client: u8,
     page: PageNo,
     offset: u32,
     bytes: &Bytes,
     lsn: Lsn,
 ) -> Result<(), Refusal>
-    requires ends_in { EndsIn core.old held.now }
+    requires ends_in { EndsIn core.old held.now.passes }
     requires fits { offset + length bytes.now ≤ core.old.parameters.size }
     ensures outcome { DrivesRow core.old client (Step.Write page offset bytes.now lsn)
-        (outcome_of result) held.now held.now core.new }
+        (outcome_of result) held.now.passes held.now.passes core.new }
     ensures cause { IfErr result
         (λ why. RowCaused (Step.Write page offset bytes.now lsn) why core.new) }
 {
-    let Some(note) = latest_pass(held, client, page) else {
+    let Some(note) = held.latest(client, page) else {
         return Err(Refusal::UnknownPass);
     };
     let pass = note.pass();
@@ -70,21 +71,22 @@ fn write_row<K: Keeper>(
 /// Gives back the pass of the page that the client took latest.
 fn unfix_row<K: Keeper>(
     core: &mut PoolCore<K>,
-    held: &mut Vec<PassNote>,
+    held: &mut HeldList,
     client: u8,
     page: PageNo,
 ) -> Result<(), Refusal>
-    requires ends_in { EndsIn core.old held.old.items }
+    requires ends_in { EndsIn core.old held.old.passes }
     ensures outcome { DrivesRow core.old client (Step.Unfix page)
-        (outcome_of result) held.old.items held.new.items core.new }
+        (outcome_of result) held.old.passes held.new.passes core.new }
     ensures cause { IfErr result (λ why. RowCaused (Step.Unfix page) why core.new) }
-    ensures fewer { vec_len held.new ≤ vec_len held.old }
-    ensures capacity { vec_capacity held.new ≡ vec_capacity held.old }
+    ensures fewer { length held.new.passes ≤ length held.old.passes }
+    ensures room { held.old.room ≤ held.new.room }
 {
-    let Some(note) = latest_pass(held, client, page) else {
+    serials_differ(core);
+    let Some(note) = held.take_latest(client, page) else {
         return Err(Refusal::UnknownPass);
     };
-    give_one(core, held, note);
+    give(core, note);
     Ok(())
 }
 
@@ -93,25 +95,25 @@ fn fix_row<K: Keeper, P: Port, R: Wait>(
     rt: &R,
     core: &mut PoolCore<K>,
     port: &mut P,
-    held: &mut Vec<PassNote>,
+    held: &mut HeldList,
     client: u8,
     page: PageNo,
 ) -> Result<(), Refusal>
     requires size { (P.geometry_of port.old).size ≡ core.old.parameters.size }
     requires client_in { client < core.old.parameters.clients }
     requires page_in { page < core.old.parameters.pages }
-    requires room { vec_len held.old < vec_capacity held.old }
+    requires room { 0 < held.old.room }
     ensures outcome { DrivesRow core.old client (Step.Fix page)
-        (outcome_of result) held.old.items held.new.items core.new }
+        (outcome_of result) held.old.passes held.new.passes core.new }
     ensures cause { IfErr result (λ why. RowCaused (Step.Fix page) why core.new) }
-    ensures more { vec_len held.new ≤ vec_len held.old + 1 }
-    ensures capacity { vec_capacity held.new ≡ vec_capacity held.old }
+    ensures more { length held.new.passes ≤ length held.old.passes + 1 }
+    ensures room { held.old.room ≤ held.new.room + 1 }
     ensures work { DoesWork P.read_gives P.write_gives core.old port.old core.new port.new }
     ensures geometry { P.geometry_of port.new ≡ P.geometry_of port.old }
 {
     match drive_fix(rt, core, port, client, page) {
         Ok(pass) => {
-            held.push_reserved(pass.note());
+            held.push(pass.note());
             Ok(())
         }
         Err(refusal) => Err(refusal),
@@ -123,14 +125,14 @@ fn flush_row<K: Keeper, P: Port, R: Wait>(
     rt: &R,
     core: &mut PoolCore<K>,
     port: &mut P,
-    held: &[PassNote],
+    held: &HeldList,
     client: u8,
     page: PageNo,
 ) -> Result<(), Refusal>
     requires client_in { client < core.old.parameters.clients }
     requires page_in { page < core.old.parameters.pages }
     ensures outcome { DrivesRow core.old client (Step.Flush page)
-        (outcome_of result) held.now held.now core.new }
+        (outcome_of result) held.now.passes held.now.passes core.new }
     ensures cause { IfErr result (λ why. RowCaused (Step.Flush page) why core.new) }
     ensures work { DoesWork P.read_gives P.write_gives core.old port.old core.new port.new }
     ensures geometry { P.geometry_of port.new ≡ P.geometry_of port.old }
@@ -144,27 +146,23 @@ fn flush_row<K: Keeper, P: Port, R: Wait>(
 /// Moves the clock.
 fn tick_row<K: Keeper>(
     core: &mut PoolCore<K>,
-    held: &[PassNote],
+    held: &HeldList,
     client: u8,
     n: u64,
 ) -> Result<(), Refusal>
     requires client_in { client < core.old.parameters.clients }
     ensures outcome { DrivesRow core.old client (Step.Tick n)
-        (outcome_of result) held.now held.now core.new }
+        (outcome_of result) held.now.passes held.now.passes core.new }
     ensures cause { IfErr result (λ why. RowCaused (Step.Tick n) why core.new) }
 {
     core.tick(client, n)
 }
 
 /// Forgets old references.
-fn purge_row<K: Keeper>(
-    core: &mut PoolCore<K>,
-    held: &[PassNote],
-    client: u8,
-) -> Result<(), Refusal>
+fn purge_row<K: Keeper>(core: &mut PoolCore<K>, held: &HeldList, client: u8) -> Result<(), Refusal>
     requires client_in { client < core.old.parameters.clients }
     ensures outcome { DrivesRow core.old client Step.Purge
-        (outcome_of result) held.now held.now core.new }
+        (outcome_of result) held.now.passes held.now.passes core.new }
     ensures cause { IfErr result (λ why. RowCaused Step.Purge why core.new) }
 {
     match core.purge(client) {
@@ -176,13 +174,13 @@ fn purge_row<K: Keeper>(
 /// Marks the log durable as far as the row says.
 fn log_row<K: Keeper>(
     core: &mut PoolCore<K>,
-    held: &[PassNote],
+    held: &HeldList,
     client: u8,
     lsn: Lsn,
 ) -> Result<(), Refusal>
     requires client_in { client < core.old.parameters.clients }
     ensures outcome { DrivesRow core.old client (Step.Log lsn)
-        (outcome_of result) held.now held.now core.new }
+        (outcome_of result) held.now.passes held.now.passes core.new }
     ensures cause { IfErr result (λ why. RowCaused (Step.Log lsn) why core.new) }
 {
     core.mark(client, lsn)
@@ -193,18 +191,18 @@ pub(crate) fn drive_row<K: Keeper, P: Port, R: Wait>(
     rt: &R,
     core: &mut PoolCore<K>,
     port: &mut P,
-    held: &mut Vec<PassNote>,
+    held: &mut HeldList,
     row: &Row,
 ) -> Result<(), Refusal>
     requires size { (P.geometry_of port.old).size ≡ core.old.parameters.size }
     requires fits { RowFits core.old.parameters row.now }
-    requires room { vec_len held.old < vec_capacity held.old }
-    requires ends_in { EndsIn core.old held.old.items }
+    requires room { 0 < held.old.room }
+    requires ends_in { EndsIn core.old held.old.passes }
     ensures outcome { DrivesRow core.old row.now.client row.now.step
-        (outcome_of result) held.old.items held.new.items core.new }
+        (outcome_of result) held.old.passes held.new.passes core.new }
     ensures cause { IfErr result (λ why. RowCaused row.now.step why core.new) }
-    ensures more { vec_len held.new ≤ vec_len held.old + 1 }
-    ensures capacity { vec_capacity held.new ≡ vec_capacity held.old }
+    ensures more { length held.new.passes ≤ length held.old.passes + 1 }
+    ensures room { held.old.room ≤ held.new.room + 1 }
     ensures work { DoesWork P.read_gives P.write_gives core.old port.old core.new port.new }
     ensures geometry { P.geometry_of port.new ≡ P.geometry_of port.old }
 {

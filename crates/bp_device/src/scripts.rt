@@ -6,10 +6,11 @@ ghost use Rattle.bp_trail.specs.Script.{refused_row};
 ghost use Rattle.bp_device.specs.Rows.{AddsScript, DrivesRowsCaused, ScriptCaused};
 ghost use Rattle.bp_device.specs.Work.{DoesWork};
 
+use crate::held_list::HeldList;
 use crate::held_passes::give_back_all;
 use crate::port::Port;
 use crate::rows::drive_row;
-use bp_core::{Keeper, PassNote, PoolCore, Refused, Row};
+use bp_core::{Keeper, PoolCore, Refused, Row};
 use bp_page::Refusal;
 use std::alloc::Global;
 use std::sync::Wait;
@@ -35,18 +36,19 @@ fn drive_rows<K: Keeper, P: Port, R: Wait>(
     rt: &R,
     core: &mut PoolCore<K>,
     port: &mut P,
-    held: &mut Vec<PassNote>,
+    held: &mut HeldList,
     refused: &mut Vec<Refused>,
     rows: &[Row],
 )
     requires size { (P.geometry_of port.old).size ≡ core.old.parameters.size }
     requires fits { All (RowFits core.old.parameters) rows.now }
-    requires none_held { held.old.items ≡ [] }
+    requires none_held { held.old.passes ≡ [] }
     requires none_refused { refused.old.items ≡ [] }
-    requires held_room { length rows.now ≤ vec_capacity held.old }
+    requires held_room { length rows.now ≤ held.old.room }
     requires refused_room { length rows.now ≤ vec_capacity refused.old }
     ensures outcome { DrivesRowsCaused core.old rows.now refused.new.items
-        held.new.items core.new }
+        held.new.passes core.new }
+    ensures few { length held.new.passes ≤ length rows.now }
     ensures work { DoesWork P.read_gives P.write_gives core.old port.old core.new port.new }
     ensures geometry { P.geometry_of port.new ≡ P.geometry_of port.old }
 {
@@ -78,13 +80,17 @@ pub fn drive_all<K: Keeper, P: Port, R: Wait>(
     ensures work { DoesWork P.read_gives P.write_gives core.old port.old core.new port.new }
     ensures geometry { P.geometry_of port.new ≡ P.geometry_of port.old }
 {
-    let Ok(mut held) = Vec::with_capacity(alloc, rows.len()) else {
+    let Ok(mut held) = HeldList::with_capacity(alloc, rows.len()) else {
+        return Err(Refusal::OutOfMemory);
+    };
+    let Ok(mut left) = Vec::with_capacity(alloc, rows.len()) else {
         return Err(Refusal::OutOfMemory);
     };
     let Ok(mut refused) = Vec::with_capacity(alloc, rows.len()) else {
         return Err(Refusal::OutOfMemory);
     };
     drive_rows(rt, core, port, &mut held, &mut refused, rows);
-    give_back_all(core, &mut held);
+    held.copy_to(&mut left);
+    give_back_all(core, &mut left);
     Ok(refused)
 }

@@ -16,7 +16,7 @@ pub loop-note-preserved : goal.loop-note-preserved
 loop-note-preserved g c = elim c.if-is_taken_by.branch [
   | then-is_taken_by w ↦ subst (GoingBack c.args.core.now c.args.held.now (left_from c.args.client c.args.held.now (c.loop-note.note-index + 1))) (sym w.core-is)
       (turn-given c.args.client c.loop-note.note-index c.args.held.now c.note-item.result c.loop-note-test.true c.note-item.is c.args.core.now c.loop-note.core w.give.new.core
-      c.serials_differ.ensures c.requires.least (sym c.is_taken_by.ensures ∙ w.if-is_taken_by.true) c.loop-note.invariant w.give.ensures.entry)
+      (c.serials_differ.ensures c.args.held.now c.requires.ends_in) c.requires.least (sym c.is_taken_by.ensures ∙ w.if-is_taken_by.true) c.loop-note.invariant w.give.ensures.entry)
   | else-is_taken_by w ↦ subst (λ gs. GoingBack c.args.core.now c.args.held.now gs c.if-is_taken_by.core)
       (sym (left-other c.args.client c.loop-note.note-index c.args.held.now c.note-item.result c.loop-note-test.true c.note-item.is (sym c.is_taken_by.ensures ∙ w.if-is_taken_by.false)))
       (subst (GoingBack c.args.core.now c.args.held.now (left_from c.args.client c.args.held.now c.loop-note.note-index)) (sym w.core-is) c.loop-note.invariant)

@@ -1,12 +1,27 @@
 -- The latest pass goes back.
-use Rattle.std.proofs.Common.{sym, ap, ◌∙◌}
-use Rattle.std.specs.Prelude.{find, reverse}
-use Rattle.bp_trail.specs.Script.{is_pass_of}
-use Rattle.bp_device.proofs.PieceSteps.{latest-known, unfix-drives}
+use Rattle.std.proofs.Common.{◌≤◌, List, [], sym, subst, ◌∙◌, length}
+use Rattle.bp_trail.specs.Event.{Grant}
+use Rattle.bp_trail.specs.declared.entries.Call.TheVariants.{Unfix}
+use Rattle.bp_trail.specs.declared.scripts.Step.TheVariants as step
+use Rattle.bp_trail.specs.Pieces.Outcome.{refused}
+use Rattle.bp_device.specs.Rows.{DrivesRow}
+use Rattle.bp_device.proofs.GivingBack.{no-more}
+use Rattle.bp_device.proofs.PieceSteps.{latest-known, no_pass-drives, unfix-drives}
 use Rattle.bp_device.proofs.rows.unfix_row.Goals as goal
 
-pub give_one-requires : goal.give_one-requires
-give_one-requires g c = record { ends_in = c.requires.ends_in; known = (latest-known _ _ _ _ c.in-Some.note c.requires.ends_in (ap (λ held. find (is_pass_of c.args.client c.args.page) (reverse held)) (sym c.deref.ensures.value) ∙ sym c.latest_pass.ensures ∙ c.in-Some.is)).known }
+pub take_latest-requires : goal.take_latest-requires
+take_latest-requires g c = record { differ = c.serials_differ.ensures c.args.held.now.passes c.requires.ends_in }
+
+pub give-requires : goal.give-requires
+give-requires g c = record { known = (latest-known _ _ _ _ c.in-Some.note c.requires.ends_in (sym c.take_latest.ensures.note ∙ c.in-Some.is)).known }
+
+pub returns-in_default-clause-outcome : goal.returns-in_default-clause-outcome
+returns-in_default-clause-outcome g c =
+    subst (λ (held : List Grant). DrivesRow c.args.core.now c.args.client (step.Unfix c.args.page) (refused 14) c.args.held.now.passes held c.args.core.now) (sym c.in_default.ensures.none)
+    (no_pass-drives c.args.core.now c.args.held.now.passes c.args.client c.args.page (step.Unfix c.args.page) [] (λ n. Unfix n c.args.page) (λ said piece outcome w. w) (sym c.take_latest.ensures.note ∙ c.in_default.is))
 
 pub returns-clause-outcome : goal.returns-clause-outcome
-returns-clause-outcome g c = unfix-drives _ _ _ _ _ _ c.in-Some.note c.requires.ends_in (ap (λ held. find (is_pass_of c.args.client c.args.page) (reverse held)) (sym c.deref.ensures.value) ∙ sym c.latest_pass.ensures ∙ c.in-Some.is) c.give_one.ensures.entry c.give_one.ensures.held
+returns-clause-outcome g c = unfix-drives _ _ _ _ _ _ c.in-Some.note c.requires.ends_in (sym c.take_latest.ensures.note ∙ c.in-Some.is) c.give.ensures.entry c.in-Some.ensures.taken
+
+pub returns-clause-fewer : goal.returns-clause-fewer
+returns-clause-fewer g c = subst (λ (gs : List Grant). length gs ≤ length c.args.held.now.passes) (sym c.in-Some.ensures.taken) (no-more c.in-Some.note.serial c.args.held.now.passes)

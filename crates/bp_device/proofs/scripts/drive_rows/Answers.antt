@@ -11,10 +11,10 @@ use Rattle.bp_device.proofs.scripts.drive_rows.Goals as goal
 
 pub loop-row-init : goal.loop-row-init
 loop-row-init g c = record {
-  driven = subst (λ refused. DrivesRowsCaused c.args.core.now [] refused c.args.held.now.items c.args.core.now) (sym c.requires.none_refused) (subst (λ held. DrivesRowsCaused c.args.core.now [] [] held c.args.core.now) (sym c.requires.none_held) (caused-none c.args.core.now));
-  few_held = omega (arith, ap length c.requires.none_held, c.args.held.now.ok);
+  driven = subst (λ refused. DrivesRowsCaused c.args.core.now [] refused c.args.held.now.passes c.args.core.now) (sym c.requires.none_refused) (subst (λ held. DrivesRowsCaused c.args.core.now [] [] held c.args.core.now) (sym c.requires.none_held) (caused-none c.args.core.now));
+  few_held = omega (arith, ap length c.requires.none_held);
   few_refused = omega (arith, ap length c.requires.none_refused, c.args.refused.now.ok);
-  held_room = refl;
+  held_room = omega (arith, c.requires.held_room);
   refused_room = refl;
   work = none-yet _ _ c.args.core.now c.args.port.now;
   geometry = refl;
@@ -26,11 +26,11 @@ loop-row-preserved g c =
     let more : take (c.loop-row.row-index + 1) c.args.rows.now ≡ take c.loop-row.row-index c.args.rows.now ++ row ∷ [] =
     rw add-one (take-suc c.args.rows.now c.loop-row.row-index row (omega (arith, c.loop-row-test.true)) ∙ ap (λ r. take c.loop-row.row-index c.args.rows.now ++ r ∷ []) (sym c.row-item.is)) in
     record {
-      driven = subst (λ rows. DrivesRowsCaused c.args.core.now rows c.note_refused.new.refused.items c.drive_row-outcome.new.held.items c.drive_row-outcome.new.core) (sym more)
+      driven = subst (λ rows. DrivesRowsCaused c.args.core.now rows c.note_refused.new.refused.items c.drive_row-outcome.new.held.passes c.drive_row-outcome.new.core) (sym more)
           (caused-step _ c.loop-row.core _ _ row _ _ _ _ _ c.loop-row.invariant.driven c.drive_row-outcome.ensures.outcome c.drive_row-outcome.ensures.cause c.note_refused.ensures.refused);
       few_held = omega (arith, c.drive_row-outcome.ensures.more, c.loop-row.invariant.few_held);
       few_refused = omega (arith, c.note_refused.ensures.more, c.loop-row.invariant.few_refused);
-      held_room = c.drive_row-outcome.ensures.capacity ∙ c.loop-row.invariant.held_room;
+      held_room = omega (arith, c.drive_row-outcome.ensures.room, c.loop-row.invariant.held_room);
       work = work-join _ _ _ _ _ _ _ _ c.loop-row.invariant.work c.drive_row-outcome.ensures.work;
       geometry = c.drive_row-outcome.ensures.geometry ∙ c.loop-row.invariant.geometry;
       refused_room = c.note_refused.ensures.capacity ∙ c.loop-row.invariant.refused_room;
@@ -45,4 +45,4 @@ returns-clause-geometry g c = c.loop-row.invariant.geometry
 
 pub returns-clause-outcome : goal.returns-clause-outcome
 returns-clause-outcome g c =
-    subst (λ rows. DrivesRowsCaused c.args.core.now rows c.loop-row.refused.items c.loop-row.held.items c.loop-row.core) (take_all c.loop-row.row-index c.args.rows.now (omega (arith, c.loop-row-test.false))) c.loop-row.invariant.driven
+    subst (λ rows. DrivesRowsCaused c.args.core.now rows c.loop-row.refused.items c.loop-row.held.passes c.loop-row.core) (take_all c.loop-row.row-index c.args.rows.now (omega (arith, c.loop-row-test.false))) c.loop-row.invariant.driven

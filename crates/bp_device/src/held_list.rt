@@ -1,0 +1,194 @@
+//! The passes that a script's clients hold, with the latest of each client and page at hand.
+ghost use Rattle.std.specs.Prelude.{◌≡◌, ◌≤◌, ◌<◌, ◌+◌, ◌++◌, ◌∷◌, [], ◌==◌, ℕ, not, find, filter, reverse, length, if◌then◌else◌, IfNone, IfOk, IfSome, IsSome, IsTrue, OnOk, vec_len, vec_capacity};
+ghost use Rattle.std.specs.HashMap.{get, spare};
+ghost use Rattle.bp_trail.specs.Script.{is_pass_of};
+ghost use Rattle.bp_device.specs.HeldLists.{passes_in, same_key};
+ghost use Rattle.bp_device.specs.Rows.{SerialsDiffer};
+
+use bp_core::PassNote;
+use bp_page::PageNo;
+use std::alloc::{AllocError, Global};
+use std::collections::HashMap;
+use std::marker::Model;
+
+/// A client and the number of a page.
+type Key = (u8, u64);
+
+/// A pass that was taken.
+#[derive(Clone, Copy)]
+struct Slot {
+    note: PassNote,
+    /// Whether it did not go back.
+    is_held: bool,
+    /// Where the pass stands that was its client's latest of the page before it.
+    previous: Option<usize>,
+}
+
+/// The passes that are held, in the order taken.
+///
+/// `latest`, `push` and `take_latest` take O(1) on average, whatever is held: they look at no other pass, move none and
+/// take no memory. A pass that goes back leaves its slot, which keeps the order of the others.
+#[derive(Drop)]
+pub struct HeldList {
+    slots: Vec<Slot>,
+    /// Where the pass stands that a client took latest of a page and holds.
+    latest: HashMap<Key, usize>,
+}
+
+impl Model for HeldList {
+    ghost use Rattle.std.specs.Prelude.{◌-◌, min, reverse, vec_len, vec_capacity};
+    ghost use Rattle.std.specs.HashMap.{spare};
+    ghost use Rattle.bp_device.specs.HeldLists.{HeldValue, passes_in, AreLinked, FindsNewest};
+
+    ghost Value = { HeldValue };
+
+    ghost view = { λ h. record {
+      passes = passes_in h.slots.items;
+      room = min (vec_capacity h.slots - vec_len h.slots) (spare h.latest);
+    } };
+
+    ghost invariant = { λ h. AreLinked (reverse h.slots.items)
+        × FindsNewest h.latest (reverse h.slots.items) };
+}
+
+/// Whose pass it is and of which page.
+fn key_of(note: &PassNote) -> Key
+    ensures { result ≡ (note.now.client, note.now.page) }
+{
+    (note.client(), note.page().number())
+}
+
+/// Where the pass stands that was taken latest by this key.
+fn place_of(latest: &HashMap<Key, usize>, key: Key) -> Option<usize>
+    ensures { result ≡ get same_key latest.now key }
+{
+    latest.get(&key).copied()
+}
+
+/// Notes where the pass stands that is now the latest of this key, if there is one.
+fn relink(latest: &mut HashMap<Key, usize>, key: Key, place: Option<usize>)
+    requires there { IsSome (get same_key latest.old key) }
+    ensures places { (q : ℕ × ℕ) → get same_key latest.new q ≡
+        (if same_key key q then place else get same_key latest.old q) }
+    ensures spare { spare latest.old ≤ spare latest.new }
+{
+    match place {
+        Some(place) => {
+            if let Some(newest) = latest.get_mut(&key) {
+                *newest = place;
+            }
+        }
+        None => {
+            latest.remove(&key);
+        }
+    }
+}
+
+/// Adds the slot's note, if its pass is held.
+fn add_held(notes: &mut Vec<PassNote>, slot: &Slot)
+    requires room { IsTrue slot.now.is_held → vec_len notes.old < vec_capacity notes.old }
+    ensures notes { notes.new.items ≡ notes.old.items ++
+        (if slot.now.is_held then slot.now.note ∷ [] else []) }
+    ensures capacity { vec_capacity notes.new ≡ vec_capacity notes.old }
+{
+    if slot.is_held {
+        notes.push_reserved(slot.note);
+    }
+}
+
+/// Adds the notes of the slots whose passes are held to an empty list that has room for them.
+fn copy_held(slots: &[Slot], notes: &mut Vec<PassNote>)
+    requires empty { notes.old.items ≡ [] }
+    requires room { length (passes_in slots.now) ≤ vec_capacity notes.old }
+    ensures notes { notes.new.items ≡ passes_in slots.now }
+{
+    for slot in slots {
+        add_held(notes, slot);
+    }
+}
+
+impl HeldList {
+    /// None, and no room. It takes no memory.
+    pub fn new(alloc: Global) -> HeldList
+        ensures none { result.passes ≡ [] }
+    {
+        HeldList {
+            slots: Vec::new(alloc),
+            latest: HashMap::new(alloc),
+        }
+    }
+
+    /// None, with room for so many. It fails by want of memory alone.
+    pub fn with_capacity(alloc: Global, room: usize) -> Result<HeldList, AllocError>
+        ensures none { IfOk result (λ held. held.passes ≡ []) }
+        ensures room { IfOk result (λ held. room ≤ held.room) }
+    {
+        let slots = Vec::with_capacity(alloc, room)?;
+        let latest = HashMap::with_capacity(alloc, room)?;
+        Ok(HeldList { slots, latest })
+    }
+
+    /// Room for so many more. Where memory is refused the passes stay, with no less room.
+    pub fn reserve(&mut self, more: usize) -> Result<(), AllocError>
+        ensures passes { self.new.passes ≡ self.old.passes }
+        ensures room { OnOk result (more ≤ self.new.room) }
+        ensures no_less { self.old.room ≤ self.new.room }
+    {
+        self.slots.reserve(more)?;
+        self.latest.reserve(more)
+    }
+
+    /// The pass of the page that the client took latest.
+    pub fn latest(&self, client: u8, page: PageNo) -> Option<PassNote>
+        ensures { result ≡ find (is_pass_of client page) (reverse self.now.passes) }
+    {
+        let Some(place) = place_of(&self.latest, (client, page.number())) else {
+            return None;
+        };
+        Some(self.slots[place].note)
+    }
+
+    /// Adds the pass taken latest, which takes no memory.
+    pub fn push(&mut self, note: PassNote)
+        requires room { 0 < self.old.room }
+        ensures passes { self.new.passes ≡ self.old.passes ++ note ∷ [] }
+        ensures room { self.old.room ≤ self.new.room + 1 }
+    {
+        let place = self.slots.len();
+        let Ok(previous) = self.latest.insert(key_of(&note), place) else {
+            unreachable!()
+        };
+        self.slots.push_reserved(Slot {
+            note,
+            is_held: true,
+            previous,
+        });
+    }
+
+    /// Takes out the pass of the page that the client took latest, and gives its note.
+    pub fn take_latest(&mut self, client: u8, page: PageNo) -> Option<PassNote>
+        requires differ { SerialsDiffer self.old.passes }
+        ensures note { result ≡ find (is_pass_of client page) (reverse self.old.passes) }
+        ensures taken { IfSome result (λ note. self.new.passes ≡
+            filter (λ g. not (g.serial == note.serial)) self.old.passes) }
+        ensures none { IfNone result (self.new.passes ≡ self.old.passes) }
+        ensures room { self.old.room ≤ self.new.room }
+    {
+        let Some(place) = place_of(&self.latest, (client, page.number())) else {
+            return None;
+        };
+        let slot = self.slots[place];
+        self.slots[place].is_held = false;
+        relink(&mut self.latest, key_of(&slot.note), slot.previous);
+        Some(slot.note)
+    }
+
+    /// Adds the notes of all passes to an empty list that has room for them.
+    pub fn copy_to(&self, notes: &mut Vec<PassNote>)
+        requires empty { notes.old.items ≡ [] }
+        requires room { length self.now.passes ≤ vec_capacity notes.old }
+        ensures notes { notes.new.items ≡ self.now.passes }
+    {
+        copy_held(&self.slots, notes);
+    }
+}
