@@ -6,7 +6,7 @@ ghost use Rattle.bp_clients.specs.Jobs.{lists, IsTold, IsUntold, SomeUntold, Not
 use crate::job::{Job, Left};
 use bp_audit::{agrees, is_within_log};
 use bp_core::{Entry, Refused};
-use bp_device::Port;
+use bp_ports::Port;
 use bp_page::Refusal;
 use bp_shared::PoolName;
 

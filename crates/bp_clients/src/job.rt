@@ -8,7 +8,8 @@ ghost use Rattle.bp_clients.specs.Jobs.{NoneIsStrange, ScriptFits};
 
 use crate::runner::Runner;
 use bp_core::{Entry, Refused, Row};
-use bp_device::{Port, note_refused};
+use bp_device::note_refused;
+use bp_ports::Port;
 use bp_page::Refusal;
 use bp_shared::{PoolName, SharedPool};
 use std::alloc::{AllocError, Global};

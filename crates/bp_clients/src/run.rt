@@ -8,7 +8,7 @@ use crate::collecting::collect;
 use crate::job::Job;
 use crate::runner::{LogWriter, Runner};
 use bp_core::{Core, Entry, Refused, Row};
-use bp_device::Port;
+use bp_ports::Port;
 use bp_lruk::Settings;
 use bp_mark::{LogEnd, Mark, Reader};
 use bp_page::{Geometry, Refusal};

@@ -9,7 +9,8 @@ ghost use Rattle.bp_trail.specs.Script.{GivesBack, give_back, held_passes, lates
 ghost use Rattle.bp_clients.specs.Steps.{as_fault, StepSaid};
 
 use bp_core::{Entry, PassNote, Step};
-use bp_device::{Port, latest_pass};
+use bp_device::latest_pass;
+use bp_ports::Port;
 use bp_mark::LogEnd;
 use bp_page::{Bytes, Lsn, PageNo, Refusal};
 use bp_shared::{PoolName, Session, SharedPool};

@@ -1,8 +1,5 @@
--- What a port says of itself, which files are page files, what a list of passes held is, and what a driver adds to its core: for one fix or flush, for a
--- row, and for a whole script.
-pub mod Ports
-pub mod Files
-pub mod Fuses
+-- What a list of passes held is, and what a driver adds to its core: for one fix or flush, for a row, and for a whole
+-- script.
 pub mod Drivers
 pub mod Work
 pub mod HeldLists

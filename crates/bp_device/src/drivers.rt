@@ -6,7 +6,7 @@ ghost use Rattle.bp_core.specs.Outcomes.{KnowsRead, KnowsWrite};
 ghost use Rattle.bp_device.specs.Drivers.{DrivesFix, DrivesFlush, IsCaused, LoadOutcome, SaveOutcome};
 ghost use Rattle.bp_device.specs.Work.{DoesWork};
 
-use crate::port::Port;
+use bp_ports::Port;
 use bp_core::{EndRefusal, Ended, Fix, Flush, Keeper, Pass, PoolCore, ReadTicket, WriteTicket};
 use bp_page::{Image, PageNo, PortFault, Refusal};
 use std::sync::Wait;

@@ -1,25 +1,16 @@
-//! The ways to a device, and drivers of a core that has one owner.
+//! Drivers of a core that has one owner, and the ways to a device, which are those of `bp_ports`.
 #![tactic(auto)]
 
 pub mod drivers;
-mod failures;
-pub mod files;
-pub mod fuse;
-pub mod gate;
 pub mod held_list;
 pub mod held_passes;
-pub mod memory;
-mod places;
-pub mod port;
 mod rows;
 pub mod scripts;
 
+pub use bp_ports::{
+    FilePort, FusePort, GatePort, MemDevice, MemPort, OpenFault, Port, geometry_of_file,
+};
 pub use drivers::{Flushed, drive_fix, drive_flush};
-pub use files::{FilePort, OpenFault, geometry_of_file};
-pub use fuse::FusePort;
-pub use gate::GatePort;
 pub use held_list::HeldList;
 pub use held_passes::{latest_pass, next_to_go_back};
-pub use memory::{MemDevice, MemPort};
-pub use port::Port;
 pub use scripts::{drive_all, note_refused};

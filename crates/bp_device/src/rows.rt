@@ -9,7 +9,7 @@ ghost use Rattle.bp_device.specs.Work.{DoesWork};
 use crate::drivers::{drive_fix, drive_flush};
 use crate::held_list::HeldList;
 use crate::held_passes::{give, serials_differ};
-use crate::port::Port;
+use bp_ports::Port;
 use bp_core::{Keeper, PoolCore, Row, Step};
 use bp_page::{Bytes, Lsn, PageNo, Refusal};
 use std::sync::Wait;

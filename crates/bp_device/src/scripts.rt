@@ -8,7 +8,7 @@ ghost use Rattle.bp_device.specs.Work.{DoesWork};
 
 use crate::held_list::HeldList;
 use crate::held_passes::give_back_all;
-use crate::port::Port;
+use bp_ports::Port;
 use crate::rows::drive_row;
 use bp_core::{Keeper, PoolCore, Refused, Row};
 use bp_page::Refusal;

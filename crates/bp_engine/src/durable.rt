@@ -6,7 +6,7 @@ ghost use Rattle.bp_engine.specs.Logs.{RaisesWithin};
 ghost use Rattle.bp_engine.specs.Tries.{GivesUp, GoesOn, Tries};
 
 use bp_core::Pass;
-use bp_device::Port;
+use bp_ports::Port;
 use bp_keeper::ListKeeper;
 use bp_page::{Lsn, PageNo, Refusal};
 use bp_shared::{PoolName, Session, SharedPool};

@@ -1,9 +1,9 @@
 //! Page files that are made.
 ghost use Rattle.std.specs.Prelude.{◌≡◌, ◌⊎◌, OnOk, IfOk, IfErr};
-ghost use Rattle.bp_device.specs.Files.{IsOpenFault};
-ghost use Rattle.bp_device.specs.Ports.{has_headers};
+ghost use Rattle.bp_ports.specs.Files.{IsOpenFault};
+ghost use Rattle.bp_ports.specs.Ports.{has_headers};
 
-use bp_device::{FilePort, OpenFault, Port};
+use bp_ports::{FilePort, OpenFault, Port};
 use bp_page::{Format, Geometry, Image, Lsn, PageNo, PortFault, Refusal};
 use std::alloc::Global;
 use std::fs;

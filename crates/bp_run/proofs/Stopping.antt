@@ -12,8 +12,8 @@ use Rattle.bp_page.specs.declared.limits.Geometry.{Geometry}
 use Rattle.bp_page.specs.declared.refusals.Refusal.{Refusal}
 use Rattle.bp_page.specs.declared.refusals.Refusal.TheVariants as refusal
 use Rattle.bp_page.specs.declared.refusals.PortFault.TheVariants.{Device, Memory, WrongPage}
-use Rattle.bp_device.specs.declared.files.OpenFault.{OpenFault}
-use Rattle.bp_device.specs.declared.files.OpenFault.TheVariants.{Refused, Port}
+use Rattle.bp_ports.specs.declared.files.OpenFault.{OpenFault}
+use Rattle.bp_ports.specs.declared.files.OpenFault.TheVariants.{Refused, Port}
 use Rattle.bp_trail.specs.declared.scripts.Row.{Row}
 use Rattle.bp_trail.specs.Parameters.{Parameters}
 use Rattle.bp_trace.specs.InRange.{IsInRange}

@@ -4,11 +4,11 @@ use Rattle.std.specs.declared.alloc.Global.{Global}
 use Rattle.std.specs.declared.fs.File.{File as StdFile}
 use Rattle.clap.specs.Words.{Text}
 use Rattle.bp_page.specs.declared.refusals.PortFault.{PortFault}
-use Rattle.bp_device.specs.Ports.{ReadsPage, WritesPage}
-use Rattle.bp_device.specs.Files.{ReadsFile, WritesFile}
+use Rattle.bp_ports.specs.Ports.{ReadsPage, WritesPage}
+use Rattle.bp_ports.specs.Files.{ReadsFile, WritesFile}
 use Rattle.bp_page.specs.declared.limits.Geometry.{Geometry}
 use Rattle.bp_page.specs.declared.slots.Format.{Format}
-use Rattle.bp_device.specs.declared.files.OpenFault.{OpenFault}
+use Rattle.bp_ports.specs.declared.files.OpenFault.{OpenFault}
 use Rattle.bp_run.specs.Ways.{Ways}
 use Rattle.bp_run.specs.declared.page_files.AnyPort.{AnyPort}
 use Rattle.bp_run.specs.declared.page_files.AnyPort.TheVariants.{Mem, File}

@@ -7,9 +7,9 @@ use Rattle.bp_page.specs.declared.limits.Geometry.{Geometry}
 use Rattle.bp_page.specs.declared.slots.Format.{Format}
 use Rattle.bp_page.specs.declared.refusals.Refusal.TheVariants.{BadGeometry, BadLength, OutOfMemory}
 use Rattle.bp_page.specs.declared.refusals.PortFault.TheVariants.{Device, Memory}
-use Rattle.bp_device.specs.Ports.{has_headers}
-use Rattle.bp_device.specs.declared.files.OpenFault.{OpenFault}
-use Rattle.bp_device.specs.declared.files.OpenFault.TheVariants.{Refused, Port}
+use Rattle.bp_ports.specs.Ports.{has_headers}
+use Rattle.bp_ports.specs.declared.files.OpenFault.{OpenFault}
+use Rattle.bp_ports.specs.declared.files.OpenFault.TheVariants.{Refused, Port}
 use Rattle.bp_trace.specs.Numbers.{number_in}
 
 -- `mem:` with a number after it is so many pages in memory, and any other word is a path

@@ -4,7 +4,7 @@ use Rattle.std.specs.declared.alloc.Global.{Global}
 use Rattle.clap.specs.Words.{Text}
 use Rattle.bp_page.specs.declared.limits.Geometry.{Geometry}
 use Rattle.bp_page.specs.declared.slots.Format.{Format}
-use Rattle.bp_device.specs.declared.files.OpenFault.{OpenFault}
+use Rattle.bp_ports.specs.declared.files.OpenFault.{OpenFault}
 
 -- What is said of it by whoever opens them. Three relations have the results that calls gave: of a page file that was to be opened by a word, with pages of
 -- so many bytes in a version; of so many ports to it; and of the trace at a path. A fourth has bytes that were to be written into the file at a path, and whether they were. Of an open

@@ -14,7 +14,7 @@ use crate::run::{print_run, room_for};
 use crate::scripts::{client_count, split};
 use bp_clients::{Config, Outcome, run_clients};
 use bp_core::Row;
-use bp_device::Port;
+use bp_ports::Port;
 use bp_lruk::Settings;
 use bp_page::Geometry;
 use bp_words::{Ending, Order, RunWords};

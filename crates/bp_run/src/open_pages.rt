@@ -1,8 +1,8 @@
 //! Page files that are open.
 ghost use Rattle.std.specs.Prelude.{◌≡◌};
-ghost use Rattle.bp_device.specs.Ports.{has_headers};
+ghost use Rattle.bp_ports.specs.Ports.{has_headers};
 
-use bp_device::{FilePort, MemDevice};
+use bp_ports::{FilePort, MemDevice};
 use bp_page::{Format, Geometry};
 
 /// Pages in memory.

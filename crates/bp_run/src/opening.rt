@@ -1,5 +1,5 @@
 //! The page files and the traces of runs, and the pictures of sweeps.
-use bp_device::{OpenFault, Port};
+use bp_ports::{OpenFault, Port};
 use bp_page::{Format, Geometry};
 use std::io;
 use std::io::Read;

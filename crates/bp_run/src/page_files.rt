@@ -1,14 +1,14 @@
 //! Page files in memory and on disk.
 ghost use Rattle.std.specs.Prelude.{◌≡◌, ◌⊎◌, false, IfErr, IfOk, IfSome, string_bytes};
 ghost use Rattle.bp_page.specs.Limits.{IsGeometry};
-ghost use Rattle.bp_device.specs.Ports.{has_headers};
+ghost use Rattle.bp_ports.specs.Ports.{has_headers};
 ghost use Rattle.bp_run.specs.PageFile.{IsForMemory, IsOfFile, memory_named};
 ghost use Rattle.bp_run.specs.AnyPort.{IsPortTo, AreOf};
 
 use crate::file_ids::FileId;
 use crate::open_pages::{OpenFile, OpenMemory, OpenPages};
 use crate::opening::Ports;
-use bp_device::{FilePort, MemDevice, MemPort, OpenFault, Port};
+use bp_ports::{FilePort, MemDevice, MemPort, OpenFault, Port};
 use bp_page::{Format, Geometry, Image, Lsn, PageNo, PortFault, Refusal};
 use bp_trace::numbers::parse_number;
 use std::alloc::Global;

@@ -9,7 +9,7 @@ use crate::cell::count_cell;
 use crate::counts::Counts;
 use crate::dense::References;
 use crate::progress::{Progress, Turn};
-use bp_device::MemDevice;
+use bp_ports::MemDevice;
 use bp_lruk::Settings;
 use bp_optimum::count_optimum;
 use bp_page::{Geometry, Refusal};

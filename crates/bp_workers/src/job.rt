@@ -2,7 +2,7 @@
 
 use crate::giving::give_back_all;
 use crate::worker::{Client, Left, Upkeep, Worker};
-use bp_device::Port;
+use bp_ports::Port;
 use bp_keeper::ListKeeper;
 use bp_shared::{ClosedPool, PoolName, SharedPool};
 use std::marker::Model;

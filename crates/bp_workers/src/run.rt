@@ -14,7 +14,7 @@ use crate::kinds::Kind;
 use crate::log_writer::LogWriter;
 use crate::worker::{Client, Left, Upkeep, Worker};
 use bp_core::PoolCore;
-use bp_device::Port;
+use bp_ports::Port;
 use bp_keeper::{ListKeeper, RecordingKeeper};
 use bp_lruk::Settings;
 use bp_mark::{LogEnd, Mark, Reader};

@@ -7,7 +7,7 @@ use crate::names::PoolName;
 use crate::session::Session;
 use bp_book::{Fix, PendingRead, PendingWrite};
 use bp_core::{Ended, Pass};
-use bp_device::Port;
+use bp_ports::Port;
 use bp_keeper::ListKeeper;
 use bp_page::{PageNo, Refusal};
 use std::sync::Wait;

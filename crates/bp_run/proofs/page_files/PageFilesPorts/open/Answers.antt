@@ -1,6 +1,6 @@
 -- What was opened is what the word names.
 use Rattle.std.proofs.Common.{◌∙◌, ap}
-use Rattle.bp_device.specs.Ports.{has_headers}
+use Rattle.bp_ports.specs.Ports.{has_headers}
 use Rattle.bp_run.proofs.Naming.{fault_at_path, fault_in_memory, named_at_path, named_in_memory}
 use Rattle.bp_run.proofs.page_files.PageFilesPorts.open.Goals as goal
 

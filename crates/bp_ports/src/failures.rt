@@ -1,6 +1,6 @@
 //! Counting the failures of a device.
 ghost use Rattle.std.specs.Prelude.{◌≡◌, ℕ};
-ghost use Rattle.bp_device.specs.Ports.{Counts, IsCounted};
+ghost use Rattle.bp_ports.specs.Ports.{Counts, IsCounted};
 
 use bp_page::PortFault;
 use std::marker::Model;

@@ -1,6 +1,6 @@
 //! Ports in pairs that wait for one another, for tests that the device work of two clients overlaps.
 ghost use Rattle.std.specs.Prelude.{◌≡◌, ◌≢◌, ◌⊎◌, true, ◌<◌, IsTrue, IfOk, OnErr, length};
-ghost use Rattle.bp_device.specs.Ports.{Counts, IsUnasked};
+ghost use Rattle.bp_ports.specs.Ports.{Counts, IsUnasked};
 
 use crate::failures::Failures;
 use crate::port::Port;

@@ -1,7 +1,7 @@
 //! A port that fails once, for tests of what a failing device leaves.
 ghost use Rattle.std.specs.Prelude.{◌≡◌, ◌≢◌, true, ◌-◌, ◌↔◌, IsTrue, IfOk, OnErr, length, replicate};
-ghost use Rattle.bp_device.specs.Ports.{Counts, FailsOrPasses, IsUnasked};
-ghost use Rattle.bp_device.specs.Fuses.{FailsSpoiling, IsNext, spoiled_page};
+ghost use Rattle.bp_ports.specs.Ports.{Counts, FailsOrPasses, IsUnasked};
+ghost use Rattle.bp_ports.specs.Fuses.{FailsSpoiling, IsNext, spoiled_page};
 
 use crate::failures::Failures;
 use crate::port::Port;

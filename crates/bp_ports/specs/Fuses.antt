@@ -1,7 +1,7 @@
 -- A port that fails once: what it leaves on the port below.
 use Rattle.std.specs.Prelude.{◌≡◌, ℕ, Bool, true, false, ◌-◌, List, replicate, Option, Some, None, Result}
 use Rattle.bp_page.specs.declared.refusals.PortFault.{PortFault}
-use Rattle.bp_device.specs.Ports.{IsFailure}
+use Rattle.bp_ports.specs.Ports.{IsFailure}
 
 -- the page that a failing write leaves, where one is wanted: all its bytes are 255
 abbrev pub spoiled_page : Bool → ℕ → Option (List ℕ)

@@ -16,7 +16,7 @@ pub trait Port: Drop {
     ghost use Rattle.std.specs.Prelude.{◌≡◌, ◌≢◌, ℕ, Bool, true, List, Result, length, IfOk};
     ghost use Rattle.bp_page.specs.declared.limits.Geometry.{Geometry};
     ghost use Rattle.bp_page.specs.declared.refusals.PortFault.{PortFault as Fault};
-    ghost use Rattle.bp_device.specs.Ports.{Counts};
+    ghost use Rattle.bp_ports.specs.Ports.{Counts};
 
     // How many pages the device has, and of what size.
     ghost geometry_of: { Self → Geometry };

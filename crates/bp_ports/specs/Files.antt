@@ -4,9 +4,9 @@ use Rattle.bp_page.specs.Slots.{raw_slot, headed_slot, page_in}
 use Rattle.bp_page.specs.declared.refusals.PortFault.{PortFault}
 use Rattle.bp_page.specs.declared.refusals.PortFault.TheVariants.{Device, Memory, WrongPage}
 use Rattle.bp_page.specs.declared.refusals.Refusal.TheVariants.{BadLength}
-use Rattle.bp_device.specs.declared.files.OpenFault.{OpenFault}
-use Rattle.bp_device.specs.declared.files.OpenFault.TheVariants as open_fault
-use Rattle.bp_device.specs.Ports.{PortView, ReadsPage, WritesPage}
+use Rattle.bp_ports.specs.declared.files.OpenFault.{OpenFault}
+use Rattle.bp_ports.specs.declared.files.OpenFault.TheVariants as open_fault
+use Rattle.bp_ports.specs.Ports.{PortView, ReadsPage, WritesPage}
 
 -- a length of whole pages of this size: one at least, and no more than a file may have
 pub record IsFileLength (size bytes : ℕ) : Type 0 where

@@ -1,7 +1,7 @@
 //! A device in memory, and the ports on it.
 ghost use Rattle.std.specs.Prelude.{◌≡◌, ◌*◌, false, [], IfOk, OnErr};
 ghost use Rattle.bp_page.specs.declared.limits.Geometry.{Geometry};
-ghost use Rattle.bp_device.specs.Ports.{PortView, ReadsPage, WritesPage, new_port};
+ghost use Rattle.bp_ports.specs.Ports.{PortView, ReadsPage, WritesPage, new_port};
 
 use crate::failures::Failures;
 use crate::places::start_of;

@@ -2,8 +2,8 @@
 ghost use Rattle.std.specs.Prelude.{◌≡◌, ◌≢◌, ◌≤◌, ◌*◌, ◌↔◌, true, IsOk, IfOk, IfErr, OnErr, length, vec_len};
 ghost use Rattle.bp_page.specs.Limits.{IsGeometry};
 ghost use Rattle.bp_page.specs.Slots.{page_in, slot_size};
-ghost use Rattle.bp_device.specs.Ports.{PortView, has_headers};
-ghost use Rattle.bp_device.specs.Files.{FoundIn, IsFileLength, IsOpenFault, ReadsFile, WritesFile};
+ghost use Rattle.bp_ports.specs.Ports.{PortView, has_headers};
+ghost use Rattle.bp_ports.specs.Files.{FoundIn, IsFileLength, IsOpenFault, ReadsFile, WritesFile};
 
 use crate::failures::Failures;
 use crate::places::start_of;
