@@ -20,8 +20,8 @@ use Rattle.bp_trail.specs.Trail.{Trail}
 use Rattle.bp_trail.specs.Clock.{durable}
 use Rattle.bp_core.specs.CoreView.{CoreView}
 use Rattle.bp_trail.specs.Pieces.{by}
-use Rattle.bp_device.specs.Drivers.{ended_reply}
-use Rattle.bp_device.specs.Work.{Reads, Writes}
+use Rattle.bp_core.specs.Added.{ended_reply}
+use Rattle.bp_core.specs.Work.{Reads, Writes}
 
 -- the list has a mark more
 abbrev pub Marked : ℕ → ℕ → Trail → Trail → Type 0

@@ -5,5 +5,8 @@ pub mod ReadFaults
 pub mod Outcomes
 pub mod EndRefusals
 pub mod Unsaved
+-- What pieces of entries add, and which work of a device they stand for.
+pub mod Added
+pub mod Work
 -- What a body keeps: that frames, lists and histories agree with the entries so far.
 pub mod Agreement

@@ -16,7 +16,8 @@ use Rattle.bp_trail.specs.declared.entries.Reply.TheVariants.{NeedLog}
 use Rattle.bp_core.specs.ReadFaults.{read_refusal}
 use Rattle.bp_core.specs.CoreView.{CoreView, HasRoomFor, LacksRoomFor}
 use Rattle.bp_core.specs.Outcomes.{FixOutcome, FlushOutcome, TakesMemory}
-use Rattle.bp_device.specs.Drivers.{LoadOutcome, SaveOutcome, Ends, IsCaused}
+use Rattle.bp_device.specs.Drivers.{LoadOutcome, SaveOutcome, IsCaused}
+use Rattle.bp_core.specs.Added.{Ends}
 
 -- it was refused for want of memory
 abbrev WantsMemory : (A : Type 0) → Result A Refusal → Type 0

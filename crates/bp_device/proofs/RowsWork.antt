@@ -14,9 +14,9 @@ use Rattle.bp_trail.specs.Script.{latest_pass, WithPass, RowPiece, GivesBack, gi
 use Rattle.bp_trail.specs.Script.GivesBack.{none_held, next}
 use Rattle.bp_trail.specs.Trail.{Trail}
 use Rattle.bp_core.specs.CoreView.{CoreView}
-use Rattle.bp_device.specs.Drivers.{with_piece}
+use Rattle.bp_core.specs.Added.{with_piece}
 use Rattle.bp_device.specs.Rows.{EndsIn, DrivesRow, GaveBack}
-use Rattle.bp_device.specs.Work.{Reads, Writes, Works, WorksThrough, DoesWork}
+use Rattle.bp_core.specs.Work.{Reads, Writes, Works, WorksThrough, DoesWork}
 
 -- rows that have no device work
 abbrev pub is_quiet : Step → Bool

@@ -19,7 +19,7 @@ use Rattle.bp_trail.specs.Script.{refused_row, FollowsBy, GivesBack, first_to_go
 use Rattle.bp_trail.specs.Script.GivesBack.{none_held, next as gives_next}
 use Rattle.bp_trail.proofs.Lists.{some-append, some-mono}
 use Rattle.bp_trail.proofs.Counting.{reverse-push, filter-reverse}
-use Rattle.bp_device.specs.Drivers.{with_piece}
+use Rattle.bp_core.specs.Added.{with_piece}
 use Rattle.bp_device.specs.Rows.{AreHeld, EndsIn, DrivesRow, DrivesRows, GoingBack, GaveBack, AddsScript}
 use Rattle.bp_device.proofs.GivingBack.{fewer-without}
 use Rattle.bp_device.proofs.PieceSteps.{find-there, known-there}

@@ -19,8 +19,9 @@ use Rattle.bp_trail.specs.Pieces.{by}
 use Rattle.bp_core.specs.ReadFaults.{read_failure}
 use Rattle.bp_core.specs.CoreView.{CoreView, with_entry}
 use Rattle.bp_core.specs.Outcomes.{FixOutcome, FlushOutcome}
-use Rattle.bp_device.specs.Drivers.{LoadOutcome, SaveOutcome, Ends, ended_reply}
-use Rattle.bp_device.specs.Work.{Reads, Writes, Works, DoesWork}
+use Rattle.bp_device.specs.Drivers.{LoadOutcome, SaveOutcome}
+use Rattle.bp_core.specs.Added.{Ends, ended_reply}
+use Rattle.bp_core.specs.Work.{Reads, Writes, Works, DoesWork}
 
 module _ {A : Type 0} (reads : Reads A) (writes : Writes A) where
   pub none-yet : (core : CoreView) (port : A) → DoesWork reads writes core port core port

@@ -9,31 +9,20 @@ use Rattle.bp_core.specs.declared.passes.Pass.{Pass}
 use Rattle.bp_core.specs.declared.passes.ReadTicket.{ReadTicket}
 use Rattle.bp_core.specs.declared.passes.WriteTicket.{WriteTicket}
 use Rattle.bp_core.specs.declared.passes.Ended.{Ended}
-use Rattle.bp_core.specs.declared.passes.Ended.TheVariants as ended
 use Rattle.bp_trail.specs.declared.entries.Call.{Call}
 use Rattle.bp_trail.specs.declared.entries.Call.TheVariants.{ReadEnd, WriteEnd}
 use Rattle.bp_trail.specs.declared.entries.Reply.{Reply}
-use Rattle.bp_trail.specs.declared.entries.Reply.TheVariants.{Fixed, NeedLog, Cleaned, StillDirty, WriteFailed, Clean, Absent}
-use Rattle.bp_trail.specs.Lists.{and_given}
+use Rattle.bp_trail.specs.declared.entries.Reply.TheVariants.{Fixed, NeedLog, WriteFailed}
 use Rattle.bp_trail.specs.Event.{Grant, grant}
 use Rattle.bp_trail.specs.Trail.{Trail}
-use Rattle.bp_trail.specs.Passes.{passes_out}
 use Rattle.bp_core.specs.ReadFaults.{read_refusal, read_failure}
 use Rattle.bp_core.specs.CoreView.{CoreView, with_entry, HasRoomFor, LacksRoomFor}
 use Rattle.bp_core.specs.Outcomes.{Adds, TakesMemory}
+use Rattle.bp_core.specs.Added.{with_piece, Gives, Ends, ended_reply, flushed_reply}
 use Rattle.bp_trail.specs.Pieces.{FixPiece, FlushPiece}
 use Rattle.bp_trail.specs.Pieces.Manner.{driver}
 use Rattle.bp_trail.specs.Pieces.Outcome.{accepted, refused}
-use Rattle.bp_device.specs.declared.drivers.Flushed.{Flushed}
-use Rattle.bp_device.specs.declared.drivers.Flushed.TheVariants as flushed
-
--- the core with more entries, newest first
-abbrev pub with_piece : CoreView → Trail → CoreView
-with_piece core piece = record core { past = piece ++ core.past }
-
--- whatever was out before the piece is out after it, with the pass that it gave
-abbrev pub Gives : Trail → Option Grant → Type 0
-Gives piece given = (said : Trail) → passes_out (piece ++ said) ≡ and_given given (passes_out said)
+use Rattle.bp_core.specs.declared.passes.Flushed.{Flushed}
 
 -- a piece was added that is as P says
 pub record AddsPiece (old : CoreView) (P : Trail → Type 0) (given : Option Grant) (new : CoreView) : Type 0 where
@@ -46,21 +35,6 @@ abbrev pub DrivesFix : CoreView → ℕ → ℕ → Result Pass Refusal → Core
 DrivesFix old client page (Ok pass) new =
     (pass.client ≡ client) × (pass.page ≡ page) × AddsPiece old (λ piece. FixPiece driver client page piece accepted) (Some (grant client page pass.serial)) new
 DrivesFix old client page (Err refusal) new = AddsPiece old (λ piece. FixPiece driver client page piece (refused (number_of refusal))) None new
-
-abbrev pub ended_reply : Ended → Reply
-ended_reply ended.Cleaned = Cleaned
-ended_reply ended.StillDirty = StillDirty
-
-abbrev pub flushed_reply : Flushed → Reply
-flushed_reply flushed.Clean = Clean
-flushed_reply flushed.Absent = Absent
-flushed_reply flushed.Cleaned = Cleaned
-flushed_reply flushed.StillDirty = StillDirty
-
--- the newest entry has this reply
-abbrev pub Ends : Reply → Trail → Type 0
-Ends reply [] = ⊥
-Ends reply (e ∷ older) = e.reply ≡ reply
 
 abbrev pub DrivesFlush : CoreView → ℕ → ℕ → Result Flushed Refusal → CoreView → Type 0
 DrivesFlush old client page (Ok flushed) new = AddsPiece old (λ piece. FlushPiece driver client page piece accepted × Ends (flushed_reply flushed) piece) None new

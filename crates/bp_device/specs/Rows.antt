@@ -17,7 +17,7 @@ use Rattle.bp_core.specs.Outcomes.{TakesMemory}
 use Rattle.bp_trail.specs.Pieces.{Outcome}
 use Rattle.bp_trail.specs.Pieces.Manner.{driver}
 use Rattle.bp_trail.specs.Script.{held_passes, RowPiece, FollowsBy, GivesBack, Follows}
-use Rattle.bp_device.specs.Drivers.{with_piece}
+use Rattle.bp_core.specs.Added.{with_piece}
 
 -- the notes of the passes that these entries leave out, in the order taken
 abbrev pub AreHeld : List Grant → Trail → Type 0

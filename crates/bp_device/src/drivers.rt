@@ -4,25 +4,14 @@ ghost use Rattle.std.specs.Result.{is_ok};
 ghost use Rattle.bp_trail.specs.declared.entries.Call.TheVariants as call;
 ghost use Rattle.bp_core.specs.Outcomes.{KnowsRead, KnowsWrite};
 ghost use Rattle.bp_device.specs.Drivers.{DrivesFix, DrivesFlush, IsCaused, LoadOutcome, SaveOutcome};
-ghost use Rattle.bp_device.specs.Work.{DoesWork};
+ghost use Rattle.bp_core.specs.Work.{DoesWork};
 
 use bp_ports::Port;
-use bp_core::{EndRefusal, Ended, Fix, Flush, Keeper, Pass, PoolCore, ReadTicket, WriteTicket};
+use bp_core::{
+    EndRefusal, Ended, Fix, Flush, Flushed, Keeper, Pass, PoolCore, ReadTicket, WriteTicket,
+};
 use bp_page::{Image, PageNo, PortFault, Refusal};
 use std::sync::Wait;
-
-/// How a page came to be saved, or that it is not here.
-#[derive(Clone, Copy, PartialEq, Eq, Debug, Drop)]
-pub enum Flushed {
-    /// No write of the page was left to save.
-    Clean,
-    /// The page is not resident.
-    Absent,
-    /// The page was written out, and is saved.
-    Cleaned,
-    /// The page was written out, and was written to meanwhile.
-    StillDirty,
-}
 
 /// Ends a read whose ticket the core knows.
 fn load<K: Keeper>(

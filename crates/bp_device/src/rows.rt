@@ -4,7 +4,7 @@ ghost use Rattle.bp_trail.specs.declared.scripts.Step.TheVariants as Step;
 ghost use Rattle.bp_trail.specs.Fits.{RowFits};
 ghost use Rattle.bp_trail.specs.Pieces.{outcome_of};
 ghost use Rattle.bp_device.specs.Rows.{EndsIn, DrivesRow, RowCaused};
-ghost use Rattle.bp_device.specs.Work.{DoesWork};
+ghost use Rattle.bp_core.specs.Work.{DoesWork};
 
 use crate::drivers::{drive_fix, drive_flush};
 use crate::held_list::HeldList;

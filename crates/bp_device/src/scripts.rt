@@ -4,7 +4,7 @@ ghost use Rattle.bp_trail.specs.Fits.{RowFits};
 ghost use Rattle.bp_trail.specs.Pieces.{outcome_of};
 ghost use Rattle.bp_trail.specs.Script.{refused_row};
 ghost use Rattle.bp_device.specs.Rows.{AddsScript, DrivesRowsCaused, ScriptCaused};
-ghost use Rattle.bp_device.specs.Work.{DoesWork};
+ghost use Rattle.bp_core.specs.Work.{DoesWork};
 
 use crate::held_list::HeldList;
 use crate::held_passes::give_back_all;

@@ -7,7 +7,7 @@ use Rattle.bp_trail.specs.declared.entries.Call.TheVariants.{Tick}
 use Rattle.bp_trail.specs.declared.entries.Reply.TheVariants.{Done}
 use Rattle.bp_trail.specs.Trail.{Trail}
 use Rattle.bp_trail.specs.Pieces.{by}
-use Rattle.bp_device.specs.Work.{Reads, Writes, Works, WorksThrough}
+use Rattle.bp_core.specs.Work.{Reads, Writes, Works, WorksThrough}
 use Rattle.bp_shared.specs.Sessions.{WithSomeLsn, DoesWorkSaid}
 use Rattle.bp_engine.specs.Tries.{GivesUp, GoesOn}
 use Rattle.bp_engine.proofs.Trying.{gives-up-stays}

@@ -8,7 +8,7 @@ use Rattle.bp_page.specs.declared.limits.Geometry.{Geometry}
 use Rattle.bp_trail.specs.declared.scripts.Row.{Row}
 use Rattle.bp_trail.specs.Fits.{RowFits}
 use Rattle.bp_trail.specs.Parameters.{Parameters}
-use Rattle.bp_device.specs.Work.{Reads, Writes}
+use Rattle.bp_core.specs.Work.{Reads, Writes}
 use Rattle.bp_trace.specs.InRange.{IsInRange}
 use Rattle.bp_words.specs.declared.ending.Ending.{Ending}
 use Rattle.bp_words.specs.declared.words.Order.{Order}

@@ -17,7 +17,7 @@ use Rattle.bp_ports.specs.declared.files.OpenFault.TheVariants.{Refused, Port}
 use Rattle.bp_trail.specs.declared.scripts.Row.{Row}
 use Rattle.bp_trail.specs.Parameters.{Parameters}
 use Rattle.bp_trace.specs.InRange.{IsInRange}
-use Rattle.bp_device.specs.Work.{Reads, Writes}
+use Rattle.bp_core.specs.Work.{Reads, Writes}
 use Rattle.bp_core.specs.Outcomes.{IsFit, IsFitUpTo, NewOutcome}
 use Rattle.bp_clients.specs.Runs.{RunAnswers}
 use Rattle.bp_table.specs.declared.lines.Line.{Line}

@@ -10,9 +10,9 @@ use Rattle.bp_trail.specs.Pieces.Manner.{driver}
 use Rattle.bp_trail.specs.Script.{Follows}
 use Rattle.bp_trail.specs.Trail.{Trail}
 use Rattle.bp_core.specs.CoreView.{CoreView}
-use Rattle.bp_device.specs.Drivers.{with_piece}
+use Rattle.bp_core.specs.Added.{with_piece}
 use Rattle.bp_device.specs.Rows.{AddsScript}
-use Rattle.bp_device.specs.Work.{DoesWork, Reads, Writes, WorksThrough}
+use Rattle.bp_core.specs.Work.{DoesWork, Reads, Writes, WorksThrough}
 use Rattle.bp_trace.specs.Report.{rows_text}
 use Rattle.bp_run.specs.Run.{Reports, report_of}
 

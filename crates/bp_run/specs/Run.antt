@@ -10,7 +10,7 @@ use Rattle.bp_trail.specs.Parameters.{Parameters}
 use Rattle.bp_trail.specs.Legal.{Legal}
 use Rattle.bp_trail.specs.Pieces.Manner.{driver}
 use Rattle.bp_trail.specs.Script.{Follows}
-use Rattle.bp_device.specs.Work.{Reads, Writes, WorksThrough}
+use Rattle.bp_core.specs.Work.{Reads, Writes, WorksThrough}
 use Rattle.bp_trace.specs.Script.{IsScriptOfSome, script_of}
 use Rattle.bp_trace.specs.Report.{report_text, rows_text}
 use Rattle.bp_trace.specs.Totals.{totals_of, totals_text}

@@ -23,8 +23,8 @@ use Rattle.bp_book.specs.Books.{OwesRead, OwesWrite}
 use Rattle.bp_book.specs.Turns.{is_busy, FixTurn, EndReadOutcome, EndWriteOutcome, LoadOutcome, WriteOutOutcome}
 use Rattle.bp_shared.proofs.Turning.{FixWaits, FixTurns, fix_marked}
 use Rattle.bp_shared.specs.Sessions.{FixSaid}
-use Rattle.bp_device.specs.Drivers.{Gives}
-use Rattle.bp_device.specs.Work.{Reads, Writes}
+use Rattle.bp_core.specs.Added.{Gives}
+use Rattle.bp_core.specs.Work.{Reads, Writes}
 
 goes_on-append : (client page : ℕ) (xs ys : Trail) → FixGoesOn session client page xs → FixGoesOn session client page ys → FixGoesOn session client page (xs ++ ys)
 goes_on-append client page _ ys begins q = q

@@ -16,13 +16,13 @@ use Rattle.bp_trail.specs.Pieces.{by, FlushGoesOn}
 use Rattle.bp_trail.specs.Pieces.Manner.{session}
 use Rattle.bp_trail.specs.Pieces.FlushGoesOn.{begins, marked, waited}
 use Rattle.bp_trail.specs.Pieces.FlushPiece.{clean, absent, cleaned, still_dirty, need_log, write_failed, lost_write, no_room, no_memory}
-use Rattle.bp_device.specs.declared.drivers.Flushed.{Flushed}
-use Rattle.bp_device.specs.declared.drivers.Flushed.TheVariants as flushed
+use Rattle.bp_core.specs.declared.passes.Flushed.{Flushed}
+use Rattle.bp_core.specs.declared.passes.Flushed.TheVariants as flushed
 use Rattle.bp_book.specs.Turns.{is_busy, FlushTurn, EndWriteOutcome, WriteOutOutcome}
 use Rattle.bp_shared.proofs.Turning.{FlushWaits, FlushTurns, flush_marked}
 use Rattle.bp_shared.specs.Sessions.{FlushSaid}
-use Rattle.bp_device.specs.Drivers.{Gives, ended_reply, flushed_reply}
-use Rattle.bp_device.specs.Work.{Writes}
+use Rattle.bp_core.specs.Added.{Gives, ended_reply, flushed_reply}
+use Rattle.bp_core.specs.Work.{Writes}
 use Rattle.bp_shared.proofs.Fixing.{is-busy}
 
 goes_on-append : (client page : ℕ) (xs ys : Trail) → FlushGoesOn session client page xs → FlushGoesOn session client page ys → FlushGoesOn session client page (xs ++ ys)

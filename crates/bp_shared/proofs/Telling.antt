@@ -21,7 +21,7 @@ use Rattle.bp_core.specs.declared.passes.WriteTicket.{WriteTicket}
 use Rattle.bp_core.specs.declared.passes.Ended.{Ended}
 use Rattle.bp_core.specs.CoreView.{CoreView, with_entry}
 use Rattle.bp_core.specs.Outcomes.{Cuts}
-use Rattle.bp_device.specs.Drivers.{ended_reply}
+use Rattle.bp_core.specs.Added.{ended_reply}
 use Rattle.bp_audit.specs.Clients.{of_client}
 use Rattle.bp_audit.proofs.Comparing.{of_client-append, of_client-hit, of_client-miss}
 use Rattle.bp_board.specs.Boards.{Writes}

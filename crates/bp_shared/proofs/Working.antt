@@ -20,8 +20,8 @@ use Rattle.bp_book.specs.declared.pending.Fix.TheVariants as fixing
 use Rattle.bp_book.specs.declared.pending.Flush.{Flush as Flushing}
 use Rattle.bp_book.specs.declared.pending.Flush.TheVariants as flushing
 use Rattle.bp_book.specs.Turns.{FixTurn, FlushTurn, MarksOnce, refusal_reply, and_told, EndReadOutcome, EndWriteOutcome, LoadOutcome, WriteOutOutcome}
-use Rattle.bp_device.specs.Drivers.{Ends, ended_reply}
-use Rattle.bp_device.specs.Work.{Reads, Writes, Works}
+use Rattle.bp_core.specs.Added.{Ends, ended_reply}
+use Rattle.bp_core.specs.Work.{Reads, Writes, Works}
 use Rattle.bp_shared.proofs.Stepping.{err}
 use Rattle.bp_shared.specs.Sessions.{WithSomeLsn, DoesWorkSaid}
 

@@ -15,9 +15,9 @@ use Rattle.bp_trail.specs.Pieces.{by, FixPiece, FlushPiece}
 use Rattle.bp_trail.specs.Pieces.Manner.{session}
 use Rattle.bp_trail.specs.Pieces.Outcome.{accepted, refused}
 use Rattle.bp_book.specs.Books.{owed}
-use Rattle.bp_device.specs.declared.drivers.Flushed.{Flushed}
-use Rattle.bp_device.specs.Drivers.{Gives, Ends, flushed_reply}
-use Rattle.bp_device.specs.Work.{Reads, Writes, WorksThrough}
+use Rattle.bp_core.specs.declared.passes.Flushed.{Flushed}
+use Rattle.bp_core.specs.Added.{Gives, Ends, flushed_reply}
+use Rattle.bp_core.specs.Work.{Reads, Writes, WorksThrough}
 
 -- whose session it is, and its list: what cuts handed out, and all of it; in how many places of its ring it knows no pass;
 -- and for how many entries the list has room beyond all that it owes

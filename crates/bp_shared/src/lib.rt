@@ -16,7 +16,7 @@ mod state;
 mod taker;
 mod trail_ring;
 
-pub use bp_device::Flushed;
+pub use bp_core::Flushed;
 use bp_keeper::SilentKeeper;
 pub use closed_pool::ClosedPool;
 pub use names::PoolName;

@@ -6,7 +6,7 @@ use Rattle.bp_trail.specs.Trail.{Trail}
 use Rattle.bp_trail.specs.Clock.{durable}
 use Rattle.bp_trail.specs.Script.{give_back}
 use Rattle.bp_core.specs.CoreView.{CoreView}
-use Rattle.bp_device.specs.Work.{Reads, Writes}
+use Rattle.bp_core.specs.Work.{Reads, Writes}
 use Rattle.bp_shared.specs.Sessions.{DoesWorkSaid}
 use Rattle.bp_workers.specs.Giving.{GoBack}
 use Rattle.bp_workers.specs.Giving.GoBack.{no_more, one_more}

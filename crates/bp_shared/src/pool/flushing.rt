@@ -1,6 +1,6 @@
 //! Flushes of shared pages, with their device work.
 ghost use Rattle.std.specs.Prelude.{◌≡◌};
-ghost use Rattle.bp_device.specs.Drivers.{ended_reply, flushed_reply};
+ghost use Rattle.bp_core.specs.Added.{ended_reply, flushed_reply};
 
 use super::{SharedPool, found_busy, is_busy};
 use crate::locking::locked;
@@ -8,7 +8,7 @@ use crate::names::PoolName;
 use crate::session::Session;
 use bp_book::Flush;
 use bp_core::Ended;
-use bp_device::Flushed;
+use bp_core::Flushed;
 use bp_ports::Port;
 use bp_keeper::ListKeeper;
 use bp_page::{PageNo, Refusal};

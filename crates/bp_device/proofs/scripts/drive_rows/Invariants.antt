@@ -1,7 +1,7 @@
 use Rattle.std.proofs.Common.{◌≡◌, ◌≤◌, ◌+◌, length, vec_len, vec_capacity}
 use Rattle.std.specs.Prelude.{take}
 use Rattle.bp_device.specs.Rows.{DrivesRowsCaused}
-use Rattle.bp_device.specs.Work.{DoesWork}
+use Rattle.bp_core.specs.Work.{DoesWork}
 use Rattle.bp_device.proofs.scripts.drive_rows.Given as goal
 
 abbrev pub invariant-loop-row : goal.invariant-loop-row

@@ -11,7 +11,7 @@ use Rattle.bp_trail.specs.Saved.{top}
 use Rattle.bp_trail.specs.Trail.{Trail}
 use Rattle.bp_core.specs.ReadFaults.{read_failure}
 use Rattle.bp_core.specs.CoreView.{CoreView}
-use Rattle.bp_device.specs.Drivers.{Ends, with_piece}
+use Rattle.bp_core.specs.Added.{Ends, with_piece}
 
 -- by a read of a page, with this result; by a write of a page, with its image, page LSN and result
 abbrev pub Reads : Type 0 → Type 1
