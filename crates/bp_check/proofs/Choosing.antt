@@ -5,8 +5,8 @@ use Rattle.std.specs.declared.vec.Vec.{Vec}
 use Rattle.std.proofs.lemmas.Bool.{eqb-true, true≢false, lt-ltb, ltb-true}
 use Rattle.std.proofs.lemmas.Bool.Decides.{nat_tests}
 use Rattle.std.proofs.lemmas.List.{take_more, take_all}
-use Rattle.bp_lruk.specs.Burst.{Reference, bursts}
-use Rattle.bp_lruk.specs.Stamp.{stamp, burst_stamp}
+use Rattle.bp_references.specs.Burst.{Reference, bursts}
+use Rattle.bp_references.specs.Stamp.{stamp, burst_stamp}
 use Rattle.bp_trail.specs.Parameters.{Parameters}
 use Rattle.bp_trail.specs.Trail.{Trail}
 use Rattle.bp_trail.specs.Lists.{some, count_below}

@@ -1,8 +1,8 @@
 -- The spans of a page's references, with one reference more.
 use Rattle.std.proofs.Common.{◌≡◌, ℕ, ◌-◌, Bool, true, false, nat_lt, List, [], ◌∷◌, refl}
-use Rattle.bp_lruk.specs.Burst.{Reference, time, is_hit, last_time}
-use Rattle.bp_lruk.specs.Burst.Reference.{hit, fault}
-use Rattle.bp_lruk.proofs.BurstLaws.{newest}
+use Rattle.bp_references.specs.Burst.{Reference, time, is_hit, last_time}
+use Rattle.bp_references.specs.Burst.Reference.{hit, fault}
+use Rattle.bp_references.proofs.BurstLaws.{newest}
 use Rattle.bp_trail.specs.References.{is_empty}
 use Rattle.bp_check.specs.Spans.{spans, with_reference, last_of, has_none}
 

@@ -1,8 +1,8 @@
 -- Which trails are legal does not hang on the room.
 use Rattle.std.proofs.Common.{◌≡◌, ℕ, zero, suc, Bool, not, ◌&&◌, cond, List, [], ◌∷◌, filter, find, Some, None, inl, inr, refl, sym, ap, ◌∙◌}
 use Rattle.std.specs.Prelude.{if◌then◌else◌}
-use Rattle.bp_lruk.specs.Burst.{last_time}
-use Rattle.bp_lruk.specs.Stamp.{stamp}
+use Rattle.bp_references.specs.Burst.{last_time}
+use Rattle.bp_references.specs.Stamp.{stamp}
 use Rattle.bp_trail.specs.declared.entries.Entry.{Entry}
 use Rattle.bp_trail.specs.declared.entries.Call.{Call}
 use Rattle.bp_trail.specs.declared.entries.Call.TheVariants.{Tick, Mark, Fix, ReadEnd, WriteEnd, Read, Write, Unfix, Flush, Purge}

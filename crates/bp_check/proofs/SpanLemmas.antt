@@ -5,8 +5,8 @@ use Rattle.std.specs.declared.vec.Vec.{Vec}
 use Rattle.std.proofs.lemmas.Bool.{lt-ltb, le-ltb}
 use Rattle.std.proofs.lemmas.List.{take_more, take_all, take_more_set, length-reverse, length-map, length-set, get_or-map, get_or_read, get_or-set_same, get_or-set_other, map-set}
 use Rattle.std.proofs.lemmas.List.Elements.{All-head, All-tail}
-use Rattle.bp_lruk.specs.Burst.{Burst, first_time, width, is_opened_by_hit}
-use Rattle.bp_lruk.specs.Stamp.{burst_at, counted_widths, burst_stamp}
+use Rattle.bp_references.specs.Burst.{Burst, first_time, width, is_opened_by_hit}
+use Rattle.bp_references.specs.Stamp.{burst_at, counted_widths, burst_stamp}
 use Rattle.bp_trail.proofs.Counting.{reverse-push}
 use Rattle.bp_check.specs.declared.spans.Span.{Span}
 use Rattle.bp_check.specs.Spans.{span, with_reference, spans_at}

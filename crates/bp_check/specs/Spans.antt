@@ -1,7 +1,7 @@
 -- The bursts of a page's references, as far as stamps need them. Each list here is newest first.
 use Rattle.std.specs.Prelude.{ℕ, ◌-◌, nat_lt, Bool, not, ◌&&◌, ◌||◌, ◌==◌, List, [], ◌∷◌, map, reverse, slice_index_or, if◌then◌else◌}
 use Rattle.std.specs.declared.vec.Vec.{Vec}
-use Rattle.bp_lruk.specs.Burst.{Reference, Burst, bursts, first_time, last_time, is_opened_by_hit}
+use Rattle.bp_references.specs.Burst.{Reference, Burst, bursts, first_time, last_time, is_opened_by_hit}
 use Rattle.bp_trail.specs.Event.{Grant}
 use Rattle.bp_trail.specs.Lists.{some}
 use Rattle.bp_trail.specs.Passes.{is_of}

@@ -1,7 +1,7 @@
 //! The references of the pages, as the spans of their bursts. The spans of one page are in the order of time.
 ghost use Rattle.std.specs.Prelude.{◌≡◌, ◌≢◌, ℕ, ◌-◌, ◌*◌, ◌^◌, ◌<◌, ◌≤◌, List, [], map, length, reverse, slice_index_or, if◌then◌else◌, OnOk, IfOk, vec_len};
-ghost use Rattle.bp_lruk.specs.Burst.{Burst};
-ghost use Rattle.bp_lruk.specs.Stamp as stamp;
+ghost use Rattle.bp_references.specs.Burst.{Burst};
+ghost use Rattle.bp_references.specs.Stamp as stamp;
 ghost use Rattle.bp_trail.specs.Lists.{count_below};
 ghost use Rattle.bp_check.specs.Spans as of;
 ghost use Rattle.bp_check.specs.Spans.{span, with_reference, spans_at};

@@ -1,6 +1,6 @@
 -- What the trail of every run has, in the order of time: the rules of the pool.
 use Rattle.std.specs.Prelude.{◌≡◌, ℕ, false, List, reverse, Some}
-use Rattle.bp_lruk.specs.Distance.{is_farther}
+use Rattle.bp_references.specs.Distance.{is_farther}
 use Rattle.bp_trail.specs.declared.entries.Entry.{Entry}
 use Rattle.bp_trail.specs.declared.entries.Reply.TheVariants.{Load}
 use Rattle.bp_trail.specs.Parameters.{Parameters}

@@ -1,7 +1,7 @@
 -- How each observation changes with one entry. Those with `refl` need no citation: they hold by computation where the entry is written out.
 use Rattle.std.proofs.Common.{◌≡◌, refl, ap, ℕ, suc, ◌+◌, max, Bool, true, false, not, ◌||◌, ◌==◌, if◌then◌else◌, List, [], ◌∷◌, filter, length, Option, Some, None, arith}
 use Rattle.bp_page.specs.Patched.{patched}
-use Rattle.bp_lruk.specs.Burst.Reference.{hit, fault}
+use Rattle.bp_references.specs.Burst.Reference.{hit, fault}
 use Rattle.bp_trail.specs.declared.entries.Entry.{Entry}
 use Rattle.bp_trail.specs.declared.entries.Call.{Call}
 use Rattle.bp_trail.specs.declared.entries.Call.TheVariants.{Tick, Mark, Fix, ReadEnd, WriteEnd, Write, Unfix, Purge}

@@ -4,8 +4,8 @@ use Rattle.std.specs.Prelude.{IsSome, IfSome, IfNone, unwrap_or}
 use Rattle.std.specs.Option.{option_map_or}
 use Rattle.std.proofs.lemmas.Bool.{cases_eq, and_parts, eqb-false, eq-eqb, ne_eqb, false_from_ne_true, true≢false, false≢true}
 use Rattle.std.proofs.lemmas.Bool.Decides.{nat_tests}
-use Rattle.bp_lruk.specs.Candidates.{Candidate, Entered, find_entry, entry_of, candidate_of, is_eligible, is_before, NoPageTwice}
-use Rattle.bp_lruk.specs.Candidates.{IsVictim as IsEnteredVictim}
+use Rattle.bp_references.specs.Candidates.{Candidate, Entered, find_entry, entry_of, candidate_of, is_eligible, is_before, NoPageTwice}
+use Rattle.bp_references.specs.Candidates.{IsVictim as IsEnteredVictim}
 use Rattle.bp_trail.specs.Parameters.{Parameters}
 use Rattle.bp_trail.specs.Trail.{Trail}
 use Rattle.bp_trail.specs.Clock.{clock}

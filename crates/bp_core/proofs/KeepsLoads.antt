@@ -4,10 +4,10 @@ use Rattle.std.proofs.Common.{◌≡◌, ◌≢◌, ℕ, ◌+◌, ◌<◌, ◌�
 use Rattle.std.specs.Prelude.{not, ◌==◌, ◌||◌}
 use Rattle.std.specs.List.Sorted.{IsPermutation}
 use Rattle.std.proofs.lemmas.Bool.{lt-ltb, ltb-true, or_left, or_right, true≢false}
-use Rattle.bp_lruk.specs.Burst.{Reference}
-use Rattle.bp_lruk.specs.Burst.Reference.{fault}
-use Rattle.bp_lruk.specs.Stamp.{IsTimed}
-use Rattle.bp_lruk.specs.Candidates.{Entered, entry_of, NoPageTwice, SameLimits}
+use Rattle.bp_references.specs.Burst.{Reference}
+use Rattle.bp_references.specs.Burst.Reference.{fault}
+use Rattle.bp_references.specs.Stamp.{IsTimed}
+use Rattle.bp_references.specs.Candidates.{Entered, entry_of, NoPageTwice, SameLimits}
 use Rattle.bp_lruk.specs.Histories.{Blocks, is_held, place_of, HasStampsOf, SameAt, SameStampsAt, SameSettings, KeepsPlaces}
 use Rattle.bp_trail.specs.declared.entries.Call.TheVariants.{Fix, ReadEnd}
 use Rattle.bp_trail.specs.declared.entries.Reply.TheVariants.{Load, Fixed, ReadFailed}

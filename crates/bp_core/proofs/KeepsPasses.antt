@@ -2,10 +2,10 @@
 use Rattle.std.proofs.Common.{◌≡◌, ◌≢◌, ℕ, ◌+◌, ◌<◌, ◌≤◌, true, List, ◌∷◌, length, filter, ap, subst, arith, Bool, if◌then◌else◌, Some, None, refl, ◌∙◌}
 use Rattle.std.specs.Prelude.{not, ◌==◌, ◌&&◌}
 use Rattle.std.proofs.lemmas.Bool.{lt-ltb, ne_eqb}
-use Rattle.bp_lruk.specs.Burst.{Reference}
-use Rattle.bp_lruk.specs.Burst.Reference.{hit}
-use Rattle.bp_lruk.specs.Stamp.{IsTimed}
-use Rattle.bp_lruk.specs.Candidates.{Entered, entry_of, NoPageTwice, SameLimits}
+use Rattle.bp_references.specs.Burst.{Reference}
+use Rattle.bp_references.specs.Burst.Reference.{hit}
+use Rattle.bp_references.specs.Stamp.{IsTimed}
+use Rattle.bp_references.specs.Candidates.{Entered, entry_of, NoPageTwice, SameLimits}
 use Rattle.bp_lruk.specs.Histories.{Blocks, is_held, place_of, stamp_of, last_of, HasStampsOf, SameAt, SameSettings, KeepsPlaces}
 use Rattle.bp_trail.specs.declared.entries.Call.TheVariants.{Fix, Write, Unfix}
 use Rattle.bp_trail.specs.declared.entries.Reply.TheVariants.{Done, Hit}

@@ -2,7 +2,7 @@
 use Rattle.std.proofs.Common.{◌≡◌, ℕ, ◌+◌, ◌<◌, true, false, length, filter, sym, ◌∙◌, arith, ◌≢◌, Bool, if◌then◌else◌, Some, None, refl, ap}
 use Rattle.std.specs.Prelude.{not, ◌==◌, ◌&&◌}
 use Rattle.std.proofs.lemmas.Bool.{lt-ltb, eq-eqb, true≢false}
-use Rattle.bp_lruk.specs.Candidates.{Entered, entry_of, NoPageTwice, SameLimits}
+use Rattle.bp_references.specs.Candidates.{Entered, entry_of, NoPageTwice, SameLimits}
 use Rattle.bp_lruk.specs.Histories.{stamp_of, last_of}
 use Rattle.bp_trail.specs.declared.entries.Call.{Call}
 use Rattle.bp_trail.specs.declared.entries.Call.TheVariants.{WriteEnd}

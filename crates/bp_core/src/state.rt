@@ -1,7 +1,7 @@
 //! What a core keeps beside its trail.
 ghost use Rattle.std.specs.Prelude.{◌≡◌, ◌≢◌, ℕ, ◌+◌, ◌^◌, ◌<◌, ◌≤◌, true, Some, None, if◌then◌else◌, IfOk};
 ghost use Rattle.bp_lruk.specs.Histories.{place_of, stamp_of, last_of};
-ghost use Rattle.bp_lruk.specs.Candidates.{entry_of, NoPageTwice, SameLimits};
+ghost use Rattle.bp_references.specs.Candidates.{entry_of, NoPageTwice, SameLimits};
 ghost use Rattle.bp_trail.specs.Lists.{some};
 ghost use Rattle.bp_frames.specs.Frames.{is_frame_of};
 

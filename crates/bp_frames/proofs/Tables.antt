@@ -5,7 +5,7 @@ use Rattle.std.specs.List.{insert, remove}
 use Rattle.std.proofs.lemmas.Bool.{cases_eq, eq-eqb, ne_eqb, true≢false}
 use Rattle.std.proofs.lemmas.List.{get_or-map, get_or-set_same, get_or-set_other, get_or_default}
 use Rattle.bp_frames.specs.declared.frame.Frame.{Frame}
-use Rattle.bp_lruk.specs.Candidates.{Entered}
+use Rattle.bp_references.specs.Candidates.{Entered}
 use Rattle.bp_trail.specs.Lists.{some}
 use Rattle.bp_frames.specs.Frames.{is_frame_of, changed_at, without_page}
 use Rattle.bp_frames.specs.Rising.{IsPlaceFor, IsPlaceOf, StandsAt, StandsNowhere}

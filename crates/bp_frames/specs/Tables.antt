@@ -1,7 +1,7 @@
 -- The frames of a core: each serves one page after another, and is found through a list that has an
 -- entry for each page of the file.
 use Rattle.std.specs.Prelude.{◌≡◌, ◌≢◌, ℕ, zero, suc, ◌+◌, ◌<◌, ◌≤◌, All, List, [], ◌∷◌, map, length, slice_index, slice_index_or, false, Option, Some, None}
-use Rattle.bp_lruk.specs.Candidates.{Candidate, Entered}
+use Rattle.bp_references.specs.Candidates.{Candidate, Entered}
 use Rattle.bp_frames.specs.declared.frame.Frame.{Frame}
 use Rattle.bp_frames.specs.Frames.{changed_at}
 use Rattle.bp_frames.specs.Rising.{IsRisingBy}

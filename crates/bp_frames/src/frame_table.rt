@@ -1,7 +1,7 @@
 //! The frames, where the frame of each page is, and which of their pages may be replaced.
 ghost use Rattle.std.specs.Prelude.{◌≡◌, ◌≢◌, ℕ, ◌+◌, ◌^◌, ◌<◌, ◌≤◌, ◌∷◌, [], All, Contains, IsFalse, Some, None, true, false, length, IfOk, OnOk, OnErr, IfSome, IfNone};
 ghost use Rattle.std.specs.List.Sorted.{IsPermutation};
-ghost use Rattle.bp_lruk.specs.Candidates.{entry_of, is_eligible, IsVictim, NoPageTwice, SameLimits};
+ghost use Rattle.bp_references.specs.Candidates.{entry_of, is_eligible, IsVictim, NoPageTwice, SameLimits};
 ghost use Rattle.bp_trail.specs.Lists.{some};
 ghost use Rattle.bp_frames.specs.Frames.{is_frame_of, loaded_with, pinned, unpinned, written_on, saving, saved, not_saved, without_page};
 ghost use Rattle.bp_frames.specs.Tables.{IsSlotOf};

@@ -5,10 +5,10 @@ use Rattle.std.specs.Option.{option_copied, option_copied_mut}
 use Rattle.bp_lruk.specs.declared.histories.Block.{Block}
 use Rattle.bp_lruk.specs.declared.histories.Histories.TheInside.{Inside}
 use Rattle.bp_lruk.specs.contracts.histories.Histories.{the_view}
-use Rattle.bp_lruk.specs.Burst.{Reference}
-use Rattle.bp_lruk.specs.Burst.Reference.{hit, fault}
-use Rattle.bp_lruk.specs.Stamp.{IsTimed}
-use Rattle.bp_lruk.specs.Shift.{IsShifted}
+use Rattle.bp_references.specs.Burst.{Reference}
+use Rattle.bp_references.specs.Burst.Reference.{hit, fault}
+use Rattle.bp_references.specs.Stamp.{IsTimed}
+use Rattle.bp_references.specs.Shift.{IsShifted}
 use Rattle.bp_lruk.specs.Histories.{Blocks, no_block, block_of, stamp_of, last_of, place_of, HasStampsOf, SameAt, SameStampsAt, KeepsPlaces}
 use Rattle.bp_lruk.specs.Kept.{slot, IsSound, IsKept, IsQueued}
 use Rattle.bp_lruk.proofs.HistoryLaws.{has_after_fault, has_after_late_hit, has_after_soon_hit}

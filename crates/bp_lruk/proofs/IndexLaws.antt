@@ -4,12 +4,12 @@ use Rattle.std.specs.List.{insert, remove, Contains}
 use Rattle.std.proofs.lemmas.Bool.{cases_eq}
 use Rattle.std.proofs.lemmas.Option.{none-some}
 use Rattle.std.proofs.lemmas.List.Edits.{length-insert, length-remove}
-use Rattle.bp_lruk.specs.Candidates.{Candidate, find_entry, is_before, NoPageTwice}
+use Rattle.bp_references.specs.Candidates.{Candidate, find_entry, is_before, NoPageTwice}
 use Rattle.bp_lruk.specs.Index.{IsInOrder, IsPlaceFor, AreAlike}
-use Rattle.bp_lruk.proofs.Lists.{IsIn, in_at, place_in}
-use Rattle.bp_lruk.proofs.EntryLaws.{found_in, in_found, find_inserted, find_beside_inserted, find_removed, find_beside_removed}
-use Rattle.bp_lruk.proofs.OrderLaws.{pairs_inserted, place_is}
-use Rattle.bp_lruk.proofs.VictimLaws.{not_before_itself, before_later, other_before}
+use Rattle.bp_references.proofs.Lists.{IsIn, in_at, place_in}
+use Rattle.bp_references.proofs.EntryLaws.{found_in, in_found, find_inserted, find_beside_inserted, find_removed, find_beside_removed}
+use Rattle.bp_references.proofs.OrderLaws.{pairs_inserted, place_is}
+use Rattle.bp_references.proofs.VictimLaws.{not_before_itself, before_later, other_before}
 
 -- ---- what is lent
 

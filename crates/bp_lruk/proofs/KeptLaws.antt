@@ -9,7 +9,7 @@ use Rattle.std.proofs.lemmas.Option.{none-some}
 use Rattle.std.specs.Prelude.{nat_eq}
 use Rattle.bp_lruk.specs.declared.histories.Block.{Block}
 use Rattle.bp_lruk.specs.Histories.{find_block, no_block}
-use Rattle.bp_lruk.specs.Shift.{IsShifted, IsBounded}
+use Rattle.bp_references.specs.Shift.{IsShifted, IsBounded}
 use Rattle.bp_lruk.specs.Kept.{slot, blocks_in, IsSound, IsKept}
 
 -- the number of a page's slot

@@ -4,10 +4,10 @@ use Rattle.std.proofs.lemmas.Bool.{cases_Bool, cases_eq, eq-eqb, true≢false}
 use Rattle.std.proofs.lemmas.Bool.Decides.{nat_tests}
 use Rattle.std.proofs.lemmas.Option.{none-some, same_Some}
 use Rattle.std.proofs.lemmas.List.{get_or-set_same, get_or-set_other, length-set}
-use Rattle.bp_lruk.specs.Candidates.{Candidate, is_before}
+use Rattle.bp_references.specs.Candidates.{Candidate, is_before}
 use Rattle.bp_lruk.specs.Seats.{winner, seat_at, IsFirst, IsFirstAt, same_seat, FollowsOn, Lags, LagsBehind, unsettled}
 use Rattle.bp_lruk.proofs.SeatLaws.{leads_later, winner_from_not_before, seat_empty}
-use Rattle.bp_lruk.proofs.VictimLaws.{not_before_itself}
+use Rattle.bp_references.proofs.VictimLaws.{not_before_itself}
 
 -- ---- two that are the same
 

@@ -10,11 +10,11 @@ use Rattle.std.proofs.lemmas.Bool.{cases_lt, cases_order, lt-ltb, ltb-true, true
 use Rattle.std.proofs.lemmas.Option.{none-some}
 use Rattle.std.proofs.lemmas.List.Edits.{length-insert, length-remove}
 use Rattle.bp_lruk.specs.declared.page_index.PageEntry.{PageEntry}
-use Rattle.bp_lruk.specs.Candidates.{Candidate, find_entry, NoPageTwice}
+use Rattle.bp_references.specs.Candidates.{Candidate, find_entry, NoPageTwice}
 use Rattle.bp_lruk.specs.Index.{has_lower_page, IsByPage, entered_in, IsGapFor}
-use Rattle.bp_lruk.proofs.Lists.{IsIn, in_at, place_in}
-use Rattle.bp_lruk.proofs.EntryLaws.{find_nowhere, in_found, find_inserted, find_beside_inserted, find_removed, find_beside_removed}
-use Rattle.bp_lruk.proofs.OrderLaws.{Ordered, ordered_from_pairs, pairs_inserted}
+use Rattle.bp_references.proofs.Lists.{IsIn, in_at, place_in}
+use Rattle.bp_references.proofs.EntryLaws.{find_nowhere, in_found, find_inserted, find_beside_inserted, find_removed, find_beside_removed}
+use Rattle.bp_references.proofs.OrderLaws.{Ordered, ordered_from_pairs, pairs_inserted}
 
 -- ---- what is entered
 

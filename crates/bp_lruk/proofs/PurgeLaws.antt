@@ -3,8 +3,8 @@ use Rattle.std.proofs.Common.{◌≡◌, ◌≢◌, ℕ, zero, suc, ◌+◌, ◌
 use Rattle.std.proofs.lemmas.Bool.{cases_eq}
 use Rattle.std.proofs.lemmas.Bool.Decides.{nat_tests}
 use Rattle.bp_lruk.specs.declared.histories.Block.{Block}
-use Rattle.bp_lruk.specs.Stamp.{stamp}
-use Rattle.bp_lruk.proofs.StampLaws.{no_stamps}
+use Rattle.bp_references.specs.Stamp.{stamp}
+use Rattle.bp_references.proofs.StampLaws.{no_stamps}
 use Rattle.bp_lruk.specs.Histories.{Blocks, find_block, no_block, block_of, stamp_of, is_outdated, count_below, HasStampsOf, SameAt}
 
 -- ---- one page

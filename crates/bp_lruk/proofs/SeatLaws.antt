@@ -4,11 +4,11 @@ use Rattle.std.proofs.lemmas.Bool.{cases_Bool, cases_eq, cases_lt, true≢false,
 use Rattle.std.proofs.lemmas.Bool.Decides.{nat_tests}
 use Rattle.std.proofs.lemmas.Option.{none-some, same_Some}
 use Rattle.std.proofs.lemmas.List.{get_or-set_same, get_or-set_other, get_or_past, length-set}
-use Rattle.bp_lruk.specs.Candidates.{Candidate, is_before}
+use Rattle.bp_references.specs.Candidates.{Candidate, is_before}
 use Rattle.bp_lruk.specs.Seats.{winner, seat_at, Known, known_by, is_aged, aged_first, older_of, both, node, IsWon, Has, IsOfBoth, AreTaken, IsFromBelow, IsTournament, IsFirst, above, IsBelow, IsFirstBelow}
 use Rattle.bp_lruk.specs.Replay.{IsUntold, IsWonUpTo}
 use Rattle.bp_lruk.specs.declared.tournament.Winners.{Winners}
-use Rattle.bp_lruk.proofs.VictimLaws.{not_before_itself, not_before_earlier, not_both}
+use Rattle.bp_references.proofs.VictimLaws.{not_before_itself, not_before_earlier, not_both}
 
 -- ---- of two
 

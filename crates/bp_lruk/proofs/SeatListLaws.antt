@@ -1,7 +1,7 @@
 -- Seats by whether each is taken and who stands there then.
 use Rattle.std.proofs.Common.{◌≡◌, ℕ, zero, suc, true, false, Bool, List, [], ◌∷◌, length, get_or, set, replicate, Some, None, refl, sym, ap, arith}
 use Rattle.std.specs.Option.{is_some}
-use Rattle.bp_lruk.specs.Candidates.{Candidate}
+use Rattle.bp_references.specs.Candidates.{Candidate}
 use Rattle.bp_lruk.specs.Seats.{seat_at}
 use Rattle.bp_lruk.specs.SeatList.{seated_by}
 

@@ -4,11 +4,11 @@ use Rattle.std.proofs.lemmas.Bool.{cases_Bool, cases_eq, eq-eqb, ne_eqb, lt-ltb}
 use Rattle.std.proofs.lemmas.Bool.Decides.{nat_tests}
 use Rattle.std.proofs.lemmas.Option.{none-some, same_Some}
 use Rattle.std.proofs.lemmas.List.{set-set}
-use Rattle.bp_lruk.specs.Candidates.{Candidate, is_eligible, IsVictim, NoPageTwice}
+use Rattle.bp_references.specs.Candidates.{Candidate, is_eligible, IsVictim, NoPageTwice}
 use Rattle.bp_lruk.specs.Seats.{Seated, entered, seated_in, IsFirst, seat_at}
-use Rattle.bp_lruk.proofs.Lists.{IsIn, in_filtered, filtered_in}
+use Rattle.bp_references.proofs.Lists.{IsIn, in_filtered, filtered_in}
 use Rattle.bp_lruk.proofs.SeatLaws.{not_before_winner}
-use Rattle.bp_lruk.proofs.VictimLaws.{is_old, earliest_victim, none_eligible}
+use Rattle.bp_references.proofs.VictimLaws.{is_old, earliest_victim, none_eligible}
 
 -- ---- who is seated
 

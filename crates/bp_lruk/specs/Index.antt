@@ -2,7 +2,7 @@
 use Rattle.std.specs.Prelude.{◌≡◌, ℕ, ◌<◌, ◌≤◌, nat_lt, Bool, false, IsTrue, List, length, slice_index_or, filter_map, AllPairs}
 use Rattle.std.specs.Option.{option_map}
 use Rattle.bp_lruk.specs.declared.page_index.PageEntry.{PageEntry}
-use Rattle.bp_lruk.specs.Candidates.{Candidate, is_before, find_entry}
+use Rattle.bp_references.specs.Candidates.{Candidate, is_before, find_entry}
 
 -- each comes before those after it, in the order of replacement
 abbrev pub IsInOrder : List Candidate → Type 0

@@ -2,7 +2,7 @@
 use Rattle.std.specs.Prelude.{◌≡◌, ℕ, ◌<◌, ◌≤◌, nat_eq, Bool, true, false, List, map, length, count_by, Option, Some, None, is_some, IsSomeAnd, unwrap_or, slice_index_or}
 use Rattle.std.specs.Map.{lookup}
 use Rattle.bp_lruk.specs.declared.histories.Block.{Block}
-use Rattle.bp_lruk.specs.Shift.{IsBounded}
+use Rattle.bp_references.specs.Shift.{IsBounded}
 use Rattle.bp_lruk.specs.Histories.{no_block}
 use Rattle.bp_lruk.specs.Queue.{Waiting, IsWaiting}
 

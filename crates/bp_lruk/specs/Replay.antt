@@ -1,6 +1,6 @@
 -- A tree of winners while a change of one seat goes up.
 use Rattle.std.specs.Prelude.{◌≡◌, ◌≢◌, ◌⊎◌, ℕ, ◌*◌, ◌+◌, ◌/◌, ◌<◌, ◌≤◌, List, length, Option}
-use Rattle.bp_lruk.specs.Candidates.{Candidate}
+use Rattle.bp_references.specs.Candidates.{Candidate}
 use Rattle.bp_lruk.specs.Seats.{node, Has, IsTaken, IsFromBelow, IsWon, IsBelow}
 use Rattle.bp_lruk.specs.declared.tournament.Winners.{Winners}
 

@@ -1,6 +1,6 @@
 -- Seats whose candidates stand apart from what tells which of them are empty.
 use Rattle.std.specs.Prelude.{Bool, true, false, List, [], ◌∷◌, Option, Some, None}
-use Rattle.bp_lruk.specs.Candidates.{Candidate}
+use Rattle.bp_references.specs.Candidates.{Candidate}
 
 -- the seats by whether each is taken and who stands there then
 abbrev pub seated_by : List Bool → List Candidate → List (Option Candidate)

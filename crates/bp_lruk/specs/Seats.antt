@@ -1,7 +1,7 @@
 -- Candidates that are entered by seats: each stands at a seat of its own, as a page stands in a
 -- frame.
 use Rattle.std.specs.Prelude.{◌≡◌, ◌⊎◌, ℕ, ◌*◌, ◌+◌, ◌-◌, ◌/◌, ◌≢◌, ◌<◌, ◌≤◌, ◌&&◌, ◌==◌, nat_lt, zero, suc, Bool, true, false, IsFalse, List, [], ◌∷◌, length, slice_index_or, set, Option, Some, None, if◌then◌else◌}
-use Rattle.bp_lruk.specs.Candidates.{Candidate, Entered, is_before}
+use Rattle.bp_references.specs.Candidates.{Candidate, Entered, is_before}
 use Rattle.bp_lruk.specs.declared.tournament.Winners.{Winners}
 
 -- the candidates that are seated, by seats, and the correlated period

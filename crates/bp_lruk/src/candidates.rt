@@ -1,6 +1,6 @@
 //! Candidates for replacement, in the order in which LRU-K replaces them.
 ghost use Rattle.std.specs.Prelude.{◌≡◌, ◌≢◌, ℕ, ◌+◌, ◌-◌, ◌<◌, ◌≤◌, ◌↔◌, nat_lt, [], IsTrue, IsFalse, IsSome, Some, None, IfOk, OnErr, IfSome, IfNone, length, find, Contains, AllPairs, slice_index_or};
-ghost use Rattle.bp_lruk.specs.Candidates.{Candidate, entry_of, find_entry, is_before, is_entered, is_eligible, IsVictim, NoPageTwice, SameLimits};
+ghost use Rattle.bp_references.specs.Candidates.{Candidate, entry_of, find_entry, is_before, is_entered, is_eligible, IsVictim, NoPageTwice, SameLimits};
 ghost use Rattle.bp_lruk.specs.Index.{IsInOrder, IsPlaceFor};
 
 use crate::page_index::PageIndex;
@@ -26,7 +26,7 @@ pub struct Candidates {
 impl Model for Candidates {
     ghost use Rattle.std.specs.Prelude.{◌≡◌, ◌≤◌, vec_len};
     ghost use Rattle.std.specs.Vec.{vec_capacity};
-    ghost use Rattle.bp_lruk.specs.Candidates.{Entered, NoPageTwice};
+    ghost use Rattle.bp_references.specs.Candidates.{Entered, NoPageTwice};
     ghost use Rattle.bp_lruk.specs.Index.{AreAlike, IsInOrder};
 
     ghost Value = { Entered };

@@ -1,7 +1,7 @@
 //! The reference stamps of each page.
 ghost use Rattle.std.specs.Prelude.{◌≡◌, ◌≢◌, ℕ, ◌+◌, ◌-◌, ◌^◌, ◌<◌, ◌≤◌, [], IsTrue, IsFalse, true, false, is_some, IsSome, IfOk, OnOk, OnErr, slice_index};
-ghost use Rattle.bp_lruk.specs.Shift.{IsShifted};
-ghost use Rattle.bp_lruk.specs.Burst.Reference.{hit, fault};
+ghost use Rattle.bp_references.specs.Shift.{IsShifted};
+ghost use Rattle.bp_references.specs.Burst.Reference.{hit, fault};
 ghost use Rattle.bp_lruk.specs.Histories.{is_held, has_block, place_of, last_of, stamp_of, IsNow, HasStampsOf, SameAt, SameStampsAt, SameSettings, KeepsPlaces, AddsReference, forgets, count_below};
 
 use crate::queue::Queue;

@@ -23,7 +23,7 @@ pub struct LaggingTree {
 
 impl Model for LaggingTree {
     ghost use Rattle.std.specs.Prelude.{List, Option};
-    ghost use Rattle.bp_lruk.specs.Candidates.{Candidate};
+    ghost use Rattle.bp_references.specs.Candidates.{Candidate};
     ghost use Rattle.bp_lruk.specs.Seats.{LagsBehind};
 
     ghost Value = { List (Option Candidate) };

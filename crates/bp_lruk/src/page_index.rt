@@ -1,7 +1,7 @@
 //! What each candidate was entered with, found by its page number.
 ghost use Rattle.std.specs.Prelude.{◌≡◌, ◌≢◌, ℕ, ◌+◌, ◌<◌, ◌≤◌, [], IsSome, Some, None, IfOk, IfErr, length, slice_index_or, vec_len};
 ghost use Rattle.std.specs.Vec.{vec_capacity};
-ghost use Rattle.bp_lruk.specs.Candidates.{find_entry, NoPageTwice};
+ghost use Rattle.bp_references.specs.Candidates.{find_entry, NoPageTwice};
 ghost use Rattle.bp_lruk.specs.Index.{entered_in, IsByPage, IsGapFor};
 
 use bp_page::PageNo;

@@ -3,7 +3,7 @@
 //! [`crate::Candidates`], which has the same contract.
 ghost use Rattle.std.specs.Prelude.{◌≡◌, ◌≢◌, ℕ, ◌+◌, ◌-◌, ◌<◌, ◌≤◌, ◌==◌, ◌↔◌, nat_lt, [], IsTrue, IsFalse, IsSome, Some, None, IfOk, OnErr, IfSome, IfNone, length, filter, position};
 ghost use Rattle.std.specs.List.{list_any, reduce};
-ghost use Rattle.bp_lruk.specs.Candidates.{earlier, entry_of, is_entered, is_eligible, IsVictim, NoPageTwice, SameLimits};
+ghost use Rattle.bp_references.specs.Candidates.{earlier, entry_of, is_entered, is_eligible, IsVictim, NoPageTwice, SameLimits};
 
 use crate::candidates::precedes;
 use crate::settings::Settings;
@@ -22,7 +22,7 @@ pub struct Candidates {
 impl Model for Candidates {
     ghost use Rattle.std.specs.Prelude.{◌≤◌, length, vec_len};
     ghost use Rattle.std.specs.Vec.{vec_capacity};
-    ghost use Rattle.bp_lruk.specs.Candidates.{NoPageTwice, Entered};
+    ghost use Rattle.bp_references.specs.Candidates.{NoPageTwice, Entered};
 
     ghost Value = { Entered };
 

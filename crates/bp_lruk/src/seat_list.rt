@@ -18,7 +18,7 @@ pub struct SeatList {
 
 impl Model for SeatList {
     ghost use Rattle.std.specs.Prelude.{◌≡◌, List, Option, length};
-    ghost use Rattle.bp_lruk.specs.Candidates.{Candidate};
+    ghost use Rattle.bp_references.specs.Candidates.{Candidate};
     ghost use Rattle.bp_lruk.specs.SeatList.{seated_by};
 
     ghost Value = { List (Option Candidate) };

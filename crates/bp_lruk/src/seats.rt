@@ -1,6 +1,6 @@
 //! Candidates for replacement that stand at seats, as their pages stand in frames.
 ghost use Rattle.std.specs.Prelude.{◌≡◌, ℕ, ◌<◌, IsFalse, Some, None, IfOk, IfSome, IfNone, length, replicate};
-ghost use Rattle.bp_lruk.specs.Candidates.{is_eligible, IsVictim, NoPageTwice};
+ghost use Rattle.bp_references.specs.Candidates.{is_eligible, IsVictim, NoPageTwice};
 ghost use Rattle.bp_lruk.specs.Seats.{entered, seat_of, with_seat, seated_in};
 
 use crate::lagging_tree::LaggingTree;

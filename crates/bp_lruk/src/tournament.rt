@@ -1,6 +1,6 @@
 //! A tree of winners over a number of seats.
 ghost use Rattle.std.specs.Prelude.{◌≡◌, ◌⊎◌, ℕ, ◌*◌, ◌+◌, ◌-◌, ◌/◌, ◌^◌, ◌<◌, ◌≤◌, [], IsTrue, IsFalse, Some, None, IfOk, IfSome, IfNone, IsSome, length, replicate, set, slice_index_or};
-ghost use Rattle.bp_lruk.specs.Candidates.{Candidate};
+ghost use Rattle.bp_references.specs.Candidates.{Candidate};
 ghost use Rattle.bp_lruk.specs.Seats.{winner, seat_at, is_aged, aged_first, older_of, both, node, known_by, Has, IsOfBoth, IsTaken, AreTaken, IsFirst, IsFirstAt, IsFirstBelow, IsTournament, older_at};
 ghost use Rattle.bp_lruk.specs.Replay.{IsWonUpTo};
 
@@ -41,7 +41,7 @@ pub struct Tournament {
 
 impl Model for Tournament {
     ghost use Rattle.std.specs.Prelude.{List, Option};
-    ghost use Rattle.bp_lruk.specs.Candidates.{Candidate};
+    ghost use Rattle.bp_references.specs.Candidates.{Candidate};
     ghost use Rattle.bp_lruk.specs.Seats.{IsTournament};
 
     ghost Value = { List (Option Candidate) };

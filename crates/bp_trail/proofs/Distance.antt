@@ -2,13 +2,13 @@
 use Rattle.std.proofs.Common.{◌≡◌, refl, ◌∙◌, ℕ, zero, suc, ◌+◌, ◌-◌, ◌<◌, ◌≤◌, nat_lt, Bool, true, false, List, [], ◌∷◌, Some, inl, inr, arith}
 use Rattle.std.proofs.lemmas.Bool.{cases_lt, le-ltb, lt-ltb}
 use Rattle.std.proofs.lemmas.Bool.Decides.{nat_tests}
-use Rattle.bp_lruk.specs.Burst.{Reference, last_time, time}
-use Rattle.bp_lruk.specs.Burst.Reference.{hit, fault}
-use Rattle.bp_lruk.specs.Stamp.{stamp, IsTimed}
-use Rattle.bp_lruk.specs.Distance.{backward_distance, is_farther}
-use Rattle.bp_lruk.proofs.StampLaws.{no_stamps}
-use Rattle.bp_lruk.proofs.DistanceLaws.{farther_is_less}
-use Rattle.bp_lruk.proofs.BurstLaws.{newest_stamp_at_hit, stamp_at_hit, stamp_at_correlated_hit, newest_stamp_at_fault, stamp_at_fault, widened}
+use Rattle.bp_references.specs.Burst.{Reference, last_time, time}
+use Rattle.bp_references.specs.Burst.Reference.{hit, fault}
+use Rattle.bp_references.specs.Stamp.{stamp, IsTimed}
+use Rattle.bp_references.specs.Distance.{backward_distance, is_farther}
+use Rattle.bp_references.proofs.StampLaws.{no_stamps}
+use Rattle.bp_references.proofs.DistanceLaws.{farther_is_less}
+use Rattle.bp_references.proofs.BurstLaws.{newest_stamp_at_hit, stamp_at_hit, stamp_at_correlated_hit, newest_stamp_at_fault, stamp_at_fault, widened}
 use Rattle.bp_trail.specs.Parameters.{Parameters}
 use Rattle.bp_trail.specs.Trail.{Trail}
 use Rattle.bp_trail.specs.Clock.{clock}

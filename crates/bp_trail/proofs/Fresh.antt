@@ -1,8 +1,8 @@
 -- Four numbers tell whether a legal trail leads where the empty one does.
 use Rattle.std.proofs.Common.{◌≡◌, refl, ap, subst, ℕ, Bool, true, false, List, [], ◌∷◌, if◌then◌else◌, arith}
 use Rattle.std.proofs.lemmas.Bool.{false_from_ne_true}
-use Rattle.bp_lruk.specs.Burst.{last_time}
-use Rattle.bp_lruk.specs.Stamp.{stamp}
+use Rattle.bp_references.specs.Burst.{last_time}
+use Rattle.bp_references.specs.Stamp.{stamp}
 use Rattle.bp_trail.specs.declared.entries.Call.{Call}
 use Rattle.bp_trail.specs.declared.entries.Reply.{Reply}
 use Rattle.bp_trail.specs.Parameters.{Parameters}

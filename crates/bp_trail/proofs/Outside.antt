@@ -1,7 +1,7 @@
 -- In a legal trail nothing is known of a page outside the file.
 use Rattle.std.proofs.Common.{◌≡◌, refl, sym, ◌∙◌, ℕ, nat_lt, false, List, [], ◌∷◌}
 use Rattle.std.proofs.lemmas.Bool.{true≢false, false_from_ne_true}
-use Rattle.bp_lruk.specs.Burst.{Reference}
+use Rattle.bp_references.specs.Burst.{Reference}
 use Rattle.bp_trail.specs.Parameters.{Parameters}
 use Rattle.bp_trail.specs.Trail.{Trail}
 use Rattle.bp_trail.specs.Places.{resident}

@@ -2,8 +2,8 @@
 use Rattle.std.proofs.Common.{◌≡◌, refl, sym, ◌∙◌, ap, subst, inl, inr, ℕ, ◌+◌, ◌-◌, ◌^◌, ◌≤◌, nat_lt, nat_le, Bool, true, false, not, ◌&&◌, ◌||◌, ◌==◌, if◌then◌else◌, List, [], ◌∷◌, filter, length, Option, Some, None, arith}
 use Rattle.std.proofs.lemmas.Bool.{eq-eqb, ne_eqb, or_left, or_right, not_from_false}
 use Rattle.std.proofs.lemmas.Bool.Decides.{nat_tests}
-use Rattle.bp_lruk.specs.Burst.{Reference, last_time}
-use Rattle.bp_lruk.specs.Stamp.{IsTimed}
+use Rattle.bp_references.specs.Burst.{Reference, last_time}
+use Rattle.bp_references.specs.Stamp.{IsTimed}
 use Rattle.bp_trail.specs.declared.entries.Entry.{Entry}
 use Rattle.bp_trail.specs.declared.entries.Call.{Call}
 use Rattle.bp_trail.specs.declared.entries.Reply.{Reply}

@@ -4,13 +4,13 @@ use Rattle.std.specs.List.{cons_option}
 use Rattle.std.specs.Option.{option_map_or}
 use Rattle.std.proofs.lemmas.Bool.{true≢false, and_parts, and_from, or_parts, or_left, or_right, or_from, eqb-true, eq-eqb, ne_eqb, ltb-true, lt-ltb, not-true, not_from_false, false_from_ne_true}
 use Rattle.std.proofs.lemmas.Bool.Decides.{nat_tests}
-use Rattle.bp_lruk.specs.Burst.{Reference, last_time, bursts}
-use Rattle.bp_lruk.specs.Burst.Reference.{hit, fault}
-use Rattle.bp_lruk.specs.Burst.{Burst}
-use Rattle.bp_lruk.specs.Cut.{IsCut}
-use Rattle.bp_lruk.specs.Stamp.{burst_at, burst_stamp}
-use Rattle.bp_lruk.proofs.CutLaws.{one_cut}
-use Rattle.bp_lruk.proofs.BurstLaws.{newest}
+use Rattle.bp_references.specs.Burst.{Reference, last_time, bursts}
+use Rattle.bp_references.specs.Burst.Reference.{hit, fault}
+use Rattle.bp_references.specs.Burst.{Burst}
+use Rattle.bp_references.specs.Cut.{IsCut}
+use Rattle.bp_references.specs.Stamp.{burst_at, burst_stamp}
+use Rattle.bp_references.proofs.CutLaws.{one_cut}
+use Rattle.bp_references.proofs.BurstLaws.{newest}
 use Rattle.bp_trail.specs.declared.entries.Entry.{Entry}
 use Rattle.bp_trail.specs.declared.entries.Call.{Call}
 use Rattle.bp_trail.specs.declared.entries.Call.TheVariants.{ReadEnd}

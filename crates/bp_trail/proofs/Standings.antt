@@ -1,8 +1,8 @@
 -- Two legal trails have one standing exactly where nothing tells them apart.
 use Rattle.std.proofs.Common.{◌≡◌, refl, sym, ◌∙◌, ap, subst, ℕ, zero, suc, ◌+◌, ◌≤◌, ◌<◌, nat_lt, if◌then◌else◌, Bool, true, false, ◌||◌, ◌==◌, List, [], ◌∷◌, map, Some, arith}
 use Rattle.std.proofs.lemmas.Bool.{eqb-true, eq-eqb, eqb-false, or_right, and_parts, ltb-true}
-use Rattle.bp_lruk.specs.Burst.{bursts, last_time}
-use Rattle.bp_lruk.specs.Stamp.{burst_stamp, stamp}
+use Rattle.bp_references.specs.Burst.{bursts, last_time}
+use Rattle.bp_references.specs.Stamp.{burst_stamp, stamp}
 use Rattle.bp_trail.specs.Parameters.{Parameters}
 use Rattle.bp_trail.specs.Event.{Grant, grant, same_grant}
 use Rattle.bp_trail.specs.Trail.{Trail}

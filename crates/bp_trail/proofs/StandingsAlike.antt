@@ -1,9 +1,9 @@
 -- Trails of the same standing have the same standing after the same further entries, and the one goes on lawfully wherever the other does.
 use Rattle.std.proofs.Common.{◌≡◌, refl, sym, ◌∙◌, ap, subst, ℕ, suc, max, Bool, true, false, not, ◌&&◌, ◌||◌, ◌==◌, if◌then◌else◌, List, [], ◌∷◌, ◌++◌, filter, filter_map, length, unwrap_or, Option, Some, None, arith}
 use Rattle.std.proofs.lemmas.Bool.{eqb-true, ne_eqb, eqb-false}
-use Rattle.bp_lruk.specs.Burst.Reference.{hit, fault}
-use Rattle.bp_lruk.specs.Alike.{Alike}
-use Rattle.bp_lruk.proofs.Alike.{alike-hit, alike-fault}
+use Rattle.bp_references.specs.Burst.Reference.{hit, fault}
+use Rattle.bp_references.specs.Alike.{Alike}
+use Rattle.bp_references.proofs.Alike.{alike-hit, alike-fault}
 use Rattle.bp_trail.specs.declared.entries.Entry.{Entry}
 use Rattle.bp_trail.specs.declared.entries.Call.{Call}
 use Rattle.bp_trail.specs.declared.entries.Call.TheVariants.{WriteEnd, Write}

@@ -1,8 +1,8 @@
 -- The references of a page come in the order of time, and none is later than the clock.
 use Rattle.std.proofs.Common.{ℕ, ◌≤◌, Bool, true, false, ◌&&◌, if◌then◌else◌, List, [], ◌∷◌, arith}
-use Rattle.bp_lruk.specs.Burst.{Reference, last_time}
-use Rattle.bp_lruk.specs.Burst.Reference.{hit, fault}
-use Rattle.bp_lruk.specs.Stamp.{IsTimed}
+use Rattle.bp_references.specs.Burst.{Reference, last_time}
+use Rattle.bp_references.specs.Burst.Reference.{hit, fault}
+use Rattle.bp_references.specs.Stamp.{IsTimed}
 use Rattle.bp_trail.specs.Parameters.{Parameters}
 use Rattle.bp_trail.specs.Event.{hits, loads, is_purge, ticks}
 use Rattle.bp_trail.specs.Trail.{Trail}

@@ -2,8 +2,8 @@
 -- src/laws.rt tie to it what is computed entry by entry.
 use Rattle.std.specs.Prelude.{◌≡◌, ℕ, ◌-◌, ◌<◌, ◌≤◌, ◌==◌, Bool, true, false, not, ◌&&◌, if◌then◌else◌, IsTrue, IsFalse, ⊤, List, [], ◌∷◌, ◌++◌, filter, filter_map, Contains, Option, Some, None}
 use Rattle.std.specs.Option.{option_map_or}
-use Rattle.bp_lruk.specs.Burst.{Reference}
-use Rattle.bp_lruk.specs.Burst.Reference.{hit, fault}
+use Rattle.bp_references.specs.Burst.{Reference}
+use Rattle.bp_references.specs.Burst.Reference.{hit, fault}
 use Rattle.bp_trail.specs.declared.entries.Entry.{Entry}
 use Rattle.bp_trail.specs.declared.entries.Call.TheVariants.{Fix, WriteEnd}
 use Rattle.bp_trail.specs.declared.entries.Reply.{Reply}

@@ -1,7 +1,7 @@
 -- The page that LRU-K replaces.
 use Rattle.std.specs.Prelude.{IsTrue, IsFalse, ℕ, ◌-◌, nat_lt, Bool, not, ◌&&◌, ◌==◌, List, filter, find, Option}
-use Rattle.bp_lruk.specs.Distance.{backward_distance as distance_back}
-use Rattle.bp_lruk.specs.Candidates.{is_before}
+use Rattle.bp_references.specs.Distance.{backward_distance as distance_back}
+use Rattle.bp_references.specs.Candidates.{is_before}
 use Rattle.bp_trail.specs.Parameters.{Parameters}
 use Rattle.bp_trail.specs.Trail.{Trail}
 use Rattle.bp_trail.specs.Lists.{every}

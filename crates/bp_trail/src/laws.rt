@@ -1,9 +1,9 @@
 //! Laws of the definitions in `specs/`. Each function does nothing: its contract is the law.
 ghost use Rattle.std.specs.Prelude.{◌≡◌, ◌≢◌, ℕ, suc, ◌+◌, ◌<◌, ◌≤◌, ◌==◌, nat_lt, Bool, true, false, IsTrue, IsFalse, Decides, List, [], ◌∷◌, ◌++◌, length, filter_map, Contains, Option, Some, None, if◌then◌else◌};
-ghost use Rattle.bp_lruk.specs.Burst.{Burst, last_time};
-ghost use Rattle.bp_lruk.specs.Cut.{IsCut};
-ghost use Rattle.bp_lruk.specs.Distance.{is_farther};
-ghost use Rattle.bp_lruk.specs.Stamp.{burst_at, burst_stamp, IsTimed};
+ghost use Rattle.bp_references.specs.Burst.{Burst, last_time};
+ghost use Rattle.bp_references.specs.Cut.{IsCut};
+ghost use Rattle.bp_references.specs.Distance.{is_farther};
+ghost use Rattle.bp_references.specs.Stamp.{burst_at, burst_stamp, IsTimed};
 ghost use Rattle.bp_trail.specs.declared.entries.Entry.{Entry};
 ghost use Rattle.bp_trail.specs.declared.entries.Call.TheVariants.{Fix, ReadEnd, WriteEnd};
 ghost use Rattle.bp_trail.specs.declared.entries.Reply.TheVariants.{Load, WriteFirst, Fixed, Cleaned};
@@ -127,7 +127,7 @@ pub fn references_since_the_last_forgetting()
 {}
 
 /// The stamps and LAST of a page are those of its references, however these are cut into bursts (by the law of
-/// `bp_lruk`, there is one such cut).
+/// `bp_references`, there is one such cut).
 pub fn stamps_are_of_the_bursts()
     ensures stamps { (c : Parameters) (past : Trail) (p place : ℕ) (pieces : List Burst) →
         IsCut c.correlated (references c past p) pieces →

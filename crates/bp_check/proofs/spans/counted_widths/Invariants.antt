@@ -1,6 +1,6 @@
 use Rattle.std.proofs.Common.{◌≡◌, ◌≤◌, ◌*◌, ◌^◌, map, reverse, List}
-use Rattle.bp_lruk.specs.Burst.{Burst}
-use Rattle.bp_lruk.specs.Stamp as stamp
+use Rattle.bp_references.specs.Burst.{Burst}
+use Rattle.bp_references.specs.Stamp as stamp
 use Rattle.bp_check.specs.Spans.{span}
 use Rattle.bp_check.proofs.spans.counted_widths.Given as goal
 

@@ -1,8 +1,8 @@
 use Rattle.std.proofs.Common.{rules, arith}
 use Rattle.std.proofs.lemmas.List.Sorted.{IsPartitionPoint-from_clause}
-use Rattle.bp_lruk.specs.Candidates.{is_before}
-use Rattle.bp_lruk.proofs.OrderLaws.{before_partitions}
-use Rattle.bp_lruk.proofs.VictimLaws.{before_later}
+use Rattle.bp_references.specs.Candidates.{is_before}
+use Rattle.bp_references.proofs.OrderLaws.{before_partitions}
+use Rattle.bp_references.proofs.VictimLaws.{before_later}
 use Rattle.bp_lruk.proofs.candidates.order_place.Goals as goal
 
 pub returns : goal.returns

@@ -2,7 +2,7 @@ use Rattle.std.proofs.Common.{rules, ◌≡◌, filter, length, ◌∙◌, ap, s
 use Rattle.std.specs.Option.{is_some}
 use Rattle.std.proofs.lemmas.List.Elements.{filter_from_retain}
 use Rattle.bp_lruk.specs.Index.{has_lower_page, IsByPage, entered_in}
-use Rattle.bp_lruk.proofs.OrderLaws.{pairs_filtered}
+use Rattle.bp_references.proofs.OrderLaws.{pairs_filtered}
 use Rattle.bp_lruk.proofs.PageLaws.{entered_filter, length_filter}
 use Rattle.bp_lruk.proofs.page_index.make_room.Goals as goal
 

@@ -1,5 +1,5 @@
 use Rattle.std.proofs.Common.{◌≡◌, ◌∙◌, ◌*◌, ◌<◌, ap, sym, subst, arith, length}
-use Rattle.bp_lruk.specs.Candidates.{Candidate}
+use Rattle.bp_references.specs.Candidates.{Candidate}
 use Rattle.bp_lruk.specs.Seats.{seat_at, known_by, is_aged, aged_first, node, IsFirstBelow}
 use Rattle.bp_lruk.proofs.SeatLaws.{unknown_inner, aged_known, first_of_both}
 use Rattle.bp_lruk.proofs.tournament.+first_below.Goals as goal

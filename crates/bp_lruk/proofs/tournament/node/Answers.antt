@@ -2,7 +2,7 @@ use Rattle.std.proofs.Common.{◌≡◌, ◌∙◌, ◌-◌, ap, sym, subst, inl
 use Rattle.std.specs.Option.{is_some}
 use Rattle.std.proofs.lemmas.Bool.{true≢false}
 use Rattle.std.proofs.lemmas.List.{get_or_past}
-use Rattle.bp_lruk.specs.Candidates.{Candidate}
+use Rattle.bp_references.specs.Candidates.{Candidate}
 use Rattle.bp_lruk.specs.Seats.{known_by, seat_at, Has, AreTaken}
 use Rattle.bp_lruk.specs.declared.tournament.Winners.{Winners}
 use Rattle.bp_lruk.proofs.SeatLaws.{node_inner, node_seat}

@@ -1,5 +1,5 @@
 use Rattle.std.proofs.Common.{◌≡◌, ◌<◌, ℕ, true, ap, ◌∙◌, length, reverse, Vec, Global, arith}
-use Rattle.bp_lruk.specs.Burst.{bursts}
+use Rattle.bp_references.specs.Burst.{bursts}
 use Rattle.bp_trail.specs.Places.{resident}
 use Rattle.bp_trail.specs.References as references
 use Rattle.bp_trail.specs.Victim as of

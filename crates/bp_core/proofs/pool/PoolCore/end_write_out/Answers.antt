@@ -1,5 +1,5 @@
 use Rattle.std.proofs.Common.{refl, sym, ◌∙◌, ap, true, ◌==◌}
-use Rattle.bp_lruk.specs.Candidates.{entry_of}
+use Rattle.bp_references.specs.Candidates.{entry_of}
 use Rattle.bp_trail.specs.Lists.{some}
 use Rattle.bp_frames.specs.Frames.{is_frame_of, saved}
 use Rattle.bp_frames.specs.Tables.{Table}

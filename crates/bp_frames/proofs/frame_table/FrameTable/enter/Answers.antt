@@ -1,5 +1,5 @@
 use Rattle.std.proofs.Common.{◌∙◌, subst, sym, ap, arith}
-use Rattle.bp_lruk.specs.Candidates.{entry_of, find_entry}
+use Rattle.bp_references.specs.Candidates.{entry_of, find_entry}
 use Rattle.bp_lruk.specs.Seats.{Seated, seated_in}
 use Rattle.bp_frames.specs.Tables.{Table, IsSlotOf, IsSeating}
 use Rattle.bp_frames.proofs.Tables.{slot-found, slot-here, slot-few}

@@ -1,8 +1,8 @@
 use Rattle.std.proofs.Common.{rules, ◌≡◌, ◌<◌, ◌∙◌, sym, ap, subst, length, None}
 use Rattle.std.specs.List.{insert}
-use Rattle.bp_lruk.specs.Candidates.{Candidate, Entered, entry_of, find_entry, NoPageTwice}
+use Rattle.bp_references.specs.Candidates.{Candidate, Entered, entry_of, find_entry, NoPageTwice}
 use Rattle.bp_lruk.specs.Index.{IsInOrder, IsPlaceFor, AreAlike}
-use Rattle.bp_lruk.proofs.EntryLaws.{find_inserted, find_beside_inserted, apart_inserted}
+use Rattle.bp_references.proofs.EntryLaws.{find_inserted, find_beside_inserted, apart_inserted}
 use Rattle.bp_lruk.proofs.IndexLaws.{in_order_inserted, alike_entered}
 use Rattle.bp_lruk.proofs.candidates.Candidates.enter.Goals as goal
 

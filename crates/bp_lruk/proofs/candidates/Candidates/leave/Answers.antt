@@ -1,10 +1,10 @@
 use Rattle.std.proofs.Common.{rules, ◌≡◌, ◌∙◌, sym, ap, subst, arith, get_or}
 use Rattle.std.specs.List.{remove}
-use Rattle.bp_lruk.specs.Candidates.{Candidate, Entered, entry_of, find_entry, is_before, NoPageTwice}
+use Rattle.bp_references.specs.Candidates.{Candidate, Entered, entry_of, find_entry, is_before, NoPageTwice}
 use Rattle.bp_lruk.specs.Index.{IsInOrder, AreAlike}
-use Rattle.bp_lruk.proofs.EntryLaws.{find_removed, find_beside_removed, apart_removed}
+use Rattle.bp_references.proofs.EntryLaws.{find_removed, find_beside_removed, apart_removed}
 use Rattle.bp_lruk.proofs.IndexLaws.{StandsAt, stands_at, alike_left}
-use Rattle.bp_lruk.proofs.OrderLaws.{pairs_removed}
+use Rattle.bp_references.proofs.OrderLaws.{pairs_removed}
 use Rattle.bp_lruk.proofs.candidates.Candidates.leave.Goals as goal
 
 pub remove-requires : goal.remove-requires

@@ -1,6 +1,6 @@
 use Rattle.std.proofs.Common.{◌≡◌, Some, sym, subst}
 use Rattle.std.specs.List.{Contains}
-use Rattle.bp_lruk.specs.Candidates.{Entered, entry_of}
+use Rattle.bp_references.specs.Candidates.{Entered, entry_of}
 use Rattle.bp_lruk.proofs.IndexLaws.{found_contains, contains_found}
 use Rattle.bp_lruk.proofs.candidates.Candidates.ordered.Goals as goal
 

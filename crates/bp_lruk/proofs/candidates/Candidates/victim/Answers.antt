@@ -1,9 +1,9 @@
 use Rattle.std.proofs.Common.{◌≡◌, ◌∙◌, ℕ, false, sym, ap, subst, Some, None}
 use Rattle.std.specs.List.{find}
 use Rattle.bp_lruk.specs.contracts.candidates.Candidates.{the_view}
-use Rattle.bp_lruk.specs.Candidates.{is_before, is_eligible, IsVictim}
-use Rattle.bp_lruk.proofs.OrderLaws.{ordered_from_pairs}
-use Rattle.bp_lruk.proofs.VictimLaws.{is_old, find_earliest, find_nothing, earliest_victim, none_eligible}
+use Rattle.bp_references.specs.Candidates.{is_before, is_eligible, IsVictim}
+use Rattle.bp_references.proofs.OrderLaws.{ordered_from_pairs}
+use Rattle.bp_references.proofs.VictimLaws.{is_old, find_earliest, find_nothing, earliest_victim, none_eligible}
 use Rattle.bp_lruk.proofs.candidates.Candidates.victim.Goals as goal
 
 pub returns-in_err-first-clause-none : goal.returns-in_err-first-clause-none

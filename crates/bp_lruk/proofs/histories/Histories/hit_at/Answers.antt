@@ -1,6 +1,6 @@
 use Rattle.std.proofs.Common.{◌≡◌, ◌+◌, ◌-◌, ◌≤◌, refl, sym, ap, ◌∙◌, get_or, arith}
 use Rattle.bp_lruk.specs.declared.histories.Block.{Block}
-use Rattle.bp_lruk.specs.Shift.{IsBounded}
+use Rattle.bp_references.specs.Shift.{IsBounded}
 use Rattle.bp_lruk.proofs.KeptLaws.{bounded_shift, bounded_later}
 use Rattle.bp_lruk.specs.Histories.{Blocks}
 use Rattle.bp_lruk.proofs.BlockSteps.{same_places, lends, lends_block, lends_sound, is, others, keeps, keeps_queue, after_late_hit, after_soon_hit}

@@ -1,6 +1,6 @@
 use Rattle.std.proofs.Common.{rules, ◌≡◌, ◌∙◌, ◌+◌, length, set, None, sym, ap, subst}
 use Rattle.std.specs.List.{insert}
-use Rattle.bp_lruk.specs.Candidates.{find_entry}
+use Rattle.bp_references.specs.Candidates.{find_entry}
 use Rattle.bp_lruk.specs.Index.{Listed, entered_in, IsByPage, IsGapFor}
 use Rattle.bp_lruk.proofs.PageLaws.{entry, stands, Enters, entered_at, enters_anew, by_page_inserted}
 use Rattle.bp_lruk.proofs.page_index.PageIndex.enter.Goals as goal

@@ -1,5 +1,5 @@
 use Rattle.std.proofs.Common.{◌∙◌, sym, ap, subst}
-use Rattle.bp_lruk.specs.Candidates.{find_entry}
+use Rattle.bp_references.specs.Candidates.{find_entry}
 use Rattle.bp_lruk.specs.Index.{Listed, IsGapFor}
 use Rattle.bp_lruk.proofs.PageLaws.{find_gap, stands, told_at}
 use Rattle.bp_lruk.proofs.page_index.PageIndex.find.Goals as goal

@@ -1,6 +1,6 @@
 use Rattle.std.proofs.Common.{◌∙◌, length, set, None, IsSome, sym, ap, subst}
 use Rattle.std.specs.Option.{is_some}
-use Rattle.bp_lruk.specs.Candidates.{find_entry}
+use Rattle.bp_references.specs.Candidates.{find_entry}
 use Rattle.bp_lruk.specs.Index.{Listed, entered_in}
 use Rattle.bp_lruk.proofs.PageLaws.{Stands, stands, has_place, told_at, Leaves, left_from}
 use Rattle.bp_lruk.proofs.page_index.PageIndex.leave.Goals as goal

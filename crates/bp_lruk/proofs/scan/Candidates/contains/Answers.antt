@@ -1,7 +1,7 @@
 use Rattle.std.proofs.Common.{◌==◌, ◌∙◌, ap}
 use Rattle.std.specs.List.{list_any}
-use Rattle.bp_lruk.specs.Candidates.{Entered, is_entered}
-use Rattle.bp_lruk.proofs.EntryLaws.{any_found}
+use Rattle.bp_references.specs.Candidates.{Entered, is_entered}
+use Rattle.bp_references.proofs.EntryLaws.{any_found}
 use Rattle.bp_lruk.proofs.scan.Candidates.contains.Goals as goal
 
 pub returns : goal.returns

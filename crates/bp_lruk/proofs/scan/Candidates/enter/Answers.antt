@@ -1,6 +1,6 @@
 use Rattle.std.proofs.Common.{rules, ◌≡◌, ◌<◌, ◌∙◌, sym, ap, subst, length, None}
-use Rattle.bp_lruk.specs.Candidates.{Candidate, entry_of, find_entry, NoPageTwice}
-use Rattle.bp_lruk.proofs.EntryLaws.{find_pushed, find_beside_pushed, apart_pushed}
+use Rattle.bp_references.specs.Candidates.{Candidate, entry_of, find_entry, NoPageTwice}
+use Rattle.bp_references.proofs.EntryLaws.{find_pushed, find_beside_pushed, apart_pushed}
 use Rattle.bp_lruk.proofs.scan.Candidates.enter.Goals as goal
 
 absent : (c : goal.After-push_reserved) → find_entry c.self.inside.entries.items c.args.page ≡ None

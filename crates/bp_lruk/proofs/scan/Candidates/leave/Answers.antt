@@ -2,8 +2,8 @@ use Rattle.std.proofs.Common.{rules, ◌≡◌, ◌<◌, ◌==◌, ◌∙◌, sy
 use Rattle.std.specs.List.{remove, position}
 use Rattle.std.proofs.lemmas.Bool.{eqb-true}
 use Rattle.std.proofs.lemmas.List.Quantifiers.{position-Some}
-use Rattle.bp_lruk.specs.Candidates.{entry_of, find_entry, NoPageTwice}
-use Rattle.bp_lruk.proofs.EntryLaws.{position_found, find_removed, find_beside_removed, apart_removed}
+use Rattle.bp_references.specs.Candidates.{entry_of, find_entry, NoPageTwice}
+use Rattle.bp_references.proofs.EntryLaws.{position_found, find_removed, find_beside_removed, apart_removed}
 use Rattle.bp_lruk.proofs.scan.Candidates.leave.Goals as goal
 
 pub unwrap-at-requires : goal.unwrap-at-requires

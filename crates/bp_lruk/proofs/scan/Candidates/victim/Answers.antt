@@ -1,8 +1,8 @@
 use Rattle.std.proofs.Common.{◌≡◌, ◌∙◌, ℕ, false, sym, ap, subst, filter, Some, None}
 use Rattle.std.specs.List.{reduce}
 use Rattle.bp_lruk.specs.contracts.scan.Candidates.{the_view}
-use Rattle.bp_lruk.specs.Candidates.{earlier, is_eligible, IsVictim}
-use Rattle.bp_lruk.proofs.VictimLaws.{is_old, reduce_earliest, reduce_nothing, earliest_victim, none_eligible}
+use Rattle.bp_references.specs.Candidates.{earlier, is_eligible, IsVictim}
+use Rattle.bp_references.proofs.VictimLaws.{is_old, reduce_earliest, reduce_nothing, earliest_victim, none_eligible}
 use Rattle.bp_lruk.proofs.scan.Candidates.victim.Goals as goal
 
 pub returns-in_err-first-clause-none : goal.returns-in_err-first-clause-none

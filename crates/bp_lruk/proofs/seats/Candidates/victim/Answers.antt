@@ -1,5 +1,5 @@
 use Rattle.std.proofs.Common.{◌≡◌, ℕ, ◌-◌, ◌<◌, Some, None, false, List, Option, sym, subst}
-use Rattle.bp_lruk.specs.Candidates.{Candidate, is_eligible, IsVictim, NoPageTwice}
+use Rattle.bp_references.specs.Candidates.{Candidate, is_eligible, IsVictim, NoPageTwice}
 use Rattle.bp_lruk.specs.Seats.{Seated, entered, seated_in, IsFirst}
 use Rattle.bp_lruk.specs.declared.seats.Candidates.TheInside.{Inside}
 use Rattle.bp_lruk.proofs.SeatSteps.{first_victim, no_victim}

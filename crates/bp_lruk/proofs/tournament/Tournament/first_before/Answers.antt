@@ -1,6 +1,6 @@
 use Rattle.std.proofs.Common.{◌∙◌, ap, sym, subst, length, ◌<◌, None, List, Option, arith}
 use Rattle.std.proofs.lemmas.List.{get_or_past}
-use Rattle.bp_lruk.specs.Candidates.{Candidate}
+use Rattle.bp_references.specs.Candidates.{Candidate}
 use Rattle.bp_lruk.specs.Seats.{seat_at, IsFirst, IsFirstAt}
 use Rattle.bp_lruk.proofs.SeatLaws.{first_of_all}
 use Rattle.bp_lruk.proofs.tournament.Tournament.first_before.Goals as goal

@@ -1,5 +1,5 @@
 use Rattle.std.proofs.Common.{◌≡◌, ◌∙◌, ◌+◌, ap, sym, subst, set, length, List, Option, arith}
-use Rattle.bp_lruk.specs.Candidates.{Candidate}
+use Rattle.bp_references.specs.Candidates.{Candidate}
 use Rattle.bp_lruk.specs.Replay.{IsWonUpTo}
 use Rattle.bp_lruk.specs.declared.tournament.Winners.{Winners}
 use Rattle.bp_lruk.proofs.SeatLaws.{won_put}

@@ -1,6 +1,6 @@
 -- What the bursts are: the references cut before each that opens a burst, and nowhere else.
 use Rattle.std.specs.Prelude.{◌≡◌, ℕ, IsTrue, IsFalse, List, [], ◌∷◌, ◌++◌}
-use Rattle.bp_lruk.specs.Burst.{Reference, Burst, opens_burst}
+use Rattle.bp_references.specs.Burst.{Reference, Burst, opens_burst}
 
 -- all references of some bursts
 abbrev pub joined : List Burst → List Reference

@@ -1,5 +1,5 @@
-use Rattle.bp_lruk.proofs.CutLaws.{bursts_cut, one_cut}
-use Rattle.bp_lruk.proofs.laws.bursts_are_the_cut.Goals as goal
+use Rattle.bp_references.proofs.CutLaws.{bursts_cut, one_cut}
+use Rattle.bp_references.proofs.laws.bursts_are_the_cut.Goals as goal
 
 pub returns-clause-cut : goal.returns-clause-cut
 returns-clause-cut c = bursts_cut

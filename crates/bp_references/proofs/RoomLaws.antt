@@ -4,8 +4,8 @@ use Rattle.std.specs.Option.{is_some}
 use Rattle.std.specs.List.{remove, Contains}
 use Rattle.std.proofs.lemmas.Bool.{cases_eq, true≢false, eq-eqb, ne_eqb}
 use Rattle.std.proofs.lemmas.List.Edits.{length-remove}
-use Rattle.bp_lruk.specs.Candidates.{Candidate, find_entry, NoPageTwice}
-use Rattle.bp_lruk.proofs.Lists.{IsIn, place_in, in_contained, in_rest}
+use Rattle.bp_references.specs.Candidates.{Candidate, find_entry, NoPageTwice}
+use Rattle.bp_references.proofs.Lists.{IsIn, place_in, in_contained, in_rest}
 
 -- candidates that are among some pages are no more than these
 among_pages : (es : List Candidate) (pages : List ℕ) → NoPageTwice es → ((q : ℕ) → IsSome (find_entry es q) → IsIn q pages) → length es ≤ length pages

@@ -1,9 +1,9 @@
 -- How the stamps of a page change with one more reference.
 use Rattle.std.proofs.Common.{◌≡◌, refl, sym, ◌∙◌, ap, ℕ, zero, suc, ◌+◌, ◌-◌, ◌<◌, ◌≤◌, nat_lt, Bool, true, false, ◌==◌, if◌then◌else◌, List, [], ◌∷◌, length, inl, inr, arith}
 use Rattle.std.proofs.lemmas.Bool.{cases_lt, ne_eqb, lt-ltb, le-ltb}
-use Rattle.bp_lruk.specs.Burst.{Reference, Burst, time, first_time, width, is_opened_by_hit, opens_burst, add_reference, bursts}
-use Rattle.bp_lruk.specs.Burst.Reference.{hit, fault}
-use Rattle.bp_lruk.specs.Stamp.{burst_at, counted_widths, burst_stamp, stamp, IsTimed}
+use Rattle.bp_references.specs.Burst.{Reference, Burst, time, first_time, width, is_opened_by_hit, opens_burst, add_reference, bursts}
+use Rattle.bp_references.specs.Burst.Reference.{hit, fault}
+use Rattle.bp_references.specs.Stamp.{burst_at, counted_widths, burst_stamp, stamp, IsTimed}
 
 -- ---- the newest burst
 

@@ -5,10 +5,10 @@ use Rattle.std.specs.List.{reduce, find}
 use Rattle.std.proofs.lemmas.Bool.{cases_Bool, true≢false, false_from_ne_true}
 use Rattle.std.proofs.lemmas.Bool.Decides.{nat_tests}
 use Rattle.std.proofs.lemmas.Option.{none-some, same_Some}
-use Rattle.bp_lruk.specs.Candidates.{Candidate, Entered, is_before, earlier, entry_of, candidate_of, is_eligible, IsVictim, NoPageTwice}
-use Rattle.bp_lruk.proofs.Lists.{IsIn, in_filtered, filtered_in}
-use Rattle.bp_lruk.proofs.EntryLaws.{in_found, found_in}
-use Rattle.bp_lruk.proofs.OrderLaws.{Ordered}
+use Rattle.bp_references.specs.Candidates.{Candidate, Entered, is_before, earlier, entry_of, candidate_of, is_eligible, IsVictim, NoPageTwice}
+use Rattle.bp_references.proofs.Lists.{IsIn, in_filtered, filtered_in}
+use Rattle.bp_references.proofs.EntryLaws.{in_found, found_in}
+use Rattle.bp_references.proofs.OrderLaws.{Ordered}
 
 -- ---- the order
 

@@ -2,7 +2,7 @@
 use Rattle.std.proofs.Common.{◌≡◌, ℕ, zero, suc, ◌-◌, ◌≤◌, nat_lt, arith}
 use Rattle.std.proofs.lemmas.Bool.{ne_eqb}
 use Rattle.std.proofs.lemmas.Bool.Decides.{nat_tests}
-use Rattle.bp_lruk.specs.Distance.{backward_distance, is_farther}
+use Rattle.bp_references.specs.Distance.{backward_distance, is_farther}
 
 some_before : (t a b : ℕ) → suc a ≤ t → suc b ≤ t → nat_lt (t - suc b) (t - suc a) ≡ nat_lt (suc a) (suc b)
 some_before t a b below_a below_b = grind (arith, nat_tests)

@@ -3,7 +3,7 @@ use Rattle.std.proofs.Common.{◌≡◌, ℕ, zero, suc, ◌<◌, ◌≤◌, Boo
 use Rattle.std.specs.List.{insert, remove, AllPairs}
 use Rattle.std.specs.List.Sorted.{IsPartitionedBy}
 use Rattle.std.proofs.lemmas.Bool.{cases_Bool, cases_lt, cases_order, false≢true}
-use Rattle.bp_lruk.proofs.Lists.{IsIn, in_at, place_in, in_inserted, in_removed, in_filtered}
+use Rattle.bp_references.proofs.Lists.{IsIn, in_at, place_in, in_inserted, in_removed, in_filtered}
 
 module _ {X : Type 0} (lt : X → X → Bool) where
   -- each comes before all after it, by look at each in turn

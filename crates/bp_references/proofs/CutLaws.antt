@@ -1,9 +1,9 @@
 -- The bursts are the one way to cut the references.
 use Rattle.std.proofs.Common.{◌≡◌, ℕ, Bool, true, false, List, [], ◌∷◌, ◌++◌, refl, sym, ap, ◌∙◌}
 use Rattle.std.proofs.lemmas.Bool.{true≢false}
-use Rattle.bp_lruk.specs.Burst.{Reference, Burst, opens_burst, add_reference, bursts}
-use Rattle.bp_lruk.specs.Burst.Reference.{hit, fault}
-use Rattle.bp_lruk.specs.Cut.{joined, IsBurst, AreBursts, IsCut}
+use Rattle.bp_references.specs.Burst.{Reference, Burst, opens_burst, add_reference, bursts}
+use Rattle.bp_references.specs.Burst.Reference.{hit, fault}
+use Rattle.bp_references.specs.Cut.{joined, IsBurst, AreBursts, IsCut}
 
 joined_with : (opens : Bool) (r : Reference) (all : List Burst) → joined (add_reference opens r all) ≡ r ∷ joined all
 joined_with true r all = refl

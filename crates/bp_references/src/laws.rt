@@ -1,9 +1,9 @@
 //! Laws of the definitions in `specs/`. Each function does nothing: its contract is the law.
 ghost use Rattle.std.specs.Prelude.{◌≡◌, ℕ, ◌<◌, ◌≤◌, nat_lt, List, IsSome, None, length, Contains};
-ghost use Rattle.bp_lruk.specs.Burst.{Reference, Burst, bursts};
-ghost use Rattle.bp_lruk.specs.Cut.{IsCut};
-ghost use Rattle.bp_lruk.specs.Distance.{backward_distance, is_farther};
-ghost use Rattle.bp_lruk.specs.Candidates.{Candidate, find_entry, NoPageTwice};
+ghost use Rattle.bp_references.specs.Burst.{Reference, Burst, bursts};
+ghost use Rattle.bp_references.specs.Cut.{IsCut};
+ghost use Rattle.bp_references.specs.Distance.{backward_distance, is_farther};
+ghost use Rattle.bp_references.specs.Candidates.{Candidate, find_entry, NoPageTwice};
 
 /// The bursts are the references, cut before each reference that opens a burst and nowhere else: joined again they are
 /// the references in their order, each of them begins with a reference that opens a burst and has no other, and there

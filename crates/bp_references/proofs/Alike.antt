@@ -1,11 +1,11 @@
 -- Two lists of references with the same stamps and the same newest time have them after the same further references.
 use Rattle.std.proofs.Common.{◌≡◌, refl, sym, ◌∙◌, ap, ℕ, zero, suc, ◌-◌, nat_lt, if◌then◌else◌, Bool, true, false, List, [], ◌∷◌, arith}
 use Rattle.std.proofs.lemmas.Bool.{ltb-true}
-use Rattle.bp_lruk.specs.Burst.{Reference, time, bursts}
-use Rattle.bp_lruk.specs.Burst.Reference.{hit, fault}
-use Rattle.bp_lruk.specs.Stamp.{burst_stamp, stamp, IsTimed}
-use Rattle.bp_lruk.specs.Alike.{Alike}
-use Rattle.bp_lruk.proofs.BurstLaws.{newest_stamp_at_hit, stamp_at_hit, stamp_at_correlated_hit, newest_stamp_at_fault, stamp_at_fault, widened}
+use Rattle.bp_references.specs.Burst.{Reference, time, bursts}
+use Rattle.bp_references.specs.Burst.Reference.{hit, fault}
+use Rattle.bp_references.specs.Stamp.{burst_stamp, stamp, IsTimed}
+use Rattle.bp_references.specs.Alike.{Alike}
+use Rattle.bp_references.proofs.BurstLaws.{newest_stamp_at_hit, stamp_at_hit, stamp_at_correlated_hit, newest_stamp_at_fault, stamp_at_fault, widened}
 
 -- beyond K every stamp is 0
 beyond : (k c place : ℕ) (rs : List Reference) → nat_lt place k ≡ false → stamp k c (suc place) rs ≡ 0

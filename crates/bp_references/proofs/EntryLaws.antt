@@ -5,8 +5,8 @@ use Rattle.std.specs.List.{insert, remove, list_any, position, position_or_len}
 use Rattle.std.proofs.lemmas.Bool.{cases_Bool, cases_eq, eq-eqb, ne_eqb, lt-ltb, false≢true}
 use Rattle.std.proofs.lemmas.List.Edits.{insert_end}
 use Rattle.std.proofs.lemmas.Option.{none-some}
-use Rattle.bp_lruk.specs.Candidates.{Candidate, find_entry, NoPageTwice}
-use Rattle.bp_lruk.proofs.Lists.{IsIn}
+use Rattle.bp_references.specs.Candidates.{Candidate, find_entry, NoPageTwice}
+use Rattle.bp_references.proofs.Lists.{IsIn}
 
 -- ---- the first entry
 

@@ -1,5 +1,0 @@
-use Rattle.bp_lruk.proofs.DistanceLaws.{farther_is_less}
-use Rattle.bp_lruk.proofs.laws.lesser_stamp_is_farther.Goals as goal
-
-pub returns : goal.returns
-returns c = farther_is_less

@@ -1,5 +1,0 @@
-use Rattle.bp_lruk.proofs.RoomLaws.{room_left}
-use Rattle.bp_lruk.proofs.laws.one_more_has_room.Goals as goal
-
-pub returns : goal.returns
-returns c = room_left

@@ -1,0 +1,11 @@
+pub mod Lists
+pub mod Rows
+pub mod CutLaws
+pub mod BurstLaws
+pub mod StampLaws
+pub mod DistanceLaws
+pub mod Alike
+pub mod EntryLaws
+pub mod OrderLaws
+pub mod VictimLaws
+pub mod RoomLaws
