@@ -1,6 +1,6 @@
 -- What the timed loops keep.
 use Rattle.std.specs.Prelude.{◌≡◌, ℕ, ◌<◌, ◌≤◌, true, false, List, length, Some, slice_index}
-use Rattle.bp_lruk.specs.Histories.{Blocks, is_held, last_of, place_of}
+use Rattle.bp_replacer.specs.Histories.{Blocks, is_held, last_of, place_of}
 
 -- the pages below `pages` are held and have a reference, and no reference is after t
 pub record IsLoaded (h : Blocks) (pages t : ℕ) : Type 0 where

@@ -1,10 +1,10 @@
 //! Times the calls of LRU-K that take the number of a page's block, on pages at random.
 ghost use Rattle.std.specs.Prelude.{◌≡◌, ℕ, ◌+◌, ◌^◌, ◌<◌, IfOk, OnOk, false, length, vec_len};
-ghost use Rattle.bp_lruk.specs.Histories.{is_held, last_of};
+ghost use Rattle.bp_replacer.specs.Histories.{is_held, last_of};
 ghost use Rattle.bench.specs.Loads.{IsLoaded, IsTable};
 
 use crate::{next, tell};
-use bp_lruk::{BlockNo, Histories, Settings};
+use bp_replacer::{BlockNo, Histories, Settings};
 use bp_page::{PageNo, Refusal};
 use std::alloc::Global;
 use std::rt::Runtime;
@@ -15,7 +15,7 @@ const PAGES: u64 = 1048576;
 const CALLS: u64 = 4000000;
 
 // Gives each page one reference at time 1. The blocks come back, as a frame has that of its page.
-#[tactic(auto, unfolding(bp_lruk::specs::Histories::KeepsPlaces))]
+#[tactic(auto, unfolding(bp_replacer::specs::Histories::KeepsPlaces))]
 fn load_table(alloc: Global, histories: &mut Histories, pages: u64) -> Result<Vec<BlockNo>, Refusal>
     requires nothing_held { (page : ℕ) → is_held histories.old page ≡ false }
     requires nothing_known { (page : ℕ) → last_of histories.old page ≡ 0 }
@@ -36,7 +36,7 @@ fn load_table(alloc: Global, histories: &mut Histories, pages: u64) -> Result<Ve
 }
 
 // Hits pages at random by their blocks, each a tick after the one before.
-#[tactic(auto, unfolding(bp_lruk::specs::Histories::KeepsPlaces))]
+#[tactic(auto, unfolding(bp_replacer::specs::Histories::KeepsPlaces))]
 fn hit_table(histories: &mut Histories, blocks: &[BlockNo], calls: u64)
     requires some { 0 < length blocks.now }
     requires few { calls < 2 ^ 62 }

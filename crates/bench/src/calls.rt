@@ -3,7 +3,7 @@ ghost use Rattle.std.specs.Prelude.{◌≡◌, ◌+◌, ◌<◌, ◌≤◌, leng
 
 use crate::tell;
 use bp_core::{Core, EndRefusal, Entry, Fix, Flush, PassNote, ReadTicket};
-use bp_lruk::Settings;
+use bp_replacer::Settings;
 use bp_page::{Bytes, Geometry, Image, Lsn, PageNo, Refusal};
 use std::alloc::Global;
 use std::mem;

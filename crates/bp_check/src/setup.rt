@@ -1,6 +1,6 @@
 //! What a trail is judged by.
 
-use bp_lruk::Settings;
+use bp_replacer::Settings;
 use bp_page::Geometry;
 
 /// What the pool of a trail was made with, as far as the lawful replies depend on it.

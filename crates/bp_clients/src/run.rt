@@ -9,7 +9,7 @@ use crate::job::Job;
 use crate::runner::{LogWriter, Runner};
 use bp_core::{Core, Entry, Refused, Row};
 use bp_ports::Port;
-use bp_lruk::Settings;
+use bp_replacer::Settings;
 use bp_mark::{LogEnd, Mark, Reader};
 use bp_page::{Geometry, Refusal};
 use bp_shared::{PoolName, Session, SharedPool, Taker, TrailRing};

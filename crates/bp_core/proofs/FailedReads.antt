@@ -3,7 +3,7 @@ use Rattle.std.proofs.Common.{◌≡◌, ◌≢◌, ℕ, true, false, ◌∷◌,
 use Rattle.std.specs.Prelude.{not, ◌==◌}
 use Rattle.bp_page.specs.declared.refusals.PortFault.{PortFault}
 use Rattle.bp_page.specs.declared.refusals.PortFault.TheVariants as fault
-use Rattle.bp_lruk.specs.Histories.{Blocks, is_held, SameAt, SameStampsAt, SameSettings, KeepsPlaces}
+use Rattle.bp_replacer.specs.Histories.{Blocks, is_held, SameAt, SameStampsAt, SameSettings, KeepsPlaces}
 use Rattle.bp_trail.specs.declared.entries.Call.TheVariants.{ReadEnd}
 use Rattle.bp_trail.specs.declared.entries.Reply.TheVariants.{ReadFailed, WrongPage}
 use Rattle.bp_trail.specs.Parameters.{Parameters}

@@ -8,7 +8,7 @@ use Rattle.bp_references.specs.Burst.{Reference}
 use Rattle.bp_references.specs.Burst.Reference.{fault}
 use Rattle.bp_references.specs.Stamp.{IsTimed}
 use Rattle.bp_references.specs.Candidates.{Entered, entry_of, NoPageTwice, SameLimits}
-use Rattle.bp_lruk.specs.Histories.{Blocks, is_held, place_of, HasStampsOf, SameAt, SameStampsAt, SameSettings, KeepsPlaces}
+use Rattle.bp_replacer.specs.Histories.{Blocks, is_held, place_of, HasStampsOf, SameAt, SameStampsAt, SameSettings, KeepsPlaces}
 use Rattle.bp_trail.specs.declared.entries.Call.TheVariants.{Fix, ReadEnd}
 use Rattle.bp_trail.specs.declared.entries.Reply.TheVariants.{Load, Fixed, ReadFailed}
 use Rattle.bp_trail.specs.Passes.{reads_out}

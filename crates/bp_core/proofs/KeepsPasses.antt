@@ -6,7 +6,7 @@ use Rattle.bp_references.specs.Burst.{Reference}
 use Rattle.bp_references.specs.Burst.Reference.{hit}
 use Rattle.bp_references.specs.Stamp.{IsTimed}
 use Rattle.bp_references.specs.Candidates.{Entered, entry_of, NoPageTwice, SameLimits}
-use Rattle.bp_lruk.specs.Histories.{Blocks, is_held, place_of, stamp_of, last_of, HasStampsOf, SameAt, SameSettings, KeepsPlaces}
+use Rattle.bp_replacer.specs.Histories.{Blocks, is_held, place_of, stamp_of, last_of, HasStampsOf, SameAt, SameSettings, KeepsPlaces}
 use Rattle.bp_trail.specs.declared.entries.Call.TheVariants.{Fix, Write, Unfix}
 use Rattle.bp_trail.specs.declared.entries.Reply.TheVariants.{Done, Hit}
 use Rattle.bp_trail.specs.Passes.{passes_out, is_of, pins}

@@ -4,7 +4,7 @@ use Rattle.std.proofs.lemmas.Bool.{le-leb, and_from, eqb-true, eqb-false, false_
 use Rattle.std.proofs.lemmas.Bool.Decides.{nat_tests}
 use Rattle.bp_page.specs.Patched.{patched}
 use Rattle.bp_references.specs.Burst.Reference.{hit}
-use Rattle.bp_lruk.specs.Histories.{Blocks, is_held, HasStampsOf, SameAt, SameSettings}
+use Rattle.bp_replacer.specs.Histories.{Blocks, is_held, HasStampsOf, SameAt, SameSettings}
 use Rattle.bp_trail.specs.declared.entries.Call.TheVariants.{Fix, Write, Unfix}
 use Rattle.bp_trail.specs.declared.entries.Reply.TheVariants.{Done, Hit}
 use Rattle.bp_frames.specs.declared.frame.Frame.{Frame}

@@ -2,7 +2,7 @@
 use Rattle.std.proofs.Common.{◌≡◌, ◌≢◌, refl, sym, ap, subst, ◌∙◌, ℕ, Bool, true, false, not, ◌==◌, cond, List, [], ◌∷◌, filter, Option, arith}
 use Rattle.std.specs.Prelude.{IsSome, is_some, ◌&&◌}
 use Rattle.std.proofs.lemmas.Bool.{eqb-true, eqb-false, eq-eqb, and_parts, and_from, or_left, or_right, true≢false}
-use Rattle.bp_lruk.specs.Histories.{Blocks, is_held, place_of, SameAt, KeepsPlaces}
+use Rattle.bp_replacer.specs.Histories.{Blocks, is_held, place_of, SameAt, KeepsPlaces}
 use Rattle.bp_trail.specs.Parameters.{Parameters}
 use Rattle.bp_trail.specs.Lists.{some, count}
 use Rattle.bp_trail.specs.Trail.{Trail}

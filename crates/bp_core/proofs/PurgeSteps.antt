@@ -3,7 +3,7 @@ use Rattle.std.proofs.Common.{inl, ◌≡◌, ℕ, suc, ◌+◌, ◌-◌, ◌≤
 use Rattle.std.proofs.lemmas.Bool.{lt-ltb}
 use Rattle.std.proofs.lemmas.Bool.Decides.{nat_tests}
 use Rattle.bp_references.specs.Burst.{Reference}
-use Rattle.bp_lruk.specs.Histories.{Blocks, is_held, HasStampsOf, SameAt, SameSettings}
+use Rattle.bp_replacer.specs.Histories.{Blocks, is_held, HasStampsOf, SameAt, SameSettings}
 use Rattle.bp_trail.specs.declared.entries.Call.TheVariants.{Purge}
 use Rattle.bp_trail.specs.declared.entries.Reply.TheVariants.{Forgot}
 use Rattle.bp_trail.specs.Parameters.{Parameters}
@@ -17,7 +17,7 @@ use Rattle.bp_core.proofs.StampsKept.{stamps-kept, told-alike}
 use Rattle.bp_core.proofs.Steps.{by}
 use Rattle.bp_references.specs.Burst.{last_time}
 use Rattle.bp_references.specs.Stamp.{IsTimed}
-use Rattle.bp_lruk.specs.Histories.{last_of, forgets, count_below}
+use Rattle.bp_replacer.specs.Histories.{last_of, forgets, count_below}
 use Rattle.bp_trail.specs.References.{is_empty, forgotten, forgets as forgets_page}
 use Rattle.bp_trail.specs.Lists.{count_below as numbers_below}
 use Rattle.bp_trail.proofs.Timed.{references-timed}

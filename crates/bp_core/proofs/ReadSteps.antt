@@ -3,7 +3,7 @@ use Rattle.std.proofs.Common.{inl, ◌≡◌, ◌≢◌, ℕ, suc, ◌+◌, nat_
 use Rattle.std.specs.List.Sorted.{IsPermutation}
 use Rattle.std.proofs.lemmas.Bool.{and_from, and_parts, eqb-true, eq-eqb, false_from_ne_true, true≢false}
 use Rattle.bp_references.specs.Burst.Reference.{fault}
-use Rattle.bp_lruk.specs.Histories.{Blocks, is_held, HasStampsOf, SameStampsAt, SameAt, SameSettings}
+use Rattle.bp_replacer.specs.Histories.{Blocks, is_held, HasStampsOf, SameStampsAt, SameAt, SameSettings}
 use Rattle.bp_trail.specs.declared.entries.Call.TheVariants.{Fix, ReadEnd}
 use Rattle.bp_trail.specs.declared.entries.Reply.{Reply}
 use Rattle.bp_trail.specs.declared.entries.Reply.TheVariants.{Load, WriteFirst, NeedLog, Fixed, ReadFailed}

@@ -4,7 +4,7 @@ use Rattle.std.specs.Str.{bytes_eq}
 use Rattle.std.specs.Prelude.{All, Contains}
 use Rattle.std.proofs.lemmas.Slice.Eq.{bytes_eq-Decides}
 use Rattle.std.proofs.lemmas.Bool.{eqb-true, eq-eqb, and_parts, and_from, or_left, or_right, ltb-true, lt-ltb, not_from_false, false_from_ne_true, true≢false, cases_Bool}
-use Rattle.bp_lruk.specs.Histories.{stamp_of, last_of, IsNow}
+use Rattle.bp_replacer.specs.Histories.{stamp_of, last_of, IsNow}
 use Rattle.bp_references.specs.Burst.{Reference, last_time}
 use Rattle.bp_references.specs.Stamp.{stamp, IsTimed}
 use Rattle.bp_frames.specs.declared.frame.Frame.{Frame}

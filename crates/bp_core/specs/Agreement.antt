@@ -2,7 +2,7 @@
 use Rattle.std.specs.Prelude.{◌≡◌, ℕ, Decides, ◌+◌, ◌*◌, ◌^◌, ◌≤◌, ◌==◌, Bool, not, ◌&&◌, ◌||◌}
 use Rattle.std.specs.Prelude.{true, false, List, [], length, All, Option, Some, None, IsSome}
 use Rattle.std.specs.Prelude.{if◌then◌else◌}
-use Rattle.bp_lruk.specs.Histories.{Blocks, HasStampsOf, is_held, place_of}
+use Rattle.bp_replacer.specs.Histories.{Blocks, HasStampsOf, is_held, place_of}
 use Rattle.bp_references.specs.Candidates.{Entered, entry_of, NoPageTwice}
 use Rattle.bp_core.specs.declared.config.Config.{Config}
 use Rattle.bp_frames.specs.declared.frame.Frame.{Frame}

@@ -14,7 +14,7 @@ mod write_outs;
 use crate::config::Config;
 use crate::state::State;
 use bp_keeper::Keeper;
-use bp_lruk::Settings;
+use bp_replacer::Settings;
 use bp_page::{Geometry, Refusal};
 use std::alloc::Global;
 use std::marker::Model;

@@ -1,6 +1,6 @@
 //! What a core keeps beside its trail.
 ghost use Rattle.std.specs.Prelude.{◌≡◌, ◌≢◌, ℕ, ◌+◌, ◌^◌, ◌<◌, ◌≤◌, true, Some, None, if◌then◌else◌, IfOk};
-ghost use Rattle.bp_lruk.specs.Histories.{place_of, stamp_of, last_of};
+ghost use Rattle.bp_replacer.specs.Histories.{place_of, stamp_of, last_of};
 ghost use Rattle.bp_references.specs.Candidates.{entry_of, NoPageTwice, SameLimits};
 ghost use Rattle.bp_trail.specs.Lists.{some};
 ghost use Rattle.bp_frames.specs.Frames.{is_frame_of};
@@ -8,7 +8,7 @@ ghost use Rattle.bp_frames.specs.Frames.{is_frame_of};
 use crate::config::Config;
 use crate::passes::{Pass, ReadTicket};
 use bp_frames::{FrameTable, GrantList};
-use bp_lruk::{BlockNo, Histories};
+use bp_replacer::{BlockNo, Histories};
 use bp_page::{Lsn, PageNo};
 use std::alloc::{AllocError, Global};
 

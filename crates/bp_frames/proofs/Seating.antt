@@ -4,9 +4,9 @@ use Rattle.std.proofs.lemmas.Bool.{cases_eq, eq-eqb, ne_eqb}
 use Rattle.std.proofs.lemmas.List.{get_or-set_same, get_or-set_other}
 use Rattle.std.proofs.lemmas.Option.{none-some, same_Some}
 use Rattle.bp_references.specs.Candidates.{Candidate, find_entry, NoPageTwice}
-use Rattle.bp_lruk.specs.Seats.{seated_in, seat_at}
+use Rattle.bp_replacer.specs.Seats.{seated_in, seat_at}
 use Rattle.bp_references.proofs.EntryLaws.{in_found, find_nowhere}
-use Rattle.bp_lruk.proofs.SeatSteps.{in_seated, seated_at}
+use Rattle.bp_replacer.proofs.SeatSteps.{in_seated, seated_at}
 use Rattle.bp_frames.specs.declared.frame.Frame.{Frame}
 use Rattle.bp_frames.specs.Tables.{places_from, IsTable, IsSeating}
 use Rattle.bp_frames.proofs.Tables.{one-page}

@@ -1,7 +1,7 @@
 //! One frame: a page in memory, and how it is used.
 ghost use Rattle.std.specs.Prelude.{max, not, ◌≡◌, ◌==◌, ◌&&◌, ◌+◌, ◌^◌, ◌<◌, ◌≤◌, length};
 
-use bp_lruk::BlockNo;
+use bp_replacer::BlockNo;
 use bp_page::{Image, Lsn, PageNo};
 
 /// A frame with the page that it holds. A [`FrameTable`](crate::FrameTable) makes and changes it; others read it.

@@ -7,8 +7,8 @@ ghost use Rattle.bp_frames.specs.Frames.{is_frame_of, loaded_with, pinned, unpin
 ghost use Rattle.bp_frames.specs.Tables.{IsSlotOf};
 
 use crate::frame::Frame;
-use bp_lruk::seats::Candidates;
-use bp_lruk::{BlockNo, Settings};
+use bp_replacer::seats::Candidates;
+use bp_replacer::{BlockNo, Settings};
 use bp_page::{Geometry, Image, Lsn, PageNo};
 use std::alloc::{AllocError, Global};
 use std::marker::Model;
@@ -30,7 +30,7 @@ pub struct FrameTable {
 
 impl Model for FrameTable {
     ghost use Rattle.std.specs.Prelude.{vec_capacity, length};
-    ghost use Rattle.bp_lruk.specs.Seats.{entered};
+    ghost use Rattle.bp_replacer.specs.Seats.{entered};
     ghost use Rattle.bp_frames.specs.Tables.{Table, table_of, places_from, IsTable, HasTableRoom, IsSeating};
 
     ghost Value = { Table };

@@ -4,7 +4,8 @@ ghost use Rattle.bp_references.specs.Candidates.{Candidate, entry_of, find_entry
 ghost use Rattle.bp_lruk.specs.Index.{IsInOrder, IsPlaceFor};
 
 use crate::page_index::PageIndex;
-use crate::settings::Settings;
+use bp_replacer::tournament::precedes;
+use bp_replacer::Settings;
 use bp_page::{PageNo, Refusal};
 use std::alloc::Global;
 use std::marker::Model;
@@ -147,11 +148,4 @@ fn first_old(entries: &[(u64, u64, PageNo)], period: u64, t: u64) -> Option<(u64
         .iter()
         .copied()
         .find(|entry| t.saturating_sub(entry.1) > period)
-}
-
-// By K-th stamp, then last time, then page.
-pub(crate) fn precedes(a: &(u64, u64, PageNo), b: &(u64, u64, PageNo)) -> bool
-    ensures { result ≡ is_before a.now b.now }
-{
-    a < b
 }

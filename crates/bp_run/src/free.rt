@@ -15,7 +15,7 @@ use crate::scripts::{client_count, split};
 use bp_clients::{Config, Outcome, run_clients};
 use bp_core::Row;
 use bp_ports::Port;
-use bp_lruk::Settings;
+use bp_replacer::Settings;
 use bp_page::Geometry;
 use bp_words::{Ending, Order, RunWords};
 use std::alloc::Global;

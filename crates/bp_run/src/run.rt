@@ -24,7 +24,7 @@ use crate::sweeping::sweep_told;
 use bp_core::{Core, Entry, Refused, Row};
 use bp_device::drive_all;
 use bp_ports::{OpenFault, Port};
-use bp_lruk::Settings;
+use bp_replacer::Settings;
 use bp_page::{Geometry, PortFault, Refusal};
 use bp_trace::{read_script, report, report_rows, report_totals};
 use bp_words::{Ending, Order, RunWords, Task, TraceSource, decide};

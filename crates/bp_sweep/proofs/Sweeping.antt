@@ -2,7 +2,7 @@
 use Rattle.std.proofs.Common.{◌≡◌, refl, sym, ◌∙◌, ap, subst, ℕ, ◌+◌, ◌^◌, ◌<◌, max, arith, suc, List, [], ◌∷◌, ◌++◌, append_assoc, length, length-take, take, drop, drop-cons, get_or, map}
 use Rattle.std.proofs.lemmas.List.{append-nil, take_more, take-append-drop}
 use Rattle.bp_page.specs.declared.limits.Geometry.{Geometry}
-use Rattle.bp_lruk.specs.declared.settings.Settings.{Settings}
+use Rattle.bp_replacer.specs.declared.settings.Settings.{Settings}
 use Rattle.bp_table.specs.declared.lines.Line.{Line}
 use Rattle.bp_sweep.specs.declared.cells.Plan.{Plan}
 use Rattle.bp_sweep.specs.declared.cells.Policy.TheVariants.{LruK}

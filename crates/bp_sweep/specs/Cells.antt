@@ -1,7 +1,7 @@
 -- What a cell of a sweep counts: the replies of a legal trail that follows the references, each a fix, an unfix and a tick.
 use Rattle.std.specs.Prelude.{◌≡◌, ℕ, ◌+◌, ◌*◌, ◌^◌, ◌<◌, max, List, [], ◌∷◌, ◌++◌, All}
 use Rattle.bp_page.specs.declared.limits.Geometry.{Geometry}
-use Rattle.bp_lruk.specs.declared.settings.Settings.{Settings}
+use Rattle.bp_replacer.specs.declared.settings.Settings.{Settings}
 use Rattle.bp_trail.specs.declared.scripts.Row.{Row}
 use Rattle.bp_trail.specs.declared.scripts.Step.TheVariants.{Fix, Unfix, Tick}
 use Rattle.bp_trail.specs.declared.scripts.Refused.{Refused}

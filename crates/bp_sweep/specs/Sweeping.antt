@@ -2,7 +2,7 @@
 use Rattle.std.specs.Prelude.{◌≡◌, ℕ, ◌+◌, ◌^◌, List, [], ◌∷◌, ◌++◌, map, length, Option, Some, None}
 use Rattle.bp_page.specs.declared.refusals.Refusal.{Refusal}
 use Rattle.bp_page.specs.declared.refusals.Refusal.TheVariants.{BadSettings}
-use Rattle.bp_lruk.specs.Limits.{IsWithinLimits}
+use Rattle.bp_replacer.specs.Limits.{IsWithinLimits}
 use Rattle.bp_optimum.specs.declared.farthest.Optimum.{Optimum as BestCounts}
 use Rattle.bp_optimum.specs.Optimum.{IsOptimum}
 use Rattle.bp_table.specs.declared.lines.Line.{Line}

@@ -13,7 +13,7 @@ use crate::counts::Counts;
 use crate::progress::{Progress, Turn, Untold, tell};
 use bp_core::{EndRefusal, Fix, Pass, ReadTicket, SilentCore};
 use bp_ports::Port;
-use bp_lruk::Settings;
+use bp_replacer::Settings;
 use bp_page::{Image, PageNo, PortFault, Refusal};
 use std::alloc::Global;
 use std::sync::Wait;

@@ -1,6 +1,6 @@
 //! The cells of a sweep: the references over one pool after the other.
 ghost use Rattle.std.specs.Prelude.{◌≡◌, ◌≤◌, ◌^◌, IfErr, IfOk, max};
-ghost use Rattle.bp_lruk.specs.Limits.{IsWithinLimits};
+ghost use Rattle.bp_replacer.specs.Limits.{IsWithinLimits};
 ghost use Rattle.bp_sweep.specs.Cells.{Counted, pool_parameters};
 ghost use Rattle.bp_sweep.specs.Referring.{AreFrames, CellRefused, EndsCell};
 ghost use Rattle.bp_sweep.specs.Sweeping.{AreCells, CountsBest, CountsOf, IsPlan, PlanRefused, SweepRefused, k_of, line_of};
@@ -10,7 +10,7 @@ use crate::counts::Counts;
 use crate::dense::References;
 use crate::progress::{Progress, Turn};
 use bp_ports::MemDevice;
-use bp_lruk::Settings;
+use bp_replacer::Settings;
 use bp_optimum::count_optimum;
 use bp_page::{Geometry, Refusal};
 use bp_table::Line;

@@ -7,7 +7,7 @@ use Rattle.clap.specs.ValueTests.{is_numeral}
 use Rattle.clap.specs.Kinds.{or_else}
 use Rattle.clap.specs.Words.{Kinds, Row, Text, fault_of, first_of, one_of, subcommand_of}
 use Rattle.clap.specs.declared.error.kind.ErrorKind.TheVariants.{InvalidValue}
-use Rattle.bp_lruk.specs.Limits.{IsWithinLimits}
+use Rattle.bp_replacer.specs.Limits.{IsWithinLimits}
 use Rattle.bp_words.specs.Command.{bpool_app}
 use Rattle.bp_trace.specs.Numbers.{number_in}
 use Rattle.bp_numbers.specs.Explained.{explanation_of}

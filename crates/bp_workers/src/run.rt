@@ -16,7 +16,7 @@ use crate::worker::{Client, Left, Upkeep, Worker};
 use bp_core::PoolCore;
 use bp_ports::Port;
 use bp_keeper::{ListKeeper, RecordingKeeper};
-use bp_lruk::Settings;
+use bp_replacer::Settings;
 use bp_mark::{LogEnd, Mark, Reader};
 use bp_page::{Geometry, Refusal};
 use bp_shared::{ClosedPool, PoolName, Session, SharedPool, TrailRing};

@@ -6,7 +6,7 @@ use Rattle.bp_page.specs.declared.refusals.Refusal.{Refusal}
 use Rattle.bp_page.specs.declared.refusals.Refusal.TheVariants as refusal
 use Rattle.bp_page.specs.declared.refusals.PortFault.{PortFault}
 use Rattle.bp_page.specs.Limits.{IsGeometry}
-use Rattle.bp_lruk.specs.Limits.{IsWithinLimits}
+use Rattle.bp_replacer.specs.Limits.{IsWithinLimits}
 use Rattle.bp_trail.specs.declared.entries.Call.TheVariants as call
 use Rattle.bp_trail.specs.Event.{Grant, grant}
 use Rattle.bp_trail.specs.Passes.{reads_out}

@@ -7,7 +7,7 @@ mod page_use;
 
 use crate::forms::{HzConfig, HzTotals};
 use bp_core::SilentCore;
-use bp_lruk::Settings;
+use bp_replacer::Settings;
 use bp_page::{Geometry, Lsn, Refusal};
 use std::alloc::Global;
 use std::marker::Model;

@@ -1,6 +1,6 @@
 //! Histories of LRU-K by themselves.
 ghost use Rattle.std.specs.Prelude.{ℕ, ◌≤◌};
-ghost use Rattle.bp_lruk.specs.Histories.{last_of};
+ghost use Rattle.bp_replacer.specs.Histories.{last_of};
 
 use crate::pools::done;
 use bp_lruk::{Histories, Settings};

@@ -1,6 +1,6 @@
 //! Bringing a page into a frame.
 ghost use Rattle.std.specs.Prelude.{◌≡◌, ℕ, ◌+◌, ◌^◌, ◌<◌, ◌≤◌, true, false, Some, None, IsSome, length, IfOk, OnOk, OnErr, ◌≢◌};
-ghost use Rattle.bp_lruk.specs.Histories.{is_held, place_of, SameStampsAt, SameAt, SameSettings, KeepsPlaces};
+ghost use Rattle.bp_replacer.specs.Histories.{is_held, place_of, SameStampsAt, SameAt, SameSettings, KeepsPlaces};
 ghost use Rattle.bp_trail.specs.Event.{grant};
 ghost use Rattle.bp_trail.specs.Legal.{is_out};
 ghost use Rattle.bp_trail.specs.Passes.{reads_out};
@@ -17,7 +17,7 @@ use crate::passes::{EndRefusal, Fix, Pass, ReadTicket};
 use crate::pool::PoolCore;
 use bp_frames::GrantList;
 use bp_keeper::Keeper;
-use bp_lruk::Histories;
+use bp_replacer::Histories;
 use bp_page::{Image, PageNo, PortFault, Refusal};
 use bp_trail::{Call, Grant, Reply};
 use std::alloc::AllocError;
@@ -184,7 +184,7 @@ impl<K: Keeper> PoolCore<K> {
 
 /// Takes the memory that a page's read will need, but for its frame: room for its ticket, for its pass beside those
 /// of the reads that are out, and its history's block. Where that is refused no page is held more than before.
-#[tactic(auto, unfolding(bp_lruk::specs::Histories::KeepsPlaces))]
+#[tactic(auto, unfolding(bp_replacer::specs::Histories::KeepsPlaces))]
 fn make_ready(
     passes: &mut GrantList,
     reads: &mut GrantList,

@@ -1,6 +1,6 @@
 use Rattle.std.proofs.Common.{◌∙◌, subst, sym, ap, arith}
 use Rattle.bp_references.specs.Candidates.{entry_of, find_entry}
-use Rattle.bp_lruk.specs.Seats.{Seated, seated_in}
+use Rattle.bp_replacer.specs.Seats.{Seated, seated_in}
 use Rattle.bp_frames.specs.Tables.{Table, IsSlotOf, IsSeating}
 use Rattle.bp_frames.proofs.Tables.{slot-found, slot-here, slot-few}
 use Rattle.bp_frames.proofs.Seating.{once, seat-empty, seating-entered, entered-here, entered-others}

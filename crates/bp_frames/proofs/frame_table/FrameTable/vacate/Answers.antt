@@ -1,7 +1,7 @@
 use Rattle.std.proofs.Common.{ap, ◌∙◌, ◌≡◌, subst, sym, arith, length-append, ◌+◌, ◌∷◌, [], List, length, length-set, get_or, set, ◌++◌}
 use Rattle.std.specs.List.{remove}
 use Rattle.bp_references.specs.Candidates.{entry_of}
-use Rattle.bp_lruk.specs.Seats.{entered}
+use Rattle.bp_replacer.specs.Seats.{entered}
 use Rattle.bp_frames.specs.Frames.{without_page}
 use Rattle.bp_frames.specs.Tables.{Place, places_from, Table, frames_of, IsSlotOf, IsTable}
 use Rattle.bp_frames.proofs.Places.{place_at, rank, at-place, place-stands, unplaced}

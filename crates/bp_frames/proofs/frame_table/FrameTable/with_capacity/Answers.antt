@@ -1,6 +1,6 @@
 use Rattle.std.proofs.Common.{ap, ◌∙◌, ◌≡◌, subst, sym, arith, [], ℕ, List, length, replicate, refl, rules, None, Option}
 use Rattle.bp_references.specs.Candidates.{Candidate}
-use Rattle.bp_lruk.specs.Seats.{Seated, entered}
+use Rattle.bp_replacer.specs.Seats.{Seated, entered}
 use Rattle.bp_frames.specs.declared.frame.Frame.{Frame}
 use Rattle.bp_frames.specs.Tables.{Place, places_from, IsTable, IsSeating, frames_of}
 use Rattle.bp_frames.proofs.Places.{no-places}

@@ -1,6 +1,6 @@
 use Rattle.std.proofs.Common.{◌≡◌, ◌∙◌, ◌+◌, subst, get_or, sym, ap, arith}
 use Rattle.bp_references.specs.Candidates.{entry_of, find_entry}
-use Rattle.bp_lruk.specs.Seats.{Seated, seated_in}
+use Rattle.bp_replacer.specs.Seats.{Seated, seated_in}
 use Rattle.bp_frames.specs.Tables.{Table, IsSeating}
 use Rattle.bp_frames.proofs.Tables.{slot-few}
 use Rattle.bp_frames.proofs.Seating.{once, entry-away, seating-left, left-here, left-others}

@@ -1,5 +1,0 @@
-use Rattle.std.proofs.Common.{◌*◌, ◌-◌, length}
-use Rattle.bp_lruk.proofs.tournament.+first_below.Given as goal
-
-abbrev pub decreases-first_below : goal.decreases-first_below
-decreases-first_below l = 2 * length l.seats.now - l.at

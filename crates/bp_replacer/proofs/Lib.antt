@@ -1,0 +1,10 @@
+pub mod HistoryLaws
+pub mod KeptLaws
+pub mod LaggingLaws
+pub mod QueueLaws
+pub mod BlockSteps
+pub mod PurgeLaws
+pub mod PurgeWalk
+pub mod SeatListLaws
+pub mod SeatLaws
+pub mod SeatSteps

@@ -1,0 +1,174 @@
+-- Candidates that are entered by seats: each stands at a seat of its own, as a page stands in a
+-- frame.
+use Rattle.std.specs.Prelude.{◌≡◌, ◌⊎◌, ℕ, ◌*◌, ◌+◌, ◌-◌, ◌/◌, ◌≢◌, ◌<◌, ◌≤◌, ◌&&◌, ◌==◌, nat_lt, zero, suc, Bool, true, false, IsFalse, List, [], ◌∷◌, length, slice_index_or, set, Option, Some, None, if◌then◌else◌}
+use Rattle.bp_references.specs.Candidates.{Candidate, Entered, is_before}
+use Rattle.bp_replacer.specs.declared.tournament.Winners.{Winners}
+
+-- the candidates that are seated, by seats, and the correlated period
+pub record Seated : Type 0 where
+  pub correlated : ℕ
+  pub seats : List (Option Candidate)
+
+-- who stands at the seats
+abbrev pub seated_in : List (Option Candidate) → List Candidate
+seated_in [] = []
+seated_in (None ∷ seats) = seated_in seats
+seated_in (Some e ∷ seats) = e ∷ seated_in seats
+
+-- the same candidates, of as many frames as there are seats
+abbrev pub entered : Seated → Entered
+entered c =
+    record { frames = length c.seats; correlated = c.correlated; entries = seated_in c.seats }
+
+abbrev pub seat_at : List (Option Candidate) → ℕ → Option Candidate
+seat_at seats k = slice_index_or seats k None
+
+abbrev pub seat_of : Seated → ℕ → Option Candidate
+seat_of c seat = slice_index_or c.seats seat None
+
+-- one seat changed
+abbrev pub with_seat : Seated → ℕ → Option Candidate → Seated
+with_seat c seat e = record c { seats = set c.seats seat e }
+
+-- ---- who comes first
+
+-- of two seats, the one that comes first; an empty one comes last
+abbrev pub winner : Option Candidate → Option Candidate → Option Candidate
+winner None b = b
+winner (Some a) None = Some a
+winner (Some a) (Some b) = if is_before b a then Some b else Some a
+
+-- the first of those at the seats of whom P holds, none where it holds of none
+pub record IsFirst (seats : List (Option Candidate)) (P : Candidate → Type 0)
+    (first : Option Candidate) : Type 0 where
+  pub there : (x : Candidate) → first ≡ Some x → (k : ℕ) × (seat_at seats k ≡ Some x) × P x
+  pub none_before : (k : ℕ) (x : Candidate) → seat_at seats k ≡ Some x → P x
+      → winner first (Some x) ≡ first
+
+-- somebody stands at this seat, and is that one
+pub record IsFirstAt (seats : List (Option Candidate)) (P : Candidate → Type 0)
+    (seat : ℕ) : Type 0 where
+  pub in_range : seat < length seats
+  pub stands : seat_at seats seat ≢ None
+  pub first : IsFirst seats P (seat_at seats seat)
+
+-- ---- a tree that may lag behind who stands at the seats
+
+-- whether the same stands at two seats
+abbrev pub same_seat : Option Candidate → Option Candidate → Bool
+same_seat None None = true
+same_seat (Some a) (Some b) = a.0 == b.0 && a.1 == b.1 && a.2 == b.2
+same_seat _ _ = false
+
+-- whoever stands there does not come before the one that is known, and was not last referenced
+-- before that one
+pub record FollowsOn (known : Candidate) (here : Option Candidate) : Type 0 where
+  pub not_before : (x : Candidate) → here ≡ Some x → IsFalse (is_before x known)
+  pub no_earlier : (x : Candidate) → here ≡ Some x → known.1 ≤ x.1
+
+-- of who is known at a seat and who stands there: where nobody is known, nobody stands
+abbrev pub Lags : Option Candidate → Option Candidate → Type 0
+Lags None here = here ≡ None
+Lags (Some known) here = FollowsOn known here
+
+pub record LagsBehind (known seats : List (Option Candidate)) : Type 0 where
+  pub length_is : length known ≡ length seats
+  pub lags : (k : ℕ) → Lags (seat_at known k) (seat_at seats k)
+
+-- at how many seats another stands than is known
+abbrev pub unsettled : List (Option Candidate) → List (Option Candidate) → ℕ
+unsettled [] seats = 0
+unsettled (known ∷ others) [] = 0
+unsettled (known ∷ others) (here ∷ seats) =
+    (if same_seat known here then 0 else 1) + unsettled others seats
+
+-- ---- a tree of winners: below the node i stand the nodes 2 i and 2 i + 1
+
+-- whom a node knows: who stands at the seats whose numbers it has
+pub record Known : Type 0 where
+  pub first : Option Candidate
+  pub older : Option Candidate
+
+-- nobody stands at a number past the seats
+abbrev pub known_by : List (Option Candidate) → Winners → Known
+known_by seats w = record { first = seat_at seats w.first; older = seat_at seats w.older }
+
+-- nobody stands there, or one who was last referenced before a time
+abbrev pub is_aged : ℕ → Option Candidate → Bool
+is_aged time None = true
+is_aged time (Some e) = nat_lt e.1 time
+
+-- who comes first of those last referenced before a time; one who was not where the node does not
+-- know
+unfoldable pub aged_first : ℕ → Known → Option Candidate
+aged_first time w = if is_aged time w.first then w.first else w.older
+
+-- below two nodes, who comes first of those last referenced before `first`; where a node does not
+-- know, `first` again
+unfoldable pub older_of : Known → Known → Option Candidate → Option Candidate
+older_of a b None = None
+older_of a b (Some e) =
+    if is_aged e.1 (aged_first e.1 a) && is_aged e.1 (aged_first e.1 b)
+    then winner (aged_first e.1 a) (aged_first e.1 b)
+    else Some e
+
+-- the same by numbers
+abbrev pub older_at : List (Option Candidate) → Winners → Winners → ℕ → Option Candidate
+older_at seats a b first = older_of (known_by seats a) (known_by seats b) (seat_at seats first)
+
+-- who is known of the seats below two nodes
+unfoldable pub both : Known → Known → Known
+both a b = record { first = winner a.first b.first; older = older_of a b (winner a.first b.first) }
+
+-- below the nodes stand the seats, each a node that knows itself
+unfoldable pub node : List Winners → ℕ → Winners
+node nodes i =
+    if nat_lt i (length nodes)
+    then slice_index_or nodes i (record { first = 0; older = 0 })
+    else record { first = i - length nodes; older = length nodes }
+
+abbrev pub IsWon : List Winners → List (Option Candidate) → ℕ → Type 0
+IsWon nodes seats i =
+    known_by seats (node nodes i)
+    ≡ both (known_by seats (node nodes (2 * i))) (known_by seats (node nodes (2 * i + 1)))
+
+-- a node has the number of a seat
+abbrev pub Has : Winners → ℕ → Type 0
+Has w seat = (w.first ≡ seat) ⊎ (w.older ≡ seat)
+
+-- each number that a node has is of one of the two others
+abbrev pub IsOfBoth : Winners → Winners → Winners → Type 0
+IsOfBoth a b w = (seat : ℕ) → Has w seat → Has a seat ⊎ Has b seat
+
+abbrev pub IsFromBelow : List Winners → ℕ → Type 0
+IsFromBelow nodes i = IsOfBoth (node nodes (2 * i)) (node nodes (2 * i + 1)) (node nodes i)
+
+-- whoever's number a node has stands at that seat, if it is one of a seat
+abbrev pub IsTaken : List (Option Candidate) → ℕ → Type 0
+IsTaken seats seat = seat < length seats → seat_at seats seat ≢ None
+
+abbrev pub AreTaken : List (Option Candidate) → Winners → Type 0
+AreTaken seats w = (seat : ℕ) → Has w seat → IsTaken seats seat
+
+-- each node knows whom the two nodes below it know to win, by numbers that these have
+pub record IsTournament (nodes : List Winners) (seats : List (Option Candidate)) : Type 0 where
+  pub length_is : length nodes ≡ length seats
+  pub taken : (i : ℕ) → 1 ≤ i → i < length nodes → AreTaken seats (node nodes i)
+  pub from_below : (i : ℕ) → 1 ≤ i → i < length nodes → IsFromBelow nodes i
+  pub won : (i : ℕ) → 1 ≤ i → i < length nodes → IsWon nodes seats i
+
+-- the node that stands so many steps above another
+abbrev pub above : ℕ → ℕ → ℕ
+above zero i = i
+above (suc steps) i = above steps i / 2
+
+abbrev pub IsBelow : ℕ → ℕ → Type 0
+IsBelow i j = (steps : ℕ) × (above steps j ≡ i)
+
+-- the first of those below a node
+pub record IsFirstBelow (seats : List (Option Candidate)) (i : ℕ) (P : Candidate → Type 0)
+    (first : Option Candidate) : Type 0 where
+  pub there : (x : Candidate) → first ≡ Some x
+      → (k : ℕ) × IsBelow i (length seats + k) × (seat_at seats k ≡ Some x) × P x
+  pub none_before : (k : ℕ) (x : Candidate) → IsBelow i (length seats + k)
+      → seat_at seats k ≡ Some x → P x → winner first (Some x) ≡ first

@@ -1,0 +1,13 @@
+//! LRU-K page replacement as a core uses it: reference histories, and candidates at numbered seats.
+#![tactic(auto)]
+
+pub mod histories;
+mod lagging_tree;
+mod queue;
+mod seat_list;
+pub mod seats;
+pub mod settings;
+pub mod tournament;
+
+pub use histories::{BlockNo, Histories};
+pub use settings::Settings;

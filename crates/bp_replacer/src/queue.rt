@@ -1,0 +1,83 @@
+//! Pages that wait, the one of the least time first.
+ghost use Rattle.std.specs.Prelude.{◌≡◌, ◌<◌, ◌≤◌, [], ◌∷◌, All, IfSome, IfNone, OnOk, length};
+ghost use Rattle.std.specs.List.Sorted.{IsPermutation};
+
+use std::alloc::{AllocError, Global};
+use std::cmp::Reverse;
+use std::collections::BinaryHeap;
+use std::marker::Model;
+
+/// Pages with times, of which the one of the least time is taken out first. A page may wait more than once. Putting
+/// one in or taking one out moves no more than one page a level of a binary tree, and only `reserve` takes memory.
+#[derive(Drop)]
+pub(crate) struct Queue {
+    pages: BinaryHeap<Reverse<(u64, u64)>>,
+}
+
+impl Model for Queue {
+    ghost use Rattle.bp_replacer.specs.Queue.{Waiting};
+
+    ghost Value = { Waiting };
+
+    ghost use Rattle.std.specs.Prelude.{map};
+    ghost use Rattle.std.specs.BinaryHeap.{heap_items, heap_len, heap_capacity};
+    ghost use Rattle.bp_replacer.specs.Queue.{IsInOrder};
+
+    ghost view = { λ q. record {
+      pages = map (λ e. e.0) (heap_items q.pages);
+      room = heap_capacity q.pages;
+    } };
+
+    ghost invariant = { λ q. IsInOrder (heap_items q.pages) (heap_len q.pages) };
+}
+
+impl Queue {
+    /// Nobody waits.
+    pub(crate) fn new(alloc: Global) -> Queue
+        ensures { result.pages ≡ [] }
+    {
+        Queue {
+            pages: BinaryHeap::new(alloc),
+        }
+    }
+
+    /// Makes room for so many pages in all.
+    pub(crate) fn reserve(&mut self, room: usize) -> Result<(), AllocError>
+        ensures pages { self.new.pages ≡ self.old.pages }
+        ensures grows { self.old.room ≤ self.new.room }
+        ensures room { OnOk result (room ≤ self.new.room) }
+    {
+        self.pages.reserve(room.saturating_sub(self.pages.len()))
+    }
+
+    /// Lets a page wait, which takes no memory.
+    pub(crate) fn push(&mut self, time: u64, page: u64)
+        requires { length self.old.pages < self.old.room }
+        ensures pages { IsPermutation ((time, page) ∷ self.old.pages) self.new.pages }
+        ensures room { self.old.room ≤ self.new.room }
+    {
+        let Ok(()) = self.pages.push(Reverse((time, page))) else {
+            unreachable!()
+        };
+    }
+
+    /// Takes out the page of the least time, if that is below the bound.
+    pub(crate) fn pop_below(&mut self, bound: u64) -> Option<(u64, u64)>
+        ensures below { IfSome result (λ e. e.0 < bound) }
+        ensures taken { IfSome result (λ e. IsPermutation self.old.pages (e ∷ self.new.pages)) }
+        ensures unchanged { IfNone result (self.new.pages ≡ self.old.pages) }
+        ensures none_below { IfNone result (All (λ e. bound ≤ e.0) self.old.pages) }
+        ensures room { self.new.room ≡ self.old.room }
+    {
+        let Some(first) = self.pages.peek() else {
+            return None;
+        };
+        if first.0.0 >= bound {
+            return None;
+        }
+        let Some(first) = self.pages.pop() else {
+            unreachable!()
+        };
+        Some(first.0)
+    }
+}

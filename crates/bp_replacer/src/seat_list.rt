@@ -1,0 +1,90 @@
+//! Numbered seats, and who stands at each.
+ghost use Rattle.std.specs.Prelude.{◌≡◌, ◌<◌, Some, None, IfOk, length, replicate, set};
+ghost use Rattle.std.specs.Option.{is_some};
+ghost use Rattle.bp_replacer.specs.Seats.{seat_at, IsTaken};
+
+use crate::tournament::Seat;
+use bp_page::PageNo;
+use std::alloc::{AllocError, Global};
+use std::marker::Model;
+
+/// Who stands at each seat. The candidates stand apart from what tells whether a seat is empty, so that one who is
+/// known to stand there is read with no second test: 25 bytes a seat.
+#[derive(Drop)]
+pub struct SeatList {
+    taken: Vec<bool>,
+    entries: Vec<(u64, u64, PageNo)>,
+}
+
+impl Model for SeatList {
+    ghost use Rattle.std.specs.Prelude.{◌≡◌, List, Option, length};
+    ghost use Rattle.bp_references.specs.Candidates.{Candidate};
+    ghost use Rattle.bp_replacer.specs.SeatList.{seated_by};
+
+    ghost Value = { List (Option Candidate) };
+
+    ghost view = { λ s. seated_by s.taken.items s.entries.items };
+
+    ghost invariant = { λ s. length s.taken.items ≡ length s.entries.items };
+}
+
+impl SeatList {
+    /// So many seats, and nobody there.
+    pub fn new(alloc: Global, size: usize) -> Result<SeatList, AllocError>
+        ensures { IfOk result (λ s. s ≡ replicate size None) }
+    {
+        let taken = vec![in alloc; false; size]?;
+        let entries = vec![in alloc; (0, 0, PageNo::new(0)); size]?;
+        Ok(SeatList { taken, entries })
+    }
+
+    /// How many seats there are.
+    pub fn len(&self) -> usize
+        ensures { result ≡ length self.now }
+    {
+        self.entries.len()
+    }
+
+    /// Whether somebody stands at a seat.
+    pub fn is_taken(&self, seat: usize) -> bool
+        requires { seat < length self.now }
+        ensures { result ≡ is_some (seat_at self.now seat) }
+    {
+        self.taken[seat]
+    }
+
+    /// Who stands at a seat that is taken, and nobody past the seats.
+    pub fn at(&self, seat: usize) -> Seat
+        requires { IsTaken self.now seat }
+        ensures { result ≡ seat_at self.now seat }
+    {
+        if seat < self.entries.len() {
+            Some(self.entries[seat])
+        } else {
+            None
+        }
+    }
+
+    /// Who stands at a seat.
+    pub fn find(&self, seat: usize) -> Seat
+        requires { seat < length self.now }
+        ensures { result ≡ seat_at self.now seat }
+    {
+        if self.is_taken(seat) {
+            self.at(seat)
+        } else {
+            None
+        }
+    }
+
+    /// Changes who stands at a seat.
+    pub fn put(&mut self, seat: usize, entry: Seat)
+        requires { seat < length self.old }
+        ensures { self.new ≡ set self.old seat entry }
+    {
+        self.taken[seat] = entry.is_some();
+        if let Some(candidate) = entry {
+            self.entries[seat] = candidate;
+        }
+    }
+}

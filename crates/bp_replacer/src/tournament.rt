@@ -1,0 +1,251 @@
+//! A tree of winners over a number of seats.
+ghost use Rattle.std.specs.Prelude.{◌≡◌, ◌⊎◌, ℕ, ◌*◌, ◌+◌, ◌-◌, ◌/◌, ◌^◌, ◌<◌, ◌≤◌, [], IsTrue, IsFalse, Some, None, IfOk, IfSome, IfNone, IsSome, length, replicate, set, slice_index_or};
+ghost use Rattle.bp_references.specs.Candidates.{Candidate};
+ghost use Rattle.bp_replacer.specs.Seats.{winner, seat_at, is_aged, aged_first, older_of, both, node, known_by, Has, IsOfBoth, IsTaken, AreTaken, IsFirst, IsFirstAt, IsFirstBelow, IsTournament, older_at};
+ghost use Rattle.bp_replacer.specs.Replay.{IsWonUpTo};
+
+use crate::seat_list::SeatList;
+use bp_page::PageNo;
+use std::alloc::{AllocError, Global};
+use std::marker::Model;
+
+/// Who stands at a seat, or nobody.
+pub type Seat = Option<(u64, u64, PageNo)>;
+
+/// Whom a node knows of the seats below it, by the numbers of their seats: who comes first, and who comes first of
+/// those that were last referenced before that one. Where the node does not know the second, it has the first again.
+/// The number of seats stands for nobody.
+#[derive(Clone, Copy)]
+struct Winners {
+    first: usize,
+    older: usize,
+}
+
+/// Seats, and a tree over them that knows at each node who comes first of the seats below it.
+///
+/// `put` goes up from its seat as far as it changes what a node knows, at most to the root: O(log seats). It ends at
+/// the first node that has the numbers it had, none of them that of the seat: nothing above knows who stood there or
+/// stands there now. So it takes one step where the seat, before and after the change, comes after its neighbour and
+/// was not last referenced before that one.
+///
+/// `first_before` asks the root, and then looks below those nodes that do not know. Below each of them stand two who
+/// were not last referenced before the time that is asked for, nor at the same time. So the root knows where nobody was
+/// referenced after that time, and else it looks at O(log seats) nodes for each who was not last referenced before it,
+/// and never at more than two for each seat. The memory is taken once, by `new`: 41 bytes a seat.
+#[derive(Drop)]
+pub struct Tournament {
+    nodes: Vec<Winners>,
+    seats: SeatList,
+}
+
+impl Model for Tournament {
+    ghost use Rattle.std.specs.Prelude.{List, Option};
+    ghost use Rattle.bp_references.specs.Candidates.{Candidate};
+    ghost use Rattle.bp_replacer.specs.Seats.{IsTournament};
+
+    ghost Value = { List (Option Candidate) };
+
+    ghost view = { λ t. t.seats };
+
+    ghost invariant = { λ t. IsTournament t.nodes.items t.seats };
+}
+
+// Of two seats, the one that comes first.
+fn winner(seats: &SeatList, a: usize, b: usize) -> usize
+    requires a { IsTaken seats.now a }
+    requires b { IsTaken seats.now b }
+    ensures either { (result ≡ a) ⊎ (result ≡ b) }
+    ensures first { seat_at seats.now result ≡ winner (seat_at seats.now a) (seat_at seats.now b) }
+{
+    match (seats.at(a), seats.at(b)) {
+        (None, _) => b,
+        (Some(_), None) => a,
+        (Some(x), Some(y)) => if precedes(&y, &x) { b } else { a },
+    }
+}
+
+// Whether nobody stands at a seat, or one who was last referenced before a time.
+fn is_aged(seats: &SeatList, seat: usize, time: u64) -> bool
+    requires { IsTaken seats.now seat }
+    ensures { result ≡ is_aged time (seat_at seats.now seat) }
+{
+    match seats.at(seat) {
+        None => true,
+        Some(entry) => entry.1 < time,
+    }
+}
+
+// Who comes first of those last referenced before a time; one who was not where the node does not know.
+fn aged_first(seats: &SeatList, winners: &Winners, time: u64) -> usize
+    requires { AreTaken seats.now winners.now }
+    ensures had { Has winners.now result }
+    ensures first { seat_at seats.now result ≡ aged_first time (known_by seats.now winners.now) }
+{
+    if is_aged(seats, winners.first, time) {
+        winners.first
+    } else {
+        winners.older
+    }
+}
+
+// Of the seats below two nodes, who comes first of those last referenced before the one that comes first of all.
+fn older_of(seats: &SeatList, a: &Winners, b: &Winners, first: usize) -> usize
+    requires a { AreTaken seats.now a.now }
+    requires b { AreTaken seats.now b.now }
+    requires first { IsTaken seats.now first }
+    ensures had { (Has a.now result ⊎ Has b.now result) ⊎ (result ≡ first) }
+    ensures older { seat_at seats.now result ≡ older_at seats.now a.now b.now first }
+{
+    let Some(entry) = seats.at(first) else {
+        return first;
+    };
+    let x = aged_first(seats, a, entry.1);
+    let y = aged_first(seats, b, entry.1);
+    if is_aged(seats, x, entry.1) && is_aged(seats, y, entry.1) {
+        winner(seats, x, y)
+    } else {
+        first
+    }
+}
+
+// Whom a node above two others knows.
+fn both(seats: &SeatList, a: &Winners, b: &Winners) -> Winners
+    requires a { AreTaken seats.now a.now }
+    requires b { AreTaken seats.now b.now }
+    ensures had { IsOfBoth a.now b.now result }
+    ensures known { let knows = known_by seats.now in
+        knows result ≡ both (knows a.now) (knows b.now) }
+{
+    let first = winner(seats, a.first, b.first);
+    let older = older_of(seats, a, b, first);
+    Winners { first, older }
+}
+
+// The node at a place: the seats stand below the others, and an empty one knows nobody.
+fn node(nodes: &[Winners], seats: &SeatList, at: usize) -> Winners
+    requires as_many { length nodes.now ≡ length seats.now }
+    requires in_range { at < 2 * length nodes.now }
+    requires taken { at < length nodes.now → AreTaken seats.now (node nodes.now at) }
+    ensures taken { AreTaken seats.now result }
+    ensures had { (seat : ℕ) → Has result seat → Has (node nodes.now at) seat }
+    ensures known { known_by seats.now result ≡ known_by seats.now (node nodes.now at) }
+{
+    if at < nodes.len() {
+        return nodes[at];
+    }
+    let nobody = nodes.len();
+    let seat = at - nobody;
+    Winners {
+        first: if seats.is_taken(seat) { seat } else { nobody },
+        older: nobody,
+    }
+}
+
+// The node beside another, below the same one.
+fn beside(at: usize) -> usize
+    requires positive { 1 ≤ at }
+    requires fits { at + 1 < 2 ^ 64 }
+    ensures { at + result ≡ 4 * (at / 2) + 1 }
+{
+    if at % 2 == 0 { at + 1 } else { at - 1 }
+}
+
+// Whether a node has these numbers already, and none of them is the seat's.
+fn is_settled(winners: &Winners, found: &Winners, seat: usize) -> bool
+    ensures same { IsTrue result → winners.now ≡ found.now }
+    ensures apart { IsTrue result → Has found.now seat → ⊥ }
+{
+    let is_same = winners.first == found.first && winners.older == found.older;
+    is_same && found.first != seat && found.older != seat
+}
+
+// Finds out anew whom the nodes above a seat that was changed know, up to the first that is settled.
+fn replay(nodes: &mut [Winners], seats: &SeatList, seat: usize)
+    requires seat { seat < length seats.now }
+    requires changed { IsWonUpTo nodes.old seats.now seat (length seats.now + seat) }
+    ensures won { IsTournament nodes.new seats.now }
+{
+    let mut at = seats.len() + seat;
+    let mut winners = node(nodes, seats, at);
+    while at > 1 {
+        let other = node(nodes, seats, beside(at));
+        at /= 2;
+        winners = both(seats, &winners, &other);
+        if is_settled(&nodes[at], &winners, seat) {
+            return;
+        }
+        nodes[at] = winners;
+    }
+}
+
+// Who comes first of those below a node that were last referenced before a time; it looks below nodes that do not know.
+fn first_below(nodes: &[Winners], seats: &SeatList, at: usize, time: u64) -> usize
+    requires won { IsTournament nodes.now seats.now }
+    requires positive { 1 ≤ at }
+    requires in_range { at < 2 * length seats.now }
+    ensures taken { IsTaken seats.now result }
+    ensures first { IsFirstBelow seats.now at (λ e. e.1 < time) (seat_at seats.now result) }
+{
+    let first = aged_first(seats, &node(nodes, seats, at), time);
+    if is_aged(seats, first, time) {
+        return first;
+    }
+    let left = first_below(nodes, seats, 2 * at, time);
+    let right = first_below(nodes, seats, 2 * at + 1, time);
+    winner(seats, left, right)
+}
+
+impl Tournament {
+    /// So many seats, and nobody on them.
+    pub fn new(alloc: Global, size: usize) -> Result<Tournament, AllocError>
+        ensures { IfOk result (λ t. t ≡ replicate size None) }
+    {
+        let nobody = Winners {
+            first: size,
+            older: size,
+        };
+        let nodes = vec![in alloc; nobody; size]?;
+        let seats = SeatList::new(alloc, size)?;
+        Ok(Tournament { nodes, seats })
+    }
+
+    /// Who stands at a seat.
+    pub fn find(&self, seat: usize) -> Seat
+        requires { seat < length self.now }
+        ensures { result ≡ seat_at self.now seat }
+    {
+        self.seats.find(seat)
+    }
+
+    /// The seat of who comes first of those that were last referenced before a time.
+    pub fn first_before(&self, time: u64) -> Option<usize>
+        ensures found { IfSome result (IsFirstAt self.now (λ e. e.1 < time)) }
+        ensures none { IfNone result (IsFirst self.now (λ e. e.1 < time) None) }
+    {
+        if self.seats.len() == 0 {
+            return None;
+        }
+        let first = first_below(&self.nodes, &self.seats, 1, time);
+        if first < self.seats.len() {
+            Some(first)
+        } else {
+            None
+        }
+    }
+
+    /// Changes who stands at a seat.
+    pub fn put(&mut self, seat: usize, entry: Seat)
+        requires { seat < length self.old }
+        ensures { self.new ≡ set self.old seat entry }
+    {
+        self.seats.put(seat, entry);
+        replay(&mut self.nodes, &self.seats, seat);
+    }
+}
+
+/// Whether one candidate is replaced before another: by K-th stamp, then last time, then page.
+pub fn precedes(a: &(u64, u64, PageNo), b: &(u64, u64, PageNo)) -> bool
+    ensures { result ≡ is_before a.now b.now }
+{
+    a < b
+}
