@@ -4,3 +4,4 @@ pub mod Limits
 pub mod Patched
 pub mod Refusals
 pub mod Slots
+pub mod Explained

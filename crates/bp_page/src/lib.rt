@@ -1,12 +1,14 @@
 //! Pages, log sequence numbers, page images, and why a call is refused.
 #![tactic(auto)]
 
+mod explained;
 pub mod images;
 pub mod limits;
 pub mod numbers;
 pub mod refusals;
 pub mod slots;
 
+pub use explained::explanation_of;
 pub use images::{Bytes, Image};
 pub use limits::Geometry;
 pub use numbers::{Lsn, PageNo};

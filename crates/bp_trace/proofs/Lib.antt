@@ -7,3 +7,6 @@ pub mod RowSteps
 pub mod SixFields
 pub mod Writes
 pub mod Pieces
+pub mod Listing
+pub mod Listed
+pub mod Ranges

@@ -11,3 +11,4 @@ pub mod Totals
 pub mod Report
 pub mod Counts
 pub mod Pieces
+pub mod NumberLists

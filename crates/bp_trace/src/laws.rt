@@ -8,6 +8,8 @@ ghost use Rattle.bp_trail.specs.declared.entries.Entry.{Entry};
 ghost use Rattle.bp_trace.specs.Pieces.{Taken, none_taken, text_of_pieces, joined, MayTake, TakesNoMore};
 ghost use Rattle.bp_trace.specs.Report.{report_text};
 ghost use Rattle.bp_trace.specs.Written.{written_row};
+ghost use Rattle.std.specs.Prelude.{◌<◌};
+ghost use Rattle.bp_trace.specs.NumberLists.{IsRange, doubled, most_listed};
 
 use bp_page::Geometry;
 use bp_trail::Row;
@@ -35,4 +37,13 @@ pub fn pieces_report_as_the_whole()
 pub fn next_piece_may_come_after_a_fault()
     ensures { (old new : Taken) (piece next : List Entry) → TakesNoMore old piece new
         → MayTake old (piece ++ next) → MayTake new next }
+{}
+
+/// A range has both its ends, and each number but the first is the double of the one before, or the last where the
+/// double is above it.
+pub fn ranges_have_their_ends(first: usize, last: usize)
+    requires some { 1 ≤ first }
+    requires order { first ≤ last }
+    requires few { last < 2 ^ 63 }
+    ensures { IsRange first last (doubled most_listed first last) }
 {}

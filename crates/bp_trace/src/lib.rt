@@ -6,6 +6,7 @@ mod fields;
 mod input;
 pub mod laws;
 mod lines;
+mod number_lists;
 pub mod numbers;
 mod printing;
 mod record;
@@ -13,5 +14,6 @@ mod script;
 mod totals;
 
 pub use faults::TraceFault;
+pub use number_lists::{MAX_LISTED, numbers_listed};
 pub use printing::{ReportRun, report, report_rows, report_totals};
 pub use script::read_script;

@@ -1,7 +1,7 @@
 -- The numbers that the lists of a sweep say are within their limits, and there are not too many.
 use Rattle.std.proofs.Common.{◌≡◌, ℕ, List, Option, Some, None}
-use Rattle.bp_numbers.specs.Lists.{numbers_listed}
-use Rattle.bp_numbers.proofs.Listed.{AreListed, listed_are}
+use Rattle.bp_trace.specs.NumberLists.{numbers_listed}
+use Rattle.bp_trace.proofs.Listed.{AreListed, listed_are}
 use Rattle.bp_words.specs.Asked.{IsFrames, IsStamps}
 use Rattle.bp_words.specs.Words.{◌>>=◌}
 

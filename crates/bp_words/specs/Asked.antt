@@ -4,7 +4,7 @@ use Rattle.std.specs.Str.{bytes_eq}
 use Rattle.clap.specs.Walk.{is_empty}
 use Rattle.clap.specs.Words.{Row, Text, first_of, subcommand_of}
 use Rattle.bp_words.specs.Command.{bpool_app}
-use Rattle.bp_numbers.specs.Lists.{most_listed}
+use Rattle.bp_trace.specs.NumberLists.{most_listed}
 use Rattle.bp_words.specs.Words.{Told, TraceAt, IsInLimits, ◌>>=◌, draws_over, explanation_at, fault_in, frames_at, ks_at, number_at, told_by_rows, told_of, trace_of, trace_told}
 use Rattle.bp_words.specs.Words.TraceAt.{at_path}
 use Rattle.bp_words.specs.declared.words.MigrationWords.{MigrationWords}

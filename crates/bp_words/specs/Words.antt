@@ -10,8 +10,8 @@ use Rattle.clap.specs.declared.error.kind.ErrorKind.TheVariants.{InvalidValue}
 use Rattle.bp_replacer.specs.Limits.{IsWithinLimits}
 use Rattle.bp_words.specs.Command.{bpool_app}
 use Rattle.bp_trace.specs.Numbers.{number_in}
-use Rattle.bp_numbers.specs.Explained.{explanation_of}
-use Rattle.bp_numbers.specs.Lists.{numbers_listed}
+use Rattle.bp_page.specs.Explained.{explanation_of}
+use Rattle.bp_trace.specs.NumberLists.{numbers_listed}
 use Rattle.bp_words.specs.declared.words.Order.{Order}
 use Rattle.bp_words.specs.declared.words.Order.TheVariants as order
 use Rattle.bp_words.specs.declared.words.TraceSource.{TraceSource}

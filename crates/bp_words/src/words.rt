@@ -12,7 +12,8 @@ ghost use Rattle.bp_words.specs.Asked.{sweep_by_rows, sweep_of, sweep_with};
 ghost use Rattle.bp_words.specs.Decision.{size_asked};
 
 use crate::command::bpool_command;
-use bp_numbers::{MAX_LISTED, explanation_of, numbers_listed};
+use bp_trace::{MAX_LISTED, numbers_listed};
+use bp_page::explanation_of;
 use bp_page::Format;
 use bp_trace::numbers::parse_number;
 use clap::error::ErrorKind;

@@ -1,6 +1,6 @@
 use Rattle.std.proofs.Common.{refl}
 use Rattle.clap.proofs.OnLiterals.{clap_on_literals}
-use Rattle.bp_numbers.specs.Lists.{doubled}
+use Rattle.bp_trace.specs.NumberLists.{doubled}
 use Rattle.bp_trace.specs.Numbers.{digits_in, number_in}
 use Rattle.bp_words.proofs.laws.words_by_example.Goals as goal
 

@@ -1,9 +1,9 @@
 //! Lists of numbers, as `64,256,1024` and `16..1024`.
 ghost use Rattle.std.specs.Prelude.{◌≡◌, ◌≤◌, ◌<◌, ◌^◌, IfOk, IfSome, length, map, option_map};
-ghost use Rattle.bp_numbers.specs.Lists.{cut, doubled, ends_of, has_repeats, most_listed, number_between};
-ghost use Rattle.bp_numbers.specs.Lists.{numbers_between, numbers_listed, parts_of, range_between, with_commas};
+ghost use Rattle.bp_trace.specs.NumberLists.{cut, doubled, ends_of, has_repeats, most_listed, number_between};
+ghost use Rattle.bp_trace.specs.NumberLists.{numbers_between, numbers_listed, parts_of, range_between, with_commas};
 
-use bp_trace::numbers::parse_number;
+use crate::numbers::parse_number;
 use std::alloc::{AllocError, Global};
 
 /// The most numbers of a list.

@@ -1,8 +1,8 @@
 -- Number after number.
 use Rattle.std.proofs.Common.{◌∙◌, Bor, List, ℕ, [], Some, ap, sym}
 use Rattle.std.proofs.lemmas.List.{append-nil, drop_all}
-use Rattle.bp_numbers.proofs.Listing.{and_then, and_then-none_yet, numbers_of, one_more_at}
-use Rattle.bp_numbers.proofs.lists.numbers_between.Goals as goal
+use Rattle.bp_trace.proofs.Listing.{and_then, and_then-none_yet, numbers_of, one_more_at}
+use Rattle.bp_trace.proofs.number_lists.numbers_between.Goals as goal
 
 abbrev no_part : Bor (List ℕ)
 no_part = record { ref_ptr = (0, 0); now = [] }

@@ -4,8 +4,8 @@ use Rattle.std.proofs.lemmas.Bool.{leb-true, ltb-true}
 use Rattle.std.proofs.lemmas.List.Elements.{All-cons, All-nil}
 use Rattle.std.proofs.lemmas.List.Splits.{length-slice_split}
 use Rattle.bp_trace.specs.Numbers.{number_in}
-use Rattle.bp_numbers.specs.Lists.{before, doubled, ends_of, from_to, has_repeats, most_listed, number_between, numbers_between, numbers_listed, parts_of, range_of, range_or, unrepeated}
-use Rattle.bp_numbers.proofs.Ranges.{count}
+use Rattle.bp_trace.specs.NumberLists.{before, doubled, ends_of, from_to, has_repeats, most_listed, number_between, numbers_between, numbers_listed, parts_of, range_of, range_or, unrepeated}
+use Rattle.bp_trace.proofs.Ranges.{count}
 
 -- what holds of each number, and how many there are
 abbrev AreEach : (ℕ → Type 0) → ℕ → List ℕ → Type 0

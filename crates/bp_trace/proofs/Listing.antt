@@ -1,7 +1,7 @@
 -- Numbers that are read one after the other.
 use Rattle.std.proofs.Common.{◌≡◌, ◌∙◌, ℕ, suc, ◌+◌, ◌<◌, Bor, ap, refl, sym, List, [], ◌∷◌, ◌++◌, length, drop, get_or, map, Option, Some, None, add-one, append_assoc}
 use Rattle.std.proofs.Math.Seq.{drop-cons}
-use Rattle.bp_numbers.specs.Lists.{before, number_between, numbers_between}
+use Rattle.bp_trace.specs.NumberLists.{before, number_between, numbers_between}
 
 -- the numbers so far, and those of the rest
 abbrev pub and_then : List ℕ → Option (List ℕ) → Option (List ℕ)

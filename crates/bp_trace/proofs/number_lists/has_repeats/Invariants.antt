@@ -1,7 +1,7 @@
 -- No number so far stands twice.
 use Rattle.std.proofs.Common.{◌≡◌, length}
-use Rattle.bp_numbers.specs.Lists.{has_repeats}
-use Rattle.bp_numbers.proofs.lists.has_repeats.Given as goal
+use Rattle.bp_trace.specs.NumberLists.{has_repeats}
+use Rattle.bp_trace.proofs.number_lists.has_repeats.Given as goal
 
 abbrev pub invariant-loop-first : goal.invariant-loop-first
 invariant-loop-first l = has_repeats l.fn.numbers ≡ has_repeats l.left

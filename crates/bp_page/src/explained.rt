@@ -1,6 +1,6 @@
 //! What the numbers of refusals say.
 ghost use Rattle.std.specs.Prelude.{◌≡◌, option_map};
-ghost use Rattle.bp_numbers.specs.Explained.{explanation_of};
+ghost use Rattle.bp_page.specs.Explained.{explanation_of};
 
 /// What the refusal with this number says, in one line without its end. `None` where no refusal has the number.
 pub fn explanation_of(number: u64) -> Option<&'static str>

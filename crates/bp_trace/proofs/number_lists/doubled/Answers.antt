@@ -1,8 +1,8 @@
 -- Number after number.
 use Rattle.std.proofs.Common.{ℕ, List, ◌++◌, ap, sym, arith}
-use Rattle.bp_numbers.specs.Lists.{doubled}
-use Rattle.bp_numbers.proofs.Ranges.{last_step, no_step, one_step}
-use Rattle.bp_numbers.proofs.lists.doubled.Goals as goal
+use Rattle.bp_trace.specs.NumberLists.{doubled}
+use Rattle.bp_trace.proofs.Ranges.{last_step, no_step, one_step}
+use Rattle.bp_trace.proofs.number_lists.doubled.Goals as goal
 
 pub loop-init : goal.loop-init
 loop-init c = sym (ap (λ (l : List ℕ). l ++ doubled 64 c.args.first c.args.last) c.new-numbers.ensures.items)

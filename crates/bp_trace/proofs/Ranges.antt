@@ -4,7 +4,7 @@ use Rattle.std.proofs.lemmas.Bool.{le-ltb, lt-ltb, ltb-false, ltb-true}
 use Rattle.std.specs.List.{position_or_len}
 use Rattle.std.proofs.lemmas.List.{append-nil}
 use Rattle.std.proofs.lemmas.Str.Pattern.{IsSplitOnceResult, split_once_first}
-use Rattle.bp_numbers.specs.Lists.{IsRange, cut, doubled, is_dot}
+use Rattle.bp_trace.specs.NumberLists.{IsRange, cut, doubled, is_dot}
 
 -- ---- the two dots
 
