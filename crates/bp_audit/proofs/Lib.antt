@@ -2,3 +2,4 @@
 pub mod Comparing
 pub mod Logged
 pub mod Standing
+pub mod Counting

@@ -2,3 +2,4 @@
 pub mod Clients
 pub mod Log
 pub mod Cut
+pub mod Totals

@@ -9,6 +9,7 @@ ghost use Rattle.bp_trail.specs.Script.{FollowsBy, Follows};
 ghost use Rattle.bp_audit.specs.Clients.{of_client};
 ghost use Rattle.bp_audit.specs.Log.{row_at, is_unfix, IsWithinLog};
 ghost use Rattle.bp_audit.specs.Cut.{InPieceOf, BoundedByItsRow};
+ghost use Rattle.bp_audit.specs.Totals.{both, totals_of};
 
 /// The entries of one client, in a list that is turned round, are those in the list, turned round.
 pub fn one_client_in_either_order()
@@ -33,4 +34,11 @@ pub fn marks_are_bounded_row_by_row()
         (refusals : List ARefused) (cut : Follows m script said refusals) →
         said ≡ of_client 0 trail → IsWithinLog script cut.ends trail → trail ≡ newer ++ e ∷ past →
         e.client ≡ 0 → is_unfix e.call ≡ false → BoundedByItsRow m script said refusals cut past e }
+{}
+
+/// The totals of two lists, one after the other, are those of each together: so the pieces of a trail that was cut have
+/// the totals of the whole.
+pub fn pieces_add_up()
+    ensures { (first later : List AnEntry) → totals_of (first ++ later) ≡ both (totals_of first)
+        (totals_of later) }
 {}

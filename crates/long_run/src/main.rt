@@ -13,7 +13,7 @@ use bp_core::{Entry, Keeper, Pass, PoolCore, RecordingKeeper, SilentKeeper};
 use bp_device::{MemDevice, MemPort, drive_fix};
 use bp_lruk::Settings;
 use bp_page::{Bytes, Geometry, Lsn, PageNo, Refusal};
-use bp_totals::Totals;
+use bp_audit::Totals;
 use std::alloc::Global;
 use std::rt::{Files, Runtime};
 use std::sync::Wait;

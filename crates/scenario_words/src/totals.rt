@@ -1,7 +1,7 @@
 //! What entries count up to, as an answer.
 
 use crate::answers::Answer;
-use bp_totals::Totals;
+use bp_audit::Totals;
 use bp_trail::Entry;
 use std::alloc::Global;
 

@@ -1,6 +1,6 @@
 //! What entries tell of passes and tickets.
 use bp_core::{Call, Entry, Reply};
-use bp_totals::Totals;
+use bp_audit::Totals;
 use test_support::pools::unfixes;
 
 /// Whether all tickets of these entries went back.

@@ -7,7 +7,7 @@ use bp_core::PassNote;
 use bp_device::{FusePort, MemDevice, MemPort, Port};
 use bp_page::{PageNo, Refusal};
 use bp_shared::{PoolName, Session, SharedPool};
-use bp_totals::Totals;
+use bp_audit::Totals;
 use bp_workers::Client;
 use std::process::Abort;
 use std::sync::Wait;

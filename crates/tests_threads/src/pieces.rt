@@ -5,7 +5,7 @@ use bp_audit::agrees;
 use bp_core::{Core, Entry};
 use bp_device::{MemDevice, MemPort};
 use bp_shared::{PoolName, Session, SharedPool, Taker};
-use bp_totals::Totals;
+use bp_audit::Totals;
 use bp_workers::Client;
 use std::alloc::Global;
 use std::marker::Brand;

@@ -10,7 +10,7 @@ use bp_core::{Entry, Reply};
 use bp_device::Flushed;
 use bp_page::Refusal;
 use bp_shared::{PoolName, SharedPool, Taker};
-use bp_totals::Totals;
+use bp_audit::Totals;
 use bp_workers::Client;
 use std::marker::{Brand, Send, Sync};
 use std::process::Abort;

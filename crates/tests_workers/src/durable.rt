@@ -8,7 +8,7 @@ use bp_device::{MemPort, Port};
 use bp_engine::{Leading, Log, Patience, fix_durably};
 use bp_page::{Lsn, PageNo, Refusal};
 use bp_shared::{PoolName, SharedPool};
-use bp_totals::Totals;
+use bp_audit::Totals;
 use bp_workers::{Client, Left, LogWriter, Upkeep, Worker, run_workers};
 use std::alloc::Global;
 use std::process::Abort;

@@ -1,6 +1,6 @@
 //! How many replies of each kind there are.
 ghost use Rattle.std.specs.Prelude.{◌≡◌, ◌↔◌, IfSome, IsSome};
-ghost use Rattle.bp_totals.specs.Totals.{HasRoom, FitTogether, both, counted, no_totals, totals_of};
+ghost use Rattle.bp_audit.specs.Totals.{HasRoom, FitTogether, both, counted, no_totals, totals_of};
 
 use bp_trail::{Entry, Reply};
 

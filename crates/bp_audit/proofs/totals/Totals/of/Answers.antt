@@ -1,8 +1,8 @@
 use Rattle.std.proofs.Common.{◌∙◌, ◌<◌, ◌^◌, length, sym, ap, arith}
 use Rattle.std.proofs.lemmas.List.{take_all}
-use Rattle.bp_totals.specs.Totals.{totals_of}
-use Rattle.bp_totals.proofs.Counting.{totals_of-room, totals_of-take}
-use Rattle.bp_totals.proofs.totals.Totals.of.Goals as goal
+use Rattle.bp_audit.specs.Totals.{totals_of}
+use Rattle.bp_audit.proofs.Counting.{totals_of-room, totals_of-take}
+use Rattle.bp_audit.proofs.totals.Totals.of.Goals as goal
 
 pub loop-entry-init : goal.loop-entry-init
 unfolding totals_of

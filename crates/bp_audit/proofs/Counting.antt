@@ -4,7 +4,7 @@ use Rattle.std.specs.Prelude.{Bool}
 use Rattle.std.proofs.lemmas.List.Sums.{count_by-le-length, sum_by_more, sum_by-cons}
 use Rattle.bp_trail.specs.declared.entries.Entry.{Entry}
 use Rattle.bp_trail.specs.declared.entries.Reply.{Reply}
-use Rattle.bp_totals.specs.Totals.{HasRoom, both, counted, is_eviction, is_failure, is_fault, is_hit, is_refusal, is_write, one, replies, totals_of}
+use Rattle.bp_audit.specs.Totals.{HasRoom, both, counted, is_eviction, is_failure, is_fault, is_hit, is_refusal, is_write, one, replies, totals_of}
 
 module _ (entries : List Entry) (i : ℕ) (e : Entry) (h : i < length entries) (is : e ≡ get_or entries i e) where
   replies-take : (test : Reply → Bool) → replies test (take (i + 1) entries) ≡ replies test (take i entries) + one (test e.reply)

@@ -3,7 +3,7 @@ use Rattle.std.specs.Prelude.{ℕ, ◌+◌, ◌^◌, ◌<◌, Bool, true, false,
 use Rattle.bp_trail.specs.declared.entries.Entry.{Entry}
 use Rattle.bp_trail.specs.declared.entries.Reply.{Reply}
 use Rattle.bp_trail.specs.declared.entries.Reply.TheVariants.{Hit, Load, NoVictim, NeedLog, Busy, Fixed, ReadFailed, WrongPage, Cleaned, StillDirty, WriteFailed}
-use Rattle.bp_totals.specs.declared.totals.Totals.{Totals}
+use Rattle.bp_audit.specs.declared.totals.Totals.{Totals}
 
 abbrev pub is_hit : Reply → Bool
 is_hit (Hit pass) = true
