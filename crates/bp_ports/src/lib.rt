@@ -6,11 +6,15 @@ pub mod files;
 pub mod fuse;
 pub mod gate;
 pub mod memory;
+pub mod migration;
 mod places;
 pub mod port;
+pub mod progress;
 
 pub use files::{FilePort, OpenFault, geometry_of_file};
 pub use fuse::FusePort;
 pub use gate::GatePort;
 pub use memory::{MemDevice, MemPort};
+pub use migration::{MigrateFault, migrate_told, migrate_with};
 pub use port::Port;
+pub use progress::{Progress, Untold};

@@ -3,8 +3,8 @@ use Rattle.bp_page.specs.declared.refusals.Refusal.TheVariants.{OutOfMemory}
 use Rattle.bp_page.specs.declared.refusals.PortFault.TheVariants.{Device, Memory, WrongPage}
 use Rattle.bp_ports.specs.declared.files.OpenFault.{OpenFault}
 use Rattle.bp_ports.specs.declared.files.OpenFault.TheVariants.{Refused, Port}
-use Rattle.bp_migrate.specs.declared.migration.MigrateFault.{MigrateFault}
-use Rattle.bp_migrate.specs.declared.migration.MigrateFault.TheVariants as migrate_fault
+use Rattle.bp_ports.specs.declared.migration.MigrateFault.{MigrateFault}
+use Rattle.bp_ports.specs.declared.migration.MigrateFault.TheVariants as migrate_fault
 use Rattle.bp_words.specs.declared.ending.Ending.{Ending}
 use Rattle.bp_words.specs.declared.ending.Ending.TheVariants as ending
 

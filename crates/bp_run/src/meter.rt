@@ -1,6 +1,6 @@
 //! How far a migration or a sweep has come, on the error output.
 
-use bp_migrate::Progress;
+use bp_ports::Progress;
 use std::io::Write;
 use std::time::{Clock, Duration, Instant};
 

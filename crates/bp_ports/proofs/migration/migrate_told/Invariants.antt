@@ -1,6 +1,6 @@
 use Rattle.std.proofs.Common.{◌≡◌, vec_len}
-use Rattle.bp_migrate.specs.Files.{Copies}
-use Rattle.bp_migrate.proofs.migration.migrate_told.Given as goal
+use Rattle.bp_ports.specs.WholeFiles.{Copies}
+use Rattle.bp_ports.proofs.migration.migrate_told.Given as goal
 
 -- the pages so far
 abbrev pub invariant-loop-page : goal.invariant-loop-page

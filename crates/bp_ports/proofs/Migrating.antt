@@ -3,10 +3,10 @@ use Rattle.std.proofs.Common.{◌≡◌, refl, sym, ap, ◌∙◌, subst, ℕ, s
 use Rattle.std.proofs.KnownBytes.{Appends-nil, Appends-trans, Consumes-nil, Consumes-trans}
 use Rattle.std.proofs.lemmas.List.Elements.{All-append}
 use Rattle.std.specs.Io.KnownBytes.{Consumes, Appends}
-use Rattle.bp_migrate.specs.declared.migration.MigrateFault.{MigrateFault}
-use Rattle.bp_migrate.specs.declared.migration.MigrateFault.TheVariants.{Write}
-use Rattle.bp_migrate.specs.Files.{slots_from, unnumbered, numbered, raw_file, headed_file, MigratesPage, Copies}
-use Rattle.bp_migrate.specs.Faults.{OnWriteFault, ReadsSome}
+use Rattle.bp_ports.specs.declared.migration.MigrateFault.{MigrateFault}
+use Rattle.bp_ports.specs.declared.migration.MigrateFault.TheVariants.{Write}
+use Rattle.bp_ports.specs.WholeFiles.{slots_from, unnumbered, numbered, raw_file, headed_file, MigratesPage, Copies}
+use Rattle.bp_ports.specs.MigrateFaults.{OnWriteFault, ReadsSome}
 
 -- the slot of the page after these is the last one
 slots-more : (slot : ℕ → List ℕ → List ℕ) (page : ℕ) (images : List (List ℕ)) (image : List ℕ)

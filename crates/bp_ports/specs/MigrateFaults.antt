@@ -2,9 +2,9 @@
 use Rattle.std.specs.Prelude.{◌≡◌, ℕ, ◌<◌, ◌≤◌, List, length, All, Option}
 use Rattle.std.specs.Io.KnownBytes.{Consumes}
 use Rattle.bp_page.specs.declared.limits.Geometry.{Geometry}
-use Rattle.bp_migrate.specs.declared.migration.MigrateFault.{MigrateFault}
-use Rattle.bp_migrate.specs.declared.migration.MigrateFault.TheVariants.{Write}
-use Rattle.bp_migrate.specs.Files.{raw_file}
+use Rattle.bp_ports.specs.declared.migration.MigrateFault.{MigrateFault}
+use Rattle.bp_ports.specs.declared.migration.MigrateFault.TheVariants.{Write}
+use Rattle.bp_ports.specs.WholeFiles.{raw_file}
 
 -- where it is the writer that failed, this holds
 abbrev pub OnWriteFault : MigrateFault → Type 0 → Type 0

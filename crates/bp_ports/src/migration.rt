@@ -1,8 +1,8 @@
 //! From the pages of a file of version 1 to a file of version 2.
 ghost use Rattle.std.specs.Prelude.{OnOk, IfErr};
 ghost use Rattle.std.specs.Io.KnownBytes.{Consumes};
-ghost use Rattle.bp_migrate.specs.Files.{Migrates, MigratesPage};
-ghost use Rattle.bp_migrate.specs.Faults.{OnWriteFault, ReadsAFront};
+ghost use Rattle.bp_ports.specs.WholeFiles.{Migrates, MigratesPage};
+ghost use Rattle.bp_ports.specs.MigrateFaults.{OnWriteFault, ReadsAFront};
 
 use crate::progress::{Progress, Untold};
 use bp_page::{Geometry, Image, Lsn, PageNo, slot2};

@@ -1,8 +1,8 @@
 -- One page more.
 use Rattle.std.proofs.Common.{rules, ◌≡◌, subst, length}
-use Rattle.bp_migrate.specs.Files.{MigratesPage}
-use Rattle.bp_migrate.proofs.Steps.{copies-more, fails-after}
-use Rattle.bp_migrate.proofs.migration.migrate_told.Goals as goal
+use Rattle.bp_ports.specs.WholeFiles.{MigratesPage}
+use Rattle.bp_ports.proofs.Migrating.{copies-more, fails-after}
+use Rattle.bp_ports.proofs.migration.migrate_told.Goals as goal
 
 pub loop-page-preserved : goal.loop-page-preserved
 loop-page-preserved g c =

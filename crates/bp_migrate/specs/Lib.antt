@@ -1,3 +1,0 @@
--- What is read and what is written as a page file of version 1 is written anew in version 2, and what stands where that fails.
-pub mod Files
-pub mod Faults
