@@ -9,7 +9,7 @@ pub mod scripts;
 
 pub use bp_core::Flushed;
 pub use bp_ports::{
-    FilePort, FusePort, GatePort, MemDevice, MemPort, OpenFault, Port, geometry_of_file,
+    FilePort, FusePort, GatePort, MemDevice, MemPort, OpenFault, Port, create_page_file, geometry_of_file,
 };
 pub use drivers::{drive_fix, drive_flush};
 pub use held_list::HeldList;

@@ -1,6 +1,6 @@
 //! Page files that are opened, and that are made.
 use bp_device::{FilePort, OpenFault, Port};
-use bp_engine::create_page_file;
+use bp_ports::create_page_file;
 use bp_page::{Format, Geometry, PageNo, PortFault, Refusal};
 use std::fs::File;
 use std::path::PathBuf;

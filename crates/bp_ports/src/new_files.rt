@@ -3,7 +3,8 @@ ghost use Rattle.std.specs.Prelude.{◌≡◌, ◌⊎◌, OnOk, IfOk, IfErr};
 ghost use Rattle.bp_ports.specs.Files.{IsOpenFault};
 ghost use Rattle.bp_ports.specs.Ports.{has_headers};
 
-use bp_ports::{FilePort, OpenFault, Port};
+use crate::files::{FilePort, OpenFault};
+use crate::port::Port;
 use bp_page::{Format, Geometry, Image, Lsn, PageNo, PortFault, Refusal};
 use std::alloc::Global;
 use std::fs;

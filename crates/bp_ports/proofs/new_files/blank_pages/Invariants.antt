@@ -1,6 +1,6 @@
 -- The port is to the same device still, and has counted nothing.
 use Rattle.std.proofs.Common.{◌≡◌}
-use Rattle.bp_engine.proofs.page_files.blank_pages.Given as goal
+use Rattle.bp_ports.proofs.new_files.blank_pages.Given as goal
 
 abbrev pub invariant-loop-page : goal.invariant-loop-page
 invariant-loop-page g l = record {
