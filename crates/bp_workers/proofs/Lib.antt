@@ -1,3 +1,6 @@
 -- Lemmas.
 pub mod GoingBack
 pub mod Lining
+pub mod Raising
+pub mod Trying
+pub mod Working

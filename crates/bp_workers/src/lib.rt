@@ -1,10 +1,12 @@
-//! Workers over one buffer pool: a thread, a session and a port for each.
+//! Workers over one buffer pool: a thread, a session and a port for each; and a fix that waits for the log and for a
+//! victim.
 //!
 //! `run_workers` picks the name on which pool, sessions and mark agree, so that its callers need not. What it answers
 //! is the workers, their lists and the core, whose trail is one legal history. `run_workers_over` does so over a pool
 //! of any kind.
 #![tactic(auto)]
 
+pub mod durable;
 mod giving;
 mod job;
 pub mod kinds;
@@ -12,6 +14,7 @@ mod log_writer;
 pub mod run;
 pub mod worker;
 
+pub use durable::{DurableLog, Leading, Log, Patience, fix_durably};
 pub use giving::give_back;
 pub use kinds::Kind;
 pub use log_writer::LogWriter;

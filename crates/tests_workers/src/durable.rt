@@ -1,11 +1,11 @@
 //! Fixes that wait for the log, or for a victim.
 ghost use Rattle.std.specs.Prelude.{◌≡◌, ◌<◌};
-ghost use Rattle.bp_engine.specs.Logs.{RaisesWithin};
+ghost use Rattle.bp_workers.specs.Logs.{RaisesWithin};
 
 use crate::making::{config, ports};
 use bp_core::{Call, Pass, RecordingKeeper};
 use bp_device::{MemPort, Port};
-use bp_engine::{Leading, Log, Patience, fix_durably};
+use bp_workers::{Leading, Log, Patience, fix_durably};
 use bp_page::{Lsn, PageNo, Refusal};
 use bp_shared::{PoolName, SharedPool};
 use bp_audit::Totals;

@@ -2,15 +2,16 @@
 ghost use Rattle.std.specs.Prelude.{◌≡◌, ◌≢◌, ◌<◌, false, OnOk, IfErr};
 ghost use Rattle.bp_page.specs.declared.refusals.Refusal.TheVariants as Refusal;
 ghost use Rattle.bp_shared.specs.Sessions.{DoesWorkSaid};
-ghost use Rattle.bp_engine.specs.Logs.{RaisesWithin};
-ghost use Rattle.bp_engine.specs.Tries.{GivesUp, GoesOn, Tries};
+ghost use Rattle.bp_workers.specs.Logs.{RaisesWithin};
+ghost use Rattle.bp_workers.specs.Tries.{GivesUp, GoesOn, Tries};
 
 use bp_core::Pass;
 use bp_ports::Port;
 use bp_keeper::ListKeeper;
 use bp_page::{Lsn, PageNo, Refusal};
 use bp_shared::{PoolName, Session, SharedPool};
-use bp_workers::{Client, LogWriter};
+use crate::log_writer::LogWriter;
+use crate::worker::Client;
 use std::sync::Wait;
 use std::thread::Parker;
 use std::time::Duration;
@@ -34,7 +35,7 @@ pub trait Log: Drop {
 pub trait DurableLog<N: PoolName> {
     ghost use Rattle.std.specs.Prelude.{◌≡◌, ◌≤◌, ◌↔◌, ℕ, List, IsTrue};
     ghost use Rattle.std.specs.Borrow.{GName};
-    ghost use Rattle.bp_engine.specs.Logs.{RaisesWithin};
+    ghost use Rattle.bp_workers.specs.Logs.{RaisesWithin};
 
     // The LSN up to which the log is known to be durable.
     ghost durable_to: { Self → ℕ };

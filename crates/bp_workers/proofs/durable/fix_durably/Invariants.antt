@@ -1,9 +1,9 @@
 -- The tries so far.
 use Rattle.std.proofs.Common.{◌≡◌}
 use Rattle.bp_shared.specs.Sessions.{DoesWorkSaid}
-use Rattle.bp_engine.specs.Logs.{RaisesWithin}
-use Rattle.bp_engine.proofs.Trying.{LeadsTo}
-use Rattle.bp_engine.proofs.durable.fix_durably.Given as goal
+use Rattle.bp_workers.specs.Logs.{RaisesWithin}
+use Rattle.bp_workers.proofs.Trying.{LeadsTo}
+use Rattle.bp_workers.proofs.durable.fix_durably.Given as goal
 
 abbrev pub invariant-loop-round : goal.invariant-loop-round
 invariant-loop-round g l =

@@ -1,10 +1,10 @@
 -- Try after try.
 use Rattle.std.proofs.Common.{arith, refl, ◌∙◌}
 use Rattle.bp_shared.proofs.Working.{none-yet}
-use Rattle.bp_engine.proofs.Raising.{raises-none, raises-then}
-use Rattle.bp_engine.proofs.Trying.{leads-none, leads-more, leads-fixed, leads-given_up, leads-end, goes-on-known, gives-up-known}
-use Rattle.bp_engine.proofs.Working.{work-on, goes-on-work, gives-up-work}
-use Rattle.bp_engine.proofs.durable.fix_durably.Goals as goal
+use Rattle.bp_workers.proofs.Raising.{raises-none, raises-then}
+use Rattle.bp_workers.proofs.Trying.{leads-none, leads-more, leads-fixed, leads-given_up, leads-end, goes-on-known, gives-up-known}
+use Rattle.bp_workers.proofs.Working.{work-on, goes-on-work, gives-up-work}
+use Rattle.bp_workers.proofs.durable.fix_durably.Goals as goal
 
 pub loop-round-init : goal.loop-round-init
 loop-round-init g c = record { client = refl; before = refl; free = refl; port = refl; lent = refl; raises = raises-none _ _; leads = leads-none _ _ _ _ _ _; work = none-yet _ _ _ _ }

@@ -9,8 +9,8 @@ use Rattle.bp_trail.specs.Trail.{Trail}
 use Rattle.bp_trail.specs.Pieces.{by}
 use Rattle.bp_core.specs.Work.{Reads, Writes, Works, WorksThrough}
 use Rattle.bp_shared.specs.Sessions.{WithSomeLsn, DoesWorkSaid}
-use Rattle.bp_engine.specs.Tries.{GivesUp, GoesOn}
-use Rattle.bp_engine.proofs.Trying.{gives-up-stays}
+use Rattle.bp_workers.specs.Tries.{GivesUp, GoesOn}
+use Rattle.bp_workers.proofs.Trying.{gives-up-stays}
 
 module _ {A : Type 0} (reads : Reads A) (writes : Writes A) where
   works-append : (past p q : Trail) (port now kept : A) → WorksThrough reads writes past p port now → WorksThrough reads writes (p ++ past) q now kept → WorksThrough reads writes past (q ++ p) port kept

@@ -7,8 +7,8 @@ use Rattle.bp_trail.specs.Trail.{Trail}
 use Rattle.bp_shared.specs.Sessions.{FixSaid}
 use Rattle.bp_shared.proofs.Stepping.{err}
 use Rattle.bp_book.specs.Turns.{TickSaid}
-use Rattle.bp_engine.specs.Tries.{GivesUp, GoesOn, Tries}
-use Rattle.bp_engine.specs.Tries.Tries.{again, at_last, fixed, given_up}
+use Rattle.bp_workers.specs.Tries.{GivesUp, GoesOn, Tries}
+use Rattle.bp_workers.specs.Tries.Tries.{again, at_last, fixed, given_up}
 
 module _ (client steps : ℕ) where
   -- what goes on with the mark raised so far goes on with it raised further

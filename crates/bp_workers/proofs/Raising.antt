@@ -1,6 +1,6 @@
 -- How far a mark is raised, step after step.
 use Rattle.std.proofs.Common.{ℕ, ◌≤◌, max, arith}
-use Rattle.bp_engine.specs.Logs.{RaisesWithin}
+use Rattle.bp_workers.specs.Logs.{RaisesWithin}
 
 pub raises-none : (durable raised : ℕ) → RaisesWithin durable raised durable raised
 raises-none durable raised = record { lasts = omega arith; rises = omega arith; within = omega arith }

@@ -1,3 +1,0 @@
-pub mod Raising
-pub mod Trying
-pub mod Working
