@@ -20,8 +20,8 @@ use Rattle.bp_trace.specs.InRange.{IsInRange}
 use Rattle.bp_core.specs.Work.{Reads, Writes}
 use Rattle.bp_core.specs.Outcomes.{IsFit, IsFitUpTo, NewOutcome}
 use Rattle.bp_clients.specs.Runs.{RunAnswers}
-use Rattle.bp_table.specs.declared.lines.Line.{Line}
-use Rattle.bp_table.specs.Table.{table_text}
+use Rattle.bp_charts.specs.declared.table.Line.{Line}
+use Rattle.bp_charts.specs.Table.{table_text}
 use Rattle.bp_sweep.specs.Dense.{Pages}
 use Rattle.bp_words.specs.Asked.{Asked, Migration, Sweep, asked_by, asked_in}
 use Rattle.bp_words.specs.Asked.Asked.{a_run, a_migration, a_sweep, an_explanation}

@@ -3,13 +3,13 @@ use Rattle.std.specs.Prelude.{◌≡◌, ℕ, zero, suc, nat_eq, if◌then◌els
 use Rattle.std.specs.List.{list_any}
 use Rattle.std.specs.List.Sorted.{IsNonDecreasingBy, IsPermutation}
 use Rattle.clap.specs.Words.{Text}
-use Rattle.bp_chart.specs.declared.cells.Cell.{Cell}
-use Rattle.bp_chart.specs.declared.lines.Line.{Line as Drawn}
-use Rattle.bp_chart.specs.declared.lines.Which.{Which}
-use Rattle.bp_chart.specs.declared.lines.Which.TheVariants.{K, Optimum}
-use Rattle.bp_chart.specs.Cells.{AreLines}
-use Rattle.bp_chart.specs.Chart.{chart_text}
-use Rattle.bp_table.specs.declared.lines.Line.{Line}
+use Rattle.bp_charts.specs.declared.cells.Cell.{Cell}
+use Rattle.bp_charts.specs.declared.curves.Curve.{Curve as Drawn}
+use Rattle.bp_charts.specs.declared.curves.Which.{Which}
+use Rattle.bp_charts.specs.declared.curves.Which.TheVariants.{K, Optimum}
+use Rattle.bp_charts.specs.Cells.{AreLines}
+use Rattle.bp_charts.specs.Chart.{chart_text}
+use Rattle.bp_charts.specs.declared.table.Line.{Line}
 
 -- which line of the picture shows a pool with this K, or the optimum
 abbrev pub which_of : Option ℕ → Which

@@ -3,8 +3,8 @@ use Rattle.std.specs.Prelude.{◌≡◌, ◌⊎◌, ℕ, Bool, List, Option, Som
 use Rattle.std.specs.Io.KnownBytes.{Appends}
 use Rattle.clap.specs.Words.{Text}
 use Rattle.bp_page.specs.declared.refusals.Refusal.TheVariants.{OutOfMemory}
-use Rattle.bp_table.specs.declared.lines.Line.{Line}
-use Rattle.bp_table.specs.Table.{table_text}
+use Rattle.bp_charts.specs.declared.table.Line.{Line}
+use Rattle.bp_charts.specs.Table.{table_text}
 use Rattle.bp_sweep.specs.Column.{ReadsColumn}
 use Rattle.bp_sweep.specs.Dense.{Pages}
 use Rattle.bp_sweep.specs.Lines.{IsList}

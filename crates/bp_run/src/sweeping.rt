@@ -1,7 +1,7 @@
 //! A sweep: references over pools of several sizes and several K, the table of what they come to, and its picture.
 ghost use Rattle.std.specs.Prelude.{◌≡◌, ◌≢◌, false, true, IfErr, IfOk, IfSome, None, OnErr, OnOk};
 ghost use Rattle.std.specs.Io.KnownBytes.{Appends};
-ghost use Rattle.bp_table.specs.Table.{table_text};
+ghost use Rattle.bp_charts.specs.Table.{table_text};
 ghost use Rattle.bp_sweep.specs.Sweeping.{AreCells};
 ghost use Rattle.bp_words.specs.Asked.{IsColumn, SweepsInLimits, sweep_of};
 ghost use Rattle.bp_words.specs.Words.{trace_told};
@@ -18,7 +18,7 @@ use bp_sweep::{
     Progress, ReferenceFault, References, Untold, count_cells, plans_of, read_column,
     read_references,
 };
-use bp_table::{Line, write_table};
+use bp_charts::{Line, write_table};
 use bp_words::{Ending, SweepWords, TraceSource};
 use std::alloc::Global;
 use std::io::{BufReader, Read, Write};

@@ -3,7 +3,7 @@ use Rattle.std.proofs.Common.{◌≡◌, refl, sym, ◌∙◌, ap, subst, ℕ, �
 use Rattle.std.proofs.lemmas.List.{append-nil, take_more, take-append-drop}
 use Rattle.bp_page.specs.declared.limits.Geometry.{Geometry}
 use Rattle.bp_replacer.specs.declared.settings.Settings.{Settings}
-use Rattle.bp_table.specs.declared.lines.Line.{Line}
+use Rattle.bp_charts.specs.declared.table.Line.{Line}
 use Rattle.bp_sweep.specs.declared.cells.Plan.{Plan}
 use Rattle.bp_sweep.specs.declared.cells.Policy.TheVariants.{LruK}
 use Rattle.bp_sweep.specs.declared.cells.CellFault.{CellFault}

@@ -3,9 +3,9 @@ use Rattle.std.specs.Prelude.{◌≡◌, ℕ, ◌+◌, ◌^◌, List, [], ◌∷
 use Rattle.bp_page.specs.declared.refusals.Refusal.{Refusal}
 use Rattle.bp_page.specs.declared.refusals.Refusal.TheVariants.{BadSettings}
 use Rattle.bp_replacer.specs.Limits.{IsWithinLimits}
-use Rattle.bp_optimum.specs.declared.farthest.Optimum.{Optimum as BestCounts}
-use Rattle.bp_optimum.specs.Optimum.{IsOptimum}
-use Rattle.bp_table.specs.declared.lines.Line.{Line}
+use Rattle.bp_charts.specs.declared.farthest.Optimum.{Optimum as BestCounts}
+use Rattle.bp_charts.specs.Optimum.{IsOptimum}
+use Rattle.bp_charts.specs.declared.table.Line.{Line}
 use Rattle.bp_sweep.specs.declared.counts.Counts.{Counts}
 use Rattle.bp_sweep.specs.declared.cells.Plan.{Plan}
 use Rattle.bp_sweep.specs.declared.cells.Policy.{Policy}

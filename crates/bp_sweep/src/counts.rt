@@ -4,7 +4,7 @@ ghost use Rattle.bp_trail.specs.declared.entries.Reply.TheVariants as reply;
 ghost use Rattle.bp_sweep.specs.Counts.{HasRoom, counted, no_counts};
 ghost use Rattle.bp_sweep.specs.Sweeping.{best_counts};
 
-use bp_optimum::Optimum;
+use bp_charts::Optimum;
 use bp_page::PageNo;
 
 /// How many replies of each kind there are, as the totals of a run's report have them.

@@ -1,6 +1,6 @@
 //! A picture of few points, whose places were reckoned by hand.
 use crate::writers::Limited;
-use bp_chart::{Line, Point, Which, write_chart};
+use bp_charts::{Curve, Point, Which, write_chart};
 use std::process::Abort;
 
 /// How a picture begins.
@@ -55,12 +55,12 @@ fn point(frames: usize, hits: u64, fixes: u64) -> Point {
 }
 
 /// A line of these points.
-fn line<const N: usize>(rt: &(impl Abort + AllocGlobal), which: Which, points: [Point; N]) -> Line {
+fn line<const N: usize>(rt: &(impl Abort + AllocGlobal), which: Which, points: [Point; N]) -> Curve {
     let points = Vec::from_array(rt.alloc(), points).expect(rt, "the points");
-    Line { which, points }
+    Curve { which, points }
 }
 
-fn three_lines(rt: &(impl Abort + AllocGlobal)) -> [Line; 3] {
+fn three_lines(rt: &(impl Abort + AllocGlobal)) -> [Curve; 3] {
     let lru = [
         point(64, 2, 8),
         point(128, 4, 8),

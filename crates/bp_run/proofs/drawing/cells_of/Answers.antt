@@ -2,7 +2,7 @@
 use Rattle.std.proofs.Common.{rules, subst}
 use Rattle.std.proofs.lemmas.List.Sorted.{IsNonDecreasingBy-from_sort_by_key}
 use Rattle.std.specs.List.Sorted.{IsPermutation}
-use Rattle.bp_chart.specs.declared.cells.Cell.{Cell}
+use Rattle.bp_charts.specs.declared.cells.Cell.{Cell}
 use Rattle.bp_run.proofs.drawing.cells_of.Goals as goal
 
 pub returns : goal.returns

@@ -3,8 +3,8 @@ use Rattle.std.proofs.Common.{◌≡◌, subst, ℕ, Bool, List, Option, Result,
 use Rattle.std.specs.Prelude.{OnOk}
 use Rattle.std.specs.Io.KnownBytes.{Appends}
 use Rattle.clap.specs.Words.{Text}
-use Rattle.bp_table.specs.declared.lines.Line.{Line}
-use Rattle.bp_table.specs.Table.{table_text}
+use Rattle.bp_charts.specs.declared.table.Line.{Line}
+use Rattle.bp_charts.specs.Table.{table_text}
 use Rattle.bp_sweep.specs.Dense.{Pages}
 use Rattle.bp_sweep.specs.Sweeping.{AreCells}
 use Rattle.bp_words.specs.Asked.{Sweep, sweep_of}

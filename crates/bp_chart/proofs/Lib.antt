@@ -1,6 +1,0 @@
-pub mod Writes
-pub mod Pieces
-mod Halvings
-pub mod Within
-pub mod Grid
-pub mod Shown

@@ -1,5 +1,0 @@
-use Rattle.bp_chart.proofs.Within.{lines-within}
-use Rattle.bp_chart.proofs.laws.points_stand_within_the_axes.Goals as goal
-
-pub returns : goal.returns
-returns c = lines-within c.args.lines.now c.requires

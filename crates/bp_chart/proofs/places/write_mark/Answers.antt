@@ -1,6 +1,0 @@
-use Rattle.bp_chart.specs.Places.{mark_text}
-use Rattle.bp_chart.proofs.places.write_mark.Goals as goal
-
-pub returns : goal.returns
-unfolding mark_text
-returns g c = c.writeln.ensures.bytes

@@ -1,0 +1,10 @@
+pub mod Dues
+pub mod Walk
+pub mod Moves
+pub mod Texts
+pub mod Writes
+pub mod Pieces
+pub mod Halvings
+pub mod Within
+pub mod Grid
+pub mod Shown

@@ -1,0 +1,73 @@
+//! The picture.
+ghost use Rattle.std.specs.Prelude.{◌≡◌, OnOk};
+ghost use Rattle.std.specs.Io.KnownBytes.{Appends};
+ghost use Rattle.bp_charts.specs.Scale.{IsScale};
+ghost use Rattle.bp_charts.specs.Chart.{chart_text, line_text, lines_text};
+
+use crate::axis::{write_tenths, write_ticks};
+use crate::fixed::HEAD;
+use crate::labels::{write_legend, write_style};
+use crate::curves::Curve;
+use crate::places::{write_marks, write_places};
+use crate::scale::{Scale, scale_of};
+use std::io;
+use std::io::Write;
+
+/// Writes a text.
+fn write_text<W: Write>(text: &str, writer: &mut W) -> io::Result<()>
+    ensures { OnOk result (Appends (W.contents writer.old) (W.contents writer.new) text.now) }
+{
+    writer.write_all(text.as_bytes())
+}
+
+/// Writes the line with this number.
+fn write_line<W: Write>(scale: &Scale, number: usize, line: &Curve, writer: &mut W) -> io::Result<()>
+    requires { IsScale scale.now }
+    ensures { OnOk result (Appends (W.contents writer.old) (W.contents writer.new)
+        (line_text scale.now number line.now)) }
+{
+    let points = line.points.as_slice();
+    write_style(line.which, number, writer)?;
+    write_text("<polyline points='", writer)?;
+    write_places(scale, points, writer)?;
+    write_text("'/>\n", writer)?;
+    write_marks(scale, points, writer)?;
+    write_legend(line.which, number, writer)
+}
+
+/// Writes the lines, in order.
+fn write_lines<W: Write>(scale: &Scale, lines: &[Curve], writer: &mut W) -> io::Result<()>
+    requires { IsScale scale.now }
+    ensures { OnOk result (Appends (W.contents writer.old) (W.contents writer.new)
+        (lines_text scale.now 0 lines.now)) }
+{
+    let mut number: usize = 0;
+    for line in lines {
+        write_line(scale, number, line, writer)?;
+        number += 1;
+    }
+    Ok(())
+}
+
+/// Writes a picture of hit ratios over frames: SVG, 940 by 520 pixels. It has a grid, a line and marks for each of the
+/// lines, in a colour and a dash of its own, and a legend. The axis of frames goes from a power of two to a power of
+/// two round all points, and each doubling has the same width; hit ratios go from 0 to 1. With no lines it has the axes
+/// alone.
+///
+/// There is room for 18 lines in the legend, and no limit on points. The hits of a point should be no more than its
+/// fixes: more are drawn as a ratio of 1. A point with no fixes is drawn at a ratio of 0, and one with no frames as one
+/// with one frame.
+///
+/// A fault of the writer is passed on; how much of the picture the writer then holds is not told.
+pub fn write_chart<W: Write>(lines: &[Curve], writer: &mut W) -> io::Result<()>
+    ensures { OnOk result (Appends (W.contents writer.old) (W.contents writer.new)
+        (chart_text lines.now)) }
+{
+    let scale = scale_of(lines);
+    write_text(HEAD, writer)?;
+    write_tenths(writer)?;
+    write_ticks(&scale, writer)?;
+    write_text("<path class='axis' d='M800 400v4000h6400'/>\n", writer)?;
+    write_lines(&scale, lines, writer)?;
+    write_text("</svg>\n", writer)
+}

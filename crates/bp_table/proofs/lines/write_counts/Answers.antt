@@ -1,5 +1,0 @@
-use Rattle.bp_table.proofs.Texts.{counts_line}
-use Rattle.bp_table.proofs.lines.write_counts.Goals as goal
-
-pub returns : goal.returns
-returns g c = rw (counts_line c.args.line.now c.of-ratio.result.ten_thousandths c.of-ratio.ensures) c.write.ensures.bytes

@@ -1,3 +1,0 @@
--- The table of a sweep, as bytes.
-pub mod Ratio
-pub mod Table
