@@ -13,7 +13,8 @@ use Rattle.bp_trail.specs.Script.{Follows}
 use Rattle.bp_core.specs.Work.{Reads, Writes, WorksThrough}
 use Rattle.bp_trace.specs.Script.{IsScriptOfSome, script_of}
 use Rattle.bp_trace.specs.Report.{report_text, rows_text}
-use Rattle.bp_trace.specs.Totals.{totals_of, totals_text}
+use Rattle.bp_trace.specs.Totals.{totals_text}
+use Rattle.bp_audit.specs.Totals.{totals_of}
 use Rattle.bp_clients.specs.Runs.{IsRun}
 use Rattle.clap.specs.Words.{Text}
 use Rattle.bp_words.specs.declared.words.Order.{Order}

@@ -2,7 +2,7 @@
 use Rattle.std.specs.Prelude.{◌+◌, ◌^◌, ◌<◌}
 use Rattle.bp_trail.specs.declared.entries.Reply.{Reply}
 use Rattle.bp_trail.specs.Trail.{Trail}
-use Rattle.bp_trace.specs.Totals.{is_hit, is_fault, is_eviction, is_write, is_failure, is_refusal, replies, one}
+use Rattle.bp_audit.specs.Totals.{is_hit, is_fault, is_eviction, is_write, is_failure, is_refusal, replies, one}
 use Rattle.bp_sweep.specs.declared.counts.Counts.{Counts}
 
 abbrev pub no_counts : Counts

@@ -1,7 +1,6 @@
--- The lines and the totals of a list of entries, one entry after the other.
+-- The lines of a list of entries, one entry after the other.
 use Rattle.std.proofs.Common.{◌≡◌, ◌∙◌, ℕ, suc, ◌+◌, ◌<◌, ◌^◌, cond, List, ◌∷◌, ◌++◌, length, drop, take, get_or, sym, ap, arith, add-one, drop-cons, length-take}
 use Rattle.std.specs.Prelude.{Bool}
-use Rattle.std.proofs.lemmas.List.Sums.{count_by-le-length, sum_by_more}
 use Rattle.bp_trail.specs.declared.entries.Entry.{Entry}
 use Rattle.bp_trail.specs.declared.entries.Call.{Call}
 use Rattle.bp_trail.specs.declared.entries.Call.TheVariants.{Tick, Mark, Fix, ReadEnd, WriteEnd, Read, Write, Unfix, Flush, Purge}
@@ -10,7 +9,6 @@ use Rattle.bp_trail.specs.declared.scripts.Refused.{Refused}
 use Rattle.bp_trail.specs.Trail.{Trail}
 use Rattle.bp_trail.specs.Clock.{clock}
 use Rattle.bp_trace.specs.Lines.{event_line, refused_line}
-use Rattle.bp_trace.specs.Totals.{HasRoom, counted, is_eviction, is_failure, is_fault, is_hit, is_refusal, is_write, one, replies, totals_of}
 use Rattle.bp_trace.specs.Report.{lines_after, rows_text, steps_of}
 
 pub drop-item : {X : Type 0} (xs : List X) (i : ℕ) (x : X) → i < length xs → x ≡ get_or xs i x → drop i xs ≡ x ∷ drop (i + 1) xs
@@ -37,26 +35,3 @@ clock-next past client (Write n p offset bytes lsn) reply = omega arith
 clock-next past client (Unfix n p) reply = omega arith
 clock-next past client (Flush p) reply = omega arith
 clock-next past client Purge reply = omega arith
-
-module _ (entries : List Entry) (i : ℕ) (e : Entry) (h : i < length entries) (is : e ≡ get_or entries i e) where
-  replies-take : (test : Reply → Bool) → replies test (take (i + 1) entries) ≡ replies test (take i entries) + one (test e.reply)
-  replies-take test = sum_by_more (λ x. cond (test x.reply) 1 0) entries i e h ∙ ap (λ (x : Entry). replies test (take i entries) + one (test x.reply)) (sym is)
-
-  pub totals_of-take : totals_of (take (i + 1) entries) ≡ counted e.reply (totals_of (take i entries))
-  unfolding totals_of
-  totals_of-take = cc (replies-take is_hit, replies-take is_fault, replies-take is_eviction, replies-take is_write, replies-take is_failure, replies-take is_refusal)
-
--- there are no more replies than entries
-pub totals_of-room : (entries : List Entry) (i : ℕ) → i < length entries → length entries < 2 ^ 64 → HasRoom (totals_of (take i entries))
-unfolding totals_of
-totals_of-room entries i h few = record {
-  hits = room is_hit;
-  faults = room is_fault;
-  evictions = room is_eviction;
-  writes = room is_write;
-  failed = room is_failure;
-  refused = room is_refusal;
-}
-  where
-    room : (test : Reply → Bool) → replies test (take i entries) + 1 < 2 ^ 64
-    room test = omega (arith, count_by-le-length (λ e. test e.reply) (take i entries), length-take i entries)

@@ -1,13 +1,15 @@
 //! The report of a run.
 ghost use Rattle.std.specs.Prelude.{◌≡◌, [], IfOk, OnOk};
 ghost use Rattle.std.specs.Io.KnownBytes.{Appends};
-ghost use Rattle.bp_trace.specs.Totals.{totals_of, totals_text};
+ghost use Rattle.bp_trace.specs.Totals.{totals_text};
+ghost use Rattle.bp_audit.specs.Totals.{totals_of};
 ghost use Rattle.bp_trace.specs.Report.{lines_after, report_text, rows_text, steps_of};
 
 mod pieces;
 
 use crate::lines::{write_event, write_refused};
-use crate::totals::Totals;
+use crate::totals::write_totals;
+use bp_audit::Totals;
 use bp_trail::{Call, Entry, Refused};
 pub use pieces::ReportRun;
 use std::io;
@@ -31,7 +33,7 @@ fn write_events<W: Write>(entries: &[Entry], writer: &mut W) -> io::Result<Total
 {
     // The time is wide enough for any list of entries, legal or not.
     let mut time: u128 = 1;
-    let mut totals = Totals::new();
+    let mut totals = Totals::none();
     for entry in entries {
         write_event(time, entry, writer)?;
         totals.count(&entry.reply);
@@ -48,18 +50,7 @@ pub fn report<W: Write>(entries: &[Entry], writer: &mut W) -> io::Result<()>
         (report_text entries.now)) }
 {
     let totals = write_events(entries, writer)?;
-    totals.write(writer)
-}
-
-/// Counts the replies.
-fn count_replies(entries: &[Entry]) -> Totals
-    ensures { result ≡ totals_of entries.now }
-{
-    let mut totals = Totals::new();
-    for entry in entries {
-        totals.count(&entry.reply);
-    }
-    totals
+    write_totals(&totals, writer)
 }
 
 /// Writes the six totals of the entries alone.
@@ -69,7 +60,8 @@ pub fn report_totals<W: Write>(entries: &[Entry], writer: &mut W) -> io::Result<
     ensures { OnOk result (Appends (W.contents writer.old) (W.contents writer.new)
         (totals_text (totals_of entries.now))) }
 {
-    count_replies(entries).write(writer)
+    let totals = Totals::of(entries);
+    write_totals(&totals, writer)
 }
 
 /// Writes a line for each refused row, in the order of the list.

@@ -5,7 +5,8 @@ ghost use Rattle.bp_trace.specs.Counts.{AreWithin};
 
 use super::steps_of;
 use crate::lines::write_event;
-use crate::totals::Totals;
+use crate::totals::write_totals;
+use bp_audit::Totals;
 use bp_trail::Entry;
 use std::io;
 use std::io::{ErrorKind, Write};
@@ -41,7 +42,7 @@ impl ReportRun {
         ReportRun {
             time: 1,
             entries: 0,
-            totals: Totals::new(),
+            totals: Totals::none(),
             has_failed: false,
         }
     }
@@ -119,6 +120,6 @@ impl ReportRun {
         if self.has_failed {
             return Err(io::Error::from(ErrorKind::Other));
         }
-        self.totals.write(writer)
+        write_totals(&self.totals, writer)
     }
 }

@@ -1,14 +1,14 @@
 use Rattle.std.proofs.Common.{codes, ◌++◌}
 use Rattle.bp_trace.specs.Totals.{total_line, totals_text}
 use Rattle.bp_trace.proofs.Writes.{appends_next}
-use Rattle.bp_trace.proofs.totals.Totals.write.Goals as goal
+use Rattle.bp_trace.proofs.totals.write_totals.Goals as goal
 
 pub returns : goal.returns
 unfolding totals_text
 returns g c =
     let w = g.W.Write.contents in
     let r = c.write_total-6.result in
-    let t = c.args.self.now in
+    let t = c.args.totals.now in
     let all = w c.write_total-6.new.writer in
     let hits = total_line (codes "hits") t.hits in
     let faults = total_line (codes "faults") t.faults in
