@@ -9,7 +9,7 @@ ghost use Rattle.bp_trail.specs.Script.{held_passes};
 ghost use Rattle.bp_book.specs.Books.{BookValue, SameBook, Tells, plain_call, plain_reply, OwesRead, OwesWrite, owed};
 
 mod asking;
-mod cutting;
+mod list_cutting;
 mod ending;
 mod posting;
 mod telling;

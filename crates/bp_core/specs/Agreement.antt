@@ -4,7 +4,7 @@ use Rattle.std.specs.Prelude.{true, false, List, [], length, All, Option, Some, 
 use Rattle.std.specs.Prelude.{if◌then◌else◌}
 use Rattle.bp_replacer.specs.Histories.{Blocks, HasStampsOf, is_held, place_of}
 use Rattle.bp_references.specs.Candidates.{Entered, entry_of, NoPageTwice}
-use Rattle.bp_core.specs.declared.config.Config.{Config}
+use Rattle.bp_core.specs.declared.config.CoreConfig.{CoreConfig}
 use Rattle.bp_frames.specs.declared.frame.Frame.{Frame}
 use Rattle.bp_core.specs.declared.state.State.{State}
 use Rattle.bp_trail.specs.Parameters.{Parameters}
@@ -22,7 +22,7 @@ use Rattle.bp_trail.specs.Standing.{standing}
 use Rattle.bp_core.specs.CoreView.{CoreView}
 use Rattle.bp_keeper.specs.Kept.{Kept}
 
-abbrev pub parameters_of : Config → Parameters
+abbrev pub parameters_of : CoreConfig → Parameters
 parameters_of c = record {
   frames = c.frames;
   k = c.settings.k;

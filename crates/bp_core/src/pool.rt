@@ -11,7 +11,7 @@ mod tellers;
 mod upkeep;
 mod write_outs;
 
-use crate::config::Config;
+use crate::config::CoreConfig;
 use crate::state::State;
 use bp_keeper::Keeper;
 use bp_replacer::Settings;
@@ -24,7 +24,7 @@ use std::marker::Model;
 #[derive(Drop)]
 pub struct PoolCore<K: Keeper> {
     alloc: Global,
-    config: Config,
+    config: CoreConfig,
     state: State,
     trail: K,
 }
@@ -61,7 +61,7 @@ impl<K: Keeper> PoolCore<K> {
               room = room;
             })) result }
     {
-        let config = Config::new(geometry, settings, frames, clients, room, K::MOST_ROOM)?;
+        let config = CoreConfig::new(geometry, settings, frames, clients, room, K::MOST_ROOM)?;
         let Ok(trail) = K::with_capacity(alloc, room) else {
             return Err(Refusal::OutOfMemory);
         };

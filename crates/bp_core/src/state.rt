@@ -5,7 +5,7 @@ ghost use Rattle.bp_references.specs.Candidates.{entry_of, NoPageTwice, SameLimi
 ghost use Rattle.bp_trail.specs.Lists.{some};
 ghost use Rattle.bp_frames.specs.Frames.{is_frame_of};
 
-use crate::config::Config;
+use crate::config::CoreConfig;
 use crate::passes::{Pass, ReadTicket};
 use bp_frames::{FrameTable, GrantList};
 use bp_replacer::{BlockNo, Histories};
@@ -34,7 +34,7 @@ impl State {
     ghost use Rattle.bp_core.specs.Agreement.{parameters_of, IsFirst, TellBlocks};
 
     /// What no entries come to, with the room for as many reads and frames as it may have.
-    pub(crate) fn new(alloc: Global, config: &Config) -> Result<State, AllocError>
+    pub(crate) fn new(alloc: Global, config: &CoreConfig) -> Result<State, AllocError>
         requires { config.now.frames ≤ 65536 }
         ensures { IfOk result (IsFirst (parameters_of config.now)) }
     {

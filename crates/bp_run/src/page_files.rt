@@ -10,7 +10,7 @@ use crate::open_pages::{OpenFile, OpenMemory, OpenPages};
 use crate::opening::Ports;
 use bp_ports::{FilePort, MemDevice, MemPort, OpenFault, Port};
 use bp_page::{Format, Geometry, Image, Lsn, PageNo, PortFault, Refusal};
-use bp_trace::numbers::parse_number;
+use bp_trace::decimal::parse_number;
 use std::alloc::Global;
 use std::fs::File;
 use std::rt::Files;

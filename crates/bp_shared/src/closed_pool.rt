@@ -1,7 +1,7 @@
 //! A pool that is shared no more.
 use crate::names::PoolName;
 use crate::session::Session;
-use crate::state::State;
+use crate::locked_pool::LockedPool;
 use crate::taker::Taker;
 use bp_book::Book;
 use bp_core::PoolCore;
@@ -14,7 +14,7 @@ use std::marker::Model;
 #[derive(Drop)]
 pub struct ClosedPool<N: PoolName, K: ListKeeper = RecordingKeeper> {
     mark: Mark,
-    state: State<N, K>,
+    state: LockedPool<N, K>,
 }
 
 impl<N: PoolName, K: ListKeeper> Model for ClosedPool<N, K> {
@@ -34,7 +34,7 @@ impl<N: PoolName, K: ListKeeper> ClosedPool<N, K> {
     ghost use Rattle.bp_shared.specs.Telling.{GoesOnFrom, IsToldBy};
 
     /// A pool whose state nobody else has.
-    pub(crate) fn new(mark: Mark, state: State<N, K>) -> ClosedPool<N, K>
+    pub(crate) fn new(mark: Mark, state: LockedPool<N, K>) -> ClosedPool<N, K>
         requires mark { mark ≡ N.mark }
         ensures core { result ≡ state.core }
     {

@@ -12,7 +12,7 @@ mod locking;
 pub mod names;
 pub mod pool;
 mod session;
-mod state;
+mod locked_pool;
 mod taker;
 mod trail_ring;
 

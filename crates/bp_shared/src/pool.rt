@@ -9,7 +9,7 @@ use crate::closed_pool::ClosedPool;
 use crate::locking::locked;
 use crate::names::PoolName;
 use crate::session::Session;
-use crate::state::State;
+use crate::locked_pool::LockedPool;
 use crate::taker::Taker;
 use crate::trail_ring::TrailRing;
 use bp_board::Board;
@@ -24,7 +24,7 @@ use std::alloc::Global;
 use std::marker::Model;
 use std::sync::{Condvar, Mutex, Wait};
 
-mod cutting;
+mod pieces;
 mod fixing;
 mod flushing;
 mod single;
@@ -89,7 +89,7 @@ fn new_clients<N: PoolName, K: ListKeeper>(
 pub struct SharedPool<N: PoolName, K: ListKeeper = RecordingKeeper> {
     alloc: Global,
     mark: Mark,
-    state: Mutex<State<N, K>>,
+    state: Mutex<LockedPool<N, K>>,
     /// Where sessions wait for the end of device work.
     ended: Condvar,
     /// Whose rings have passes that no section asked for.
@@ -149,7 +149,7 @@ impl<N: PoolName, K: ListKeeper> SharedPool<N, K> {
         };
         let room = core.room();
         let posted = Posted::nothing(core.clients());
-        let state = State::new(core, reader, consumers, pieces, board);
+        let state = LockedPool::new(core, reader, consumers, pieces, board);
         let pool = SharedPool {
             alloc,
             mark,

@@ -1,5 +1,5 @@
 //! One client's end of a pool.
-mod cutting;
+mod list_pieces;
 
 use crate::names::PoolName;
 use bp_board::{Line, Shows};

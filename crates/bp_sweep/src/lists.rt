@@ -7,7 +7,7 @@ ghost use Rattle.bp_sweep.specs.References.{IsOutside};
 use crate::dense::{Gathered, MAX_REFERENCES, References};
 use crate::faults::ReferenceFault;
 use bp_page::Refusal;
-use bp_trace::numbers::parse_number;
+use bp_trace::decimal::parse_number;
 use std::alloc::Global;
 use std::io::{BufRead, ErrorKind};
 

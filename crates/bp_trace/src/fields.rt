@@ -3,7 +3,7 @@ ghost use Rattle.std.specs.Prelude.{◌≡◌, option_map};
 ghost use Rattle.csv.specs.Records.{fields_of};
 ghost use Rattle.bp_trace.specs.Fields.{Gives, bytes_wanted, client_in, number_wanted, page_in, six_of, texts_of};
 
-use crate::numbers::parse_number;
+use crate::decimal::parse_number;
 use bp_page::{Bytes, Geometry, PageNo, Refusal};
 use csv::ByteRecord;
 use hex::FromHexError;

@@ -7,11 +7,11 @@ mod input;
 pub mod laws;
 mod lines;
 mod number_lists;
-pub mod numbers;
+pub mod decimal;
 mod printing;
 mod record;
 mod script;
-mod totals;
+mod total_lines;
 
 pub use faults::TraceFault;
 pub use number_lists::{MAX_LISTED, numbers_listed};

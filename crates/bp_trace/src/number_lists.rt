@@ -3,7 +3,7 @@ ghost use Rattle.std.specs.Prelude.{◌≡◌, ◌≤◌, ◌<◌, ◌^◌, IfOk
 ghost use Rattle.bp_trace.specs.NumberLists.{cut, doubled, ends_of, has_repeats, most_listed, number_between};
 ghost use Rattle.bp_trace.specs.NumberLists.{numbers_between, numbers_listed, parts_of, range_between, with_commas};
 
-use crate::numbers::parse_number;
+use crate::decimal::parse_number;
 use std::alloc::{AllocError, Global};
 
 /// The most numbers of a list.

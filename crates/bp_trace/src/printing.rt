@@ -8,7 +8,7 @@ ghost use Rattle.bp_trace.specs.Report.{lines_after, report_text, rows_text, ste
 mod pieces;
 
 use crate::lines::{write_event, write_refused};
-use crate::totals::write_totals;
+use crate::total_lines::write_totals;
 use bp_audit::Totals;
 use bp_trail::{Call, Entry, Refused};
 pub use pieces::ReportRun;

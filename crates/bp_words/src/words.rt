@@ -15,7 +15,7 @@ use crate::command::bpool_command;
 use bp_trace::{MAX_LISTED, numbers_listed};
 use bp_page::explanation_of;
 use bp_page::Format;
-use bp_trace::numbers::parse_number;
+use bp_trace::decimal::parse_number;
 use clap::error::ErrorKind;
 use clap::{ArgMatches, Error};
 use std::alloc::{AllocError, Global};

@@ -11,14 +11,14 @@ use Rattle.bp_core.specs.CoreView.{CoreView}
 use Rattle.bp_core.specs.Outcomes.{IsFitUpTo}
 use Rattle.bp_shared.specs.Sessions.{SessionValue, new_session}
 use Rattle.bp_shared.specs.Telling.{told}
-use Rattle.bp_workers.specs.declared.run.Config.{Config}
+use Rattle.bp_workers.specs.declared.run.PoolConfig.{PoolConfig}
 use Rattle.bp_workers.specs.declared.worker.Left.{Left}
 use Rattle.bp_workers.specs.Giving.{GoBack}
 use Rattle.bp_workers.specs.Workers.{UpkeepValue, new_upkeep, Leaving}
 use Rattle.bp_workers.specs.Jobs.{IsOfPool, JobValue}
 
 -- what the core of a run is made with
-abbrev pub run_parameters : Config → ℕ → Parameters
+abbrev pub run_parameters : PoolConfig → ℕ → Parameters
 run_parameters config clients = record {
   frames = config.frames;
   k = config.settings.k;
@@ -31,19 +31,19 @@ run_parameters config clients = record {
 }
 
 -- there are 1 to 64 workers, and as many ports, on devices of the geometry
-pub record FitTogether {P : Type 0} (geometry_of : P → Geometry) (config : Config) (ports : List P) (workers : ℕ) : Type 0 where
+pub record FitTogether {P : Type 0} (geometry_of : P → Geometry) (config : PoolConfig) (ports : List P) (workers : ℕ) : Type 0 where
   pub some : 1 ≤ workers
   pub few : workers ≤ 64
   pub ports_are : length ports ≡ workers
   pub of_file : All (λ p. geometry_of p ≡ config.geometry) ports
 
 -- and a core can be made for them, whose keeper has room for so many entries at most
-pub record CanRunUpTo {P : Type 0} (most_room : ℕ) (geometry_of : P → Geometry) (config : Config) (ports : List P) (workers : ℕ) : Type 0 where
+pub record CanRunUpTo {P : Type 0} (most_room : ℕ) (geometry_of : P → Geometry) (config : PoolConfig) (ports : List P) (workers : ℕ) : Type 0 where
   pub fit : FitTogether geometry_of config ports workers
   pub core : IsFitUpTo most_room (run_parameters config workers)
 
 -- and one whose keeper has the entries in memory
-abbrev pub CanRun : {P : Type 0} → (P → Geometry) → Config → List P → ℕ → Type 0
+abbrev pub CanRun : {P : Type 0} → (P → Geometry) → PoolConfig → List P → ℕ → Type 0
 CanRun geometry_of config ports workers = CanRunUpTo 16777216 geometry_of config ports workers
 
 -- why a run is refused

@@ -18,5 +18,5 @@ pub use durable::{DurableLog, Leading, Log, Patience, fix_durably};
 pub use giving::give_back;
 pub use kinds::Kind;
 pub use log_writer::LogWriter;
-pub use run::{Config, Run, run_workers, run_workers_over};
+pub use run::{PoolConfig, Run, run_workers, run_workers_over};
 pub use worker::{Client, Left, Upkeep, Worker};

@@ -28,7 +28,7 @@ use std::thread::Threads;
 
 /// What a pool of workers is made with.
 #[derive(Clone, Copy)]
-pub struct Config {
+pub struct PoolConfig {
     pub geometry: Geometry,
     pub settings: Settings,
     pub frames: usize,
@@ -249,7 +249,7 @@ fn are_of<P: Port>(ports: &[P], geometry: &Geometry) -> bool
 }
 
 /// Whether there is a port of the configuration's geometry for each of so many workers, which are 1 to 64.
-fn fit_together<P: Port>(config: &Config, ports: &[P], workers: usize) -> bool
+fn fit_together<P: Port>(config: &PoolConfig, ports: &[P], workers: usize) -> bool
     ensures { IsTrue result ↔ FitTogether P.geometry_of config.now ports.now workers }
 {
     if workers < 1 || workers > 64 || ports.len() != workers {
@@ -273,7 +273,7 @@ fn fit_together<P: Port>(config: &Config, ports: &[P], workers: usize) -> bool
 pub fn run_workers_over<K: Kind, P: Port + Send, W: Worker<P, K> + Send, R: Threads + Wait + Sync>(
     rt: &R,
     alloc: Global,
-    config: Config,
+    config: PoolConfig,
     ports: Vec<P>,
     workers: Vec<W>,
 ) -> Result<Run<P, W, K>, Refusal>
@@ -318,7 +318,7 @@ pub fn run_workers_over<K: Kind, P: Port + Send, W: Worker<P, K> + Send, R: Thre
 pub fn run_workers<P: Port + Send, W: Worker<P, RecordingKeeper> + Send, R: Threads + Wait + Sync>(
     rt: &R,
     alloc: Global,
-    config: Config,
+    config: PoolConfig,
     ports: Vec<P>,
     workers: Vec<W>,
 ) -> Result<Run<P, W>, Refusal>

@@ -1,6 +1,0 @@
--- The trail goes on from what it was when the pool was made.
-use Rattle.std.proofs.Common.{rules}
-use Rattle.bp_shared.proofs.state.State.into_parts.Goals as goal
-
-pub returns-clause-goes_on : goal.returns-clause-goes_on
-returns-clause-goes_on g c = (c.self.invariant.2.since, c.self.invariant.2.goes_on)

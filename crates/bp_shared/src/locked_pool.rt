@@ -1,0 +1,154 @@
+//! What lies under the lock: the core, its reader of the mark, and the ends of the rings at which passes come out.
+use crate::names::PoolName;
+use crate::session::{Session, Told};
+use crate::taker::Taker;
+use crate::trail_ring::meet;
+use bp_board::Board;
+use bp_book::Book;
+use bp_book::draining::{ALL, drain_all};
+use bp_core::{Entry, PassNote, PoolCore};
+use bp_keeper::ListKeeper;
+use bp_mark::Reader;
+use rtrb::{Consumer, Producer};
+use std::marker::{Model, PhantomData};
+
+mod cut_section;
+mod turns;
+
+/// What lies under the lock. Its trail is legal, by the core's own type; the reader is the mark's, and has seen every LSN that the
+/// core was told.
+#[derive(Drop)]
+pub(crate) struct LockedPool<N: PoolName, K: ListKeeper> {
+    core: PoolCore<K>,
+    reader: Reader,
+    /// The ring of each client.
+    consumers: Vec<Consumer<PassNote>>,
+    /// How often device work ended.
+    ends: u64,
+    /// The passes taken from rings that the core did not know.
+    strays: u64,
+    /// Where the trail is handed out.
+    pieces: Producer<Vec<Entry>>,
+    /// What each session's list told.
+    board: Board,
+    of: PhantomData<N>,
+}
+
+impl<N: PoolName, K: ListKeeper> Model for LockedPool<N, K> {
+    ghost use Rattle.std.specs.Prelude.{map};
+    ghost use Rattle.bp_shared.specs.Locked.{LockedValue, IsLocked};
+    ghost use Rattle.bp_book.specs.Rings.{ring_view};
+    ghost use Rattle.bp_shared.specs.Taking.{IsHandedOut};
+    ghost use Rattle.bp_shared.specs.Telling.{IsShown};
+
+    ghost Value = { LockedValue };
+
+    ghost view = { λ s. record {
+      core = s.core;
+      seen = s.reader.seen;
+      ends = s.ends;
+      rings = map ring_view s.consumers.items;
+      strays = s.strays;
+    } };
+
+    ghost invariant = { λ s. IsLocked N.mark N.parameters s.core s.reader
+        × IsHandedOut N.ring.trail N.before s.pieces s.core
+        × IsShown N.ring.board N.past s.board s.core.past };
+}
+
+impl<N: PoolName, K: ListKeeper> LockedPool<N, K> {
+    ghost use Rattle.std.specs.Prelude.{◌≡◌, ◌≤◌, [], map};
+    ghost use Rattle.rtrb.specs.Ring.{sent};
+    ghost use Rattle.bp_trail.specs.Clock.{durable};
+    ghost use Rattle.bp_book.specs.Rings.{ring_view};
+    ghost use Rattle.bp_shared.specs.Locked.{Settled};
+    ghost use Rattle.bp_shared.specs.Taking.{ring_of, IsEmptied};
+    ghost use Rattle.bp_shared.specs.Telling.{GoesOnFrom, IsShown, IsToldBy};
+
+    /// A core whose rings gave nothing yet.
+    pub(crate) fn new(
+        core: PoolCore<K>,
+        reader: Reader,
+        consumers: Vec<Consumer<PassNote>>,
+        pieces: Producer<Vec<Entry>>,
+        board: Board,
+    ) -> LockedPool<N, K>
+        requires reader { reader.mark ≡ N.mark }
+        requires parameters { core.parameters ≡ N.parameters }
+        requires before { core.before ≡ N.before }
+        requires ring { ring_of pieces ≡ N.ring.trail }
+        requires unused { IsEmptied pieces × (sent pieces ≡ []) }
+        requires seen { durable core.past ≤ reader.seen }
+        requires shown { IsShown N.ring.board N.past board core.past }
+        ensures core { result.core ≡ core }
+        ensures rings { result.rings ≡ map ring_view consumers.items }
+        ensures strays { result.strays ≡ 0 }
+    {
+        LockedPool {
+            core,
+            reader,
+            consumers,
+            ends: 0,
+            strays: 0,
+            pieces,
+            board,
+            of: PhantomData,
+        }
+    }
+
+    /// How often device work ended, modulo 2^64.
+    pub(crate) fn ends(&self) -> u64
+        ensures { result ≡ self.now.ends }
+    {
+        self.ends
+    }
+
+    /// Drains each ring, the first client's first, at most 32 passes each.
+    pub(crate) fn settle(&mut self)
+        ensures { Settled self.old self.new }
+    {
+        drain_all(&mut self.core, &mut self.strays, &mut self.consumers, ALL);
+    }
+
+    /// Ends a session and gives its book. What its list told is what the trail tells of its client.
+    pub(crate) fn end_session(&mut self, session: Session<N, K>) -> Book<K>
+        ensures same { self.new ≡ self.old }
+        ensures client { result.client ≡ session.client }
+        ensures before { result.before ≡ session.before }
+        ensures said { result.said ≡ session.said }
+        ensures theirs { IsToldBy N.past self.old.core.past session.client session.said }
+    {
+        let Session {
+            book,
+            producer: _,
+            mut line,
+            of: _,
+        } = session;
+        self.board.write::<Book<K>, Told>(&mut line, &book);
+        book
+    }
+
+    /// The core and its reader. The taker has all that the core handed out.
+    pub(crate) fn into_parts(self, taker: Taker<N>) -> (PoolCore<K>, Reader)
+        ensures before { result.0.before ≡ taker.past }
+        ensures reader { result.1.mark ≡ N.mark }
+        ensures parameters { result.0.parameters ≡ N.parameters }
+        ensures seen { durable result.0.past ≤ result.1.seen }
+        ensures core { result.0 ≡ self.core }
+        ensures goes_on { GoesOnFrom N.past result.0.past }
+    {
+        let LockedPool {
+            core,
+            reader,
+            consumers: _,
+            ends: _,
+            strays: _,
+            mut pieces,
+            board: _,
+            of: _,
+        } = self;
+        let Taker { mut taken, of: _ } = taker;
+        meet(&mut pieces, &mut taken);
+        (core, reader)
+    }
+}

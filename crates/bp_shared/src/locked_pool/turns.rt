@@ -1,0 +1,259 @@
+//! The critical sections of a session. Each drains the rings that it is to ask, bit c for that of client c, and then
+//! makes one event, which the session's list gets too; a fix and a flush first look at the mark once. What the list then
+//! tells goes to the session's line of the board. None takes memory for the list: what an event wants there is taken
+//! before the lock.
+ghost use Rattle.std.specs.Prelude.{◌≡◌, ◌+◌, ◌<◌, ◌≤◌, length, IfOk};
+ghost use Rattle.bp_book.specs.Books.{SameOwner, OwesRead, OwesWrite};
+ghost use Rattle.bp_book.specs.Turns.{FixTurn, FlushTurn, EndReadOutcome, EndWriteOutcome};
+ghost use Rattle.bp_book.specs.Turns.{TickSaid, PurgeSaid, ReadSaid, WriteSaid};
+ghost use Rattle.bp_book.specs.Causes.{EndsRead, EndsWrite};
+ghost use Rattle.bp_core.specs.Outcomes.{TickOutcome, PurgeOutcome, ReadOutcome, WriteOutcome};
+ghost use Rattle.bp_shared.specs.Locked.{InStep, FixStep, FlushStep, ends_after};
+ghost use Rattle.bp_shared.specs.Telling.{IsLineOf};
+
+use super::LockedPool;
+use crate::names::PoolName;
+use crate::session::{Session, Told};
+use bp_board::Line;
+use bp_book::{Book, Fix, Flush, PendingRead, PendingWrite, drain_all};
+use bp_core::{Ended, Pass};
+use bp_keeper::ListKeeper;
+use bp_mark::Mark;
+use bp_page::{Bytes, Image, Lsn, PageNo, PortFault, Refusal};
+
+/// How often device work ended, after an end that may have been that of an unknown ticket.
+fn counted<T>(ends: u64, ended: &Result<T, Refusal>) -> u64
+    ensures { result ≡ ends_after ended.now ends }
+{
+    match ended {
+        Err(Refusal::UnknownTicket) => ends,
+        _ => ends.wrapping_add(1),
+    }
+}
+
+impl<N: PoolName, K: ListKeeper> LockedPool<N, K> {
+    /// Asks for a page, after one look at the mark.
+    pub(crate) fn fix(
+        &mut self,
+        mark: &Mark,
+        book: &mut Book<K>,
+        line: &mut Line,
+        page: PageNo,
+        asked: u64,
+    ) -> Result<Fix, Refusal>
+        requires mark { mark.now ≡ N.mark }
+        requires page_in { page < N.parameters.pages }
+        requires client_in { book.old.client < N.parameters.clients }
+        requires size { book.old.size ≡ N.parameters.size }
+        requires entries { 4 ≤ book.old.entries }
+        requires passes { 1 ≤ book.old.passes }
+        requires copies { 2 ≤ book.old.copies }
+        requires line { IsLineOf N.ring.board line.old book.old.client book.old.said }
+        ensures owner { SameOwner book.old book.new }
+        ensures line { IsLineOf N.ring.board line.new book.new.client book.new.said }
+        ensures ends { self.new.ends ≡ self.old.ends }
+        ensures turn { FixTurn book.old.client page result book.old.said book.new.said }
+        ensures in_step { InStep (FixStep book.old.client page self.new.seen result)
+            self.old book.old.said self.new book.new.said }
+    {
+        drain_all(&mut self.core, &mut self.strays, &mut self.consumers, asked);
+        match book.look(&mut self.core, &mut self.reader, mark) {
+            Ok(()) => {}
+            Err(refusal) => return Err(refusal),
+        }
+        let answer = book.ask_fix(&mut self.core, page);
+        self.board.write::<Book<K>, Told>(line, book);
+        answer
+    }
+
+    /// Asks that a page be written out, after one look at the mark.
+    pub(crate) fn flush(
+        &mut self,
+        mark: &Mark,
+        book: &mut Book<K>,
+        line: &mut Line,
+        page: PageNo,
+        asked: u64,
+    ) -> Result<Flush, Refusal>
+        requires mark { mark.now ≡ N.mark }
+        requires page_in { page < N.parameters.pages }
+        requires client_in { book.old.client < N.parameters.clients }
+        requires size { book.old.size ≡ N.parameters.size }
+        requires entries { 4 ≤ book.old.entries }
+        requires passes { 1 ≤ book.old.passes }
+        requires copies { 2 ≤ book.old.copies }
+        requires line { IsLineOf N.ring.board line.old book.old.client book.old.said }
+        ensures owner { SameOwner book.old book.new }
+        ensures line { IsLineOf N.ring.board line.new book.new.client book.new.said }
+        ensures ends { self.new.ends ≡ self.old.ends }
+        ensures turn { FlushTurn book.old.client page result book.old.said book.new.said }
+        ensures in_step { InStep (FlushStep book.old.client page self.new.seen result)
+            self.old book.old.said self.new book.new.said }
+    {
+        drain_all(&mut self.core, &mut self.strays, &mut self.consumers, asked);
+        match book.look(&mut self.core, &mut self.reader, mark) {
+            Ok(()) => {}
+            Err(refusal) => return Err(refusal),
+        }
+        let answer = book.ask_flush(&mut self.core, page);
+        self.board.write::<Book<K>, Told>(line, book);
+        answer
+    }
+
+    /// Ends a read. It takes no memory.
+    pub(crate) fn end_read(
+        &mut self,
+        session: &mut Session<N, K>,
+        ticket: PendingRead,
+        read: Result<Image, PortFault>,
+        asked: u64,
+    ) -> Result<Pass, Refusal>
+        requires owes { OwesRead session.old.client ticket session.old.said }
+        requires size { IfOk read (λ image. length image ≡ N.parameters.size) }
+        ensures client { session.new.client ≡ session.old.client }
+        ensures before { session.new.before ≡ session.old.before }
+        ensures free { session.new.free ≡ session.old.free }
+        ensures outcome { EndReadOutcome ticket read result session.old.said session.new.said }
+        ensures ends { self.new.ends ≡ ends_after result self.old.ends }
+        ensures in_step { InStep (λ core after. EndsRead core ticket read result after)
+            self.old session.old.said self.new session.new.said }
+    {
+        drain_all(&mut self.core, &mut self.strays, &mut self.consumers, asked);
+        let ended = session.book.end_read(&mut self.core, ticket, read);
+        self.ends = counted(self.ends, &ended);
+        self.board
+            .write::<Book<K>, Told>(&mut session.line, &session.book);
+        ended
+    }
+
+    /// Ends a write-out. It takes no memory.
+    pub(crate) fn end_write(
+        &mut self,
+        session: &mut Session<N, K>,
+        ticket: PendingWrite,
+        written: Result<(), PortFault>,
+        asked: u64,
+    ) -> Result<Ended, Refusal>
+        requires owes { OwesWrite session.old.client ticket session.old.said }
+        ensures client { session.new.client ≡ session.old.client }
+        ensures before { session.new.before ≡ session.old.before }
+        ensures free { session.new.free ≡ session.old.free }
+        ensures outcome { EndWriteOutcome ticket written result session.old.said session.new.said }
+        ensures ends { self.new.ends ≡ ends_after result self.old.ends }
+        ensures in_step { InStep (λ core after. EndsWrite core ticket written result after)
+            self.old session.old.said self.new session.new.said }
+    {
+        drain_all(&mut self.core, &mut self.strays, &mut self.consumers, asked);
+        let ended = session.book.end_write_out(&mut self.core, ticket, written);
+        self.ends = counted(self.ends, &ended);
+        self.board
+            .write::<Book<K>, Told>(&mut session.line, &session.book);
+        ended
+    }
+
+    /// Moves the clock.
+    pub(crate) fn tick(
+        &mut self,
+        book: &mut Book<K>,
+        line: &mut Line,
+        n: u64,
+        asked: u64,
+    ) -> Result<(), Refusal>
+        requires client_in { book.old.client < N.parameters.clients }
+        requires room { 0 < book.old.entries }
+        requires line { IsLineOf N.ring.board line.old book.old.client book.old.said }
+        ensures owner { SameOwner book.old book.new }
+        ensures line { IsLineOf N.ring.board line.new book.new.client book.new.said }
+        ensures ends { self.new.ends ≡ self.old.ends }
+        ensures outcome { TickSaid book.old.client n result book.old.said book.new.said }
+        ensures in_step { InStep (λ core after. TickOutcome core book.old.client n result after)
+            self.old book.old.said self.new book.new.said }
+    {
+        drain_all(&mut self.core, &mut self.strays, &mut self.consumers, asked);
+        let answer = book.ask_tick(&mut self.core, n);
+        self.board.write::<Book<K>, Told>(line, book);
+        answer
+    }
+
+    /// Forgets old references, and counts their pages.
+    pub(crate) fn purge(
+        &mut self,
+        book: &mut Book<K>,
+        line: &mut Line,
+        asked: u64,
+    ) -> Result<u64, Refusal>
+        requires client_in { book.old.client < N.parameters.clients }
+        requires room { 0 < book.old.entries }
+        requires line { IsLineOf N.ring.board line.old book.old.client book.old.said }
+        ensures owner { SameOwner book.old book.new }
+        ensures line { IsLineOf N.ring.board line.new book.new.client book.new.said }
+        ensures ends { self.new.ends ≡ self.old.ends }
+        ensures outcome { PurgeSaid book.old.client result book.old.said book.new.said }
+        ensures in_step { InStep (λ core after. PurgeOutcome core book.old.client result after)
+            self.old book.old.said self.new book.new.said }
+    {
+        drain_all(&mut self.core, &mut self.strays, &mut self.consumers, asked);
+        let answer = book.ask_purge(&mut self.core);
+        self.board.write::<Book<K>, Told>(line, book);
+        answer
+    }
+
+    /// Reads the page of a pass of the list's client.
+    pub(crate) fn read(
+        &mut self,
+        book: &mut Book<K>,
+        line: &mut Line,
+        pass: &Pass,
+        asked: u64,
+    ) -> Result<Image, Refusal>
+        requires own { pass.now.client ≡ book.old.client }
+        requires size { book.old.size ≡ N.parameters.size }
+        requires room { 0 < book.old.entries }
+        requires copies { 0 < book.old.copies }
+        requires line { IsLineOf N.ring.board line.old book.old.client book.old.said }
+        ensures size { IfOk result (λ image. length image ≡ N.parameters.size) }
+        ensures owner { SameOwner book.old book.new }
+        ensures line { IsLineOf N.ring.board line.new book.new.client book.new.said }
+        ensures ends { self.new.ends ≡ self.old.ends }
+        ensures outcome { ReadSaid book.old.client pass.now result book.old.said book.new.said }
+        ensures in_step { InStep (λ core after. ReadOutcome core pass.now result after)
+            self.old book.old.said self.new book.new.said }
+    {
+        drain_all(&mut self.core, &mut self.strays, &mut self.consumers, asked);
+        let answer = book.ask_read(&mut self.core, pass);
+        self.board.write::<Book<K>, Told>(line, book);
+        answer
+    }
+
+    /// Writes to the page of a pass of the list's client.
+    pub(crate) fn write(
+        &mut self,
+        book: &mut Book<K>,
+        line: &mut Line,
+        pass: &Pass,
+        offset: u32,
+        bytes: &Bytes,
+        lsn: Lsn,
+        spare: K::SpareBytes,
+        asked: u64,
+    ) -> Result<(), Refusal>
+        requires own { pass.now.client ≡ book.old.client }
+        requires fits { offset + length bytes.now ≤ N.parameters.size }
+        requires room { 0 < book.old.entries }
+        requires spare { K.serves_bytes spare bytes.now }
+        requires line { IsLineOf N.ring.board line.old book.old.client book.old.said }
+        ensures owner { SameOwner book.old book.new }
+        ensures line { IsLineOf N.ring.board line.new book.new.client book.new.said }
+        ensures ends { self.new.ends ≡ self.old.ends }
+        ensures outcome { WriteSaid book.old.client pass.now offset bytes.now lsn result
+            book.old.said book.new.said }
+        ensures in_step { InStep
+            (λ core after. WriteOutcome core pass.now offset bytes.now lsn result after)
+            self.old book.old.said self.new book.new.said }
+    {
+        drain_all(&mut self.core, &mut self.strays, &mut self.consumers, asked);
+        let answer = book.ask_write(&mut self.core, pass, offset, bytes, lsn, spare);
+        self.board.write::<Book<K>, Told>(line, book);
+        answer
+    }
+}
