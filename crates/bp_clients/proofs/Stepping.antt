@@ -19,7 +19,7 @@ use Rattle.bp_trail.specs.Pieces.{Outcome, by, outcome_of}
 use Rattle.bp_trail.specs.Pieces.Manner.{session}
 use Rattle.bp_trail.specs.Pieces.Outcome.{accepted, refused}
 use Rattle.bp_trail.specs.Script.{is_pass_of, latest_pass, WithPass, RowPiece, give_back}
-use Rattle.bp_core.specs.declared.passes.Flushed.{Flushed}
+use Rattle.bp_trail.specs.declared.entries.Flushed.{Flushed}
 use Rattle.bp_device.specs.Rows.{AreHeld}
 use Rattle.bp_device.proofs.PieceSteps.{find-there, at-first, at-second}
 use Rattle.bp_book.specs.Turns.{ReadSaid, WriteSaid, TickSaid, PurgeSaid}

@@ -8,8 +8,8 @@ use Rattle.bp_trail.specs.Trail.{Trail}
 use Rattle.bp_trail.specs.Passes.{passes_out}
 use Rattle.bp_core.specs.declared.passes.Ended.{Ended}
 use Rattle.bp_core.specs.declared.passes.Ended.TheVariants as ended
-use Rattle.bp_core.specs.declared.passes.Flushed.{Flushed}
-use Rattle.bp_core.specs.declared.passes.Flushed.TheVariants as flushed
+use Rattle.bp_trail.specs.declared.entries.Flushed.{Flushed}
+use Rattle.bp_trail.specs.declared.entries.Flushed.TheVariants as flushed
 use Rattle.bp_core.specs.CoreView.{CoreView}
 
 -- the core with more entries, newest first

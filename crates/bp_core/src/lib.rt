@@ -11,10 +11,10 @@ pub mod pool;
 mod state;
 
 pub use bp_keeper::{GhostTrail as Before, Keeper, RecordingKeeper, SilentKeeper};
-pub use bp_trail::{Call, Entry, Refused, Reply, Row, Step};
+pub use bp_trail::{Call, Entry, Flushed, Refused, Reply, Row, Step};
 pub use faults::{refusal_of_read, reply_of_read};
 pub use passes::{
-    EndRefusal, Ended, Fix, Flush, Flushed, Pass, PassNote, ReadTicket, WriteTicket,
+    EndRefusal, Ended, Fix, Flush, Pass, PassNote, ReadTicket, WriteTicket,
 };
 pub use pool::PoolCore;
 

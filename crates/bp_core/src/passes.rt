@@ -83,19 +83,6 @@ pub enum Ended {
     StillDirty,
 }
 
-/// How a page came to be saved, or that it is not here.
-#[derive(Clone, Copy, PartialEq, Eq, Debug, Drop)]
-pub enum Flushed {
-    /// No write of the page was left to save.
-    Clean,
-    /// The page is not resident.
-    Absent,
-    /// The page was written out, and is saved.
-    Cleaned,
-    /// The page was written out, and was written to meanwhile.
-    StillDirty,
-}
-
 /// Why the end of a device operation was refused.
 #[derive(Debug)]
 pub enum EndRefusal<T, R> {

@@ -29,8 +29,8 @@ use Rattle.bp_trail.specs.Pieces.FixGoesOn.{cleaned as on_cleaned, still_dirty a
 use Rattle.bp_trail.specs.Pieces.FixPiece.{hit as fix_hit, fixed as fix_fixed, no_victim as fix_no_victim, need_log as fix_need_log, busy as fix_busy, read_failed as fix_read_failed, wrong_page as fix_wrong_page, write_failed as fix_write_failed, no_room as fix_no_room, no_memory as fix_no_memory}
 use Rattle.bp_trail.specs.Pieces.FlushGoesOn.{begins as flush_begins}
 use Rattle.bp_trail.specs.Pieces.FlushPiece.{clean as flush_clean, absent as flush_absent, cleaned as flush_cleaned, still_dirty as flush_still_dirty, need_log as flush_need_log, busy as flush_busy, write_failed as flush_write_failed, no_room as flush_no_room, no_memory as flush_no_memory}
-use Rattle.bp_core.specs.declared.passes.Flushed.{Flushed}
-use Rattle.bp_core.specs.declared.passes.Flushed.TheVariants as flushed
+use Rattle.bp_trail.specs.declared.entries.Flushed.{Flushed}
+use Rattle.bp_trail.specs.declared.entries.Flushed.TheVariants as flushed
 use Rattle.bp_device.specs.Drivers.{AddsPiece, DrivesFix, DrivesFlush, LoadOutcome, SaveOutcome}
 use Rattle.bp_core.specs.Added.{ended_reply, flushed_reply}
 

@@ -22,7 +22,7 @@ use Rattle.bp_core.specs.Added.{with_piece, Gives, Ends, ended_reply, flushed_re
 use Rattle.bp_trail.specs.Pieces.{FixPiece, FlushPiece}
 use Rattle.bp_trail.specs.Pieces.Manner.{driver}
 use Rattle.bp_trail.specs.Pieces.Outcome.{accepted, refused}
-use Rattle.bp_core.specs.declared.passes.Flushed.{Flushed}
+use Rattle.bp_trail.specs.declared.entries.Flushed.{Flushed}
 
 -- a piece was added that is as P says
 pub record AddsPiece (old : CoreView) (P : Trail → Type 0) (given : Option Grant) (new : CoreView) : Type 0 where

@@ -7,7 +7,7 @@ pub mod held_passes;
 mod rows;
 pub mod scripts;
 
-pub use bp_core::Flushed;
+pub use bp_trail::Flushed;
 pub use bp_ports::{
     FilePort, FusePort, GatePort, MemDevice, MemPort, OpenFault, Port, create_page_file, geometry_of_file,
 };

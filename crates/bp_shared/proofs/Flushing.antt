@@ -16,8 +16,8 @@ use Rattle.bp_trail.specs.Pieces.{by, FlushGoesOn}
 use Rattle.bp_trail.specs.Pieces.Manner.{session}
 use Rattle.bp_trail.specs.Pieces.FlushGoesOn.{begins, marked, waited}
 use Rattle.bp_trail.specs.Pieces.FlushPiece.{clean, absent, cleaned, still_dirty, need_log, write_failed, lost_write, no_room, no_memory}
-use Rattle.bp_core.specs.declared.passes.Flushed.{Flushed}
-use Rattle.bp_core.specs.declared.passes.Flushed.TheVariants as flushed
+use Rattle.bp_trail.specs.declared.entries.Flushed.{Flushed}
+use Rattle.bp_trail.specs.declared.entries.Flushed.TheVariants as flushed
 use Rattle.bp_book.specs.Turns.{is_busy, FlushTurn, EndWriteOutcome, WriteOutOutcome}
 use Rattle.bp_shared.proofs.Turning.{FlushWaits, FlushTurns, flush_marked}
 use Rattle.bp_shared.specs.Sessions.{FlushSaid}

@@ -16,7 +16,7 @@ mod locked_pool;
 mod taker;
 mod trail_ring;
 
-pub use bp_core::Flushed;
+pub use bp_trail::Flushed;
 use bp_keeper::SilentKeeper;
 pub use closed_pool::ClosedPool;
 pub use names::PoolName;

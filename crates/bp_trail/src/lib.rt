@@ -9,5 +9,5 @@ pub mod entries;
 pub mod laws;
 pub mod scripts;
 
-pub use entries::{Call, Entry, Grant, Reply};
+pub use entries::{Call, Entry, Flushed, Grant, Reply};
 pub use scripts::{Refused, Row, Step};

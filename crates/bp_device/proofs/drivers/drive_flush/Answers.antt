@@ -2,7 +2,7 @@
 use Rattle.std.proofs.Common.{refl, subst, Ok, Err}
 use Rattle.bp_core.specs.declared.passes.Ended.TheVariants as ended
 use Rattle.bp_core.specs.Outcomes.{FlushOutcome}
-use Rattle.bp_core.specs.declared.passes.Flushed.TheVariants as flushed
+use Rattle.bp_trail.specs.declared.entries.Flushed.TheVariants as flushed
 use Rattle.bp_device.specs.Drivers.{SaveOutcome}
 use Rattle.bp_device.proofs.Driving.{clean-drives, absent-drives, saved-drives, save-flush-drives, flush-refusal-drives}
 use Rattle.bp_trail.specs.declared.entries.Call.TheVariants.{Flush}
