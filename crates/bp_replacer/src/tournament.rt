@@ -1,6 +1,6 @@
 //! A tree of winners over a number of seats.
 ghost use Rattle.std.specs.Prelude.{◌≡◌, ◌⊎◌, ℕ, ◌*◌, ◌+◌, ◌-◌, ◌/◌, ◌^◌, ◌<◌, ◌≤◌, [], IsTrue, IsFalse, Some, None, IfOk, IfSome, IfNone, IsSome, length, replicate, set, slice_index_or};
-ghost use Rattle.bp_references.specs.Candidates.{Candidate};
+ghost use Rattle.bp_references.specs.Candidates.{Candidate, is_before};
 ghost use Rattle.bp_replacer.specs.Seats.{winner, seat_at, is_aged, aged_first, older_of, both, node, known_by, Has, IsOfBoth, IsTaken, AreTaken, IsFirst, IsFirstAt, IsFirstBelow, IsTournament, older_at};
 ghost use Rattle.bp_replacer.specs.Replay.{IsWonUpTo};
 
