@@ -4,8 +4,8 @@ ghost use Rattle.bp_replacer.specs.Histories.{is_held, last_of};
 ghost use Rattle.bench.specs.Loads.{IsLoaded, IsTable};
 
 use crate::{next, tell};
-use bp_replacer::{BlockNo, Histories, Settings};
 use bp_page::{PageNo, Refusal};
+use bp_replacer::{BlockNo, Histories, Settings};
 use std::alloc::Global;
 use std::rt::Runtime;
 use std::time::CpuClock;

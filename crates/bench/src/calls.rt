@@ -3,8 +3,8 @@ ghost use Rattle.std.specs.Prelude.{◌≡◌, ◌+◌, ◌<◌, ◌≤◌, leng
 
 use crate::tell;
 use bp_core::{Core, EndRefusal, Entry, Fix, Flush, PassNote, ReadTicket};
-use bp_replacer::Settings;
 use bp_page::{Bytes, Geometry, Image, Lsn, PageNo, Refusal};
+use bp_replacer::Settings;
 use std::alloc::Global;
 use std::mem;
 use std::rt::Runtime;

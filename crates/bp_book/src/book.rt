@@ -9,8 +9,8 @@ ghost use Rattle.bp_trail.specs.Script.{held_passes};
 ghost use Rattle.bp_book.specs.Books.{BookValue, SameBook, Tells, plain_call, plain_reply, OwesRead, OwesWrite, owed};
 
 mod asking;
-mod list_cutting;
 mod ending;
+mod list_cutting;
 mod posting;
 mod telling;
 

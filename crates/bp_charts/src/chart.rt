@@ -5,9 +5,9 @@ ghost use Rattle.bp_charts.specs.Scale.{IsScale};
 ghost use Rattle.bp_charts.specs.Chart.{chart_text, line_text, lines_text};
 
 use crate::axis::{write_tenths, write_ticks};
+use crate::curves::Curve;
 use crate::fixed::HEAD;
 use crate::labels::{write_legend, write_style};
-use crate::curves::Curve;
 use crate::places::{write_marks, write_places};
 use crate::scale::{Scale, scale_of};
 use std::io;
@@ -21,7 +21,12 @@ fn write_text<W: Write>(text: &str, writer: &mut W) -> io::Result<()>
 }
 
 /// Writes the line with this number.
-fn write_line<W: Write>(scale: &Scale, number: usize, line: &Curve, writer: &mut W) -> io::Result<()>
+fn write_line<W: Write>(
+    scale: &Scale,
+    number: usize,
+    line: &Curve,
+    writer: &mut W,
+) -> io::Result<()>
     requires { IsScale scale.now }
     ensures { OnOk result (Appends (W.contents writer.old) (W.contents writer.new)
         (line_text scale.now number line.now)) }

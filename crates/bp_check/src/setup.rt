@@ -1,7 +1,7 @@
 //! What a trail is judged by.
 
-use bp_replacer::Settings;
 use bp_page::Geometry;
+use bp_replacer::Settings;
 
 /// What the pool of a trail was made with, as far as the lawful replies depend on it.
 #[derive(Clone, Copy, Debug)]

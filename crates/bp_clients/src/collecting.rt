@@ -6,8 +6,8 @@ ghost use Rattle.bp_clients.specs.Jobs.{lists, IsTold, IsUntold, SomeUntold, Not
 use crate::job::{Job, Left};
 use bp_audit::{agrees, is_within_log};
 use bp_core::{Entry, Refused};
-use bp_ports::Port;
 use bp_page::Refusal;
+use bp_ports::Port;
 use bp_shared::PoolName;
 
 /// What a job left, where its list is what the trail has of its client, and where the log of client 0 bounds the marks. It takes

@@ -10,9 +10,9 @@ ghost use Rattle.bp_clients.specs.Steps.{as_fault, StepSaid};
 
 use bp_core::{Entry, PassNote, Step};
 use bp_device::latest_pass;
-use bp_ports::Port;
 use bp_mark::LogEnd;
 use bp_page::{Bytes, Lsn, PageNo, Refusal};
+use bp_ports::Port;
 use bp_shared::{PoolName, Session, SharedPool};
 use std::marker::{Model, PhantomData};
 use std::sync::Wait;

@@ -13,9 +13,7 @@ mod state;
 pub use bp_keeper::{GhostTrail as Before, Keeper, RecordingKeeper, SilentKeeper};
 pub use bp_trail::{Call, Entry, Flushed, Refused, Reply, Row, Step};
 pub use faults::{refusal_of_read, reply_of_read};
-pub use passes::{
-    EndRefusal, Ended, Fix, Flush, Pass, PassNote, ReadTicket, WriteTicket,
-};
+pub use passes::{EndRefusal, Ended, Fix, Flush, Pass, PassNote, ReadTicket, WriteTicket};
 pub use pool::PoolCore;
 
 /// A core that has its trail in memory, where it can be read, compared and cut.

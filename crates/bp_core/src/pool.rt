@@ -14,8 +14,8 @@ mod write_outs;
 use crate::config::CoreConfig;
 use crate::state::State;
 use bp_keeper::Keeper;
-use bp_replacer::Settings;
 use bp_page::{Geometry, Refusal};
+use bp_replacer::Settings;
 use std::alloc::Global;
 use std::marker::Model;
 

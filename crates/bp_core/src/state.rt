@@ -8,8 +8,8 @@ ghost use Rattle.bp_frames.specs.Frames.{is_frame_of};
 use crate::config::CoreConfig;
 use crate::passes::{Pass, ReadTicket};
 use bp_frames::{FrameTable, GrantList};
-use bp_replacer::{BlockNo, Histories};
 use bp_page::{Lsn, PageNo};
+use bp_replacer::{BlockNo, Histories};
 use std::alloc::{AllocError, Global};
 
 /// What the entries of a trail come to.

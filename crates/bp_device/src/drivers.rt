@@ -6,11 +6,11 @@ ghost use Rattle.bp_core.specs.Outcomes.{KnowsRead, KnowsWrite};
 ghost use Rattle.bp_device.specs.Drivers.{DrivesFix, DrivesFlush, IsCaused, LoadOutcome, SaveOutcome};
 ghost use Rattle.bp_core.specs.Work.{DoesWork};
 
-use bp_ports::Port;
 use bp_core::{
     EndRefusal, Ended, Fix, Flush, Flushed, Keeper, Pass, PoolCore, ReadTicket, WriteTicket,
 };
 use bp_page::{Image, PageNo, PortFault, Refusal};
+use bp_ports::Port;
 use std::sync::Wait;
 
 /// Ends a read whose ticket the core knows.

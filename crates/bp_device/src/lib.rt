@@ -7,10 +7,11 @@ pub mod held_passes;
 mod rows;
 pub mod scripts;
 
-pub use bp_trail::Flushed;
 pub use bp_ports::{
-    FilePort, FusePort, GatePort, MemDevice, MemPort, OpenFault, Port, create_page_file, geometry_of_file,
+    FilePort, FusePort, GatePort, MemDevice, MemPort, OpenFault, Port, create_page_file,
+    geometry_of_file,
 };
+pub use bp_trail::Flushed;
 pub use drivers::{drive_fix, drive_flush};
 pub use held_list::HeldList;
 pub use held_passes::{latest_pass, next_to_go_back};

@@ -9,9 +9,9 @@ ghost use Rattle.bp_core.specs.Work.{DoesWork};
 use crate::drivers::{drive_fix, drive_flush};
 use crate::held_list::HeldList;
 use crate::held_passes::{give, serials_differ};
-use bp_ports::Port;
 use bp_core::{Keeper, PoolCore, Row, Step};
 use bp_page::{Bytes, Lsn, PageNo, Refusal};
+use bp_ports::Port;
 use std::sync::Wait;
 
 /// Reads the page by the pass that the client took latest.

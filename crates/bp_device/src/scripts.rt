@@ -8,10 +8,10 @@ ghost use Rattle.bp_core.specs.Work.{DoesWork};
 
 use crate::held_list::HeldList;
 use crate::held_passes::give_back_all;
-use bp_ports::Port;
 use crate::rows::drive_row;
 use bp_core::{Keeper, PoolCore, Refused, Row};
 use bp_page::Refusal;
+use bp_ports::Port;
 use std::alloc::Global;
 use std::sync::Wait;
 

@@ -1,8 +1,8 @@
 //! One frame: a page in memory, and how it is used.
 ghost use Rattle.std.specs.Prelude.{max, not, ◌≡◌, ◌==◌, ◌&&◌, ◌+◌, ◌^◌, ◌<◌, ◌≤◌, length};
 
-use bp_replacer::BlockNo;
 use bp_page::{Image, Lsn, PageNo};
+use bp_replacer::BlockNo;
 
 /// A frame with the page that it holds. A [`FrameTable`](crate::FrameTable) makes and changes it; others read it.
 #[derive(Drop)]

@@ -7,9 +7,9 @@ ghost use Rattle.bp_frames.specs.Frames.{is_frame_of, loaded_with, pinned, unpin
 ghost use Rattle.bp_frames.specs.Tables.{IsSlotOf};
 
 use crate::frame::Frame;
+use bp_page::{Geometry, Image, Lsn, PageNo};
 use bp_replacer::seats::Candidates;
 use bp_replacer::{BlockNo, Settings};
-use bp_page::{Geometry, Image, Lsn, PageNo};
 use std::alloc::{AllocError, Global};
 use std::marker::Model;
 

@@ -4,9 +4,9 @@ ghost use Rattle.bp_references.specs.Candidates.{Candidate, entry_of, find_entry
 ghost use Rattle.bp_lruk.specs.Index.{IsInOrder, IsPlaceFor};
 
 use crate::page_index::PageIndex;
-use bp_replacer::tournament::precedes;
-use bp_replacer::Settings;
 use bp_page::{PageNo, Refusal};
+use bp_replacer::Settings;
+use bp_replacer::tournament::precedes;
 use std::alloc::Global;
 use std::marker::Model;
 

@@ -5,9 +5,9 @@ ghost use Rattle.std.specs.Prelude.{◌≡◌, ◌≢◌, ℕ, ◌+◌, ◌-◌,
 ghost use Rattle.std.specs.List.{list_any, reduce};
 ghost use Rattle.bp_references.specs.Candidates.{earlier, entry_of, is_entered, is_eligible, IsVictim, NoPageTwice, SameLimits};
 
-use bp_replacer::tournament::precedes;
-use bp_replacer::Settings;
 use bp_page::{PageNo, Refusal};
+use bp_replacer::Settings;
+use bp_replacer::tournament::precedes;
 use std::alloc::Global;
 use std::marker::Model;
 

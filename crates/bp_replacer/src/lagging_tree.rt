@@ -3,9 +3,8 @@ ghost use Rattle.std.specs.Prelude.{◌≡◌, ◌⊎◌, ◌<◌, IsTrue, Some,
 ghost use Rattle.std.specs.Option.{is_some};
 ghost use Rattle.bp_replacer.specs.Seats.{seat_at, same_seat, Lags, LagsBehind, IsFirst};
 
-use crate::tournament::precedes;
 use crate::seat_list::SeatList;
-use crate::tournament::{Seat, Tournament};
+use crate::tournament::{Seat, Tournament, precedes};
 use std::alloc::{AllocError, Global};
 use std::marker::Model;
 

@@ -2,8 +2,7 @@
 ghost use Rattle.std.specs.Prelude.{◌≡◌, ◌++◌, map, IfOk, OnOk};
 ghost use Rattle.bp_run.specs.Drawing.{AreShown, Pictures, cell_of, if_among, names_of};
 
-use bp_charts::{Cell, Point, Which, lines_of, write_chart};
-use bp_charts::Line;
+use bp_charts::{Cell, Line, Point, Which, lines_of, write_chart};
 use std::alloc::{AllocError, Global};
 
 /// The greatest K of LRU-K.

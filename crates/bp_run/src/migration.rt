@@ -7,9 +7,8 @@ ghost use Rattle.bp_run.specs.Stops.{StopsMigration};
 
 use crate::file_ids::FileId;
 use crate::meter::{Meter, clear_line};
-use bp_ports::geometry_of_file;
-use bp_ports::{MigrateFault, Progress, Untold, migrate_told};
 use bp_page::{Format, Geometry, Refusal};
+use bp_ports::{MigrateFault, Progress, Untold, geometry_of_file, migrate_told};
 use bp_words::{Ending, Line, MigrationWords};
 use std::alloc::Global;
 use std::fs;

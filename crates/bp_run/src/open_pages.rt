@@ -2,8 +2,8 @@
 ghost use Rattle.std.specs.Prelude.{◌≡◌};
 ghost use Rattle.bp_ports.specs.Ports.{has_headers};
 
-use bp_ports::{FilePort, MemDevice};
 use bp_page::{Format, Geometry};
+use bp_ports::{FilePort, MemDevice};
 
 /// Pages in memory.
 #[derive(Drop)]

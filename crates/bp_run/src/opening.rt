@@ -1,6 +1,6 @@
 //! The page files and the traces of runs, and the pictures of sweeps.
-use bp_ports::{OpenFault, Port};
 use bp_page::{Format, Geometry};
+use bp_ports::{OpenFault, Port};
 use std::io;
 use std::io::Read;
 use std::marker::Send;

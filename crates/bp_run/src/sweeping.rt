@@ -13,12 +13,12 @@ ghost use Rattle.bp_run.specs.Sweep.{no_references, plans_told};
 use crate::drawing::picture_of;
 use crate::meter::{SweepMeter, clear_line};
 use crate::opening::Ports;
+use bp_charts::{Line, write_table};
 use bp_page::Refusal;
 use bp_sweep::{
     Progress, ReferenceFault, References, Untold, count_cells, plans_of, read_column,
     read_references,
 };
-use bp_charts::{Line, write_table};
 use bp_words::{Ending, SweepWords, TraceSource};
 use std::alloc::Global;
 use std::io::{BufReader, Read, Write};

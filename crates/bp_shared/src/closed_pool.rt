@@ -1,7 +1,7 @@
 //! A pool that is shared no more.
+use crate::locked_pool::LockedPool;
 use crate::names::PoolName;
 use crate::session::Session;
-use crate::locked_pool::LockedPool;
 use crate::taker::Taker;
 use bp_book::Book;
 use bp_core::PoolCore;

@@ -8,16 +8,16 @@
 #![tactic(auto)]
 
 pub mod closed_pool;
+mod locked_pool;
 mod locking;
 pub mod names;
 pub mod pool;
 mod session;
-mod locked_pool;
 mod taker;
 mod trail_ring;
 
-pub use bp_trail::Flushed;
 use bp_keeper::SilentKeeper;
+pub use bp_trail::Flushed;
 pub use closed_pool::ClosedPool;
 pub use names::PoolName;
 pub use pool::SharedPool;

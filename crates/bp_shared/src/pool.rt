@@ -6,10 +6,10 @@ ghost use Rattle.bp_shared.specs.Telling.{IsBlank};
 ghost use Rattle.bp_book.specs.Turns.{is_busy};
 
 use crate::closed_pool::ClosedPool;
+use crate::locked_pool::LockedPool;
 use crate::locking::locked;
 use crate::names::PoolName;
 use crate::session::Session;
-use crate::locked_pool::LockedPool;
 use crate::taker::Taker;
 use crate::trail_ring::TrailRing;
 use bp_board::Board;
@@ -24,9 +24,9 @@ use std::alloc::Global;
 use std::marker::Model;
 use std::sync::{Condvar, Mutex, Wait};
 
-mod pieces;
 mod fixing;
 mod flushing;
+mod pieces;
 mod single;
 
 /// Whether somebody else has the page in flight.

@@ -12,9 +12,9 @@ ghost use Rattle.bp_sweep.specs.Referring.{AreFrames, CellRefused, EndsCell, Fix
 use crate::counts::Counts;
 use crate::progress::{Progress, Turn, Untold, tell};
 use bp_core::{EndRefusal, Fix, Pass, ReadTicket, SilentCore};
+use bp_page::{Image, PageNo, PortFault, Refusal};
 use bp_ports::Port;
 use bp_replacer::Settings;
-use bp_page::{Image, PageNo, PortFault, Refusal};
 use std::alloc::Global;
 use std::sync::Wait;
 

@@ -1,13 +1,13 @@
 //! Traces and reports: the bytes of a trace to the rows of a script, and the entries of a trail to the lines of a report.
 #![tactic(auto)]
 
+pub mod decimal;
 mod faults;
 mod fields;
 mod input;
 pub mod laws;
 mod lines;
 mod number_lists;
-pub mod decimal;
 mod printing;
 mod record;
 mod script;

@@ -12,10 +12,9 @@ ghost use Rattle.bp_words.specs.Asked.{sweep_by_rows, sweep_of, sweep_with};
 ghost use Rattle.bp_words.specs.Decision.{size_asked};
 
 use crate::command::bpool_command;
-use bp_trace::{MAX_LISTED, numbers_listed};
-use bp_page::explanation_of;
-use bp_page::Format;
+use bp_page::{Format, explanation_of};
 use bp_trace::decimal::parse_number;
+use bp_trace::{MAX_LISTED, numbers_listed};
 use clap::error::ErrorKind;
 use clap::{ArgMatches, Error};
 use std::alloc::{AllocError, Global};

@@ -2,8 +2,8 @@
 
 use crate::giving::give_back_all;
 use crate::worker::{Client, Left, Upkeep, Worker};
-use bp_ports::Port;
 use bp_keeper::ListKeeper;
+use bp_ports::Port;
 use bp_shared::{ClosedPool, PoolName, SharedPool};
 use std::marker::Model;
 use std::sync::Wait;

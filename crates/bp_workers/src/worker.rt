@@ -4,8 +4,8 @@ ghost use Rattle.std.specs.Prelude.{◌≡◌};
 use crate::log_writer::LogWriter;
 use bp_book::Book;
 use bp_core::Entry;
-use bp_ports::Port;
 use bp_keeper::{ListKeeper, RecordingKeeper};
+use bp_ports::Port;
 use bp_shared::{PoolName, Session, SharedPool, Taker};
 use std::sync::Wait;
 

@@ -7,8 +7,8 @@ mod page_use;
 
 use crate::forms::{HzConfig, HzTotals};
 use bp_core::SilentCore;
-use bp_replacer::Settings;
 use bp_page::{Geometry, Lsn, Refusal};
+use bp_replacer::Settings;
 use std::alloc::Global;
 use std::marker::Model;
 

@@ -55,7 +55,11 @@ fn point(frames: usize, hits: u64, fixes: u64) -> Point {
 }
 
 /// A line of these points.
-fn line<const N: usize>(rt: &(impl Abort + AllocGlobal), which: Which, points: [Point; N]) -> Curve {
+fn line<const N: usize>(
+    rt: &(impl Abort + AllocGlobal),
+    which: Which,
+    points: [Point; N],
+) -> Curve {
     let points = Vec::from_array(rt.alloc(), points).expect(rt, "the points");
     Curve { which, points }
 }

@@ -1,6 +1,5 @@
 //! The texts of what goes wrong, each on a line.
-use bp_page::explanation_of;
-use bp_page::{Lsn, PageNo, PortFault, Refusal};
+use bp_page::{Lsn, PageNo, PortFault, Refusal, explanation_of};
 use bp_trace::TraceFault;
 use std::process::Abort;
 

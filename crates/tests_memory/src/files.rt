@@ -1,7 +1,7 @@
 //! Page files that are opened, and that are made.
 use bp_device::{FilePort, OpenFault, Port};
-use bp_ports::create_page_file;
 use bp_page::{Format, Geometry, PageNo, PortFault, Refusal};
+use bp_ports::create_page_file;
 use std::fs::File;
 use std::path::PathBuf;
 use std::process::Abort;

@@ -10,7 +10,7 @@ use bp_keeper::ListKeeper;
 use bp_lruk::Settings;
 use bp_page::{Geometry, Refusal};
 use bp_shared::{PoolName, SharedPool};
-use bp_workers::{Client, PoolConfig, Kind, Run, Upkeep, Worker, run_workers_over};
+use bp_workers::{Client, Kind, PoolConfig, Run, Upkeep, Worker, run_workers_over};
 use std::alloc::Global;
 use std::marker::Sync;
 use std::process::Abort;

@@ -17,8 +17,8 @@ use crate::passes::{EndRefusal, Fix, Pass, ReadTicket};
 use crate::pool::PoolCore;
 use bp_frames::GrantList;
 use bp_keeper::Keeper;
-use bp_replacer::Histories;
 use bp_page::{Image, PageNo, PortFault, Refusal};
+use bp_replacer::Histories;
 use bp_trail::{Call, Grant, Reply};
 use std::alloc::AllocError;
 

@@ -13,8 +13,8 @@ ghost use Rattle.bp_core.specs.Unsaved.{FindsUnsaved};
 
 use crate::pool::PoolCore;
 use bp_keeper::{Keeper, RecordingKeeper};
-use bp_replacer::Settings;
 use bp_page::{Geometry, Lsn, PageNo};
+use bp_replacer::Settings;
 use bp_trail::Entry;
 
 impl<K: Keeper> PoolCore<K> {

@@ -7,9 +7,9 @@ use crate::names::PoolName;
 use crate::session::Session;
 use bp_book::{Fix, PendingRead, PendingWrite};
 use bp_core::{Ended, Pass};
-use bp_ports::Port;
 use bp_keeper::ListKeeper;
 use bp_page::{PageNo, Refusal};
+use bp_ports::Port;
 use std::sync::Wait;
 
 impl<N: PoolName, K: ListKeeper> SharedPool<N, K> {

@@ -7,11 +7,10 @@ use crate::locking::locked;
 use crate::names::PoolName;
 use crate::session::Session;
 use bp_book::Flush;
-use bp_core::Ended;
-use bp_core::Flushed;
-use bp_ports::Port;
+use bp_core::{Ended, Flushed};
 use bp_keeper::ListKeeper;
 use bp_page::{PageNo, Refusal};
+use bp_ports::Port;
 use std::sync::Wait;
 
 /// What a flush came to whose write-out ended so.
