@@ -11,7 +11,7 @@ use bp_page::Refusal;
 use bp_trail::Entry;
 
 /// The most serial numbers of a kind that may have been given at a cut, so that none overflows afterwards.
-const SERIALS_END: u64 = 4611686018427387904;
+const SERIALS_END: u64 = 1 << 62;
 
 impl PoolCore<RecordingKeeper> {
     /// Hands out the trail, the oldest entry first, and leaves an empty one of the same room. All else goes on: the
@@ -39,15 +39,15 @@ impl PoolCore<RecordingKeeper> {
         if self.state.passes_given > SERIALS_END || self.state.tickets_given > SERIALS_END {
             return Err(Refusal::ClockFull);
         }
-        let leads_nowhere = self.leads_nowhere();
-        let Ok(entries) = self.trail.cut(spare, self.config.room, leads_nowhere) else {
+        let is_initial = self.is_initial();
+        let Ok(entries) = self.trail.cut(spare, self.config.room, is_initial) else {
             return Err(Refusal::OutOfMemory);
         };
         Ok(entries)
     }
 
     /// Whether the entries so far lead where no entries do: they gave nothing, and left the clock and the mark.
-    fn leads_nowhere(&self) -> bool
+    fn is_initial(&self) -> bool
         ensures { EachPast self.now (λ past. Decides result
             (standing self.now.parameters past ≡ standing self.now.parameters [])) }
     {

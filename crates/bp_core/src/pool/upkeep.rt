@@ -9,7 +9,7 @@ use bp_page::{Lsn, Refusal};
 use bp_trail::{Call, Reply};
 
 /// The last time.
-const CLOCK_END: u64 = 4611686018427387904;
+const CLOCK_END: u64 = 1 << 62;
 
 impl<K: Keeper> PoolCore<K> {
     /// Moves the clock on. `TrailFull` where no entry is free, else `ClockFull` where the clock would pass 2^62; both

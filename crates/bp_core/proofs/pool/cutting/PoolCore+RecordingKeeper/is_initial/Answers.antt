@@ -3,7 +3,7 @@ use Rattle.std.specs.Prelude.{Decides, ◌==◌}
 use Rattle.std.proofs.lemmas.Bool.{eqb-true, eq-eqb}
 use Rattle.bp_trail.specs.Standing.{standing}
 use Rattle.bp_core.proofs.KeepsCut.{nowhere}
-use Rattle.bp_core.proofs.pool.cutting.PoolCore+RecordingKeeper.leads_nowhere.Goals as goal
+use Rattle.bp_core.proofs.pool.cutting.PoolCore+RecordingKeeper.is_initial.Goals as goal
 
 pub returns-then-self-eq0 : goal.returns-then-self-eq0
 returns-then-self-eq0 c =
