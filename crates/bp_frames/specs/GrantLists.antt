@@ -1,6 +1,7 @@
 -- What a list of passes or tickets is seen as: those that are out, newest first, and which more may
 -- be given.
-use Rattle.std.specs.Prelude.{◌≡◌, ℕ, ◌+◌, ◌-◌, ◌≤◌, max, List, [], ◌∷◌, length, reverse, if◌then◌else◌}
+use Rattle.std.specs.Prelude.{◌≡◌, ℕ, ◌+◌, ◌-◌, ◌≤◌, max, List, [], ◌∷◌, length, reverse}
+use Rattle.std.specs.Prelude.{if◌then◌else◌}
 use Rattle.bp_frames.specs.declared.grant_list.Slot.{Slot}
 use Rattle.bp_frames.specs.Rising.{IsRisingBy}
 use Rattle.bp_trail.specs.Event.{Grant, grant}

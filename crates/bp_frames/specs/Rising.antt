@@ -1,5 +1,6 @@
 -- Lists in the order of a number of their elements, no two of which have the same.
-use Rattle.std.specs.Prelude.{◌≡◌, ◌≢◌, ℕ, ◌<◌, ◌≤◌, List, length, slice_index_or, Option, Some, None}
+use Rattle.std.specs.Prelude.{◌≡◌, ◌≢◌, ℕ, ◌<◌, ◌≤◌, List, length, slice_index_or, Option, Some}
+use Rattle.std.specs.Prelude.{None}
 
 abbrev pub IsRisingBy : {X : Type 0} → (X → ℕ) → List X → Type 0
 IsRisingBy {X} key xs =
