@@ -1,5 +1,5 @@
 -- How each observation changes with one entry. Those with `refl` need no citation: they hold by computation where the entry is written out.
-use Rattle.std.proofs.Common.{◌≡◌, refl, ap, ℕ, suc, ◌+◌, max, Bool, true, false, not, ◌||◌, ◌==◌, if◌then◌else◌, List, [], ◌∷◌, filter, length, Option, Some, None, arith}
+use Rattle.std.proofs.Common.{◌≡◌, refl, ℕ, suc, ◌+◌, max, Bool, true, false, not, ◌||◌, ◌==◌, if◌then◌else◌, List, [], ◌∷◌, filter, length, Option, Some, None, arith}
 use Rattle.bp_page.specs.Patched.{patched}
 use Rattle.bp_references.specs.Burst.Reference.{hit, fault}
 use Rattle.bp_trail.specs.declared.entries.Entry.{Entry}
@@ -8,10 +8,10 @@ use Rattle.bp_trail.specs.declared.entries.Call.TheVariants.{Tick, Mark, Fix, Re
 use Rattle.bp_trail.specs.declared.entries.Reply.{Reply}
 use Rattle.bp_trail.specs.declared.entries.Reply.TheVariants.{Done, Hit, Load, WriteFirst, Fixed, WriteFailed, Forgot}
 use Rattle.bp_trail.specs.Parameters.{Parameters}
-use Rattle.bp_trail.specs.Event.{Grant, grant}
+use Rattle.bp_trail.specs.Event.{grant}
 use Rattle.bp_trail.specs.Trail.{Trail}
 use Rattle.bp_trail.specs.Clock.{clock, durable}
-use Rattle.bp_trail.specs.Passes.{passes, tickets, passes_out, reads_out, is_of, pins}
+use Rattle.bp_trail.specs.Passes.{passes, tickets, passes_out, is_of, pins}
 use Rattle.bp_trail.specs.Places.{residents, resident, loading, writing}
 use Rattle.bp_trail.specs.Saved.{unsaved, top}
 use Rattle.bp_trail.specs.Images.{held}

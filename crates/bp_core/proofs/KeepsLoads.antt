@@ -94,13 +94,13 @@ module _ (c : Parameters) (trail : Kept) (x : State) (core : IsCore c trail x) (
           frame_room = record { few = core.frame_room.few; reserved = omega (arith, spare, ap length same_reads); size_is = omega (arith, size, core.frame_room.size_is); limit_is = omega (arith, limit, core.frame_room.limit_is); pages_is = omega (arith, in_file, core.frame_room.pages_is) };
         }
 
-    pub keeps-replace : (gone : ℕ) → EachPast v (λ past. has_free_frame v.parameters past ≡ false) → EachPast v (λ past. victim v.parameters past ≡ Some gone) → EachPast v (λ past. unsaved past gone ≡ false)
+    pub keeps-replace : (gone : ℕ) (ws : List ℕ) → EachPast v (λ past. has_free_frame v.parameters past ≡ false) → EachPast v (λ past. victim v.parameters past ≡ Some gone) → EachPast v (λ past. unsaved past gone ≡ false)
         → (e : Entered) → SameLimits x.frames.candidates e → (NoPageTwice x.frames.candidates.entries → NoPageTwice e.entries) → ((q : ℕ) → q ≢ gone → entry_of e q ≡ entry_of x.frames.candidates q) → entry_of e gone ≡ None
         → (g h : Blocks) → SameSettings x.histories g → SameStampsAt x.histories g p → ((q : ℕ) → q ≢ p → SameAt x.histories g q) → is_held g p ≡ true → KeepsPlaces x.histories g → IsSome (place_of g p)
         → SameSettings g h → SameStampsAt g h gone → ((q : ℕ) → q ≢ gone → SameAt g h q) → is_held h gone ≡ false → KeepsPlaces g h
         → IsCore c (with_next trail who (Fix p) (Load x.tickets_given (Some gone)))
-        (record x { tickets_given = x.tickets_given + 1; reads = with_grant rs who p x.tickets_given; passes = ps; frames = record x.frames { frames = without_page gone x.frames.frames; spare = x.frames.spare + 1; candidates = e }; histories = h })
-    keeps-replace gone full chosen saved e limits pages leaves out g h g_settings g_stamps g_others g_kept g_places g_place h_settings h_stamps h_others h_gone h_places =
+        (record x { tickets_given = x.tickets_given + 1; reads = with_grant rs who p x.tickets_given; passes = ps; frames = record x.frames { frames = without_page gone x.frames.frames; spare = x.frames.spare + 1; places = ws; candidates = e }; histories = h })
+    keeps-replace gone ws full chosen saved e limits pages leaves out g h g_settings g_stamps g_others g_kept g_places g_place h_settings h_stamps h_others h_gone h_places =
         let apart = victim-apart gone chosen away in
         let first = unprepared x.histories g p g_stamps g_others in
         let second = unprepared g h gone h_stamps h_others in

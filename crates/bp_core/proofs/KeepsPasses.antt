@@ -1,6 +1,7 @@
 -- A core stays one as a page is fixed that is resident, written or given back.
-use Rattle.std.proofs.Common.{◌≡◌, ◌≢◌, ℕ, ◌+◌, ◌<◌, ◌≤◌, true, List, ◌∷◌, length, filter, ap, subst, arith, Bool, if◌then◌else◌, Some, None, refl, ◌∙◌}
-use Rattle.std.specs.Prelude.{not, ◌==◌, ◌&&◌}
+use Rattle.std.proofs.Common.{◌≡◌, ◌≢◌, ℕ, zero, suc, ◌+◌, ◌-◌, ◌<◌, ◌≤◌, true, List, ◌∷◌, length, filter, sym, ap, subst, arith, Bool, if◌then◌else◌, Some, None, refl, ◌∙◌}
+use Rattle.std.specs.Prelude.{not, ◌==◌, ◌&&◌, Contains}
+use Rattle.std.proofs.lemmas.Bool.Decides.{nat_tests}
 use Rattle.std.proofs.lemmas.Bool.{lt-ltb, ne_eqb}
 use Rattle.bp_references.specs.Burst.{Reference}
 use Rattle.bp_references.specs.Burst.Reference.{hit}
@@ -13,7 +14,8 @@ use Rattle.bp_trail.specs.Passes.{passes_out, is_of, pins}
 use Rattle.bp_trail.specs.Places.{resident, writing}
 use Rattle.bp_trail.specs.References.{references}
 use Rattle.bp_trail.specs.Legal.{is_out}
-use Rattle.bp_frames.specs.Frames.{pinned, unpinned, written_on}
+use Rattle.bp_frames.specs.Frames.{is_unused, changed_at, pinned, unpinned, written_on}
+use Rattle.bp_frames.specs.declared.frame.Frame.{Frame}
 use Rattle.bp_frames.specs.Tables.{with_changed}
 use Rattle.bp_trail.proofs.Counting.{some-count}
 use Rattle.bp_trail.proofs.Serials.{numbered}
@@ -22,6 +24,7 @@ use Rattle.bp_core.proofs.Seen.{ranked, resident_seen}
 use Rattle.bp_frames.specs.Frames.{is_frame_of}
 use Rattle.bp_trail.specs.Lists.{some}
 use Rattle.bp_core.proofs.Placed.{place-kept, placed-after, held-before, held-here, rehoused}
+use Rattle.bp_core.proofs.Uses.{frame-after}
 use Rattle.bp_core.proofs.CandidateSteps.{no-entry, stay, move-hit, move-unfix}
 use Rattle.bp_trail.proofs.Residents.{reads-rest}
 use Rattle.bp_trail.proofs.Timed.{references-timed}
@@ -55,6 +58,20 @@ module _ (c : Parameters) (trail : Kept) (x : State) (core : IsCore c trail x) (
 
   pub frame-here : (who p n : ℕ) → EachPast v (λ past. is_out (grant who p n) (passes_out past) ≡ true) → some (is_frame_of p) x.frames.frames ≡ true
   frame-here who p n known = resident_seen c trail.past (parts_of x) core.agrees p ∙ pinned-page who p n known
+
+  -- whether nobody uses it any longer, once that pass is given back
+  pub last-pass : (who p n : ℕ) → EachPast v (λ past. is_out (grant who p n) (passes_out past) ≡ true) → (f : Frame) → Contains (changed_at p unpinned x.frames.frames) f → f.page ≡ p → EachPast v (λ past. is_unused f ≡ ((pins past p == 1) && not (writing past p)))
+  last-pass who p n known f here page =
+      let some = some-count (is_of p) (passes_out trail.past) (out-of_page who p n (passes_out trail.past) (at (λ q past. is_out (grant who p n) (passes_out past) ≡ true) known)) in
+      subst (λ u. EachPast u (λ past. is_unused f ≡ ((pins past p == 1) && not (writing past p)))) is
+      (ap is_unused (frame-after c trail x core p unpinned (λ f. refl) f here page) ∙ ap (λ b. b && not (writing trail.past p)) (down (pins trail.past p) (omega (arith, some))))
+    where
+      down : (m : ℕ) → 0 < m → (m - 1 == 0) ≡ (m == 1)
+      down zero lt = absurd (omega (arith, lt))
+      down (suc m) lt = let e : suc m - 1 ≡ m = omega arith in ap (λ n. n == 0) e ∙ sym (one m)
+        where
+          one : (m : ℕ) → (suc m == 1) ≡ (m == 0)
+          one m = grind (arith, nat_tests)
 
   pub keeps-unfix : (who p n : ℕ) → EachPast v (λ past. is_out (grant who p n) (passes_out past) ≡ true) → (unused_now : Bool) → EachPast v (λ past. unused_now ≡ ((pins past p == 1) && not (writing past p)))
       → (e : Entered) → SameLimits x.frames.candidates e → (NoPageTwice x.frames.candidates.entries → NoPageTwice e.entries) → ((q : ℕ) → q ≢ p → entry_of e q ≡ entry_of x.frames.candidates q) → entry_of e p ≡ (if unused_now then Some (stamp_of x.histories p c.k, last_of x.histories p) else entry_of x.frames.candidates p)

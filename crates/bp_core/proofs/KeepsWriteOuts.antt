@@ -1,9 +1,9 @@
 -- A core stays one as a write-out of a page begins and ends.
-use Rattle.std.proofs.Common.{◌≡◌, ℕ, ◌+◌, ◌<◌, true, false, length, filter, sym, ◌∙◌, arith, ◌≢◌, Bool, if◌then◌else◌, Some, None, refl, ap}
-use Rattle.std.specs.Prelude.{not, ◌==◌, ◌&&◌}
+use Rattle.std.proofs.Common.{◌≡◌, ℕ, ◌+◌, ◌<◌, true, false, length, filter, sym, ◌∙◌, arith, ◌≢◌, Bool, if◌then◌else◌, Some, None, refl, ap, subst}
+use Rattle.std.specs.Prelude.{not, ◌==◌, ◌&&◌, Contains}
 use Rattle.std.proofs.lemmas.Bool.{lt-ltb, eq-eqb, true≢false}
 use Rattle.bp_references.specs.Candidates.{Entered, entry_of, NoPageTwice, SameLimits}
-use Rattle.bp_replacer.specs.Histories.{stamp_of, last_of}
+use Rattle.bp_replacer.specs.Histories.{place_of, stamp_of, last_of}
 use Rattle.bp_trail.specs.declared.entries.Call.{Call}
 use Rattle.bp_trail.specs.declared.entries.Call.TheVariants.{WriteEnd}
 use Rattle.bp_trail.specs.declared.entries.Reply.TheVariants.{WriteFirst, Cleaned, StillDirty, WriteFailed}
@@ -15,11 +15,12 @@ use Rattle.bp_trail.specs.Saved.{written_since}
 use Rattle.bp_trail.specs.Images.{held}
 use Rattle.bp_trail.specs.PageMap.{reply_of}
 use Rattle.bp_trail.specs.Legal.{is_out, allowed}
-use Rattle.bp_frames.specs.Frames.{saving, saved, not_saved}
+use Rattle.bp_frames.specs.declared.frame.Frame.{Frame}
+use Rattle.bp_frames.specs.Frames.{is_unused, changed_at, saving, saved, not_saved}
 use Rattle.bp_frames.specs.Tables.{with_changed}
 use Rattle.bp_core.specs.Outcomes.{IsBegin}
 use Rattle.bp_core.specs.Outcomes.IsBegin.{by_fix, by_flush}
-use Rattle.bp_core.specs.Agreement.{rewritten, HasCandidates, HasTrailRoom}
+use Rattle.bp_core.specs.Agreement.{rewritten, frame_of, HasCandidates, HasTrailRoom}
 use Rattle.bp_trail.proofs.Serials.{numbered, rest}
 use Rattle.bp_trail.proofs.Places.{out-of_page}
 use Rattle.bp_trail.proofs.Ranges.{stays}
@@ -27,6 +28,7 @@ use Rattle.bp_trail.proofs.Residents.{reads-rest}
 use Rattle.bp_core.proofs.WriteSteps.{agrees-begin, agrees-cleaned, agrees-still_dirty, agrees-write_failed, written-seen, landed, still}
 use Rattle.bp_core.proofs.Seen.{ranked, resident_seen}
 use Rattle.bp_frames.specs.Frames.{is_frame_of}
+use Rattle.bp_core.proofs.Uses.{frame-after}
 use Rattle.bp_core.proofs.CandidateSteps.{no-entry, move-begin, move-write_end}
 use Rattle.bp_core.specs.declared.state.State.{State}
 use Rattle.bp_trail.specs.Parameters.{Parameters}
@@ -89,6 +91,17 @@ module _ (c : Parameters) (trail : Kept) (x : State) (core : IsCore c trail x) (
 
     pub frame-here : some (is_frame_of p) x.frames.frames ≡ true
     frame-here = resident_seen c trail.past (parts_of x) core.agrees p ∙ stays c trail.past core.agrees.legal p (out-of_page who p t (writes_out trail.past) out-now)
+
+    -- whether nobody uses it any longer, once the write-out ends
+    pub idle-after : (change : Frame → Frame) → ((f : Frame) → (change f).page ≡ f.page) → ((f : Frame) → (change f).pins ≡ f.pins) → ((f : Frame) → (change f).is_writing ≡ false) → (f : Frame) → Contains (changed_at p change x.frames.frames) f → f.page ≡ p → EachPast v (λ past. is_unused f ≡ (pins past p == 0))
+    idle-after change same pins_same landed f here page =
+        let was = frame_of trail.past p (place_of x.histories p) in
+        subst (λ u. EachPast u (λ past. is_unused f ≡ (pins past p == 0))) is
+        (ap is_unused (frame-after c trail x core p change same f here page) ∙ (λ i. (pins_same was i == 0) && not (landed was i)) ∙ and-true (pins trail.past p == 0))
+      where
+        and-true : (b : Bool) → (b && true) ≡ b
+        and-true true = refl
+        and-true false = refl
 
     since : rewritten trail.past p ≡ written_since trail.past t p
     since = written-seen c trail.past (parts_of x) core.agrees who t p out-now

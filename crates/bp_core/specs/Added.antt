@@ -1,5 +1,5 @@
 -- What a piece of entries adds to a core, and how it ends.
-use Rattle.std.specs.Prelude.{◌≡◌, List, [], ◌∷◌, ◌++◌, Option}
+use Rattle.std.specs.Prelude.{◌≡◌, [], ◌∷◌, ◌++◌, Option}
 use Rattle.bp_trail.specs.declared.entries.Reply.{Reply}
 use Rattle.bp_trail.specs.declared.entries.Reply.TheVariants.{Cleaned, StillDirty, Clean, Absent}
 use Rattle.bp_trail.specs.Lists.{and_given}

@@ -1,11 +1,14 @@
 -- What a core keeps, and that it agrees with the trail.
 use Rattle.std.specs.Prelude.{◌≡◌, ℕ, Decides, ◌+◌, ◌*◌, ◌^◌, ◌≤◌, ◌==◌, Bool, not, ◌&&◌, ◌||◌}
-use Rattle.std.specs.Prelude.{true, false, List, [], length, All, Option, Some, None, IsSome}
+use Rattle.std.specs.Prelude.{true, false, List, [], length, replicate, All, Contains, Option, Some}
+use Rattle.std.specs.Prelude.{None}
+use Rattle.std.specs.Prelude.{IsSome}
 use Rattle.std.specs.Prelude.{if◌then◌else◌}
-use Rattle.bp_replacer.specs.Histories.{Blocks, HasStampsOf, is_held, place_of}
+use Rattle.bp_replacer.specs.Histories.{Blocks, HasStampsOf, is_held, place_of, stamp_of, last_of}
 use Rattle.bp_references.specs.Candidates.{Entered, entry_of, NoPageTwice}
 use Rattle.bp_core.specs.declared.config.CoreConfig.{CoreConfig}
 use Rattle.bp_frames.specs.declared.frame.Frame.{Frame}
+use Rattle.bp_frames.specs.Frames.{is_unused}
 use Rattle.bp_core.specs.declared.state.State.{State}
 use Rattle.bp_trail.specs.Parameters.{Parameters}
 use Rattle.bp_trail.specs.Lists.{count, since}
@@ -127,6 +130,17 @@ ArePlaced h = (p : ℕ) → is_held h p ≡ true → IsSome (place_of h p)
 abbrev pub TellBlocks : Blocks → List Frame → Type 0
 TellBlocks h frames = All (λ (f : Frame). IsSome f.block × (f.block ≡ place_of h f.page)) frames
 
+-- a use of this page ended: if its frame says that nobody uses it, it is a candidate from now on
+pub record EndsUse (old : State) (page k : ℕ) (candidates : Entered) : Type 0 where
+  pub frame : Frame
+  pub here : Contains old.frames.frames frame
+  pub page_is : frame.page ≡ page
+  pub entered :
+      entry_of candidates page
+      ≡ (if is_unused frame
+      then Some (stamp_of old.histories page k, last_of old.histories page)
+      else entry_of old.frames.candidates page)
+
 -- whether the trail opens where no entries lead
 abbrev pub OpensFresh : Parameters → Kept → Type 0
 OpensFresh c trail = Decides trail.fresh (standing c trail.before ≡ standing c [])
@@ -197,6 +211,7 @@ pub record IsFirst (c : Parameters) (x : State) : Type 0 where
         size = c.size;
         limit = c.frames;
         pages = c.pages;
+        places = replicate c.pages 0;
         candidates = record { frames = c.frames; correlated = c.correlated; entries = [] };
       }
   pub k : x.histories.k ≡ c.k

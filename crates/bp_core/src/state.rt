@@ -1,13 +1,12 @@
 //! What a core keeps beside its trail.
-ghost use Rattle.std.specs.Prelude.{◌≡◌, ◌≢◌, ℕ, ◌+◌, ◌^◌, ◌<◌, ◌≤◌, true, Some, None, if◌then◌else◌, IfOk};
-ghost use Rattle.bp_replacer.specs.Histories.{place_of, stamp_of, last_of};
+ghost use Rattle.std.specs.Prelude.{◌≡◌, ◌≢◌, ℕ, ◌+◌, ◌^◌, ◌<◌, ◌≤◌, Some, None, IfOk};
+ghost use Rattle.bp_replacer.specs.Histories.{place_of};
 ghost use Rattle.bp_references.specs.Candidates.{entry_of, NoPageTwice, SameLimits};
-ghost use Rattle.bp_trail.specs.Lists.{some};
-ghost use Rattle.bp_frames.specs.Frames.{is_frame_of};
+ghost use Rattle.bp_frames.specs.Tables.{IsSlotIn};
 
 use crate::config::CoreConfig;
 use crate::passes::{Pass, ReadTicket};
-use bp_frames::{FrameTable, GrantList};
+use bp_frames::{FrameSlot, FrameTable, GrantList};
 use bp_page::{Lsn, PageNo};
 use bp_replacer::{BlockNo, Histories};
 use std::alloc::{AllocError, Global};
@@ -31,7 +30,7 @@ pub(crate) struct State {
 
 impl State {
     ghost use Rattle.bp_frames.specs.GrantLists.{with_grant};
-    ghost use Rattle.bp_core.specs.Agreement.{parameters_of, IsFirst, TellBlocks};
+    ghost use Rattle.bp_core.specs.Agreement.{parameters_of, EndsUse, IsFirst, TellBlocks};
 
     /// What no entries come to, with the room for as many reads and frames as it may have.
     pub(crate) fn new(alloc: Global, config: &CoreConfig) -> Result<State, AllocError>
@@ -56,16 +55,37 @@ impl State {
         })
     }
 
-    /// The block of a page that has a frame, which the frame tells.
-    pub(crate) fn block(&self, page: PageNo) -> BlockNo
-        requires here { some (is_frame_of page) self.now.frames.frames ≡ true }
+    /// The block of the page in a frame, which the frame tells.
+    pub(crate) fn block(&self, slot: &FrameSlot) -> BlockNo
+        requires at { IsSlotIn self.now.frames slot.now }
         requires told { TellBlocks self.now.histories self.now.frames.frames }
-        ensures { place_of self.now.histories page ≡ Some result }
+        ensures { place_of self.now.histories slot.now.page ≡ Some result }
     {
-        let Some(frame) = self.frames.find(page) else {
-            unreachable!()
-        };
-        frame.block.unwrap()
+        self.frames.frame(slot).block.unwrap()
+    }
+
+    /// Makes the page in a frame a candidate for replacement, if nobody uses it any longer. `k` is the K of its K-th
+    /// stamp.
+    pub(crate) fn end_use(&mut self, slot: &FrameSlot, k: usize)
+        requires at { IsSlotIn self.old.frames slot.now }
+        requires told { TellBlocks self.old.histories self.old.frames.frames }
+        requires apart { entry_of self.old.frames.candidates slot.now.page ≡ None }
+        ensures same { self.new ≡ record self.old {
+          frames = record self.old.frames { candidates = self.new.frames.candidates };
+        } }
+        ensures entered { EndsUse self.old slot.now.page k self.new.frames.candidates }
+        ensures others { (q : ℕ) → q ≢ slot.now.page → entry_of self.new.frames.candidates q
+            ≡ entry_of self.old.frames.candidates q }
+        ensures pages { NoPageTwice self.old.frames.candidates.entries →
+            NoPageTwice self.new.frames.candidates.entries }
+        ensures limits { SameLimits self.old.frames.candidates self.new.frames.candidates }
+    {
+        if !self.frames.frame(slot).is_unused() {
+            return;
+        }
+        let block = self.block(slot);
+        let rank = self.histories.rank_at(slot.page(), block, k);
+        self.frames.enter(slot, rank.0, rank.1);
     }
 
     /// Gives the next pass, which takes no memory.
@@ -135,33 +155,5 @@ impl State {
         self.tickets_given += 1;
         self.writes.give(client, page, serial);
         serial
-    }
-}
-
-/// Enters a page that has a frame, and this block, among the candidates for replacement, if nobody uses it.
-pub(crate) fn offer(
-    frames: &mut FrameTable,
-    histories: &Histories,
-    page: PageNo,
-    block: BlockNo,
-    k: usize,
-    is_unused: bool,
-)
-    requires place { place_of histories.now page ≡ Some block }
-    requires here { is_unused ≡ true → some (is_frame_of page) frames.old.frames ≡ true }
-    requires apart { is_unused ≡ true → entry_of frames.old.candidates page ≡ None }
-    ensures same { frames.new ≡ record frames.old { candidates = frames.new.candidates } }
-    ensures entered { entry_of frames.new.candidates page ≡ (if is_unused
-        then Some (stamp_of histories.now page k, last_of histories.now page)
-        else entry_of frames.old.candidates page) }
-    ensures others { (q : ℕ) → q ≢ page → entry_of frames.new.candidates q
-        ≡ entry_of frames.old.candidates q }
-    ensures pages { NoPageTwice frames.old.candidates.entries →
-        NoPageTwice frames.new.candidates.entries }
-    ensures limits { SameLimits frames.old.candidates frames.new.candidates }
-{
-    if is_unused {
-        let rank = histories.rank_at(page, block, k);
-        frames.enter(page, rank.0, rank.1);
     }
 }

@@ -48,10 +48,6 @@ module _ (limit : ℕ) (ws : List ℕ) (seats : List (Option Candidate)) (s : Is
   pub entry-none : (page : ℕ) → ((k : ℕ) (e : Candidate) → seat_at seats k ≡ Some e → e.2 ≢ page) → find_entry (seated_in seats) page ≡ None
   entry-none page nowhere = find_nowhere (seated_in seats) page (λ x there. let at = in_seated seats x there in nowhere at.0 x at.2)
 
-  -- a page with no frame is no candidate
-  pub entry-away : (page : ℕ) → get_or ws page 0 ≡ 0 → find_entry (seated_in seats) page ≡ None
-  entry-away page away = entry-none page (λ k e is page_is. absurd (omega (arith, s.own k e is, ap (λ p. get_or ws p 0) page_is, away)))
-
   -- a page more, and a page fewer
   pub seating-filled : (page slot : ℕ) → get_or ws page 0 ≡ 0 → IsSeating limit (set ws page (slot + 1)) seats
   seating-filled page slot away = record {

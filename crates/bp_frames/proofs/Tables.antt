@@ -1,15 +1,16 @@
 -- A table of frames: a frame is found at its page's place, and what a change of one frame, a page more or a page fewer leaves.
-use Rattle.std.proofs.Common.{◌≡◌, ◌≢◌, ℕ, zero, suc, ◌+◌, ◌<◌, Bool, true, false, not, ◌==◌, ◌||◌, cond, List, [], ◌∷◌, ◌++◌, length, get_or, set, map, Option, Some, None, refl, sym, ap, ◌∙◌, subst, inl, inr, arith}
-use Rattle.std.specs.Prelude.{All, IsSome}
+use Rattle.std.proofs.Common.{◌≡◌, ◌≢◌, ℕ, zero, suc, ◌+◌, ◌<◌, Bool, true, false, not, ◌==◌, ◌||◌, cond, List, [], ◌∷◌, ◌++◌, length, get_or, set, map, refl, sym, ap, ◌∙◌, subst, inl, inr, arith}
+use Rattle.std.specs.Prelude.{All, Contains}
 use Rattle.std.specs.List.{insert, remove}
 use Rattle.std.proofs.lemmas.Bool.{cases_eq, eq-eqb, ne_eqb, true≢false}
 use Rattle.std.proofs.lemmas.List.{get_or-map, get_or-set_same, get_or-set_other, get_or_default}
 use Rattle.bp_frames.specs.declared.frame.Frame.{Frame}
+use Rattle.bp_frames.specs.declared.frame.FrameSlot.{FrameSlot}
 use Rattle.bp_references.specs.Candidates.{Entered}
 use Rattle.bp_trail.specs.Lists.{some}
 use Rattle.bp_frames.specs.Frames.{is_frame_of, changed_at, without_page}
-use Rattle.bp_frames.specs.Rising.{IsPlaceFor, IsPlaceOf, StandsAt, StandsNowhere}
-use Rattle.bp_frames.specs.Tables.{Place, places_from, Table, with_changed, no_frame, frame_at, frames_of, table_of, IsSlotOf, IsTable}
+use Rattle.bp_frames.specs.Rising.{IsPlaceFor, StandsAt, StandsNowhere}
+use Rattle.bp_frames.specs.Tables.{Place, places_from, Table, with_changed, no_frame, frame_at, frames_of, table_of, IsSlotIn, IsTable}
 use Rattle.bp_trail.proofs.Counting.{some-at, get-left}
 use Rattle.bp_frames.proofs.Rising.{some-none, filter-but_one}
 use Rattle.bp_frames.proofs.Places.{page_of, place_at, rank, at-place, place-stands, stands-no-place}
@@ -54,13 +55,6 @@ module _ (size limit : ℕ) (slots : List Frame) (places : List Place) (spare : 
 
   pub some-frame : (page : ℕ) → some (is_frame_of page) (frames_of slots places) ≡ true → StandsNowhere page_of places page → ⊥
   some-frame page here nowhere = true≢false (sym here ∙ no-frame page nowhere)
-
-  pub unchanged : (page : ℕ) (change : Frame → Frame) → StandsNowhere page_of places page → frames_of slots places ≡ changed_at page change (frames_of slots places)
-  unfolding changed_at
-  unchanged page change nowhere =
-      map-same (frame_at slots) (λ p. cond (is_frame_of page (frame_at slots p)) (change (frame_at slots p)) (frame_at slots p)) places
-      (λ k d lt. ap (λ b. cond b (change (frame_at slots (get_or places k d))) (frame_at slots (get_or places k d))) (sym (page-at k d page lt ∙ ne_eqb (get_or places k d).page page (nowhere k d lt))))
-      ∙ sym (map-both (λ f. cond (is_frame_of page f) (change f) f) (frame_at slots) places)
 
   -- ---- the frame of one page
   module _ (page at : ℕ) (stands : StandsAt page_of places page at) where
@@ -110,7 +104,7 @@ module _ (size limit : ℕ) (slots : List Frame) (places : List Place) (spare : 
           ∙ sym (map-both (λ f. cond (is_frame_of page f) (change f) f) (frame_at slots) places)
 
   -- ---- what a caller sees of the frame of one page
-  module _ (pages : ℕ) (candidates : Entered) (v : Table) (is : table_of size limit slots places spare pages candidates ≡ v) (page : ℕ) where
+  module _ (whereabouts : List ℕ) (candidates : Entered) (v : Table) (is : table_of size limit slots places spare whereabouts candidates ≡ v) (page : ℕ) where
     pub none-seen : StandsNowhere page_of places page → some (is_frame_of page) v.frames ≡ false
     none-seen nowhere = sym (ap (λ (u : Table). some (is_frame_of page) u.frames) is) ∙ no-frame page nowhere
 
@@ -119,22 +113,15 @@ module _ (size limit : ℕ) (slots : List Frame) (places : List Place) (spare : 
         let at : is_frame_of page (get_or (frames_of slots places) k no_frame) ≡ true = ap (is_frame_of page) (frame-in k no_frame d lt) ∙ page-at k d page lt ∙ eq-eqb (get_or places k d).page page here in
         true≢false (sym (some-at (is_frame_of page) (frames_of slots places) k no_frame (omega (arith, length-mapped (frame_at slots) places)) at) ∙ ap (λ (u : Table). some (is_frame_of page) u.frames) is ∙ none)
 
-    pub place-seen : (o : Option ℕ) → IsPlaceOf page_of places page o → some (is_frame_of page) v.frames ≡ true → IsSome o
-    place-seen None nowhere here = absurd (true≢false (sym here ∙ none-seen nowhere))
-    place-seen (Some at) stands here = refl
-
-    pub stays-seen : (change : Frame → Frame) → StandsNowhere page_of places page → v ≡ with_changed v page change
-    stays-seen change nowhere = subst (λ u. u ≡ with_changed u page change) is (ap (λ fs. record (table_of size limit slots places spare pages candidates) { frames = fs }) (unchanged page change nowhere))
-
     module _ (at : ℕ) (stands : StandsAt page_of places page at) (pl : Place) (pl_is : pl ≡ get_or places at pl) (f : Frame) (f_is : f ≡ get_or slots pl.slot f) where
       pub at-seen : (P : Frame → Type 0) → All P v.frames → P f
       at-seen P all =
           let here = stands-in page at stands pl pl_is f f_is in
           subst P here.1 (subst (λ (u : Table). All P u.frames) (sym is) all at f here.0)
 
-      pub changed-seen : (change : Frame → Frame) (next : Frame) → next ≡ change f → table_of size limit (set slots pl.slot next) places spare pages candidates ≡ with_changed v page change
+      pub changed-seen : (change : Frame → Frame) (next : Frame) → next ≡ change f → table_of size limit (set slots pl.slot next) places spare whereabouts candidates ≡ with_changed v page change
       changed-seen change next same =
-          ap (λ fs. record (table_of size limit slots places spare pages candidates) { frames = fs }) (frames-changed page at stands pl pl_is f f_is change next same)
+          ap (λ fs. record (table_of size limit slots places spare whereabouts candidates) { frames = fs }) (frames-changed page at stands pl pl_is f f_is change next same)
           ∙ ap (λ u. with_changed u page change) is
 
   -- ---- a page more, in a slot that waited, and a page fewer
@@ -164,59 +151,61 @@ module _ (size limit : ℕ) (slots : List Frame) (places : List Place) (spare : 
   frames-provided next = map-same (frame_at (slots ++ next ∷ [])) (frame_at slots) places (λ k d lt. get-left slots (next ∷ []) (get_or places k d).slot no_frame (t.within k d lt))
 
 -- ---- by the list that has an entry for each page
-module _ (size limit : ℕ) (slots : List Frame) (ws spare : List ℕ) (t : IsTable size limit slots (places_from 0 ws) spare) (pages : ℕ) (candidates : Entered) (v : Table) (is : table_of size limit slots (places_from 0 ws) spare pages candidates ≡ v) (page : ℕ) where
-  pub none-shown : get_or ws page 0 ≡ 0 → some (is_frame_of page) v.frames ≡ false
-  none-shown away = none-seen size limit slots (places_from 0 ws) spare t pages candidates v is page (stands-no-place ws page away)
+module _ (size limit : ℕ) (slots : List Frame) (ws spare : List ℕ) (t : IsTable size limit slots (places_from 0 ws) spare) (candidates : Entered) (v : Table) (is : table_of size limit slots (places_from 0 ws) spare ws candidates ≡ v) where
+  pub none-shown : (page : ℕ) → get_or ws page 0 ≡ 0 → some (is_frame_of page) v.frames ≡ false
+  none-shown page away = none-seen size limit slots (places_from 0 ws) spare t ws candidates v is page (stands-no-place ws page away)
 
-  pub stays-shown : (change : Frame → Frame) → get_or ws page 0 ≡ 0 → v ≡ with_changed v page change
-  stays-shown change away = stays-seen size limit slots (places_from 0 ws) spare t pages candidates v is page change (stands-no-place ws page away)
+  -- ---- of the page in a slot
+  module _ (slot : FrameSlot) (at : IsSlotIn v slot) where
+    pub slot-here : get_or ws slot.page 0 ≡ slot.index + 1
+    slot-here = subst (λ (u : Table). IsSlotIn u slot) (sym is) at
 
-  module _ (slot : ℕ) (here : get_or ws page 0 ≡ slot + 1) where
-    stands : StandsAt page_of (places_from 0 ws) page (rank ws page)
-    stands = place-stands ws page slot here
+    stands : StandsAt page_of (places_from 0 ws) slot.page (rank ws slot.page)
+    stands = place-stands ws slot.page slot.index slot-here
 
-    own : place_at page slot ≡ get_or (places_from 0 ws) (rank ws page) (place_at page slot)
-    own = sym (at-place ws page slot here (place_at page slot))
+    own : place_at slot.page slot.index ≡ get_or (places_from 0 ws) (rank ws slot.page) (place_at slot.page slot.index)
+    own = sym (at-place ws slot.page slot.index slot-here (place_at slot.page slot.index))
 
-    pub slot-shown : slot < length slots
-    slot-shown = subst (λ (p : Place). p.slot < length slots) (at-place ws page slot here (place_at page slot)) (t.within (rank ws page) (place_at page slot) stands.in_range)
+    pub slot-shown : slot.index < length slots
+    slot-shown = subst (λ (p : Place). p.slot < length slots) (at-place ws slot.page slot.index slot-here (place_at slot.page slot.index)) (t.within (rank ws slot.page) (place_at slot.page slot.index) stands.in_range)
 
-    pub slot-few : slot < limit
+    pub slot-few : slot.index < limit
     slot-few = omega (arith, slot-shown, t.few)
 
-    pub frame-page : (f : Frame) → f ≡ get_or slots slot f → is_frame_of page f ≡ true
-    frame-page f f_is = of-page size limit slots (places_from 0 ws) spare t page (rank ws page) stands (place_at page slot) own f f_is
+    module _ (f : Frame) (f_is : f ≡ get_or slots slot.index f) where
+      pub frame-page : is_frame_of slot.page f ≡ true
+      frame-page = of-page size limit slots (places_from 0 ws) spare t slot.page (rank ws slot.page) stands (place_at slot.page slot.index) own f f_is
 
-    pub frame-size : (f : Frame) → f ≡ get_or slots slot f → length f.image ≡ size
-    frame-size f f_is = sized-at size limit slots (places_from 0 ws) spare t page (rank ws page) stands (place_at page slot) own f f_is
+      pub frame-size : length f.image ≡ size
+      frame-size = sized-at size limit slots (places_from 0 ws) spare t slot.page (rank ws slot.page) stands (place_at slot.page slot.index) own f f_is
 
-    pub at-shown : (f : Frame) → f ≡ get_or slots slot f → (P : Frame → Type 0) → All P v.frames → P f
-    at-shown f f_is P all = at-seen size limit slots (places_from 0 ws) spare t pages candidates v is page (rank ws page) stands (place_at page slot) own f f_is P all
+      pub frame-shown : Contains v.frames f
+      frame-shown =
+          let here = stands-in size limit slots (places_from 0 ws) spare t slot.page (rank ws slot.page) stands (place_at slot.page slot.index) own f f_is in
+          subst (λ (u : Table). Contains u.frames f) is (rank ws slot.page, here.0, here.1)
 
-    pub stands-shown : (f : Frame) → f ≡ get_or slots slot f → (rank ws page < length v.frames) × (get_or v.frames (rank ws page) f ≡ f)
-    stands-shown f f_is = subst (λ (u : Table). (rank ws page < length u.frames) × (get_or u.frames (rank ws page) f ≡ f)) is (stands-in size limit slots (places_from 0 ws) spare t page (rank ws page) stands (place_at page slot) own f f_is)
+      pub at-shown : (P : Frame → Type 0) → All P v.frames → P f
+      at-shown P all = at-seen size limit slots (places_from 0 ws) spare t ws candidates v is slot.page (rank ws slot.page) stands (place_at slot.page slot.index) own f f_is P all
 
-    pub changed-shown : (f : Frame) → f ≡ get_or slots slot f → (change : Frame → Frame) (next : Frame) → next ≡ change f → table_of size limit (set slots slot next) (places_from 0 ws) spare pages candidates ≡ with_changed v page change
-    changed-shown f f_is change next same = changed-seen size limit slots (places_from 0 ws) spare t pages candidates v is page (rank ws page) stands (place_at page slot) own f f_is change next same
+      pub changed-shown : (change : Frame → Frame) (next : Frame) → next ≡ change f → table_of size limit (set slots slot.index next) (places_from 0 ws) spare ws candidates ≡ with_changed v slot.page change
+      changed-shown change next same = changed-seen size limit slots (places_from 0 ws) spare t ws candidates v is slot.page (rank ws slot.page) stands (place_at slot.page slot.index) own f f_is change next same
 
-  -- a page that has a frame has a slot
-  pub slot-known : some (is_frame_of page) v.frames ≡ true → get_or ws page 0 ≢ 0
-  slot-known some_frame away = true≢false (sym some_frame ∙ none-shown away)
+    pub some-shown : some (is_frame_of slot.page) v.frames ≡ true
+    some-shown =
+        let f = get_or slots slot.index no_frame in
+        let f_is = get_or_default slots slot.index no_frame f slot-shown in
+        let there = frame-shown f f_is in
+        some-at (is_frame_of slot.page) v.frames there.0 f there.1 (ap (is_frame_of slot.page) there.2 ∙ frame-page f f_is)
 
-  pub away-known : some (is_frame_of page) v.frames ≡ false → get_or ws page 0 ≡ 0
-  away-known none = go (get_or ws page 0) refl
+  -- a page that has no frame has no slot
+  pub away-known : (page : ℕ) → some (is_frame_of page) v.frames ≡ false → get_or ws page 0 ≡ 0
+  away-known page none = go (get_or ws page 0) refl
     where
       go : (w : ℕ) → get_or ws page 0 ≡ w → get_or ws page 0 ≡ 0
       go zero w_is = w_is
-      go (suc slot) w_is = absurd (nowhere-seen size limit slots (places_from 0 ws) spare t pages candidates v is page none (rank ws page) (place_at page slot) (stands slot (w_is ∙ omega arith)).in_range ((stands slot (w_is ∙ omega arith)).here (place_at page slot)))
-
-  pub slot-found : (o : Option ℕ) → IsSlotOf ws page o → some (is_frame_of page) v.frames ≡ true → IsSome o
-  slot-found None away some_frame = absurd (slot-known some_frame away)
-  slot-found (Some slot) here some_frame = refl
-
--- the slot that was found, in a list that was lent
-pub slot-here : (lent ws : List ℕ) (page : ℕ) (o : Option ℕ) (slot : ℕ) → lent ≡ ws → IsSlotOf lent page o → o ≡ Some slot → get_or ws page 0 ≡ slot + 1
-slot-here lent ws page o slot same found is = subst (λ xs. IsSlotOf xs page (Some slot)) same (subst (IsSlotOf lent page) is found)
+      go (suc index) w_is =
+          let there = place-stands ws page index (w_is ∙ omega arith) in
+          absurd (nowhere-seen size limit slots (places_from 0 ws) spare t ws candidates v is page none (rank ws page) (place_at page index) there.in_range (there.here (place_at page index)))
 
 -- no two pages have one slot
 pub one-page : (size limit : ℕ) (slots : List Frame) (ws spare : List ℕ) → IsTable size limit slots (places_from 0 ws) spare → (p q slot : ℕ) → get_or ws p 0 ≡ slot + 1 → get_or ws q 0 ≡ slot + 1 → p ≡ q
@@ -227,6 +216,31 @@ one-page size limit slots ws spare t p q slot here there = sym (page p here) ∙
         let s = place-stands ws r slot is in
         let at = at-place ws r slot is (place_at r slot) in
         sym (ap (λ (x : Place). (frame_at slots x).page) at) ∙ t.points (rank ws r) (place_at r slot) s.in_range ∙ ap page_of at
+
+-- a change of the frame of a page: those that are there afterwards
+pub changed-in : (page : ℕ) (change : Frame → Frame) → ((f : Frame) → (change f).page ≡ f.page) → (frames : List Frame) (f : Frame) → Contains (changed_at page change frames) f → f.page ≡ page → (g : Frame) × Contains frames g × (g.page ≡ page) × (f ≡ change g)
+unfolding changed_at
+changed-in page change same frames f there page_is =
+    let lt : there.0 < length frames = omega (arith, there.1, length-mapped (λ g. cond (is_frame_of page g) (change g) g) frames) in
+    let g = get_or frames there.0 f in
+    let f_is : f ≡ cond (is_frame_of page g) (change g) g = sym there.2 ∙ get_or-map (λ g. cond (is_frame_of page g) (change g) g) frames there.0 f f lt in
+    let g_page : g.page ≡ page = own (is_frame_of page g) g (ap (λ (h : Frame). h.page) (sym f_is) ∙ page_is) in
+    (g, (there.0, lt, get_or_default frames there.0 g f lt), g_page, f_is ∙ ap (λ b. cond b (change g) g) (eq-eqb g.page page g_page))
+  where
+    own : (b : Bool) (g : Frame) → (cond b (change g) g).page ≡ page → g.page ≡ page
+    own true g is = sym (same g) ∙ is
+    own false g is = is
+
+-- what holds of each frame, after a change that keeps it
+pub changed-all : (P : Frame → Type 0) (page : ℕ) (change : Frame → Frame) → ((f : Frame) → P f → P (change f)) → (frames : List Frame) → All P frames → All P (changed_at page change frames)
+unfolding changed_at
+changed-all P page change keeps frames all k d lt =
+    let in_range : k < length frames = omega (arith, lt, length-mapped (λ g. cond (is_frame_of page g) (change g) g) frames) in
+    subst P (sym (get_or-map (λ g. cond (is_frame_of page g) (change g) g) frames k d d in_range)) (either (is_frame_of page (get_or frames k d)) (get_or frames k d) (all k d in_range))
+  where
+    either : (b : Bool) (g : Frame) → P g → P (cond b (change g) g)
+    either true g p = keeps g p
+    either false g p = p
 
 -- a change of one frame keeps its page's frame there
 pub some-changed : (page : ℕ) (change : Frame → Frame) → ((f : Frame) → (change f).page ≡ f.page) → (frames : List Frame) → some (is_frame_of page) (changed_at page change frames) ≡ some (is_frame_of page) frames

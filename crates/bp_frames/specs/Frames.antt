@@ -1,10 +1,15 @@
 -- Lists of frames.
-use Rattle.std.specs.Prelude.{ℕ, ◌+◌, ◌-◌, max, Bool, true, false, not, ◌==◌, List, filter, map, Some, if◌then◌else◌}
+use Rattle.std.specs.Prelude.{ℕ, ◌+◌, ◌-◌, max, Bool, true, false, not, ◌&&◌, ◌==◌, List, filter}
+use Rattle.std.specs.Prelude.{map, Some, if◌then◌else◌}
 use Rattle.bp_page.specs.Patched.{patched}
 use Rattle.bp_frames.specs.declared.frame.Frame.{Frame}
 
 abbrev pub is_frame_of : ℕ → Frame → Bool
 is_frame_of page frame = frame.page == page
+
+-- no pass of its page is out, and no write-out of it is under way
+abbrev pub is_unused : Frame → Bool
+is_unused f = (f.pins == 0) && not f.is_writing
 
 -- what a good read leaves, with the block of the page's references and the pass that it gives
 abbrev pub loaded_with : ℕ → ℕ → List ℕ → Frame

@@ -1,21 +1,28 @@
 -- The frames of a core: each serves one page after another, and is found through a list that has an
 -- entry for each page of the file.
-use Rattle.std.specs.Prelude.{◌≡◌, ◌≢◌, ℕ, zero, suc, ◌+◌, ◌<◌, ◌≤◌, All, List, [], ◌∷◌, map, length, slice_index, slice_index_or, false, Option, Some, None}
+use Rattle.std.specs.Prelude.{◌≡◌, ◌≢◌, ℕ, zero, suc, ◌+◌, ◌<◌, ◌≤◌, All, List, [], ◌∷◌, map}
+use Rattle.std.specs.Prelude.{length, slice_index, slice_index_or, false, Option, None, Some}
 use Rattle.bp_references.specs.Candidates.{Candidate, Entered}
 use Rattle.bp_frames.specs.declared.frame.Frame.{Frame}
+use Rattle.bp_frames.specs.declared.frame.FrameSlot.{FrameSlot}
 use Rattle.bp_frames.specs.Frames.{changed_at}
 use Rattle.bp_frames.specs.Rising.{IsRisingBy}
 
 -- the frames of pages, in the order of page numbers; how many wait for a page; the bytes of an
--- image; how many frames there may be; how many pages the file has; and the candidates for
--- replacement
+-- image; how many frames there may be; how many pages the file has; for each of these one more than
+-- the slot of its frame, or 0 where it has none; and the candidates for replacement
 pub record Table : Type 0 where
   pub frames : List Frame
   pub spare : ℕ
   pub size : ℕ
   pub limit : ℕ
   pub pages : ℕ
+  pub places : List ℕ
   pub candidates : Entered
+
+-- this is where the frame of its page is
+abbrev pub IsSlotIn : Table → FrameSlot → Type 0
+IsSlotIn table slot = slice_index table.places slot.page ≡ slot.index + 1
 
 -- the slot of a page's frame
 pub record Place : Type 0 where
@@ -29,11 +36,6 @@ places_from page [] = []
 places_from page (zero ∷ slots) = places_from (suc page) slots
 places_from page (suc slot ∷ slots) =
     record { page = page; slot = slot } ∷ places_from (suc page) slots
-
--- the slot of a page's frame, if it has one
-abbrev pub IsSlotOf : List ℕ → ℕ → Option ℕ → Type 0
-IsSlotOf whereabouts page (Some slot) = slice_index whereabouts page ≡ slot + 1
-IsSlotOf whereabouts page None = slice_index whereabouts page ≡ 0
 
 -- the frame of one page changed
 abbrev pub with_changed : Table → ℕ → (Frame → Frame) → Table
@@ -58,14 +60,15 @@ frame_at slots place = slice_index_or slots place.slot no_frame
 abbrev pub frames_of : List Frame → List Place → List Frame
 frames_of slots places = map (frame_at slots) places
 
-abbrev pub table_of : ℕ → ℕ → List Frame → List Place → List ℕ → ℕ → Entered → Table
-table_of size limit slots places spare pages candidates =
+abbrev pub table_of : ℕ → ℕ → List Frame → List Place → List ℕ → List ℕ → Entered → Table
+table_of size limit slots places spare whereabouts candidates =
     record {
       frames = frames_of slots places;
       spare = length spare;
       size = size;
       limit = limit;
-      pages = pages;
+      pages = length whereabouts;
+      places = whereabouts;
       candidates = candidates;
     }
 

@@ -1,5 +1,5 @@
 //! One frame: a page in memory, and how it is used.
-ghost use Rattle.std.specs.Prelude.{max, not, ◌≡◌, ◌==◌, ◌&&◌, ◌+◌, ◌^◌, ◌<◌, ◌≤◌, length};
+ghost use Rattle.std.specs.Prelude.{max, ◌≡◌, ◌+◌, ◌^◌, ◌<◌, ◌≤◌, length};
 
 use bp_page::{Image, Lsn, PageNo};
 use bp_replacer::BlockNo;
@@ -25,6 +25,22 @@ pub struct Frame {
     pub image: Image,
 }
 
+/// Where the frame of a page is, as a look-up of the page finds it. It stays right as long as the page is in its frame.
+#[derive(Clone, Copy)]
+pub struct FrameSlot {
+    pub(crate) page: PageNo,
+    pub(crate) index: usize,
+}
+
+impl FrameSlot {
+    /// The page that is there.
+    pub fn page(&self) -> PageNo
+        ensures { result ≡ self.now.page }
+    {
+        self.page
+    }
+}
+
 /// The greater of two LSNs.
 pub fn later(a: Lsn, b: Lsn) -> Lsn
     ensures { result ≡ max a b }
@@ -33,7 +49,8 @@ pub fn later(a: Lsn, b: Lsn) -> Lsn
 }
 
 impl Frame {
-    ghost use Rattle.bp_frames.specs.Frames.{loaded_with, pinned, unpinned, written_on, saving, saved, not_saved};
+    ghost use Rattle.bp_frames.specs.Frames.{is_unused, loaded_with, pinned, unpinned, written_on};
+    ghost use Rattle.bp_frames.specs.Frames.{saving, saved, not_saved};
 
     /// A frame that waits for a page, with this image to copy it into.
     pub(crate) fn waiting(image: Image) -> Frame
@@ -82,11 +99,11 @@ impl Frame {
         self.pins -= 1;
     }
 
-    /// Whether nobody uses the page any longer once a pass is given back.
-    pub fn is_last_use(&self) -> bool
-        ensures { result ≡ ((self.now.pins == 1) && not self.now.is_writing) }
+    /// Whether nobody uses the page: no pass of it is out, and no write-out of it is under way.
+    pub fn is_unused(&self) -> bool
+        ensures { result ≡ is_unused self.now }
     {
-        self.pins == 1 && !self.is_writing
+        self.pins == 0 && !self.is_writing
     }
 
     /// Puts bytes into the image.

@@ -1,12 +1,15 @@
 //! The frames, where the frame of each page is, and which of their pages may be replaced.
-ghost use Rattle.std.specs.Prelude.{◌≡◌, ◌≢◌, ℕ, ◌+◌, ◌^◌, ◌<◌, ◌≤◌, ◌∷◌, [], All, Contains, IsFalse, Some, None, true, false, length, IfOk, OnOk, OnErr, IfSome, IfNone};
+ghost use Rattle.std.specs.Prelude.{◌≡◌, ◌≢◌, ℕ, ◌+◌, ◌^◌, ◌<◌, ◌≤◌, ◌∷◌, [], All, Contains};
+ghost use Rattle.std.specs.Prelude.{IsFalse, Some, None, is_some, true, false, length, replicate};
+ghost use Rattle.std.specs.Prelude.{IfOk, OnOk, OnErr, IfSome, IfNone};
 ghost use Rattle.std.specs.List.Sorted.{IsPermutation};
-ghost use Rattle.bp_references.specs.Candidates.{entry_of, is_eligible, IsVictim, NoPageTwice, SameLimits};
+ghost use Rattle.bp_references.specs.Candidates.{entry_of, is_eligible, IsVictim, NoPageTwice};
+ghost use Rattle.bp_references.specs.Candidates.{SameLimits};
 ghost use Rattle.bp_trail.specs.Lists.{some};
-ghost use Rattle.bp_frames.specs.Frames.{is_frame_of, loaded_with, pinned, unpinned, written_on, saving, saved, not_saved, without_page};
-ghost use Rattle.bp_frames.specs.Tables.{IsSlotOf};
+ghost use Rattle.bp_frames.specs.Frames.{is_frame_of, loaded_with, pinned, unpinned, written_on};
+ghost use Rattle.bp_frames.specs.Frames.{saving, saved, not_saved, without_page};
 
-use crate::frame::Frame;
+use crate::frame::{Frame, FrameSlot};
 use bp_page::{Geometry, Image, Lsn, PageNo};
 use bp_replacer::seats::Candidates;
 use bp_replacer::{BlockNo, Settings};
@@ -14,7 +17,8 @@ use std::alloc::{AllocError, Global};
 use std::marker::Model;
 
 /// The frames of a core, at most `limit`, with an image of the geometry's size in each. A frame is made once, when a
-/// load first needs it, and serves one page after another. A page's frame is found in one step.
+/// load first needs it, and serves one page after another. A page's frame is found in one step, and then known by its
+/// slot.
 #[derive(Drop)]
 pub struct FrameTable {
     geometry: Geometry,
@@ -29,14 +33,15 @@ pub struct FrameTable {
 }
 
 impl Model for FrameTable {
-    ghost use Rattle.std.specs.Prelude.{vec_capacity, length};
+    ghost use Rattle.std.specs.Prelude.{vec_capacity};
     ghost use Rattle.bp_replacer.specs.Seats.{entered};
-    ghost use Rattle.bp_frames.specs.Tables.{Table, table_of, places_from, IsTable, HasTableRoom, IsSeating};
+    ghost use Rattle.bp_frames.specs.Tables.{Table, table_of, places_from, IsTable, HasTableRoom};
+    ghost use Rattle.bp_frames.specs.Tables.{IsSeating};
 
     ghost Value = { Table };
 
     ghost view = { λ t. table_of t.geometry.size t.limit t.slots.items
-        (places_from 0 t.places.items) t.spare.items (length t.places.items)
+        (places_from 0 t.places.items) t.spare.items t.places.items
         (entered t.candidates) };
 
     ghost invariant = { λ t. IsTable t.geometry.size t.limit t.slots.items
@@ -45,24 +50,8 @@ impl Model for FrameTable {
         × IsSeating t.limit t.places.items t.candidates.seats };
 }
 
-/// The slot of a page's frame, if it has one.
-fn find(places: &[u32], page: PageNo) -> Option<usize>
-    ensures { IsSlotOf places.now page result }
-{
-    let number = page.number();
-    if number >= places.len() as u64 {
-        return None;
-    }
-    let place = places[number as usize];
-    if place == 0 {
-        None
-    } else {
-        Some(place as usize - 1)
-    }
-}
-
 impl FrameTable {
-    ghost use Rattle.bp_frames.specs.Tables.{with_changed};
+    ghost use Rattle.bp_frames.specs.Tables.{IsSlotIn, with_changed};
 
     /// Room for `limit` frames, at most 65,536, none of which is made yet, and 4 bytes for each page of the file. It
     /// fails by want of memory alone.
@@ -80,6 +69,7 @@ impl FrameTable {
           limit
               = limit;
           pages = geometry.pages;
+          places = replicate geometry.pages 0;
           candidates = record
               { frames = limit; correlated = settings.correlated; entries = [] };
         }) }
@@ -102,71 +92,82 @@ impl FrameTable {
         self.slots.len() - self.spare.len()
     }
 
-    /// The frame of a page, if it has one. Of a page beyond the file there is none.
-    pub fn find(&self, page: PageNo) -> Option<&Frame>
-        ensures found { IfSome result (λ f. Contains self.now.frames f.now × (f.now.page ≡ page)) }
-        ensures none { IfNone result (some (is_frame_of page) self.now.frames ≡ false) }
+    /// Where the frame of a page is, if it has one. Of a page beyond the file there is none.
+    pub fn find(&self, page: PageNo) -> Option<FrameSlot>
+        ensures here { is_some result ≡ some (is_frame_of page) self.now.frames }
+        ensures found { IfSome result (λ slot. IsSlotIn self.now slot × (slot.page ≡ page)) }
     {
-        let slot = find(&self.places, page)?;
-        Some(&self.slots[slot])
+        let number = page.number();
+        if number >= self.places.len() as u64 {
+            return None;
+        }
+        let place = self.places[number as usize];
+        if place == 0 {
+            return None;
+        }
+        let index = place as usize - 1;
+        Some(FrameSlot { page, index })
     }
 
-    /// Counts one more pass of the page, if it has a frame. No frame may have 2^63 passes out yet.
-    pub fn pin(&mut self, page: PageNo)
-        requires { All (λ f. f.pins < 2 ^ 63) self.old.frames }
-        ensures { self.new ≡ with_changed self.old page pinned }
+    /// The frame in a slot that was found.
+    pub fn frame(&self, slot: &FrameSlot) -> &Frame
+        requires { IsSlotIn self.now slot.now }
+        ensures here { Contains self.now.frames result.now }
+        ensures page { result.now.page ≡ slot.now.page }
     {
-        if let Some(slot) = find(&self.places, page) {
-            self.slots[slot].pin();
-        }
+        &self.slots[slot.index]
     }
 
-    /// Counts one pass fewer of the page, if it has a frame. Its frame must have a pass out.
-    pub fn unpin(&mut self, page: PageNo)
-        requires { All (λ f. is_frame_of page f ≡ true → 0 < f.pins) self.old.frames }
-        ensures { self.new ≡ with_changed self.old page unpinned }
+    /// Counts one more pass of the page. No frame may have 2^63 passes out yet.
+    pub fn pin(&mut self, slot: &FrameSlot)
+        requires at { IsSlotIn self.old slot.now }
+        requires few { All (λ f. f.pins < 2 ^ 63) self.old.frames }
+        ensures { self.new ≡ with_changed self.old slot.now.page pinned }
     {
-        if let Some(slot) = find(&self.places, page) {
-            self.slots[slot].unpin();
-        }
+        self.slots[slot.index].pin();
     }
 
-    /// Puts bytes into the page's image from the offset on, if it has a frame, and raises its page LSN to `lsn` if
-    /// that is greater. The bytes must end within the image.
-    pub fn write(&mut self, page: PageNo, offset: usize, bytes: &[u8], lsn: Lsn)
-        requires { offset + length bytes.now ≤ self.old.size }
-        ensures { self.new ≡ with_changed self.old page (written_on offset bytes.now lsn) }
+    /// Counts one pass fewer of the page. Its frame must have a pass out.
+    pub fn unpin(&mut self, slot: &FrameSlot)
+        requires at { IsSlotIn self.old slot.now }
+        requires some { All (λ f. is_frame_of slot.now.page f ≡ true → 0 < f.pins) self.old.frames }
+        ensures { self.new ≡ with_changed self.old slot.now.page unpinned }
     {
-        if let Some(slot) = find(&self.places, page) {
-            self.slots[slot].write(offset, bytes, lsn);
-        }
+        self.slots[slot.index].unpin();
     }
 
-    /// Notes that a write-out of the page begins, if it has a frame: writes from now on leave it unsaved.
-    pub fn begin_write_out(&mut self, page: PageNo)
-        ensures { self.new ≡ with_changed self.old page saving }
+    /// Puts bytes into the page's image from the offset on, and raises its page LSN to `lsn` if that is greater. The
+    /// bytes must end within the image.
+    pub fn write(&mut self, slot: &FrameSlot, offset: usize, bytes: &[u8], lsn: Lsn)
+        requires at { IsSlotIn self.old slot.now }
+        requires fits { offset + length bytes.now ≤ self.old.size }
+        ensures { self.new ≡ with_changed self.old slot.now.page (written_on offset bytes.now lsn) }
     {
-        if let Some(slot) = find(&self.places, page) {
-            self.slots[slot].begin_write_out();
-        }
+        self.slots[slot.index].write(offset, bytes, lsn);
     }
 
-    /// Notes that a write-out of the page ended well, if it has a frame: it is saved but for writes since that began.
-    pub fn end_write_out(&mut self, page: PageNo)
-        ensures { self.new ≡ with_changed self.old page saved }
+    /// Notes that a write-out of the page begins: writes from now on leave it unsaved.
+    pub fn begin_write_out(&mut self, slot: &FrameSlot)
+        requires { IsSlotIn self.old slot.now }
+        ensures { self.new ≡ with_changed self.old slot.now.page saving }
     {
-        if let Some(slot) = find(&self.places, page) {
-            self.slots[slot].end_write_out();
-        }
+        self.slots[slot.index].begin_write_out();
     }
 
-    /// Notes that a write-out of the page failed, if it has a frame: it stays as unsaved as it is.
-    pub fn fail_write_out(&mut self, page: PageNo)
-        ensures { self.new ≡ with_changed self.old page not_saved }
+    /// Notes that a write-out of the page ended well: it is saved but for writes since that began.
+    pub fn end_write_out(&mut self, slot: &FrameSlot)
+        requires { IsSlotIn self.old slot.now }
+        ensures { self.new ≡ with_changed self.old slot.now.page saved }
     {
-        if let Some(slot) = find(&self.places, page) {
-            self.slots[slot].fail_write_out();
-        }
+        self.slots[slot.index].end_write_out();
+    }
+
+    /// Notes that a write-out of the page failed: it stays as unsaved as it is.
+    pub fn fail_write_out(&mut self, slot: &FrameSlot)
+        requires { IsSlotIn self.old slot.now }
+        ensures { self.new ≡ with_changed self.old slot.now.page not_saved }
+    {
+        self.slots[slot.index].fail_write_out();
     }
 
     /// Sees to it that more than `reads` frames wait for a page, where that many wait or more. It may take memory, for
@@ -178,6 +179,7 @@ impl FrameTable {
         ensures size { self.new.size ≡ self.old.size }
         ensures limit { self.new.limit ≡ self.old.limit }
         ensures pages { self.new.pages ≡ self.old.pages }
+        ensures places { self.new.places ≡ self.old.places }
         ensures candidates { self.new.candidates ≡ self.old.candidates }
         ensures enough { OnOk result (reads < self.new.spare) }
         ensures more { self.old.spare ≤ self.new.spare }
@@ -213,50 +215,47 @@ impl FrameTable {
     }
 
     /// Takes a page that is no candidate out of its frame, which then waits for another.
-    pub fn vacate(&mut self, page: PageNo)
-        requires here { some (is_frame_of page) self.old.frames ≡ true }
-        requires apart { entry_of self.old.candidates page ≡ None }
+    pub fn vacate(&mut self, slot: &FrameSlot)
+        requires at { IsSlotIn self.old slot.now }
+        requires apart { entry_of self.old.candidates slot.now.page ≡ None }
         ensures { self.new ≡ record self.old {
-          frames = without_page page self.old.frames;
-          spare =
-              self.old.spare + 1;
+          frames = without_page slot.now.page self.old.frames;
+          spare = self.old.spare + 1;
+          places = self.new.places;
         } }
     {
-        let slot = find(&self.places, page).unwrap();
-        self.places[page.number() as usize] = 0;
-        self.spare.push_reserved(slot);
+        self.places[slot.page.number() as usize] = 0;
+        self.spare.push_reserved(slot.index);
     }
 
-    /// Enters a page that has a frame among the candidates, with its K-th stamp and the time of its newest reference,
-    /// in ticks. It takes no memory.
-    pub fn enter(&mut self, page: PageNo, hist_k: u64, last: u64)
-        requires here { some (is_frame_of page) self.old.frames ≡ true }
-        requires apart { entry_of self.old.candidates page ≡ None }
+    /// Enters the page among the candidates, where it is not yet, with its K-th stamp and the time of its newest
+    /// reference, in ticks. It takes no memory.
+    pub fn enter(&mut self, slot: &FrameSlot, hist_k: u64, last: u64)
+        requires at { IsSlotIn self.old slot.now }
+        requires apart { entry_of self.old.candidates slot.now.page ≡ None }
         ensures same { self.new ≡ record self.old { candidates = self.new.candidates } }
-        ensures entered { entry_of self.new.candidates page ≡ Some (hist_k, last) }
-        ensures others { (q : ℕ) → q ≢ page → entry_of self.new.candidates q
+        ensures entered { entry_of self.new.candidates slot.now.page ≡ Some (hist_k, last) }
+        ensures others { (q : ℕ) → q ≢ slot.now.page → entry_of self.new.candidates q
             ≡ entry_of self.old.candidates q }
         ensures pages { NoPageTwice self.old.candidates.entries →
             NoPageTwice self.new.candidates.entries }
         ensures limits { SameLimits self.old.candidates self.new.candidates }
     {
-        let slot = find(&self.places, page).unwrap();
-        self.candidates.enter(slot, page, hist_k, last);
+        self.candidates.enter(slot.index, slot.page, hist_k, last);
     }
 
-    /// Takes a page out of the candidates, if it is one.
-    pub fn withdraw(&mut self, page: PageNo)
+    /// Takes the page out of the candidates, if it is one.
+    pub fn withdraw(&mut self, slot: &FrameSlot)
+        requires { IsSlotIn self.old slot.now }
         ensures same { self.new ≡ record self.old { candidates = self.new.candidates } }
-        ensures left { entry_of self.new.candidates page ≡ None }
-        ensures others { (q : ℕ) → q ≢ page → entry_of self.new.candidates q
+        ensures left { entry_of self.new.candidates slot.now.page ≡ None }
+        ensures others { (q : ℕ) → q ≢ slot.now.page → entry_of self.new.candidates q
             ≡ entry_of self.old.candidates q }
         ensures pages { NoPageTwice self.old.candidates.entries →
             NoPageTwice self.new.candidates.entries }
         ensures limits { SameLimits self.old.candidates self.new.candidates }
     {
-        if let Some(slot) = find(&self.places, page) {
-            self.candidates.leave(slot);
-        }
+        self.candidates.leave(slot.index);
     }
 
     /// The candidate to replace at the time `t`, in ticks, if one is old enough.

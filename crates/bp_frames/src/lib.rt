@@ -1,7 +1,7 @@
 //! The frames of a buffer pool's core, and the passes and tickets that it has given out.
 //!
-//! A [`FrameTable`] holds the images of the pages that are in memory, finds a page's frame at once, and knows which
-//! pages may be replaced and which of them goes first. A [`GrantList`] holds the passes, or the tickets of one kind,
+//! A [`FrameTable`] holds the images of the pages that are in memory, and knows which pages may be replaced and which of
+//! them goes first. It finds a page's frame in one step, as a [`FrameSlot`], and other calls go on by that. A [`GrantList`] holds the passes, or the tickets of one kind,
 //! that are out. Neither knows of a trail: what each is seen as is said in `specs`, and the core above ties that to
 //! its entries.
 //!
@@ -13,6 +13,6 @@ pub mod frame;
 pub mod frame_table;
 pub mod grant_list;
 
-pub use frame::Frame;
+pub use frame::{Frame, FrameSlot};
 pub use frame_table::FrameTable;
 pub use grant_list::GrantList;

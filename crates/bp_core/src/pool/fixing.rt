@@ -1,5 +1,5 @@
 //! Fixing a page.
-ghost use Rattle.std.specs.Prelude.{◌≡◌, ◌<◌, true, false};
+ghost use Rattle.std.specs.Prelude.{◌≡◌, ◌<◌, false};
 ghost use Rattle.bp_trail.specs.Places.{loading, resident};
 ghost use Rattle.bp_trail.specs.Victim.{victim};
 ghost use Rattle.bp_core.specs.CoreView.{EachPast, HasRoomFor};
@@ -29,9 +29,32 @@ impl<K: Keeper> PoolCore<K> {
         if self.free() < 3 {
             return Err(Refusal::TrailFull);
         }
-        if self.frame(page).is_some() {
-            return self.hit(client, page);
-        }
+        let Some(slot) = self.state.frames.find(page) else {
+            return self.fault(client, page);
+        };
+        let pending = self.state.reads.len() + 1;
+        let Ok(()) = self.state.passes.reserve(pending) else {
+            return Err(Refusal::OutOfMemory);
+        };
+        let block = self.state.block(&slot);
+        self.state.frames.withdraw(&slot);
+        self.state.frames.pin(&slot);
+        self.state.histories.hit_at(page, block, self.state.clock);
+        let pass = self.state.give_pass(client, page);
+        self.trail
+            .record(client, Call::Fix(page), Reply::Hit(pass.serial));
+        Ok(Fix::Hit(pass))
+    }
+
+    /// Fixes a page that has no frame.
+    fn fault(&mut self, client: u8, page: PageNo) -> Result<Fix, Refusal>
+        requires client_in { client < self.old.parameters.clients }
+        requires page_in { page < self.old.parameters.pages }
+        requires away { EachPast self.old (λ past. resident past page ≡ false) }
+        requires room { HasRoomFor 3 self.old }
+        ensures outcome { FixOutcome self.old client page result self.new }
+        ensures memory { result ≡ Err Refusal.OutOfMemory → TakesMemory (Call.Fix page) self.old }
+    {
         if self.is_loading(page) {
             self.answer(client, Call::Fix(page), Reply::Busy);
             return Err(Refusal::Busy);
@@ -40,29 +63,6 @@ impl<K: Keeper> PoolCore<K> {
             return self.load(client, page);
         }
         self.make_way(client, page)
-    }
-
-    /// Gives a pass of a resident page.
-    fn hit(&mut self, client: u8, page: PageNo) -> Result<Fix, Refusal>
-        requires client_in { client < self.old.parameters.clients }
-        requires page_in { page < self.old.parameters.pages }
-        requires here { EachPast self.old (λ past. resident past page ≡ true) }
-        requires room { HasRoomFor 3 self.old }
-        ensures outcome { FixOutcome self.old client page result self.new }
-        ensures memory { TakesMemory (Call.Fix page) self.old }
-    {
-        let pending = self.state.reads.len() + 1;
-        let Ok(()) = self.state.passes.reserve(pending) else {
-            return Err(Refusal::OutOfMemory);
-        };
-        let block = self.state.block(page);
-        self.state.frames.withdraw(page);
-        self.state.frames.pin(page);
-        self.state.histories.hit_at(page, block, self.state.clock);
-        let pass = self.state.give_pass(client, page);
-        self.trail
-            .record(client, Call::Fix(page), Reply::Hit(pass.serial));
-        Ok(Fix::Hit(pass))
     }
 
     /// Brings a page into the frame of the victim, or begins to write the victim out.

@@ -1,6 +1,8 @@
 //! Bringing a page into a frame.
-ghost use Rattle.std.specs.Prelude.{◌≡◌, ℕ, ◌+◌, ◌^◌, ◌<◌, ◌≤◌, true, false, Some, None, IsSome, length, IfOk, OnOk, OnErr, ◌≢◌};
-ghost use Rattle.bp_replacer.specs.Histories.{is_held, place_of, SameStampsAt, SameAt, SameSettings, KeepsPlaces};
+ghost use Rattle.std.specs.Prelude.{◌≡◌, ℕ, ◌+◌, ◌^◌, ◌<◌, ◌≤◌, true, false, Some, None, IsSome};
+ghost use Rattle.std.specs.Prelude.{length, IfOk, OnOk, OnErr, ◌≢◌};
+ghost use Rattle.bp_replacer.specs.Histories.{is_held, place_of, SameStampsAt, SameAt};
+ghost use Rattle.bp_replacer.specs.Histories.{SameSettings, KeepsPlaces};
 ghost use Rattle.bp_trail.specs.Event.{grant};
 ghost use Rattle.bp_trail.specs.Legal.{is_out};
 ghost use Rattle.bp_trail.specs.Passes.{reads_out};
@@ -10,7 +12,8 @@ ghost use Rattle.bp_trail.specs.Victim.{victim};
 ghost use Rattle.bp_frames.specs.GrantLists.{GivesAsMuch};
 ghost use Rattle.bp_core.specs.CoreView.{EachPast, HasRoomFor};
 ghost use Rattle.bp_core.specs.ReadFaults.{read_failure};
-ghost use Rattle.bp_core.specs.Outcomes.{FixOutcome, HasFreeFrame, IsFull, ReadEndOutcome, ReadEndByOutcome, Adds, TakesMemory};
+ghost use Rattle.bp_core.specs.Outcomes.{FixOutcome, HasFreeFrame, IsFull, ReadEndOutcome};
+ghost use Rattle.bp_core.specs.Outcomes.{ReadEndByOutcome, Adds, TakesMemory};
 
 use crate::faults::{refusal_of_read, reply_of_read};
 use crate::passes::{EndRefusal, Fix, Pass, ReadTicket};
@@ -68,7 +71,8 @@ impl<K: Keeper> PoolCore<K> {
         ensures outcome { FixOutcome self.old client page result self.new }
         ensures memory { TakesMemory (Call.Fix page) self.old }
     {
-        let block = self.state.block(gone);
+        let slot = self.state.frames.find(gone).unwrap();
+        let block = self.state.block(&slot);
         let Ok(()) = make_ready(
             &mut self.state.passes,
             &mut self.state.reads,
@@ -77,8 +81,8 @@ impl<K: Keeper> PoolCore<K> {
         ) else {
             return Err(Refusal::OutOfMemory);
         };
-        self.state.frames.withdraw(gone);
-        self.state.frames.vacate(gone);
+        self.state.frames.withdraw(&slot);
+        self.state.frames.vacate(&slot);
         self.state.histories.unprepare_at(gone, block);
         let ticket = self.state.give_read(client, page);
         let reply = Reply::Load {

@@ -26,14 +26,13 @@ impl<K: Keeper> PoolCore<K> {
         self.config.room - (self.trail.len() + owed)
     }
 
-    /// Whether a read of the page is out. The histories hold resident pages and those that are being read.
+    /// Whether a read of a page that has no frame is out. The histories hold resident pages and those that are being
+    /// read.
     pub(super) fn is_loading(&self, page: PageNo) -> bool
+        requires away { EachPast self.now (λ past. resident past page ≡ false) }
         ensures { EachPast self.now (λ past. result ≡ loading past page) }
     {
-        match self.frame(page) {
-            Some(_) => false,
-            None => self.state.histories.holds(page),
-        }
+        self.state.histories.holds(page)
     }
 
     /// Whether the pass is out here.
@@ -64,9 +63,11 @@ impl<K: Keeper> PoolCore<K> {
         ensures found { IfSome result (λ f. EachPast self.now
             (λ past. f.now ≡ frame_of past page f.now.block)) }
         ensures here { IfSome result (λ f. EachPast self.now (λ past. resident past page ≡ true)) }
+        ensures idle { IfSome result (λ f. EachPast self.now (λ past. loading past page ≡ false)) }
         ensures away { IfNone result (EachPast self.now (λ past. resident past page ≡ false)) }
     {
-        self.state.frames.find(page)
+        let slot = self.state.frames.find(page)?;
+        Some(self.state.frames.frame(&slot))
     }
 
     /// Adds an entry that changes nothing else.

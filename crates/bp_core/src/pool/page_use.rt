@@ -4,7 +4,6 @@ ghost use Rattle.bp_core.specs.Outcomes.{ReadOutcome, WriteOutcome, UnfixOutcome
 
 use crate::passes::Pass;
 use crate::pool::PoolCore;
-use crate::state::offer;
 use bp_keeper::Keeper;
 use bp_page::{Bytes, Image, Lsn, Refusal};
 use bp_trail::{Call, Grant, Reply};
@@ -57,9 +56,10 @@ impl<K: Keeper> PoolCore<K> {
         let Ok(spare) = K::spare_bytes(self.alloc, bytes) else {
             return Err(Refusal::OutOfMemory);
         };
+        let slot = self.state.frames.find(pass.page).unwrap();
         self.state
             .frames
-            .write(pass.page, offset as usize, bytes.bytes(), lsn);
+            .write(&slot, offset as usize, bytes.bytes(), lsn);
         self.trail
             .record_write(pass.grant(), offset, bytes, lsn, spare);
         Ok(())
@@ -77,22 +77,10 @@ impl<K: Keeper> PoolCore<K> {
             page,
             serial,
         } = pass;
-        let Some(frame) = self.frame(page) else {
-            unreachable!()
-        };
-        let is_unused = frame.is_last_use();
-        let block = self.state.block(page);
-        self.state.frames.unpin(page);
+        let slot = self.state.frames.find(page).unwrap();
+        self.state.frames.unpin(&slot);
         self.state.passes.take_back(serial);
-        let k = self.config.settings.k;
-        offer(
-            &mut self.state.frames,
-            &self.state.histories,
-            page,
-            block,
-            k,
-            is_unused,
-        );
+        self.state.end_use(&slot, self.config.settings.k);
         let call = Call::Unfix { pass: serial, page };
         self.trail.record(client, call, Reply::Done);
         Ok(())

@@ -8,11 +8,12 @@ ghost use Rattle.bp_trail.specs.Passes.{tickets, writes_out};
 ghost use Rattle.bp_trail.specs.PageMap.{reply_of};
 ghost use Rattle.bp_trail.specs.Places.{resident};
 ghost use Rattle.bp_core.specs.CoreView.{EachPast, HasRoomFor};
-ghost use Rattle.bp_core.specs.Outcomes.{IsBegin, BeginOutcome, EndedOutcome, FlushOutcome, WriteEndOutcome, WriteEndByOutcome, Adds, AddsFailure, TakesMemory};
+ghost use Rattle.bp_core.specs.Outcomes.{IsBegin, BeginOutcome, EndedOutcome, FlushOutcome};
+ghost use Rattle.bp_core.specs.Outcomes.{WriteEndOutcome, WriteEndByOutcome, Adds, AddsFailure};
+ghost use Rattle.bp_core.specs.Outcomes.{TakesMemory};
 
 use crate::passes::{EndRefusal, Ended, Flush, WriteTicket};
 use crate::pool::PoolCore;
-use crate::state::offer;
 use bp_keeper::Keeper;
 use bp_page::{Image, PageNo, PortFault, Refusal};
 use bp_trail::{Call, Grant, Reply};
@@ -33,11 +34,11 @@ impl<K: Keeper> PoolCore<K> {
         if self.free() < 2 {
             return Err(Refusal::TrailFull);
         }
-        if self.is_loading(page) {
-            self.answer(client, Call::Flush(page), Reply::Busy);
-            return Err(Refusal::Busy);
-        }
         let Some(frame) = self.frame(page) else {
+            if self.is_loading(page) {
+                self.answer(client, Call::Flush(page), Reply::Busy);
+                return Err(Refusal::Busy);
+            }
             self.answer(client, Call::Flush(page), Reply::Absent);
             return Ok(Flush::Absent);
         };
@@ -77,9 +78,8 @@ impl<K: Keeper> PoolCore<K> {
         ensures outcome { BeginOutcome self.old client call page result self.new }
         ensures memory { TakesMemory call self.old }
     {
-        let Some(frame) = self.frame(page) else {
-            unreachable!()
-        };
+        let slot = self.state.frames.find(page).unwrap();
+        let frame = self.state.frames.frame(&slot);
         let lsn = frame.top;
         let Ok(image) = Image::of(self.alloc, frame.image.bytes()) else {
             return Err(Refusal::OutOfMemory);
@@ -90,8 +90,8 @@ impl<K: Keeper> PoolCore<K> {
         let Ok(()) = self.state.writes.reserve(1) else {
             return Err(Refusal::OutOfMemory);
         };
-        self.state.frames.withdraw(page);
-        self.state.frames.begin_write_out(page);
+        self.state.frames.withdraw(&slot);
+        self.state.frames.begin_write_out(&slot);
         let serial = self.state.give_write(client, page);
         let ticket = Grant {
             client,
@@ -162,23 +162,11 @@ impl<K: Keeper> PoolCore<K> {
             (writes_out past) ≡ true) }
         ensures { EndedOutcome self.old client page serial result self.new }
     {
-        let Some(frame) = self.frame(page) else {
-            unreachable!()
-        };
-        let is_rewritten = frame.is_rewritten;
-        let is_unused = frame.pins == 0;
-        let block = self.state.block(page);
+        let slot = self.state.frames.find(page).unwrap();
+        let is_rewritten = self.state.frames.frame(&slot).is_rewritten;
         self.state.writes.take_back(serial);
-        self.state.frames.end_write_out(page);
-        let k = self.config.settings.k;
-        offer(
-            &mut self.state.frames,
-            &self.state.histories,
-            page,
-            block,
-            k,
-            is_unused,
-        );
+        self.state.frames.end_write_out(&slot);
+        self.state.end_use(&slot, self.config.settings.k);
         let call = Call::WriteEnd {
             ticket: serial,
             page,
@@ -198,22 +186,10 @@ impl<K: Keeper> PoolCore<K> {
             (writes_out past) ≡ true) }
         ensures { AddsFailure self.old client page serial self.new }
     {
-        let Some(frame) = self.frame(page) else {
-            unreachable!()
-        };
-        let is_unused = frame.pins == 0;
-        let block = self.state.block(page);
+        let slot = self.state.frames.find(page).unwrap();
         self.state.writes.take_back(serial);
-        self.state.frames.fail_write_out(page);
-        let k = self.config.settings.k;
-        offer(
-            &mut self.state.frames,
-            &self.state.histories,
-            page,
-            block,
-            k,
-            is_unused,
-        );
+        self.state.frames.fail_write_out(&slot);
+        self.state.end_use(&slot, self.config.settings.k);
         let call = Call::WriteEnd {
             ticket: serial,
             page,

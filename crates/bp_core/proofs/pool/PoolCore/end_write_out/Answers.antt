@@ -1,38 +1,46 @@
-use Rattle.std.proofs.Common.{refl, sym, ◌∙◌, ap, true, ◌==◌}
-use Rattle.bp_references.specs.Candidates.{entry_of}
-use Rattle.bp_trail.specs.Lists.{some}
-use Rattle.bp_frames.specs.Frames.{is_frame_of, saved}
-use Rattle.bp_frames.specs.Tables.{Table}
-use Rattle.bp_frames.proofs.Tables.{some-changed}
+use Rattle.std.proofs.Common.{◌≡◌, refl, sym, ◌∙◌, ap, subst, true}
+use Rattle.bp_frames.specs.Frames.{is_unused, saved}
 use Rattle.bp_trail.specs.declared.entries.Call.TheVariants.{WriteEnd}
 use Rattle.bp_trail.specs.declared.entries.Reply.TheVariants.{Cleaned, StillDirty}
+use Rattle.bp_core.specs.CoreView.{EachPast}
+use Rattle.bp_core.specs.Agreement.{rewritten}
+use Rattle.bp_core.proofs.Seen.{frame_in}
 use Rattle.bp_core.proofs.Keeps.{adds}
-use Rattle.bp_core.proofs.Placed.{tell-blocks}
-use Rattle.bp_core.proofs.KeepsWriteOuts.{here-now, no-candidate, frame-here, keeps-cleaned, keeps-still_dirty}
+use Rattle.bp_core.proofs.Uses.{found, told-after}
+use Rattle.bp_core.proofs.KeepsWriteOuts.{no-candidate, frame-here, idle-after, keeps-cleaned, keeps-still_dirty}
 use Rattle.bp_core.proofs.pool.PoolCore.end_write_out.Goals as goal
 
-pub unreachable-requires : goal.unreachable-requires
-unreachable-requires g c = here-now _ _ _ c.self.invariant _ c.self.view_is c.args.client c.args.page c.args.serial c.requires c.in_default.ensures.away
+pub frame-requires : goal.frame-requires
+frame-requires g c = (found c.self.inside.state.frames c.args.page c.find.result c.unwrap-slot.result c.find.ensures.found c.unwrap-slot.ensures).0
 
-pub block-block-requires-clause-here : goal.block-block-requires-clause-here
-block-block-requires-clause-here g c = frame-here _ _ _ c.self.invariant _ c.self.view_is c.args.client c.args.page c.args.serial c.requires
+pub unwrap-slot-requires : goal.unwrap-slot-requires
+unwrap-slot-requires g c = c.find.ensures.here ∙ frame-here _ _ _ c.self.invariant _ c.self.view_is c.args.client c.args.page c.args.serial c.requires
 
-pub block-block-requires-clause-told : goal.block-block-requires-clause-told
-block-block-requires-clause-told g c = tell-blocks _ _ _ c.self.invariant
+pub end_write_out-requires : goal.end_write_out-requires
+end_write_out-requires g c = (found c.self.inside.state.frames c.args.page c.find.result c.unwrap-slot.result c.find.ensures.found c.unwrap-slot.ensures).0
 
-pub offer-requires-clause-here : goal.offer-requires-clause-here
-offer-requires-clause-here g c =
-    λ unused. ap (λ (t : Table). some (is_frame_of c.args.page) t.frames) c.end_write_out.ensures ∙ some-changed c.args.page saved (λ f. refl) c.self.inside.state.frames.frames ∙ frame-here _ _ _ c.self.invariant _ c.self.view_is c.args.client c.args.page c.args.serial c.requires
+pub end_use-requires-clause-at : goal.end_use-requires-clause-at
+end_use-requires-clause-at g c = rw c.end_write_out.ensures (found c.self.inside.state.frames c.args.page c.find.result c.unwrap-slot.result c.find.ensures.found c.unwrap-slot.ensures).0
 
-pub offer-requires-clause-apart : goal.offer-requires-clause-apart
-offer-requires-clause-apart g c =
-    λ unused. ap (λ (t : Table). entry_of t.candidates c.args.page) c.end_write_out.ensures ∙ no-candidate _ _ _ c.self.invariant _ c.self.view_is c.args.client c.args.page c.args.serial c.requires
+pub end_use-requires-clause-told : goal.end_use-requires-clause-told
+end_use-requires-clause-told g c = rw c.end_write_out.ensures (told-after _ _ _ c.self.invariant c.unwrap-slot.result.page saved (λ f. refl) (λ f. refl))
+
+pub end_use-requires-clause-apart : goal.end_use-requires-clause-apart
+end_use-requires-clause-apart g c =
+    let at = found c.self.inside.state.frames c.args.page c.find.result c.unwrap-slot.result c.find.ensures.found c.unwrap-slot.ensures in
+    rw (c.end_write_out.ensures, at.1) (no-candidate _ _ _ c.self.invariant _ c.self.view_is c.args.client c.args.page c.args.serial c.requires)
 
 pub invariant_of-self : goal.invariant_of-self
 invariant_of-self g c =
-    let o = rw c.end_write_out.ensures at c.offer.ensures in
+    let at = found c.self.inside.state.frames c.args.page c.find.result c.unwrap-slot.result c.find.ensures.found c.unwrap-slot.ensures in
+    let f = c.frame.result.now in
+    let is = frame_in _ _ _ c.self.invariant.agrees c.args.page f c.frame.ensures.here (c.frame.ensures.page ∙ at.1) in
+    let seen = subst (λ v. EachPast v (λ past. rewritten past c.args.page ≡ f.is_rewritten)) c.self.view_is (sym (ap (λ f. f.is_rewritten) is)) in
+    let o = rw (c.end_write_out.ensures, at.1) at c.end_use.ensures in
+    let e = o.entered in
+    let unused = idle-after _ _ _ c.self.invariant _ c.self.view_is c.args.client c.args.page c.args.serial c.requires saved (λ f. refl) (λ f. refl) (λ f. refl) e.frame e.here e.page_is in
     rw (c.record.ensures, o.same)
-    (keeps-still_dirty _ _ _ c.self.invariant _ c.self.view_is c.args.client c.args.page c.args.serial c.requires c.take_back.new.self c.take_back.ensures.out c.take_back.ensures.more (c.in-Some.frame.now.pins == 0) (ap (λ f. f.pins == 0) c.in-Some.ensures.found) c.offer.new.frames.candidates o.limits o.pages o.others o.entered (sym (ap (λ f. f.is_rewritten) c.in-Some.ensures.found) ∙ c.if-is_rewritten.true))
+    (keeps-still_dirty _ _ _ c.self.invariant _ c.self.view_is c.args.client c.args.page c.args.serial c.requires c.take_back.new.self c.take_back.ensures.out c.take_back.ensures.more (is_unused e.frame) unused c.end_use.new.self.frames.candidates o.limits o.pages o.others e.entered (seen ∙ c.if-is_rewritten.true))
 
 pub returns-then-is_rewritten : goal.returns-then-is_rewritten
 returns-then-is_rewritten g c =
@@ -40,9 +48,15 @@ returns-then-is_rewritten g c =
 
 pub invariant_of-self-2 : goal.invariant_of-self-2
 invariant_of-self-2 g c =
-    let o = rw c.end_write_out.ensures at c.offer.ensures in
+    let at = found c.self.inside.state.frames c.args.page c.find.result c.unwrap-slot.result c.find.ensures.found c.unwrap-slot.ensures in
+    let f = c.frame.result.now in
+    let is = frame_in _ _ _ c.self.invariant.agrees c.args.page f c.frame.ensures.here (c.frame.ensures.page ∙ at.1) in
+    let seen = subst (λ v. EachPast v (λ past. rewritten past c.args.page ≡ f.is_rewritten)) c.self.view_is (sym (ap (λ f. f.is_rewritten) is)) in
+    let o = rw (c.end_write_out.ensures, at.1) at c.end_use.ensures in
+    let e = o.entered in
+    let unused = idle-after _ _ _ c.self.invariant _ c.self.view_is c.args.client c.args.page c.args.serial c.requires saved (λ f. refl) (λ f. refl) (λ f. refl) e.frame e.here e.page_is in
     rw (c.record-2.ensures, o.same)
-    (keeps-cleaned _ _ _ c.self.invariant _ c.self.view_is c.args.client c.args.page c.args.serial c.requires c.take_back.new.self c.take_back.ensures.out c.take_back.ensures.more (c.in-Some.frame.now.pins == 0) (ap (λ f. f.pins == 0) c.in-Some.ensures.found) c.offer.new.frames.candidates o.limits o.pages o.others o.entered (sym (ap (λ f. f.is_rewritten) c.in-Some.ensures.found) ∙ c.if-is_rewritten.false))
+    (keeps-cleaned _ _ _ c.self.invariant _ c.self.view_is c.args.client c.args.page c.args.serial c.requires c.take_back.new.self c.take_back.ensures.out c.take_back.ensures.more (is_unused e.frame) unused c.end_use.new.self.frames.candidates o.limits o.pages o.others e.entered (seen ∙ c.if-is_rewritten.false))
 
 pub returns : goal.returns
 returns g c =

@@ -1,37 +1,37 @@
-use Rattle.std.proofs.Common.{refl, ◌∙◌, false, ap, ◌==◌}
-use Rattle.bp_references.specs.Candidates.{entry_of}
-use Rattle.bp_trail.specs.Lists.{some}
-use Rattle.bp_frames.specs.Frames.{is_frame_of, not_saved}
-use Rattle.bp_frames.specs.Tables.{Table}
-use Rattle.bp_frames.proofs.Tables.{some-changed}
+use Rattle.std.proofs.Common.{refl, ◌∙◌, false}
+use Rattle.bp_frames.specs.Frames.{is_unused, not_saved}
 use Rattle.bp_trail.specs.declared.entries.Call.TheVariants.{WriteEnd}
 use Rattle.bp_trail.specs.declared.entries.Reply.TheVariants.{WriteFailed}
 use Rattle.bp_core.proofs.Keeps.{adds}
-use Rattle.bp_core.proofs.Placed.{tell-blocks}
-use Rattle.bp_core.proofs.KeepsWriteOuts.{here-now, no-candidate, frame-here, keeps-fail_write_out}
+use Rattle.bp_core.proofs.Uses.{found, told-after}
+use Rattle.bp_core.proofs.KeepsWriteOuts.{no-candidate, frame-here, idle-after, keeps-fail_write_out}
 use Rattle.bp_core.proofs.pool.PoolCore.fail_write_out.Goals as goal
 
-pub unreachable-requires : goal.unreachable-requires
-unreachable-requires g c = here-now _ _ _ c.self.invariant _ c.self.view_is c.args.client c.args.page c.args.serial c.requires c.in_default.ensures.away
+pub unwrap-slot-requires : goal.unwrap-slot-requires
+unwrap-slot-requires g c = c.find.ensures.here ∙ frame-here _ _ _ c.self.invariant _ c.self.view_is c.args.client c.args.page c.args.serial c.requires
 
-pub block-block-requires-clause-here : goal.block-block-requires-clause-here
-block-block-requires-clause-here g c = frame-here _ _ _ c.self.invariant _ c.self.view_is c.args.client c.args.page c.args.serial c.requires
+pub fail_write_out-requires : goal.fail_write_out-requires
+fail_write_out-requires g c = (found c.self.inside.state.frames c.args.page c.find.result c.unwrap-slot.result c.find.ensures.found c.unwrap-slot.ensures).0
 
-pub block-block-requires-clause-told : goal.block-block-requires-clause-told
-block-block-requires-clause-told g c = tell-blocks _ _ _ c.self.invariant
+pub end_use-requires-clause-at : goal.end_use-requires-clause-at
+end_use-requires-clause-at g c = rw c.fail_write_out.ensures (found c.self.inside.state.frames c.args.page c.find.result c.unwrap-slot.result c.find.ensures.found c.unwrap-slot.ensures).0
 
-pub offer-requires-clause-here : goal.offer-requires-clause-here
-offer-requires-clause-here g c =
-    λ unused. ap (λ (t : Table). some (is_frame_of c.args.page) t.frames) c.fail_write_out.ensures ∙ some-changed c.args.page not_saved (λ f. refl) c.self.inside.state.frames.frames ∙ frame-here _ _ _ c.self.invariant _ c.self.view_is c.args.client c.args.page c.args.serial c.requires
+pub end_use-requires-clause-told : goal.end_use-requires-clause-told
+end_use-requires-clause-told g c = rw c.fail_write_out.ensures (told-after _ _ _ c.self.invariant c.unwrap-slot.result.page not_saved (λ f. refl) (λ f. refl))
 
-pub offer-requires-clause-apart : goal.offer-requires-clause-apart
-offer-requires-clause-apart g c =
-    λ unused. ap (λ (t : Table). entry_of t.candidates c.args.page) c.fail_write_out.ensures ∙ no-candidate _ _ _ c.self.invariant _ c.self.view_is c.args.client c.args.page c.args.serial c.requires
+pub end_use-requires-clause-apart : goal.end_use-requires-clause-apart
+end_use-requires-clause-apart g c =
+    let at = found c.self.inside.state.frames c.args.page c.find.result c.unwrap-slot.result c.find.ensures.found c.unwrap-slot.ensures in
+    rw (c.fail_write_out.ensures, at.1) (no-candidate _ _ _ c.self.invariant _ c.self.view_is c.args.client c.args.page c.args.serial c.requires)
 
 pub invariant_of-self : goal.invariant_of-self
 invariant_of-self g c =
-    let o = rw c.fail_write_out.ensures at c.offer.ensures in
-    rw (c.record.ensures, o.same) (keeps-fail_write_out _ _ _ c.self.invariant _ c.self.view_is c.args.client c.args.page c.args.serial c.requires c.take_back.new.self c.take_back.ensures.out c.take_back.ensures.more (c.in-Some.frame.now.pins == 0) (ap (λ f. f.pins == 0) c.in-Some.ensures.found) c.offer.new.frames.candidates o.limits o.pages o.others o.entered)
+    let at = found c.self.inside.state.frames c.args.page c.find.result c.unwrap-slot.result c.find.ensures.found c.unwrap-slot.ensures in
+    let o = rw (c.fail_write_out.ensures, at.1) at c.end_use.ensures in
+    let e = o.entered in
+    let unused = idle-after _ _ _ c.self.invariant _ c.self.view_is c.args.client c.args.page c.args.serial c.requires not_saved (λ f. refl) (λ f. refl) (λ f. refl) e.frame e.here e.page_is in
+    rw (c.record.ensures, o.same)
+    (keeps-fail_write_out _ _ _ c.self.invariant _ c.self.view_is c.args.client c.args.page c.args.serial c.requires c.take_back.new.self c.take_back.ensures.out c.take_back.ensures.more (is_unused e.frame) unused c.end_use.new.self.frames.candidates o.limits o.pages o.others e.entered)
 
 pub returns : goal.returns
 returns g c =

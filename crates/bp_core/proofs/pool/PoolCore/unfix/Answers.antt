@@ -1,56 +1,52 @@
-use Rattle.std.proofs.Common.{refl, ◌≡◌, sym, ◌∙◌, true, false, ap, ◌==◌, ◌&&◌}
-use Rattle.bp_references.specs.Candidates.{entry_of}
-use Rattle.bp_trail.specs.Lists.{some}
-use Rattle.bp_frames.specs.Frames.{is_frame_of, unpinned}
-use Rattle.bp_frames.specs.Tables.{Table}
-use Rattle.bp_frames.proofs.Tables.{some-changed}
-use Rattle.std.specs.Prelude.{not}
-use Rattle.std.proofs.lemmas.Bool.{true≢false}
+use Rattle.std.proofs.Common.{refl, ◌≡◌, ◌<◌, sym, ◌∙◌, true, subst}
+use Rattle.std.specs.Prelude.{All}
+use Rattle.bp_frames.specs.Frames.{is_frame_of, is_unused, unpinned}
 use Rattle.bp_trail.specs.declared.entries.Call.TheVariants.{Unfix}
 use Rattle.bp_trail.specs.declared.entries.Reply.TheVariants.{Done}
 use Rattle.bp_trail.specs.Event.{grant}
 use Rattle.bp_trail.specs.Passes.{passes_out}
-use Rattle.bp_trail.specs.Places.{resident}
 use Rattle.bp_trail.specs.Legal.{is_out}
 use Rattle.bp_core.proofs.Seen.{some_pins}
 use Rattle.bp_core.proofs.Keeps.{at-past, adds}
-use Rattle.bp_core.proofs.Placed.{tell-blocks}
-use Rattle.bp_core.proofs.KeepsPasses.{pinned-page, no-candidate, frame-here, keeps-unfix}
+use Rattle.bp_core.proofs.Uses.{found, told-after}
+use Rattle.bp_core.proofs.KeepsPasses.{no-candidate, frame-here, last-pass, keeps-unfix}
 use Rattle.bp_core.proofs.pool.PoolCore.unfix.Goals as goal
 
-pub unpin-requires : goal.unpin-requires
-unpin-requires g c =
+pub unwrap-slot-requires : goal.unwrap-slot-requires
+unwrap-slot-requires g c =
     let p = c.args.pass in
-    some_pins _ _ _ c.self.invariant.agrees p.client p.page p.serial (at-past _ _ _ c.self.invariant _ c.self.view_is (λ q past. is_out (grant p.client p.page p.serial) (passes_out past) ≡ true) (sym c.knows.ensures ∙ c.if-not-knows.false))
+    c.find.ensures.here ∙ frame-here _ _ _ c.self.invariant _ c.self.view_is p.client p.page p.serial (sym c.knows.ensures ∙ c.if-not-knows.false)
 
-pub unreachable-requires : goal.unreachable-requires
-unreachable-requires g c =
+pub unpin-requires-clause-at : goal.unpin-requires-clause-at
+unpin-requires-clause-at g c = (found c.self.inside.state.frames c.args.pass.page c.find.result c.unwrap-slot.result c.find.ensures.found c.unwrap-slot.ensures).0
+
+pub unpin-requires-clause-some : goal.unpin-requires-clause-some
+unpin-requires-clause-some g c =
     let p = c.args.pass in
-    true≢false (sym (pinned-page _ _ _ c.self.invariant _ c.self.view_is p.client p.page p.serial (sym c.knows.ensures ∙ c.if-not-knows.false)) ∙ at-past _ _ _ c.self.invariant _ c.self.view_is (λ q past. resident past p.page ≡ false) c.in_default.ensures.away)
+    let at = found c.self.inside.state.frames c.args.pass.page c.find.result c.unwrap-slot.result c.find.ensures.found c.unwrap-slot.ensures in
+    subst (λ q. All (λ f. is_frame_of q f ≡ true → 0 < f.pins) c.self.inside.state.frames.frames) (sym at.1)
+    (some_pins _ _ _ c.self.invariant.agrees p.client p.page p.serial (at-past _ _ _ c.self.invariant _ c.self.view_is (λ q past. is_out (grant p.client p.page p.serial) (passes_out past) ≡ true) (sym c.knows.ensures ∙ c.if-not-knows.false)))
 
-pub block-block-requires-clause-here : goal.block-block-requires-clause-here
-block-block-requires-clause-here g c =
+pub end_use-requires-clause-at : goal.end_use-requires-clause-at
+end_use-requires-clause-at g c = rw c.unpin.ensures (found c.self.inside.state.frames c.args.pass.page c.find.result c.unwrap-slot.result c.find.ensures.found c.unwrap-slot.ensures).0
+
+pub end_use-requires-clause-told : goal.end_use-requires-clause-told
+end_use-requires-clause-told g c = rw c.unpin.ensures (told-after _ _ _ c.self.invariant c.unwrap-slot.result.page unpinned (λ f. refl) (λ f. refl))
+
+pub end_use-requires-clause-apart : goal.end_use-requires-clause-apart
+end_use-requires-clause-apart g c =
     let p = c.args.pass in
-    frame-here _ _ _ c.self.invariant _ c.self.view_is p.client p.page p.serial (sym c.knows.ensures ∙ c.if-not-knows.false)
-
-pub block-block-requires-clause-told : goal.block-block-requires-clause-told
-block-block-requires-clause-told g c = tell-blocks _ _ _ c.self.invariant
-
-pub offer-requires-clause-here : goal.offer-requires-clause-here
-offer-requires-clause-here g c =
-    let p = c.args.pass in
-    λ unused. ap (λ (t : Table). some (is_frame_of p.page) t.frames) c.unpin.ensures ∙ some-changed p.page unpinned (λ f. refl) c.self.inside.state.frames.frames ∙ frame-here _ _ _ c.self.invariant _ c.self.view_is p.client p.page p.serial (sym c.knows.ensures ∙ c.if-not-knows.false)
-
-pub offer-requires-clause-apart : goal.offer-requires-clause-apart
-offer-requires-clause-apart g c =
-    let p = c.args.pass in
-    λ unused. ap (λ (t : Table). entry_of t.candidates p.page) c.unpin.ensures ∙ no-candidate _ _ _ c.self.invariant _ c.self.view_is p.client p.page p.serial (sym c.knows.ensures ∙ c.if-not-knows.false)
+    let at = found c.self.inside.state.frames c.args.pass.page c.find.result c.unwrap-slot.result c.find.ensures.found c.unwrap-slot.ensures in
+    rw (c.unpin.ensures, at.1) (no-candidate _ _ _ c.self.invariant _ c.self.view_is p.client p.page p.serial (sym c.knows.ensures ∙ c.if-not-knows.false))
 
 pub invariant_of-self : goal.invariant_of-self
 invariant_of-self g c =
     let p = c.args.pass in
-    let o = rw c.unpin.ensures at c.offer.ensures in
-    rw (c.record.ensures, o.same) (keeps-unfix _ _ _ c.self.invariant _ c.self.view_is p.client p.page p.serial (sym c.knows.ensures ∙ c.if-not-knows.false) c.is_last_use-is_unused.result (c.is_last_use-is_unused.ensures ∙ ap (λ f. (f.pins == 1) && not f.is_writing) c.in-Some.ensures.found) c.offer.new.frames.candidates o.limits o.pages o.others o.entered c.take_back.new.self c.take_back.ensures.out c.take_back.ensures.more)
+    let at = found c.self.inside.state.frames c.args.pass.page c.find.result c.unwrap-slot.result c.find.ensures.found c.unwrap-slot.ensures in
+    let o = rw (c.unpin.ensures, at.1) at c.end_use.ensures in
+    let e = o.entered in
+    let unused = last-pass _ _ _ c.self.invariant _ c.self.view_is p.client p.page p.serial (sym c.knows.ensures ∙ c.if-not-knows.false) e.frame e.here e.page_is in
+    rw (c.record.ensures, o.same) (keeps-unfix _ _ _ c.self.invariant _ c.self.view_is p.client p.page p.serial (sym c.knows.ensures ∙ c.if-not-knows.false) (is_unused e.frame) unused c.end_use.new.self.frames.candidates o.limits o.pages o.others e.entered c.take_back.new.self c.take_back.ensures.out c.take_back.ensures.more)
 
 pub returns : goal.returns
 returns g c =

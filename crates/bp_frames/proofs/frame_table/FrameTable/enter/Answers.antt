@@ -1,40 +1,44 @@
 use Rattle.std.proofs.Common.{◌∙◌, subst, sym, ap, arith}
 use Rattle.bp_references.specs.Candidates.{entry_of, find_entry}
 use Rattle.bp_replacer.specs.Seats.{Seated, seated_in}
-use Rattle.bp_frames.specs.Tables.{Table, IsSlotOf, IsSeating}
-use Rattle.bp_frames.proofs.Tables.{slot-found, slot-here, slot-few}
+use Rattle.bp_frames.specs.Tables.{Table, IsSeating}
+use Rattle.bp_frames.proofs.Tables.{slot-here, slot-few}
 use Rattle.bp_frames.proofs.Seating.{once, seat-empty, seating-entered, entered-here, entered-others}
 use Rattle.bp_frames.proofs.frame_table.FrameTable.enter.Goals as goal
 
-pub unwrap-slot-requires : goal.unwrap-slot-requires
-unwrap-slot-requires c =
-    slot-found _ _ _ _ _ c.self.invariant.0 _ _ _ c.self.view_is c.args.page c.find.result (subst (λ ws. IsSlotOf ws c.args.page c.find.result) c.deref.ensures.value c.find.ensures) c.requires.here
-
 pub enter-requires-clause-seat : goal.enter-requires-clause-seat
-enter-requires-clause-seat c = let lt = slot-few _ _ _ _ _ c.self.invariant.0 _ _ _ c.self.view_is c.args.page c.unwrap-slot.result (slot-here c.deref.result.now c.self.inside.places.items c.args.page c.find.result c.unwrap-slot.result c.deref.ensures.value c.find.ensures c.unwrap-slot.ensures) in omega (arith, lt, c.self.invariant.2.seats_is)
+enter-requires-clause-seat c = let lt = slot-few _ _ _ _ _ c.self.invariant.0 _ _ c.self.view_is c.args.slot.now c.requires.at in omega (arith, lt, c.self.invariant.2.seats_is)
 
 pub enter-requires-clause-empty : goal.enter-requires-clause-empty
 enter-requires-clause-empty c =
     let i = c.self.inside in
-    seat-empty _ _ _ _ _ c.self.invariant.0 i.candidates.seats c.self.invariant.2 c.args.page c.unwrap-slot.result (slot-here c.deref.result.now c.self.inside.places.items c.args.page c.find.result c.unwrap-slot.result c.deref.ensures.value c.find.ensures c.unwrap-slot.ensures) (slot-few _ _ _ _ _ c.self.invariant.0 _ _ _ c.self.view_is c.args.page c.unwrap-slot.result (slot-here c.deref.result.now c.self.inside.places.items c.args.page c.find.result c.unwrap-slot.result c.deref.ensures.value c.find.ensures c.unwrap-slot.ensures)) (ap (λ (t : Table). entry_of t.candidates c.args.page) c.self.view_is ∙ c.requires.apart)
+    let here = slot-here _ _ _ _ _ c.self.invariant.0 _ _ c.self.view_is c.args.slot.now c.requires.at in
+    let few = slot-few _ _ _ _ _ c.self.invariant.0 _ _ c.self.view_is c.args.slot.now c.requires.at in
+    seat-empty _ _ _ _ _ c.self.invariant.0 i.candidates.seats c.self.invariant.2 c.args.slot.now.page c.args.slot.now.index here few (ap (λ (t : Table). entry_of t.candidates c.args.slot.now.page) c.self.view_is ∙ c.requires.apart)
 
 pub invariant_of-self : goal.invariant_of-self
 invariant_of-self c =
     let i = c.self.inside in
     let v = c.self.invariant in
-    (v.0, v.1, subst (λ (s : Seated). IsSeating i.limit i.places.items s.seats) (sym c.enter.ensures) (seating-entered _ _ _ _ _ v.0 i.candidates.seats v.2 c.args.page c.unwrap-slot.result (slot-here c.deref.result.now c.self.inside.places.items c.args.page c.find.result c.unwrap-slot.result c.deref.ensures.value c.find.ensures c.unwrap-slot.ensures) (slot-few _ _ _ _ _ c.self.invariant.0 _ _ _ c.self.view_is c.args.page c.unwrap-slot.result (slot-here c.deref.result.now c.self.inside.places.items c.args.page c.find.result c.unwrap-slot.result c.deref.ensures.value c.find.ensures c.unwrap-slot.ensures)) c.args.hist_k c.args.last))
+    let here = slot-here _ _ _ _ _ c.self.invariant.0 _ _ c.self.view_is c.args.slot.now c.requires.at in
+    let few = slot-few _ _ _ _ _ c.self.invariant.0 _ _ c.self.view_is c.args.slot.now c.requires.at in
+    (v.0, v.1, subst (λ (s : Seated). IsSeating i.limit i.places.items s.seats) (sym c.enter.ensures) (seating-entered _ _ _ _ _ v.0 i.candidates.seats v.2 c.args.slot.now.page c.args.slot.now.index here few c.args.hist_k c.args.last))
 
 pub returns-clause-entered : goal.returns-clause-entered
 returns-clause-entered c =
     let i = c.self.inside in
     let v = c.self.invariant in
-    ap (λ (s : Seated). find_entry (seated_in s.seats) c.args.page) c.enter.ensures ∙ entered-here _ _ _ _ _ v.0 i.candidates.seats v.2 c.args.page c.unwrap-slot.result (slot-here c.deref.result.now c.self.inside.places.items c.args.page c.find.result c.unwrap-slot.result c.deref.ensures.value c.find.ensures c.unwrap-slot.ensures) (slot-few _ _ _ _ _ c.self.invariant.0 _ _ _ c.self.view_is c.args.page c.unwrap-slot.result (slot-here c.deref.result.now c.self.inside.places.items c.args.page c.find.result c.unwrap-slot.result c.deref.ensures.value c.find.ensures c.unwrap-slot.ensures)) c.args.hist_k c.args.last
+    let here = slot-here _ _ _ _ _ c.self.invariant.0 _ _ c.self.view_is c.args.slot.now c.requires.at in
+    let few = slot-few _ _ _ _ _ c.self.invariant.0 _ _ c.self.view_is c.args.slot.now c.requires.at in
+    ap (λ (s : Seated). find_entry (seated_in s.seats) c.args.slot.now.page) c.enter.ensures ∙ entered-here _ _ _ _ _ v.0 i.candidates.seats v.2 c.args.slot.now.page c.args.slot.now.index here few c.args.hist_k c.args.last
 
 pub returns-clause-others : goal.returns-clause-others
 returns-clause-others c = λ q other.
     let i = c.self.inside in
     let v = c.self.invariant in
-    ap (λ (s : Seated). find_entry (seated_in s.seats) q) c.enter.ensures ∙ entered-others _ _ _ _ _ v.0 i.candidates.seats v.2 c.args.page c.unwrap-slot.result (slot-here c.deref.result.now c.self.inside.places.items c.args.page c.find.result c.unwrap-slot.result c.deref.ensures.value c.find.ensures c.unwrap-slot.ensures) (slot-few _ _ _ _ _ c.self.invariant.0 _ _ _ c.self.view_is c.args.page c.unwrap-slot.result (slot-here c.deref.result.now c.self.inside.places.items c.args.page c.find.result c.unwrap-slot.result c.deref.ensures.value c.find.ensures c.unwrap-slot.ensures)) c.args.hist_k c.args.last q other ∙ ap (λ (t : Table). entry_of t.candidates q) c.self.view_is
+    let here = slot-here _ _ _ _ _ c.self.invariant.0 _ _ c.self.view_is c.args.slot.now c.requires.at in
+    let few = slot-few _ _ _ _ _ c.self.invariant.0 _ _ c.self.view_is c.args.slot.now c.requires.at in
+    ap (λ (s : Seated). find_entry (seated_in s.seats) q) c.enter.ensures ∙ entered-others _ _ _ _ _ v.0 i.candidates.seats v.2 c.args.slot.now.page c.args.slot.now.index here few c.args.hist_k c.args.last q other ∙ ap (λ (t : Table). entry_of t.candidates q) c.self.view_is
 
 pub returns-clause-pages : goal.returns-clause-pages
 returns-clause-pages c = λ before. once _ _ _ (invariant_of-self c).2

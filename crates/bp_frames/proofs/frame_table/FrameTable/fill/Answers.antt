@@ -13,7 +13,7 @@ use Rattle.bp_frames.proofs.frame_table.FrameTable.fill.Goals as goal
 
 -- the page has no frame yet
 away : (c : goal.After-self-2-1) → get_or c.self.inside.places.items c.args.page 0 ≡ 0
-away c = away-known _ _ _ _ _ c.self.invariant.0 _ _ _ c.self.view_is c.args.page c.requires.absent
+away c = away-known _ _ _ _ _ c.self.invariant.0 _ _ c.self.view_is c.args.page c.requires.absent
 
 -- its place is new
 one-more : (c : goal.After-self-2-1) → places_from 0 (set c.self.inside.places.items c.number.result (c.unwrap-slot.result + 1)) ≡ insert (places_from 0 c.self.inside.places.items) (rank c.self.inside.places.items c.args.page) (place_at c.args.page c.unwrap-slot.result)

@@ -1,21 +1,27 @@
-use Rattle.std.proofs.Common.{◌≡◌, ◌+◌, subst, get_or, arith}
-use Rattle.std.proofs.lemmas.Bool.{eqb-true}
-use Rattle.bp_frames.proofs.Places.{rank}
-use Rattle.bp_frames.proofs.Tables.{none-shown, slot-shown, stands-shown, frame-page}
+use Rattle.std.proofs.Common.{◌≡◌, ◌+◌, ◌-◌, get_or, sym, ap, ◌∙◌, subst, refl, arith}
+use Rattle.std.proofs.lemmas.List.{get_or_past, get_or_default}
+use Rattle.bp_frames.specs.Tables.{Table, IsSlotIn}
+use Rattle.bp_frames.proofs.Tables.{none-shown, some-shown}
 use Rattle.bp_frames.proofs.frame_table.FrameTable.find.Goals as goal
 
-pub returns-in_err-slot-clause-none : goal.returns-in_err-slot-clause-none
-returns-in_err-slot-clause-none c =
-    let none = none-shown _ _ _ _ _ c.self.invariant.0 _ _ _ c.self.view_is c.args.page (subst (λ ws. get_or ws c.args.page 0 ≡ 0) c.deref.ensures.value c.in_err-slot.ensures) in
-    rw c.from_residual.ensures none
+pub returns-then-number-len-clause-here : goal.returns-then-number-len-clause-here
+returns-then-number-len-clause-here c =
+    let ws = c.self.inside.places.items in
+    sym (none-shown _ _ _ _ _ c.self.invariant.0 _ _ c.self.view_is c.args.page (get_or_past ws c.args.page 0 (omega (arith, c.if-number-len.true, c.number-number.ensures, c.len.ensures))))
 
-pub index-requires : goal.index-requires
-index-requires c =
-    let lt = slot-shown _ _ _ _ _ c.self.invariant.0 _ _ _ c.self.view_is c.args.page c.in_ok-slot.slot (subst (λ ws. get_or ws c.args.page 0 ≡ c.in_ok-slot.slot + 1) c.deref.ensures.value c.in_ok-slot.ensures) in
-    omega (arith, lt)
+pub returns-then-place-eq0-clause-here : goal.returns-then-place-eq0-clause-here
+returns-then-place-eq0-clause-here c =
+    let ws = c.self.inside.places.items in
+    let there : get_or ws c.number-number.result 0 ≡ 0 = subst (λ d. get_or ws c.number-number.result d ≡ 0) c.if-place-eq0.true (sym c.index-place.ensures ∙ c.if-place-eq0.true) in
+    sym (none-shown _ _ _ _ _ c.self.invariant.0 _ _ c.self.view_is c.args.page (ap (λ n. get_or ws n 0) (sym c.number-number.ensures) ∙ there))
 
 pub returns-clause-found : goal.returns-clause-found
 returns-clause-found c =
-    let here = subst (λ ws. get_or ws c.args.page 0 ≡ c.in_ok-slot.slot + 1) c.deref.ensures.value c.in_ok-slot.ensures in
-    let stands = stands-shown _ _ _ _ _ c.self.invariant.0 _ _ _ c.self.view_is c.args.page c.in_ok-slot.slot here c.index.result.now c.index.ensures in
-    ((rank c.self.inside.places.items c.args.page, stands.0, stands.1), eqb-true c.index.result.now.page c.args.page (frame-page _ _ _ _ _ c.self.invariant.0 _ _ _ c.self.view_is c.args.page c.in_ok-slot.slot here c.index.result.now c.index.ensures))
+    let ws = c.self.inside.places.items in
+    let place = c.index-place.result.now in
+    let there : get_or ws c.number-number.result 0 ≡ place = get_or_default ws c.number-number.result 0 place (omega (arith, c.if-number-len.false, c.len.ensures)) ∙ sym c.index-place.ensures in
+    let one_more : place ≡ place - 1 + 1 = omega (arith, c.if-place-eq0.false) in
+    (subst (λ (t : Table). IsSlotIn t (record { page = c.args.page; index = place - 1 })) c.self.view_is (ap (λ n. get_or ws n 0) (sym c.number-number.ensures) ∙ there ∙ one_more), refl)
+
+pub returns-clause-here : goal.returns-clause-here
+returns-clause-here c = sym (some-shown _ _ _ _ _ c.self.invariant.0 _ _ c.self.view_is (record { page = c.args.page; index = c.index-place.result.now - 1 }) (returns-clause-found c).0)

@@ -39,4 +39,4 @@ returns c =
     let spare = ap length c.in_ok-with_capacity-2.ensures.items in
     let pages : length c.in_ok-vec.field-0.items ≡ c.args.geometry.pages = ap length ws ∙ length-replicated c.args.geometry.pages 0 in
     let seats : entered (record { correlated = c.args.settings.correlated; seats = replicate c.args.limit None }) ≡ record { frames = c.args.limit; correlated = c.args.settings.correlated; entries = [] } = (λ k. record { frames = length-replicated {X = Option Candidate} c.args.limit None k; correlated = c.args.settings.correlated; entries = nobody-seated c.args.limit k }) in
-    λ k. record { frames = frames k; spare = spare k; size = c.args.geometry.size; limit = c.args.limit; pages = pages k; candidates = (ap entered c.in_ok-new.ensures ∙ seats) k }
+    λ k. record { frames = frames k; spare = spare k; size = c.args.geometry.size; limit = c.args.limit; pages = pages k; places = ws k; candidates = (ap entered c.in_ok-new.ensures ∙ seats) k }
