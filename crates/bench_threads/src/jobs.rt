@@ -4,16 +4,17 @@ ghost use Rattle.bench_threads.specs.declared.TheConstants.{FILE_PAGES};
 
 use crate::kinds::Kind;
 use crate::{FILE_PAGES, FRAMES};
-use bp_core::{Entry, Pass};
+use bp_core::Entry;
 use bp_device::Port;
 use bp_page::PageNo;
-use bp_shared::{PoolName, Session, SharedPool, Taker};
+use bp_shared::{PoolName, Session, SharedPool, Taker, give_back};
 use std::alloc::Global;
 use std::sync::{Mutex, Wait};
 use std::thread;
 use std::thread::Threads;
 
-// The clock moves once in so many fixes of a thread: a page may leave only once it was last referenced before the present tick.
+// The clock moves once in so many fixes of a thread: a page may leave only once it was last referenced before the
+// present tick.
 const FIXES_A_TICK: u64 = 16;
 
 // The fixes of a thread between two of its cuts, where its pool is cut. Four threads then stay within the trail's room.
@@ -61,21 +62,6 @@ fn next(state: u64) -> u64 {
         .wrapping_add(1442695040888963407)
 }
 
-// Gives a pass back, by way of an emptied ring if need be.
-fn give_back<N: PoolName, K: Kind, R: Wait>(
-    rt: &R,
-    pool: &SharedPool<N, K>,
-    session: &mut Session<N, K>,
-    pass: Pass,
-) {
-    if let Err((pass, _)) = pool.unfix(session, pass) {
-        pool.settle(rt, session);
-        if let Err((pass, _)) = pool.unfix(session, pass) {
-            pass.note();
-        }
-    }
-}
-
 impl<N: PoolName, P: Port, K: Kind> Job<N, P, K> {
     ghost use Rattle.std.specs.Prelude.{◌≡◌, ◌<◌, ◌≤◌};
 
@@ -107,7 +93,9 @@ impl<N: PoolName, P: Port, K: Kind> Job<N, P, K> {
         requires page_in { page < N.parameters.pages }
     {
         if let Ok(pass) = pool.fix(rt, &mut self.session, &mut self.port, page) {
-            give_back(rt, pool, &mut self.session, pass);
+            if let Err((pass, _)) = give_back(rt, pool, &mut self.session, pass) {
+                pass.note();
+            }
             self.done = self.done.saturating_add(1);
         }
     }

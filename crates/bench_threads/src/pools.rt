@@ -8,11 +8,10 @@ use crate::kinds::Kind;
 use crate::{FILE_PAGES, FRAMES};
 use bp_core::PoolCore;
 use bp_device::{FilePort, MemDevice, MemPort, Port};
-use bp_mark::{Mark, Reader};
 use bp_page::{Format, Geometry, Refusal};
 use bp_replacer::Settings;
 use bp_replacer::settings::MAX_PERIOD;
-use bp_shared::{PoolName, Session, SharedPool, TrailRing};
+use bp_shared::{Parts, PoolName, Session, SharedPool};
 use std::alloc::Global;
 use std::fs::File;
 use std::marker::Brand;
@@ -26,10 +25,7 @@ const SIZE: usize = 1024;
 /// What a pool is made of.
 struct Made<K: Kind> {
     core: PoolCore<K>,
-    mark: Mark,
-    reader: Reader,
-    ring: TrailRing,
-    ghost reader_is: { reader.mark ≡ mark },
+    parts: Parts,
     ghost empty: { core.past ≡ [] },
     ghost pages_are: { core.parameters.pages ≡ FILE_PAGES },
     ghost size_is: { core.parameters.size ≡ SIZE },
@@ -39,15 +35,9 @@ struct Made<K: Kind> {
 fn make<K: Kind>(alloc: Global, clients: u8) -> Result<Made<K>, Refusal> {
     let geometry = Geometry::new(FILE_PAGES, SIZE)?;
     let settings = Settings::new(2, 0, MAX_PERIOD)?;
-    let (mark, _, reader) = Mark::new(alloc)?;
-    let ring = TrailRing::new(alloc)?;
+    let parts = Parts::new(alloc)?;
     let core = PoolCore::new(alloc, geometry, settings, FRAMES, clients, K::room())?;
-    Ok(Made {
-        core,
-        mark,
-        reader,
-        ring,
-    })
+    Ok(Made { core, parts })
 }
 
 /// What threads came to.
@@ -160,18 +150,19 @@ fn time_work<
     K: Kind,
     R: Runtime<A = Global> + Clock + Threads + Wait + Sync,
 >(rt: &R, made: Made<K>, ports: Vec<P>, work: Work) -> Result<Outcome, anyhow::Error>
-    requires mark { made.mark ≡ N.mark }
+    requires mark { made.parts.mark ≡ N.mark }
     requires parameters { made.core.parameters ≡ N.parameters }
     requires before { made.core.before ≡ N.before }
     requires past { made.core.past ≡ N.past }
-    requires ring { made.ring ≡ N.ring }
+    requires ring { made.parts.ring ≡ N.ring }
 {
-    let Made {
-        core,
+    let Made { core, parts } = made;
+    let Parts {
         mark,
+        end: _,
         reader,
         ring,
-    } = made;
+    } = parts;
     let (pool, sessions, taker) = SharedPool::<N, K>::new(rt.alloc(), core, mark, reader, ring)?;
     let takings = Mutex::new(Takings {
         taker,

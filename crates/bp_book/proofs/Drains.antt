@@ -1,9 +1,8 @@
 -- Passes that come out of rings.
-use Rattle.std.proofs.Common.{Vec, ◌≡◌, refl, sym, ap, subst, ◌∙◌, ℕ, ◌+◌, ◌≤◌, ◌<◌, List, [], ◌∷◌, ◌++◌, length, map, take, drop, set, get_or, reverse, append_assoc, add-one, arith, inl, inr}
+use Rattle.std.proofs.Common.{◌≡◌, refl, sym, ap, subst, ◌∙◌, ℕ, ◌+◌, ◌≤◌, ◌<◌, List, [], ◌∷◌, ◌++◌, length, map, take, drop, set, get_or, reverse, append_assoc, add-one, arith, inl, inr}
 use Rattle.std.proofs.Math.ListN.{get_or-map}
 use Rattle.std.proofs.Math.Seq.{take-suc, take-suc-set}
-use Rattle.std.proofs.lemmas.List.{append-nil, nil_from_length, reverse-append, length-map, map-set, drop_more, drop-set-lt, with_items_is}
-use Rattle.std.specs.Vec.{with_items}
+use Rattle.std.proofs.lemmas.List.{append-nil, nil_from_length, reverse-append, length-map, map-set, drop_more, drop-set-lt}
 use Rattle.rtrb.specs.declared.consumer.Consumer.{Consumer}
 use Rattle.bp_trail.specs.Event.{Grant}
 use Rattle.bp_trail.specs.Trail.{Trail}
@@ -85,12 +84,6 @@ rings_next view most i old now d y begin end after strays now_strayed then_stray
 
     rest : drop (i + 1) (map view (set now i y)) ≡ drop (i + 1) a
     rest = ap (drop (i + 1)) (map-set view now i y) ∙ drop-set-lt (i + 1) b i (view y) (omega arith) ∙ sym (ap (drop 1) from_here)
-
--- the rings that a vector lends
-pub lent_rings : {A P Z : Type 0} (most : ℕ) (rings : Vec (Consumer Grant A P) Z) (lent after : List (Consumer Grant A P)) (begin end : Trail) (strays now_strayed : ℕ) → lent ≡ rings.items → length after ≡ rings.len
-    → DrainsRings most (map ring_view lent) (map ring_view after) begin strays end now_strayed → DrainsRings most (map ring_view rings.items) (map ring_view (with_items rings after).items) begin strays end now_strayed
-lent_rings most rings lent after begin end strays now_strayed is len drained =
-    subst (λ cs. DrainsRings most (map ring_view rings.items) (map ring_view cs) begin strays end now_strayed) (sym (with_items_is rings after len)) (subst (λ cs. DrainsRings most (map ring_view cs) (map ring_view after) begin strays end now_strayed) is drained)
 
 -- the passes that went back leave what is durable
 pub go_back_durable : (start : Trail) (strays : ℕ) (taken : List Grant) (past : Trail) (strayed : ℕ) → GoBack start strays taken past strayed → durable past ≡ durable start

@@ -10,14 +10,13 @@ use Rattle.bp_trail.specs.declared.entries.Call.TheVariants.{ReadEnd, WriteEnd}
 use Rattle.bp_trail.specs.declared.entries.Reply.{Reply}
 use Rattle.bp_trail.specs.declared.entries.Reply.TheVariants.{Hit, Load, WriteFirst, Fixed}
 use Rattle.bp_core.specs.declared.passes.ReadTicket.{ReadTicket}
-use Rattle.bp_core.specs.declared.passes.WriteTicket.{WriteTicket}
 use Rattle.bp_core.specs.ReadFaults.{read_refusal, read_failure}
 use Rattle.bp_trail.specs.Lists.{and_given}
 use Rattle.bp_trail.specs.Event.{Grant, grant, pass_given}
 use Rattle.bp_trail.specs.Trail.{Trail}
 use Rattle.bp_trail.specs.Passes.{passes_out}
 use Rattle.bp_trail.specs.Pieces.{by}
-use Rattle.bp_book.specs.Books.{KeepsRoom, plain_reply, tickets_given, open_tickets, OwesRead, OwesWrite, OwesWriteEnd}
+use Rattle.bp_book.specs.Books.{KeepsRoom, plain_reply, tickets_given, open_tickets, OwesRead, OwesWriteEnd}
 use Rattle.bp_book.specs.Turns.{EndReadOutcome}
 
 pub filter_le : {X : Type 0} (p : X → Bool) (xs : List X) → length (filter p xs) ≤ length xs
@@ -33,9 +32,6 @@ read_owed client ticket said o = subst (λ (es : Trail). 1 ≤ open_tickets es) 
 
 pub write_owed : (client ticket : ℕ) (said : Trail) → OwesWriteEnd client ticket said → 1 ≤ open_tickets said
 write_owed client ticket said o = subst (λ (es : Trail). 1 ≤ open_tickets es) (sym o.gave) (omega arith)
-
-pub owes_write_end : (client : ℕ) (ticket : WriteTicket) (said : Trail) → OwesWrite client ticket said → OwesWriteEnd client ticket.serial said
-owes_write_end client ticket said o = record { call = o.call; page = ticket.page; image = ticket.image; before = o.before; gave = o.gave }
 
 pub keeps_loaded : (client : ℕ) (said after : Trail) (held held' : List Grant) (tickets kept kept' copies copies' : ℕ) (c c' h h' : ℕ) (ticket : ReadTicket) (n : ℕ) (image : List ℕ)
     → KeepsRoom client said held tickets kept copies c h → OwesRead client ticket said

@@ -1,6 +1,6 @@
 pub mod Asking
 pub mod Ending
 pub mod Posting
-pub mod Striking
+pub mod Removing
 pub mod Drains
 pub mod Keeping

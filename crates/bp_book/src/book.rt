@@ -1,5 +1,7 @@
 //! What a session keeps for itself: its own list of entries, with room for all that the list still owes.
-ghost use Rattle.std.specs.Prelude.{◌≡◌, ◌≤◌, ◌<◌, ◌+◌, ◌-◌, ◌*◌, ◌∷◌, ◌++◌, [], ◌==◌, true, not, filter, All, Some, None, length, reverse, IsOk, IfOk, IfSome, OnOk, OnErr, vec_len, vec_capacity};
+ghost use Rattle.std.specs.Prelude.{◌≡◌, ◌≤◌, ◌<◌, ◌+◌, ◌-◌, ◌*◌, ◌∷◌, ◌++◌, [], ◌==◌, true, not};
+ghost use Rattle.std.specs.Prelude.{filter, All, Some, None, length, reverse, IsOk, IfOk, IfSome};
+ghost use Rattle.std.specs.Prelude.{OnOk, OnErr, vec_len, vec_capacity};
 ghost use Rattle.bp_trail.specs.declared.entries.Call.TheVariants as Call;
 ghost use Rattle.bp_trail.specs.declared.entries.Reply.TheVariants as Reply;
 ghost use Rattle.bp_trail.specs.Event.{grant, same_grant};
@@ -21,8 +23,8 @@ use bp_page::{Geometry, Image, Refusal};
 use std::alloc::{AllocError, Global};
 use std::marker::Model;
 
-/// A client's own list of entries, the passes that the list leaves out, and what is reserved for the entries that it owes. The
-/// entries are with their keeper: in memory, or for the proofs alone.
+/// A client's own list of entries, the passes that the list leaves out, and what is reserved for the entries that it
+/// owes. The entries are with their keeper: in memory, or for the proofs alone.
 ///
 /// Contracts see the client, the bytes of a page, the list, newest first, with what cuts handed out of it, and how much
 /// more room there is than the list owes: for entries, for passes held, and for copies of images.
@@ -147,7 +149,7 @@ impl<K: ListKeeper> Book<K> {
 
     /// Takes the memory for a mark, for one event, and for all that is owed then. No entry is added. Where memory is
     /// refused, which is `OutOfMemory`, the list is as before, and some of the room may be there.
-    pub fn prepare(&mut self) -> Result<(), Refusal>
+    pub fn reserve_for_event(&mut self) -> Result<(), Refusal>
         ensures same { SameBook self.old self.new }
         ensures entries { OnOk result (4 ≤ self.new.entries) }
         ensures passes { OnOk result (1 ≤ self.new.passes) }

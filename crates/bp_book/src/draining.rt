@@ -59,9 +59,9 @@ fn drain_asked<K: Keeper>(
     }
 }
 
-/// Drains each ring that is to be asked, and each in which a pass is known to wait, the first client's first, at most 32
-/// passes each. Bit c of the word stands for the ring of client c. Each pass goes back to the core; one that the core does
-/// not know is dropped, and counted as a stray. It takes no memory.
+/// Drains each ring that is to be asked, and each in which a pass is known to wait, the first client's first, at most
+/// 32 passes each. Bit c of the word stands for the ring of client c. Each pass goes back to the core; one that the
+/// core does not know is dropped, and counted as a stray. It takes no memory.
 pub fn drain_all<K: Keeper>(
     core: &mut PoolCore<K>,
     strays: &mut u64,

@@ -1,5 +1,6 @@
 //! The passes that a list gave and that did not go back.
-ghost use Rattle.std.specs.Prelude.{◌≡◌, ◌≤◌, ◌<◌, ◌+◌, ◌^◌, ◌∷◌, ◌++◌, [], ◌==◌, true, not, filter, drop, length, reverse, IfSome, OnOk, vec_len, vec_capacity};
+ghost use Rattle.std.specs.Prelude.{◌≡◌, ◌≤◌, ◌<◌, ◌+◌, ◌^◌, ◌∷◌, ◌++◌, [], ◌==◌, true, not};
+ghost use Rattle.std.specs.Prelude.{filter, drop, length, reverse, IfSome, OnOk, vec_len, vec_capacity};
 ghost use Rattle.bp_trail.specs.Event.{Grant, grant, same_grant};
 ghost use Rattle.std.specs.List.{remove};
 ghost use Rattle.bp_frames.specs.Rising.{IsRisingBy, IsPlaceFor, IsPlaceOf};
@@ -11,8 +12,8 @@ use std::marker::Model;
 
 /// The passes held, in the order taken.
 ///
-/// `push` takes O(1), `has` and `strike` O(log n) for n passes where the numbers rise, as those of one core do; of the
-/// passes that are struck only one from between others makes others move. `reserve` takes O(1) on average.
+/// `push` takes O(1), `has` and `remove` O(log n) for n passes where the numbers rise, as those of one core do; of the
+/// passes that are removed only one from between others makes others move. `reserve` takes O(1) on average.
 #[derive(Drop)]
 pub(crate) struct Held {
     notes: Vec<PassNote>,
@@ -60,8 +61,8 @@ fn is_held(held: &[PassNote], pass: &Pass) -> bool
     held.iter().rev().any(|note| is_of(note, pass))
 }
 
-/// Strikes each note with this serial number.
-fn strike_each(held: &mut Vec<PassNote>, serial: u64)
+/// Removes each note with this serial number.
+fn remove_each(held: &mut Vec<PassNote>, serial: u64)
     ensures held { held.new.items ≡ filter (λ g. not (g.serial == serial)) held.old.items }
     ensures fewer { vec_len held.new ≤ vec_len held.old }
     ensures capacity { vec_capacity held.new ≡ vec_capacity held.old }
@@ -177,8 +178,8 @@ impl Held {
         }
     }
 
-    /// Strikes the pass at this place.
-    fn strike_at(&mut self, place: usize)
+    /// Removes the pass at this place.
+    fn remove_at(&mut self, place: usize)
         requires { place < length self.old.passes }
         ensures passes { self.new.passes ≡ remove self.old.passes place }
         ensures room { self.old.room ≤ self.new.room }
@@ -190,19 +191,19 @@ impl Held {
         self.notes.remove(self.gone + place);
     }
 
-    /// Strikes the pass with this serial number.
-    pub(crate) fn strike(&mut self, serial: u64)
+    /// Removes the pass with this serial number.
+    pub(crate) fn remove(&mut self, serial: u64)
         ensures passes { self.new.passes ≡ filter (λ g. not (g.serial == serial)) self.old.passes }
         ensures room { self.old.room ≤ self.new.room }
     {
         if !self.is_rising {
             drop_first(&mut self.notes, self.gone);
             self.gone = 0;
-            strike_each(&mut self.notes, serial);
+            remove_each(&mut self.notes, serial);
             return;
         }
         match place_of(self.notes(), serial) {
-            Some(place) => self.strike_at(place),
+            Some(place) => self.remove_at(place),
             None => {}
         }
     }

@@ -7,13 +7,11 @@ use std::marker::Model;
 
 /// A read that a client's list began. It can be neither copied nor dropped, and its ticket can't be forfeited: only
 /// `Book::end_read` takes it, which asks the core.
-#[derive(Debug)]
 pub struct PendingRead {
     pub(crate) ticket: ReadTicket,
 }
 
 /// A write-out that a client's list began. Only `Book::end_write_out` takes it.
-#[derive(Debug)]
 pub struct PendingWrite {
     pub(crate) ticket: WriteTicket,
 }
@@ -35,7 +33,6 @@ impl Model for PendingWrite {
 }
 
 /// What a fix gave a client.
-#[derive(Debug)]
 pub enum Fix {
     /// A pass of the page.
     Hit(Pass),
@@ -46,7 +43,6 @@ pub enum Fix {
 }
 
 /// What a flush gave a client.
-#[derive(Debug)]
 pub enum Flush {
     /// The page is saved.
     Clean,

@@ -4,11 +4,12 @@ use std::sync::atomic::{AtomicU64, Ordering};
 /// Up to so many rings are looked at one by one.
 const FEW: u8 = 16;
 
-/// A bit for each client that posted passes since the rings were last drained, where there are so many that one word is cheaper to
-/// look at than each ring.
+/// A bit for each client that posted passes since the rings were last drained, where there are so many that one word is
+/// cheaper to look at than each ring.
 ///
-/// A client tells after its pass is in the ring, and the word is taken under the lock. So a section asks each ring whose passes were
-/// told before it; a pass that is told later is drained by the next one, or by whatever drains all rings.
+/// A client tells after its pass is in the ring, and the word is taken under the lock. So a section asks each ring
+/// whose passes were told before it; a pass that is told later is drained by the next one, or by whatever drains all
+/// rings.
 #[derive(Drop)]
 pub struct Posted {
     has_many: bool,
@@ -33,7 +34,8 @@ impl Posted {
         }
     }
 
-    /// The rings that a section is to ask, bit c for client c: those told of since the last time, or all where there are few.
+    /// The rings that a section is to ask, bit c for client c: those told of since the last time, or all where there
+    /// are few.
     pub fn take(&self) -> u64 {
         if !self.has_many {
             return u64::MAX;

@@ -18,7 +18,7 @@ use Rattle.bp_trail.specs.Pieces.Manner.{session}
 use Rattle.bp_trail.specs.Script.{FollowsBy, GivesBack, Follows}
 use Rattle.bp_audit.specs.Clients.{of_client}
 use Rattle.bp_audit.specs.Log.{IsWithinLog}
-use Rattle.bp_clients.specs.Jobs.{list_of, lists, NoneIsStrange, JobValue, SameJob, new_job, new_jobs, IsTold}
+use Rattle.bp_clients.specs.Jobs.{list_of, lists, NoneIsStrange, JobValue, SameJob, new_job, new_jobs, Agrees}
 use Rattle.bp_clients.specs.Runs.{SaidIsTheirs, EachFollows, MarksWithinLog, IsRun, Joined}
 use Rattle.bp_clients.proofs.Ruling.{rules-kept, marks-by-rows}
 
@@ -54,12 +54,12 @@ same_jobs scripts old new are len same =
 
 -- ---- clause by clause
 
-module _ (scripts : List (List Row)) (trail : List Entry) (jobs : List JobValue) (are : AreJobsOf scripts jobs) (told : All (IsTold trail) jobs) where
+module _ (scripts : List (List Row)) (trail : List Entry) (jobs : List JobValue) (are : AreJobsOf scripts jobs) (agree : All (Agrees trail) jobs) where
   abbrev job : ℕ → JobValue
   job c = get_or jobs c (new_job c [])
 
-  told-at : (c : ℕ) → c < length scripts → IsTold trail (job c)
-  told-at c below = All-get_or (IsTold trail) jobs c (new_job c []) (omega (arith, are.0)) told
+  agrees-at : (c : ℕ) → c < length scripts → Agrees trail (job c)
+  agrees-at c below = All-get_or (Agrees trail) jobs c (new_job c []) (omega (arith, are.0)) agree
 
   job-at : (c : ℕ) → c < length scripts → IsJobOf c (list_of c scripts) (job c)
   job-at c below = are.1 c (new_job c []) below
@@ -71,12 +71,12 @@ module _ (scripts : List (List Row)) (trail : List Entry) (jobs : List JobValue)
   refused-at c below = get_or-map (λ j. j.refused) jobs c (new_job c []) [] (omega (arith, are.0))
 
   theirs : (c : ℕ) → c < length scripts → list_of c (map (λ j. reverse j.said) jobs) ≡ of_client c trail
-  theirs c below = said-at c below ∙ (told-at c below).said ∙ ap (λ n. of_client n trail) (job-at c below).client
+  theirs c below = said-at c below ∙ (agrees-at c below).said ∙ ap (λ n. of_client n trail) (job-at c below).client
 
   -- client c's list follows its script by the cut of its job, whatever equals that list and its refused rows
   follows-at : (c : ℕ) (said : Trail) (refusals : List Refused) → c < length scripts → (job c).said ≡ said → (job c).refused ≡ refusals → Follows session (list_of c scripts) said refusals
   follows-at c said refusals below is are_refused =
-      let f = (told-at c below).follows in
+      let f = (agrees-at c below).follows in
       record {
         by_rows = f.by_rows;
         ends = (job c).ends;
@@ -93,38 +93,38 @@ module _ (scripts : List (List Row)) (trail : List Entry) (jobs : List JobValue)
       (sym (refused-at c below))
 
   within : 0 < length scripts → IsWithinLog (list_of 0 scripts) (job 0).ends (reverse trail)
-  within some = let is = job-at 0 some in subst (λ script. IsWithinLog script (job 0).ends (reverse trail)) is.script ((told-at 0 some).within is.client)
+  within some = let is = job-at 0 some in subst (λ script. IsWithinLog script (job 0).ends (reverse trail)) is.script ((agrees-at 0 some).within is.client)
 
-known-all : (trail : List Entry) (jobs : List JobValue) → All (IsTold trail) jobs → NoneIsStrange (flat_map (λ j. j.refused) jobs)
-known-all trail [] told = All-nil (λ r. r.number ≢ 16)
-known-all trail (j ∷ jobs) told =
-    All-append (λ r. r.number ≢ 16) j.refused (flat_map (λ k. k.refused) jobs) (All-head (IsTold trail) j jobs told).follows.known (known-all trail jobs (All-tail (IsTold trail) j jobs told))
+known-all : (trail : List Entry) (jobs : List JobValue) → All (Agrees trail) jobs → NoneIsStrange (flat_map (λ j. j.refused) jobs)
+known-all trail [] agree = All-nil (λ r. r.number ≢ 16)
+known-all trail (j ∷ jobs) agree =
+    All-append (λ r. r.number ≢ 16) j.refused (flat_map (λ k. k.refused) jobs) (All-head (Agrees trail) j jobs agree).follows.known (known-all trail jobs (All-tail (Agrees trail) j jobs agree))
 
 -- the headline, from what the jobs left
 pub run_is : (c : Parameters) (scripts : List (List Row)) (trail : List Entry) (jobs : List JobValue) (said : List (List Entry)) (refused : List Refused) → 0 < length scripts → Legal c (reverse trail)
     → AreJobsOf scripts jobs → Joined trail jobs said refused → IsRun c scripts trail said refused
 unfolding follows follows-at
 run_is c scripts trail jobs said refused some legal are j =
-    let told = j.collected.told in
+    let agree = j.collected.agree in
     let is = j.collected.said_are in
     let followed : EachFollows scripts said refused = record {
       refusals = map (λ j. j.refused) jobs;
-      each = λ k below. follows scripts trail jobs are told said k is below;
+      each = λ k below. follows scripts trail jobs are agree said k is below;
       counted = length-map jobs (λ j. j.refused) ∙ are.0;
       joined = subst (λ (all : List Refused). IsPermutation all refused) (j.collected.refused_are ∙ sym (flat_map-map (λ (rs : List Refused). rs) (λ (k : JobValue). k.refused) jobs)) j.same;
       in_order = j.in_order;
     } in
     let of_each : SaidIsTheirs (length scripts) trail said = record {
       counted = ap length is ∙ length-map jobs (λ k. reverse k.said) ∙ are.0;
-      each = λ k below. ap (list_of k) is ∙ theirs scripts trail jobs are told k below;
+      each = λ k below. ap (list_of k) is ∙ theirs scripts trail jobs are agree k below;
     } in
-    let log : MarksWithinLog scripts trail said refused = record { follows = followed; some = some; within = within scripts trail jobs are told some } in
+    let log : MarksWithinLog scripts trail said refused = record { follows = followed; some = some; within = within scripts trail jobs are agree some } in
     record {
       legal = legal;
       rules = rules-kept c trail legal;
       theirs = of_each;
       follows = followed;
-      known = All-permutation (λ r. r.number ≢ 16) j.one_by_one refused j.same (subst NoneIsStrange (sym j.collected.refused_are) (known-all trail jobs told));
+      known = All-permutation (λ r. r.number ≢ 16) j.one_by_one refused j.same (subst NoneIsStrange (sym j.collected.refused_are) (known-all trail jobs agree));
       within_log = log;
       by_rows = marks-by-rows scripts trail said refused log of_each;
     }

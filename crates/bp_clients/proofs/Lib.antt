@@ -4,5 +4,5 @@ pub mod Pieces
 pub mod Ruling
 pub mod Stepping
 pub mod Following
-pub mod TakingIn
+pub mod Adding
 pub mod Making

@@ -51,6 +51,17 @@ pub record JobValue : Type 0 where
   pub refused : List Refused
   pub is_done : Bool
 
+-- a job as its fields have it
+abbrev pub job_view : {A : Type 0} → SessionValue → Vec Row A → Vec ℕ A → Vec Refused A → Bool → JobValue
+job_view runner script ends refused is_done = record {
+  client = runner.client;
+  script = script.items;
+  said = runner.said;
+  ends = reverse ends.items;
+  refused = refused.items;
+  is_done = is_done;
+}
+
 pub record IsJob (p : Parameters) (j : JobValue) (for_ends for_refused : ℕ) : Type 0 where
   pub fits : ScriptFits p j.client j.script
   pub ends_fit : length j.script ≤ for_ends
@@ -82,27 +93,27 @@ lists vectors = map (λ v. v.items) vectors
 -- ---- after the threads
 
 -- the job is done, its list is what the trail (in order) has of its client, and the log of client 0 bounds the marks
-pub record IsTold (trail : List Entry) (j : JobValue) : Type 0 where
+pub record Agrees (trail : List Entry) (j : JobValue) : Type 0 where
   pub follows : FollowsCut j.client j.script j.ends j.said j.refused
   pub said : reverse j.said ≡ of_client j.client trail
   pub within : j.client ≡ 0 → IsWithinLog j.script j.ends (reverse trail)
 
 -- a comparison fails: the script was not run whole, the list is not what the trail has of the client, or the log does not bound the marks
-abbrev pub IsUntold : List Entry → JobValue → Type 0
-IsUntold trail j = (j.is_done ≡ false) ⊎ (reverse j.said ≢ of_client j.client trail) ⊎ ((j.client ≡ 0) × (¬ IsWithinLog j.script j.ends (reverse trail)))
+abbrev pub Disagrees : List Entry → JobValue → Type 0
+Disagrees trail j = (j.is_done ≡ false) ⊎ (reverse j.said ≢ of_client j.client trail) ⊎ ((j.client ≡ 0) × (¬ IsWithinLog j.script j.ends (reverse trail)))
 
 -- some comparison fails
-abbrev pub SomeUntold : List Entry → List JobValue → Type 0
-SomeUntold trail jobs = (earlier later : List JobValue) × (j : JobValue) × (jobs ≡ earlier ++ j ∷ later) × IsUntold trail j
+abbrev pub SomeDisagrees : List Entry → List JobValue → Type 0
+SomeDisagrees trail jobs = (earlier later : List JobValue) × (j : JobValue) × (jobs ≡ earlier ++ j ∷ later) × Disagrees trail j
 
--- why the jobs are not taken in: memory is wanted, or a comparison fails
-abbrev pub NotTaken : Type 0 → Refusal → Type 0
-NotTaken untold refusal.OutOfMemory = Unit {0}
-NotTaken untold refusal.Disagree = untold
-NotTaken untold _ = ⊥
+-- why the jobs are not added: memory is wanted, or a comparison fails
+abbrev pub NotAdded : Type 0 → Refusal → Type 0
+NotAdded disagrees refusal.OutOfMemory = Unit {0}
+NotAdded disagrees refusal.Disagree = disagrees
+NotAdded disagrees _ = ⊥
 
 -- the lists of some jobs, in order, and their refused rows
 pub record Collected (trail : List Entry) (jobs : List JobValue) (said : List (List Entry)) (refused : List Refused) : Type 0 where
-  pub told : All (IsTold trail) jobs
+  pub agree : All (Agrees trail) jobs
   pub said_are : said ≡ map (λ j. reverse j.said) jobs
   pub refused_are : refused ≡ flat_map (λ j. j.refused) jobs

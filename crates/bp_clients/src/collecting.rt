@@ -1,7 +1,9 @@
 //! What is compared once all threads have ended.
-ghost use Rattle.std.specs.Prelude.{◌≡◌, OnOk, OnErr, [], ◌∷◌, ◌++◌, IfErr, IfNone, IfSome, reverse};
+ghost use Rattle.std.specs.Prelude.{◌≡◌, OnOk, OnErr, [], ◌∷◌, ◌++◌, IfErr, IfNone, IfSome};
+ghost use Rattle.std.specs.Prelude.{reverse};
 ghost use Rattle.bp_page.specs.declared.refusals.Refusal.TheVariants as Refusal;
-ghost use Rattle.bp_clients.specs.Jobs.{lists, IsTold, IsUntold, SomeUntold, NotTaken, Collected};
+ghost use Rattle.bp_clients.specs.Jobs.{lists, Agrees, Disagrees, SomeDisagrees, NotAdded};
+ghost use Rattle.bp_clients.specs.Jobs.{Collected};
 
 use crate::job::{Job, Left};
 use bp_audit::{agrees, is_within_log};
@@ -10,13 +12,13 @@ use bp_page::Refusal;
 use bp_ports::Port;
 use bp_shared::PoolName;
 
-/// What a job left, where its list is what the trail has of its client, and where the log of client 0 bounds the marks. It takes
-/// no memory.
-fn told<N: PoolName, P: Port>(trail: &[Entry], job: Job<N, P>) -> Option<Left>
-    ensures told { IfSome result (λ left. IsTold trail.now job) }
+/// What a job left, where its list is what the trail has of its client, and where the log of client
+/// 0 bounds the marks. It takes no memory.
+fn agreed<N: PoolName, P: Port>(trail: &[Entry], job: Job<N, P>) -> Option<Left>
+    ensures agrees { IfSome result (λ left. Agrees trail.now job) }
     ensures said { IfSome result (λ left. left.said.items ≡ reverse job.said) }
     ensures refused { IfSome result (λ left. left.refused.items ≡ job.refused) }
-    ensures none { IfNone result (IsUntold trail.now job) }
+    ensures none { IfNone result (Disagrees trail.now job) }
 {
     let left = job.into_left()?;
     if !agrees(trail, &left.said, left.client) {
@@ -39,34 +41,32 @@ fn append(all: &mut Vec<Refused>, more: &[Refused]) -> Result<(), Refusal>
     }
 }
 
-/// Takes what one job left.
-fn take_in<N: PoolName, P: Port>(
+/// Adds what one job left.
+fn add_left<N: PoolName, P: Port>(
     trail: &[Entry],
     job: Job<N, P>,
     said: &mut Vec<Vec<Entry>>,
     refused: &mut Vec<Refused>,
 ) -> Result<(), Refusal>
-    ensures told { OnOk result (IsTold trail.now job) }
+    ensures agrees { OnOk result (Agrees trail.now job) }
     ensures said { OnOk result (lists said.new.items ≡ lists said.old.items ++ reverse job.said ∷
         []) }
     ensures refused { OnOk result (refused.new.items ≡ refused.old.items ++ job.refused) }
-    ensures fault { IfErr result (NotTaken (IsUntold trail.now job)) }
+    ensures fault { IfErr result (NotAdded (Disagrees trail.now job)) }
 {
-    let Some(left) = told(trail, job) else {
+    let Some(left) = agreed(trail, job) else {
         return Err(Refusal::Disagree);
     };
-    match append(refused, &left.refused) {
-        Ok(()) => {}
-        Err(refusal) => return Err(refusal),
-    }
+    append(refused, &left.refused)?;
     match said.push(left.said) {
         Ok(()) => Ok(()),
         Err(_) => Err(Refusal::OutOfMemory),
     }
 }
 
-/// What the jobs left, one after the other. `Disagree` where one was not run whole, where its list is not what the trail has of its
-/// client, or where a mark came before the log rows of client 0 allow it.
+/// What the jobs left, one after the other. `Disagree` where one was not run whole, where its list
+/// is not what the trail has of its client, or where a mark came before the log rows of client 0
+/// allow it.
 pub(crate) fn collect<N: PoolName, P: Port>(
     trail: &[Entry],
     jobs: Vec<Job<N, P>>,
@@ -76,10 +76,10 @@ pub(crate) fn collect<N: PoolName, P: Port>(
     requires empty { (said.old.items ≡ []) × (refused.old.items ≡ []) }
     ensures collected { OnOk result (Collected trail.now jobs.items
         (lists said.new.items) refused.new.items) }
-    ensures fault { IfErr result (NotTaken (SomeUntold trail.now jobs.items)) }
+    ensures fault { IfErr result (NotAdded (SomeDisagrees trail.now jobs.items)) }
 {
     for job in jobs {
-        match take_in(trail, job, said, refused) {
+        match add_left(trail, job, said, refused) {
             Ok(()) => {}
             Err(refusal) => return Err(refusal),
         }

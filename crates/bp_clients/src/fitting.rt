@@ -70,8 +70,9 @@ fn script_fits(script: &[Row], client: u8, geometry: &Geometry) -> bool
     true
 }
 
-/// Whether `run_clients` takes these scripts: whether they are 1 to 64, the rows of each of its own client, of pages of the file
-/// and of bytes within a page, with log rows in the first alone. It takes no memory.
+/// Whether `run_clients` takes these scripts: whether they are 1 to 64, the rows of each of its own
+/// client, of pages of the file and of bytes within a page, with log rows in the first alone. It
+/// takes no memory.
 pub fn scripts_fit(config: &Config, scripts: &[Vec<Row>]) -> bool
     ensures { IsTrue result ↔ ((0 < length scripts.now) × (length scripts.now ≤ 64) ×
         EachScriptFits (run_parameters config.now (length scripts.now)) (lists scripts.now)) }

@@ -29,17 +29,20 @@ pub(crate) struct Job<N: PoolName, P: Port> {
 }
 
 impl<N: PoolName, P: Port> Model for Job<N, P> {
-    ghost use Rattle.std.specs.Prelude.{reverse, vec_capacity};
-    ghost use Rattle.bp_clients.specs.Jobs.{JobValue, IsJob};
+    ghost use Rattle.std.specs.Prelude.{vec_capacity};
+    ghost use Rattle.bp_clients.specs.Jobs.{JobValue, IsJob, job_view};
 
     ghost Value = { JobValue };
 
-    ghost view = { λ j. record { client = j.runner.client; script = j.script.items; said = j.runner.said; ends = reverse j.ends.items; refused = j.refused.items; is_done = j.is_done } };
+    ghost view = { λ j. job_view j.runner j.script j.ends j.refused j.is_done };
 
-    ghost invariant = { λ j. IsJob N.parameters (record { client = j.runner.client; script = j.script.items; said = j.runner.said; ends = reverse j.ends.items; refused = j.refused.items; is_done = j.is_done }) (vec_capacity j.ends) (vec_capacity j.refused) };
+    ghost invariant = { λ j.
+        IsJob N.parameters (job_view j.runner j.script j.ends j.refused j.is_done)
+        (vec_capacity j.ends) (vec_capacity j.refused) };
 }
 
-/// What a job left: the client's list in the order of time, where the pieces of its rows end, and the rows refused.
+/// What a job left: the client's list in the order of time, where the pieces of its rows end, and
+/// the rows refused.
 #[derive(Drop)]
 pub(crate) struct Left {
     pub(crate) client: u8,
@@ -91,7 +94,8 @@ fn run_rows<N: PoolName, P: Port, R: Wait>(
 }
 
 impl<N: PoolName, P: Port> Job<N, P> {
-    ghost use Rattle.std.specs.Prelude.{◌≡◌, false, IfNone, IfOk, IfSome, IsTrue, [], length, reverse};
+    ghost use Rattle.std.specs.Prelude.{◌≡◌, false, IfNone, IfOk, IfSome, IsTrue, [], length};
+    ghost use Rattle.std.specs.Prelude.{reverse};
     ghost use Rattle.bp_clients.specs.Jobs.{ScriptFits, FollowsCut, new_job};
 
     /// The job of a script.
@@ -130,7 +134,8 @@ impl<N: PoolName, P: Port> Job<N, P> {
         self.runner.count() == 0 && self.ends.is_empty() && self.refused.is_empty()
     }
 
-    /// Runs the script, and then gives back the passes that are still held. A job that was run before is not run again.
+    /// Runs the script, and then gives back the passes that are still held. A job that was run
+    /// before is not run again.
     pub(crate) fn run<R: Wait>(&mut self, rt: &R, pool: &SharedPool<N>)
         ensures client { self.new.client ≡ self.old.client }
         ensures script { self.new.script ≡ self.old.script }

@@ -1,18 +1,19 @@
 //! A run: one thread for each client, and the comparisons once all have ended.
-ghost use Rattle.std.specs.Prelude.{◌≡◌, ◌⊎◌, ◌≤◌, ◌<◌, ℕ, IfErr, IfOk, OnErr, All, [], map, reverse, length, vec_len, slice_index_or};
+ghost use Rattle.std.specs.Prelude.{◌≡◌, ◌⊎◌, ◌≤◌, ◌<◌, ℕ, IfErr, IfOk, OnErr, All, [], map};
+ghost use Rattle.std.specs.Prelude.{reverse, length, vec_len, slice_index_or};
 ghost use Rattle.bp_trail.specs.Legal.{Legal};
-ghost use Rattle.bp_clients.specs.Jobs.{EachScriptFits, NotTaken, SameJob, SomeUntold, sessions_from, new_jobs, lists};
+ghost use Rattle.bp_clients.specs.Jobs.{EachScriptFits, NotAdded, SameJob, SomeDisagrees};
+ghost use Rattle.bp_clients.specs.Jobs.{sessions_from, new_jobs, lists};
 ghost use Rattle.bp_clients.specs.Runs.{run_parameters, RunAnswers, Joined, IsRun, RunsJobs};
 
 use crate::collecting::collect;
 use crate::job::Job;
-use crate::runner::{LogWriter, Runner};
+use crate::runner::Runner;
 use bp_core::{Core, Entry, Refused, Row};
-use bp_mark::{LogEnd, Mark, Reader};
 use bp_page::{Geometry, Refusal};
 use bp_ports::Port;
 use bp_replacer::Settings;
-use bp_shared::{PoolName, Session, SharedPool, Taker, TrailRing};
+use bp_shared::{LogWriter, Parts, PoolName, Session, SharedPool, Taker};
 use std::alloc::Global;
 use std::marker::{Brand, Send, Sync};
 use std::sync::Wait;
@@ -100,7 +101,8 @@ fn run_jobs<N: PoolName + Send + Sync, P: Port + Send, R: Threads + Wait + Sync>
     thread::for_each_mut(rt, jobs, count, &|_, job| job.run(rt, pool));
 }
 
-/// What the jobs left, joined: each client's list, and the refused rows of all in the order of their numbers.
+/// What the jobs left, joined: each client's list, and the refused rows of all in the order of
+/// their numbers.
 fn joined<N: PoolName, P: Port>(
     core: Core,
     jobs: Vec<Job<N, P>>,
@@ -114,7 +116,7 @@ fn joined<N: PoolName, P: Port>(
     ensures room { IfOk result (λ run. vec_len run.trail ≤ core.parameters.room) }
     ensures joined { IfOk result (λ run. Joined run.trail.items jobs.items
         (lists run.said.items) run.refused.items) }
-    ensures refused { IfErr result (NotTaken (SomeUntold (reverse core.past) jobs.items)) }
+    ensures refused { IfErr result (NotAdded (SomeDisagrees (reverse core.past) jobs.items)) }
 {
     let mut said = said;
     let mut refused = refused;
@@ -130,8 +132,8 @@ fn joined<N: PoolName, P: Port>(
     })
 }
 
-/// Empty lists for what a run leaves, with room for so many scripts and rows: what each client said, and the rows
-/// refused.
+/// Empty lists for what a run leaves, with room for so many scripts and rows: what each client
+/// said, and the rows refused.
 fn empty_lists(
     alloc: Global,
     scripts: usize,
@@ -149,8 +151,8 @@ fn empty_lists(
     }
 }
 
-/// Runs the jobs, each in a thread of its own, ends the pool, and joins what they left. The memory for that is taken
-/// before any thread starts.
+/// Runs the jobs, each in a thread of its own, ends the pool, and joins what they left. The memory
+/// for that is taken before any thread starts.
 fn run_pool<N: PoolName + Send + Sync, P: Port + Send, R: Threads + Wait + Sync>(
     rt: &R,
     alloc: Global,
@@ -180,15 +182,14 @@ fn run_named<N: PoolName + Send + Sync, P: Port + Send, R: Threads + Wait + Sync
     rt: &R,
     alloc: Global,
     core: Core,
-    parts: (Mark, LogEnd, Reader),
-    ring: TrailRing,
+    parts: Parts,
     scripts: Vec<Vec<Row>>,
     ports: Vec<P>,
 ) -> Result<Outcome, Refusal>
-    requires mark { (parts.0 ≡ N.mark) × (parts.1.mark ≡ N.mark) × (parts.2.mark ≡ N.mark) }
+    requires mark { parts.mark ≡ N.mark }
     requires parameters { core.parameters ≡ N.parameters }
     requires before { (core.before ≡ N.before) × (core.before ≡ []) }
-    requires ring { ring ≡ N.ring }
+    requires ring { parts.ring ≡ N.ring }
     requires new { (core.past ≡ N.past) × (core.past ≡ []) }
     requires clients { N.parameters.clients ≡ vec_len scripts }
     requires some { 0 < vec_len scripts }
@@ -201,7 +202,12 @@ fn run_named<N: PoolName + Send + Sync, P: Port + Send, R: Threads + Wait + Sync
     ensures refused { OnErr result ((result ≡ Err Refusal.OutOfMemory) ⊎
         (result ≡ Err Refusal.Disagree)) }
 {
-    let (mark, end, reader) = parts;
+    let Parts {
+        mark,
+        end,
+        reader,
+        ring,
+    } = parts;
     let (pool, sessions, taker) = match SharedPool::<N>::new(alloc, core, mark, reader, ring) {
         Ok(made) => made,
         Err(refusal) => return Err(refusal),
@@ -212,33 +218,20 @@ fn run_named<N: PoolName + Send + Sync, P: Port + Send, R: Threads + Wait + Sync
     }
 }
 
-/// A mark at 0, with its log end and a reader, and a ring for a trail.
-fn new_parts(alloc: Global) -> Result<((Mark, LogEnd, Reader), TrailRing), Refusal>
-    ensures log_end { IfOk result (λ made. made.0.1 ≡ record { mark = made.0.0; frontier = 0 }) }
-    ensures reader { IfOk result (λ made. made.0.2 ≡ record { mark = made.0.0; seen = 0 }) }
-    ensures refused { OnErr result (result ≡ Err Refusal.OutOfMemory) }
-{
-    let parts = match Mark::new(alloc) {
-        Ok(parts) => parts,
-        Err(refusal) => return Err(refusal),
-    };
-    match TrailRing::new(alloc) {
-        Ok(ring) => Ok((parts, ring)),
-        Err(refusal) => Err(refusal),
-    }
-}
-
-/// Runs the clients of one pool, each in a thread of its own: client c runs `scripts[c]` over `ports[c]`, and gives back what it
-/// holds at the end. Client 0 has the log: a log row raises the durable mark.
+/// Runs the clients of one pool, each in a thread of its own: client c runs `scripts[c]` over
+/// `ports[c]`, and gives back what it holds at the end. Client 0 has the log: a log row raises the
+/// durable mark.
 ///
-/// It takes 1 to 64 scripts and as many ports, whose pages are those of the configuration. A script has rows of its own client, of
-/// pages of the file and of bytes within a page, and log rows stand in script 0 alone.
+/// It takes 1 to 64 scripts and as many ports, whose pages are those of the configuration. A script
+/// has rows of its own client, of pages of the file and of bytes within a page, and log rows stand
+/// in script 0 alone.
 ///
-/// At `Ok` the trail is one legal history of at most `config.room` entries, by the rules of the pool; each client's list is the
-/// trail's entries of that client and follows its script; and no mark is ahead of the log rows of client 0. `BadSettings` where the
-/// frames are not 1 to 65,536 or the room not 1 to 16,777,216, before any thread starts. `OutOfMemory` where memory is wanted outside
-/// a row. `Disagree` where a client was given what the pool did not know, or what it saw is not what the trail has of it. Threads have
-/// ended at every return.
+/// At `Ok` the trail is one legal history of at most `config.room` entries, by the rules of the
+/// pool; each client's list is the trail's entries of that client and follows its script; and no
+/// mark is ahead of the log rows of client 0. `BadSettings` where the frames are not 1 to 65,536 or
+/// the room not 1 to 16,777,216, before any thread starts. `OutOfMemory` where memory is wanted
+/// outside a row. `Disagree` where a client was given what the pool did not know, or what it saw is
+/// not what the trail has of it. Threads have ended at every return.
 pub fn run_clients<P: Port + Send, R: Threads + Wait + Sync>(
     rt: &R,
     alloc: Global,
@@ -267,9 +260,9 @@ pub fn run_clients<P: Port + Send, R: Threads + Wait + Sync>(
         Ok(core) => core,
         Err(refusal) => return Err(refusal),
     };
-    let (parts, ring) = match new_parts(alloc) {
-        Ok(made) => made,
+    let parts = match Parts::new(alloc) {
+        Ok(parts) => parts,
         Err(refusal) => return Err(refusal),
     };
-    run_named::<Brand, P, R>(rt, alloc, core, parts, ring, scripts, ports)
+    run_named::<Brand, P, R>(rt, alloc, core, parts, scripts, ports)
 }

@@ -1,48 +1,25 @@
 //! What one client's thread acts with, and what each step of a script does.
-ghost use Rattle.std.specs.Prelude.{◌≡◌, ◌+◌, ◌≤◌, ◌<◌, All, IfNone, OnOk, OnErr, IsTrue, [], ◌∷◌, length};
+ghost use Rattle.std.specs.Prelude.{◌≡◌, ◌+◌, ◌≤◌, ◌<◌, All, IfNone, OnOk, OnErr, IsTrue, []};
+ghost use Rattle.std.specs.Prelude.{◌∷◌, length};
 ghost use Rattle.bp_trail.specs.declared.entries.Call.TheVariants as Call;
 ghost use Rattle.bp_trail.specs.declared.entries.Reply.TheVariants as Reply;
 ghost use Rattle.bp_trail.specs.declared.scripts.Step.TheVariants as Step;
 ghost use Rattle.bp_trail.specs.Fits.{StepFits};
 ghost use Rattle.bp_trail.specs.Pieces.{outcome_of};
-ghost use Rattle.bp_trail.specs.Script.{GivesBack, give_back, held_passes, latest_pass, next_to_go_back};
+ghost use Rattle.bp_trail.specs.Script.{GivesBack, give_back, held_passes, latest_pass};
+ghost use Rattle.bp_trail.specs.Script.{next_to_go_back};
 ghost use Rattle.bp_clients.specs.Steps.{as_fault, StepSaid};
 
 use bp_core::{Entry, PassNote, Step};
 use bp_device::latest_pass;
-use bp_mark::LogEnd;
 use bp_page::{Bytes, Lsn, PageNo, Refusal};
 use bp_ports::Port;
-use bp_shared::{PoolName, Session, SharedPool};
-use std::marker::{Model, PhantomData};
+use bp_shared::{LogWriter, PoolName, Session, SharedPool, give_back};
+use std::marker::Model;
 use std::sync::Wait;
 
-/// The log end of the pool's mark.
-#[derive(Drop)]
-pub(crate) struct LogWriter<N: PoolName> {
-    end: LogEnd,
-    of: PhantomData<N>,
-    ghost mark_is: { end.mark ≡ N.mark },
-}
-
-impl<N: PoolName> LogWriter<N> {
-    /// The writer over this log end.
-    pub(crate) fn new(end: LogEnd) -> LogWriter<N>
-        requires mark { end.mark ≡ N.mark }
-    {
-        LogWriter {
-            end,
-            of: PhantomData,
-        }
-    }
-
-    /// Says that the log is durable so far.
-    fn raise(&mut self, pool: &SharedPool<N>, lsn: Lsn) {
-        self.end.raise(pool.mark(), lsn);
-    }
-}
-
-/// What one client's thread acts with: its session, its way to the device, and for client 0 the log.
+/// What one client's thread acts with: its session, its way to the device, and for client 0 the
+/// log.
 #[derive(Drop)]
 pub(crate) struct Runner<N: PoolName, P: Port> {
     session: Session<N>,
@@ -59,7 +36,8 @@ impl<N: PoolName, P: Port> Model for Runner<N, P> {
     ghost view = { λ r. r.session };
 
     // Nothing was cut from the list.
-    ghost invariant = { λ r. ((P.geometry_of r.port).size ≡ N.parameters.size) × (r.session.before ≡ []) };
+    ghost invariant = { λ r. ((P.geometry_of r.port).size ≡ N.parameters.size)
+        × (r.session.before ≡ []) };
 }
 
 /// A pass that its client holds and the pool does not know is a fault of the run.
@@ -72,8 +50,8 @@ fn as_fault(refusal: Refusal) -> Refusal
     }
 }
 
-/// Gives a pass back. Where the ring is full it is emptied first, and `Disagree` is that it is full still, or that the session
-/// does not know the pass.
+/// Gives a pass back. `Disagree` is that the session does not know the pass, or that its ring is
+/// full, though it was emptied.
 fn post<N: PoolName, R: Wait>(
     rt: &R,
     pool: &SharedPool<N>,
@@ -87,17 +65,11 @@ fn post<N: PoolName, R: Wait>(
     ensures refused { OnErr result ((result ≡ Err Refusal.Disagree) ×
         (session.new.said ≡ session.old.said)) }
 {
-    match pool.unfix(session, note.pass()) {
+    match give_back(rt, pool, session, note.pass()) {
         Ok(()) => Ok(()),
         Err((pass, _)) => {
-            pool.settle(rt, session);
-            match pool.unfix(session, pass) {
-                Ok(()) => Ok(()),
-                Err((pass, _)) => {
-                    pass.note();
-                    Err(Refusal::Disagree)
-                }
-            }
+            pass.note();
+            Err(Refusal::Disagree)
         }
     }
 }
@@ -270,8 +242,8 @@ impl<N: PoolName, P: Port> Runner<N, P> {
         Ok(())
     }
 
-    /// Does what a step asks for. `UnknownTicket` and `Disagree` are that the pool does not know what it gave: then the run is at
-    /// fault. Every other refusal is the row's.
+    /// Does what a step asks for. `UnknownTicket` and `Disagree` are that the pool does not know
+    /// what it gave: then the run is at fault. Every other refusal is the row's.
     pub(crate) fn step<R: Wait>(
         &mut self,
         rt: &R,

@@ -3,7 +3,7 @@ use Rattle.std.proofs.Common.{◌≡◌, refl, sym, ◌∙◌, ap, subst, ℕ, �
 use Rattle.std.specs.Prelude.{All, Any, find, filter}
 use Rattle.std.specs.List.{list_any, list_all}
 use Rattle.std.proofs.lemmas.Bool.{and_parts, and_from, or_left, or_right}
-use Rattle.std.proofs.lemmas.List.{append_assoc, append-nil, take-append-drop, take_all, drop_all, take_more, drop_more}
+use Rattle.std.proofs.lemmas.List.{append_assoc, append-nil, take-append-drop, take_more, drop_more}
 use Rattle.std.proofs.lemmas.List.Elements.{filter-append}
 use Rattle.bp_trail.specs.declared.entries.Call.TheVariants.{Unfix}
 use Rattle.bp_trail.specs.declared.entries.Reply.TheVariants.{Done}
@@ -15,7 +15,7 @@ use Rattle.bp_core.specs.CoreView.{CoreView, with_entry}
 use Rattle.bp_device.specs.Rows.{SerialsDiffer, GoingBack}
 use Rattle.bp_device.proofs.GivingBack.{list_all-from_All, any-test, lowest-first}
 use Rattle.bp_device.proofs.ScriptSteps.{going-next}
-use Rattle.bp_device.proofs.Striking.{one-struck}
+use Rattle.bp_device.proofs.Removing.{one-removed}
 
 -- those left where the passes of this client among the first i have gone back
 abbrev pub left_from : ℕ → List Grant → ℕ → List Grant
@@ -23,9 +23,6 @@ left_from client held i = filter (λ g. not (g.client == client)) (take i held) 
 
 pub left-none : (client : ℕ) (held : List Grant) → left_from client held 0 ≡ held
 left-none client held = refl
-
-pub left-all : (client : ℕ) (held : List Grant) (n : ℕ) → length held ≤ n → left_from client held n ≡ filter (λ g. not (g.client == client)) held
-left-all client held n past = ap (λ gs. filter (λ g. not (g.client == client)) gs ++ drop n held) (take_all n held past) ∙ ap (λ gs. filter (λ g. not (g.client == client)) held ++ gs) (drop_all n held past) ∙ append-nil (filter (λ g. not (g.client == client)) held)
 
 pub fewer-filter : (t p : Grant → Bool) (xs : List Grant) → count t (filter p xs) ≤ count t xs
 fewer-filter t p [] = omega arith
@@ -91,8 +88,8 @@ module _ (client i : ℕ) (held : List Grant) (g : Grant) (within : i < length h
       ∙ find-past (λ h. h.client == client) (take i held) (drop (i + 1) held) g mine)
 
   -- and it alone has its serial number
-  left-struck : SerialsDiffer held → (g.client == client) ≡ true → left_from client held (i + 1) ≡ filter (λ h. not (h.serial == g.serial)) (left_from client held i)
-  left-struck differ mine =
+  left-removed : SerialsDiffer held → (g.client == client) ≡ true → left_from client held (i + 1) ≡ filter (λ h. not (h.serial == g.serial)) (left_from client held i)
+  left-removed differ mine =
       let others = filter (λ h. not (h.client == client)) (take i held) in
       let all : count (λ (h : Grant). h.serial == g.serial) (take i held ++ g ∷ drop (i + 1) held) ≤ 1 = subst (λ gs. count (λ (h : Grant). h.serial == g.serial) gs ≤ 1) around (differ g.serial) in
       let once : count (λ (h : Grant). h.serial == g.serial) (others ++ g ∷ drop (i + 1) held) ≤ 1 =
@@ -103,8 +100,8 @@ module _ (client i : ℕ) (held : List Grant) (g : Grant) (within : i < length h
         count-append (λ (h : Grant). h.serial == g.serial) others (g ∷ drop (i + 1) held),
         fewer-filter (λ (h : Grant). h.serial == g.serial) (λ h. not (h.client == client)) (take i held),
       ) in
-      left-mine mine ∙ sym (ap (filter (λ h. not (h.serial == g.serial))) left-here ∙ one-struck others (drop (i + 1) held) g once)
+      left-mine mine ∙ sym (ap (filter (λ h. not (h.serial == g.serial))) left-here ∙ one-removed others (drop (i + 1) held) g once)
 
   pub turn-given : (old mid new : CoreView) → SerialsDiffer held → All (λ h. client ≤ h.client) held → (g.client == client) ≡ true → GoingBack old held (left_from client held i) mid
       → new ≡ with_entry mid g.client (Unfix g.serial g.page) Done → GoingBack old held (left_from client held (i + 1)) new
-  turn-given old mid new differ least mine going entry = going-next old mid new held (left_from client held i) (left_from client held (i + 1)) g going (next-is least mine) entry (left-struck differ mine)
+  turn-given old mid new differ least mine going entry = going-next old mid new held (left_from client held i) (left_from client held (i + 1)) g going (next-is least mine) entry (left-removed differ mine)

@@ -1,6 +1,6 @@
 -- Which pass goes back next, and that each goes back once.
-use Rattle.std.proofs.Common.{◌≡◌, refl, sym, ◌∙◌, ap, ℕ, suc, ◌<◌, ◌≤◌, nat_le, arith, cond, List, [], ◌∷◌, true, false, not, Bool, ◌==◌, ◌&&◌, ◌||◌, Option, Some, None, length}
-use Rattle.std.specs.Prelude.{IfNone, All, Any, find, filter}
+use Rattle.std.proofs.Common.{◌≡◌, refl, sym, ◌∙◌, ap, ℕ, suc, ◌<◌, ◌≤◌, nat_le, arith, cond, List, [], ◌∷◌, true, false, not, Bool, ◌==◌, ◌&&◌, ◌||◌, Some, length}
+use Rattle.std.specs.Prelude.{All, Any, find, filter}
 use Rattle.std.specs.List.{list_any, list_all}
 use Rattle.std.proofs.lemmas.Bool.{eqb-true, eq-eqb, eqb-false, and_parts, and_from, le-leb, leb-true}
 use Rattle.std.proofs.lemmas.List.Elements.{All-tail}
@@ -58,22 +58,6 @@ any-test lowest held any = list_any-from_Any (λ g. g.client == lowest) held (an
 
 pub lowest-first : (lowest : ℕ) (held : List Grant) → list_all (λ g. nat_le lowest g.client) held ≡ true → list_any (λ g. g.client == lowest) held ≡ true → find (λ g. g.client == lowest) held ≡ first_to_go_back held
 lowest-first lowest held least taken = same-find lowest held least taken held least
-
-pub first-of_lowest : (lowest : ℕ) (held : List Grant) → All (λ g. lowest ≤ g.client) held → Any (λ g. g.client ≡ lowest) held → find (λ g. g.client == lowest) held ≡ first_to_go_back held
-first-of_lowest lowest held least taken = same-find lowest held (list_all-from_All lowest held least) (any-test lowest held taken) held (list_all-from_All lowest held least)
-
-found-there : (p : Grant → Bool) (gs : List Grant) → list_any p gs ≡ true → find p gs ≡ None → ⊥
-found-there p [] any none = cc
-found-there p (g ∷ gs) any none = go (p g) any none (found-there p gs)
-  where
-    go : (b : Bool) → (b || list_any p gs) ≡ true → cond b (Some g) (find p gs) ≡ None → (list_any p gs ≡ true → find p gs ≡ None → ⊥) → ⊥
-    go true any none later = cc
-    go false any none later = later any none
-
--- where a client holds a pass, one goes back next
-pub none-of_lowest : (lowest : ℕ) (held : List Grant) → All (λ g. lowest ≤ g.client) held → Any (λ g. g.client ≡ lowest) held → (o : Option Grant) → o ≡ first_to_go_back held → IfNone o (held ≡ [])
-none-of_lowest lowest held least taken (Some g) is = tt
-none-of_lowest lowest held least taken None is = absurd (found-there (λ g. g.client == lowest) held (any-test lowest held taken) (first-of_lowest lowest held least taken ∙ sym is))
 
 -- without the passes of a serial number that some has, there are fewer
 pub fewer-without : (n : ℕ) (gs : List Grant) → list_any (λ g. g.serial == n) gs ≡ true → length (filter (λ g. not (g.serial == n)) gs) < length gs

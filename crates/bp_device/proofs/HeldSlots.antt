@@ -10,7 +10,7 @@ use Rattle.bp_trail.specs.Lists.{count}
 use Rattle.bp_device.specs.declared.held_list.Slot.{Slot}
 use Rattle.bp_device.specs.HeldLists.{HeldValue, passes_in, same_key, has_pass_of, newest_of, AreLinked, FindsNewest}
 use Rattle.bp_device.specs.Rows.{SerialsDiffer}
-use Rattle.bp_device.proofs.Striking.{one-struck}
+use Rattle.bp_device.proofs.Removing.{one-removed}
 
 and-false : (b : Bool) → (b && false) ≡ false
 and-false true = refl
@@ -220,7 +220,7 @@ module _ (k : ℕ × ℕ) (slots : List Slot) (place : ℕ) (stands : StandsIn k
         let n = stands.slot.note.serial in
         set-passes
         ∙ sym (ap (filter (λ (g : Grant). not (g.serial == n))) passes-there
-        ∙ one-struck (passes_in (reverse stands.older)) (passes_in (reverse stands.newer)) stands.slot.note
+        ∙ one-removed (passes_in (reverse stands.older)) (passes_in (reverse stands.newer)) stands.slot.note
         (subst (λ gs. count (λ (h : Grant). h.serial == n) gs ≤ 1) passes-there (differ n)))
 
     pub set-links : AreLinked (reverse slots) → AreLinked (reverse (set slots place dead))

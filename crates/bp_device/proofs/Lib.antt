@@ -4,9 +4,9 @@ pub mod Driving
 pub mod GivingBack
 pub mod HeldSlots
 pub mod PieceSteps
+pub mod Removing
 pub mod RowCauses
 pub mod RowsWork
 pub mod ScriptSteps
 pub mod SecondTry
-pub mod Striking
 pub mod Working

@@ -47,13 +47,13 @@ fn save<K: Keeper>(
     }
 }
 
-/// Fixes a page over a core that nobody else uses: reads it where it is away, and first writes out the victim where that is unsaved. The
-/// device does this and nothing else: each read is of the page, each write of the ticket's page, with its image and its page LSN, and the
-/// entries have what the port answered.
+/// Fixes a page over a core that nobody else uses: reads it where it is away, and first writes out the victim where
+/// that is unsaved. The device does this and nothing else: each read is of the page, each write of the ticket's page,
+/// with its image and its page LSN, and the entries have what the port answered.
 ///
-/// Refused as `Core::fix` is, then with nothing changed but the entries of its steps so far; with `ReadFailed` where the page could not
-/// be read, and `WrongPage` where another page was found in its place, which is then not resident; with `WriteFailed` where the victim
-/// could not be written, which then stays, unsaved.
+/// Refused as `Core::fix` is, then with nothing changed but the entries of its steps so far; with `ReadFailed` where
+/// the page could not be read, and `WrongPage` where another page was found in its place, which is then not resident;
+/// with `WriteFailed` where the victim could not be written, which then stays, unsaved.
 pub fn drive_fix<K: Keeper, P: Port, R: Wait>(
     rt: &R,
     core: &mut PoolCore<K>,
@@ -78,7 +78,8 @@ pub fn drive_fix<K: Keeper, P: Port, R: Wait>(
         Ok(Fix::WriteFirst(victim)) => {
             let written = port.write(rt, victim.page(), victim.image(), victim.lsn());
             match save(core, victim, written) {
-                // Nobody else acts meanwhile: the victim is saved and still the victim, so the same fix finds its frame.
+                // Nobody else acts meanwhile: the victim is saved and still the victim, so the same fix finds its
+                // frame.
                 Ok(_) => match core.fix(client, page) {
                     Ok(Fix::Hit(_pass)) => unreachable!(),
                     Ok(Fix::Load(ticket, _)) => {
@@ -97,8 +98,8 @@ pub fn drive_fix<K: Keeper, P: Port, R: Wait>(
 
 /// Writes a page out where it is unsaved, over a core that nobody else uses, and tells how it came to be saved.
 ///
-/// Refused as `Core::flush` is, then with nothing changed but that entry; with `WriteFailed` where the page could not be written, which
-/// then stays, unsaved.
+/// Refused as `Core::flush` is, then with nothing changed but that entry; with `WriteFailed` where the page could not
+/// be written, which then stays, unsaved.
 pub fn drive_flush<K: Keeper, P: Port, R: Wait>(
     rt: &R,
     core: &mut PoolCore<K>,

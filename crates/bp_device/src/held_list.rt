@@ -1,5 +1,7 @@
 //! The passes that a script's clients hold, with the latest of each client and page at hand.
-ghost use Rattle.std.specs.Prelude.{◌≡◌, ◌≤◌, ◌<◌, ◌+◌, ◌++◌, ◌∷◌, [], ◌==◌, ℕ, not, find, filter, reverse, length, if◌then◌else◌, IfNone, IfOk, IfSome, IsSome, IsTrue, OnOk, vec_len, vec_capacity};
+ghost use Rattle.std.specs.Prelude.{◌≡◌, ◌≤◌, ◌<◌, ◌+◌, ◌++◌, ◌∷◌, [], ◌==◌, ℕ, not, find, filter, reverse};
+ghost use Rattle.std.specs.Prelude.{length, if◌then◌else◌, vec_len, vec_capacity};
+ghost use Rattle.std.specs.Prelude.{IfNone, IfOk, IfSome, IsSome, IsTrue};
 ghost use Rattle.std.specs.HashMap.{get, spare};
 ghost use Rattle.bp_trail.specs.Script.{is_pass_of};
 ghost use Rattle.bp_device.specs.HeldLists.{passes_in, same_key};
@@ -29,7 +31,7 @@ struct Slot {
 /// `latest`, `push` and `take_latest` take O(1) on average, whatever is held: they look at no other pass, move none and
 /// take no memory. A pass that goes back leaves its slot, which keeps the order of the others.
 #[derive(Drop)]
-pub struct HeldList {
+pub(crate) struct HeldList {
     slots: Vec<Slot>,
     /// Where the pass stands that a client took latest of a page and holds.
     latest: HashMap<Key, usize>,
@@ -108,18 +110,8 @@ fn copy_held(slots: &[Slot], notes: &mut Vec<PassNote>)
 }
 
 impl HeldList {
-    /// None, and no room. It takes no memory.
-    pub fn new(alloc: Global) -> HeldList
-        ensures none { result.passes ≡ [] }
-    {
-        HeldList {
-            slots: Vec::new(alloc),
-            latest: HashMap::new(alloc),
-        }
-    }
-
     /// None, with room for so many. It fails by want of memory alone.
-    pub fn with_capacity(alloc: Global, room: usize) -> Result<HeldList, AllocError>
+    pub(crate) fn with_capacity(alloc: Global, room: usize) -> Result<HeldList, AllocError>
         ensures none { IfOk result (λ held. held.passes ≡ []) }
         ensures room { IfOk result (λ held. room ≤ held.room) }
     {
@@ -128,18 +120,8 @@ impl HeldList {
         Ok(HeldList { slots, latest })
     }
 
-    /// Room for so many more. Where memory is refused the passes stay, with no less room.
-    pub fn reserve(&mut self, more: usize) -> Result<(), AllocError>
-        ensures passes { self.new.passes ≡ self.old.passes }
-        ensures room { OnOk result (more ≤ self.new.room) }
-        ensures no_less { self.old.room ≤ self.new.room }
-    {
-        self.slots.reserve(more)?;
-        self.latest.reserve(more)
-    }
-
     /// The pass of the page that the client took latest.
-    pub fn latest(&self, client: u8, page: PageNo) -> Option<PassNote>
+    pub(crate) fn latest(&self, client: u8, page: PageNo) -> Option<PassNote>
         ensures { result ≡ find (is_pass_of client page) (reverse self.now.passes) }
     {
         let Some(place) = place_of(&self.latest, (client, page.number())) else {
@@ -149,7 +131,7 @@ impl HeldList {
     }
 
     /// Adds the pass taken latest, which takes no memory.
-    pub fn push(&mut self, note: PassNote)
+    pub(crate) fn push(&mut self, note: PassNote)
         requires room { 0 < self.old.room }
         ensures passes { self.new.passes ≡ self.old.passes ++ note ∷ [] }
         ensures room { self.old.room ≤ self.new.room + 1 }
@@ -166,7 +148,7 @@ impl HeldList {
     }
 
     /// Takes out the pass of the page that the client took latest, and gives its note.
-    pub fn take_latest(&mut self, client: u8, page: PageNo) -> Option<PassNote>
+    pub(crate) fn take_latest(&mut self, client: u8, page: PageNo) -> Option<PassNote>
         requires differ { SerialsDiffer self.old.passes }
         ensures note { result ≡ find (is_pass_of client page) (reverse self.old.passes) }
         ensures taken { IfSome result (λ note. self.new.passes ≡
@@ -184,7 +166,7 @@ impl HeldList {
     }
 
     /// Adds the notes of all passes to an empty list that has room for them.
-    pub fn copy_to(&self, notes: &mut Vec<PassNote>)
+    pub(crate) fn copy_to(&self, notes: &mut Vec<PassNote>)
         requires empty { notes.old.items ≡ [] }
         requires room { length self.now.passes ≤ vec_capacity notes.old }
         ensures notes { notes.new.items ≡ self.now.passes }

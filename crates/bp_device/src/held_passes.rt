@@ -1,12 +1,13 @@
 //! The passes that a script's clients hold, as notes in the order taken.
-ghost use Rattle.std.specs.Prelude.{IfNone, IfSome, All, Any, List, true, not, ◌==◌, find, filter, reverse, ◌≡◌, ◌≤◌, []};
+ghost use Rattle.std.specs.Prelude.{IfNone, IfSome, All, Any, List, true, not, ◌==◌, find, filter};
+ghost use Rattle.std.specs.Prelude.{reverse, ◌≡◌, ◌≤◌, []};
 ghost use Rattle.bp_trail.specs.declared.entries.Call.TheVariants as Call;
 ghost use Rattle.bp_trail.specs.declared.entries.Reply.TheVariants as Reply;
 ghost use Rattle.bp_trail.specs.Event.{Grant};
 ghost use Rattle.bp_trail.specs.Passes.{passes_out};
 ghost use Rattle.bp_trail.specs.Legal.{is_out};
 ghost use Rattle.bp_core.specs.CoreView.{EachPast, with_entry};
-ghost use Rattle.bp_trail.specs.Script.{is_pass_of, first_to_go_back};
+ghost use Rattle.bp_trail.specs.Script.{is_pass_of};
 ghost use Rattle.bp_device.specs.Rows.{EndsIn, SerialsDiffer, GoingBack, GaveBack};
 
 use bp_core::{Keeper, PassNote, PoolCore};
@@ -63,16 +64,6 @@ fn lowest_client(held: &[PassNote]) -> Option<u8>
     ensures taken { IfSome result (λ lowest. Any (λ g. g.client ≡ lowest) held.now) }
 {
     held.iter().map(|note| note.client()).min()
-}
-
-/// Of the passes that are held, in the order taken, the one that goes back next: of the lowest client that holds any, the
-/// one taken first.
-pub fn next_to_go_back(held: &[PassNote]) -> Option<PassNote>
-    ensures first { result ≡ first_to_go_back held.now }
-    ensures none { IfNone result (held.now ≡ []) }
-{
-    let lowest = lowest_client(held)?;
-    held.iter().find(|note| is_taken_by(note, lowest)).copied()
 }
 
 /// Gives back the passes that this client holds, in the order taken, where no lower client holds any. Their notes stay.

@@ -2,7 +2,7 @@
 #![tactic(auto)]
 
 pub mod drivers;
-pub mod held_list;
+mod held_list;
 pub mod held_passes;
 mod rows;
 pub mod scripts;
@@ -13,6 +13,5 @@ pub use bp_ports::{
 };
 pub use bp_trail::Flushed;
 pub use drivers::{drive_fix, drive_flush};
-pub use held_list::HeldList;
-pub use held_passes::{latest_pass, next_to_go_back};
+pub use held_passes::latest_pass;
 pub use scripts::{drive_all, note_refused};

@@ -1,5 +1,6 @@
 //! A whole script over a core that has one owner.
-ghost use Rattle.std.specs.Prelude.{OnErr, All, reverse, ◌+◌, ◌≡◌, ◌<◌, ◌≤◌, ◌++◌, [], IfOk, length, vec_len, vec_capacity};
+ghost use Rattle.std.specs.Prelude.{OnErr, All, reverse, ◌+◌, ◌≡◌, ◌<◌, ◌≤◌, ◌++◌, [], IfOk};
+ghost use Rattle.std.specs.Prelude.{length, vec_len, vec_capacity};
 ghost use Rattle.bp_trail.specs.Fits.{RowFits};
 ghost use Rattle.bp_trail.specs.Pieces.{outcome_of};
 ghost use Rattle.bp_trail.specs.Script.{refused_row};
@@ -58,9 +59,10 @@ fn drive_rows<K: Keeper, P: Port, R: Wait>(
     }
 }
 
-/// Runs the rows in order over a core that nobody else uses, and gives back the passes that are then held: client by client, from the
-/// lowest, in the order taken. The refused rows come back, in order, each with the number of its refusal: 20 only where the core then
-/// lacked the room, 21 where the clock would have passed its limit, and 22 where the row takes memory.
+/// Runs the rows in order over a core that nobody else uses, and gives back the passes that are then held: client by
+/// client, from the lowest, in the order taken. The refused rows come back, in order, each with the number of its
+/// refusal: 20 only where the core then lacked the room, 21 where the clock would have passed its limit, and 22 where
+/// the row takes memory.
 ///
 /// `OutOfMemory` comes only where a list of its own could not be made, before any row was run; it changes nothing.
 pub fn drive_all<K: Keeper, P: Port, R: Wait>(

@@ -1,6 +1,5 @@
 -- What a word of a page file names, and why it is not opened.
-use Rattle.std.proofs.Common.{◌≡◌, ◌∙◌, ◌⊎◌, inl, inr, ap, subst, ℕ, Bool, false, Option, Some, None, Result, Ok, Err}
-use Rattle.std.specs.Prelude.{IfErr}
+use Rattle.std.proofs.Common.{◌≡◌, ◌∙◌, ◌⊎◌, inl, inr, ap, subst, ℕ, Bool, false, Option, Some, None}
 use Rattle.clap.specs.Words.{Text}
 use Rattle.bp_page.specs.Limits.{IsGeometry}
 use Rattle.bp_page.specs.declared.limits.Geometry.{Geometry}
@@ -48,7 +47,3 @@ pub of_open : (fault : OpenFault) → (fault ≡ Refused BadLength) ⊎ ((fault 
 of_open fault (inl is) = inr (inl is)
 of_open fault (inr (inl is)) = inr (inr is)
 of_open fault (inr (inr is)) = inl (inr is)
-
-pub only_for_memory : {A : Type 0} (size n : ℕ) (result : Result A OpenFault) → IfErr result IsForMemory → IfErr result (λ fault. IsOpenFault (Some n) size fault)
-only_for_memory size n (Ok made) why = tt
-only_for_memory size n (Err fault) why = inl why

@@ -1,9 +1,8 @@
 -- What a run does over the page file that was opened for it.
-use Rattle.std.proofs.Common.{◌≡◌, ◌∙◌, ◌⊎◌, inl, inr, refl, sym, ap, subst, ℕ, ◌<◌, arith, Bool, List, [], ◌∷◌, length, get_or, All, Option, Some, Result, Ok, Err}
+use Rattle.std.proofs.Common.{◌≡◌, ◌∙◌, ◌⊎◌, inl, inr, refl, sym, ap, subst, ℕ, ◌<◌, arith, Bool, List, [], ◌∷◌, length, get_or, All, Option, Result, Ok, Err}
 use Rattle.std.proofs.lemmas.List.Elements.{All-get_or}
 use Rattle.std.specs.Prelude.{IfErr, IfOk, Vec}
 use Rattle.std.specs.declared.alloc.Global.{Global}
-use Rattle.clap.specs.Words.{Text}
 use Rattle.bp_page.specs.declared.limits.Geometry.{Geometry}
 use Rattle.bp_trail.specs.declared.scripts.Row.{Row}
 use Rattle.bp_trail.specs.Fits.{RowFits}
@@ -13,12 +12,12 @@ use Rattle.bp_trace.specs.InRange.{IsInRange}
 use Rattle.bp_words.specs.declared.ending.Ending.{Ending}
 use Rattle.bp_words.specs.declared.words.Order.{Order}
 use Rattle.bp_words.specs.declared.words.Order.TheVariants as order
-use Rattle.bp_words.specs.Words.{Told, TraceAt, at_path}
+use Rattle.bp_words.specs.Words.{Told}
 use Rattle.bp_run.specs.PageFile.{IsNamed}
 use Rattle.bp_run.specs.Scripts.{scripts_of}
 use Rattle.bp_run.specs.Ways.{Ways}
-use Rattle.bp_run.specs.Run.{AreRead, AreRowsOf, Reports, ReportsFree, ReportsIn, Runs, parameters_for, ports_for}
-use Rattle.bp_run.specs.Stops.{HasNoRows, NotConnected, NotRead, NotReported, StopsRun}
+use Rattle.bp_run.specs.Run.{AreRead, Reports, ReportsFree, ReportsIn, Runs, parameters_for, ports_for}
+use Rattle.bp_run.specs.Stops.{NotConnected, NotRead, NotReported, StopsRun}
 
 -- a run asks for a port
 pub some_ports : (o : Order) (rows : List Row) → 0 < ports_for o rows
@@ -103,15 +102,3 @@ pub stopped_in_run : {F P T : Type 0} (ways : Ways F P T) (bytes_of : T → Opti
     → IfErr result (NotReported t.order) → IfErr result (StopsRun ways bytes_of t bytes)
 stopped_in_run ways bytes_of t bytes (Ok ok) file h rows opened same read not = tt
 stopped_in_run ways bytes_of t bytes (Err ended) file h rows opened same read not = stopped_after ways bytes_of t bytes ended file h rows opened same read (inr not)
-
--- ---- a trace at a path
-
-pub read_at : {T : Type 0} (traces : Text → Option T → Type 0) (bytes_of : T → Option (List ℕ)) (at : TraceAt) (path : Text) (g : Geometry) (bytes : Option (List ℕ)) (file : T) (result : Result (Vec Row Global) Ending)
-    → at ≡ at_path path → traces path (Some file) → IfOk result (λ rows. AreRowsOf g (bytes_of file) rows.items) → IfOk result (λ rows. AreRead traces bytes_of at g bytes rows.items)
-read_at traces bytes_of at path g bytes file (Ok rows) is opened read = subst (λ at. AreRead traces bytes_of at g bytes rows.items) (sym is) (file, opened, read)
-read_at traces bytes_of at path g bytes file (Err ended) is opened read = tt
-
-pub not_read_at : {T : Type 0} (traces : Text → Option T → Type 0) (bytes_of : T → Option (List ℕ)) (at : TraceAt) (path : Text) (g : Geometry) (bytes : Option (List ℕ)) (file : T) (result : Result (Vec Row Global) Ending)
-    → at ≡ at_path path → traces path (Some file) → IfErr result (HasNoRows g (bytes_of file)) → IfErr result (NotRead traces bytes_of at g bytes)
-not_read_at traces bytes_of at path g bytes file (Ok rows) is opened not = tt
-not_read_at traces bytes_of at path g bytes file (Err ended) is opened not = subst (λ at. NotRead traces bytes_of at g bytes ended) (sym is) (inr (file, opened, not))

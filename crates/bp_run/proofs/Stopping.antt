@@ -1,5 +1,5 @@
 -- How a run ends without a report.
-use Rattle.std.proofs.Common.{◌≡◌, ◌∙◌, ◌⊎◌, inl, inr, refl, sym, ap, subst, ℕ, zero, suc, ◌+◌, ◌*◌, ◌<◌, min, arith, All, Bool, true, false, List, [], ◌∷◌, length, Option, Some, None, Result, Ok, Err}
+use Rattle.std.proofs.Common.{◌≡◌, ◌∙◌, ◌⊎◌, inl, inr, refl, sym, ap, subst, ℕ, zero, suc, ◌<◌, arith, All, Bool, true, false, List, [], ◌∷◌, length, Option, Some, None, Result, Ok, Err}
 use Rattle.std.proofs.lemmas.Bool.{eqb-true}
 use Rattle.std.specs.Prelude.{if◌then◌else◌}
 use Rattle.std.specs.Io.KnownBytes.{Appends}
@@ -18,12 +18,12 @@ use Rattle.bp_trail.specs.declared.scripts.Row.{Row}
 use Rattle.bp_trail.specs.Parameters.{Parameters}
 use Rattle.bp_trace.specs.InRange.{IsInRange}
 use Rattle.bp_core.specs.Work.{Reads, Writes}
-use Rattle.bp_core.specs.Outcomes.{IsFit, IsFitUpTo, NewOutcome}
+use Rattle.bp_core.specs.Outcomes.{IsFit}
 use Rattle.bp_clients.specs.Runs.{RunAnswers}
 use Rattle.bp_charts.specs.declared.table.Line.{Line}
 use Rattle.bp_charts.specs.Table.{table_text}
 use Rattle.bp_sweep.specs.Dense.{Pages}
-use Rattle.bp_words.specs.Asked.{Asked, Migration, Sweep, asked_by, asked_in}
+use Rattle.bp_words.specs.Asked.{Asked, Sweep, asked_by, asked_in}
 use Rattle.bp_words.specs.Asked.Asked.{a_run, a_migration, a_sweep, an_explanation}
 use Rattle.bp_words.specs.Command.{bpool_app}
 use Rattle.bp_words.specs.Decision.{AsksForAnswer, AsksForHelp, IsRunnable}
@@ -40,12 +40,7 @@ use Rattle.bp_run.specs.Ways.{Ways}
 use Rattle.bp_run.specs.Stops.{EndsBy, IsShown, TakesLong, keeps_out, NotConnected, NotRead, NotReported, StopsRun}
 use Rattle.bp_run.specs.Sweep.{NotShown, NotTaken, NotWritten, StopsSweep}
 
--- ---- a core is refused for want of memory alone
-
-pub only_memory : (most : ℕ) (c : Parameters) (why : Refusal) → IsFitUpTo most c → NewOutcome most c (Err why) → why ≡ refusal.OutOfMemory
-only_memory most c refusal.BadSettings fit unfit = absurd (unfit fit)
-only_memory most c refusal.OutOfMemory fit is = refl
-only_memory most c other fit never = absurd never
+-- ---- a run of threads is refused for want of memory, or lists that do not agree
 
 pub memory_or_disagree : {A : Type 0} (c : Parameters) (result : Result A Refusal) (why : Refusal) → IsFit c → result ≡ Err why → RunAnswers c result → NotReported order.Free (ending.RunRefused why)
 memory_or_disagree c (Ok done) why fit is answers = absurd (let no = is in cc)
@@ -55,17 +50,6 @@ memory_or_disagree c (Err refusal.Disagree) why fit is answers = let same : refu
 memory_or_disagree c (Err other) why fit is never = absurd never
 
 -- those of a run in either order are fit
-
-pub trace_fits : (t : Told) (c : Parameters) (rows : ℕ) → IsRunnable t → c.frames ≡ t.frames → c.clients ≡ 64 → c.room ≡ min (8 * rows + 16) 16777216 → IsFitUpTo 16777216 c
-trace_fits t c rows runnable frames clients room = record {
-  frames = omega (arith, runnable.limits.some_frames, frames);
-  few_frames = omega (arith, runnable.limits.few_frames, frames);
-  clients = omega (arith, clients);
-  few_clients = omega (arith, clients);
-  room = omega (arith, room);
-  small_room = omega (arith, room);
-}
-
 pub free_fits : (t : Told) (g : Geometry) (rows : List Row) → IsRunnable t → All (IsInRange g) rows → IsFit (parameters_for order.Free t g rows)
 free_fits t g rows runnable in_range = record {
   frames = runnable.limits.some_frames;
@@ -228,9 +212,6 @@ ends_the_same ways bytes_of words bytes old mid new ended kept (inr (inr (inr ot
 shown_or : {X : Type 0} (watched : Bool) (words : List Text) (asked : Asked) (old new : X) → asked_by words ≡ Some asked → TakesLong asked → (watched ≡ false → new ≡ old) → IsShown watched words ⊎ (new ≡ old)
 shown_or true words asked old new named long kept = inl (record { asked = asked; named = named; long = long; seen = refl })
 shown_or false words asked old new named long kept = inr (kept refl)
-
-pub shown_or_kept : {X : Type 0} (watched : Bool) (words : List Text) (told : Migration) (old new : X) → asked_by words ≡ Some (a_migration told) → (watched ≡ false → new ≡ old) → IsShown watched words ⊎ (new ≡ old)
-shown_or_kept watched words told old new named kept = shown_or watched words (a_migration told) old new named tt kept
 
 pub sweep_shown_or_kept : {X : Type 0} (watched : Bool) (words : List Text) (told : Sweep) (old new : X) → asked_by words ≡ Some (a_sweep told) → (watched ≡ false → new ≡ old) → IsShown watched words ⊎ (new ≡ old)
 sweep_shown_or_kept watched words told old new named kept = shown_or watched words (a_sweep told) old new named tt kept

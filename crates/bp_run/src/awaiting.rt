@@ -4,7 +4,8 @@ ghost use Rattle.std.specs.Prelude.{◌≡◌};
 use std::io;
 use std::io::{Read, Write};
 
-/// A reader of a trace or of references that tells, at the first read, that lines are awaited there. It reads what its input reads.
+/// A reader of a trace or of references that tells, at the first read, that lines are awaited there. It reads what its
+/// input reads.
 #[derive(Drop)]
 pub struct Awaiting<I: Read, E: Write> {
     input: I,

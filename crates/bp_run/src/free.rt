@@ -67,7 +67,8 @@ fn run_threads<P: Port + Send, R: Threads + Wait + Sync>(
     }
 }
 
-/// Runs the rows by one thread for each client, and writes the report and the refused rows. Answers whether all rows were accepted.
+/// Runs the rows by one thread for each client, and writes the report and the refused rows. Answers whether all rows
+/// were accepted.
 pub(crate) fn run_free<P: Port + Send, R: Threads + Wait + Sync, W: Write>(
     rt: &R,
     alloc: Global,

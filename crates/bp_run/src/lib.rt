@@ -1,5 +1,5 @@
-//! A run of the program: from the words of its command line and the bytes of a trace to the bytes of the report, or from those of
-//! references to the bytes of a table.
+//! A run of the program: from the words of its command line and the bytes of a trace to the bytes of the report, or
+//! from those of references to the bytes of a table.
 //!
 //! The contract of `run_with` is the promise of the whole program.
 #![tactic(auto)]

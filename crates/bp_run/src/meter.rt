@@ -36,7 +36,8 @@ impl<E: Write> Progress for Meter<'_, E> {
     }
 }
 
-/// Shows on one line, anew once a second has gone by, which cell of a sweep is counted, and how many references of it are.
+/// Shows on one line, anew once a second has gone by, which cell of a sweep is counted, and how many references of it
+/// are.
 #[derive(Drop)]
 pub(crate) struct SweepMeter<'a, R: Clock, E: Write> {
     clock: &'a R,

@@ -73,7 +73,8 @@ fn copy_pages<I: Read + Drop, W: Write + OpenFile + Drop, P: Progress>(
     Ok(())
 }
 
-/// Makes a new file at a path of its own, which then takes the name of the new page file. Where that fails no file of these is left.
+/// Makes a new file at a path of its own, which then takes the name of the new page file. Where that fails no file of
+/// these is left.
 fn make_file<R: Files, P: Progress>(
     rt: &R,
     alloc: Global,
@@ -99,7 +100,8 @@ fn make_file<R: Files, P: Progress>(
     made
 }
 
-/// Opens the old page file to read it, and takes its geometry from its length. It is an error where the new one would be the same file.
+/// Opens the old page file to read it, and takes its geometry from its length. It is an error where the new one would
+/// be the same file.
 fn open_old<R: Files>(
     rt: &R,
     alloc: Global,
@@ -123,9 +125,9 @@ fn open_old<R: Files>(
     }
 }
 
-/// Writes the page file of version 1 that the words name anew in version 2, each page with its number and LSN 0. The new file is made
-/// beside its path, under its name with `.migrating` after it, and takes that path, and the place of a file that stood there, once it is
-/// whole. Where somebody watches, the error output shows how far it has come.
+/// Writes the page file of version 1 that the words name anew in version 2, each page with its number and LSN 0. The
+/// new file is made beside its path, under its name with `.migrating` after it, and takes that path, and the place of a
+/// file that stood there, once it is whole. Where somebody watches, the error output shows how far it has come.
 ///
 /// It is an error where what stands at the new path is no regular file.
 ///

@@ -5,10 +5,12 @@ use std::io;
 use std::io::Read;
 use std::marker::Send;
 
-/// Opens the page files and the traces that words name, and writes the pictures. As a page file `mem:N` is N pages of zero bytes in
-/// memory, and any other word is a path. A trace, which may be a list of references, is at a path, and so is a picture.
+/// Opens the page files and the traces that words name, and writes the pictures. As a page file `mem:N` is N pages of
+/// zero bytes in memory, and any other word is a path. A trace, which may be a list of references, is at a path, and so
+/// is a picture.
 ///
-/// By relations of its own it says what each call gave. What is promised by them, as of a run, can be kept only by these calls.
+/// By relations of its own it says what each call gave. What is promised by them, as of a run, can be kept only by
+/// these calls.
 pub trait Ports<R> {
     /// A page file that is open.
     type F: Drop;
@@ -32,8 +34,9 @@ pub trait Ports<R> {
 
     /// Opens a page file whose pages have `size` bytes. A file at a path has this format; pages in memory have none.
     ///
-    /// `Refused(BadGeometry)` where a word names pages in memory, and their number or size is out of its limits; `Refused(BadLength)`
-    /// and `Port(Device)` of a path alone; `Refused(OutOfMemory)` and `Port(Memory)` where memory is wanted.
+    /// `Refused(BadGeometry)` where a word names pages in memory, and their number or size is out of its limits;
+    /// `Refused(BadLength)` and `Port(Device)` of a path alone; `Refused(OutOfMemory)` and `Port(Memory)` where memory
+    /// is wanted.
     fn open(
         &mut self,
         rt: &R,
@@ -53,8 +56,8 @@ pub trait Ports<R> {
 
     /// So many ports to an open page file, one for each client. All are to the same pages.
     ///
-    /// A page file at a path is opened once more for each but the first, and fails as `open` does; so it does where its length has
-    /// changed.
+    /// A page file at a path is opened once more for each but the first, and fails as `open` does; so it does where its
+    /// length has changed.
     fn connect(&mut self, rt: &R, file: Self::F, clients: usize) -> Result<Vec<Self::P>, OpenFault>
         ensures gave { ways.connects file clients result }
         ensures count { IfOk result (λ ports. vec_len ports ≡ clients) }
@@ -71,8 +74,8 @@ pub trait Ports<R> {
 
     /// Writes the bytes of a picture into the file at a path, which is made, or overwritten.
     ///
-    /// Where that fails, the file may have a part of them, or be as it was. It fails where the path leads to the file that
-    /// `trace` opened last, which is then as it was.
+    /// Where that fails, the file may have a part of them, or be as it was. It fails where the path leads to the file
+    /// that `trace` opened last, which is then as it was.
     fn save(&mut self, rt: &R, path: &str, bytes: &[u8]) -> io::Result<()>
         ensures { ways.saves path.now bytes.now (is_ok result) };
 

@@ -190,8 +190,8 @@ fn next_port<R: Files<File = File>>(
     }
 }
 
-/// Ports to the page file at a path, which has this geometry, one for each client: the one that was opened first, and as many more as it
-/// takes.
+/// Ports to the page file at a path, which has this geometry, one for each client: the one that was opened first, and
+/// as many more as it takes.
 fn file_ports<R: Files<File = File>>(
     rt: &R,
     alloc: Global,

@@ -122,8 +122,8 @@ fn new_core(
     }
 }
 
-/// Runs the rows over a new core and the port, and writes the report and the refused rows. Answers whether all rows were
-/// accepted.
+/// Runs the rows over a new core and the port, and writes the report and the refused rows. Answers whether all rows
+/// were accepted.
 fn drive_rows<P: Port, R: Wait, W: Write>(
     rt: &R,
     alloc: Global,
@@ -151,8 +151,8 @@ fn drive_rows<P: Port, R: Wait, W: Write>(
     }
 }
 
-/// Runs the rows in the order of the trace over a new core and the port, and writes the report and the refused rows. Answers
-/// whether all rows were accepted.
+/// Runs the rows in the order of the trace over a new core and the port, and writes the report and the refused rows.
+/// Answers whether all rows were accepted.
 fn run_rows<P: Port, R: Wait, W: Write>(
     rt: &R,
     alloc: Global,
@@ -268,8 +268,8 @@ fn connect<R, O: Ports<R>>(
     }
 }
 
-/// Runs the rows in the order that the words name over the opened ports, and writes the report and the refused rows. Answers
-/// whether all rows were accepted.
+/// Runs the rows in the order that the words name over the opened ports, and writes the report and the refused rows.
+/// Answers whether all rows were accepted.
 fn run_in_order<P: Port + Send, R: Threads + Wait + Sync, W: Write>(
     rt: &R,
     alloc: Global,
@@ -296,8 +296,8 @@ fn run_in_order<P: Port + Send, R: Threads + Wait + Sync, W: Write>(
     }
 }
 
-/// Opens the page file, then reads the trace, opens the page file for further clients, and runs the rows. Answers whether all were
-/// accepted.
+/// Opens the page file, then reads the trace, opens the page file for further clients, and runs the rows. Answers
+/// whether all were accepted.
 ///
 /// The trace is read whole first: where it has no script, nothing is written.
 fn run_told<R: Threads + Wait + Sync, I: Read, O: Ports<R>, W: Write>(
@@ -343,7 +343,8 @@ fn status_of_run(all_accepted: bool) -> u8
 ///
 /// An `Err` is how the program ends otherwise, by its cause. Nothing is said of it yet, and nothing is on `out`, but
 /// where a report, a table or an explanation was begun: then it is `OutputFailed`, or `PictureNotWritten` where the
-/// whole table is there. Where somebody watches a migration or a sweep, `err` shows how far it came; else `err` is as it was.
+/// whole table is there. Where somebody watches a migration or a sweep, `err` shows how far it came; else `err` is as
+/// it was.
 pub fn carry_out<
     R: Files + Clock + Threads + Wait + Sync,
     I: Read,

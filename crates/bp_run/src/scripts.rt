@@ -50,8 +50,8 @@ fn add_row(scripts: &mut [Vec<Row>], row: Row) -> Result<(), Refusal>
     Ok(())
 }
 
-/// The rows of each of so many clients, from client 0 on. Each client's stay in order. `OutOfMemory` where there is no memory for
-/// them.
+/// The rows of each of so many clients, from client 0 on. Each client's stay in order. `OutOfMemory` where there is no
+/// memory for them.
 pub fn split(alloc: Global, rows: Vec<Row>, clients: usize) -> Result<Vec<Vec<Row>>, Refusal>
     requires { All (λ row. row.client < clients) rows.items }
     ensures scripts { IfOk result (λ scripts. lists scripts.items ≡ scripts_for clients rows.items) }

@@ -218,11 +218,13 @@ fn show<R: Wait + Clock, O: Ports<R>, W: Write, E: Write>(
     }
 }
 
-/// Reads the references, counts a cell for each number of frames with each K and for the optimum, writes their table, and draws its
-/// picture where the words ask for one. Where somebody watches, the error output shows how far it has come.
+/// Reads the references, counts a cell for each number of frames with each K and for the optimum, writes their table,
+/// and draws its picture where the words ask for one. Where somebody watches, the error output shows how far it has
+/// come.
 ///
-/// All references are read before any cell is counted, all cells are counted before the table is written, and the picture is written
-/// last. `PictureNotWritten` comes only where that fails; want of memory for the picture is known before the table is written.
+/// All references are read before any cell is counted, all cells are counted before the table is written, and the
+/// picture is written last. `PictureNotWritten` comes only where that fails; want of memory for the picture is known
+/// before the table is written.
 pub(crate) fn sweep_told<R: Wait + Clock, I: Read, O: Ports<R>, W: Write, E: Write>(
     rt: &R,
     alloc: Global,

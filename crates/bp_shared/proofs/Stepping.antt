@@ -7,7 +7,6 @@ use Rattle.bp_trail.specs.Trail.{Trail}
 use Rattle.bp_trail.specs.Clock.{durable}
 use Rattle.bp_core.specs.CoreView.{CoreView, with_entry}
 use Rattle.bp_core.specs.Outcomes.{StepOutcome}
-use Rattle.bp_book.specs.Rings.{DrainsRings}
 use Rattle.bp_book.specs.Books.{Alike}
 use Rattle.bp_book.specs.Turns.{LookOutcome, Marked, MarksOnce}
 use Rattle.bp_book.specs.Causes.{Looks}
@@ -33,28 +32,17 @@ grows_more start mid core said told after s (inr a) =
       grows = a.2 ∙ ap (λ es. e ∷ es) s.grows;
     }
 
--- rings drained, and then an event
-step : (Event : CoreView → CoreView → Type 0) (old : LockedValue) (mid : CoreView) (new : LockedValue) (said after : Trail) → DrainsRings 32 old.rings new.rings old.core.past old.strays mid.past new.strays
-    → mid.parameters ≡ old.core.parameters → mid.before ≡ old.core.before → Event mid new.core → Grows mid said new.core after → InStep Event old said new after
-step Event old mid new said after drained same same_before event g =
-    let is : mid ≡ record old.core { past = mid.past } = λ i. record { parameters = same i; before = same_before i; past = mid.past } in
-    record {
-      past = mid.past;
-      drained = drained;
-      event = subst (λ core. Event core new.core) is event;
-      piece = g.piece;
-      is = g.is ∙ ap (λ (core : CoreView). record core { past = g.piece ++ core.past }) is;
-      grows = g.grows;
-    }
+-- an event, by which the rings stay
+step : (Event : CoreView → CoreView → Type 0) (old new : LockedValue) (said after : Trail) → new.rings ≡ old.rings → new.strays ≡ old.strays → Event old.core new.core → Grows old.core said new.core after → InStep Event old said new after
+step Event old new said after rings strays event g = record { event = event; rings_stay = (rings, strays); piece = g.piece; is = g.is; grows = g.grows }
 
-pub step_one : (Event : CoreView → CoreView → Type 0) (old : LockedValue) (mid : CoreView) (new : LockedValue) (said after : Trail) → DrainsRings 32 old.rings new.rings old.core.past old.strays mid.past new.strays
-    → mid.parameters ≡ old.core.parameters → mid.before ≡ old.core.before → Event mid new.core → Alike mid said new.core after → InStep Event old said new after
-step_one Event old mid new said after drained same same_before event a = step Event old mid new said after drained same same_before event (grows_more mid mid new.core said said after (grows_none mid said) a)
+pub step_one : (Event : CoreView → CoreView → Type 0) (old new : LockedValue) (said after : Trail) → new.rings ≡ old.rings → new.strays ≡ old.strays → Event old.core new.core → Alike old.core said new.core after → InStep Event old said new after
+step_one Event old new said after rings strays event a = step Event old new said after rings strays event (grows_more old.core old.core new.core said said after (grows_none old.core said) a)
 
-pub step_two : (Event : CoreView → CoreView → Type 0) (old : LockedValue) (mid marked : CoreView) (new : LockedValue) (said told after : Trail) → DrainsRings 32 old.rings new.rings old.core.past old.strays mid.past new.strays
-    → mid.parameters ≡ old.core.parameters → mid.before ≡ old.core.before → Event mid new.core → Alike mid said marked told → Alike marked told new.core after → InStep Event old said new after
-step_two Event old mid marked new said told after drained same same_before event a b =
-    step Event old mid new said after drained same same_before event (grows_more mid marked new.core said told after (grows_more mid mid marked said said told (grows_none mid said) a) b)
+pub step_two : (Event : CoreView → CoreView → Type 0) (old : LockedValue) (marked : CoreView) (new : LockedValue) (said told after : Trail) → new.rings ≡ old.rings → new.strays ≡ old.strays → Event old.core new.core
+    → Alike old.core said marked told → Alike marked told new.core after → InStep Event old said new after
+step_two Event old marked new said told after rings strays event a b =
+    step Event old new said after rings strays event (grows_more old.core marked new.core said told after (grows_more old.core old.core marked said said told (grows_none old.core said) a) b)
 
 -- ---- looks
 

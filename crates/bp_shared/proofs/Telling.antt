@@ -65,7 +65,7 @@ pub record AddsUnfixes (start past : Trail) : Type 0 where
   pub goes_on : past ≡ back ++ start
   pub untold : told back ≡ []
 
-pub no_unfixes : (past : Trail) → AddsUnfixes past past
+no_unfixes : (past : Trail) → AddsUnfixes past past
 no_unfixes past = record { back = []; goes_on = refl; untold = refl }
 
 more_unfixes : (start mid past : Trail) → AddsUnfixes start mid → AddsUnfixes mid past → AddsUnfixes start past
@@ -208,26 +208,21 @@ end_write_one client ticket written answer said after owes h = subst (λ c. OneM
 pub line_written : (board client still : ℕ) (old new : Board) (had has : Line) (said after : Trail) → IsLineOf board had client said → Writes old had (told after) new has → still ≡ client → IsLineOf board has still after
 line_written board client still old new had has said after l w same = record { board_is = w.name_is ∙ l.board_is; number_is = w.number_is ∙ l.number_is ∙ sym same; list_is = w.list_is }
 
--- the rings were drained, and the trail and the list got the same entries; then the line was written
-pub shown_more : (board : ℕ) (start : Trail) (client : ℕ) (old new : Board) (had has : Line) (past mid after said told_after : Trail) → IsShown board start old past → IsLineOf board had client said
-    → AddsUnfixes past mid → Adds client mid said after told_after → Writes old had (told told_after) new has → IsShown board start new after
-shown_more board start client old new had has past mid after said told_after s l d a w = record {
+-- the trail and the list got the same entries; then the line was written
+pub shown_more : (board : ℕ) (start : Trail) (client : ℕ) (old new : Board) (had has : Line) (past after said told_after : Trail) → IsShown board start old past → IsLineOf board had client said → Adds client past said after told_after
+    → Writes old had (told told_after) new has → IsShown board start new after
+shown_more board start client old new had has past after said told_after s l a w = record {
   board_is = w.name ∙ s.board_is;
   since = since;
-  goes_on =
-      a.goes_on ∙ ap (λ es. a.piece ++ es) (d.goes_on ∙ ap (λ es. d.back ++ es) s.goes_on)
-      ∙ ap (λ es. a.piece ++ es) (sym (append_assoc d.back s.since start)) ∙ sym (append_assoc a.piece (d.back ++ s.since) start);
+  goes_on = a.goes_on ∙ ap (λ es. a.piece ++ es) s.goes_on ∙ sym (append_assoc a.piece s.since start);
   each = λ c. each c (ℕ_discrete c client);
 }
   where
     since : Trail
-    since = a.piece ++ (d.back ++ s.since)
-
-    told_since : told since ≡ told a.piece ++ told s.since
-    told_since = told-append a.piece (d.back ++ s.since) ∙ ap (λ es. told a.piece ++ es) (told-append d.back s.since ∙ ap (λ es. es ++ told s.since) d.untold)
+    since = a.piece ++ s.since
 
     parts : (c : ℕ) → of_client c (told since) ≡ of_client c (told a.piece) ++ get_or old.lists c []
-    parts c = ap (of_client c) told_since ∙ of_client-append c (told a.piece) (told s.since) ∙ ap (λ es. of_client c (told a.piece) ++ es) (s.each c)
+    parts c = ap (of_client c) (told-append a.piece s.since) ∙ of_client-append c (told a.piece) (told s.since) ∙ ap (λ es. of_client c (told a.piece) ++ es) (s.each c)
 
     same : had.number ≡ client
     same = l.number_is
@@ -277,7 +272,7 @@ blank_more (l ∷ lists) blank (suc c) = blank_more lists (λ d. blank (suc d)) 
 -- a session that ends writes what its line has
 pub shown_again : (board : ℕ) (start : Trail) (client : ℕ) (old new : Board) (had has : Line) (past said : Trail) → IsShown board start old past → IsLineOf board had client said → Writes old had (told said) new has → IsShown board start new past
 shown_again board start client old new had has past said s l w =
-    shown_more board start client old new had has past past past said said s l (no_unfixes past) (adds_none client past said) w
+    shown_more board start client old new had has past past said said s l (adds_none client past said) w
 
 pub told_by : (board : ℕ) (start : Trail) (client : ℕ) (old new : Board) (had has : Line) (past said list : Trail) → IsShown board start old past → IsLineOf board had client said → Writes old had list new has → IsToldBy start past client said
 told_by board start client old new had has past said list s l w = record {

@@ -32,20 +32,23 @@ pub record IsLocked (mark : MarkName) (parameters : Parameters) (core : CoreView
   pub seen : durable core.past ≤ reader.seen
 
 -- the rings were drained, and nothing else was done
-pub record Settled (old new : LockedValue) : Type 0 where
+pub record Drained (old new : LockedValue) : Type 0 where
   pub parameters : new.core.parameters ≡ old.core.parameters
   pub before : new.core.before ≡ old.core.before
   pub seen : new.seen ≡ old.seen
   pub ends : new.ends ≡ old.ends
   pub drained : DrainsRings 32 old.rings new.rings old.core.past old.strays new.core.past new.strays
 
--- the rings were drained; then the core did what the event says, and the trail and the list got the same entries
+-- the rings were drained, and nothing was done since
+abbrev pub IsDrained : LockedValue → Type 0
+IsDrained state = (was : LockedValue) × Drained was state
+
+-- the core did what the event says, and the trail and the list got the same entries
 pub record InStep (Event : CoreView → CoreView → Type 0) (old : LockedValue) (said : Trail) (new : LockedValue) (after : Trail) : Type 0 where
-  pub past : Trail
-  pub drained : DrainsRings 32 old.rings new.rings old.core.past old.strays past new.strays
-  pub event : Event (record old.core { past = past }) new.core
+  pub event : Event old.core new.core
+  pub rings_stay : (new.rings ≡ old.rings) × (new.strays ≡ old.strays)
   pub piece : Trail
-  pub is : new.core ≡ record old.core { past = piece ++ past }
+  pub is : new.core ≡ record old.core { past = piece ++ old.core.past }
   pub grows : after ≡ piece ++ said
 
 -- a look that was not refused

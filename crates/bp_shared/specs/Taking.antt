@@ -14,7 +14,7 @@ use Rattle.bp_trail.specs.Legal.{Legal}
 use Rattle.bp_trail.specs.Standing.{standing}
 use Rattle.bp_core.specs.CoreView.{CoreView}
 use Rattle.bp_core.specs.Outcomes.{Cuts}
-use Rattle.bp_shared.specs.Locked.{LockedValue, Settled}
+use Rattle.bp_shared.specs.Locked.{LockedValue, Drained}
 
 -- the name by which a ring is told from every other
 pub record RingName : Type 0 where
@@ -78,7 +78,7 @@ pub record GaveTooMany (c : Parameters) (had : TakerValue) : Type 0 where
 -- the rings were drained, then the core was cut; and its taker, which had all that was handed out, got exactly that piece
 pub record HandsOut (old : LockedValue) (had : TakerValue) (entries : List Entry) (new : LockedValue) (has : TakerValue) : Type 0 where
   pub mid : LockedValue
-  pub settled : Settled old mid
+  pub drained : Drained old mid
   pub cuts : Cuts mid.core entries new.core
   pub rings_stay : (new.rings ≡ mid.rings) × (new.strays ≡ mid.strays)
   pub ends_stay : new.ends ≡ mid.ends

@@ -9,8 +9,8 @@ use bp_keeper::{ListKeeper, RecordingKeeper};
 use bp_mark::{Mark, Reader};
 use std::marker::Model;
 
-/// A pool that is shared no more: its sessions are ended one by one, and then its core is taken out. Contracts see it as
-/// its core.
+/// A pool that is shared no more: its sessions are ended one by one, and then its core is taken out. Contracts see it
+/// as its core.
 #[derive(Drop)]
 pub struct ClosedPool<N: PoolName, K: ListKeeper = RecordingKeeper> {
     mark: Mark,
@@ -43,10 +43,10 @@ impl<N: PoolName, K: ListKeeper> ClosedPool<N, K> {
 
     /// Ends a session and gives what it kept for itself, as [`Session::into_book`] does. It takes no memory.
     ///
-    /// What the session's list told is what the core's trail tells of its client since the pool was made, entry by entry
-    /// and with nothing between. Unfixes are left out of both: the trail may have one later than the list, and which ones
-    /// it has no clause says. So this core gave each answer that the list has, and the client has no other entry but
-    /// unfixes. A refusal that adds no entry is not bound by it.
+    /// What the session's list told is what the core's trail tells of its client since the pool was made, entry by
+    /// entry and with nothing between. Unfixes are left out of both: the trail may have one later than the list, and
+    /// which ones it has no clause says. So this core gave each answer that the list has, and the client has no other
+    /// entry but unfixes. A refusal that adds no entry is not bound by it.
     pub fn end_session(&mut self, session: Session<N, K>) -> Book<K>
         ensures same { self.new ≡ self.old }
         ensures client { result.client ≡ session.client }
@@ -57,8 +57,8 @@ impl<N: PoolName, K: ListKeeper> ClosedPool<N, K> {
         self.state.end_session(session)
     }
 
-    /// Gives back the core, the mark and its reader. It neither waits nor takes memory. The core's trail goes on from all that
-    /// the taker was handed, and from what it had when the pool was made.
+    /// Gives back the core, the mark and its reader. It neither waits nor takes memory. The core's trail goes on from
+    /// all that the taker was handed, and from what it had when the pool was made.
     pub fn into_core(self, taker: Taker<N>) -> (PoolCore<K>, Mark, Reader)
         ensures core { result.0 ≡ self }
         ensures goes_on { GoesOnFrom N.past result.0.past }

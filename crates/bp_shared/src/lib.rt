@@ -1,16 +1,21 @@
 //! A buffer pool that many clients share: a core behind one lock, a session for each client, and the durable mark.
 //!
-//! Each call of a session is one or more critical sections, and in each the locked core makes its events. Device work is done
-//! outside the lock (Gray and Reuter, chapter 13). A pass goes back through the session's own ring, with no lock.
+//! Each call of a session is one or more critical sections, and in each the locked core makes its events. Device work
+//! is done outside the lock (Gray and Reuter, chapter 13). A pass goes back through the session's own ring, with no
+//! lock.
 //!
-//! The lists of the sessions are bound to the trail of the core, whether some memory has them or not: a session that ends
-//! at a [`ClosedPool`] told what the trail tells of its client since the pool was made, and nothing else, but for unfixes.
+//! The lists of the sessions are bound to the trail of the core, whether some memory has them or not: a session that
+//! ends at a [`ClosedPool`] told what the trail tells of its client since the pool was made, and nothing else, but for
+//! unfixes.
 #![tactic(auto)]
 
 pub mod closed_pool;
+mod giving;
 mod locked_pool;
 mod locking;
+mod log_writer;
 pub mod names;
+mod parts;
 pub mod pool;
 mod session;
 mod taker;
@@ -19,7 +24,10 @@ mod trail_ring;
 use bp_keeper::SilentKeeper;
 pub use bp_trail::Flushed;
 pub use closed_pool::ClosedPool;
+pub use giving::give_back;
+pub use log_writer::LogWriter;
 pub use names::PoolName;
+pub use parts::Parts;
 pub use pool::SharedPool;
 pub use session::Session;
 pub use taker::Taker;

@@ -2,10 +2,9 @@
 use crate::names::PoolName;
 use crate::session::{Session, Told};
 use crate::taker::Taker;
-use crate::trail_ring::meet;
+use crate::trail_ring::join_ends;
 use bp_board::Board;
-use bp_book::Book;
-use bp_book::draining::{ALL, drain_all};
+use bp_book::{Book, drain_all};
 use bp_core::{Entry, PassNote, PoolCore};
 use bp_keeper::ListKeeper;
 use bp_mark::Reader;
@@ -15,8 +14,8 @@ use std::marker::{Model, PhantomData};
 mod cut_section;
 mod turns;
 
-/// What lies under the lock. Its trail is legal, by the core's own type; the reader is the mark's, and has seen every LSN that the
-/// core was told.
+/// What lies under the lock. Its trail is legal, by the core's own type; the reader is the mark's, and has seen every
+/// LSN that the core was told.
 #[derive(Drop)]
 pub(crate) struct LockedPool<N: PoolName, K: ListKeeper> {
     core: PoolCore<K>,
@@ -61,7 +60,7 @@ impl<N: PoolName, K: ListKeeper> LockedPool<N, K> {
     ghost use Rattle.rtrb.specs.Ring.{sent};
     ghost use Rattle.bp_trail.specs.Clock.{durable};
     ghost use Rattle.bp_book.specs.Rings.{ring_view};
-    ghost use Rattle.bp_shared.specs.Locked.{Settled};
+    ghost use Rattle.bp_shared.specs.Locked.{Drained};
     ghost use Rattle.bp_shared.specs.Taking.{ring_of, IsEmptied};
     ghost use Rattle.bp_shared.specs.Telling.{GoesOnFrom, IsShown, IsToldBy};
 
@@ -103,11 +102,12 @@ impl<N: PoolName, K: ListKeeper> LockedPool<N, K> {
         self.ends
     }
 
-    /// Drains each ring, the first client's first, at most 32 passes each.
-    pub(crate) fn settle(&mut self)
-        ensures { Settled self.old self.new }
+    /// Drains each ring that is to be asked, bit c for that of client c, and each in which a pass is known to wait, the
+    /// first client's first, at most 32 passes each.
+    pub(crate) fn drain(&mut self, asked: u64)
+        ensures { Drained self.old self.new }
     {
-        drain_all(&mut self.core, &mut self.strays, &mut self.consumers, ALL);
+        drain_all(&mut self.core, &mut self.strays, &mut self.consumers, asked);
     }
 
     /// Ends a session and gives its book. What its list told is what the trail tells of its client.
@@ -148,7 +148,7 @@ impl<N: PoolName, K: ListKeeper> LockedPool<N, K> {
             of: _,
         } = self;
         let Taker { mut taken, of: _ } = taker;
-        meet(&mut pieces, &mut taken);
+        join_ends(&mut pieces, &mut taken);
         (core, reader)
     }
 }

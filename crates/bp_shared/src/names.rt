@@ -1,8 +1,8 @@
 //! What the parts of one pool agree on.
 use std::marker::Brand;
 
-/// What the locked core, the sessions and the mark of one pool agree on. It has no functions: a program names `Brand`, and each
-/// call picks what it stands for.
+/// What the locked core, the sessions and the mark of one pool agree on. It has no functions: a program names `Brand`,
+/// and each call picks what it stands for.
 pub trait PoolName {
     ghost use Rattle.bp_mark.specs.Marks.{MarkName};
     ghost use Rattle.bp_trail.specs.Parameters.{Parameters};

@@ -14,7 +14,7 @@ use crate::taker::Taker;
 use crate::trail_ring::TrailRing;
 use bp_board::Board;
 use bp_book::Posted;
-use bp_book::draining::RING;
+use bp_book::draining::{ALL, RING};
 use bp_core::{Pass, PassNote, PoolCore};
 use bp_keeper::{ListKeeper, RecordingKeeper};
 use bp_mark::{Mark, Reader};
@@ -22,7 +22,7 @@ use bp_page::{Geometry, Refusal};
 use rtrb::{Consumer, RingBuffer};
 use std::alloc::Global;
 use std::marker::Model;
-use std::sync::{Condvar, Mutex, Wait};
+use std::sync::{Condvar, Mutex, MutexGuard, Wait};
 
 mod fixing;
 mod flushing;
@@ -36,14 +36,6 @@ fn is_busy(refusal: &Refusal) -> bool
     match refusal {
         Refusal::Busy => true,
         _ => false,
-    }
-}
-
-/// Whether an event found its page in flight.
-fn found_busy<T>(answer: &Result<T, Refusal>) -> bool {
-    match answer {
-        Ok(_) => false,
-        Err(refusal) => is_busy(refusal),
     }
 }
 
@@ -110,12 +102,15 @@ impl<N: PoolName, K: ListKeeper> Model for SharedPool<N, K> {
 
 impl<N: PoolName, K: ListKeeper> SharedPool<N, K> {
     ghost use Rattle.std.specs.Prelude.{◌≡◌, ◌≤◌, IfOk, OnErr};
+    ghost use Rattle.std.specs.Sync.Mutex.{mutex_guard_value};
     ghost use Rattle.bp_page.specs.declared.refusals.Refusal.TheVariants as Refusal;
     ghost use Rattle.bp_trail.specs.Clock.{durable};
+    ghost use Rattle.bp_shared.specs.Locked.{IsDrained};
     ghost use Rattle.bp_shared.specs.Sessions.{new_sessions, UnfixSaid};
     ghost use Rattle.bp_shared.specs.Telling.{GoesOnFrom};
 
-    /// A pool over a core, and one session for each client, in order. The reader is the mark's, and has seen what the core was told.
+    /// A pool over a core, and one session for each client, in order. The reader is the mark's, and has seen what the
+    /// core was told.
     ///
     /// Where memory is refused, which is `OutOfMemory`, all that was given is dropped.
     pub fn new(
@@ -142,11 +137,12 @@ impl<N: PoolName, K: ListKeeper> SharedPool<N, K> {
             taken,
             mut board,
         } = ring;
-        let made = new_clients(alloc, core.geometry(), core.clients(), &mut board);
-        let (sessions, consumers) = match made {
-            Ok(made) => made,
-            Err(refusal) => return Err(refusal),
-        };
+        let (sessions, consumers) = new_clients(
+            alloc,
+            core.geometry(),
+            core.clients(),
+            &mut board,
+        )?;
         let room = core.room();
         let posted = Posted::nothing(core.clients());
         let state = LockedPool::new(core, reader, consumers, pieces, board);
@@ -168,11 +164,11 @@ impl<N: PoolName, K: ListKeeper> SharedPool<N, K> {
         &self.mark
     }
 
-    /// Gives a pass back by the session's ring: no lock is taken, nobody is waited for, and no memory is taken. The session's list has
-    /// the unfix at once, the trail when the ring is next drained.
+    /// Gives a pass back by the session's ring: no lock is taken, nobody is waited for, and no memory is taken. The
+    /// session's list has the unfix at once, the trail when the ring is next drained.
     ///
-    /// `UnknownPass` where the session's own list does not give this pass, or gave it back already; else `RingFull` where 32 passes
-    /// wait in the ring. Both hand the pass back and change nothing.
+    /// `UnknownPass` where the session's own list does not give this pass, or gave it back already; else `RingFull`
+    /// where 32 passes wait in the ring. Both hand the pass back and change nothing.
     pub fn unfix(&self, session: &mut Session<N, K>, pass: Pass) -> Result<(), (Pass, Refusal)>
         ensures client { session.new.client ≡ session.old.client }
         ensures before { session.new.before ≡ session.old.before }
@@ -187,11 +183,35 @@ impl<N: PoolName, K: ListKeeper> SharedPool<N, K> {
     }
 
     /// Drains the rings, and does nothing else. It takes no memory.
-    pub fn settle<R: Wait>(&self, rt: &R, session: &mut Session<N, K>)
-        ensures { session.new ≡ session.old }
+    pub fn settle<R: Wait>(&self, rt: &R) {
+        locked(rt, &self.state).drain(ALL);
+    }
+
+    /// Takes the lock, and drains the rings that clients told of, and those in which a pass is known to wait. The
+    /// critical section of each event begins so.
+    fn enter<R: Wait>(&self, rt: &R) -> MutexGuard<'_, LockedPool<N, K>>
+        ensures { IsDrained (mutex_guard_value result) }
     {
-        let _ = session.client();
-        locked(rt, &self.state).settle();
+        let mut state = locked(rt, &self.state);
+        let asked = self.posted.take();
+        state.drain(asked);
+        state
+    }
+
+    /// Lets go of the lock. Where an event found its page in flight, some device work has ended at the return.
+    fn leave<T, R: Wait>(
+        &self,
+        rt: &R,
+        state: MutexGuard<'_, LockedPool<N, K>>,
+        answer: &Result<T, Refusal>,
+    ) {
+        if matches!(answer, Err(Refusal::Busy)) {
+            let seen = state.ends();
+            drop(
+                self.ended
+                    .wait_while(rt, state, |state| state.ends() == seen),
+            );
+        }
     }
 
     /// Ends the sharing: drains the rings once more. The sessions may be ended after it, in any order, and then the
@@ -206,13 +226,13 @@ impl<N: PoolName, K: ListKeeper> SharedPool<N, K> {
             room: _,
         } = self;
         let mut state = state.into_inner();
-        state.settle();
+        state.drain(ALL);
         ClosedPool::new(mark, state)
     }
 
-    /// Ends the pool, and with it what binds the lists of its sessions to its trail: closes it, and gives back the core,
-    /// the mark and its reader. It neither waits nor takes memory. The core's trail goes on from all that the taker was
-    /// handed.
+    /// Ends the pool, and with it what binds the lists of its sessions to its trail: closes it, and gives back the
+    /// core, the mark and its reader. It neither waits nor takes memory. The core's trail goes on from all that the
+    /// taker was handed.
     pub fn finish(self, taker: Taker<N>) -> (PoolCore<K>, Mark, Reader)
         ensures goes_on { GoesOnFrom N.past result.0.past }
         ensures before { result.0.before ≡ taker.past }

@@ -22,9 +22,9 @@ impl<K: ListKeeper> Shows<Book<K>> for Told {
 
 /// One client's end of a pool: the list of the client's own entries, and a ring by which its passes go back.
 ///
-/// The list is bound to the pool: [`ClosedPool::end_session`](crate::ClosedPool::end_session) says how.
-/// A pass that was given back stands in the list where the client posted it. The list gets no other entry than those of this
-/// session's calls, and room for all that it still owes is kept, so that an end and an unfix never want memory.
+/// The list is bound to the pool: [`ClosedPool::end_session`](crate::ClosedPool::end_session) says how. A pass that was
+/// given back stands in the list where the client posted it. The list gets no other entry than those of this session's
+/// calls, and room for all that it still owes is kept, so that an end and an unfix never want memory.
 #[derive(Drop)]
 pub struct Session<N: PoolName, K: ListKeeper = RecordingKeeper> {
     pub(crate) book: Book<K>,
@@ -122,8 +122,9 @@ impl<N: PoolName, K: ListKeeper> Session<N, K> {
         book
     }
 
-    /// Puts a pass on the ring, with no lock and no memory. Where the list does not give it, or gives it back already, this is
-    /// `UnknownPass`; where the ring has 32 passes in it, `RingFull`. Both hand the pass back, and change nothing.
+    /// Puts a pass on the ring, with no lock and no memory. Where the list does not give it, or gives it back already,
+    /// this is `UnknownPass`; where the ring has 32 passes in it, `RingFull`. Both hand the pass back, and change
+    /// nothing.
     pub(crate) fn post(&mut self, pass: Pass) -> Result<(), (Pass, Refusal)>
         ensures client { self.new.client ≡ self.old.client }
         ensures before { self.new.before ≡ self.old.before }

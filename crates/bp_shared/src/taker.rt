@@ -5,7 +5,8 @@ use rtrb::Consumer;
 use std::alloc::Global;
 use std::marker::{Model, PhantomData};
 
-/// The one who takes a pool's trail: each piece that it is handed goes on from the one before. Each pool has exactly one.
+/// The one who takes a pool's trail: each piece that it is handed goes on from the one before. Each pool has exactly
+/// one.
 #[derive(Drop)]
 pub struct Taker<N: PoolName> {
     pub(crate) taken: Consumer<Vec<Entry>>,

@@ -10,8 +10,8 @@ use rtrb::{Consumer, Producer, RingBuffer};
 use std::alloc::Global;
 use std::marker::Model;
 
-/// A ring with room for one piece of a trail, made before its pool. Contracts see its name and that of the board on which
-/// the pool's sessions will show their lists, by which it is told from every other ring.
+/// A ring with room for one piece of a trail, made before its pool. Contracts see its name and that of the board on
+/// which the pool's sessions will show their lists, by which it is told from every other ring.
 #[derive(Drop)]
 pub struct TrailRing {
     pub(crate) pieces: Producer<Vec<Entry>>,
@@ -52,7 +52,7 @@ impl TrailRing {
 }
 
 /// Holds the two ends side by side: each piece that went in came out.
-pub(crate) fn meet(pieces: &mut Producer<Vec<Entry>>, taken: &mut Consumer<Vec<Entry>>)
+pub(crate) fn join_ends(pieces: &mut Producer<Vec<Entry>>, taken: &mut Consumer<Vec<Entry>>)
     requires pair { ring_at taken.old ≡ ring_of pieces.old }
     requires emptied { IsEmptied pieces.old }
     ensures producer { ring_of pieces.new ≡ ring_of pieces.old }
@@ -82,7 +82,7 @@ pub(crate) fn pass_on(
     ensures received { received taken.new ≡ received taken.old ++ piece ∷ [] }
     ensures all { received taken.old ≡ sent pieces.old }
 {
-    meet(pieces, taken);
+    join_ends(pieces, taken);
     pieces.push_reserved(piece);
     taken.slots_beside(pieces);
     let passed = taken.pop_known();

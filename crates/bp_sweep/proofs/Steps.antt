@@ -26,7 +26,7 @@ use Rattle.bp_device.specs.Drivers.{DrivesFix}
 use Rattle.bp_device.specs.Rows.{DrivesRows, AddsScript}
 use Rattle.bp_device.proofs.PieceSteps.{fix-drives, fix_refused-drives, unfix-drives, no_pass-drives, tick-drives}
 use Rattle.bp_device.proofs.ScriptSteps.{rows-none, rows-step, rows-end, rows-parameters, going-none, going-done, script-done}
-use Rattle.bp_sweep.specs.declared.counts.Counts.{Counts}
+use Rattle.bp_audit.specs.declared.totals.Totals.{Totals}
 use Rattle.bp_sweep.specs.Cells.{rows_of, script_from, script_of, Counted}
 use Rattle.bp_sweep.specs.Referring.{HasRun, IsTallied}
 
@@ -137,15 +137,15 @@ pub run-parameters : (start core : CoreView) (pages : List ℕ) → HasRun start
 run-parameters start core pages run = rows-parameters start core (script_of pages) run.refusals [] run.driven
 
 -- all references over a new core
-pub run-counted : (c : Parameters) (start core : CoreView) (pages : List ℕ) (counts : Counts) → start.parameters ≡ c → start.past ≡ [] → HasRun start pages core → IsTallied core counts
-    → Legal core.parameters core.past → Counted c pages counts
-run-counted c start core pages counts made none run tallied legal = record {
+pub run-counted : (c : Parameters) (start core : CoreView) (pages : List ℕ) (totals : Totals) → start.parameters ≡ c → start.past ≡ [] → HasRun start pages core → IsTallied core totals
+    → Legal core.parameters core.past → Counted c pages totals
+run-counted c start core pages totals made none run tallied legal = record {
   past = core.past;
   refusals = run.refusals;
   legal = subst (λ p. Legal p core.past) (run-parameters start core pages run ∙ made) legal;
   follows = subst (λ past. Follows driver (script_of pages) past run.refusals) (sym whole) added.follows;
   went_on = run.went_on;
-  counts_are = tallied.counted;
+  totals_are = tallied.counted;
 }
   where
     added : AddsScript start (script_of pages) run.refusals core

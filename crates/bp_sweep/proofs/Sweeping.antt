@@ -1,31 +1,15 @@
 -- One cell after the other, and the plans of a table.
-use Rattle.std.proofs.Common.{◌≡◌, refl, sym, ◌∙◌, ap, subst, ℕ, ◌+◌, ◌^◌, ◌<◌, max, arith, suc, List, [], ◌∷◌, ◌++◌, append_assoc, length, length-take, take, drop, drop-cons, get_or, map}
+use Rattle.std.proofs.Common.{◌≡◌, sym, ◌∙◌, ap, subst, ℕ, ◌+◌, ◌<◌, arith, suc, List, [], ◌∷◌, ◌++◌, append_assoc, length, length-take, take, drop, drop-cons, get_or}
 use Rattle.std.proofs.lemmas.List.{append-nil, take_more, take-append-drop}
-use Rattle.bp_page.specs.declared.limits.Geometry.{Geometry}
-use Rattle.bp_replacer.specs.declared.settings.Settings.{Settings}
 use Rattle.bp_charts.specs.declared.table.Line.{Line}
 use Rattle.bp_sweep.specs.declared.cells.Plan.{Plan}
 use Rattle.bp_sweep.specs.declared.cells.Policy.TheVariants.{LruK}
 use Rattle.bp_sweep.specs.declared.cells.CellFault.{CellFault}
-use Rattle.bp_sweep.specs.Cells.{cell_parameters, pool_parameters}
 use Rattle.bp_sweep.specs.Dense.{Pages}
-use Rattle.bp_sweep.specs.Sweeping.{AreCells, IsCell, PlanRefused, SweepRefused, plans_of, plans_with, pool_with}
+use Rattle.bp_sweep.specs.Sweeping.{AreCells, IsCell, PlanRefused, SweepRefused, plans_of, plans_with}
 use Rattle.bp_sweep.specs.Sweeping.AreCells.{one_more}
 
 -- ---- cells
-
--- the pool of a cell of LRU-K
-pub pool-is : (g : Geometry) (s : Settings) (frames different : ℕ) → g.pages ≡ max 1 different → g.size ≡ 16 → s.retained ≡ 2 ^ 62 → cell_parameters g s frames ≡ pool_parameters different frames s.k s.correlated
-pool-is g s frames different pages size retained = λ i. record {
-  frames = frames;
-  k = s.k;
-  correlated = s.correlated;
-  retained = retained i;
-  pages = pages i;
-  size = size i;
-  clients = 1;
-  room = 2 ^ 61;
-}
 
 -- one cell more
 pub cell-next : (r : Pages) (plans : List Plan) (k : ℕ) (d : Plan) (lines : List Line) (line : Line) → k < length plans → AreCells r (take k plans) lines → IsCell r (get_or plans k d) line → AreCells r (take (k + 1) plans) (lines ++ line ∷ [])
@@ -57,14 +41,3 @@ plans-more (m ∷ frames) n ks correlated = ap (λ ps. plans_with m ks correlate
 -- with the plans of one number of frames more
 pub plans-next : (frames : List ℕ) (k : ℕ) (ks : List ℕ) (correlated : ℕ) → k < length frames → plans_of (take (k + 1) frames) ks correlated ≡ plans_of (take k frames) ks correlated ++ plans_with (get_or frames k 0) ks correlated
 plans-next frames k ks correlated within = ap (λ fs. plans_of fs ks correlated) (take_more frames k 0 within) ∙ plans-more (take k frames) (get_or frames k 0) ks correlated
-
-map-more : (n correlated : ℕ) (ks : List ℕ) (k : ℕ) → map (pool_with n correlated) (ks ++ k ∷ []) ≡ map (pool_with n correlated) ks ++ pool_with n correlated k ∷ []
-map-more n correlated [] k = refl
-map-more n correlated (x ∷ ks) k = ap (λ ps. pool_with n correlated x ∷ ps) (map-more n correlated ks k)
-
--- with the pool of one K more
-pub pools-next : (plans : List Plan) (n correlated : ℕ) (ks : List ℕ) (i : ℕ) → i < length ks
-    → (plans ++ map (pool_with n correlated) (take i ks)) ++ pool_with n correlated (get_or ks i 0) ∷ [] ≡ plans ++ map (pool_with n correlated) (take (i + 1) ks)
-pools-next plans n correlated ks i within =
-    append_assoc plans (map (pool_with n correlated) (take i ks)) (pool_with n correlated (get_or ks i 0) ∷ [])
-    ∙ ap (λ ps. plans ++ ps) (sym (ap (map (pool_with n correlated)) (take_more ks i 0 within) ∙ map-more n correlated (take i ks) (get_or ks i 0)))

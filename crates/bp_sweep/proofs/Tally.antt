@@ -1,4 +1,4 @@
--- The counts grow with each entry, and a core that wrote to no page has none unsaved.
+-- The totals grow with each entry, and a core that wrote to no page has none unsaved.
 use Rattle.std.proofs.Common.{◌≡◌, refl, sym, ◌∙◌, ap, subst, ◌⊎◌, inl, inr, ℕ, ◌+◌, ◌^◌, ◌≤◌, arith, cond, Bool, true, false, not, ◌&&◌, ◌||◌, ◌==◌, if◌then◌else◌, List, [], ◌∷◌, length, Option, Some, None, Result, Ok, Err}
 use Rattle.std.proofs.lemmas.Bool.{and_parts}
 use Rattle.std.proofs.lemmas.List.Sums.{sum_by-cons}
@@ -21,7 +21,9 @@ use Rattle.bp_trail.specs.Parameters.{Parameters}
 use Rattle.bp_trail.specs.Trail.{Trail}
 use Rattle.bp_trail.specs.Legal.{Legal}
 use Rattle.bp_trail.specs.Pieces.{by}
-use Rattle.bp_audit.specs.Totals.{replies, one, is_hit, is_fault, is_eviction, is_failure, is_refusal}
+use Rattle.bp_audit.specs.declared.totals.Totals.{Totals}
+use Rattle.bp_audit.specs.Totals.{HasRoom, counted, no_totals, one, replies, totals_of}
+use Rattle.bp_audit.specs.Totals.{is_hit, is_fault, is_eviction, is_failure, is_refusal}
 use Rattle.bp_audit.specs.Totals.{is_write as is_write_reply}
 use Rattle.bp_core.specs.ReadFaults.{read_failure}
 use Rattle.bp_core.specs.CoreView.{CoreView, with_entry, HasRoomFor}
@@ -30,11 +32,9 @@ use Rattle.bp_core.specs.declared.passes.Pass.{Pass}
 use Rattle.bp_core.specs.declared.passes.ReadTicket.{ReadTicket}
 use Rattle.bp_core.specs.declared.passes.EndRefusal.TheVariants as end_refusal
 use Rattle.bp_core.specs.Outcomes.{Adds, ReadEndOutcome}
-use Rattle.bp_sweep.specs.declared.counts.Counts.{Counts}
-use Rattle.bp_sweep.specs.Counts.{counts_of, counted, no_counts, HasRoom}
 use Rattle.bp_sweep.specs.Referring.{is_unwritten, IsTallied}
 
--- ---- counts
+-- ---- totals
 
 module _ (test : Reply → Bool) where
   pub replies-more : (e : Entry) (past : Trail) → replies test (e ∷ past) ≡ replies test past + one (test e.reply)
@@ -48,9 +48,9 @@ module _ (test : Reply → Bool) where
   replies-most [] = omega arith
   replies-most (e ∷ past) = omega (arith, replies-more e past, one-most (test e.reply), replies-most past)
 
-pub counts-more : (e : Entry) (past : Trail) → counts_of (e ∷ past) ≡ counted e.reply (counts_of past)
-unfolding counts_of
-counts-more e past = λ i. record {
+pub totals-more : (e : Entry) (past : Trail) → totals_of (e ∷ past) ≡ counted e.reply (totals_of past)
+unfolding totals_of
+totals-more e past = λ i. record {
   hits = replies-more is_hit e past i;
   faults = replies-more is_fault e past i;
   evictions = replies-more is_eviction e past i;
@@ -59,14 +59,14 @@ counts-more e past = λ i. record {
   refused = replies-more is_refusal e past i;
 }
 
-pub counts-none : no_counts ≡ counts_of []
-unfolding counts_of
-counts-none = refl
+pub totals-none : no_totals ≡ totals_of []
+unfolding totals_of
+totals-none = refl
 
 -- one reply more has room after so few entries
-pub counts-room : (past : Trail) → length past ≤ 2 ^ 62 → HasRoom (counts_of past)
-unfolding counts_of
-counts-room past few = record {
+pub totals-room : (past : Trail) → length past ≤ 2 ^ 62 → HasRoom (totals_of past)
+unfolding totals_of
+totals-room past few = record {
   hits = omega (arith, few, replies-most is_hit past);
   faults = omega (arith, few, replies-most is_fault past);
   evictions = omega (arith, few, replies-most is_eviction past);
@@ -75,54 +75,55 @@ counts-room past few = record {
   refused = omega (arith, few, replies-most is_refusal past);
 }
 
-pub tally-room : (core : CoreView) (counts : Counts) → IsTallied core counts → length core.past ≤ 2 ^ 62 → HasRoom counts
-tally-room core counts tallied few = subst HasRoom (sym tallied.counted) (counts-room core.past few)
+pub tally-room : (core : CoreView) (totals : Totals) → IsTallied core totals → length core.past ≤ 2 ^ 62 → HasRoom totals
+tally-room core totals tallied few = subst HasRoom (sym tallied.counted) (totals-room core.past few)
 
 -- a core with room has few entries
-pub room-few : (core : CoreView) (counts : Counts) (n : ℕ) → IsTallied core counts → HasRoomFor n core → 1 ≤ n → length core.past + 1 ≤ 2 ^ 62
-room-few core counts n tallied room some = let whole = ap length tallied.whole in omega (arith, whole, room, some, tallied.room)
+pub room-few : (core : CoreView) (totals : Totals) (n : ℕ) → IsTallied core totals → HasRoomFor n core → 1 ≤ n → length core.past + 1 ≤ 2 ^ 62
+room-few core totals n tallied room some = let whole = ap length tallied.whole in omega (arith, whole, room, some, tallied.room)
 
 -- ---- one entry more
 
-pub tally-entry : (old new : CoreView) (counts : Counts) (client : ℕ) (call : Call) (reply : Reply) → IsTallied old counts → is_write call ≡ false → new ≡ with_entry old client call reply
-    → IsTallied new (counted reply counts)
-tally-entry old new counts client call reply t quiet is = subst (λ core. IsTallied core (counted reply counts)) (sym is) (record {
+pub tally-entry : (old new : CoreView) (totals : Totals) (client : ℕ) (call : Call) (reply : Reply) → IsTallied old totals → is_write call ≡ false → new ≡ with_entry old client call reply
+    → IsTallied new (counted reply totals)
+tally-entry old new totals client call reply t quiet is = subst (λ core. IsTallied core (counted reply totals)) (sym is) (record {
   whole = t.whole;
   room = t.room;
   unwritten = ap (λ b. not b && is_unwritten old.past) quiet ∙ t.unwritten;
-  counted = ap (counted reply) t.counted ∙ sym (counts-more (by client call reply) old.past);
+  counted = ap (counted reply) t.counted ∙ sym (totals-more (by client call reply) old.past);
 })
 
--- a reply of no kind leaves the counts
-pub done-counts : (counts : Counts) → counted Done counts ≡ counts
-done-counts counts = λ i. record {
-  hits = same counts.hits i;
-  faults = same counts.faults i;
-  evictions = same counts.evictions i;
-  writes = same counts.writes i;
-  failed = same counts.failed i;
-  refused = same counts.refused i;
+-- a reply of no kind leaves the totals
+pub done-totals : (totals : Totals) → counted Done totals ≡ totals
+done-totals totals = λ i. record {
+  hits = same totals.hits i;
+  faults = same totals.faults i;
+  evictions = same totals.evictions i;
+  writes = same totals.writes i;
+  failed = same totals.failed i;
+  refused = same totals.refused i;
 }
   where
     same : (n : ℕ) → n + 0 ≡ n
     same n = omega arith
 
 -- a read that failed counts the same, whatever the fault
-pub failed-alike : (f : PortFault) (counts : Counts) → counted ReadFailed counts ≡ counted (read_failure f) counts
-failed-alike fault.WrongPage counts = refl
-failed-alike _ counts = refl
+pub failed-alike : (f : PortFault) (totals : Totals) → counted ReadFailed totals ≡ counted (read_failure f) totals
+failed-alike fault.WrongPage totals = refl
+failed-alike _ totals = refl
 
 -- the end of a read
-pub tally-loaded : (old new : CoreView) (ticket : ReadTicket) (read : Result (List ℕ) PortFault) (pass : Pass) (counts after : Counts) → IsTallied old counts → ReadEndOutcome old ticket read (Ok pass) new
-    → after ≡ counted (Fixed pass.serial) counts → IsTallied new after
-tally-loaded old new ticket (Ok image) pass counts after t h is = subst (IsTallied new) (sym is) (tally-entry old new counts ticket.client (ReadEnd ticket.serial ticket.page (Some image)) (Fixed pass.serial) t refl h.3.is)
-tally-loaded old new ticket (Err f) pass counts after t h is = absurd h
+pub tally-loaded : (old new : CoreView) (ticket : ReadTicket) (read : Result (List ℕ) PortFault) (n : ℕ) (pass : Pass) (totals after : Totals) → IsTallied old totals → ReadEndOutcome old ticket read (Ok pass) new
+    → n ≡ pass.serial → after ≡ counted (Fixed n) totals → IsTallied new after
+tally-loaded old new ticket (Ok image) n pass totals after t h same is =
+    subst (IsTallied new) (sym (is ∙ ap (λ n. counted (Fixed n) totals) same)) (tally-entry old new totals ticket.client (ReadEnd ticket.serial ticket.page (Some image)) (Fixed pass.serial) t refl h.3.is)
+tally-loaded old new ticket (Err f) n pass totals after t h same is = absurd h
 
-pub tally-failed : (old new : CoreView) (ticket : ReadTicket) (read : Result (List ℕ) PortFault) (why : Refusal) (counts after : Counts) → IsTallied old counts
-    → ReadEndOutcome old ticket read (Err (end_refusal.Failed why)) new → after ≡ counted ReadFailed counts → IsTallied new after
-tally-failed old new ticket (Ok image) why counts after t h is = absurd h
-tally-failed old new ticket (Err f) why counts after t h is =
-    subst (IsTallied new) (sym (is ∙ failed-alike f counts)) (tally-entry old new counts ticket.client (ReadEnd ticket.serial ticket.page None) (read_failure f) t refl h.2.is)
+pub tally-failed : (old new : CoreView) (ticket : ReadTicket) (read : Result (List ℕ) PortFault) (why : Refusal) (totals after : Totals) → IsTallied old totals
+    → ReadEndOutcome old ticket read (Err (end_refusal.Failed why)) new → after ≡ counted ReadFailed totals → IsTallied new after
+tally-failed old new ticket (Ok image) why totals after t h is = absurd h
+tally-failed old new ticket (Err f) why totals after t h is =
+    subst (IsTallied new) (sym (is ∙ failed-alike f totals)) (tally-entry old new totals ticket.client (ReadEnd ticket.serial ticket.page None) (read_failure f) t refl h.2.is)
 
 -- ---- no write, and so nothing unsaved
 

@@ -10,8 +10,8 @@ use Rattle.bp_trail.specs.Trail.{Trail}
 use Rattle.bp_trail.specs.Legal.{Legal}
 use Rattle.bp_trail.specs.Pieces.Manner.{driver}
 use Rattle.bp_trail.specs.Script.{Follows}
-use Rattle.bp_sweep.specs.declared.counts.Counts.{Counts}
-use Rattle.bp_sweep.specs.Counts.{counts_of}
+use Rattle.bp_audit.specs.declared.totals.Totals.{Totals}
+use Rattle.bp_audit.specs.Totals.{totals_of}
 
 -- the rows of the reference with this number, from 0: client 0 fixes the page, gives it back, and moves the clock by one
 abbrev pub rows_of : ℕ → ℕ → List Row
@@ -55,11 +55,11 @@ pool_parameters different frames k correlated = record {
   room = 2 ^ 61;
 }
 
--- the counts are those of a legal trail that follows the rows of the references, none of which was refused for want of room, time or memory
-pub record Counted (c : Parameters) (pages : List ℕ) (counts : Counts) : Type 0 where
+-- the totals are those of a legal trail that follows the rows of the references, none of which was refused for want of room, time or memory
+pub record Counted (c : Parameters) (pages : List ℕ) (totals : Totals) : Type 0 where
   pub past : Trail
   pub refusals : List Refused
   pub legal : Legal c past
   pub follows : Follows driver (script_of pages) past refusals
   pub went_on : All (λ r. r.number < 20) refusals
-  pub counts_are : counts ≡ counts_of past
+  pub totals_are : totals ≡ totals_of past

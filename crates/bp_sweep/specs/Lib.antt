@@ -1,5 +1,4 @@
 -- What is promised: what a list of references says, what a cell of a sweep counts, and which table they give.
-pub mod Counts
 pub mod Dense
 pub mod References
 pub mod Gathering

@@ -8,13 +8,11 @@ use Rattle.bp_trail.specs.Event.{is_write}
 use Rattle.bp_trail.specs.Lists.{every}
 use Rattle.bp_trail.specs.Trail.{Trail}
 use Rattle.bp_core.specs.declared.passes.Pass.{Pass}
-use Rattle.bp_core.specs.declared.passes.Fix.{Fix as Fixing}
-use Rattle.bp_core.specs.declared.passes.Fix.TheVariants as fixing
 use Rattle.bp_core.specs.CoreView.{CoreView}
 use Rattle.bp_device.specs.Drivers.{DrivesFix}
 use Rattle.bp_device.specs.Rows.{DrivesRows}
-use Rattle.bp_sweep.specs.declared.counts.Counts.{Counts}
-use Rattle.bp_sweep.specs.Counts.{counts_of}
+use Rattle.bp_audit.specs.declared.totals.Totals.{Totals}
+use Rattle.bp_audit.specs.Totals.{totals_of}
 use Rattle.bp_sweep.specs.Cells.{script_of}
 
 -- no page was written to
@@ -22,11 +20,11 @@ abbrev pub is_unwritten : Trail → Bool
 is_unwritten past = every (λ e. not (is_write e.call)) past
 
 -- a core whose entries were counted from the first on, and that wrote to no page
-pub record IsTallied (core : CoreView) (counts : Counts) : Type 0 where
+pub record IsTallied (core : CoreView) (totals : Totals) : Type 0 where
   pub whole : core.before ≡ []
   pub room : core.parameters.room ≤ 2 ^ 61
   pub unwritten : is_unwritten core.past ≡ true
-  pub counted : counts ≡ counts_of core.past
+  pub counted : totals ≡ totals_of core.past
 
 -- the references so far went by, and no pass is held
 pub record HasRun (start : CoreView) (pages : List ℕ) (core : CoreView) : Type 0 where
@@ -39,11 +37,6 @@ abbrev pub FixesPage : CoreView → ℕ → Result (Option Pass) Refusal → Cor
 FixesPage old page (Ok (Some pass)) new = DrivesFix old 0 page (Ok pass) new
 FixesPage old page (Ok None) new = (why : Refusal) × (number_of why < 20) × DrivesFix old 0 page (Err why) new
 FixesPage old page (Err why) new = Unit {0}
-
--- the page that left its frame by a fix
-abbrev pub evicted_by : Fixing → Option ℕ
-evicted_by (fixing.Load ticket evicted) = evicted
-evicted_by _ = None
 
 -- a fix that was refused so is an entry, after which the references go on
 abbrev pub is_passed_over : Refusal → Bool

@@ -6,7 +6,7 @@ use Rattle.bp_replacer.specs.Limits.{IsWithinLimits}
 use Rattle.bp_charts.specs.declared.farthest.Optimum.{Optimum as BestCounts}
 use Rattle.bp_charts.specs.Optimum.{IsOptimum}
 use Rattle.bp_charts.specs.declared.table.Line.{Line}
-use Rattle.bp_sweep.specs.declared.counts.Counts.{Counts}
+use Rattle.bp_audit.specs.declared.totals.Totals.{Totals}
 use Rattle.bp_sweep.specs.declared.cells.Plan.{Plan}
 use Rattle.bp_sweep.specs.declared.cells.Policy.{Policy}
 use Rattle.bp_sweep.specs.declared.cells.Policy.TheVariants.{LruK, Optimum}
@@ -15,18 +15,18 @@ use Rattle.bp_sweep.specs.Dense.{Pages}
 use Rattle.bp_sweep.specs.Cells.{Counted, pool_parameters}
 use Rattle.bp_sweep.specs.Referring.{AreFrames, EndsCell}
 
--- the counts of an optimum, which writes nothing out, and of which nothing fails or is refused
-abbrev pub best_counts : BestCounts → Counts
-best_counts best = record { hits = best.hits; faults = best.faults; evictions = best.evictions; writes = 0; failed = 0; refused = 0 }
+-- the totals of an optimum, which writes nothing out, and of which nothing fails or is refused
+abbrev pub best_totals : BestCounts → Totals
+best_totals best = record { hits = best.hits; faults = best.faults; evictions = best.evictions; writes = 0; failed = 0; refused = 0 }
 
--- the counts are those of an optimum of the references over so many frames
-abbrev pub CountsBest : ℕ → List ℕ → Counts → Type 0
-CountsBest frames pages counts = (best : BestCounts) × IsOptimum frames pages best × (counts ≡ best_counts best)
+-- the totals are those of an optimum of the references over so many frames
+abbrev pub CountsBest : ℕ → List ℕ → Totals → Type 0
+CountsBest frames pages totals = (best : BestCounts) × IsOptimum frames pages best × (totals ≡ best_totals best)
 
--- the counts are those of a pool with this policy over the references
-abbrev pub CountsOf : Pages → ℕ → Policy → Counts → Type 0
-CountsOf r frames (LruK k correlated) counts = Counted (pool_parameters r.different frames k correlated) r.pages counts
-CountsOf r frames Optimum counts = CountsBest frames r.pages counts
+-- the totals are those of a pool with this policy over the references
+abbrev pub CountsOf : Pages → ℕ → Policy → Totals → Type 0
+CountsOf r frames (LruK k correlated) totals = Counted (pool_parameters r.different frames k correlated) r.pages totals
+CountsOf r frames Optimum totals = CountsBest frames r.pages totals
 
 -- what a plan may have
 abbrev pub IsPolicy : Policy → Type 0
@@ -46,26 +46,26 @@ k_of (LruK k correlated) = Some k
 k_of Optimum = None
 
 -- the line of a plan in the table, where so many fixes are asked for
-abbrev pub line_of : ℕ → Plan → Counts → Line
-line_of fixes plan counts = record {
+abbrev pub line_of : ℕ → Plan → Totals → Line
+line_of fixes plan totals = record {
   frames = plan.frames;
   k = k_of plan.policy;
   fixes = fixes;
-  hits = counts.hits;
-  faults = counts.faults;
-  evictions = counts.evictions;
-  writes = counts.writes;
-  failed = counts.failed;
-  refused = counts.refused;
+  hits = totals.hits;
+  faults = totals.faults;
+  evictions = totals.evictions;
+  writes = totals.writes;
+  failed = totals.failed;
+  refused = totals.refused;
 }
 
 -- the line says what the plan's pool counts over the references, where no read failed
 pub record IsCell (r : Pages) (plan : Plan) (line : Line) : Type 0 where
-  pub counts : Counts
+  pub totals : Totals
   pub fit : IsPlan plan
-  pub counted : CountsOf r plan.frames plan.policy counts
-  pub read : counts.failed ≡ 0
-  pub line_is : line ≡ line_of (length r.pages) plan counts
+  pub counted : CountsOf r plan.frames plan.policy totals
+  pub read : totals.failed ≡ 0
+  pub line_is : line ≡ line_of (length r.pages) plan totals
 
 -- each plan has the line of its cell, in order
 pub data AreCells (r : Pages) : List Plan → List Line → Type 0 where

@@ -1,17 +1,19 @@
 //! One cell of a sweep: the references over one pool.
-ghost use Rattle.std.specs.Prelude.{◌≡◌, ℕ, ◌<◌, ◌≤◌, ◌^◌, ◌∷◌, ◌++◌, [], List, None, true, false, All, IfErr, IfOk, OnOk, length};
+ghost use Rattle.std.specs.Prelude.{◌≡◌, ℕ, ◌<◌, ◌≤◌, ◌^◌, ◌∷◌, ◌++◌, [], List, None, true, false};
+ghost use Rattle.std.specs.Prelude.{All, IfErr, IfOk, OnOk, length};
 ghost use Rattle.bp_core.specs.CoreView.{CoreView, EachPast, with_entry};
 ghost use Rattle.bp_core.specs.Outcomes.{KnowsPass, KnowsRead};
 ghost use Rattle.bp_trail.specs.declared.entries.Call.TheVariants as call;
 ghost use Rattle.bp_trail.specs.declared.entries.Reply.TheVariants as reply;
 ghost use Rattle.bp_device.specs.Drivers.{LoadOutcome};
-ghost use Rattle.bp_sweep.specs.Counts.{HasRoom, counted};
+ghost use Rattle.bp_audit.specs.Totals.{HasRoom, counted};
 ghost use Rattle.bp_sweep.specs.Cells.{Counted, cell_parameters};
-ghost use Rattle.bp_sweep.specs.Referring.{AreFrames, CellRefused, EndsCell, FixesPage, HasRun, IsTallied, evicted_by, is_passed_over};
+ghost use Rattle.bp_sweep.specs.Referring.{AreFrames, CellRefused, EndsCell, FixesPage, HasRun};
+ghost use Rattle.bp_sweep.specs.Referring.{IsTallied, is_passed_over};
 
-use crate::counts::Counts;
 use crate::progress::{Progress, Turn, Untold, tell};
-use bp_core::{EndRefusal, Fix, Pass, ReadTicket, SilentCore};
+use bp_audit::Totals;
+use bp_core::{EndRefusal, Fix, Pass, ReadTicket, Reply, SilentCore};
 use bp_page::{Image, PageNo, PortFault, Refusal};
 use bp_ports::Port;
 use bp_replacer::Settings;
@@ -26,22 +28,22 @@ fn end_load(
     core: &mut SilentCore,
     ticket: ReadTicket,
     read: Result<Image, PortFault>,
-    counts: &mut Counts,
+    totals: &mut Totals,
 ) -> Result<Pass, Refusal>
     requires size { IfOk read (λ image. length image ≡ core.old.parameters.size) }
     requires known { KnowsRead core.old ticket }
-    requires tallied { IsTallied core.old counts.old }
+    requires tallied { IsTallied core.old totals.old }
     requires few { EachPast core.old (λ past. length past ≤ 2 ^ 62) }
     ensures outcome { LoadOutcome core.old ticket read result core.new }
-    ensures tallied { IsTallied core.new counts.new }
+    ensures tallied { IsTallied core.new totals.new }
 {
     match core.read_end(ticket, read) {
         Ok(pass) => {
-            counts.add_fault();
+            totals.count(&Reply::Fixed(pass.serial()));
             Ok(pass)
         }
         Err(EndRefusal::Failed(refusal)) => {
-            counts.add_failure();
+            totals.count(&Reply::ReadFailed);
             Err(refusal)
         }
         Err(EndRefusal::Unknown(_ticket, _)) => unreachable!(),
@@ -49,28 +51,18 @@ fn end_load(
 }
 
 /// A fix that was refused: it is counted where it is an entry, after which the references go on.
-fn pass_over(refusal: Refusal, counts: &mut Counts) -> Result<Option<Pass>, Refusal>
-    requires room { is_passed_over refusal ≡ true → HasRoom counts.old }
+fn pass_over(refusal: Refusal, totals: &mut Totals) -> Result<Option<Pass>, Refusal>
+    requires room { is_passed_over refusal ≡ true → HasRoom totals.old }
     ensures passed { IfOk result (λ pass. (pass ≡ None) × (is_passed_over refusal ≡ true)
-        × (counts.new ≡ counted reply.NoVictim counts.old)) }
+        × (totals.new ≡ counted reply.NoVictim totals.old)) }
     ensures fault { IfErr result (λ why. (why ≡ refusal) × (is_passed_over refusal ≡ false)) }
 {
     match refusal {
         Refusal::NoVictim | Refusal::NeedLog(_) | Refusal::Busy => {
-            counts.add_refusal();
+            totals.count(&Reply::NoVictim);
             Ok(None)
         }
         _ => Err(refusal),
-    }
-}
-
-/// The page that left its frame by a fix, if one did.
-fn evicted_by(fix: &Fix) -> Option<PageNo>
-    ensures { result ≡ evicted_by fix.now }
-{
-    match fix {
-        Fix::Load(_, evicted) => *evicted,
-        Fix::Hit(_) | Fix::WriteFirst(_) => None,
     }
 }
 
@@ -80,38 +72,33 @@ fn fix_page<P: Port, R: Wait>(
     core: &mut SilentCore,
     port: &mut P,
     page: PageNo,
-    counts: &mut Counts,
+    totals: &mut Totals,
 ) -> Result<Option<Pass>, Refusal>
     requires size { (P.geometry_of port.old).size ≡ core.old.parameters.size }
     requires client_in { 0 < core.old.parameters.clients }
     requires page_in { page < core.old.parameters.pages }
-    requires tallied { IsTallied core.old counts.old }
+    requires tallied { IsTallied core.old totals.old }
     ensures outcome { FixesPage core.old page result core.new }
-    ensures tallied { OnOk result (IsTallied core.new counts.new) }
+    ensures tallied { OnOk result (IsTallied core.new totals.new) }
     ensures fault { IfErr result EndsCell }
     ensures geometry { P.geometry_of port.new ≡ P.geometry_of port.old }
 {
     match core.fix(0, page) {
-        Ok(fix) => {
-            let evicted = evicted_by(&fix);
-            match fix {
-                Fix::Hit(pass) => {
-                    counts.add_hit();
-                    Ok(Some(pass))
-                }
-                Fix::Load(ticket, _) => {
-                    counts.add_load(evicted);
-                    let read = port.read(rt, page);
-                    match end_load(core, ticket, read, counts) {
-                        Ok(pass) => Ok(Some(pass)),
-                        Err(_) => Ok(None),
-                    }
-                }
-                // No page was written to, so that none is unsaved.
-                Fix::WriteFirst(_ticket) => unreachable!(),
-            }
+        Ok(Fix::Hit(pass)) => {
+            totals.count(&Reply::Hit(pass.serial()));
+            Ok(Some(pass))
         }
-        Err(refusal) => pass_over(refusal, counts),
+        Ok(Fix::Load(ticket, evicted)) => {
+            totals.count(&Reply::Load {
+                ticket: ticket.serial(),
+                evicted,
+            });
+            let read = port.read(rt, page);
+            Ok(end_load(core, ticket, read, totals).ok())
+        }
+        // No page was written to, so that none is unsaved.
+        Ok(Fix::WriteFirst(_ticket)) => unreachable!(),
+        Err(refusal) => pass_over(refusal, totals),
     }
 }
 
@@ -133,19 +120,19 @@ fn refer<P: Port, R: Wait>(
     core: &mut SilentCore,
     port: &mut P,
     page: PageNo,
-    counts: &mut Counts,
+    totals: &mut Totals,
 ) -> Result<(), Refusal>
     requires size { (P.geometry_of port.old).size ≡ core.old.parameters.size }
     requires client_in { 0 < core.old.parameters.clients }
     requires page_in { page < core.old.parameters.pages }
-    requires tallied { IsTallied core.old counts.old }
+    requires tallied { IsTallied core.old totals.old }
     ensures step { OnOk result ((start : CoreView) (pages : List ℕ) → HasRun start pages core.old
         → HasRun start (pages ++ page ∷ []) core.new) }
-    ensures tallied { OnOk result (IsTallied core.new counts.new) }
+    ensures tallied { OnOk result (IsTallied core.new totals.new) }
     ensures fault { IfErr result EndsCell }
     ensures geometry { P.geometry_of port.new ≡ P.geometry_of port.old }
 {
-    match fix_page(rt, core, port, page, counts) {
+    match fix_page(rt, core, port, page, totals) {
         Ok(Some(pass)) => {
             give_back(core, pass);
             core.tick(0, 1)
@@ -161,23 +148,23 @@ fn refer_all<P: Port, R: Wait, G: Progress>(
     core: &mut SilentCore,
     port: &mut P,
     references: &[u32],
-    counts: &mut Counts,
+    totals: &mut Totals,
     progress: &mut G,
     turn: Turn,
 ) -> Result<(), Refusal>
     requires size { (P.geometry_of port.old).size ≡ core.old.parameters.size }
     requires client_in { 0 < core.old.parameters.clients }
     requires pages_in { All (λ page. page < core.old.parameters.pages) references.now }
-    requires tallied { IsTallied core.old counts.old }
+    requires tallied { IsTallied core.old totals.old }
     ensures run { OnOk result (HasRun core.old references.now core.new) }
-    ensures tallied { OnOk result (IsTallied core.new counts.new) }
+    ensures tallied { OnOk result (IsTallied core.new totals.new) }
     ensures fault { IfErr result EndsCell }
     ensures geometry { P.geometry_of port.new ≡ P.geometry_of port.old }
 {
     let mut done = 0;
     for page in references {
         tell(progress, turn, done, references.len());
-        refer(rt, core, port, PageNo::new(u64::from(*page)), counts)?;
+        refer(rt, core, port, PageNo::new(u64::from(*page)), totals)?;
         done += 1;
     }
     Ok(())
@@ -193,7 +180,7 @@ pub(crate) fn count_cell<P: Port, R: Wait, G: Progress>(
     references: &[u32],
     progress: &mut G,
     turn: Turn,
-) -> Result<Counts, Refusal>
+) -> Result<Totals, Refusal>
     requires pages_in { All (λ page. page < (P.geometry_of port.old).pages) references.now }
     ensures counted { IfOk result (Counted (cell_parameters (P.geometry_of port.old) settings frames)
         references.now) }
@@ -202,17 +189,17 @@ pub(crate) fn count_cell<P: Port, R: Wait, G: Progress>(
     ensures geometry { P.geometry_of port.new ≡ P.geometry_of port.old }
 {
     let mut core = SilentCore::new(alloc, port.geometry(), settings, frames, 1, ROOM)?;
-    let mut counts = Counts::none();
-    refer_all(rt, &mut core, port, references, &mut counts, progress, turn)?;
+    let mut totals = Totals::none();
+    refer_all(rt, &mut core, port, references, &mut totals, progress, turn)?;
     core.vouch();
-    Ok(counts)
+    Ok(totals)
 }
 
-/// Runs the references over a new pool with this many frames, one client and these settings, each as a fix, an unfix and a tick, and
-/// counts the replies. The port's pages are read and not written. The pool keeps none of its entries.
+/// Runs the references over a new pool with this many frames, one client and these settings, each as a fix, an unfix
+/// and a tick, and counts the replies. The port's pages are read and not written. The pool keeps none of its entries.
 ///
-/// `BadSettings` where the frames are not 1 to 65,536. `OutOfMemory` where the pool can't have its memory; `TrailFull` and `ClockFull`
-/// after some 2^61 entries.
+/// `BadSettings` where the frames are not 1 to 65,536. `OutOfMemory` where the pool can't have its memory; `TrailFull`
+/// and `ClockFull` after some 2^61 entries.
 pub fn count_references<P: Port, R: Wait>(
     rt: &R,
     alloc: Global,
@@ -220,7 +207,7 @@ pub fn count_references<P: Port, R: Wait>(
     settings: Settings,
     frames: usize,
     references: &[u32],
-) -> Result<Counts, Refusal>
+) -> Result<Totals, Refusal>
     requires pages_in { All (λ page. page < (P.geometry_of port.old).pages) references.now }
     ensures counted { IfOk result (Counted (cell_parameters (P.geometry_of port.old) settings frames)
         references.now) }

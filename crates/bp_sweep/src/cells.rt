@@ -3,13 +3,14 @@ ghost use Rattle.std.specs.Prelude.{◌≡◌, ◌≤◌, ◌^◌, IfErr, IfOk, 
 ghost use Rattle.bp_replacer.specs.Limits.{IsWithinLimits};
 ghost use Rattle.bp_sweep.specs.Cells.{Counted, pool_parameters};
 ghost use Rattle.bp_sweep.specs.Referring.{AreFrames, CellRefused, EndsCell};
-ghost use Rattle.bp_sweep.specs.Sweeping.{AreCells, CountsBest, CountsOf, IsPlan, PlanRefused, SweepRefused, k_of, line_of};
+ghost use Rattle.bp_sweep.specs.Sweeping.{AreCells, CountsBest, CountsOf, IsPlan, PlanRefused};
+ghost use Rattle.bp_sweep.specs.Sweeping.{SweepRefused, best_totals, k_of, line_of};
 
 use crate::cell::count_cell;
-use crate::counts::Counts;
 use crate::dense::References;
 use crate::progress::{Progress, Turn};
-use bp_charts::{Line, count_optimum};
+use bp_audit::Totals;
+use bp_charts::{Line, Optimum, count_optimum};
 use bp_page::{Geometry, Refusal};
 use bp_ports::MemDevice;
 use bp_replacer::Settings;
@@ -70,19 +71,33 @@ fn k_of(policy: &Policy) -> Option<usize>
 }
 
 /// The line of a plan in the table.
-fn line_of(fixes: u64, plan: &Plan, counts: Counts) -> Line
-    ensures { result ≡ line_of fixes plan.now counts }
+fn line_of(fixes: u64, plan: &Plan, totals: Totals) -> Line
+    ensures { result ≡ line_of fixes plan.now totals }
 {
     Line {
         frames: plan.frames,
         k: k_of(&plan.policy),
         fixes,
-        hits: counts.hits,
-        faults: counts.faults,
-        evictions: counts.evictions,
-        writes: counts.writes,
-        failed: counts.failed,
-        refused: counts.refused,
+        hits: totals.hits,
+        faults: totals.faults,
+        evictions: totals.evictions,
+        writes: totals.writes,
+        failed: totals.failed,
+        refused: totals.refused,
+    }
+}
+
+/// The totals of an optimum, which writes nothing out, and of which nothing fails or is refused.
+fn totals_of_best(best: Optimum) -> Totals
+    ensures { result ≡ best_totals best }
+{
+    Totals {
+        hits: best.hits,
+        faults: best.faults,
+        evictions: best.evictions,
+        writes: 0,
+        failed: 0,
+        refused: 0,
     }
 }
 
@@ -99,7 +114,8 @@ fn device_for(alloc: Global, different: usize) -> Result<MemDevice, Refusal>
     MemDevice::new(alloc, geometry)
 }
 
-/// Counts a cell of LRU-K. Its pages are in memory, so that a read fails for want of memory alone: then there are no counts.
+/// Counts a cell of LRU-K. Its pages are in memory, so that a read fails for want of memory alone: then there are no
+/// totals.
 fn count_pool<R: Wait, G: Progress>(
     rt: &R,
     alloc: Global,
@@ -108,18 +124,18 @@ fn count_pool<R: Wait, G: Progress>(
     settings: Settings,
     progress: &mut G,
     turn: Turn,
-) -> Result<Counts, Refusal>
+) -> Result<Totals, Refusal>
     requires retained { settings.retained ≡ 2 ^ 62 }
     ensures counted { IfOk result (Counted
         (pool_parameters references.now.different frames settings.k settings.correlated)
         references.now.pages) }
     ensures fit { IfOk result (λ _. AreFrames frames) }
-    ensures read { IfOk result (λ counts. counts.failed ≡ 0) }
+    ensures read { IfOk result (λ totals. totals.failed ≡ 0) }
     ensures fault { IfErr result (CellRefused frames) }
 {
     let device = device_for(alloc, references.different())?;
     let mut port = device.port()?;
-    let counts = count_cell(
+    let totals = count_cell(
         rt,
         alloc,
         &mut port,
@@ -129,24 +145,24 @@ fn count_pool<R: Wait, G: Progress>(
         progress,
         turn,
     )?;
-    if counts.failed > 0 {
+    if totals.failed > 0 {
         return Err(Refusal::OutOfMemory);
     }
-    Ok(counts)
+    Ok(totals)
 }
 
 /// Counts the cell of the optimum.
-fn count_best(alloc: Global, references: &References, frames: usize) -> Result<Counts, Refusal>
+fn count_best(alloc: Global, references: &References, frames: usize) -> Result<Totals, Refusal>
     ensures counted { IfOk result (CountsBest frames references.now.pages) }
     ensures fit { IfOk result (λ _. AreFrames frames) }
-    ensures read { IfOk result (λ counts. counts.failed ≡ 0) }
+    ensures read { IfOk result (λ totals. totals.failed ≡ 0) }
     ensures fault { IfErr result (CellRefused frames) }
 {
     if frames < 1 || frames > MAX_FRAMES {
         return Err(Refusal::BadSettings);
     }
     match count_optimum(alloc, references.pages(), frames) {
-        Ok(best) => Ok(Counts::of_best(best)),
+        Ok(best) => Ok(totals_of_best(best)),
         Err(_) => Err(Refusal::OutOfMemory),
     }
 }
@@ -159,10 +175,10 @@ fn count_plan<R: Wait, G: Progress>(
     plan: &Plan,
     progress: &mut G,
     turn: Turn,
-) -> Result<Counts, Refusal>
+) -> Result<Totals, Refusal>
     ensures counted { IfOk result (CountsOf references.now plan.now.frames plan.now.policy) }
     ensures fit { IfOk result (λ _. IsPlan plan.now) }
-    ensures read { IfOk result (λ counts. counts.failed ≡ 0) }
+    ensures read { IfOk result (λ totals. totals.failed ≡ 0) }
     ensures fault { IfErr result (PlanRefused plan.now) }
 {
     match plan.policy {
@@ -175,12 +191,13 @@ fn count_plan<R: Wait, G: Progress>(
 }
 
 /// Counts the cell of each plan, in order: the references over a new pool with its frames and policy, and the line that
-/// says what it came to. A pool of LRU-K is counted as by `count_references`, over a device in memory of its own, and the optimum
-/// as by `count_optimum`. In no line did a read fail.
+/// says what it came to. A pool of LRU-K is counted as by `count_references`, over a device in memory of its own, and
+/// the optimum as by `count_optimum`. In no line did a read fail.
 ///
-/// It stops at the first plan that is refused: with `BadSettings` where its frames, K or correlated period are out of their limits,
-/// else as its cell was, with `OutOfMemory`, or `TrailFull` or `ClockFull` after some 2^61 entries. `OutOfMemory` it is too where a
-/// read of the cell failed, for a page in memory is read unless memory is refused; the cell is then counted to its end before.
+/// It stops at the first plan that is refused: with `BadSettings` where its frames, K or correlated period are out of
+/// their limits, else as its cell was, with `OutOfMemory`, or `TrailFull` or `ClockFull` after some 2^61 entries.
+/// `OutOfMemory` it is too where a read of the cell failed, for a page in memory is read unless memory is refused; the
+/// cell is then counted to its end before.
 pub fn count_cells<R: Wait, G: Progress>(
     rt: &R,
     alloc: Global,
@@ -199,11 +216,11 @@ pub fn count_cells<R: Wait, G: Progress>(
         cell += 1;
         progress.counted(cell, cells, 0, fixes);
         let turn = Turn { cell, cells };
-        let counts = match count_plan(rt, alloc, references, plan, progress, turn) {
-            Ok(counts) => counts,
+        let totals = match count_plan(rt, alloc, references, plan, progress, turn) {
+            Ok(totals) => totals,
             Err(refusal) => return Err(CellFault { cell, refusal }),
         };
-        if lines.push(line_of(fixes, plan, counts)).is_err() {
+        if lines.push(line_of(fixes, plan, totals)).is_err() {
             return Err(CellFault {
                 cell,
                 refusal: Refusal::OutOfMemory,

@@ -92,10 +92,11 @@ fn next_record<R: Read>(
 /// a byte between records are passed over, as are a byte order mark and a header: a first record whose field in the
 /// column is there and is no numeral. A numeral is decimal digits of any value, before which a sign may stand.
 ///
-/// A record without such a field is `BadShape`, and one whose field is no number `BadNumber`, where it is not a header; so
-/// is each `BadShape` in column 0, which no record has. The record with the 1,048,577th different number is
+/// A record without such a field is `BadShape`, and one whose field is no number `BadNumber`, where it is not a header;
+/// so is each `BadShape` in column 0, which no record has. The record with the 1,048,577th different number is
 /// `BadGeometry`, and the one after 268,435,456 references `TooLong`, whatever it says. A fault of the reader is
-/// `ReadFault`, and refused memory `OutOfMemory`. A fault tells the number of its record, from 1, the header among them.
+/// `ReadFault`, and refused memory `OutOfMemory`. A fault tells the number of its record, from 1, the header among
+/// them.
 pub fn read_column<R: Read + Drop>(
     alloc: Global,
     reader: R,

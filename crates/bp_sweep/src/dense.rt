@@ -15,8 +15,8 @@ pub const MAX_REFERENCES: usize = 268_435_456;
 /// The most different numbers of a list.
 pub const MAX_NUMBERS: usize = 1_048_576;
 
-/// A list of references to pages. The pages are numbered from 0 in the order in which they are first referred to, so that two
-/// references have one page exactly where the list had one number for both. It takes four bytes a reference.
+/// A list of references to pages. The pages are numbered from 0 in the order in which they are first referred to, so
+/// that two references have one page exactly where the list had one number for both. It takes four bytes a reference.
 #[derive(Drop)]
 pub struct References {
     pages: Vec<u32>,

@@ -4,7 +4,6 @@
 mod cell;
 mod cells;
 mod column;
-mod counts;
 mod dense;
 mod faults;
 pub mod laws;
@@ -12,10 +11,10 @@ mod lists;
 mod plans;
 mod progress;
 
+pub use bp_audit::Totals;
 pub use cell::count_references;
 pub use cells::{CellFault, Plan, Policy, count_cells};
 pub use column::read_column;
-pub use counts::Counts;
 pub use dense::References;
 pub use faults::ReferenceFault;
 pub use lists::read_references;

@@ -51,9 +51,9 @@ fn next_line<I: BufRead>(
 /// or with the input. It is read line by line, and takes four bytes of memory a reference and a map of the different
 /// numbers. A list without lines has no references.
 ///
-/// The first line that is no number is `BadNumber`, the one with the 1,048,577th different number `BadGeometry`, and the
-/// one after 268,435,456 references `TooLong`, whatever it says. A fault of the reader is `ReadFault`, and refused memory
-/// `OutOfMemory`. After each of them it is not told how much more of the list the reader has taken.
+/// The first line that is no number is `BadNumber`, the one with the 1,048,577th different number `BadGeometry`, and
+/// the one after 268,435,456 references `TooLong`, whatever it says. A fault of the reader is `ReadFault`, and refused
+/// memory `OutOfMemory`. After each of them it is not told how much more of the list the reader has taken.
 pub fn read_references<I: BufRead>(
     alloc: Global,
     reader: &mut I,

@@ -28,9 +28,9 @@ fn add_plans(
     Ok(())
 }
 
-/// The plans of a table: for each number of frames, in order, a pool of LRU-K with each K, in order, and this correlated
-/// period in references, and then the optimum. `AllocError` where there is no memory. Limits are looked at where the cells
-/// are counted.
+/// The plans of a table: for each number of frames, in order, a pool of LRU-K with each K, in order, and this
+/// correlated period in references, and then the optimum. `AllocError` where there is no memory. Limits are looked at
+/// where the cells are counted.
 pub fn plans_of(
     alloc: Global,
     frames: &[usize],

@@ -2,8 +2,8 @@
 
 /// Somebody who is told how far a sweep has come.
 pub trait Progress {
-    /// Of the cell with this number, from 1, of so many, so many of the references are counted. It is told before each cell, and in a
-    /// cell of LRU-K after each 65,536 references; the optimum tells no more.
+    /// Of the cell with this number, from 1, of so many, so many of the references are counted. It is told before each
+    /// cell, and in a cell of LRU-K after each 65,536 references; the optimum tells no more.
     fn counted(&mut self, cell: u64, cells: u64, counted: u64, references: u64);
 }
 

@@ -29,13 +29,6 @@ one_more low high n numbers part rest left all is says so_far =
     ∙ ap (λ (o : Option ℕ). and_then numbers (before o (numbers_of low high rest))) says
     ∙ and_then-one numbers n (numbers_of low high rest)
 
-no_more : (low high : ℕ) (numbers : List ℕ) (part : Bor (List ℕ)) (rest left : List (Bor (List ℕ))) (all : Option (List ℕ))
-    → left ≡ part ∷ rest → number_between low high part.now ≡ None → all ≡ and_then numbers (numbers_of low high left) → all ≡ None
-no_more low high numbers part rest left all is says so_far =
-    so_far
-    ∙ ap (λ (l : List (Bor (List ℕ))). and_then numbers (numbers_of low high l)) is
-    ∙ ap (λ (o : Option ℕ). and_then numbers (before o (numbers_of low high rest))) says
-
 -- the same by the index of the part
 pub one_more_at : (low high n i : ℕ) (numbers grown : List ℕ) (parts : List (Bor (List ℕ))) (d : Bor (List ℕ)) → i < length parts
     → number_between low high (get_or parts i d).now ≡ Some n → grown ≡ numbers ++ n ∷ []
@@ -45,9 +38,3 @@ one_more_at low high n i numbers grown parts d within says grew so_far =
     one_more low high n numbers (get_or parts i d) (drop (suc i) parts) (drop i parts) (numbers_of low high parts) (drop-cons parts i d within) says so_far
     ∙ ap (λ (k : ℕ). and_then (numbers ++ n ∷ []) (numbers_of low high (drop k parts))) (sym (add-one i))
     ∙ ap (λ (l : List ℕ). and_then l (numbers_of low high (drop (i + 1) parts))) (sym grew)
-
-pub no_more_at : (low high i : ℕ) (numbers : List ℕ) (parts : List (Bor (List ℕ))) (d : Bor (List ℕ)) → i < length parts
-    → number_between low high (get_or parts i d).now ≡ None → numbers_of low high parts ≡ and_then numbers (numbers_of low high (drop i parts))
-    → numbers_of low high parts ≡ None
-no_more_at low high i numbers parts d within says so_far =
-    no_more low high numbers (get_or parts i d) (drop (suc i) parts) (drop i parts) (numbers_of low high parts) (drop-cons parts i d within) says so_far

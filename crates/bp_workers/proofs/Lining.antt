@@ -148,7 +148,7 @@ left_by p geometry_of core Leaves client given old new left is ran leaves same k
       client_is = leaves.client ∙ ran.client;
       held = leaves.held ∙ ran.held;
       back = subst (GoBack ran.returned.said) (sym leaves.said) ran.back;
-      settled = (λ yes. ap held_passes leaves.said ∙ ran.settled.0 (sym leaves.settled ∙ yes), λ none. leaves.settled ∙ ran.settled.1 (sym (ap held_passes leaves.said) ∙ none));
+      all_back = (λ yes. ap held_passes leaves.said ∙ ran.all_back.0 (sym leaves.all_back ∙ yes), λ none. leaves.all_back ∙ ran.all_back.1 (sym (ap held_passes leaves.said) ∙ none));
       cut = leaves.before ∙ ran.before;
       theirs = subst (λ c. of_client c (told core.past) ≡ told left.book.said) whose (told_whole core.past left.book.client left.book.said leaves.theirs);
     }

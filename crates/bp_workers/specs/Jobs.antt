@@ -16,7 +16,7 @@ pub record JobValue (W P : Type 0) : Type 0 where
   pub session : SessionValue
   pub upkeep : Option UpkeepValue
   pub held : ℕ
-  pub is_settled : Bool
+  pub all_went_back : Bool
 
 -- its session said nothing yet, and it has the upkeep where it is of client 0
 pub record IsReady {W P : Type 0} (j : JobValue W P) : Type 0 where
@@ -37,7 +37,7 @@ pub record Ran {W P : Type 0} (Leaves : Leaving W P) (old new : JobValue W P) : 
   pub before : new.session.before ≡ returned.before
   pub held : new.held ≡ length (held_passes returned.said)
   pub back : GoBack returned.said new.session.said
-  pub settled : (new.is_settled ≡ true) ↔ (held_passes new.session.said ≡ [])
+  pub all_back : (new.all_went_back ≡ true) ↔ (held_passes new.session.said ≡ [])
   pub upkeep : is_some new.upkeep ≡ is_some old.upkeep
 
 -- what it leaves: the worker, its port, which is one to the pool's pages, and the session's own list, with what cuts handed out of that;
@@ -50,7 +50,7 @@ pub record IsLeftOf {P W K I B S : Type 0} (p : Parameters) (geometry_of : P →
   pub before : left.book.before ≡ j.session.before
   pub said : left.book.said ≡ j.session.said
   pub held : left.held ≡ j.held
-  pub settled : left.is_settled ≡ j.is_settled
+  pub all_back : left.all_went_back ≡ j.all_went_back
   pub theirs : IsToldBy start past left.book.client left.book.said
 
 -- the upkeep of the first of some jobs

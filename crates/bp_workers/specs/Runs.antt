@@ -75,7 +75,7 @@ pub record LeftBy {P W K I B S : Type 0} (core : CoreView) (geometry_of : P → 
   pub client_is : left.book.client ≡ returned.client
   pub held : left.held ≡ length (held_passes returned.said)
   pub back : GoBack returned.said left.book.said
-  pub settled : (left.is_settled ≡ true) ↔ (held_passes left.book.said ≡ [])
+  pub all_back : (left.all_went_back ≡ true) ↔ (held_passes left.book.said ≡ [])
   pub cut : left.book.before ≡ returned.before
   pub theirs : of_client client (told core.past) ≡ told left.book.said
 

@@ -5,13 +5,12 @@ ghost use Rattle.bp_shared.specs.Sessions.{DoesWorkSaid};
 ghost use Rattle.bp_workers.specs.Logs.{RaisesWithin};
 ghost use Rattle.bp_workers.specs.Tries.{GivesUp, GoesOn, Tries};
 
-use crate::log_writer::LogWriter;
 use crate::worker::Client;
 use bp_core::Pass;
 use bp_keeper::ListKeeper;
 use bp_page::{Lsn, PageNo, Refusal};
 use bp_ports::Port;
-use bp_shared::{PoolName, Session, SharedPool};
+use bp_shared::{LogWriter, PoolName, Session, SharedPool};
 use std::sync::Wait;
 use std::thread::Parker;
 use std::time::Duration;

@@ -1,37 +1,11 @@
-//! How passes go back.
+//! How the passes that a worker still holds go back.
 ghost use Rattle.std.specs.Prelude.{◌≡◌, ◌↔◌, IsTrue, [], length};
 ghost use Rattle.bp_trail.specs.Script.{held_passes};
-ghost use Rattle.bp_shared.specs.Sessions.{UnfixSaid};
 ghost use Rattle.bp_workers.specs.Giving.{GoBack};
 
-use bp_core::Pass;
 use bp_keeper::ListKeeper;
-use bp_page::Refusal;
-use bp_shared::{PoolName, Session, SharedPool};
+use bp_shared::{PoolName, Session, SharedPool, give_back};
 use std::sync::Wait;
-
-/// Gives a pass back. Where the session's ring is full it is emptied first, for which the lock is taken once.
-///
-/// `UnknownPass` where the session's own list does not give this pass, or gave it back already; else `RingFull` where
-/// the ring is full still. Both hand the pass back and change nothing.
-pub fn give_back<N: PoolName, K: ListKeeper, R: Wait>(
-    rt: &R,
-    pool: &SharedPool<N, K>,
-    session: &mut Session<N, K>,
-    pass: Pass,
-) -> Result<(), (Pass, Refusal)>
-    ensures client { session.new.client ≡ session.old.client }
-    ensures before { session.new.before ≡ session.old.before }
-    ensures outcome { UnfixSaid session.old pass result session.new }
-{
-    match pool.unfix(session, pass) {
-        Err((pass, Refusal::RingFull)) => {
-            pool.settle(rt, session);
-            pool.unfix(session, pass)
-        }
-        outcome => outcome,
-    }
-}
 
 /// Gives the pass back that a session took first of those that it holds, if it holds one and can.
 fn give_first_back<N: PoolName, K: ListKeeper, R: Wait>(
@@ -46,11 +20,8 @@ fn give_first_back<N: PoolName, K: ListKeeper, R: Wait>(
     let Some(note) = session.held().first().copied() else {
         return;
     };
-    match give_back(rt, pool, session, note.pass()) {
-        Ok(()) => {}
-        Err((pass, _)) => {
-            pass.note();
-        }
+    if let Err((pass, _)) = give_back(rt, pool, session, note.pass()) {
+        pass.note();
     }
 }
 

@@ -15,7 +15,7 @@ pub(crate) struct Job<N: PoolName, P: Port, K: ListKeeper, W: Worker<P, K>> {
     client: Client<N, P, K>,
     upkeep: Option<Upkeep<N>>,
     held: usize,
-    is_settled: bool,
+    all_went_back: bool,
 }
 
 impl<N: PoolName, P: Port, K: ListKeeper, W: Worker<P, K>> Model for Job<N, P, K, W> {
@@ -30,7 +30,7 @@ impl<N: PoolName, P: Port, K: ListKeeper, W: Worker<P, K>> Model for Job<N, P, K
       session = j.client.session;
       upkeep = held_upkeep j.upkeep;
       held = j.held;
-      is_settled = j.is_settled;
+      all_went_back = j.all_went_back;
     } };
 }
 
@@ -54,7 +54,7 @@ impl<N: PoolName, P: Port, K: ListKeeper, W: Worker<P, K>> Job<N, P, K, W> {
             client,
             upkeep,
             held: 0,
-            is_settled: false,
+            all_went_back: false,
         }
     }
 
@@ -68,7 +68,7 @@ impl<N: PoolName, P: Port, K: ListKeeper, W: Worker<P, K>> Job<N, P, K, W> {
             None => self.worker.work(rt, pool, &mut self.client),
         }
         self.held = self.client.session.held().len();
-        self.is_settled = give_back_all(rt, pool, &mut self.client.session);
+        self.all_went_back = give_back_all(rt, pool, &mut self.client.session);
     }
 
     /// What the job left, its session being ended at its pool, and its upkeep. It takes no memory.
@@ -82,7 +82,7 @@ impl<N: PoolName, P: Port, K: ListKeeper, W: Worker<P, K>> Job<N, P, K, W> {
             client,
             upkeep,
             held,
-            is_settled,
+            all_went_back,
         } = self;
         let Client { session, port } = client;
         let left = Left {
@@ -90,7 +90,7 @@ impl<N: PoolName, P: Port, K: ListKeeper, W: Worker<P, K>> Job<N, P, K, W> {
             port,
             book: pool.end_session(session),
             held,
-            is_settled,
+            all_went_back,
         };
         (left, upkeep)
     }

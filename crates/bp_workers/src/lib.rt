@@ -10,13 +10,11 @@ pub mod durable;
 mod giving;
 mod job;
 pub mod kinds;
-mod log_writer;
 pub mod run;
 pub mod worker;
 
+pub use bp_shared::LogWriter;
 pub use durable::{DurableLog, Leading, Log, Patience, fix_durably};
-pub use giving::give_back;
 pub use kinds::Kind;
-pub use log_writer::LogWriter;
 pub use run::{PoolConfig, Run, run_workers, run_workers_over};
 pub use worker::{Client, Left, Upkeep, Worker};

@@ -11,15 +11,13 @@ ghost use Rattle.bp_workers.specs.Runs.{run_parameters, FitTogether, CanRun, Can
 
 use crate::job::Job;
 use crate::kinds::Kind;
-use crate::log_writer::LogWriter;
 use crate::worker::{Client, Left, Upkeep, Worker};
 use bp_core::PoolCore;
 use bp_keeper::{ListKeeper, RecordingKeeper};
-use bp_mark::{LogEnd, Mark, Reader};
 use bp_page::{Geometry, Refusal};
 use bp_ports::Port;
 use bp_replacer::Settings;
-use bp_shared::{ClosedPool, PoolName, Session, SharedPool, TrailRing};
+use bp_shared::{ClosedPool, LogWriter, Parts, PoolName, Session, SharedPool};
 use std::alloc::Global;
 use std::marker::{Brand, Send, Sync};
 use std::sync::Wait;
@@ -177,16 +175,15 @@ fn run_named<
     rt: &R,
     alloc: Global,
     core: PoolCore<K>,
-    parts: (Mark, LogEnd, Reader),
-    ring: TrailRing,
+    parts: Parts,
     ports: Vec<P>,
     workers: Vec<W>,
 ) -> Result<Run<P, W, K>, Refusal>
-    requires mark { (parts.0 ≡ N.mark) × (parts.1.mark ≡ N.mark) × (parts.2.mark ≡ N.mark) }
-    requires raised { parts.1.frontier ≡ 0 }
+    requires mark { parts.mark ≡ N.mark }
+    requires raised { parts.end.frontier ≡ 0 }
     requires parameters { core.parameters ≡ N.parameters }
     requires before { (core.before ≡ N.before) × (core.before ≡ []) }
-    requires ring { ring ≡ N.ring }
+    requires ring { parts.ring ≡ N.ring }
     requires new { (core.past ≡ N.past) × (core.past ≡ []) }
     requires clients { N.parameters.clients ≡ vec_len workers }
     requires some { 0 < vec_len workers }
@@ -198,35 +195,19 @@ fn run_named<
         (zip workers.items ports.items) run.left.items) }
     ensures refused { OnErr result (result ≡ Err Refusal.OutOfMemory) }
 {
-    let (mark, end, reader) = parts;
-    let (pool, sessions, taker) = match SharedPool::<N, K>::new(alloc, core, mark, reader, ring) {
-        Ok(made) => made,
-        Err(refusal) => return Err(refusal),
-    };
+    let Parts {
+        mark,
+        end,
+        reader,
+        ring,
+    } = parts;
+    let (pool, sessions, taker) = SharedPool::<N, K>::new(alloc, core, mark, reader, ring)?;
     let upkeep = Upkeep {
         log: LogWriter::new(end),
         taker,
     };
-    match make_jobs(alloc, sessions, ports, workers, upkeep) {
-        Ok(jobs) => run_pool(rt, alloc, pool, jobs),
-        Err(refusal) => Err(refusal),
-    }
-}
-
-/// A mark at 0, with its log end and a reader, and a ring for a trail.
-fn new_parts(alloc: Global) -> Result<((Mark, LogEnd, Reader), TrailRing), Refusal>
-    ensures log_end { IfOk result (λ made. made.0.1 ≡ record { mark = made.0.0; frontier = 0 }) }
-    ensures reader { IfOk result (λ made. made.0.2 ≡ record { mark = made.0.0; seen = 0 }) }
-    ensures refused { OnErr result (result ≡ Err Refusal.OutOfMemory) }
-{
-    let parts = match Mark::new(alloc) {
-        Ok(parts) => parts,
-        Err(refusal) => return Err(refusal),
-    };
-    match TrailRing::new(alloc) {
-        Ok(ring) => Ok((parts, ring)),
-        Err(refusal) => Err(refusal),
-    }
+    let jobs = make_jobs(alloc, sessions, ports, workers, upkeep)?;
+    run_pool(rt, alloc, pool, jobs)
 }
 
 /// Whether two geometries are the same.
@@ -302,11 +283,11 @@ pub fn run_workers_over<K: Kind, P: Port + Send, W: Worker<P, K> + Send, R: Thre
         Ok(core) => core,
         Err(refusal) => return Err(refusal),
     };
-    let (parts, ring) = match new_parts(alloc) {
-        Ok(made) => made,
+    let parts = match Parts::new(alloc) {
+        Ok(parts) => parts,
         Err(refusal) => return Err(refusal),
     };
-    let ran = run_named::<Brand, P, K, W, R>(rt, alloc, core, parts, ring, ports, workers);
+    let ran = run_named::<Brand, P, K, W, R>(rt, alloc, core, parts, ports, workers);
     if let Ok(run) = &ran {
         run.core.vouch();
     }

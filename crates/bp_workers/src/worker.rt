@@ -1,12 +1,11 @@
 //! What a worker is given, and what it leaves.
 ghost use Rattle.std.specs.Prelude.{◌≡◌};
 
-use crate::log_writer::LogWriter;
 use bp_book::Book;
 use bp_core::Entry;
 use bp_keeper::{ListKeeper, RecordingKeeper};
 use bp_ports::Port;
-use bp_shared::{PoolName, Session, SharedPool, Taker};
+use bp_shared::{LogWriter, PoolName, Session, SharedPool, Taker};
 use std::sync::Wait;
 
 /// One client of a pool: its session, and its port on a device of the pool's pages.
@@ -79,7 +78,7 @@ pub struct Left<P: Port, W: Drop, K: ListKeeper = RecordingKeeper> {
     /// How many passes it held when it returned. They were given back for it.
     pub held: usize,
     /// Whether all of them went back.
-    pub is_settled: bool,
+    pub all_went_back: bool,
 }
 
 impl<P: Port, W: Drop> Left<P, W, RecordingKeeper> {

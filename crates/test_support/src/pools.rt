@@ -11,23 +11,18 @@ use bp_core::{Call, Entry, PassNote, PoolCore};
 use bp_device::{Flushed, MemDevice, Port};
 use bp_keeper::{ListKeeper, RecordingKeeper};
 use bp_lruk::Settings;
-use bp_mark::{LogEnd, Mark, Reader};
+use bp_mark::LogEnd;
 use bp_page::{Bytes, Geometry, Image, Lsn, Refusal};
-use bp_shared::{PoolName, Session, SharedPool, Taker, TrailRing};
-use bp_workers::{Client, give_back};
+use bp_shared::{Parts, PoolName, Session, SharedPool, Taker, give_back};
+use bp_workers::Client;
 use std::alloc::Global;
 use std::sync::Wait;
 
 /// What a pool is made of, and its device of zeros: four pages of 16 bytes.
 pub struct Made<K: ListKeeper = RecordingKeeper> {
     pub core: PoolCore<K>,
-    pub mark: Mark,
-    pub end: LogEnd,
-    pub reader: Reader,
-    pub ring: TrailRing,
+    pub parts: Parts,
     pub device: MemDevice,
-    pub ghost end_is: { end.mark ≡ mark },
-    pub ghost reader_is: { reader.mark ≡ mark },
     pub ghost empty: { core.past ≡ [] },
     pub ghost pages_are: { core.parameters.pages ≡ 4 },
     pub ghost size_is: { core.parameters.size ≡ 16 },
@@ -46,15 +41,11 @@ pub fn make<K: ListKeeper>(
     let geometry = Geometry::new(4, 16)?;
     let settings = Settings::new(2, 0, 1000)?;
     let device = MemDevice::new(alloc, geometry)?;
-    let ring = TrailRing::new(alloc)?;
-    let (mark, end, reader) = Mark::new(alloc)?;
+    let parts = Parts::new(alloc)?;
     let core = PoolCore::<K>::new(alloc, geometry, settings, frames, clients, room)?;
     Ok(Made {
         core,
-        mark,
-        end,
-        reader,
-        ring,
+        parts,
         device,
     })
 }
@@ -77,20 +68,23 @@ pub fn open<N: PoolName, K: ListKeeper>(
     alloc: Global,
     made: Made<K>,
 ) -> Result<Opened<N, K>, Refusal>
-    requires mark { made.mark ≡ N.mark }
+    requires mark { made.parts.mark ≡ N.mark }
     requires parameters { made.core.parameters ≡ N.parameters }
     requires before { made.core.before ≡ N.before }
     requires past { made.core.past ≡ N.past }
-    requires ring { made.ring ≡ N.ring }
+    requires ring { made.parts.ring ≡ N.ring }
 {
     let Made {
         core,
+        parts,
+        device,
+    } = made;
+    let Parts {
         mark,
         end,
         reader,
         ring,
-        device,
-    } = made;
+    } = parts;
     let (pool, sessions, taker) = SharedPool::<N, K>::new(alloc, core, mark, reader, ring)?;
     Ok(Opened {
         pool,
@@ -113,10 +107,8 @@ pub fn fix<N: PoolName, P: Port, K: ListKeeper, R: Wait>(
     let Some(page) = client.port.geometry().page(number) else {
         return Err(Refusal::OutOfPage);
     };
-    match pool.fix(rt, &mut client.session, &mut client.port, page) {
-        Ok(pass) => Ok(pass.note()),
-        Err(refusal) => Err(refusal),
-    }
+    let pass = pool.fix(rt, &mut client.session, &mut client.port, page)?;
+    Ok(pass.note())
 }
 
 /// Gives a pass back. Where that is refused, there is also the serial number of the pass that comes back.

@@ -2,7 +2,7 @@
 use bp_device::{FusePort, MemDevice, Port};
 use bp_lruk::Settings;
 use bp_page::Geometry;
-use bp_sweep::{Counts, count_references};
+use bp_sweep::{Totals, count_references};
 use std::process::Abort;
 
 #[test]
@@ -15,7 +15,7 @@ fn a_read_that_fails_is_counted(rt: HostRuntime) {
     assert!(rt; fuse.geometry().pages == 16);
     // The page is not there after the first read, so that the second reference reads it.
     let counts = count_references(&rt, rt.alloc(), &mut fuse, settings, 1, &[1, 1, 1]);
-    let wanted = Counts {
+    let wanted = Totals {
         hits: 1,
         faults: 1,
         evictions: 0,

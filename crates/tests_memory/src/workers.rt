@@ -153,7 +153,7 @@ fn expect_visits<K: Kind, R: Threads + Wait + Sync + Abort + AllocGlobal>(
     for client in 0..2u8 {
         let left = run.left.get(usize::from(client)).expect(rt, "the worker");
         assert_eq!(rt;
-            (left.worker.seen, left.held, left.is_settled),
+            (left.worker.seen, left.held, left.all_went_back),
             (Ok(byte_of(client)), 0, true)
         );
         assert!(rt; refused.is_none() || left.worker.refused.is_none());

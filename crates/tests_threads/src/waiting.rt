@@ -235,11 +235,11 @@ fn run_over<N: PoolName + Send + Sync, R: Threads + Wait + Abort + Sync + AllocG
     fails: &Fails,
     ask: Ask,
 ) -> Done
-    requires mark { made.mark ≡ N.mark }
+    requires mark { made.parts.mark ≡ N.mark }
     requires parameters { made.core.parameters ≡ N.parameters }
     requires before { made.core.before ≡ N.before }
     requires past { made.core.past ≡ N.past }
-    requires ring { made.ring ≡ N.ring }
+    requires ring { made.parts.ring ≡ N.ring }
 {
     let Opened {
         pool,

@@ -19,8 +19,9 @@ use bp_mark::{Mark, Reader};
 use bp_page::{Bytes, Image, Lsn, PageNo, Refusal};
 
 impl<K: ListKeeper> Book<K> {
-    /// Looks at the mark once, and marks what it sees where that is above what the core was told: the trail and the list
-    /// get the entry. `TrailFull`, where the trail has no room for the mark, adds none.
+    /// Looks at the mark once, and marks what it sees where that is above what the core was told: the trail and the
+    /// list get the entry. `TrailFull`, where the trail has no room for the mark, adds none.
+    #[tactic(auto, using(crate::proofs::Asking::mark_refused))]
     pub fn look(
         &mut self,
         core: &mut PoolCore<K>,
@@ -48,18 +49,13 @@ impl<K: ListKeeper> Book<K> {
         if seen <= core.durable() {
             return Ok(());
         }
-        match core.mark(self.client, seen) {
-            Ok(()) => {
-                self.tell(Call::Mark(seen), Reply::Done);
-                Ok(())
-            }
-            Err(Refusal::TrailFull) => Err(Refusal::TrailFull),
-            Err(_) => unreachable!(),
-        }
+        core.mark(self.client, seen)?;
+        self.tell(Call::Mark(seen), Reply::Done);
+        Ok(())
     }
 
-    /// Asks the core for a page. The trail and the list get the fix with its reply, and the client then owes the unfix of
-    /// a pass, or the end of a ticket and the unfix after it.
+    /// Asks the core for a page. The trail and the list get the fix with its reply, and the client then owes the unfix
+    /// of a pass, or the end of a ticket and the unfix after it.
     ///
     /// `NoVictim`, `NeedLog` and `Busy` are the reply of the entry; `TrailFull` and `OutOfMemory` add none.
     #[tactic(auto, using(crate::proofs::Asking::fix_refused, crate::proofs::Asking::write_first_sized))]
@@ -98,8 +94,8 @@ impl<K: ListKeeper> Book<K> {
         }
     }
 
-    /// Asks the core that a page be written out. The trail and the list get the flush with its reply, and the client then
-    /// owes the end of a ticket that it was given.
+    /// Asks the core that a page be written out. The trail and the list get the flush with its reply, and the client
+    /// then owes the end of a ticket that it was given.
     ///
     /// `NeedLog` and `Busy` are the reply of the entry; `TrailFull` and `OutOfMemory` add none.
     #[tactic(auto, using(crate::proofs::Asking::flush_refused, crate::proofs::Asking::write_first_sized))]
@@ -139,6 +135,7 @@ impl<K: ListKeeper> Book<K> {
     }
 
     /// Moves the clock on: the trail and the list get the tick. `TrailFull` and `ClockFull` add no entry.
+    #[tactic(auto, using(crate::proofs::Asking::tick_refused))]
     pub fn ask_tick(&mut self, core: &mut PoolCore<K>, n: u64) -> Result<(), Refusal>
         requires client_in { self.old.client < core.old.parameters.clients }
         requires room { 0 < self.old.entries }
@@ -150,19 +147,14 @@ impl<K: ListKeeper> Book<K> {
         ensures outcome { TickSaid self.old.client n result self.old.said self.new.said }
         ensures alike { Alike core.old self.old.said core.new self.new.said }
     {
-        match core.tick(self.client, n) {
-            Ok(()) => {
-                self.tell(Call::Tick(n), Reply::Done);
-                Ok(())
-            }
-            Err(Refusal::TrailFull) => Err(Refusal::TrailFull),
-            Err(Refusal::ClockFull) => Err(Refusal::ClockFull),
-            Err(_) => unreachable!(),
-        }
+        core.tick(self.client, n)?;
+        self.tell(Call::Tick(n), Reply::Done);
+        Ok(())
     }
 
     /// Forgets old references, and counts their pages: the trail and the list get the purge with its count. `TrailFull`
     /// adds no entry.
+    #[tactic(auto, using(crate::proofs::Asking::purge_refused))]
     pub fn ask_purge(&mut self, core: &mut PoolCore<K>) -> Result<u64, Refusal>
         requires client_in { self.old.client < core.old.parameters.clients }
         requires room { 0 < self.old.entries }
@@ -174,18 +166,14 @@ impl<K: ListKeeper> Book<K> {
         ensures outcome { PurgeSaid self.old.client result self.old.said self.new.said }
         ensures alike { Alike core.old self.old.said core.new self.new.said }
     {
-        match core.purge(self.client) {
-            Ok(forgotten) => {
-                self.tell(Call::Purge, Reply::Forgot(forgotten));
-                Ok(forgotten)
-            }
-            Err(Refusal::TrailFull) => Err(Refusal::TrailFull),
-            Err(_) => unreachable!(),
-        }
+        let forgotten = core.purge(self.client)?;
+        self.tell(Call::Purge, Reply::Forgot(forgotten));
+        Ok(forgotten)
     }
 
     /// Reads the page of a pass of the client's: the image has the page size. The trail and the list get the read, each
     /// with an image of its own. `TrailFull`, `UnknownPass` and `OutOfMemory` add no entry.
+    #[tactic(auto, using(crate::proofs::Asking::read_refused))]
     pub fn ask_read(&mut self, core: &mut PoolCore<K>, pass: &Pass) -> Result<Image, Refusal>
         requires own { pass.now.client ≡ self.old.client }
         requires size { self.old.size ≡ core.old.parameters.size }
@@ -200,20 +188,14 @@ impl<K: ListKeeper> Book<K> {
         ensures outcome { ReadSaid self.old.client pass.now result self.old.said self.new.said }
         ensures alike { Alike core.old self.old.said core.new self.new.said }
     {
-        match core.read(pass) {
-            Ok(image) => {
-                self.tell_read(pass, &image);
-                Ok(image)
-            }
-            Err(Refusal::TrailFull) => Err(Refusal::TrailFull),
-            Err(Refusal::UnknownPass) => Err(Refusal::UnknownPass),
-            Err(Refusal::OutOfMemory) => Err(Refusal::OutOfMemory),
-            Err(_) => unreachable!(),
-        }
+        let image = core.read(pass)?;
+        self.tell_read(pass, &image);
+        Ok(image)
     }
 
-    /// Writes to the page of a pass of the client's. The trail and the list get the write; the list keeps the bytes in the spare.
-    /// `TrailFull`, `UnknownPass` and `OutOfMemory` add no entry.
+    /// Writes to the page of a pass of the client's. The trail and the list get the write; the list keeps the bytes in
+    /// the spare. `TrailFull`, `UnknownPass` and `OutOfMemory` add no entry.
+    #[tactic(auto, using(crate::proofs::Asking::write_refused))]
     pub fn ask_write(
         &mut self,
         core: &mut PoolCore<K>,
@@ -236,15 +218,8 @@ impl<K: ListKeeper> Book<K> {
             self.old.said self.new.said }
         ensures alike { Alike core.old self.old.said core.new self.new.said }
     {
-        match core.write(pass, offset, bytes, lsn) {
-            Ok(()) => {
-                self.tell_write(pass, offset, bytes, lsn, spare);
-                Ok(())
-            }
-            Err(Refusal::TrailFull) => Err(Refusal::TrailFull),
-            Err(Refusal::UnknownPass) => Err(Refusal::UnknownPass),
-            Err(Refusal::OutOfMemory) => Err(Refusal::OutOfMemory),
-            Err(_) => unreachable!(),
-        }
+        core.write(pass, offset, bytes, lsn)?;
+        self.tell_write(pass, offset, bytes, lsn, spare);
+        Ok(())
     }
 }

@@ -1,7 +1,8 @@
 //! The ends of device work. None of these takes memory.
-ghost use Rattle.std.specs.Prelude.{◌≡◌, ◌≤◌, ◌<◌, ◌+◌, ◌-◌, ◌*◌, ◌∷◌, length, reverse, vec_len, vec_capacity, IfOk, Ok, Err};
+ghost use Rattle.std.specs.Prelude.{◌≡◌, true, length, IfOk, Ok, Err};
 ghost use Rattle.bp_trail.specs.Clock.{durable};
-ghost use Rattle.bp_book.specs.Books.{SameOwner, OwesRead, OwesWrite, Alike};
+ghost use Rattle.bp_core.specs.Added.{ended_reply};
+ghost use Rattle.bp_book.specs.Books.{SameOwner, OwesRead, OwesWrite, Alike, plain_reply};
 ghost use Rattle.bp_book.specs.Turns.{EndReadOutcome, EndWriteOutcome};
 ghost use Rattle.bp_book.specs.Causes.{EndsRead, EndsWrite};
 
@@ -12,9 +13,20 @@ use bp_keeper::ListKeeper;
 use bp_page::{Image, PortFault, Refusal};
 use bp_trail::Grant;
 
+/// The reply by which a write-out that went well ends.
+fn reply_of_end(ended: Ended) -> Reply
+    ensures reply { result ≡ ended_reply ended }
+    ensures plain { plain_reply result ≡ true }
+{
+    match ended {
+        Ended::Cleaned => Reply::Cleaned,
+        Ended::StillDirty => Reply::StillDirty,
+    }
+}
+
 impl<K: ListKeeper> Book<K> {
-    /// Ends a read that went well. The list keeps a copy of the image. A ticket that the core does not know is forfeited, which is
-    /// `UnknownTicket`, and nothing else changes.
+    /// Ends a read that went well. The list keeps a copy of the image. A ticket that the core does not know is
+    /// forfeited, which is `UnknownTicket`, and nothing else changes.
     fn end_load(
         &mut self,
         core: &mut PoolCore<K>,
@@ -57,8 +69,8 @@ impl<K: ListKeeper> Book<K> {
         }
     }
 
-    /// Ends a read that failed, which is `WrongPage` where another page was found, and else `ReadFailed`. A ticket that the core does not
-    /// know is forfeited, as by `end_load`.
+    /// Ends a read that failed, which is `WrongPage` where another page was found, and else `ReadFailed`. A ticket that
+    /// the core does not know is forfeited, as by `end_load`.
     fn end_failed_load(
         &mut self,
         core: &mut PoolCore<K>,
@@ -95,11 +107,11 @@ impl<K: ListKeeper> Book<K> {
         }
     }
 
-    /// Ends a read that the list's newest entry began. The trail and the list get the end, and the client holds the pass.
-    /// It takes no memory for the list.
+    /// Ends a read that the list's newest entry began. The trail and the list get the end, and the client holds the
+    /// pass. It takes no memory for the list.
     ///
-    /// Where the read failed, this is `ReadFailed`, and where it found another page `WrongPage`, the reply of the entry. A
-    /// ticket that the core does not know is forfeited, which is `UnknownTicket`, and nothing else changes.
+    /// Where the read failed, this is `ReadFailed`, and where it found another page `WrongPage`, the reply of the
+    /// entry. A ticket that the core does not know is forfeited, which is `UnknownTicket`, and nothing else changes.
     pub fn end_read(
         &mut self,
         core: &mut PoolCore<K>,
@@ -148,13 +160,9 @@ impl<K: ListKeeper> Book<K> {
         let page = ticket.page();
         let serial = ticket.serial();
         match core.write_end(ticket, written) {
-            Ok(Ended::Cleaned) => {
-                self.tell_write_end(serial, page, true, Reply::Cleaned);
-                Ok(Ended::Cleaned)
-            }
-            Ok(Ended::StillDirty) => {
-                self.tell_write_end(serial, page, true, Reply::StillDirty);
-                Ok(Ended::StillDirty)
+            Ok(ended) => {
+                self.tell_write_end(serial, page, true, reply_of_end(ended));
+                Ok(ended)
             }
             Err(EndRefusal::Failed(_)) => {
                 self.tell_write_end(serial, page, false, Reply::WriteFailed);

@@ -23,11 +23,12 @@ impl Book<RecordingKeeper> {
         self.said.into_entries()
     }
 
-    /// Hands out what earlier cuts left of the list, the oldest entry first, and goes on in the spare's memory with room for
-    /// all that is owed; what the spare has is dropped. All that is said of the list goes on over the whole of it.
+    /// Hands out what earlier cuts left of the list, the oldest entry first, and goes on in the spare's memory with
+    /// room for all that is owed; what the spare has is dropped. All that is said of the list goes on over the whole of
+    /// it.
     ///
-    /// The list handed out has all the memory that it had, and no room of the spare is lost. Where the memory for what is
-    /// owed is refused, which is `OutOfMemory`, nothing changes. It is not refused where the spare has that room.
+    /// The list handed out has all the memory that it had, and no room of the spare is lost. Where the memory for what
+    /// is owed is refused, which is `OutOfMemory`, nothing changes. It is not refused where the spare has that room.
     pub fn cut(&mut self, spare: Vec<Entry>) -> Result<Vec<Entry>, Refusal>
         ensures entries { IfOk result (λ entries.
             reverse entries.items ++ self.old.before ≡ self.old.said) }

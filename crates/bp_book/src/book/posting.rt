@@ -20,8 +20,8 @@ impl<K: ListKeeper> Book<K> {
         self.held.has(pass)
     }
 
-    /// Adds the entry of a pass that goes back, which is held no more. It takes no memory. The core is not asked: whoever
-    /// calls this sees that the pass reaches it.
+    /// Adds the entry of a pass that goes back, which is held no more. It takes no memory. The core is not asked:
+    /// whoever calls this sees that the pass reaches it.
     pub fn tell_unfix(&mut self, note: PassNote)
         requires held { is_out note (passes_out self.old.said) ≡ true }
         ensures whose { note.client ≡ self.old.client }
@@ -32,6 +32,6 @@ impl<K: ListKeeper> Book<K> {
             page: note.page(),
         };
         self.said.record(self.client, call, Reply::Done);
-        self.held.strike(note.serial());
+        self.held.remove(note.serial());
     }
 }

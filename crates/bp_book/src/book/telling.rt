@@ -1,5 +1,6 @@
 //! The entries that a list gets, each kept with what is owed after it. None of these takes memory.
-ghost use Rattle.std.specs.Prelude.{◌≡◌, ◌≤◌, ◌<◌, ◌+◌, ◌-◌, ◌*◌, ◌∷◌, true, IfSome, length, reverse, vec_len, vec_capacity};
+ghost use Rattle.std.specs.Prelude.{◌≡◌, ◌≤◌, ◌<◌, ◌+◌, ◌-◌, ◌*◌, ◌∷◌, true, IfSome, length};
+ghost use Rattle.std.specs.Prelude.{reverse, vec_len, vec_capacity};
 ghost use Rattle.bp_trail.specs.declared.entries.Call.TheVariants as Call;
 ghost use Rattle.bp_trail.specs.declared.entries.Reply.TheVariants as Reply;
 ghost use Rattle.bp_book.specs.Books.{OwesWriteEnd, SameOwner, Tells, plain_call, plain_reply};

@@ -1,13 +1,13 @@
 //! The critical section in which the trail is handed out.
 ghost use Rattle.std.specs.Prelude.{◌≡◌, ◌≤◌, IfOk, OnErr, vec_capacity};
 ghost use Rattle.bp_page.specs.declared.refusals.Refusal.TheVariants as Refusal;
-ghost use Rattle.bp_shared.specs.Locked.{Settled};
+ghost use Rattle.bp_shared.specs.Locked.{Drained};
 ghost use Rattle.bp_shared.specs.Taking.{HandsOut, ComesNext, GaveTooMany};
 
 use super::LockedPool;
 use crate::names::PoolName;
 use crate::taker::Taker;
-use crate::trail_ring::{meet, pass_on};
+use crate::trail_ring::{join_ends, pass_on};
 use bp_book::draining::{ALL, drain_all};
 use bp_core::Entry;
 use bp_keeper::RecordingKeeper;
@@ -29,7 +29,7 @@ impl<N: PoolName> LockedPool<N, RecordingKeeper> {
             ComesNext N.parameters taker.old entries.items taker.new) }
         ensures refused { OnErr result (result ≡ Err Refusal.ClockFull) }
         ensures cause { OnErr result (GaveTooMany N.parameters taker.old) }
-        ensures settled { OnErr result (Settled self.old self.new) }
+        ensures drained { OnErr result (Drained self.old self.new) }
         ensures unchanged { OnErr result (taker.new ≡ taker.old) }
     {
         drain_all(&mut self.core, &mut self.strays, &mut self.consumers, ALL);
@@ -37,7 +37,7 @@ impl<N: PoolName> LockedPool<N, RecordingKeeper> {
             Ok(entries) => entries,
             Err(refusal) => {
                 // The taker has all that was handed out, and the core's entries go on from that.
-                meet(&mut self.pieces, &mut taker.taken);
+                join_ends(&mut self.pieces, &mut taker.taken);
                 self.core.trail();
                 return Err(refusal);
             }

@@ -1,28 +1,27 @@
-//! The critical sections of a session. Each drains the rings that it is to ask, bit c for that of client c, and then
-//! makes one event, which the session's list gets too; a fix and a flush first look at the mark once. What the list then
-//! tells goes to the session's line of the board. None takes memory for the list: what an event wants there is taken
-//! before the lock.
+//! The events of a session, each in a critical section whose rings are drained. The session's list gets the event too;
+//! a fix and a flush first look at the mark once. What the list then tells goes to the session's line of the board.
+//! None takes memory for the list: what an event wants there is taken before the lock.
 ghost use Rattle.std.specs.Prelude.{◌≡◌, ◌+◌, ◌<◌, ◌≤◌, length, IfOk};
 ghost use Rattle.bp_book.specs.Books.{SameOwner, OwesRead, OwesWrite};
 ghost use Rattle.bp_book.specs.Turns.{FixTurn, FlushTurn, EndReadOutcome, EndWriteOutcome};
 ghost use Rattle.bp_book.specs.Turns.{TickSaid, PurgeSaid, ReadSaid, WriteSaid};
 ghost use Rattle.bp_book.specs.Causes.{EndsRead, EndsWrite};
 ghost use Rattle.bp_core.specs.Outcomes.{TickOutcome, PurgeOutcome, ReadOutcome, WriteOutcome};
-ghost use Rattle.bp_shared.specs.Locked.{InStep, FixStep, FlushStep, ends_after};
+ghost use Rattle.bp_shared.specs.Locked.{IsDrained, InStep, FixStep, FlushStep, ends_after};
 ghost use Rattle.bp_shared.specs.Telling.{IsLineOf};
 
 use super::LockedPool;
 use crate::names::PoolName;
 use crate::session::{Session, Told};
 use bp_board::Line;
-use bp_book::{Book, Fix, Flush, PendingRead, PendingWrite, drain_all};
+use bp_book::{Book, Fix, Flush, PendingRead, PendingWrite};
 use bp_core::{Ended, Pass};
 use bp_keeper::ListKeeper;
 use bp_mark::Mark;
 use bp_page::{Bytes, Image, Lsn, PageNo, PortFault, Refusal};
 
 /// How often device work ended, after an end that may have been that of an unknown ticket.
-fn counted<T>(ends: u64, ended: &Result<T, Refusal>) -> u64
+fn ends_after<T>(ends: u64, ended: &Result<T, Refusal>) -> u64
     ensures { result ≡ ends_after ended.now ends }
 {
     match ended {
@@ -39,8 +38,8 @@ impl<N: PoolName, K: ListKeeper> LockedPool<N, K> {
         book: &mut Book<K>,
         line: &mut Line,
         page: PageNo,
-        asked: u64,
     ) -> Result<Fix, Refusal>
+        requires drained { IsDrained self.old }
         requires mark { mark.now ≡ N.mark }
         requires page_in { page < N.parameters.pages }
         requires client_in { book.old.client < N.parameters.clients }
@@ -56,7 +55,6 @@ impl<N: PoolName, K: ListKeeper> LockedPool<N, K> {
         ensures in_step { InStep (FixStep book.old.client page self.new.seen result)
             self.old book.old.said self.new book.new.said }
     {
-        drain_all(&mut self.core, &mut self.strays, &mut self.consumers, asked);
         match book.look(&mut self.core, &mut self.reader, mark) {
             Ok(()) => {}
             Err(refusal) => return Err(refusal),
@@ -73,8 +71,8 @@ impl<N: PoolName, K: ListKeeper> LockedPool<N, K> {
         book: &mut Book<K>,
         line: &mut Line,
         page: PageNo,
-        asked: u64,
     ) -> Result<Flush, Refusal>
+        requires drained { IsDrained self.old }
         requires mark { mark.now ≡ N.mark }
         requires page_in { page < N.parameters.pages }
         requires client_in { book.old.client < N.parameters.clients }
@@ -90,7 +88,6 @@ impl<N: PoolName, K: ListKeeper> LockedPool<N, K> {
         ensures in_step { InStep (FlushStep book.old.client page self.new.seen result)
             self.old book.old.said self.new book.new.said }
     {
-        drain_all(&mut self.core, &mut self.strays, &mut self.consumers, asked);
         match book.look(&mut self.core, &mut self.reader, mark) {
             Ok(()) => {}
             Err(refusal) => return Err(refusal),
@@ -106,8 +103,8 @@ impl<N: PoolName, K: ListKeeper> LockedPool<N, K> {
         session: &mut Session<N, K>,
         ticket: PendingRead,
         read: Result<Image, PortFault>,
-        asked: u64,
     ) -> Result<Pass, Refusal>
+        requires drained { IsDrained self.old }
         requires owes { OwesRead session.old.client ticket session.old.said }
         requires size { IfOk read (λ image. length image ≡ N.parameters.size) }
         ensures client { session.new.client ≡ session.old.client }
@@ -118,9 +115,8 @@ impl<N: PoolName, K: ListKeeper> LockedPool<N, K> {
         ensures in_step { InStep (λ core after. EndsRead core ticket read result after)
             self.old session.old.said self.new session.new.said }
     {
-        drain_all(&mut self.core, &mut self.strays, &mut self.consumers, asked);
         let ended = session.book.end_read(&mut self.core, ticket, read);
-        self.ends = counted(self.ends, &ended);
+        self.ends = ends_after(self.ends, &ended);
         self.board
             .write::<Book<K>, Told>(&mut session.line, &session.book);
         ended
@@ -132,8 +128,8 @@ impl<N: PoolName, K: ListKeeper> LockedPool<N, K> {
         session: &mut Session<N, K>,
         ticket: PendingWrite,
         written: Result<(), PortFault>,
-        asked: u64,
     ) -> Result<Ended, Refusal>
+        requires drained { IsDrained self.old }
         requires owes { OwesWrite session.old.client ticket session.old.said }
         ensures client { session.new.client ≡ session.old.client }
         ensures before { session.new.before ≡ session.old.before }
@@ -143,9 +139,8 @@ impl<N: PoolName, K: ListKeeper> LockedPool<N, K> {
         ensures in_step { InStep (λ core after. EndsWrite core ticket written result after)
             self.old session.old.said self.new session.new.said }
     {
-        drain_all(&mut self.core, &mut self.strays, &mut self.consumers, asked);
         let ended = session.book.end_write_out(&mut self.core, ticket, written);
-        self.ends = counted(self.ends, &ended);
+        self.ends = ends_after(self.ends, &ended);
         self.board
             .write::<Book<K>, Told>(&mut session.line, &session.book);
         ended
@@ -157,8 +152,8 @@ impl<N: PoolName, K: ListKeeper> LockedPool<N, K> {
         book: &mut Book<K>,
         line: &mut Line,
         n: u64,
-        asked: u64,
     ) -> Result<(), Refusal>
+        requires drained { IsDrained self.old }
         requires client_in { book.old.client < N.parameters.clients }
         requires room { 0 < book.old.entries }
         requires line { IsLineOf N.ring.board line.old book.old.client book.old.said }
@@ -169,19 +164,14 @@ impl<N: PoolName, K: ListKeeper> LockedPool<N, K> {
         ensures in_step { InStep (λ core after. TickOutcome core book.old.client n result after)
             self.old book.old.said self.new book.new.said }
     {
-        drain_all(&mut self.core, &mut self.strays, &mut self.consumers, asked);
         let answer = book.ask_tick(&mut self.core, n);
         self.board.write::<Book<K>, Told>(line, book);
         answer
     }
 
     /// Forgets old references, and counts their pages.
-    pub(crate) fn purge(
-        &mut self,
-        book: &mut Book<K>,
-        line: &mut Line,
-        asked: u64,
-    ) -> Result<u64, Refusal>
+    pub(crate) fn purge(&mut self, book: &mut Book<K>, line: &mut Line) -> Result<u64, Refusal>
+        requires drained { IsDrained self.old }
         requires client_in { book.old.client < N.parameters.clients }
         requires room { 0 < book.old.entries }
         requires line { IsLineOf N.ring.board line.old book.old.client book.old.said }
@@ -192,7 +182,6 @@ impl<N: PoolName, K: ListKeeper> LockedPool<N, K> {
         ensures in_step { InStep (λ core after. PurgeOutcome core book.old.client result after)
             self.old book.old.said self.new book.new.said }
     {
-        drain_all(&mut self.core, &mut self.strays, &mut self.consumers, asked);
         let answer = book.ask_purge(&mut self.core);
         self.board.write::<Book<K>, Told>(line, book);
         answer
@@ -204,8 +193,8 @@ impl<N: PoolName, K: ListKeeper> LockedPool<N, K> {
         book: &mut Book<K>,
         line: &mut Line,
         pass: &Pass,
-        asked: u64,
     ) -> Result<Image, Refusal>
+        requires drained { IsDrained self.old }
         requires own { pass.now.client ≡ book.old.client }
         requires size { book.old.size ≡ N.parameters.size }
         requires room { 0 < book.old.entries }
@@ -219,7 +208,6 @@ impl<N: PoolName, K: ListKeeper> LockedPool<N, K> {
         ensures in_step { InStep (λ core after. ReadOutcome core pass.now result after)
             self.old book.old.said self.new book.new.said }
     {
-        drain_all(&mut self.core, &mut self.strays, &mut self.consumers, asked);
         let answer = book.ask_read(&mut self.core, pass);
         self.board.write::<Book<K>, Told>(line, book);
         answer
@@ -235,8 +223,8 @@ impl<N: PoolName, K: ListKeeper> LockedPool<N, K> {
         bytes: &Bytes,
         lsn: Lsn,
         spare: K::SpareBytes,
-        asked: u64,
     ) -> Result<(), Refusal>
+        requires drained { IsDrained self.old }
         requires own { pass.now.client ≡ book.old.client }
         requires fits { offset + length bytes.now ≤ N.parameters.size }
         requires room { 0 < book.old.entries }
@@ -251,7 +239,6 @@ impl<N: PoolName, K: ListKeeper> LockedPool<N, K> {
             (λ core after. WriteOutcome core pass.now offset bytes.now lsn result after)
             self.old book.old.said self.new book.new.said }
     {
-        drain_all(&mut self.core, &mut self.strays, &mut self.consumers, asked);
         let answer = book.ask_write(&mut self.core, pass, offset, bytes, lsn, spare);
         self.board.write::<Book<K>, Told>(line, book);
         answer

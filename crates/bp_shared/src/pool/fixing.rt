@@ -1,8 +1,7 @@
 //! Fixes of shared pages, with their device work.
 ghost use Rattle.std.specs.Prelude.{◌≡◌, ◌<◌};
 
-use super::{SharedPool, found_busy, is_busy};
-use crate::locking::locked;
+use super::{SharedPool, is_busy};
 use crate::names::PoolName;
 use crate::session::Session;
 use bp_book::{Fix, PendingRead, PendingWrite};
@@ -36,9 +35,8 @@ impl<N: PoolName, K: ListKeeper> SharedPool<N, K> {
             port.old port.new }
     {
         let read = port.read(rt, ticket.page());
-        let mut state = locked(rt, &self.state);
-        let asked = self.posted.take();
-        let ended = state.end_read(session, ticket, read, asked);
+        let mut state = self.enter(rt);
+        let ended = state.end_read(session, ticket, read);
         drop(state);
         self.ended.notify_all();
         ended
@@ -61,16 +59,16 @@ impl<N: PoolName, K: ListKeeper> SharedPool<N, K> {
             session.new.said port.old port.new }
     {
         let written = port.write(rt, ticket.page(), ticket.image(), ticket.lsn());
-        let mut state = locked(rt, &self.state);
-        let asked = self.posted.take();
-        let ended = state.end_write(session, ticket, written, asked);
+        let mut state = self.enter(rt);
+        let ended = state.end_write(session, ticket, written);
         drop(state);
         self.ended.notify_all();
         ended
     }
 
-    /// Takes the memory for one more event, and asks for a page in one critical section. Where another client has the page in flight,
-    /// which is `Busy`, some device work has ended at the return. `OutOfMemory` comes before the lock is taken.
+    /// Takes the memory for one more event, and asks for a page in one critical section. Where another client has the
+    /// page in flight, which is `Busy`, some device work has ended at the return. `OutOfMemory` comes before the lock
+    /// is taken.
     fn ask_fix<R: Wait>(
         &self,
         rt: &R,
@@ -83,37 +81,24 @@ impl<N: PoolName, K: ListKeeper> SharedPool<N, K> {
         ensures free { session.new.free ≡ session.old.free }
         ensures turn { FixTurn session.old.client page result session.old.said session.new.said }
     {
-        let Ok(()) = session.book.prepare() else {
+        let Ok(()) = session.book.reserve_for_event() else {
             return Err(Refusal::OutOfMemory);
         };
-        let mut state = locked(rt, &self.state);
-        let asked = self.posted.take();
-        let answer = state.fix(
-            &self.mark,
-            &mut session.book,
-            &mut session.line,
-            page,
-            asked,
-        );
-        if found_busy(&answer) {
-            let seen = state.ends();
-            drop(
-                self.ended
-                    .wait_while(rt, state, |state| state.ends() == seen),
-            );
-        }
+        let mut state = self.enter(rt);
+        let answer = state.fix(&self.mark, &mut session.book, &mut session.line, page);
+        self.leave(rt, state, &answer);
         answer
     }
 
-    /// Fixes a page: gives a pass of it, once it is in a frame. The page is read, and an unsaved victim written out first, through the
-    /// port and with no lock held; where another client has the page in flight, the call waits for the end of some device work and
-    /// asks again. Before each fix of the core it looks at the mark once. The device does the work of the entries that
-    /// the list gets, and nothing else: each read is of the page, each write of the victim's, with its image. This is not
-    /// said where the call answers `UnknownTicket`.
+    /// Fixes a page: gives a pass of it, once it is in a frame. The page is read, and an unsaved victim written out
+    /// first, through the port and with no lock held; where another client has the page in flight, the call waits for
+    /// the end of some device work and asks again. Before each fix of the core it looks at the mark once. The device
+    /// does the work of the entries that the list gets, and nothing else: each read is of the page, each write of the
+    /// victim's, with its image. This is not said where the call answers `UnknownTicket`.
     ///
-    /// The session's list gets the events as the trail does. `NoVictim`, `NeedLog`, `ReadFailed`, `WrongPage` and `WriteFailed` are the
-    /// reply of the last one. `TrailFull` and `OutOfMemory` make no event, and those made before stand; `UnknownTicket` is the pool's
-    /// answer for a ticket that it does not know, which is forfeited.
+    /// The session's list gets the events as the trail does. `NoVictim`, `NeedLog`, `ReadFailed`, `WrongPage` and
+    /// `WriteFailed` are the reply of the last one. `TrailFull` and `OutOfMemory` make no event, and those made before
+    /// stand; `UnknownTicket` is the pool's answer for a ticket that it does not know, which is forfeited.
     pub fn fix<P: Port, R: Wait>(
         &self,
         rt: &R,

@@ -2,8 +2,7 @@
 ghost use Rattle.std.specs.Prelude.{◌≡◌};
 ghost use Rattle.bp_core.specs.Added.{ended_reply, flushed_reply};
 
-use super::{SharedPool, found_busy, is_busy};
-use crate::locking::locked;
+use super::{SharedPool, is_busy};
 use crate::names::PoolName;
 use crate::session::Session;
 use bp_book::Flush;
@@ -28,8 +27,8 @@ impl<N: PoolName, K: ListKeeper> SharedPool<N, K> {
     ghost use Rattle.bp_book.specs.Turns.{FlushTurn};
     ghost use Rattle.bp_shared.specs.Sessions.{DoesWorkSaid, FlushSaid};
 
-    /// Takes the memory for one more event, and asks that a page be written out in one critical section. `Busy` and `OutOfMemory` as
-    /// from `ask_fix`.
+    /// Takes the memory for one more event, and asks that a page be written out in one critical section. `Busy` and
+    /// `OutOfMemory` as from `ask_fix`.
     fn ask_flush<R: Wait>(
         &self,
         rt: &R,
@@ -42,34 +41,21 @@ impl<N: PoolName, K: ListKeeper> SharedPool<N, K> {
         ensures free { session.new.free ≡ session.old.free }
         ensures turn { FlushTurn session.old.client page result session.old.said session.new.said }
     {
-        let Ok(()) = session.book.prepare() else {
+        let Ok(()) = session.book.reserve_for_event() else {
             return Err(Refusal::OutOfMemory);
         };
-        let mut state = locked(rt, &self.state);
-        let asked = self.posted.take();
-        let answer = state.flush(
-            &self.mark,
-            &mut session.book,
-            &mut session.line,
-            page,
-            asked,
-        );
-        if found_busy(&answer) {
-            let seen = state.ends();
-            drop(
-                self.ended
-                    .wait_while(rt, state, |state| state.ends() == seen),
-            );
-        }
+        let mut state = self.enter(rt);
+        let answer = state.flush(&self.mark, &mut session.book, &mut session.line, page);
+        self.leave(rt, state, &answer);
         answer
     }
 
-    /// Writes a page out if it is unsaved, through the port and with no lock held. Where the page is being read or written out, the call
-    /// waits for the end of some device work and asks again. Before each flush of the core it looks at the mark once.
-    /// The device does the work of the entries that the list gets, as in `fix`.
+    /// Writes a page out if it is unsaved, through the port and with no lock held. Where the page is being read or
+    /// written out, the call waits for the end of some device work and asks again. Before each flush of the core it
+    /// looks at the mark once. The device does the work of the entries that the list gets, as in `fix`.
     ///
-    /// The session's list gets the events as the trail does. `NeedLog` and `WriteFailed` are the reply of the last one; `TrailFull`,
-    /// `OutOfMemory` and `UnknownTicket` as from `fix`.
+    /// The session's list gets the events as the trail does. `NeedLog` and `WriteFailed` are the reply of the last one;
+    /// `TrailFull`, `OutOfMemory` and `UnknownTicket` as from `fix`.
     pub fn flush<P: Port, R: Wait>(
         &self,
         rt: &R,

@@ -13,8 +13,8 @@ impl<N: PoolName> SharedPool<N, RecordingKeeper> {
     ghost use Rattle.bp_shared.specs.Taking.{ComesNext, GaveTooMany};
 
     /// Hands the trail to its taker as one piece more, the oldest entry first, and goes on with an empty one: the rings
-    /// are drained before.
-    /// Nothing else changes: frames, passes and tickets that are out, the clock, histories. It may be called at any time.
+    /// are drained before. Nothing else changes: frames, passes and tickets that are out, the clock, histories. It may
+    /// be called at any time.
     ///
     /// `ClockFull` where more than 2^62 passes or tickets were given; `OutOfMemory` where the room of a trail can't be
     /// reserved anew, which is done before the lock is taken. Both hand out nothing.
@@ -30,8 +30,8 @@ impl<N: PoolName> SharedPool<N, RecordingKeeper> {
         self.cut_into(rt, taker, Vec::new(self.alloc))
     }
 
-    /// A cut that goes on in the memory of a spare list: more is taken only where that has not the trail's room. What the
-    /// spare has is dropped, also before the lock is taken. A piece that was handed out has the room.
+    /// A cut that goes on in the memory of a spare list: more is taken only where that has not the trail's room. What
+    /// the spare has is dropped, also before the lock is taken. A piece that was handed out has the room.
     pub fn cut_into<R: Wait>(
         &self,
         rt: &R,

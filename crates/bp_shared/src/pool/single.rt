@@ -2,7 +2,6 @@
 ghost use Rattle.std.specs.Prelude.{◌≡◌};
 
 use super::SharedPool;
-use crate::locking::locked;
 use crate::names::PoolName;
 use crate::session::Session;
 use bp_core::Pass;
@@ -21,12 +20,9 @@ impl<N: PoolName, K: ListKeeper> SharedPool<N, K> {
         ensures free { session.new.free ≡ session.old.free }
         ensures outcome { TickSaid session.old.client n result session.old.said session.new.said }
     {
-        let Ok(()) = session.book.prepare() else {
-            return Err(Refusal::OutOfMemory);
-        };
-        let mut state = locked(rt, &self.state);
-        let asked = self.posted.take();
-        state.tick(&mut session.book, &mut session.line, n, asked)
+        session.book.reserve_for_event()?;
+        let mut state = self.enter(rt);
+        state.tick(&mut session.book, &mut session.line, n)
     }
 
     /// Forgets old references, and counts their pages. `OutOfMemory` and `TrailFull` change nothing.
@@ -36,12 +32,9 @@ impl<N: PoolName, K: ListKeeper> SharedPool<N, K> {
         ensures free { session.new.free ≡ session.old.free }
         ensures outcome { PurgeSaid session.old.client result session.old.said session.new.said }
     {
-        let Ok(()) = session.book.prepare() else {
-            return Err(Refusal::OutOfMemory);
-        };
-        let mut state = locked(rt, &self.state);
-        let asked = self.posted.take();
-        state.purge(&mut session.book, &mut session.line, asked)
+        session.book.reserve_for_event()?;
+        let mut state = self.enter(rt);
+        state.purge(&mut session.book, &mut session.line)
     }
 
     /// A copy of the image of a pass's page, which has the page size. `UnknownPass`, before all else, where the pass is
@@ -64,15 +57,13 @@ impl<N: PoolName, K: ListKeeper> SharedPool<N, K> {
         if pass.client() != session.client() {
             return Err(Refusal::UnknownPass);
         }
-        let Ok(()) = session.book.prepare() else {
-            return Err(Refusal::OutOfMemory);
-        };
-        let mut state = locked(rt, &self.state);
-        let asked = self.posted.take();
-        state.read(&mut session.book, &mut session.line, pass, asked)
+        session.book.reserve_for_event()?;
+        let mut state = self.enter(rt);
+        state.read(&mut session.book, &mut session.line, pass)
     }
 
-    /// Puts bytes into a pass's page, from the offset on, and raises the page LSN to `lsn` if that is greater. Refusals as from `read`.
+    /// Puts bytes into a pass's page, from the offset on, and raises the page LSN to `lsn` if that is greater. Refusals
+    /// as from `read`.
     pub fn write<R: Wait>(
         &self,
         rt: &R,
@@ -96,11 +87,8 @@ impl<N: PoolName, K: ListKeeper> SharedPool<N, K> {
         let Ok(spare) = K::spare_bytes(self.alloc, bytes) else {
             return Err(Refusal::OutOfMemory);
         };
-        let Ok(()) = session.book.prepare() else {
-            return Err(Refusal::OutOfMemory);
-        };
-        let mut state = locked(rt, &self.state);
-        let asked = self.posted.take();
+        session.book.reserve_for_event()?;
+        let mut state = self.enter(rt);
         state.write(
             &mut session.book,
             &mut session.line,
@@ -109,7 +97,6 @@ impl<N: PoolName, K: ListKeeper> SharedPool<N, K> {
             bytes,
             lsn,
             spare,
-            asked,
         )
     }
 }

@@ -26,8 +26,8 @@ impl<N: PoolName> Session<N, RecordingKeeper> {
     }
 
     /// Hands out what earlier cuts left of the list, the oldest entry first. All else goes on: the passes held, and the
-    /// room for what is owed. It takes no lock, and may be called between any two calls of the session. Memory is wanted
-    /// only where entries are owed; where it is refused, which is `OutOfMemory`, nothing changes.
+    /// room for what is owed. It takes no lock, and may be called between any two calls of the session. Memory is
+    /// wanted only where entries are owed; where it is refused, which is `OutOfMemory`, nothing changes.
     pub fn cut(&mut self) -> Result<Vec<Entry>, Refusal>
         ensures entries { IfOk result (λ entries.
             reverse entries.items ++ self.old.before ≡ self.old.said) }
@@ -42,8 +42,8 @@ impl<N: PoolName> Session<N, RecordingKeeper> {
     }
 
     /// A cut that goes on in the memory of a spare list. It is not refused where that has room for the entries that are
-    /// owed: one for each pass held, and two for each ticket that the list was given and did not end. What the spare has
-    /// is dropped, and none of its room is lost; the list handed out has all the memory that it had.
+    /// owed: one for each pass held, and two for each ticket that the list was given and did not end. What the spare
+    /// has is dropped, and none of its room is lost; the list handed out has all the memory that it had.
     pub fn cut_into(&mut self, spare: Vec<Entry>) -> Result<Vec<Entry>, Refusal>
         ensures entries { IfOk result (λ entries.
             reverse entries.items ++ self.old.before ≡ self.old.said) }

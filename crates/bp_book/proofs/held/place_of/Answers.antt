@@ -2,7 +2,7 @@
 use Rattle.std.proofs.Common.{ap, sym, ◌∙◌, arith}
 use Rattle.std.proofs.lemmas.List.{get_or_default}
 use Rattle.bp_frames.proofs.Rising.{stands-at, stands-nowhere}
-use Rattle.bp_book.proofs.Striking.{serial_of}
+use Rattle.bp_book.proofs.Removing.{serial_of}
 use Rattle.bp_book.proofs.held.place_of.Goals as goal
 use Rattle.bp_book.proofs.held.place_of.Goals.{else-place-held-via-then-place-held+else-serial, else-place-held-via-else-place-held}
 

@@ -1,7 +1,7 @@
 -- The last note has the greatest number.
 use Rattle.std.proofs.Common.{rules, arith}
 use Rattle.std.proofs.lemmas.Bool.{ltb-true}
-use Rattle.bp_book.proofs.Striking.{rises_pushed}
+use Rattle.bp_book.proofs.Removing.{rises_pushed}
 use Rattle.bp_book.proofs.held.rises_with.Goals as goal
 
 pub returns-then-is_rising : goal.returns-then-is_rising

@@ -1,7 +1,7 @@
--- What was taken in so far.
+-- What was added so far.
 use Rattle.std.specs.Vec.Iter.{into_iter_items}
 use Rattle.bp_clients.specs.Jobs.{lists}
-use Rattle.bp_clients.proofs.TakingIn.{SoFar}
+use Rattle.bp_clients.proofs.Adding.{SoFar}
 use Rattle.bp_clients.proofs.collecting.collect.Given as goal
 
 abbrev pub invariant-loop-job : goal.invariant-loop-job

@@ -1,12 +1,12 @@
--- What was taken in, with the refused rows put in order. No cut was made, so the trail is all entries.
+-- What was added, with the refused rows put in order. No cut was made, so the trail is all entries.
 use Rattle.std.proofs.Common.{◌≡◌, List, [], ◌++◌, reverse, length, arith, rules, refl, sym, ap, subst, ◌∙◌}
 use Rattle.std.proofs.lemmas.List.{append-nil, append_cancel_right, reverse-reverse}
 use Rattle.std.proofs.lemmas.List.Sorted.{IsNonDecreasingBy-from_sort_by_key}
 use Rattle.bp_trail.specs.declared.entries.Entry.{Entry}
 use Rattle.bp_trail.specs.Trail.{Trail}
 use Rattle.bp_trail.specs.Legal.{Legal}
-use Rattle.bp_clients.specs.Jobs.{lists, NotTaken, SomeUntold, Collected}
-use Rattle.bp_clients.proofs.TakingIn.{same_reversed}
+use Rattle.bp_clients.specs.Jobs.{lists, NotAdded, SomeDisagrees, Collected}
+use Rattle.bp_clients.proofs.Adding.{same_reversed}
 use Rattle.bp_clients.proofs.run.joined.Goals as goal
 
 -- what two calls tell of one trail is one
@@ -31,7 +31,7 @@ returns-clause-room g c =
 pub returns-in-Err-clause-refused : goal.returns-in-Err-clause-refused
 returns-in-Err-clause-refused g c =
     let all = all_told c.trail.result.now c.args.core.before c.args.core.past c.trail.ensures.entries c.requires.uncut in
-    subst (λ trail. NotTaken (SomeUntold trail c.args.jobs.items) c.in-Err.refusal) (sym (ap reverse all ∙ reverse-reverse c.trail.result.now)) c.in-Err.ensures.fault
+    subst (λ trail. NotAdded (SomeDisagrees trail c.args.jobs.items) c.in-Err.refusal) (sym (ap reverse all ∙ reverse-reverse c.trail.result.now)) c.in-Err.ensures.fault
 
 pub returns-clause-joined : goal.returns-clause-joined
 returns-clause-joined g c = record {

@@ -3,9 +3,9 @@ use Rattle.bp_clients.proofs.run.run_clients.Given as goal
 
 abbrev pub ghosts-run_named : goal.ghosts-run_named
 ghosts-run_named g a = record {
-  mark = a.parts.0;
+  mark = a.parts.mark;
   parameters = a.core.parameters;
   before = a.core.before;
   past = a.core.past;
-  ring = a.ring;
+  ring = a.parts.ring;
 }

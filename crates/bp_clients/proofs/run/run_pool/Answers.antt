@@ -2,7 +2,7 @@
 use Rattle.std.proofs.Common.{◌≡◌, ◌<◌, rules, arith, ap, length}
 use Rattle.bp_clients.proofs.Making.{lent_back}
 use Rattle.bp_clients.proofs.Headline.{length-new_jobs, same_jobs, run_all}
-use Rattle.bp_clients.proofs.TakingIn.{memory-or-disagree}
+use Rattle.bp_clients.proofs.Adding.{memory-or-disagree}
 use Rattle.bp_clients.proofs.run.run_pool.Goals as goal
 
 pub run_jobs-requires-clause-some : goal.run_jobs-requires-clause-some

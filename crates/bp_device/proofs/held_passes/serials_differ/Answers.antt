@@ -1,5 +1,5 @@
 -- A core's trail is legal.
-use Rattle.bp_device.proofs.Striking.{differ-in-legal}
+use Rattle.bp_device.proofs.Removing.{differ-in-legal}
 use Rattle.bp_device.proofs.held_passes.serials_differ.Goals as goal
 
 pub returns : goal.returns

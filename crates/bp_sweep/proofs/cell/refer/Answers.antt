@@ -15,8 +15,8 @@ returns-in-Ok-Some-clause-step g c =
 
 pub returns-in-Ok-Some-clause-tallied : goal.returns-in-Ok-Some-clause-tallied
 returns-in-Ok-Some-clause-tallied g c =
-    tally-tick c.give_back.new.core c.tick.new.self c.fix_page.new.counts c.tick.result
-    (tally-unfix c.fix_page.new.core c.give_back.new.core c.fix_page.new.counts c.in-Ok-Some.pass c.in-Ok-Some.ensures.tallied c.give_back.ensures.entry) c.tick.ensures.outcome
+    tally-tick c.give_back.new.core c.tick.new.self c.fix_page.new.totals c.tick.result
+    (tally-unfix c.fix_page.new.core c.give_back.new.core c.fix_page.new.totals c.in-Ok-Some.pass c.in-Ok-Some.ensures.tallied c.give_back.ensures.entry) c.tick.ensures.outcome
 
 pub returns-in-Ok-None-clause-step : goal.returns-in-Ok-None-clause-step
 returns-in-Ok-None-clause-step g c =
@@ -24,4 +24,4 @@ returns-in-Ok-None-clause-step g c =
     (subst (λ p. FixesPage c.args.core.now c.args.page (Ok p) c.fix_page.new.core) c.in-Ok-None.field-0-is c.in-Ok-None.ensures.outcome) c.tick-in-Ok-None.ensures.outcome
 
 pub returns-in-Ok-None-clause-tallied : goal.returns-in-Ok-None-clause-tallied
-returns-in-Ok-None-clause-tallied g c = tally-tick c.fix_page.new.core c.tick-in-Ok-None.new.self c.fix_page.new.counts c.tick-in-Ok-None.result c.in-Ok-None.ensures.tallied c.tick-in-Ok-None.ensures.outcome
+returns-in-Ok-None-clause-tallied g c = tally-tick c.fix_page.new.core c.tick-in-Ok-None.new.self c.fix_page.new.totals c.tick-in-Ok-None.result c.in-Ok-None.ensures.tallied c.tick-in-Ok-None.ensures.outcome

@@ -26,11 +26,11 @@ loop-plan-preserved g c =
     let items = rw good at c.push.ensures.items in
     let plan = get_or c.args.plans.now c.loop-plan.plan-index no_plan in
     let cell : IsCell c.args.references.now plan c.line_of.result = record {
-      counts = c.in-Ok.counts;
+      totals = c.in-Ok.totals;
       fit = c.in-Ok.ensures.fit;
       counted = c.in-Ok.ensures.counted;
       read = c.in-Ok.ensures.read;
-      line_is = c.line_of.ensures ∙ ap (λ pages. line_of (length pages) plan c.in-Ok.counts) c.pages.ensures.pages;
+      line_is = c.line_of.ensures ∙ ap (λ pages. line_of (length pages) plan c.in-Ok.totals) c.pages.ensures.pages;
     } in
     record {
       cells = rw items (cell-next c.args.references.now c.args.plans.now c.loop-plan.plan-index no_plan c.loop-plan.lines.items c.line_of.result c.loop-plan-test.true c.loop-plan.invariant.cells cell);

@@ -9,5 +9,5 @@ returns-in_default-clause-back g c = nothing_back _
 pub returns-in-Err-clause-back : goal.returns-in-Err-clause-back
 returns-in-Err-clause-back g c = search (rules, nothing_back)
 
-pub returns-in-Ok-clause-back : goal.returns-in-Ok-clause-back
-returns-in-Ok-clause-back g c = first_back _ _ c.held.result.now c.in-Some.note c.held.ensures.held (sym c.first.ensures.value ∙ sym c.copied.ensures ∙ c.in-Some.is) (search rules)
+pub returns-in_default-give_back-clause-back : goal.returns-in_default-give_back-clause-back
+returns-in_default-give_back-clause-back g c = first_back _ _ c.held.result.now c.in-Some.note c.held.ensures.held (sym c.first.ensures.value ∙ sym c.copied.ensures ∙ c.in-Some.is) (search rules)

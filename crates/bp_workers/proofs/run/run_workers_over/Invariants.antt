@@ -3,9 +3,9 @@ use Rattle.bp_workers.proofs.run.run_workers_over.Given as goal
 
 abbrev pub ghosts-run_named : goal.ghosts-run_named
 ghosts-run_named g a = record {
-  mark = a.parts.0;
+  mark = a.parts.mark;
   parameters = a.core.parameters;
   before = a.core.before;
   past = a.core.past;
-  ring = a.ring;
+  ring = a.parts.ring;
 }

@@ -3,9 +3,9 @@ use Rattle.tests_threads.proofs.pieces.run_threads.Given as goal
 
 abbrev pub ghosts-see_over : goal.ghosts-see_over
 ghosts-see_over g a = record {
-  mark = a.made.mark;
+  mark = a.made.parts.mark;
   parameters = a.made.core.parameters;
   before = a.made.core.before;
   past = a.made.core.past;
-  ring = a.made.ring;
+  ring = a.made.parts.ring;
 }

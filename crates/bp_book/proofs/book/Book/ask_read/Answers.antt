@@ -3,4 +3,4 @@ use Rattle.std.proofs.Common.{sym, ◌∙◌}
 use Rattle.bp_book.proofs.book.Book.ask_read.Goals as goal
 
 pub tell_read-requires-clause-size : goal.tell_read-requires-clause-size
-tell_read-requires-clause-size g c = c.in-Ok.ensures.size ∙ sym c.requires.size
+tell_read-requires-clause-size g c = c.in_ok-image.ensures.size ∙ sym c.requires.size

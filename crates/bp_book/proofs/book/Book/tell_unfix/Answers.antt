@@ -9,8 +9,8 @@ invariant_of-self g c =
     let told = c.record.ensures in (
       keeps_unfixed _ _ _ _ _ _ _ _ _ _ _ _ _ c.args.note c.self.invariant.0 (search rules)
           (next_past _ _ _ _ _ told ∙ search rules)
-          (c.strike.ensures.passes ∙ search rules)
-          (next_len _ _ _ _ _ told) (next_capacity _ _ _ _ _ told) c.strike.ensures.room,
+          (c.remove.ensures.passes ∙ search rules)
+          (next_len _ _ _ _ _ told) (next_capacity _ _ _ _ _ told) c.remove.ensures.room,
       c.self.invariant.1,
     )
 

@@ -2,7 +2,7 @@
 use Rattle.std.proofs.Common.{ap, ◌∙◌, reverse}
 use Rattle.bp_trail.specs.Event.{grant, same_grant}
 use Rattle.bp_trail.specs.Legal.{is_out}
-use Rattle.bp_book.proofs.Striking.{held_at, held_nowhere}
+use Rattle.bp_book.proofs.Removing.{held_at, held_nowhere}
 use Rattle.bp_book.proofs.held.Held.has.Goals as goal
 
 pub returns-in-Some : goal.returns-in-Some

@@ -1,46 +1,43 @@
--- Rings drained, at most one mark, one event.
-use Rattle.std.proofs.Common.{arith, rules, refl, sym, inl, inr, ◌∙◌, subst}
+-- At most one mark, one event.
+use Rattle.std.proofs.Common.{rules, refl, sym, inl, inr, ◌∙◌, subst}
 use Rattle.bp_book.specs.declared.pending.Fix.{Fix as Fixing}
 use Rattle.bp_core.specs.CoreView.{CoreView}
-use Rattle.bp_book.proofs.Drains.{lent_rings}
 use Rattle.bp_shared.specs.Telling.{IsShown}
 use Rattle.bp_shared.proofs.Stepping.{step_one, step_two, look_refused, looked, marks_once, not_looked}
-use Rattle.bp_shared.proofs.Telling.{OneMore, same_core, drained_unfixes, adds_one, adds_both, look_one, ask_fix_one, line_written, shown_more, shown_drained}
+use Rattle.bp_shared.proofs.Telling.{OneMore, same_core, adds_one, adds_both, look_one, ask_fix_one, line_written, shown_more}
 use Rattle.bp_shared.proofs.Turning.{fix_not_looked}
 use Rattle.bp_shared.proofs.locked_pool.LockedPool.fix.Goals as goal
 
 pub invariant_of-self : goal.invariant_of-self
 invariant_of-self g c =
-    let nothing = not_looked (Unit {0}) c.args.book.now.client _ c.drain_all.new.core _ _ _ c.in-Err.ensures.outcome in
-    let still = same_core c.drain_all.new.core c.look.new.core _ _ c.look.ensures.alike nothing.1 in
-    (search rules, search rules, subst (λ (core : CoreView). IsShown g.N.PoolName.ring.board g.N.PoolName.past c.self.inside.board core.past) (sym still) (shown_drained _ _ _ _ _ c.self.invariant.2 (drained_unfixes 32 _ _ _ _ _ _ c.drain_all.ensures.drained)))
+    let nothing = not_looked (Unit {0}) c.args.book.now.client _ c.self.inside.core _ _ _ c.in-Err.ensures.outcome in
+    let still = same_core c.self.inside.core c.look.new.core _ _ c.look.ensures.alike nothing.1 in
+    (search rules, search rules, subst (λ (core : CoreView). IsShown g.N.PoolName.ring.board g.N.PoolName.past c.self.inside.board core.past) (sym still) c.self.invariant.2)
 
 pub invariant_of-self-2 : goal.invariant_of-self-2
 invariant_of-self-2 g c =
     let client = c.args.book.now.client in
-    let looked = adds_one client _ _ _ _ c.look.ensures.alike (look_one client _ c.drain_all.new.core _ _ _ c.look.ensures.outcome) in
+    let looked = adds_one client _ _ _ _ c.look.ensures.alike (look_one client _ c.self.inside.core _ _ _ c.look.ensures.outcome) in
     let asked = adds_one client _ _ _ _ c.ask_fix-answer.ensures.alike (subst (λ n. OneMore n c.look.new.self.said c.ask_fix-answer.new.self.said) c.look.ensures.owner.client (ask_fix_one _ _ _ _ _ c.ask_fix-answer.ensures.outcome)) in
-    (search rules, search rules, shown_more _ _ client _ _ _ _ _ _ _ _ _ c.self.invariant.2 c.requires.line (drained_unfixes 32 _ _ _ _ _ _ c.drain_all.ensures.drained) (adds_both client _ _ _ _ _ _ looked asked) c.write.ensures)
+    (search rules, search rules, shown_more _ _ client _ _ _ _ _ _ _ _ c.self.invariant.2 c.requires.line (adds_both client _ _ _ _ _ _ looked asked) c.write.ensures)
 
 pub returns-clause-line : goal.returns-clause-line
 returns-clause-line g c = line_written _ _ _ _ _ _ _ _ _ c.requires.line c.write.ensures (c.ask_fix-answer.ensures.owner.client ∙ c.look.ensures.owner.client)
 
 pub returns-in-Err-clause-turn : goal.returns-in-Err-clause-turn
-returns-in-Err-clause-turn g c = fix_not_looked (Unit {0}) _ _ _ c.drain_all.new.core _ _ _ c.in-Err.ensures.outcome
+returns-in-Err-clause-turn g c = fix_not_looked (Unit {0}) _ _ _ c.self.inside.core _ _ _ c.in-Err.ensures.outcome
 
 pub returns-in-Err-clause-in_step : goal.returns-in-Err-clause-in_step
 returns-in-Err-clause-in_step g c =
-    let rings = lent_rings _ c.self.inside.consumers _ _ _ _ _ _ c.deref_mut.ensures.value (omega arith) c.drain_all.ensures.drained in
     let looks = look_refused (Unit {0}) Fixing c.args.book.now.client _ _ _ _ c.in-Err.ensures.looks in
-    rw (← c.self.view_is) (step_one _ _ _ _ _ _ rings c.drain_all.ensures.parameters c.drain_all.ensures.before (inl (refl, looks)) c.look.ensures.alike)
+    rw (← c.self.view_is) (step_one _ _ _ _ _ refl refl (inl (refl, looks)) c.look.ensures.alike)
 
 pub returns-clause-turn : goal.returns-clause-turn
 returns-clause-turn g c =
-    record { marked = c.look.new.self.said; marks = marks_once _ _ c.drain_all.new.core _ _ _ _ c.in-Ok.is c.look.ensures.outcome; asks = rw (c.look.ensures.owner.client) at c.ask_fix-answer.ensures.outcome }
+    record { marked = c.look.new.self.said; marks = marks_once _ _ c.self.inside.core _ _ _ _ c.in-Ok.is c.look.ensures.outcome; asks = rw (c.look.ensures.owner.client) at c.ask_fix-answer.ensures.outcome }
 
 pub returns-clause-in_step : goal.returns-clause-in_step
 returns-clause-in_step g c =
-    let rings = lent_rings _ c.self.inside.consumers _ _ _ _ _ _ c.deref_mut.ensures.value (omega arith) c.drain_all.ensures.drained in
     let looks = looked _ _ _ _ _ _ c.in-Ok.is c.look.ensures.looks in
     let asked = rw (c.look.ensures.owner.client) at c.ask_fix-answer.ensures.asked in
-    rw (← c.self.view_is) (step_two _ _ _ _ _ _ _ _ rings c.drain_all.ensures.parameters c.drain_all.ensures.before (inr (_, looks, asked)) c.look.ensures.alike c.ask_fix-answer.ensures.alike)
+    rw (← c.self.view_is) (step_two _ _ _ _ _ _ _ refl refl (inr (_, looks, asked)) c.look.ensures.alike c.ask_fix-answer.ensures.alike)

@@ -41,7 +41,7 @@ returns-clause-done g c =
     let len : length c.drain_all.new.consumers ≡ c.self.inside.consumers.len = search rules in
     rw (← c.self.view_is) (rw (← c.taker.view_is) (rw passed.same (record {
       mid = record { core = c.drain_all.new.core; seen = c.self.inside.reader.seen; ends = c.self.inside.ends; rings = map ring_view c.drain_all.new.consumers; strays = c.drain_all.new.strays };
-      settled = record { parameters = drained.parameters; before = drained.before; seen = refl; ends = refl; drained = rw c.deref_mut.ensures.value at drained.drained };
+      drained = record { parameters = drained.parameters; before = drained.before; seen = refl; ends = refl; drained = rw c.deref_mut.ensures.value at drained.drained };
       cuts = c.in-Ok.ensures.done;
       rings_stay = (ap (map ring_view) (with_items_is c.self.inside.consumers c.drain_all.new.consumers len), refl);
       ends_stay = refl;
@@ -69,7 +69,7 @@ returns-in-Err-clause-cause g c =
     let mid = c.drain_all.new.core in
     let core = c.cut_into.new.self in
     let same = drained.parameters ∙ c.self.invariant.0.parameters_are in
-    let had = ap (after_pieces before) c.meet.ensures.all ∙ sym c.self.invariant.1.pieces_are ∙ sym drained.before in
+    let had = ap (after_pieces before) c.join_ends.ensures.all ∙ sym c.self.invariant.1.pieces_are ∙ sym drained.before in
     let why = c.in-Err.ensures.enough (search rules) in
     let full : CutRefused mid refusal.ClockFull core = subst (λ r. IfErr r (λ e. CutRefused mid e core)) why c.in-Err.ensures.refused in
     rw (← c.taker.view_is)

@@ -1,0 +1,42 @@
+//! What a pool is made of besides its core.
+ghost use Rattle.std.specs.Prelude.{◌≡◌};
+
+use crate::trail_ring::TrailRing;
+use bp_mark::{LogEnd, Mark, Reader};
+use bp_page::Refusal;
+use std::alloc::Global;
+
+/// A mark with its log end and its first reader, and the ring by which the trail goes to its taker.
+#[derive(Drop)]
+pub struct Parts {
+    pub mark: Mark,
+    pub end: LogEnd,
+    pub reader: Reader,
+    pub ring: TrailRing,
+    pub ghost end_is: { end.mark ≡ mark },
+    pub ghost reader_is: { reader.mark ≡ mark },
+}
+
+impl Parts {
+    ghost use Rattle.std.specs.Prelude.{◌≡◌, IfOk, OnErr};
+    ghost use Rattle.bp_page.specs.declared.refusals.Refusal.TheVariants as Refusal;
+
+    /// A mark at 0, of which the reader has seen nothing, and a ring that no piece went through. Where there is no
+    /// memory this is `OutOfMemory`, and nothing is made.
+    pub fn new(alloc: Global) -> Result<Parts, Refusal>
+        ensures log_end { IfOk result (λ parts.
+            parts.end ≡ record { mark = parts.mark; frontier = 0 }) }
+        ensures reader { IfOk result (λ parts.
+            parts.reader ≡ record { mark = parts.mark; seen = 0 }) }
+        ensures refused { OnErr result (result ≡ Err Refusal.OutOfMemory) }
+    {
+        let (mark, end, reader) = Mark::new(alloc)?;
+        let ring = TrailRing::new(alloc)?;
+        Ok(Parts {
+            mark,
+            end,
+            reader,
+            ring,
+        })
+    }
+}
