@@ -4,6 +4,7 @@
 #![tactic(auto)]
 
 pub mod answers;
+mod clients;
 pub mod kinds;
 mod making;
 pub mod playing;
@@ -11,7 +12,6 @@ pub mod ran;
 mod rows;
 pub mod runs;
 mod scripts;
-mod seats;
 mod tables;
 
 pub use answers::Answers;

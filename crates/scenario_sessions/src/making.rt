@@ -3,35 +3,41 @@ ghost use Rattle.std.specs.Prelude.{◌≡◌, [], IfOk};
 ghost use Rattle.bp_trail.specs.Parameters.{Parameters};
 ghost use Rattle.bp_page.specs.declared.limits.Geometry.{Geometry as AGeometry};
 
+use crate::clients::Note;
 use crate::kinds::Kind;
-use crate::seats::Seat;
 use bp_core::PoolCore;
 use bp_device::{FusePort, MemDevice, MemPort, Port};
 use bp_lruk::Settings;
-use bp_mark::{LogEnd, Mark, Reader};
 use bp_page::{Geometry, Refusal};
-use bp_shared::{PoolName, Session, TrailRing};
+use bp_shared::Parts;
 use scenario_cores::{Device, Lists, new_device, new_lists};
 use scenario_words::Shape;
 use std::alloc::Global;
 
-/// What a pool is made of, with its device of zeros and lists of nothing.
+/// A port of which one call may fail.
+pub(crate) type Fused = FusePort<MemPort>;
+
+/// What a pool is made of, with its device of zeros and lists of nothing. All that its clients need is here too, so
+/// that nothing can fail once the pool is there.
 pub(crate) struct Made<K: Kind> {
     pub(crate) core: PoolCore<K>,
-    pub(crate) mark: Mark,
-    pub(crate) end: LogEnd,
-    pub(crate) reader: Reader,
-    pub(crate) ring: TrailRing,
+    pub(crate) parts: Parts,
     pub(crate) device: Device,
+    /// The port of client 0, which may fail once.
+    pub(crate) first: Fused,
+    /// The port of the other clients, which fails only where memory is refused.
+    pub(crate) others: Fused,
+    /// A note for each client.
+    pub(crate) notes: Vec<Note>,
     pub(crate) lists: Lists,
-    pub(crate) ghost end_is: { end.mark ≡ mark },
-    pub(crate) ghost reader_is: { reader.mark ≡ mark },
     pub(crate) ghost empty: { core.past ≡ [] },
-    pub(crate) ghost pages_are: { device.memory.pages ≡ core.parameters.pages },
-    pub(crate) ghost size_is: { device.memory.size ≡ core.parameters.size },
+    pub(crate) ghost first_pages: { first.inner.device.pages ≡ core.parameters.pages },
+    pub(crate) ghost first_size: { first.inner.device.size ≡ core.parameters.size },
+    pub(crate) ghost others_pages: { others.inner.device.pages ≡ core.parameters.pages },
+    pub(crate) ghost others_size: { others.inner.device.size ≡ core.parameters.size },
 }
 
-/// The parts of a pool of this shape.
+/// The parts of a pool of this shape. The core comes last, so that what fails has no core to let go.
 pub(crate) fn make<K: Kind>(alloc: Global, shape: &Shape) -> Result<Made<K>, Refusal> {
     let geometry = Geometry::new(shape.pages, shape.size)?;
     let settings = Settings::new(shape.k, shape.correlated, shape.retained)?;
@@ -39,21 +45,32 @@ pub(crate) fn make<K: Kind>(alloc: Global, shape: &Shape) -> Result<Made<K>, Ref
     let Some(lists) = new_lists(alloc) else {
         return Err(Refusal::OutOfMemory);
     };
+    let notes = new_notes(alloc, clients)?;
     let device = new_device(alloc, geometry, 0, false)?;
-    let ring = TrailRing::new(alloc)?;
-    let (mark, end, reader) = Mark::new(alloc)?;
-    match PoolCore::<K>::new(alloc, geometry, settings, frames, clients, room) {
-        Ok(core) => Ok(Made {
-            core,
-            mark,
-            end,
-            reader,
-            ring,
-            device,
-            lists,
-        }),
-        Err(refusal) => Err(refusal),
+    let first = new_port(alloc, &device.memory, shape.fuse, shape.spoils)?;
+    let others = new_port(alloc, &device.memory, 0, false)?;
+    let parts = Parts::new(alloc)?;
+    let core = PoolCore::<K>::new(alloc, geometry, settings, frames, clients, room)?;
+    Ok(Made {
+        core,
+        parts,
+        device,
+        first,
+        others,
+        notes,
+        lists,
+    })
+}
+
+/// A note for each of so many clients.
+fn new_notes(alloc: Global, clients: u8) -> Result<Vec<Note>, Refusal> {
+    let mut notes = Vec::new(alloc);
+    for _ in 0..clients {
+        let Ok(()) = notes.push(Note::new(alloc)) else {
+            return Err(Refusal::OutOfMemory);
+        };
     }
+    Ok(notes)
 }
 
 /// A port to the device whose n-th call fails, or none where n is 0. A write that fails may spoil its page.
@@ -62,41 +79,11 @@ pub(crate) fn new_port(
     device: &MemDevice,
     n: u64,
     spoils: bool,
-) -> Result<FusePort<MemPort>, Refusal>
+) -> Result<Fused, Refusal>
     ensures { IfOk result (λ port. port.inner.device ≡ device.now) }
 {
     match device.port() {
         Ok(port) => FusePort::new(alloc, port, n, spoils),
         Err(refusal) => Err(refusal),
     }
-}
-
-/// A client for each session, with a port of its own. That of client 0 may fail once.
-pub(crate) fn new_seats<N: PoolName, K: Kind>(
-    alloc: Global,
-    device: &MemDevice,
-    sessions: Vec<Session<N, K>>,
-    shape: &Shape,
-) -> Result<Vec<Seat<N, FusePort<MemPort>, K>>, Refusal>
-    requires pages { device.now.pages ≡ N.parameters.pages }
-    requires size { device.now.size ≡ N.parameters.size }
-{
-    let mut seats = Vec::new(alloc);
-    for session in sessions {
-        let n = if session.client() == 0 { shape.fuse } else { 0 };
-        let port = match new_port(alloc, device, n, shape.spoils) {
-            Ok(port) => port,
-            Err(refusal) => return Err(refusal),
-        };
-        let seat = Seat {
-            session,
-            port,
-            cut: Vec::new(alloc),
-            unread: 0,
-        };
-        let Ok(()) = seats.push(seat) else {
-            return Err(Refusal::OutOfMemory);
-        };
-    }
-    Ok(seats)
 }

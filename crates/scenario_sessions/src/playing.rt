@@ -30,13 +30,13 @@ fn play_over<N: PoolName, K: Kind, R: Wait>(
     made: Made<K>,
     answers: &mut Answers,
 ) -> Result<Pool<K>, Refusal>
-    requires mark { made.mark ≡ N.mark }
+    requires mark { made.parts.mark ≡ N.mark }
     requires parameters { made.core.parameters ≡ N.parameters }
     requires before { made.core.before ≡ N.before }
     requires past { made.core.past ≡ N.past }
-    requires ring { made.ring ≡ N.ring }
+    requires ring { made.parts.ring ≡ N.ring }
 {
-    let mut table = match open::<N, K>(play.alloc, play.way, play.shape, made) {
+    let mut table = match open::<N, K>(play.alloc, play.way, made) {
         Ok(table) => table,
         Err(refusal) => return Err(refusal),
     };

@@ -2,76 +2,83 @@
 ghost use Rattle.std.specs.Prelude.{◌≡◌};
 
 use crate::answers::Answers;
+use crate::clients::{Note, Told, call, is_part, tell, told_of};
 use crate::kinds::Kind;
-use crate::making::{Made, new_seats};
-use crate::seats::{Seat, Told};
+use crate::making::{Fused, Made};
 use bp_core::Entry;
-use bp_device::{FusePort, MemPort};
+use bp_device::Port;
 use bp_mark::LogEnd;
 use bp_page::{Lsn, Refusal};
-use bp_shared::{PoolName, SharedPool, Taker};
+use bp_shared::{Parts, PoolName, Session, SharedPool, Taker};
 use bp_trail::Reply;
 use scenario_cores::{Device, Lists, Pool, done, pool_of};
-use scenario_words::{Answer, Said, Shape, Verb, Way, session_call_of};
+use scenario_words::{Answer, Said, Verb, Way, session_call_of};
 use std::alloc::Global;
 use std::sync::Wait;
 
-/// The port of a client, of which one call may fail.
-type Fused = FusePort<MemPort>;
-
 /// A pool that is open, with its clients, and what it gave.
-#[derive(Drop)]
 pub(crate) struct Table<N: PoolName, K: Kind> {
     alloc: Global,
     way: Way,
     pool: SharedPool<N, K>,
     taker: Taker<N>,
     end: LogEnd,
-    seats: Vec<Seat<N, Fused, K>>,
+    sessions: Vec<Session<N, K>>,
+    /// The port of client 0, which may fail once.
+    first: Fused,
+    /// The port of the other clients.
+    others: Fused,
+    notes: Vec<Note>,
     device: Device,
     lists: Lists,
     ghost end_is: { end.mark ≡ N.mark },
+    ghost first_pages: { first.inner.device.pages ≡ N.parameters.pages },
+    ghost first_size: { first.inner.device.size ≡ N.parameters.size },
+    ghost others_pages: { others.inner.device.pages ≡ N.parameters.pages },
+    ghost others_size: { others.inner.device.size ≡ N.parameters.size },
 }
 
 /// A pool over what was made.
 pub(crate) fn open<N: PoolName, K: Kind>(
     alloc: Global,
     way: Way,
-    shape: &Shape,
     made: Made<K>,
 ) -> Result<Table<N, K>, Refusal>
-    requires mark { made.mark ≡ N.mark }
+    requires mark { made.parts.mark ≡ N.mark }
     requires parameters { made.core.parameters ≡ N.parameters }
     requires before { made.core.before ≡ N.before }
     requires past { made.core.past ≡ N.past }
-    requires ring { made.ring ≡ N.ring }
+    requires ring { made.parts.ring ≡ N.ring }
 {
     let Made {
         core,
+        parts,
+        device,
+        first,
+        others,
+        notes,
+        lists,
+    } = made;
+    let Parts {
         mark,
         end,
         reader,
         ring,
+    } = parts;
+    let (pool, sessions, taker) = SharedPool::<N, K>::new(alloc, core, mark, reader, ring)?;
+    Ok(Table {
+        alloc,
+        way,
+        pool,
+        taker,
+        end,
+        sessions,
+        first,
+        others,
+        notes,
         device,
         lists,
-    } = made;
-    let (pool, sessions, taker) = match SharedPool::<N, K>::new(alloc, core, mark, reader, ring) {
-        Ok(made) => made,
-        Err(refusal) => return Err(refusal),
-    };
-    match new_seats(alloc, &device.memory, sessions, shape) {
-        Ok(seats) => Ok(Table {
-            alloc,
-            way,
-            pool,
-            taker,
-            end,
-            seats,
-            device,
-            lists,
-        }),
-        Err(refusal) => Err(refusal),
-    }
+    })
 }
 
 /// What a call lacked.
@@ -138,20 +145,59 @@ impl<N: PoolName, K: Kind> Table<N, K> {
         K::cut_trail(rt, &self.pool, &mut self.taker, &mut self.lists)
     }
 
-    fn obey<R: Wait>(&mut self, rt: &R, call: &Said) -> Answer {
-        let [client, _, _] = call.numbers.list;
-        match (call.verb, self.seats.get_mut(client as usize)) {
-            (Verb::Raise, _) => self.raise(client),
-            (Verb::Cut, _) => self.cut(rt),
-            (Verb::Put | Verb::Device, _) => self.device.call(rt, call),
-            (_, Some(seat)) => seat.call(rt, &self.pool, &mut self.lists, call),
-            _ => Answer::BadLine,
+    /// How often a client's port failed.
+    fn failures(&self, client: u64) -> u64 {
+        if client == 0 {
+            self.first.failures()
+        } else {
+            self.others.failures()
+        }
+    }
+
+    /// Does what a line asks of a client.
+    fn ask_client<R: Wait>(&mut self, rt: &R, line: &Said) -> Answer {
+        let [client, _, _] = line.numbers.list;
+        let failures = self.failures(client);
+        let at = client as usize;
+        let (Some(session), Some(note)) = (self.sessions.get_mut(at), self.notes.get_mut(at)) else {
+            return Answer::BadLine;
+        };
+        if let Some(answer) = tell(session, note, failures, line.verb) {
+            return answer;
+        }
+        if client == 0 {
+            call(
+                rt,
+                &self.pool,
+                session,
+                &mut self.first,
+                &mut self.lists,
+                line,
+            )
+        } else {
+            call(
+                rt,
+                &self.pool,
+                session,
+                &mut self.others,
+                &mut self.lists,
+                line,
+            )
+        }
+    }
+
+    fn obey<R: Wait>(&mut self, rt: &R, line: &Said) -> Answer {
+        match line.verb {
+            Verb::Raise => self.raise(line.numbers.list[0]),
+            Verb::Cut => self.cut(rt),
+            Verb::Put | Verb::Device => self.device.call(rt, line),
+            _ => self.ask_client(rt, line),
         }
     }
 
     fn told(&self, client: u64) -> Told {
-        match self.seats.get(client as usize) {
-            Some(seat) => seat.told(),
+        match self.sessions.get(client as usize) {
+            Some(session) => told_of(session, self.failures(client)),
             None => Told {
                 held: 0,
                 entries: 0,
@@ -162,8 +208,8 @@ impl<N: PoolName, K: Kind> Table<N, K> {
     }
 
     fn count_unread(&mut self, client: u64) {
-        if let Some(seat) = self.seats.get_mut(client as usize) {
-            seat.unread = seat.unread.saturating_add(1);
+        if let Some(note) = self.notes.get_mut(client as usize) {
+            note.unread = note.unread.saturating_add(1);
         }
     }
 
@@ -189,8 +235,8 @@ impl<N: PoolName, K: Kind> Table<N, K> {
     /// what else a cut answered.
     fn cut_all<R: Wait>(&mut self, rt: &R, answers: &mut Answers) -> Option<Answer> {
         let mut wrong = fault_of(self.cut(rt), answers);
-        for seat in self.seats.iter_mut() {
-            let fault = fault_of(seat.cut(), answers);
+        for (session, note) in self.sessions.iter_mut().zip(self.notes.iter_mut()) {
+            let fault = fault_of(K::cut_list(session, &mut note.cut), answers);
             wrong = wrong.or(fault);
         }
         wrong
@@ -228,35 +274,39 @@ impl<N: PoolName, K: Kind> Table<N, K> {
             pool,
             taker,
             end: _,
-            mut seats,
+            mut sessions,
+            first: _,
+            others: _,
+            mut notes,
             device,
             lists,
         } = self;
         let (core, _, _) = pool.finish(taker);
-        let (agree, unread) = compare(&mut seats, &lists, K::trail(&core));
-        answers.add(Some(agree));
+        let rest = K::trail(&core);
+        let (mut agree, mut unread) = (true, 0u64);
+        for (session, note) in sessions.iter_mut().zip(notes.iter_mut()) {
+            agree = is_told(session, note, &lists.entries, rest) && agree;
+            unread = unread.saturating_add(note.unread);
+        }
+        answers.add(Some(if agree {
+            Answer::Reply(Reply::Done)
+        } else {
+            Answer::Word("a list is not its client's part of the trail")
+        }));
         pool_of(alloc, core, device, lists, unread)
     }
 }
 
-/// Whether each client's list is its part of the trail, which was cut but for the rest, and how many reads are not
-/// counted.
-fn compare<N: PoolName, K: Kind>(
-    seats: &mut [Seat<N, Fused, K>],
-    lists: &Lists,
+/// Whether a client's list, which is cut to its end, is its part of a trail of two pieces. A cut that is refused memory
+/// is made once more.
+fn is_told<N: PoolName, K: Kind>(
+    session: &mut Session<N, K>,
+    note: &mut Note,
+    first: &[Entry],
     rest: &[Entry],
-) -> (Answer, u64) {
-    let (mut agree, mut unread) = (true, 0u64);
-    for seat in seats {
-        agree = seat.agrees(&lists.entries, rest) && agree;
-        unread = unread.saturating_add(seat.unread);
+) -> bool {
+    if let Answer::Refused(_) = K::cut_list(session, &mut note.cut) {
+        K::cut_list(session, &mut note.cut);
     }
-    if agree {
-        (Answer::Reply(Reply::Done), unread)
-    } else {
-        (
-            Answer::Word("a list is not its client's part of the trail"),
-            unread,
-        )
-    }
+    is_part(first, rest, &note.cut, session.client())
 }

@@ -38,6 +38,18 @@ pub struct Sheet {
     failed: u64,
 }
 
+/// The ways in which a scenario is played.
+const WAYS: [Way; 3] = [Way::Whole, Way::Pieces, Way::Counted];
+
+/// What is said of a line that answers otherwise in one of the ways.
+fn said_of(way: Way) -> &'static str {
+    match way {
+        Way::Whole => "",
+        Way::Pieces => ", cut after each call",
+        Way::Counted => ", counted",
+    }
+}
+
 /// What a line says before a comment.
 fn said(line: &str) -> &str {
     match line.split_once('#') {
@@ -83,6 +95,14 @@ impl Sheet {
             line: 0,
             passed: 0,
             failed: 0,
+        }
+    }
+
+    fn world(&mut self, way: Way) -> &mut World {
+        match way {
+            Way::Whole => &mut self.whole,
+            Way::Pieces => &mut self.pieces,
+            Way::Counted => &mut self.counted,
         }
     }
 
@@ -138,13 +158,11 @@ impl Sheet {
         call: &str,
         wanted: &str,
     ) -> io::Result<()> {
-        let line = self.line;
-        let answer = self.whole.take(rt, call);
-        self.compare(rt, line, "", wanted, &answer)?;
-        let answer = self.pieces.take(rt, call);
-        self.compare(rt, line, ", cut after each call", wanted, &answer)?;
-        let answer = self.counted.take(rt, call);
-        self.compare(rt, line, ", counted", wanted, &answer)
+        for way in WAYS {
+            let answer = self.world(way).take(rt, call);
+            self.compare(rt, self.line, way, wanted, &answer)?;
+        }
+        Ok(())
     }
 
     fn keep(&mut self, call: &str, wanted: &str) -> io::Result<()> {
@@ -165,12 +183,11 @@ impl Sheet {
         let Some((first, lines)) = lines.split_first() else {
             return Ok(());
         };
-        let answers = self.whole.play(rt, first.as_str(), lines);
-        self.compare_all(rt, "", &wanted, &answers)?;
-        let answers = self.pieces.play(rt, first.as_str(), lines);
-        self.compare_all(rt, ", cut after each call", &wanted, &answers)?;
-        let answers = self.counted.play(rt, first.as_str(), lines);
-        self.compare_all(rt, ", counted", &wanted, &answers)
+        for way in WAYS {
+            let answers = self.world(way).play(rt, first.as_str(), lines);
+            self.compare_all(rt, way, &wanted, &answers)?;
+        }
+        Ok(())
     }
 
     /// Plays the lines that were kept of a pool that no line ended.
@@ -186,7 +203,7 @@ impl Sheet {
     fn compare_all(
         &mut self,
         rt: &impl Print,
-        way: &str,
+        way: Way,
         wanted: &[Wanted],
         answers: &Option<Answers>,
     ) -> io::Result<()> {
@@ -207,7 +224,7 @@ impl Sheet {
         &mut self,
         rt: &impl Print,
         line: u64,
-        way: &str,
+        way: Way,
         wanted: &str,
         answer: &Option<Answer>,
     ) -> io::Result<()> {
@@ -225,12 +242,12 @@ impl Sheet {
         &mut self,
         rt: &impl Print,
         line: u64,
-        way: &str,
+        way: Way,
         wanted: &str,
         got: &str,
     ) -> io::Result<()> {
         self.holds = false;
-        let name = self.name.as_str();
+        let (name, way) = (self.name.as_str(), said_of(way));
         println!(rt; "{name} line {line}{way}: wanted {wanted}, got {got}")
     }
 
@@ -247,9 +264,9 @@ impl Sheet {
         self.whole.gather();
         self.pieces.gather();
         let verdict = judge(self.alloc, &self.whole, &self.pieces, &self.counted);
-        self.whole.clear();
-        self.pieces.clear();
-        self.counted.clear();
+        for way in WAYS {
+            self.world(way).clear();
+        }
         verdict
     }
 

@@ -1,0 +1,254 @@
+//! One client of a pool, and what it calls.
+ghost use Rattle.std.specs.Prelude.{◌≡◌};
+
+use crate::kinds::Kind;
+use crate::making::Fused;
+use bp_audit::agrees;
+use bp_core::{Call, Entry, Reply};
+use bp_device::{Flushed, Port};
+use bp_page::Lsn;
+use bp_shared::{PoolName, Session, SharedPool};
+use bp_trail::Grant;
+use scenario_cores::{Lists, done, grant_of, pass_of};
+use scenario_words::{Answer, Said, Verb, named};
+use std::alloc::Global;
+use std::sync::Wait;
+
+/// What is kept of a client beside its session.
+#[derive(Drop)]
+pub(crate) struct Note {
+    /// What was cut of the session's list.
+    pub(crate) cut: Vec<Entry>,
+    /// How many of its reads failed for want of memory alone.
+    pub(crate) unread: u64,
+}
+
+impl Note {
+    pub(crate) fn new(alloc: Global) -> Note {
+        Note {
+            cut: Vec::new(alloc),
+            unread: 0,
+        }
+    }
+}
+
+/// What is told of a client without a call.
+#[derive(Clone, Copy)]
+pub(crate) struct Told {
+    pub(crate) held: usize,
+    pub(crate) entries: usize,
+    /// The tickets that the list gave and did not end.
+    pub(crate) out: u64,
+    pub(crate) failures: u64,
+}
+
+/// How many tickets these entries gave, without those that went back.
+fn tickets_out(entries: &[Entry]) -> u64 {
+    let mut out = 0u64;
+    for entry in entries {
+        if matches!(entry.reply, Reply::Load { .. } | Reply::WriteFirst { .. }) {
+            out = out.saturating_add(1);
+        }
+        if matches!(entry.call, Call::ReadEnd { .. } | Call::WriteEnd { .. }) {
+            out = out.saturating_sub(1);
+        }
+    }
+    out
+}
+
+/// What is told of a client with this session, whose port failed so often.
+pub(crate) fn told_of<N: PoolName, K: Kind>(session: &Session<N, K>, failures: u64) -> Told {
+    let list = K::list(session);
+    Told {
+        held: session.held().len(),
+        entries: list.len(),
+        out: tickets_out(list),
+        failures,
+    }
+}
+
+/// How many of these entries are a client's.
+fn count_of(entries: &[Entry], client: u8) -> usize {
+    let mut count = 0usize;
+    for entry in entries {
+        if entry.client == client {
+            count = count.saturating_add(1);
+        }
+    }
+    count
+}
+
+/// Whether a list is a client's part of a trail of two pieces.
+pub(crate) fn is_part(first: &[Entry], rest: &[Entry], list: &[Entry], client: u8) -> bool {
+    let count = count_of(first, client);
+    count <= list.len()
+        && agrees(first, &list[..count], client)
+        && agrees(rest, &list[count..], client)
+}
+
+/// Tells what a line asks of a client without a call of its pool, and cuts its list. None where the line is a call. The
+/// two entries of a read that is not counted are none of its list here.
+pub(crate) fn tell<N: PoolName, K: Kind>(
+    session: &mut Session<N, K>,
+    note: &mut Note,
+    failures: u64,
+    verb: Verb,
+) -> Option<Answer> {
+    let entries = K::list(session).len() as u64;
+    match verb {
+        Verb::List => Some(Answer::Number(entries.saturating_sub(note.unread.saturating_mul(2)))),
+        Verb::Held => Some(Answer::Number(session.held().len() as u64)),
+        Verb::CutList => Some(K::cut_list(session, &mut note.cut)),
+        Verb::Failures => Some(Answer::Number(failures)),
+        _ => None,
+    }
+}
+
+fn fix<N: PoolName, K: Kind, R: Wait>(
+    rt: &R,
+    pool: &SharedPool<N, K>,
+    session: &mut Session<N, K>,
+    port: &mut Fused,
+    lists: &mut Lists,
+    number: u64,
+) -> Answer
+    requires pages { port.old.inner.device.pages ≡ N.parameters.pages }
+    requires size { port.old.inner.device.size ≡ N.parameters.size }
+    ensures port { port.new.inner.device ≡ port.old.inner.device }
+{
+    let Some(page) = port.geometry().page(number) else {
+        return Answer::BadLine;
+    };
+    match pool.fix(rt, session, port, page) {
+        Ok(pass) => lists.give(pass),
+        Err(refusal) => Answer::Refused(refusal),
+    }
+}
+
+fn flush<N: PoolName, K: Kind, R: Wait>(
+    rt: &R,
+    pool: &SharedPool<N, K>,
+    session: &mut Session<N, K>,
+    port: &mut Fused,
+    number: u64,
+) -> Answer
+    requires pages { port.old.inner.device.pages ≡ N.parameters.pages }
+    requires size { port.old.inner.device.size ≡ N.parameters.size }
+    ensures port { port.new.inner.device ≡ port.old.inner.device }
+{
+    let Some(page) = port.geometry().page(number) else {
+        return Answer::BadLine;
+    };
+    match pool.flush(rt, session, port, page) {
+        Ok(Flushed::Clean) => Answer::Reply(Reply::Clean),
+        Ok(Flushed::Absent) => Answer::Reply(Reply::Absent),
+        Ok(Flushed::Cleaned) => Answer::Reply(Reply::Cleaned),
+        Ok(Flushed::StillDirty) => Answer::Reply(Reply::StillDirty),
+        Err(refusal) => Answer::Refused(refusal),
+    }
+}
+
+fn read<N: PoolName, K: Kind, R: Wait>(
+    rt: &R,
+    pool: &SharedPool<N, K>,
+    session: &mut Session<N, K>,
+    grant: Grant,
+) -> Answer {
+    let pass = pass_of(grant);
+    let read = pool.read(rt, session, &pass);
+    pass.note();
+    match read {
+        Ok(image) => Answer::Reply(Reply::Content(image)),
+        Err(refusal) => Answer::Refused(refusal),
+    }
+}
+
+/// Writes the bytes of a line, if they fit the pages of the client's port.
+fn write<N: PoolName, K: Kind, R: Wait>(
+    rt: &R,
+    pool: &SharedPool<N, K>,
+    session: &mut Session<N, K>,
+    port: &Fused,
+    grant: Grant,
+    call: &Said,
+) -> Answer
+    requires size { port.now.inner.device.size ≡ N.parameters.size }
+{
+    let [_, offset, lsn] = call.numbers.list;
+    let Some(bytes) = &call.bytes else {
+        return Answer::BadLine;
+    };
+    let fits = port.geometry().fits(offset as usize, bytes.bytes().len());
+    match u32::try_from(offset) {
+        Ok(offset) if fits => {
+            let pass = pass_of(grant);
+            let written = pool.write(rt, session, &pass, offset, bytes, Lsn::new(lsn));
+            pass.note();
+            done(written)
+        }
+        _ => Answer::BadLine,
+    }
+}
+
+fn unfix<N: PoolName, K: Kind>(
+    pool: &SharedPool<N, K>,
+    session: &mut Session<N, K>,
+    grant: Grant,
+) -> Answer {
+    match pool.unfix(session, pass_of(grant)) {
+        Ok(()) => done(Ok(())),
+        Err((pass, refusal)) => Answer::Back(refusal, grant_of(pass), None),
+    }
+}
+
+/// A call with a pass.
+fn by_pass<N: PoolName, K: Kind, R: Wait>(
+    rt: &R,
+    pool: &SharedPool<N, K>,
+    session: &mut Session<N, K>,
+    port: &Fused,
+    lists: &Lists,
+    call: &Said,
+) -> Answer
+    requires size { port.now.inner.device.size ≡ N.parameters.size }
+{
+    let Some(pass) = named(&lists.passes, &call.name) else {
+        return Answer::BadLine;
+    };
+    match call.verb {
+        Verb::Read => read(rt, pool, session, pass),
+        Verb::Unfix => unfix(pool, session, pass),
+        Verb::Write => write(rt, pool, session, port, pass, call),
+        _ => Answer::BadLine,
+    }
+}
+
+/// Makes a call by a client. A pass that it gives is added to those that were given.
+pub(crate) fn call<N: PoolName, K: Kind, R: Wait>(
+    rt: &R,
+    pool: &SharedPool<N, K>,
+    session: &mut Session<N, K>,
+    port: &mut Fused,
+    lists: &mut Lists,
+    call: &Said,
+) -> Answer
+    requires pages { port.old.inner.device.pages ≡ N.parameters.pages }
+    requires size { port.old.inner.device.size ≡ N.parameters.size }
+    ensures port { port.new.inner.device ≡ port.old.inner.device }
+{
+    let [_, second, _] = call.numbers.list;
+    match call.verb {
+        Verb::Fix => fix(rt, pool, session, port, lists, second),
+        Verb::Flush => flush(rt, pool, session, port, second),
+        Verb::Tick => done(pool.tick(rt, session, second)),
+        Verb::Purge => match pool.purge(rt, session) {
+            Ok(count) => Answer::Reply(Reply::Forgot(count)),
+            Err(refusal) => Answer::Refused(refusal),
+        },
+        Verb::Settle => {
+            pool.settle(rt);
+            done(Ok(()))
+        }
+        _ => by_pass(rt, pool, session, port, lists, call),
+    }
+}
