@@ -67,9 +67,7 @@ fn new_bench(alloc: Global, frames: u64) -> Result<Bench, Refusal>
     let geometry = Geometry::new(pages, SIZE)?;
     let settings = Settings::new(2, 0, 1)?;
     let room = 16 * frames as usize;
-    let Ok(bytes) = Bytes::of(alloc, b"sixteen bytes ..".as_slice()) else {
-        return Err(Refusal::OutOfMemory);
-    };
+    let bytes = Bytes::of(alloc, b"sixteen bytes ..".as_slice())?;
     Ok(Bench {
         alloc,
         core: Core::new(alloc, geometry, settings, frames as usize, 1, room)?,

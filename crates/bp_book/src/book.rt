@@ -162,21 +162,15 @@ impl<K: ListKeeper> Book<K> {
         let Some(passes) = self.tickets.checked_add(1) else {
             return Err(Refusal::OutOfMemory);
         };
-        let Ok(()) = self.said.reserve(entries) else {
-            return Err(Refusal::OutOfMemory);
-        };
-        let Ok(()) = self.held.reserve(passes) else {
-            return Err(Refusal::OutOfMemory);
-        };
+        self.said.reserve(entries)?;
+        self.held.reserve(passes)?;
         let spare = self.blanks.len() - self.tickets;
-        let Ok(()) = make_blanks::<K>(
+        make_blanks::<K>(
             self.alloc,
             &self.geometry,
             &mut self.blanks,
             2usize.saturating_sub(spare),
-        ) else {
-            return Err(Refusal::OutOfMemory);
-        };
+        )?;
         Ok(())
     }
 

@@ -35,10 +35,8 @@ fn append(all: &mut Vec<Refused>, more: &[Refused]) -> Result<(), Refusal>
     ensures items { OnOk result (all.new.items ≡ all.old.items ++ more.now) }
     ensures refused { OnErr result (result ≡ Err Refusal.OutOfMemory) }
 {
-    match all.extend_from_slice(more) {
-        Ok(()) => Ok(()),
-        Err(_) => Err(Refusal::OutOfMemory),
-    }
+    all.extend_from_slice(more)?;
+    Ok(())
 }
 
 /// Adds what one job left.

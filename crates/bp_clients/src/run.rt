@@ -77,9 +77,7 @@ fn make_jobs<N: PoolName, P: Port>(
             unreachable!()
         };
         let runner = Runner::new(session, port, log.take());
-        let Ok(job) = Job::new(alloc, runner, script) else {
-            return Err(Refusal::OutOfMemory);
-        };
+        let job = Job::new(alloc, runner, script)?;
         let Ok(()) = jobs.push(job) else {
             return Err(Refusal::OutOfMemory);
         };
@@ -142,13 +140,9 @@ fn empty_lists(
     ensures empty { IfOk result (λ made. (made.0.items ≡ []) × (made.1.items ≡ [])) }
     ensures refused { OnErr result (result ≡ Err Refusal.OutOfMemory) }
 {
-    let Ok(said) = Vec::with_capacity(alloc, scripts) else {
-        return Err(Refusal::OutOfMemory);
-    };
-    match Vec::with_capacity(alloc, rows) {
-        Ok(refused) => Ok((said, refused)),
-        Err(_) => Err(Refusal::OutOfMemory),
-    }
+    let said = Vec::with_capacity(alloc, scripts)?;
+    let refused = Vec::with_capacity(alloc, rows)?;
+    Ok((said, refused))
 }
 
 /// Runs the jobs, each in a thread of its own, ends the pool, and joins what they left. The memory

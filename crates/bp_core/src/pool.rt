@@ -62,12 +62,8 @@ impl<K: Keeper> PoolCore<K> {
             })) result }
     {
         let config = CoreConfig::new(geometry, settings, frames, clients, room, K::MOST_ROOM)?;
-        let Ok(trail) = K::with_capacity(alloc, room) else {
-            return Err(Refusal::OutOfMemory);
-        };
-        let Ok(state) = State::new(alloc, &config) else {
-            return Err(Refusal::OutOfMemory);
-        };
+        let trail = K::with_capacity(alloc, room)?;
+        let state = State::new(alloc, &config)?;
         Ok(PoolCore {
             alloc,
             config,

@@ -52,12 +52,8 @@ impl Candidates {
         ensures empty { IfOk result (λ c. c.entries ≡ []) }
         ensures err { OnErr result (result ≡ Err Refusal.OutOfMemory) }
     {
-        let Ok(order) = Vec::with_capacity(alloc, frames) else {
-            return Err(Refusal::OutOfMemory);
-        };
-        let Ok(pages) = PageIndex::new(alloc, frames) else {
-            return Err(Refusal::OutOfMemory);
-        };
+        let order = Vec::with_capacity(alloc, frames)?;
+        let pages = PageIndex::new(alloc, frames)?;
         Ok(Candidates {
             frames,
             correlated: settings.correlated,

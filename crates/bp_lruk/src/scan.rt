@@ -45,14 +45,12 @@ impl Candidates {
         ensures empty { IfOk result (λ c. c.entries ≡ []) }
         ensures err { OnErr result (result ≡ Err Refusal.OutOfMemory) }
     {
-        match Vec::with_capacity(alloc, frames) {
-            Ok(entries) => Ok(Candidates {
-                frames,
-                correlated: settings.correlated,
-                entries,
-            }),
-            Err(_) => Err(Refusal::OutOfMemory),
-        }
+        let entries = Vec::with_capacity(alloc, frames)?;
+        Ok(Candidates {
+            frames,
+            correlated: settings.correlated,
+            entries,
+        })
     }
 
     /// Whether the page is entered.

@@ -52,9 +52,7 @@ impl Mark {
         ensures reader { IfOk result (λ made. made.2 ≡ record { mark = made.0; seen = 0 }) }
         ensures refused { OnErr result (result ≡ Err Refusal.OutOfMemory) }
     {
-        let Ok((table, mut seat)) = Table::of_words(alloc, &[0], &()) else {
-            return Err(Refusal::OutOfMemory);
-        };
+        let (table, mut seat) = Table::of_words(alloc, &[0], &())?;
         let first = table.shared.split_seat::<First>(&mut seat);
         let end = LogEnd {
             frontier: Lsn::new(0),

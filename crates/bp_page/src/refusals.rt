@@ -3,6 +3,7 @@ ghost use Rattle.std.specs.Prelude.{◌≡◌};
 ghost use Rattle.bp_page.specs.Refusals.{needed_by, number_of};
 
 use crate::numbers::Lsn;
+use std::alloc::AllocError;
 use thiserror::Error;
 
 /// Why a call of this workspace was refused. What holds afterwards, the call itself says.
@@ -84,6 +85,16 @@ pub enum Refusal {
     /// A read of the trace or of the list failed.
     #[error("the trace could not be read")]
     ReadFault,
+}
+
+impl From<AllocError> for Refusal {
+    ghost use Rattle.bp_page.specs.declared.refusals.Refusal.TheVariants.{OutOfMemory};
+
+    ghost from_gives = { λ _ refusal. refusal ≡ OutOfMemory };
+
+    fn from(_error: AllocError) -> Refusal {
+        Refusal::OutOfMemory
+    }
 }
 
 impl Refusal {

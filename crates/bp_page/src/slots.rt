@@ -39,10 +39,7 @@ pub fn slot(alloc: Global, image: &Image) -> Result<Vec<u8>, Refusal>
     ensures bytes { IfOk result (λ slot. slot.items ≡ raw_slot image.now) }
     ensures memory { OnErr result (result ≡ Err Refusal.OutOfMemory) }
 {
-    match Vec::from_slice(alloc, image.bytes()) {
-        Ok(slot) => Ok(slot),
-        Err(_) => Err(Refusal::OutOfMemory),
-    }
+    Ok(Vec::from_slice(alloc, image.bytes())?)
 }
 
 /// The image whose bytes these are in a page file of version 1. `Memory` where it can't be had.
@@ -74,13 +71,9 @@ pub fn slot2(alloc: Global, page: PageNo, lsn: Lsn, image: &Image) -> Result<Vec
     ensures memory { OnErr result (result ≡ Err Refusal.OutOfMemory) }
 {
     let header = header_of(page, lsn);
-    let Ok(mut slot) = Vec::from_slice(alloc, &header) else {
-        return Err(Refusal::OutOfMemory);
-    };
-    match slot.extend_from_slice(image.bytes()) {
-        Ok(()) => Ok(slot),
-        Err(_) => Err(Refusal::OutOfMemory),
-    }
+    let mut slot = Vec::from_slice(alloc, &header)?;
+    slot.extend_from_slice(image.bytes())?;
+    Ok(slot)
 }
 
 /// Puts the bytes of `slot2` in place of as many. It takes no memory.

@@ -62,13 +62,8 @@ fn page_of_ones(alloc: Global, size: usize) -> Result<Image, Refusal>
     ensures ones { IfOk result (λ page. page ≡ replicate size 255) }
     ensures memory { OnErr result (result ≡ Err Refusal.OutOfMemory) }
 {
-    let Ok(ones) = vec![in alloc; 255u8; size] else {
-        return Err(Refusal::OutOfMemory);
-    };
-    match Image::of(alloc, &ones) {
-        Ok(page) => Ok(page),
-        Err(_) => Err(Refusal::OutOfMemory),
-    }
+    let ones = vec![in alloc; 255u8; size]?;
+    Ok(Image::of(alloc, &ones)?)
 }
 
 impl<P: Port> Port for FusePort<P> {

@@ -19,10 +19,8 @@ fn shared_flag(alloc: Global) -> Result<(Flag, Flag), Refusal>
     let Ok(flag) = Arc::new(alloc, Mutex::new(false)) else {
         return Err(Refusal::OutOfMemory);
     };
-    match Arc::try_clone(&flag) {
-        Ok(again) => Ok((flag, again)),
-        Err(_) => Err(Refusal::OutOfMemory),
-    }
+    let again = Arc::try_clone(&flag)?;
+    Ok((flag, again))
 }
 
 /// One side of a gate, which opens once somebody has come to the other side.

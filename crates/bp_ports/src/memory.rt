@@ -32,9 +32,7 @@ impl MemDevice {
         ensures memory { OnErr result (result ≡ Err Refusal.OutOfMemory) }
     {
         let length = geometry.pages as usize * geometry.size;
-        let Ok(zeros) = vec![in alloc; 0u8; length] else {
-            return Err(Refusal::OutOfMemory);
-        };
+        let zeros = vec![in alloc; 0u8; length]?;
         let Ok(bytes) = Arc::new(alloc, Mutex::new(zeros)) else {
             return Err(Refusal::OutOfMemory);
         };
@@ -50,9 +48,7 @@ impl MemDevice {
         ensures port { IfOk result (λ port. port ≡ new_port self.now) }
         ensures memory { OnErr result (result ≡ Err Refusal.OutOfMemory) }
     {
-        let Ok(bytes) = Arc::try_clone(&self.bytes) else {
-            return Err(Refusal::OutOfMemory);
-        };
+        let bytes = Arc::try_clone(&self.bytes)?;
         Ok(MemPort {
             alloc: self.alloc,
             device: self.device,

@@ -224,12 +224,8 @@ impl Histories {
         let block = BlockNo {
             number: slot as u32,
         };
-        let Ok(()) = self.blocks.reserve(1) else {
-            return Err(Refusal::OutOfMemory);
-        };
-        let Ok(()) = self.waiting.reserve(self.blocks.capacity()) else {
-            return Err(Refusal::OutOfMemory);
-        };
+        self.blocks.reserve(1)?;
+        self.waiting.reserve(self.blocks.capacity())?;
         let Ok(_) = self.places.insert(page.number(), block) else {
             return Err(Refusal::OutOfMemory);
         };

@@ -24,9 +24,7 @@ fn empty_scripts(alloc: Global, clients: usize) -> Result<Vec<Vec<Row>>, Refusal
     ensures empty { IfOk result (λ scripts. (c : ℕ) → list_of c (lists scripts.items) ≡ []) }
     ensures refused { OnErr result (result ≡ Err Refusal.OutOfMemory) }
 {
-    let Ok(mut scripts) = Vec::with_capacity(alloc, clients) else {
-        return Err(Refusal::OutOfMemory);
-    };
+    let mut scripts = Vec::with_capacity(alloc, clients)?;
     for _ in 0..clients {
         scripts.push_reserved(Vec::new(alloc));
     }

@@ -58,9 +58,7 @@ fn new_clients<N: PoolName, K: ListKeeper>(
     let mut sessions = Vec::new(alloc);
     let mut consumers = Vec::new(alloc);
     for client in 0..clients {
-        let Ok((producer, consumer)) = RingBuffer::new(alloc, RING) else {
-            return Err(Refusal::OutOfMemory);
-        };
+        let (producer, consumer) = RingBuffer::new(alloc, RING)?;
         let session = Session::new(alloc, geometry, client, producer, board.line());
         let Ok(()) = sessions.push(session) else {
             return Err(Refusal::OutOfMemory);

@@ -40,9 +40,7 @@ impl TrailRing {
     pub fn new(alloc: Global) -> Result<TrailRing, Refusal>
         ensures { OnErr result (result ≡ Err Refusal.OutOfMemory) }
     {
-        let Ok((pieces, taken)) = RingBuffer::<Vec<Entry>>::new(alloc, 1) else {
-            return Err(Refusal::OutOfMemory);
-        };
+        let (pieces, taken) = RingBuffer::<Vec<Entry>>::new(alloc, 1)?;
         Ok(TrailRing {
             pieces,
             taken,

@@ -161,10 +161,8 @@ fn count_best(alloc: Global, references: &References, frames: usize) -> Result<T
     if frames < 1 || frames > MAX_FRAMES {
         return Err(Refusal::BadSettings);
     }
-    match count_optimum(alloc, references.pages(), frames) {
-        Ok(best) => Ok(totals_of_best(best)),
-        Err(_) => Err(Refusal::OutOfMemory),
-    }
+    let best = count_optimum(alloc, references.pages(), frames)?;
+    Ok(totals_of_best(best))
 }
 
 /// Counts the cell of a plan.

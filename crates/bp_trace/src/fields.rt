@@ -75,8 +75,5 @@ pub fn wanted_bytes(alloc: Global, text: &[u8]) -> Result<Bytes, Refusal>
         Err(FromHexError::OutOfMemory) => return Err(Refusal::OutOfMemory),
         Err(_) => return Err(Refusal::BadHex),
     };
-    match Bytes::of(alloc, decoded.as_slice()) {
-        Ok(bytes) => Ok(bytes),
-        Err(_) => Err(Refusal::OutOfMemory),
-    }
+    Ok(Bytes::of(alloc, decoded.as_slice())?)
 }

@@ -150,9 +150,7 @@ fn run_pool<
         SideBySide (LeftBy run.core P.geometry_of W.leaves) 0 given run.left.items) }
     ensures refused { OnErr result (result ≡ Err Refusal.OutOfMemory) }
 {
-    let Ok(left) = Vec::with_capacity(alloc, jobs.len()) else {
-        return Err(Refusal::OutOfMemory);
-    };
+    let left = Vec::with_capacity(alloc, jobs.len())?;
     let mut jobs = jobs;
     run_jobs(rt, &pool, jobs.as_mut_slice());
     let mut pool = pool.close();

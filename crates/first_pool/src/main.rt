@@ -77,9 +77,7 @@ fn run(rt: &(impl Runtime<A = Global> + Wait)) -> Result<usize, Refusal> {
     let alloc = rt.alloc();
     let geometry = Geometry::new(16, 64)?;
     let settings = Settings::new(2, 0, 1000)?;
-    let Ok(bytes) = Bytes::of(alloc, b"hello".as_slice()) else {
-        return Err(Refusal::OutOfMemory);
-    };
+    let bytes = Bytes::of(alloc, b"hello".as_slice())?;
     let device = MemDevice::new(alloc, geometry)?;
     let mut port = device.port()?;
     let mut core = Core::new(alloc, geometry, settings, 64, 1, 10_000)?;

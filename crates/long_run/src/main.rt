@@ -81,9 +81,7 @@ fn new_pool<K: Keeper>(
 ) -> Result<Pool<K>, Refusal> {
     let geometry = Geometry::new(PAGES, size)?;
     let settings = Settings::new(2, 0, 0)?;
-    let Ok(bytes) = Bytes::of(alloc, &[0]) else {
-        return Err(Refusal::OutOfMemory);
-    };
+    let bytes = Bytes::of(alloc, &[0])?;
     let port = new_port(alloc, geometry)?;
     let core = PoolCore::new(alloc, geometry, settings, frames, 1, room)?;
     Ok(Pool {
@@ -154,9 +152,7 @@ impl<K: Keeper> Pool<K> {
     /// Runs so many rounds, which change each page.
     fn run_rounds(&mut self, rt: &(impl AllocGlobal + Wait), rounds: u64) -> Result<(), Refusal> {
         for round in 1..=rounds {
-            let Ok(bytes) = Bytes::of(rt.alloc(), &[byte_of(round)]) else {
-                return Err(Refusal::OutOfMemory);
-            };
+            let bytes = Bytes::of(rt.alloc(), &[byte_of(round)])?;
             self.bytes = bytes;
             self.run_round(rt, round);
         }

@@ -57,9 +57,7 @@ fn gates(
     let first = new_port(alloc, device, shape.fuse, shape.spoils)?;
     let second = new_port(alloc, device, 0, false)?;
     let (first, second) = GatePort::pair(alloc, first, second, shape.turns)?;
-    let Ok(mut ports) = Vec::with_capacity(alloc, 2) else {
-        return Err(Refusal::OutOfMemory);
-    };
+    let mut ports = Vec::with_capacity(alloc, 2)?;
     ports.push_reserved(first);
     ports.push_reserved(second);
     Ok(ports)

@@ -170,9 +170,7 @@ pub fn write<N: PoolName, P: Port, K: ListKeeper, R: Wait>(
 ) -> Result<(), Refusal>
     ensures client { client.new.session.client ≡ client.old.session.client }
 {
-    let Ok(bytes) = Bytes::of(alloc, &[byte]) else {
-        return Err(Refusal::OutOfMemory);
-    };
+    let bytes = Bytes::of(alloc, &[byte])?;
     if !client.port.geometry().fits(0, bytes.bytes().len()) {
         return Err(Refusal::OutOfPage);
     }

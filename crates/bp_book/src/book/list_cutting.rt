@@ -43,12 +43,9 @@ impl Book<RecordingKeeper> {
         ensures room { OnOk result (vec_capacity spare ≤ self.new.entries + owed self.old.said) }
         ensures enough { owed self.old.said ≤ vec_capacity spare → IsOk result }
     {
-        match self
+        let entries = self
             .said
-            .cut(spare, self.held.len() + 2 * self.tickets, false)
-        {
-            Ok(entries) => Ok(entries),
-            Err(_) => Err(Refusal::OutOfMemory),
-        }
+            .cut(spare, self.held.len() + 2 * self.tickets, false)?;
+        Ok(entries)
     }
 }

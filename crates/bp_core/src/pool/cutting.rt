@@ -40,9 +40,7 @@ impl PoolCore<RecordingKeeper> {
             return Err(Refusal::ClockFull);
         }
         let is_initial = self.is_initial();
-        let Ok(entries) = self.trail.cut(spare, self.config.room, is_initial) else {
-            return Err(Refusal::OutOfMemory);
-        };
+        let entries = self.trail.cut(spare, self.config.room, is_initial)?;
         Ok(entries)
     }
 

@@ -33,9 +33,7 @@ impl<K: Keeper> PoolCore<K> {
             return self.fault(client, page);
         };
         let pending = self.state.reads.len() + 1;
-        let Ok(()) = self.state.passes.reserve(pending) else {
-            return Err(Refusal::OutOfMemory);
-        };
+        self.state.passes.reserve(pending)?;
         let block = self.state.block(&slot);
         self.state.frames.withdraw(&slot);
         self.state.frames.pin(&slot);

@@ -38,17 +38,13 @@ impl<K: Keeper> PoolCore<K> {
         ensures memory { TakesMemory (Call.Fix page) self.old }
     {
         let reads = self.state.reads.len();
-        let Ok(()) = self.state.frames.provide(self.alloc, reads) else {
-            return Err(Refusal::OutOfMemory);
-        };
-        let Ok(()) = make_ready(
+        self.state.frames.provide(self.alloc, reads)?;
+        make_ready(
             &mut self.state.passes,
             &mut self.state.reads,
             &mut self.state.histories,
             page,
-        ) else {
-            return Err(Refusal::OutOfMemory);
-        };
+        )?;
         let ticket = self.state.give_read(client, page);
         let reply = Reply::Load {
             ticket: ticket.serial,
@@ -73,14 +69,12 @@ impl<K: Keeper> PoolCore<K> {
     {
         let slot = self.state.frames.find(gone).unwrap();
         let block = self.state.block(&slot);
-        let Ok(()) = make_ready(
+        make_ready(
             &mut self.state.passes,
             &mut self.state.reads,
             &mut self.state.histories,
             page,
-        ) else {
-            return Err(Refusal::OutOfMemory);
-        };
+        )?;
         self.state.frames.withdraw(&slot);
         self.state.frames.vacate(&slot);
         self.state.histories.unprepare_at(gone, block);

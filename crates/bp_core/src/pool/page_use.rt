@@ -24,12 +24,8 @@ impl<K: Keeper> PoolCore<K> {
         let Some(frame) = self.frame(pass.page) else {
             unreachable!()
         };
-        let Ok(image) = Image::of(self.alloc, frame.image.bytes()) else {
-            return Err(Refusal::OutOfMemory);
-        };
-        let Ok(spare) = K::spare_image(self.alloc, &image) else {
-            return Err(Refusal::OutOfMemory);
-        };
+        let image = Image::of(self.alloc, frame.image.bytes())?;
+        let spare = K::spare_image(self.alloc, &image)?;
         self.answer_read(pass.grant(), &image, spare);
         Ok(image)
     }
@@ -53,9 +49,7 @@ impl<K: Keeper> PoolCore<K> {
         if !self.knows(pass) {
             return Err(Refusal::UnknownPass);
         }
-        let Ok(spare) = K::spare_bytes(self.alloc, bytes) else {
-            return Err(Refusal::OutOfMemory);
-        };
+        let spare = K::spare_bytes(self.alloc, bytes)?;
         let slot = self.state.frames.find(pass.page).unwrap();
         self.state
             .frames

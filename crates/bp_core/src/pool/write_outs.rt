@@ -81,15 +81,9 @@ impl<K: Keeper> PoolCore<K> {
         let slot = self.state.frames.find(page).unwrap();
         let frame = self.state.frames.frame(&slot);
         let lsn = frame.top;
-        let Ok(image) = Image::of(self.alloc, frame.image.bytes()) else {
-            return Err(Refusal::OutOfMemory);
-        };
-        let Ok(spare) = K::spare_image(self.alloc, &image) else {
-            return Err(Refusal::OutOfMemory);
-        };
-        let Ok(()) = self.state.writes.reserve(1) else {
-            return Err(Refusal::OutOfMemory);
-        };
+        let image = Image::of(self.alloc, frame.image.bytes())?;
+        let spare = K::spare_image(self.alloc, &image)?;
+        self.state.writes.reserve(1)?;
         self.state.frames.withdraw(&slot);
         self.state.frames.begin_write_out(&slot);
         let serial = self.state.give_write(client, page);

@@ -50,9 +50,7 @@ impl<N: PoolName> SharedPool<N, RecordingKeeper> {
     {
         let mut empty = spare;
         empty.clear();
-        let Ok(()) = empty.reserve_exact(self.room) else {
-            return Err(Refusal::OutOfMemory);
-        };
+        empty.reserve_exact(self.room)?;
         self.state.lock(rt).cut(taker, empty)
     }
 }

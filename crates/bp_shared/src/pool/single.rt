@@ -84,9 +84,7 @@ impl<N: PoolName, K: ListKeeper> SharedPool<N, K> {
         if pass.client() != session.client() {
             return Err(Refusal::UnknownPass);
         }
-        let Ok(spare) = K::spare_bytes(self.alloc, bytes) else {
-            return Err(Refusal::OutOfMemory);
-        };
+        let spare = K::spare_bytes(self.alloc, bytes)?;
         session.book.reserve_for_event()?;
         let mut state = self.enter(rt);
         state.write(

@@ -43,9 +43,7 @@ impl Pool {
         if !self.core.knows_read(held.grant()) {
             return Err(Refusal::UnknownTicket);
         }
-        let Ok(own) = Image::of(self.alloc, image) else {
-            return Err(Refusal::OutOfMemory);
-        };
+        let own = Image::of(self.alloc, image)?;
         match self.core.read_end_by(held.grant(), Ok(own)) {
             Ok(pass) => {
                 count(&mut self.totals.faults);

@@ -34,11 +34,11 @@ loop-script-preserved g c =
     let i = c.loop-script.invariant in
     let next = c.in-Some.ensures.steps.0 in
     let s = next_session _ _ _ _ _ c.in-Some-next.session i.sessions c.in-Some-next.ensures.items (ap length next) in
-    let one : vec_len c.push.new.self ≡ suc (vec_len c.loop-script.jobs) = omega (arith, c.in-Ok-push.ensures.len) in
+    let one : vec_len c.push.new.self ≡ suc (vec_len c.loop-script.jobs) = omega (arith, c.in-Ok.ensures.len) in
     let client : c.new-runner.result.client ≡ vec_len c.loop-script.jobs = ap (λ v. v.client) (c.new-runner.ensures ∙ s.is) in
     let left = length (into_iter_items c.next.new.self) in
     record {
-      made = made_more c.loop-script.jobs.items _ _ _ _ c.in-Some.script.items _ _ c.in-Ok.job i.made (ap lists next) c.in-Ok-push.ensures.items (c.in-Ok.ensures ∙ ap (λ n. new_job n c.in-Some.script.items) client) one;
+      made = made_more c.loop-script.jobs.items _ _ _ _ c.in-Some.script.items _ _ c.in_ok-job.job i.made (ap lists next) c.in-Ok.ensures.items (c.in_ok-job.ensures ∙ ap (λ n. new_job n c.in-Some.script.items) client) one;
       sessions = s.after ∙ ap (λ n. sessions_from n left) (sym one);
       ports = omega (arith, i.ports, ap length next, ap length c.in-Some-next-2.ensures.items);
       size = All-tail (λ p. (g.P.Port.geometry_of p).size ≡ g.N.PoolName.parameters.size) c.in-Some-next-2.port (into_iter_items c.next-in-loop-script-2.new.self) (All-same (λ p. (g.P.Port.geometry_of p).size ≡ g.N.PoolName.parameters.size) _ _ (sym c.in-Some-next-2.ensures.items) i.size);

@@ -9,7 +9,7 @@ use Rattle.bp_device.proofs.RowCauses.{script-caused}
 use Rattle.bp_device.proofs.scripts.drive_all.Goals as goal
 
 pub copy_to-requires : goal.copy_to-requires
-copy_to-requires g c = record { empty = c.in-Ok-with_capacity.ensures.items; room = omega (arith, c.drive_rows.ensures.few, c.in-Ok-with_capacity.ensures.capacity) }
+copy_to-requires g c = record { empty = c.in_ok-left.ensures.items; room = omega (arith, c.drive_rows.ensures.few, c.in_ok-left.ensures.capacity) }
 
 pub give_back_all-requires : goal.give_back_all-requires
 give_back_all-requires g c = record { ends_in = subst (EndsIn c.drive_rows.new.core) (sym c.copy_to.ensures.notes) (rows-end _ _ _ _ _ c.drive_rows.ensures.outcome.driven) }

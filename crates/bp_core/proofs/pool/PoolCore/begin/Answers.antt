@@ -28,7 +28,7 @@ invariant_of-self-2 g c =
     let at = found c.self.inside.state.frames c.args.page c.find.result c.unwrap-slot.result c.find.ensures.found c.unwrap-slot.ensures in
     let w = rw at.1 at c.withdraw.ensures in
     let is = frame_in _ _ _ c.self.invariant.agrees c.args.page c.frame-frame.result.now c.frame-frame.ensures.here (c.frame-frame.ensures.page ∙ at.1) in
-    let image : c.in-Ok.image ≡ held (g.K.Keeper.kept c.self.inside.trail).past c.args.page = c.in-Ok.ensures ∙ c.bytes.ensures ∙ ap (λ f. f.image) is in
+    let image : c.in_ok-image.image ≡ held (g.K.Keeper.kept c.self.inside.trail).past c.args.page = c.in_ok-image.ensures ∙ c.bytes.ensures ∙ ap (λ f. f.image) is in
     rw (c.record_begin.ensures, c.give_write-serial.ensures.after, c.give_write-serial.ensures.serial, c.begin_write_out.ensures, at.1, w.same, image)
     (keeps-begin _ _ _ c.self.invariant _ c.self.view_is c.args.client c.args.call c.args.page c.requires.begins c.requires.client_in c.requires.allowed c.requires.reply c.requires.room c.reserve.new.self c.reserve.ensures.out c.withdraw.new.self.candidates w.limits w.pages w.others w.left)
 
@@ -38,4 +38,4 @@ returns-clause-outcome g c =
     let f = c.frame-frame.result.now in
     let is = frame_in _ _ _ c.self.invariant.agrees c.args.page f c.frame-frame.ensures.here (c.frame-frame.ensures.page ∙ at.1) in
     let lsn = subst (λ v. EachPast v (λ past. f.top ≡ top past c.args.page)) c.self.view_is (ap (λ f. f.top) is) in
-    (refl, refl, lsn, adds _ _ _ c.self.invariant _ c.self.view_is c.args.client c.args.call (WriteFirst c.give_write-serial.result c.args.page c.in-Ok.image) _ _ c.record_begin.ensures (invariant_of-self-2 g c))
+    (refl, refl, lsn, adds _ _ _ c.self.invariant _ c.self.view_is c.args.client c.args.call (WriteFirst c.give_write-serial.result c.args.page c.in_ok-image.image) _ _ c.record_begin.ensures (invariant_of-self-2 g c))

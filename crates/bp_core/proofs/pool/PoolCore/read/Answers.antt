@@ -33,5 +33,5 @@ returns-clause-size g c =
     let past = (g.K.Keeper.kept c.self.inside.trail).past in
     let out = at-past _ _ _ c.self.invariant _ c.self.view_is (λ q past. is_out (grant p.client p.page p.serial) (passes_out past) ≡ true) (sym c.knows.ensures ∙ c.if-not-knows.false) in
     let here : resident past p.page ≡ true = (places _ _ a.legal).pinned p.page (out-of_page p.client p.page p.serial _ out) in
-    let image : c.in-Ok.image ≡ held past p.page = c.in-Ok.ensures ∙ c.bytes.ensures ∙ ap (λ f. f.image) c.in-Some.ensures.found ∙ ap (λ v. held v.past p.page) (sym c.self.view_is) in
-    subst (λ v. length c.in-Ok.image ≡ v.parameters.size) c.self.view_is (ap length image ∙ sized _ _ a.legal p.page here)
+    let image : c.in_ok-image.image ≡ held past p.page = c.in_ok-image.ensures ∙ c.bytes.ensures ∙ ap (λ f. f.image) c.in-Some.ensures.found ∙ ap (λ v. held v.past p.page) (sym c.self.view_is) in
+    subst (λ v. length c.in_ok-image.image ≡ v.parameters.size) c.self.view_is (ap length image ∙ sized _ _ a.legal p.page here)

@@ -38,4 +38,4 @@ invariant_of-self-2 g c =
     let u = c.unprepare_at.ensures in
     let w = rw at.1 at c.withdraw.ensures in
     rw (c.record.ensures, c.give_read-ticket.ensures.after, c.give_read-ticket.ensures.ticket, c.vacate.ensures, at.1, w.same)
-    (keeps-replace _ _ _ c.self.invariant _ c.self.view_is c.args.client c.args.page c.requires.client_in c.requires.page_in c.requires.idle c.requires.away c.requires.room c.make_ready.new.passes m.passes m.more_passes c.in-Ok.ensures.pass_room c.make_ready.new.reads m.reads c.args.gone c.vacate.new.self.places c.requires.full c.requires.chosen c.requires.saved c.withdraw.new.self.candidates w.limits w.pages w.others w.left c.make_ready.new.histories c.unprepare_at.new.self m.settings m.stamps m.others c.in-Ok.ensures.held m.places c.in-Ok.ensures.place u.settings u.stamps u.others u.held u.places)
+    (keeps-replace _ _ _ c.self.invariant _ c.self.view_is c.args.client c.args.page c.requires.client_in c.requires.page_in c.requires.idle c.requires.away c.requires.room c.make_ready.new.passes m.passes m.more_passes c.in_ok-make_ready.ensures.pass_room c.make_ready.new.reads m.reads c.args.gone c.vacate.new.self.places c.requires.full c.requires.chosen c.requires.saved c.withdraw.new.self.candidates w.limits w.pages w.others w.left c.make_ready.new.histories c.unprepare_at.new.self m.settings m.stamps m.others c.in_ok-make_ready.ensures.held m.places c.in_ok-make_ready.ensures.place u.settings u.stamps u.others u.held u.places)

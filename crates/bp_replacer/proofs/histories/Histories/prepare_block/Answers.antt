@@ -36,7 +36,7 @@ vacant c = sym (ap (λ (s : Slab Block). slot s.slots c.insert_reserved.result) 
 
 changes : (c : goal.After-insert_reserved) → Changes c.self.inside.blocks.slots c.self.inside.places.entries c.insert_reserved.new.self.slots c.insert.new.self.entries c.args.page c.insert_reserved.result
 changes c = record {
-  other_places = λ q other. c.in-Ok-insert.ensures.updates.2 q (ne_eqb c.number.result q (λ e. other (sym e ∙ c.number.ensures)));
+  other_places = λ q other. c.in-Ok.ensures.updates.2 q (ne_eqb c.number.result q (λ e. other (sym e ∙ c.number.ensures)));
   other_slots = λ n other. c.insert_reserved.ensures.updates.others n other ∙ ap (λ (s : Slab Block). slot s.slots n) c.reserve.ensures.rest_kept;
   not_shared = λ q other is. subst (λ o. IsSomeAnd o (IsSound c.self.inside.settings.k)) (vacant c) (c.self.invariant.0.sound q c.insert_reserved.result is);
 }
@@ -47,7 +47,7 @@ now c = record { settings = c.self.inside.settings; places = c.insert.new.self; 
 there : (c : goal.After-insert_reserved) → number c.insert.new.self.entries c.args.page ≡ Some c.insert_reserved.result
 there c =
     let key : c.insert_reserved.result ≡ c.vacant_key-slot.result = c.insert_reserved.ensures.key ∙ ap (λ (s : Slab Block). s.vacant_key) c.reserve.ensures.rest_kept ∙ sym c.vacant_key-slot.ensures.value in
-    ap (λ n. number c.insert.new.self.entries n) (sym c.number.ensures) ∙ c.in-Ok-insert.ensures.updates.1 ∙ ap Some (sym key)
+    ap (λ n. number c.insert.new.self.entries n) (sym c.number.ensures) ∙ c.in-Ok.ensures.updates.1 ∙ ap Some (sym key)
 
 blank : (k : ℕ) → IsBlank k record { held = true; waits = false; last = 0; stamps = replicate 16 0 }
 blank k = record { last = refl; stamps = λ n lt. at n 16 }
@@ -78,7 +78,7 @@ queued c =
     let at : c.insert_reserved.result ≡ n = cc in
     let both : Some record { held = true; waits = false; last = 0; stamps = replicate 16 0 } ≡ Some d = sym c.insert_reserved.ensures.updates.changed ∙ ap (slot c.insert_reserved.new.self.slots) at ∙ found in
     absurd (false≢true (ap (λ o. waits_in o) both ∙ waits)))
-    few (omega (arith, c.in-Ok.ensures.room, c.in-Ok-reserve.ensures.room, c.insert_reserved.ensures.len))
+    few (omega (arith, c.in_ok-reserve.ensures.room, c.in_ok-reserve-2.ensures.room, c.insert_reserved.ensures.len))
 
 pub invariant_of-self-2 : goal.invariant_of-self-2
 invariant_of-self-2 c = (
@@ -117,11 +117,11 @@ returns-clause-places c = λ q was held.
 pub returns-then-slot-clause-places : goal.returns-then-slot-clause-places
 returns-then-slot-clause-places c = same_places _ _ refl
 
-pub returns-in_default-reserve-clause-places : goal.returns-in_default-reserve-clause-places
-returns-in_default-reserve-clause-places c = same_places _ _ (ap (λ (h : Blocks). h.places) c.self.view_is)
+pub returns-in_err-reserve-clause-places : goal.returns-in_err-reserve-clause-places
+returns-in_err-reserve-clause-places c = same_places _ _ (ap (λ (h : Blocks). h.places) c.self.view_is)
 
-pub returns-in_default-reserve-2-clause-places : goal.returns-in_default-reserve-2-clause-places
-returns-in_default-reserve-2-clause-places c = same_places _ _ (ap (λ (h : Blocks). h.places) c.self.view_is)
+pub returns-in_err-reserve-2-clause-places : goal.returns-in_err-reserve-2-clause-places
+returns-in_err-reserve-2-clause-places c = same_places _ _ (ap (λ (h : Blocks). h.places) c.self.view_is)
 
 pub returns-in_default-insert-clause-places : goal.returns-in_default-insert-clause-places
 returns-in_default-insert-clause-places c = same_places _ _ (c.in_default-insert.ensures.err ∙ ap (λ (h : Blocks). h.places) c.self.view_is)
