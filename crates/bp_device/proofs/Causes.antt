@@ -23,14 +23,15 @@ use Rattle.bp_core.specs.Added.{Ends}
 abbrev WantsMemory : (A : Type 0) → Result A Refusal → Type 0
 WantsMemory A result = result ≡ Err refusal.OutOfMemory
 
-pub fix-caused : (old new : CoreView) (client page : ℕ) (why : Refusal) → FixOutcome old client page (Err why) new
-    → (WantsMemory Fixing (Err why) → TakesMemory (Fix page) old) → IsCaused 3 (Fix page) why new
-fix-caused old new client page refusal.NoVictim h m = tt
-fix-caused old new client page (refusal.NeedLog lsn) h m = subst (λ (core : CoreView). Ends (NeedLog lsn) core.past) (sym h.1.is) refl
-fix-caused old new client page refusal.Busy h m = tt
-fix-caused old new client page refusal.TrailFull h m = subst (LacksRoomFor 3) (sym h.1) h.0
-fix-caused old new client page refusal.OutOfMemory h m = (subst (HasRoomFor 3) (sym h.1) h.0, subst (TakesMemory (Fix page)) (sym h.1) (m refl))
-fix-caused old new client page _ h m = absurd h
+pub fix-caused : (old new : CoreView) (client page : ℕ) (result : Result Fixing Refusal) → FixOutcome old client page result new
+    → (WantsMemory Fixing result → TakesMemory (Fix page) old) → IfErr result (λ why. IsCaused 3 (Fix page) why new)
+fix-caused old new client page (Ok fix) h m = tt
+fix-caused old new client page (Err refusal.NoVictim) h m = tt
+fix-caused old new client page (Err (refusal.NeedLog lsn)) h m = subst (λ (core : CoreView). Ends (NeedLog lsn) core.past) (sym h.1.is) refl
+fix-caused old new client page (Err refusal.Busy) h m = tt
+fix-caused old new client page (Err refusal.TrailFull) h m = subst (LacksRoomFor 3) (sym h.1) h.0
+fix-caused old new client page (Err refusal.OutOfMemory) h m = (subst (HasRoomFor 3) (sym h.1) h.0, subst (TakesMemory (Fix page)) (sym h.1) (m refl))
+fix-caused old new client page (Err _) h m = absurd h
 
 pub flush-caused : (old new : CoreView) (client page : ℕ) (why : Refusal) → FlushOutcome old client page (Err why) new
     → (WantsMemory Flushing (Err why) → TakesMemory (Flush page) old) → IsCaused 2 (Flush page) why new

@@ -1,5 +1,6 @@
 -- How pieces grow, entry by entry.
 use Rattle.std.proofs.Common.{List, ◌≡◌, refl, sym, ◌∙◌, ap, subst, ℕ, [], ◌∷◌, ◌++◌, true, false, Option, Some, None, Result, Ok, Err}
+use Rattle.std.specs.Prelude.{IsErrAnd}
 use Rattle.bp_page.specs.declared.refusals.Refusal.{Refusal}
 use Rattle.bp_page.specs.declared.refusals.Refusal.TheVariants as refusal
 use Rattle.bp_page.specs.declared.refusals.PortFault.{PortFault}
@@ -7,6 +8,7 @@ use Rattle.bp_page.specs.declared.refusals.PortFault.TheVariants as fault
 use Rattle.bp_core.specs.declared.passes.Pass.{Pass}
 use Rattle.bp_core.specs.declared.passes.ReadTicket.{ReadTicket}
 use Rattle.bp_core.specs.declared.passes.WriteTicket.{WriteTicket}
+use Rattle.bp_core.specs.declared.passes.Fix.{Fix as Fixing}
 use Rattle.bp_core.specs.declared.passes.Fix.TheVariants as fixing
 use Rattle.bp_core.specs.declared.passes.Flush.TheVariants as flushing
 use Rattle.bp_core.specs.declared.passes.Ended.{Ended}
@@ -31,7 +33,7 @@ use Rattle.bp_trail.specs.Pieces.FlushGoesOn.{begins as flush_begins}
 use Rattle.bp_trail.specs.Pieces.FlushPiece.{clean as flush_clean, absent as flush_absent, cleaned as flush_cleaned, still_dirty as flush_still_dirty, need_log as flush_need_log, busy as flush_busy, write_failed as flush_write_failed, no_room as flush_no_room, no_memory as flush_no_memory}
 use Rattle.bp_trail.specs.declared.entries.Flushed.{Flushed}
 use Rattle.bp_trail.specs.declared.entries.Flushed.TheVariants as flushed
-use Rattle.bp_device.specs.Drivers.{AddsPiece, DrivesFix, DrivesFlush, LoadOutcome, SaveOutcome}
+use Rattle.bp_device.specs.Drivers.{AddsPiece, DrivesFix, DrivesFlush, LoadOutcome, SaveOutcome, SavingOutcome}
 use Rattle.bp_core.specs.Added.{ended_reply, flushed_reply}
 
 -- no entry yet
@@ -131,6 +133,19 @@ refusal-drives old mid new client page refusal.Busy waits h = adds-entry old mid
 refusal-drives old mid new client page refusal.TrailFull waits h = adds-as old mid new _ _ waits h.1 (λ piece on. fix_no_room on)
 refusal-drives old mid new client page refusal.OutOfMemory waits h = adds-as old mid new _ _ waits h.1 (λ piece on. fix_no_memory on)
 refusal-drives old mid new client page _ waits h = absurd h
+
+-- the refusal that a `?` hands on
+pub refusal-is : (result : Result Fixing Refusal) (why : Refusal) → IsErrAnd result (λ r. r ≡ why) → result ≡ Err why
+refusal-is (Ok fix) why is = absurd is
+refusal-is (Err r) why is = ap Err is
+
+-- any fix that asks for no write-out
+pub fix-drives : (old mid new : CoreView) (client page : ℕ) (result : Result Fixing Refusal) → Waits old client page mid → FixOutcome mid client page result new
+    → ((ticket : WriteTicket) → result ≡ Ok (fixing.WriteFirst ticket) → ⊥) → SavingOutcome old client page result new
+fix-drives old mid new client page (Ok (fixing.Hit pass)) waits h other = hit-drives old mid new client page pass waits h
+fix-drives old mid new client page (Ok (fixing.Load ticket evicted)) waits h other = (mid, waits, h)
+fix-drives old mid new client page (Ok (fixing.WriteFirst ticket)) waits h other = absurd (other ticket refl)
+fix-drives old mid new client page (Err why) waits h other = refusal-drives old mid new client page why waits h
 
 -- a flush that has begun its write-out
 abbrev pub BeganFlush : ℕ → ℕ → Reply → Trail → Type 0

@@ -1,6 +1,5 @@
 -- After a write-out of the victim that ended well, the same fix made again answers a load.
 use Rattle.std.proofs.Common.{◌≡◌, refl, ◌∙◌, ap, subst, ◌⊎◌, inl, inr, ℕ, Bool, true, false, ◌∷◌, Some, Ok}
-use Rattle.bp_core.specs.declared.passes.Pass.{Pass}
 use Rattle.bp_core.specs.declared.passes.WriteTicket.{WriteTicket}
 use Rattle.bp_core.specs.declared.passes.Fix.TheVariants as fixing
 use Rattle.bp_core.specs.declared.passes.Ended.{Ended}
@@ -8,7 +7,7 @@ use Rattle.bp_core.specs.declared.passes.Ended.TheVariants as ended
 use Rattle.bp_trail.specs.declared.entries.Call.{Call}
 use Rattle.bp_trail.specs.declared.entries.Call.TheVariants.{Fix, ReadEnd, WriteEnd}
 use Rattle.bp_trail.specs.declared.entries.Reply.{Reply}
-use Rattle.bp_trail.specs.declared.entries.Reply.TheVariants.{Hit, Load, WriteFirst, Cleaned, StillDirty}
+use Rattle.bp_trail.specs.declared.entries.Reply.TheVariants.{Load, WriteFirst, Cleaned, StillDirty}
 use Rattle.bp_trail.specs.Passes.{tickets}
 use Rattle.bp_trail.specs.PageMap.{reply_of, write_end_reply, FindsWrongPage}
 use Rattle.bp_trail.specs.PageMap.FindsWrongPage.{another_page}
@@ -33,11 +32,11 @@ reply-is _ _ other (inl is) = is
 reply-is _ _ other (inr (another_page t p)) = absurd (let no : true ≡ false = other in cc)
 
 -- it loads the page into the victim's frame
-pub record IsLoad (reply : Reply) (victim : ℕ) : Type 0 where
-  pub ticket : ℕ
-  pub is : reply ≡ Load ticket (Some victim)
+record IsLoad (reply : Reply) (victim : ℕ) : Type 0 where
+  ticket : ℕ
+  is : reply ≡ Load ticket (Some victim)
 
-pub second-loads : (old written mid new : CoreView) (client page : ℕ) (ticket : WriteTicket) (end : Ended) (reply : Reply) → FixOutcome old client page (Ok (fixing.WriteFirst ticket)) written
+second-loads : (old written mid new : CoreView) (client page : ℕ) (ticket : WriteTicket) (end : Ended) (reply : Reply) → FixOutcome old client page (Ok (fixing.WriteFirst ticket)) written
     → SaveOutcome written ticket (Ok end) mid → Adds mid client (Fix page) reply new → IsLoad reply ticket.page
 second-loads old written mid new client page ticket end reply h s third = go end s
   where
@@ -63,7 +62,3 @@ second-loads old written mid new client page ticket end reply h s third = go end
 pub no-second-write : (old written mid new : CoreView) (client page : ℕ) (ticket other : WriteTicket) (end : Ended) → FixOutcome old client page (Ok (fixing.WriteFirst ticket)) written
     → SaveOutcome written ticket (Ok end) mid → FixOutcome mid client page (Ok (fixing.WriteFirst other)) new → ⊥
 no-second-write old written mid new client page ticket other end h s third = let l = (second-loads old written mid new client page ticket end (WriteFirst other.serial other.page other.image) h s third.3).is in cc
-
-pub no-second-hit : (old written mid new : CoreView) (client page : ℕ) (ticket : WriteTicket) (pass : Pass) (end : Ended) → FixOutcome old client page (Ok (fixing.WriteFirst ticket)) written
-    → SaveOutcome written ticket (Ok end) mid → FixOutcome mid client page (Ok (fixing.Hit pass)) new → ⊥
-no-second-hit old written mid new client page ticket pass end h s third = let l = (second-loads old written mid new client page ticket end (Hit pass.serial) h s third.3).is in cc

@@ -1,5 +1,5 @@
 -- How the device's work grows, entry by entry.
-use Rattle.std.proofs.Common.{List, ◌≡◌, refl, sym, ◌∙◌, ap, subst, ℕ, true, false, [], ◌∷◌, Option, Some, None, Result, Ok, Err}
+use Rattle.std.proofs.Common.{List, ◌≡◌, refl, sym, ◌∙◌, ap, subst, ℕ, true, false, [], ◌∷◌, Some, None, Result, Ok, Err}
 use Rattle.std.specs.Result.{is_ok}
 use Rattle.bp_page.specs.declared.refusals.Refusal.{Refusal}
 use Rattle.bp_page.specs.declared.refusals.Refusal.TheVariants as refusal
@@ -7,13 +7,14 @@ use Rattle.bp_page.specs.declared.refusals.PortFault.{PortFault}
 use Rattle.bp_core.specs.declared.passes.Pass.{Pass}
 use Rattle.bp_core.specs.declared.passes.ReadTicket.{ReadTicket}
 use Rattle.bp_core.specs.declared.passes.WriteTicket.{WriteTicket}
+use Rattle.bp_core.specs.declared.passes.Fix.{Fix as Fixing}
 use Rattle.bp_core.specs.declared.passes.Fix.TheVariants as fixing
 use Rattle.bp_core.specs.declared.passes.Flush.TheVariants as flushing
 use Rattle.bp_core.specs.declared.passes.Ended.{Ended}
 use Rattle.bp_trail.specs.declared.entries.Call.{Call}
 use Rattle.bp_trail.specs.declared.entries.Call.TheVariants.{Fix, ReadEnd, WriteEnd, Flush}
 use Rattle.bp_trail.specs.declared.entries.Reply.{Reply}
-use Rattle.bp_trail.specs.declared.entries.Reply.TheVariants.{Load, WriteFirst, NoVictim, NeedLog, Busy, Fixed, WriteFailed}
+use Rattle.bp_trail.specs.declared.entries.Reply.TheVariants.{Hit, Load, WriteFirst, NoVictim, NeedLog, Busy, Fixed, WriteFailed}
 use Rattle.bp_trail.specs.Saved.{top}
 use Rattle.bp_trail.specs.Pieces.{by}
 use Rattle.bp_core.specs.ReadFaults.{read_failure}
@@ -39,16 +40,20 @@ module _ {A : Type 0} (reads : Reads A) (writes : Writes A) where
   same-as : (old mid new : CoreView) (port now : A) → DoesWork reads writes old port mid now → new ≡ mid → DoesWork reads writes old port new now
   same-as old mid new port now d is = record { piece = d.piece; is = is ∙ d.is; through = d.through }
 
-  -- a fix or a flush that was refused
-  pub refused-fix-work : (old mid new : CoreView) (port now : A) (client page : ℕ) (why : Refusal) → DoesWork reads writes old port mid now → FixOutcome mid client page (Err why) new
+  -- a fix, whatever it answers
+  pub fixed-work : (old mid new : CoreView) (port now : A) (client page : ℕ) (result : Result Fixing Refusal) → DoesWork reads writes old port mid now → FixOutcome mid client page result new
       → DoesWork reads writes old port new now
-  refused-fix-work old mid new port now client page refusal.NoVictim d h = one-more old mid new port now now client (Fix page) NoVictim d h.1.is refl
-  refused-fix-work old mid new port now client page (refusal.NeedLog lsn) d h = one-more old mid new port now now client (Fix page) (NeedLog lsn) d h.1.is refl
-  refused-fix-work old mid new port now client page refusal.Busy d h = one-more old mid new port now now client (Fix page) Busy d h.1.is refl
-  refused-fix-work old mid new port now client page refusal.TrailFull d h = same-as old mid new port now d h.1
-  refused-fix-work old mid new port now client page refusal.OutOfMemory d h = same-as old mid new port now d h.1
-  refused-fix-work old mid new port now client page _ d h = absurd h
+  fixed-work old mid new port now client page (Ok (fixing.Hit pass)) d h = one-more old mid new port now now client (Fix page) (Hit pass.serial) d h.3.is refl
+  fixed-work old mid new port now client page (Ok (fixing.Load ticket evicted)) d h = one-more old mid new port now now client (Fix page) (Load ticket.serial evicted) d h.3.is refl
+  fixed-work old mid new port now client page (Ok (fixing.WriteFirst ticket)) d h = one-more old mid new port now now client (Fix page) (WriteFirst ticket.serial ticket.page ticket.image) d h.3.is refl
+  fixed-work old mid new port now client page (Err refusal.NoVictim) d h = one-more old mid new port now now client (Fix page) NoVictim d h.1.is refl
+  fixed-work old mid new port now client page (Err (refusal.NeedLog lsn)) d h = one-more old mid new port now now client (Fix page) (NeedLog lsn) d h.1.is refl
+  fixed-work old mid new port now client page (Err refusal.Busy) d h = one-more old mid new port now now client (Fix page) Busy d h.1.is refl
+  fixed-work old mid new port now client page (Err refusal.TrailFull) d h = same-as old mid new port now d h.1
+  fixed-work old mid new port now client page (Err refusal.OutOfMemory) d h = same-as old mid new port now d h.1
+  fixed-work old mid new port now client page (Err _) d h = absurd h
 
+  -- a flush that was refused
   pub refused-flush-work : (old new : CoreView) (port : A) (client page : ℕ) (why : Refusal) → FlushOutcome old client page (Err why) new → DoesWork reads writes old port new port
   refused-flush-work old new port client page (refusal.NeedLog lsn) h = one-more old old new port port port client (Flush page) (NeedLog lsn) (none-yet old port) h.1.is refl
   refused-flush-work old new port client page refusal.Busy h = one-more old old new port port port client (Flush page) Busy (none-yet old port) h.1.is refl
@@ -57,19 +62,16 @@ module _ {A : Type 0} (reads : Reads A) (writes : Writes A) where
   refused-flush-work old new port client page _ h = absurd h
 
   -- the read of a load, and its end
-  pub loaded-work : (old mid read new : CoreView) (port now after : A) (client page : ℕ) (ticket : ReadTicket) (evicted : Option ℕ) (found : Result (List ℕ) PortFault) (result : Result Pass Refusal)
-      → DoesWork reads writes old port mid now → FixOutcome mid client page (Ok (fixing.Load ticket evicted)) read → LoadOutcome read ticket found result new → reads now page found after
-      → DoesWork reads writes old port new after
-  loaded-work old mid read new port now after client page ticket evicted (Ok image) (Ok pass) d h l gave =
-      one-more old read new port now after ticket.client (ReadEnd ticket.serial ticket.page (Some image)) (Fixed pass.serial)
-      (one-more old mid read port now now client (Fix page) (Load ticket.serial evicted) d h.3.is refl) l.2
-      (record { found = Ok image; gave = subst (λ p. reads now p (Ok image) after) (sym h.2) gave; image_is = refl; answered = tt })
-  loaded-work old mid read new port now after client page ticket evicted (Err fault) (Err why) d h l gave =
-      one-more old read new port now after ticket.client (ReadEnd ticket.serial ticket.page None) (read_failure fault)
-      (one-more old mid read port now now client (Fix page) (Load ticket.serial evicted) d h.3.is refl) l.1
-      (record { found = Err fault; gave = subst (λ p. reads now p (Err fault) after) (sym h.2) gave; image_is = refl; answered = refl })
-  loaded-work old mid read new port now after client page ticket evicted (Ok image) (Err why) d h l gave = absurd l
-  loaded-work old mid read new port now after client page ticket evicted (Err fault) (Ok pass) d h l gave = absurd l
+  pub loaded-work : (old read new : CoreView) (port now after : A) (ticket : ReadTicket) (found : Result (List ℕ) PortFault) (result : Result Pass Refusal)
+      → DoesWork reads writes old port read now → LoadOutcome read ticket found result new → reads now ticket.page found after → DoesWork reads writes old port new after
+  loaded-work old read new port now after ticket (Ok image) (Ok pass) d l gave =
+      one-more old read new port now after ticket.client (ReadEnd ticket.serial ticket.page (Some image)) (Fixed pass.serial) d l.2
+      (record { found = Ok image; gave = gave; image_is = refl; answered = tt })
+  loaded-work old read new port now after ticket (Err fault) (Err why) d l gave =
+      one-more old read new port now after ticket.client (ReadEnd ticket.serial ticket.page None) (read_failure fault) d l.1
+      (record { found = Err fault; gave = gave; image_is = refl; answered = refl })
+  loaded-work old read new port now after ticket (Ok image) (Err why) d l gave = absurd l
+  loaded-work old read new port now after ticket (Err fault) (Ok pass) d l gave = absurd l
 
   -- what was written is the ticket's
   abbrev pub Writes-ticket : A → WriteTicket → Result (Unit {0}) PortFault → A → Type 0
@@ -97,7 +99,7 @@ module _ {A : Type 0} (reads : Reads A) (writes : Writes A) where
       → Writes-ticket now ticket written after → DoesWork reads writes old port new after
   victim-work old mid begun new port now after client page ticket written result d h s good gave =
       written-work old begun new port now after ticket written result
-      (one-more old mid begun port now now client (Fix page) (WriteFirst ticket.serial ticket.page ticket.image) d h.3.is refl)
+      (fixed-work old mid begun port now client page (Ok (fixing.WriteFirst ticket)) d h)
       (subst (λ (core : CoreView). Ends (WriteFirst ticket.serial ticket.page ticket.image) core.past) (sym h.3.is) refl)
       (h.2 ∙ ap (λ (core : CoreView). top core.past ticket.page) (sym h.3.is)) s good (gave-ticket now after ticket written gave)
 

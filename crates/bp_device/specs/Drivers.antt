@@ -1,5 +1,5 @@
 -- What a fix and a flush by a driver add to its core.
-use Rattle.std.specs.Prelude.{◌≡◌, ℕ, List, [], ◌∷◌, ◌++◌, true, false, Option, Some, None, Result, Ok, Err}
+use Rattle.std.specs.Prelude.{◌≡◌, ℕ, List, true, false, Option, Some, None, Result, Ok, Err}
 use Rattle.bp_page.specs.declared.refusals.Refusal.{Refusal}
 use Rattle.bp_page.specs.declared.refusals.Refusal.TheVariants as refusal
 use Rattle.bp_page.specs.declared.refusals.Refusal.TheVariants.{WriteFailed as WriteRefused}
@@ -9,17 +9,18 @@ use Rattle.bp_core.specs.declared.passes.Pass.{Pass}
 use Rattle.bp_core.specs.declared.passes.ReadTicket.{ReadTicket}
 use Rattle.bp_core.specs.declared.passes.WriteTicket.{WriteTicket}
 use Rattle.bp_core.specs.declared.passes.Ended.{Ended}
+use Rattle.bp_core.specs.declared.passes.Fix.{Fix as Fixing}
+use Rattle.bp_core.specs.declared.passes.Fix.TheVariants as fixing
 use Rattle.bp_trail.specs.declared.entries.Call.{Call}
 use Rattle.bp_trail.specs.declared.entries.Call.TheVariants.{ReadEnd, WriteEnd}
-use Rattle.bp_trail.specs.declared.entries.Reply.{Reply}
 use Rattle.bp_trail.specs.declared.entries.Reply.TheVariants.{Fixed, NeedLog, WriteFailed}
 use Rattle.bp_trail.specs.Event.{Grant, grant}
 use Rattle.bp_trail.specs.Trail.{Trail}
 use Rattle.bp_core.specs.ReadFaults.{read_refusal, read_failure}
 use Rattle.bp_core.specs.CoreView.{CoreView, with_entry, HasRoomFor, LacksRoomFor}
-use Rattle.bp_core.specs.Outcomes.{Adds, TakesMemory}
+use Rattle.bp_core.specs.Outcomes.{Adds, FixOutcome, TakesMemory}
 use Rattle.bp_core.specs.Added.{with_piece, Gives, Ends, ended_reply, flushed_reply}
-use Rattle.bp_trail.specs.Pieces.{FixPiece, FlushPiece}
+use Rattle.bp_trail.specs.Pieces.{FixGoesOn, FixPiece, FlushPiece}
 use Rattle.bp_trail.specs.Pieces.Manner.{driver}
 use Rattle.bp_trail.specs.Pieces.Outcome.{accepted, refused}
 use Rattle.bp_trail.specs.declared.entries.Flushed.{Flushed}
@@ -60,3 +61,11 @@ LoadOutcome old ticket _ _ new = ⊥
 abbrev pub SaveOutcome : CoreView → WriteTicket → Result Ended Refusal → CoreView → Type 0
 SaveOutcome old ticket (Ok ended) new = Adds old ticket.client (WriteEnd ticket.serial ticket.page true) (ended_reply ended) new
 SaveOutcome old ticket (Err refusal) new = (refusal ≡ WriteRefused) × Adds old ticket.client (WriteEnd ticket.serial ticket.page false) WriteFailed new
+
+-- a fix, made again once an unsaved victim was written out: it gives a pass or a ticket to read, or it is refused
+abbrev pub SavingOutcome : CoreView → ℕ → ℕ → Result Fixing Refusal → CoreView → Type 0
+SavingOutcome old client page (Ok (fixing.Hit pass)) new = DrivesFix old client page (Ok pass) new
+SavingOutcome old client page (Ok (fixing.Load ticket evicted)) new =
+    (mid : CoreView) × AddsPiece old (FixGoesOn driver client page) None mid × FixOutcome mid client page (Ok (fixing.Load ticket evicted)) new
+SavingOutcome old client page (Ok (fixing.WriteFirst ticket)) new = ⊥
+SavingOutcome old client page (Err refusal) new = DrivesFix old client page (Err refusal) new

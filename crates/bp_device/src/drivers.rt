@@ -3,7 +3,8 @@ ghost use Rattle.std.specs.Prelude.{◌≡◌, ◌<◌, IfErr, IfOk, length};
 ghost use Rattle.std.specs.Result.{is_ok};
 ghost use Rattle.bp_trail.specs.declared.entries.Call.TheVariants as call;
 ghost use Rattle.bp_core.specs.Outcomes.{KnowsRead, KnowsWrite};
-ghost use Rattle.bp_device.specs.Drivers.{DrivesFix, DrivesFlush, IsCaused, LoadOutcome, SaveOutcome};
+ghost use Rattle.bp_device.specs.Drivers.{DrivesFix, DrivesFlush, IsCaused, LoadOutcome};
+ghost use Rattle.bp_device.specs.Drivers.{SaveOutcome, SavingOutcome};
 ghost use Rattle.bp_core.specs.Work.{DoesWork};
 
 use bp_core::{
@@ -47,6 +48,31 @@ fn save<K: Keeper>(
     }
 }
 
+/// Fixes a page, and where its victim is unsaved writes that out and fixes again. Nobody else acts meanwhile: the
+/// victim is then saved and still the victim, so that the second fix finds its frame.
+fn fix_saving_victim<K: Keeper, P: Port, R: Wait>(
+    rt: &R,
+    core: &mut PoolCore<K>,
+    port: &mut P,
+    client: u8,
+    page: PageNo,
+) -> Result<Fix, Refusal>
+    requires client_in { client < core.old.parameters.clients }
+    requires page_in { page < core.old.parameters.pages }
+    ensures outcome { SavingOutcome core.old client page result core.new }
+    ensures cause { IfErr result (λ why. IsCaused 3 (call.Fix page) why core.new) }
+    ensures work { DoesWork P.read_gives P.write_gives core.old port.old core.new port.new }
+    ensures geometry { P.geometry_of port.new ≡ P.geometry_of port.old }
+{
+    let victim = match core.fix(client, page)? {
+        Fix::WriteFirst(victim) => victim,
+        answer => return Ok(answer),
+    };
+    let written = port.write(rt, victim.page(), victim.image(), victim.lsn());
+    save(core, victim, written)?;
+    core.fix(client, page)
+}
+
 /// Fixes a page over a core that nobody else uses: reads it where it is away, and first writes out the victim where
 /// that is unsaved. The device does this and nothing else: each read is of the page, each write of the ticket's page,
 /// with its image and its page LSN, and the entries have what the port answered.
@@ -69,30 +95,13 @@ pub fn drive_fix<K: Keeper, P: Port, R: Wait>(
     ensures work { DoesWork P.read_gives P.write_gives core.old port.old core.new port.new }
     ensures geometry { P.geometry_of port.new ≡ P.geometry_of port.old }
 {
-    match core.fix(client, page) {
-        Ok(Fix::Hit(pass)) => Ok(pass),
-        Ok(Fix::Load(ticket, _)) => {
+    match fix_saving_victim(rt, core, port, client, page)? {
+        Fix::Hit(pass) => Ok(pass),
+        Fix::Load(ticket, _) => {
             let read = port.read(rt, page);
             load(core, ticket, read)
         }
-        Ok(Fix::WriteFirst(victim)) => {
-            let written = port.write(rt, victim.page(), victim.image(), victim.lsn());
-            match save(core, victim, written) {
-                // Nobody else acts meanwhile: the victim is saved and still the victim, so the same fix finds its
-                // frame.
-                Ok(_) => match core.fix(client, page) {
-                    Ok(Fix::Hit(_pass)) => unreachable!(),
-                    Ok(Fix::Load(ticket, _)) => {
-                        let read = port.read(rt, page);
-                        load(core, ticket, read)
-                    }
-                    Ok(Fix::WriteFirst(_ticket)) => unreachable!(),
-                    Err(refusal) => Err(refusal),
-                },
-                Err(refusal) => Err(refusal),
-            }
-        }
-        Err(refusal) => Err(refusal),
+        Fix::WriteFirst(_ticket) => unreachable!(),
     }
 }
 
