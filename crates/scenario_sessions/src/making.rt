@@ -17,11 +17,9 @@ use std::alloc::Global;
 /// A port of which one call may fail.
 pub(crate) type Fused = FusePort<MemPort>;
 
-/// What a pool is made of, with its device of zeros and lists of nothing. All that its clients need is here too, so
-/// that nothing can fail once the pool is there.
-pub(crate) struct Made<K: Kind> {
-    pub(crate) core: PoolCore<K>,
-    pub(crate) parts: Parts,
+/// What is beside a pool: its device of zeros, the ports of its clients, and what they were told.
+#[derive(Drop)]
+pub(crate) struct Beside {
     pub(crate) device: Device,
     /// The port of client 0, which may fail once.
     pub(crate) first: Fused,
@@ -30,30 +28,48 @@ pub(crate) struct Made<K: Kind> {
     /// A note for each client.
     pub(crate) notes: Vec<Note>,
     pub(crate) lists: Lists,
+}
+
+/// What a pool is made of. All that its clients need is here too, so that nothing can fail once the pool is there.
+pub(crate) struct Made<K: Kind> {
+    pub(crate) core: PoolCore<K>,
+    pub(crate) parts: Parts,
+    pub(crate) beside: Beside,
     pub(crate) ghost empty: { core.past ≡ [] },
-    pub(crate) ghost first_pages: { first.inner.device.pages ≡ core.parameters.pages },
-    pub(crate) ghost first_size: { first.inner.device.size ≡ core.parameters.size },
-    pub(crate) ghost others_pages: { others.inner.device.pages ≡ core.parameters.pages },
-    pub(crate) ghost others_size: { others.inner.device.size ≡ core.parameters.size },
+    pub(crate) ghost first_pages: { beside.first.inner.device.pages ≡ core.parameters.pages },
+    pub(crate) ghost first_size: { beside.first.inner.device.size ≡ core.parameters.size },
+    pub(crate) ghost others_pages: { beside.others.inner.device.pages ≡ core.parameters.pages },
+    pub(crate) ghost others_size: { beside.others.inner.device.size ≡ core.parameters.size },
 }
 
 /// The parts of a pool of this shape. The core comes last, so that what fails has no core to let go.
 pub(crate) fn make<K: Kind>(alloc: Global, shape: &Shape) -> Result<Made<K>, Refusal> {
     let geometry = Geometry::new(shape.pages, shape.size)?;
     let settings = Settings::new(shape.k, shape.correlated, shape.retained)?;
-    let (frames, clients, room) = (shape.frames, shape.clients, shape.room);
-    let Some(lists) = new_lists(alloc) else {
-        return Err(Refusal::OutOfMemory);
-    };
-    let notes = new_notes(alloc, clients)?;
-    let device = new_device(alloc, geometry, 0, false)?;
-    let first = new_port(alloc, &device.memory, shape.fuse, shape.spoils)?;
-    let others = new_port(alloc, &device.memory, 0, false)?;
+    let beside = new_beside(alloc, geometry, shape)?;
     let parts = Parts::new(alloc)?;
+    let (frames, clients, room) = (shape.frames, shape.clients, shape.room);
     let core = PoolCore::<K>::new(alloc, geometry, settings, frames, clients, room)?;
     Ok(Made {
         core,
         parts,
+        beside,
+    })
+}
+
+/// What is beside a pool of this shape, with a device of this geometry.
+fn new_beside(alloc: Global, geometry: Geometry, shape: &Shape) -> Result<Beside, Refusal>
+    ensures first { IfOk result (λ beside. beside.first.inner.device ≡ geometry) }
+    ensures others { IfOk result (λ beside. beside.others.inner.device ≡ geometry) }
+{
+    let Some(lists) = new_lists(alloc) else {
+        return Err(Refusal::OutOfMemory);
+    };
+    let notes = new_notes(alloc, shape.clients)?;
+    let device = new_device(alloc, geometry, 0, false)?;
+    let first = new_port(alloc, &device.memory, shape.fuse, shape.spoils)?;
+    let others = new_port(alloc, &device.memory, 0, false)?;
+    Ok(Beside {
         device,
         first,
         others,

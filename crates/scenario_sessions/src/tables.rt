@@ -4,14 +4,14 @@ ghost use Rattle.std.specs.Prelude.{◌≡◌};
 use crate::answers::Answers;
 use crate::clients::{Note, Told, call, is_part, tell, told_of};
 use crate::kinds::Kind;
-use crate::making::{Fused, Made};
+use crate::making::{Beside, Made};
 use bp_core::Entry;
 use bp_device::Port;
 use bp_mark::LogEnd;
 use bp_page::{Lsn, Refusal};
 use bp_shared::{Parts, PoolName, Session, SharedPool, Taker};
 use bp_trail::Reply;
-use scenario_cores::{Device, Lists, Pool, done, pool_of};
+use scenario_cores::{Pool, done, pool_of};
 use scenario_words::{Answer, Said, Verb, Way, session_call_of};
 use std::alloc::Global;
 use std::sync::Wait;
@@ -24,18 +24,12 @@ pub(crate) struct Table<N: PoolName, K: Kind> {
     taker: Taker<N>,
     end: LogEnd,
     sessions: Vec<Session<N, K>>,
-    /// The port of client 0, which may fail once.
-    first: Fused,
-    /// The port of the other clients.
-    others: Fused,
-    notes: Vec<Note>,
-    device: Device,
-    lists: Lists,
+    beside: Beside,
     ghost end_is: { end.mark ≡ N.mark },
-    ghost first_pages: { first.inner.device.pages ≡ N.parameters.pages },
-    ghost first_size: { first.inner.device.size ≡ N.parameters.size },
-    ghost others_pages: { others.inner.device.pages ≡ N.parameters.pages },
-    ghost others_size: { others.inner.device.size ≡ N.parameters.size },
+    ghost first_pages: { beside.first.inner.device.pages ≡ N.parameters.pages },
+    ghost first_size: { beside.first.inner.device.size ≡ N.parameters.size },
+    ghost others_pages: { beside.others.inner.device.pages ≡ N.parameters.pages },
+    ghost others_size: { beside.others.inner.device.size ≡ N.parameters.size },
 }
 
 /// A pool over what was made.
@@ -53,11 +47,7 @@ pub(crate) fn open<N: PoolName, K: Kind>(
     let Made {
         core,
         parts,
-        device,
-        first,
-        others,
-        notes,
-        lists,
+        beside,
     } = made;
     let Parts {
         mark,
@@ -73,11 +63,7 @@ pub(crate) fn open<N: PoolName, K: Kind>(
         taker,
         end,
         sessions,
-        first,
-        others,
-        notes,
-        device,
-        lists,
+        beside,
     })
 }
 
@@ -142,15 +128,15 @@ impl<N: PoolName, K: Kind> Table<N, K> {
     }
 
     fn cut<R: Wait>(&mut self, rt: &R) -> Answer {
-        K::cut_trail(rt, &self.pool, &mut self.taker, &mut self.lists)
+        K::cut_trail(rt, &self.pool, &mut self.taker, &mut self.beside.lists)
     }
 
     /// How often a client's port failed.
     fn failures(&self, client: u64) -> u64 {
         if client == 0 {
-            self.first.failures()
+            self.beside.first.failures()
         } else {
-            self.others.failures()
+            self.beside.others.failures()
         }
     }
 
@@ -159,7 +145,8 @@ impl<N: PoolName, K: Kind> Table<N, K> {
         let [client, _, _] = line.numbers.list;
         let failures = self.failures(client);
         let at = client as usize;
-        let (Some(session), Some(note)) = (self.sessions.get_mut(at), self.notes.get_mut(at)) else {
+        let (Some(session), Some(note)) = (self.sessions.get_mut(at), self.beside.notes.get_mut(at))
+        else {
             return Answer::BadLine;
         };
         if let Some(answer) = tell(session, note, failures, line.verb) {
@@ -170,8 +157,8 @@ impl<N: PoolName, K: Kind> Table<N, K> {
                 rt,
                 &self.pool,
                 session,
-                &mut self.first,
-                &mut self.lists,
+                &mut self.beside.first,
+                &mut self.beside.lists,
                 line,
             )
         } else {
@@ -179,8 +166,8 @@ impl<N: PoolName, K: Kind> Table<N, K> {
                 rt,
                 &self.pool,
                 session,
-                &mut self.others,
-                &mut self.lists,
+                &mut self.beside.others,
+                &mut self.beside.lists,
                 line,
             )
         }
@@ -190,7 +177,7 @@ impl<N: PoolName, K: Kind> Table<N, K> {
         match line.verb {
             Verb::Raise => self.raise(line.numbers.list[0]),
             Verb::Cut => self.cut(rt),
-            Verb::Put | Verb::Device => self.device.call(rt, line),
+            Verb::Put | Verb::Device => self.beside.device.call(rt, line),
             _ => self.ask_client(rt, line),
         }
     }
@@ -208,7 +195,7 @@ impl<N: PoolName, K: Kind> Table<N, K> {
     }
 
     fn count_unread(&mut self, client: u64) {
-        if let Some(note) = self.notes.get_mut(client as usize) {
+        if let Some(note) = self.beside.notes.get_mut(client as usize) {
             note.unread = note.unread.saturating_add(1);
         }
     }
@@ -235,7 +222,7 @@ impl<N: PoolName, K: Kind> Table<N, K> {
     /// what else a cut answered.
     fn cut_all<R: Wait>(&mut self, rt: &R, answers: &mut Answers) -> Option<Answer> {
         let mut wrong = fault_of(self.cut(rt), answers);
-        for (session, note) in self.sessions.iter_mut().zip(self.notes.iter_mut()) {
+        for (session, note) in self.sessions.iter_mut().zip(self.beside.notes.iter_mut()) {
             let fault = fault_of(K::cut_list(session, &mut note.cut), answers);
             wrong = wrong.or(fault);
         }
@@ -275,12 +262,15 @@ impl<N: PoolName, K: Kind> Table<N, K> {
             taker,
             end: _,
             mut sessions,
+            beside,
+        } = self;
+        let Beside {
+            device,
             first: _,
             others: _,
             mut notes,
-            device,
             lists,
-        } = self;
+        } = beside;
         let (core, _, _) = pool.finish(taker);
         let rest = K::trail(&core);
         let (mut agree, mut unread) = (true, 0u64);

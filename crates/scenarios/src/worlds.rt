@@ -1,4 +1,5 @@
 //! What a scenario made, and which of it is called.
+ghost use Rattle.std.specs.Prelude.{◌<◌, OnOk, vec_len, vec_capacity};
 
 use bp_check::{Setup, first_unlawful};
 use bp_core::{RecordingKeeper, SilentKeeper};
@@ -29,6 +30,16 @@ fn asks_the_trail(verb: Verb) -> bool {
         verb,
         Verb::Trail | Verb::Fresh | Verb::Cut | Verb::Entry | Verb::Totals | Verb::Refusals
     )
+}
+
+/// Makes room for one thing more. Where memory for it is refused, it is asked for once more.
+fn make_room(made: &mut Vec<Made>) -> Result<(), AllocError>
+    ensures { OnOk result (vec_len made.new < vec_capacity made.new) }
+{
+    match made.reserve(1) {
+        Ok(()) => Ok(()),
+        Err(_) => made.reserve(1),
+    }
 }
 
 /// What a line makes. Where memory may have been refused, the line is read once more.
@@ -139,19 +150,14 @@ impl World {
         }
     }
 
-    /// Has what was made, which is called from here on. Where memory for it is refused, it is asked for once more.
+    /// Has what was made, which is called from here on.
     fn have(&mut self, made: Made) -> Answer {
-        let at = self.made.len();
-        let had = match self.made.push(made) {
-            Ok(()) => true,
-            Err(failed) => self.made.push(failed.value).is_ok(),
+        let Ok(()) = make_room(&mut self.made) else {
+            return Answer::Refused(Refusal::OutOfMemory);
         };
-        if had {
-            self.at = at;
-            Answer::Reply(Reply::Done)
-        } else {
-            Answer::Refused(Refusal::OutOfMemory)
-        }
+        self.at = self.made.len();
+        self.made.push_reserved(made);
+        Answer::Reply(Reply::Done)
     }
 
     /// Whether what a line makes is there in this way. Else the rest of the scenario is passed over.
