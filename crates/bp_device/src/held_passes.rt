@@ -54,7 +54,7 @@ pub(crate) fn serials_differ<K: Keeper>(core: &PoolCore<K>)
     ensures { (held : List Grant) → EndsIn core.now held → SerialsDiffer held }
 {
     // A core's trail is legal, and a legal trail gives no number twice.
-    core.vouch();
+    core.keeps_the_rules();
 }
 
 /// The lowest client that holds a pass.

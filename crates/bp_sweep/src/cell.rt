@@ -191,7 +191,7 @@ pub(crate) fn count_cell<P: Port, R: Wait, G: Progress>(
     let mut core = SilentCore::new(alloc, port.geometry(), settings, frames, 1, ROOM)?;
     let mut totals = Totals::none();
     refer_all(rt, &mut core, port, references, &mut totals, progress, turn)?;
-    core.vouch();
+    core.keeps_the_rules();
     Ok(totals)
 }
 

@@ -287,7 +287,7 @@ pub fn run_workers_over<K: Kind, P: Port + Send, W: Worker<P, K> + Send, R: Thre
     };
     let ran = run_named::<Brand, P, K, W, R>(rt, alloc, core, parts, ports, workers);
     if let Ok(run) = &ran {
-        run.core.vouch();
+        run.core.keeps_the_rules();
     }
     ran
 }

@@ -19,7 +19,7 @@ use bp_trail::Entry;
 
 impl<K: Keeper> PoolCore<K> {
     /// Does nothing. What it ensures is true of every core, whether its entries can be read or not.
-    pub fn vouch(&self)
+    pub fn keeps_the_rules(&self)
         ensures legal { EachPast self.now (Legal self.now.parameters) }
         ensures safe { EachPast self.now (Safe self.now.parameters) }
         ensures plain { EachPast self.now HeldIsPlain }
@@ -100,7 +100,7 @@ impl<K: Keeper> PoolCore<K> {
         ensures { EachPast self.now (λ past. result ≡ unsaved past page) }
     {
         // An unsaved page is in a frame.
-        self.vouch();
+        self.keeps_the_rules();
         match self.frame(page) {
             Some(frame) => frame.is_unsaved,
             None => false,
@@ -137,7 +137,7 @@ impl PoolCore<RecordingKeeper> {
         ensures plain { EachPast self.now HeldIsPlain }
         ensures known { EachPast self.now ReadsAreKnown }
     {
-        self.vouch();
+        self.keeps_the_rules();
         self.trail.entries()
     }
 

@@ -15,4 +15,4 @@ returns-clause-counted g c =
     run-counted (cell_parameters (g.P.Port.geometry_of c.args.port.now) c.args.settings c.args.frames) c.in_ok-core.core c.refer_all.new.core c.args.references.now c.refer_all.new.totals
     (ap (λ (core : CoreView). core.parameters) c.in_ok-core.ensures.outcome.1 ∙ ap (λ (geometry : Geometry). cell_parameters geometry c.args.settings c.args.frames) c.geometry.ensures)
     (ap (λ (core : CoreView). core.past) c.in_ok-core.ensures.outcome.1)
-    c.in_ok-refer_all.ensures.run c.in_ok-refer_all.ensures.tallied c.vouch.ensures.legal
+    c.in_ok-refer_all.ensures.run c.in_ok-refer_all.ensures.tallied c.keeps_the_rules.ensures.legal

@@ -4,7 +4,7 @@ use Rattle.bp_trail.specs.Safety.{Safe}
 use Rattle.bp_trail.specs.Claims.{HeldIsPlain, ReadsAreKnown}
 use Rattle.bp_trail.proofs.Eviction.{safe}
 use Rattle.bp_trail.proofs.Content.{read_end_known, held-plain}
-use Rattle.bp_core.proofs.pool.PoolCore.vouch.Goals as goal
+use Rattle.bp_core.proofs.pool.PoolCore.keeps_the_rules.Goals as goal
 
 pub returns-clause-safe : goal.returns-clause-safe
 returns-clause-safe g c = subst (λ v. Safe v.parameters v.past) c.self.view_is (safe _ _ c.self.invariant.agrees.legal)
