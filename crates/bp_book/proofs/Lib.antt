@@ -1,6 +1,6 @@
 pub mod Asking
 pub mod Ending
 pub mod Posting
-pub mod Removing
+pub mod Holding
 pub mod Drains
 pub mod Keeping

@@ -14,7 +14,6 @@ use Rattle.bp_trail.specs.Trail.{Trail}
 use Rattle.bp_trail.specs.Pieces.{by}
 use Rattle.bp_trail.specs.Script.{held_passes}
 use Rattle.bp_core.specs.CoreView.{CoreView, with_entry}
-use Rattle.bp_frames.specs.Rising.{IsRisingBy}
 
 -- a client's own list, newest first, and what cuts handed out of it, the bytes of a page, and the room beyond all that the list owes: for entries, for passes held, and for copies of images
 pub record BookValue : Type 0 where
@@ -29,15 +28,6 @@ pub record BookValue : Type 0 where
 -- the pass is among those held
 abbrev pub is_held : Pass → List Grant → Bool
 is_held pass held = is_out (grant pass.client pass.page pass.serial) (reverse held)
-
--- the passes that a list holds, in the order taken, and how many more may be held with no memory taken
-pub record HeldValue : Type 0 where
-  pub passes : List Grant
-  pub room : ℕ
-
--- the numbers of the passes rise, if that is said of them
-abbrev pub MayRise : Bool → List Grant → Type 0
-MayRise is_rising passes = is_rising ≡ true → IsRisingBy (λ g. g.serial) passes
 
 -- the list and its owner stay
 pub record SameBook (old new : BookValue) : Type 0 where

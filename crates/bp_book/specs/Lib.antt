@@ -3,3 +3,4 @@ pub mod Books
 pub mod Turns
 pub mod Causes
 pub mod Rings
+pub mod Holding

@@ -1,6 +1,6 @@
 //! What a session keeps for itself: its own list of entries, with room for all that the list still owes.
 ghost use Rattle.std.specs.Prelude.{◌≡◌, ◌≤◌, ◌<◌, ◌+◌, ◌-◌, ◌*◌, ◌∷◌, ◌++◌, [], ◌==◌, true, not};
-ghost use Rattle.std.specs.Prelude.{filter, All, Some, None, length, reverse, IsOk, IfOk, IfSome};
+ghost use Rattle.std.specs.Prelude.{filter, All, Some, None, length, reverse, slice_get, IsOk, IfOk, IfSome};
 ghost use Rattle.std.specs.Prelude.{OnOk, OnErr, vec_len, vec_capacity};
 ghost use Rattle.bp_trail.specs.declared.entries.Call.TheVariants as Call;
 ghost use Rattle.bp_trail.specs.declared.entries.Reply.TheVariants as Reply;
@@ -139,12 +139,19 @@ impl<K: ListKeeper> Book<K> {
         self.client
     }
 
-    /// The passes that the list leaves out, in the order taken.
-    pub fn held(&self) -> &[PassNote]
-        ensures held { result.now ≡ held_passes self.now.said }
-        ensures own { All (λ g. g.client ≡ self.now.client) result.now }
+    /// How many passes the list leaves out.
+    pub fn held_count(&self) -> usize
+        ensures { result ≡ length (held_passes self.now.said) }
     {
-        self.held.notes()
+        self.held.len()
+    }
+
+    /// Of the passes that the list leaves out, the one taken first. All are the client's own.
+    pub fn oldest_held(&self) -> Option<PassNote>
+        ensures first { result ≡ slice_get (held_passes self.now.said) 0 }
+        ensures own { All (λ g. g.client ≡ self.now.client) (held_passes self.now.said) }
+    {
+        self.held.oldest()
     }
 
     /// Takes the memory for a mark, for one event, and for all that is owed then. No entry is added. Where memory is

@@ -1,41 +1,54 @@
 //! The passes that a list gave and that did not go back.
-ghost use Rattle.std.specs.Prelude.{◌≡◌, ◌≤◌, ◌<◌, ◌+◌, ◌^◌, ◌∷◌, ◌++◌, [], ◌==◌, true, not};
-ghost use Rattle.std.specs.Prelude.{filter, drop, length, reverse, IfSome, OnOk, vec_len, vec_capacity};
-ghost use Rattle.bp_trail.specs.Event.{Grant, grant, same_grant};
-ghost use Rattle.std.specs.List.{remove};
+ghost use Rattle.std.specs.Prelude.{◌≡◌, ◌≤◌, ◌<◌, ◌+◌, ◌^◌, ◌∷◌, ◌++◌, [], ◌==◌, ◌&&◌, ℕ, true, false, not};
+ghost use Rattle.std.specs.Prelude.{filter, length, reverse, slice_get, slice_index_or};
+ghost use Rattle.std.specs.Prelude.{OnOk, vec_len, vec_capacity};
+ghost use Rattle.bp_trail.specs.Event.{grant, same_grant};
+ghost use Rattle.bp_trail.specs.Lists.{some};
 ghost use Rattle.bp_frames.specs.Rising.{IsRisingBy, IsPlaceFor, IsPlaceOf};
-ghost use Rattle.bp_book.specs.Books.{MayRise, is_held};
+ghost use Rattle.bp_book.specs.declared.held.Slot.{Slot};
+ghost use Rattle.bp_book.specs.Books.{is_held};
+ghost use Rattle.bp_book.specs.Holding.{MayRise, IsFirst, IsPlaceHeld};
 
 use bp_core::{Pass, PassNote};
 use std::alloc::{AllocError, Global};
 use std::marker::Model;
 
+/// A pass that was taken.
+#[derive(Clone, Copy)]
+struct Slot {
+    note: PassNote,
+    /// Whether it did not go back.
+    is_held: bool,
+}
+
 /// The passes held, in the order taken.
 ///
-/// `push` takes O(1), `has` and `remove` O(log n) for n passes where the numbers rise, as those of one core do; of the
-/// passes that are removed only one from between others makes others move. `reserve` takes O(1) on average.
+/// A pass that goes back leaves its slot, so that no other moves. `push`, `oldest` and `len` take O(1). Where the
+/// numbers rise, as those of one core do, `has` takes O(log n) for n slots, and `remove` O(log n) on average. `reserve`
+/// takes O(1) on average: it closes up the slots where fewer than half of them are held.
 #[derive(Drop)]
 pub(crate) struct Held {
-    notes: Vec<PassNote>,
-    /// How many of the oldest notes went back.
-    gone: usize,
-    /// Whether each of the others has a greater number than the one before it.
+    slots: Vec<Slot>,
+    /// Where the oldest pass that is held stands, or the next one comes.
+    first: usize,
+    /// How many are held.
+    count: usize,
+    /// Whether each slot has a greater number than the one before it.
     is_rising: bool,
 }
 
 impl Model for Held {
-    ghost use Rattle.std.specs.Prelude.{◌≤◌, ◌-◌, drop, vec_len, vec_capacity};
-    ghost use Rattle.bp_book.specs.Books.{HeldValue, MayRise};
+    ghost use Rattle.std.specs.Prelude.{◌-◌, vec_len, vec_capacity};
+    ghost use Rattle.bp_book.specs.Holding.{HeldValue, passes_in, AreKept};
 
     ghost Value = { HeldValue };
 
     ghost view = { λ h. record {
-      passes = drop h.gone h.notes.items;
-      room = vec_capacity h.notes - vec_len h.notes;
+      passes = passes_in h.slots.items;
+      room = vec_capacity h.slots - vec_len h.slots;
     } };
 
-    ghost invariant = { λ h. (h.gone ≤ vec_len h.notes)
-        × MayRise h.is_rising (drop h.gone h.notes.items) };
+    ghost invariant = { λ h. AreKept h.slots.items h.first h.count h.is_rising };
 }
 
 /// Whether the note is of this pass.
@@ -47,71 +60,104 @@ fn is_of(note: &PassNote, pass: &Pass) -> bool
         && pass.serial() == note.serial()
 }
 
-/// Whether the note's pass has another serial number.
-fn differs(note: &PassNote, serial: u64) -> bool
-    ensures { result ≡ not (note.now.serial == serial) }
+/// Whether the slot's pass is this one, and is held.
+fn holds(slot: &Slot, pass: &Pass) -> bool
+    ensures { result ≡ (slot.now.is_held
+        && same_grant (grant pass.now.client pass.now.page pass.now.serial) slot.now.note) }
 {
-    note.serial() != serial
+    slot.is_held && is_of(&slot.note, pass)
 }
 
-/// Whether a pass is among those held. The one taken latest is looked at first.
-fn is_held(held: &[PassNote], pass: &Pass) -> bool
-    ensures { result ≡ is_held pass.now held.now }
+/// Whether a pass is among those held, found by a look at each slot. That taken latest is looked at first.
+fn is_among(slots: &[Slot], pass: &Pass) -> bool
+    ensures { result ≡ some (λ s. s.is_held
+        && same_grant (grant pass.now.client pass.now.page pass.now.serial) s.note) (reverse slots.now) }
 {
-    held.iter().rev().any(|note| is_of(note, pass))
+    slots.iter().rev().any(|slot| holds(slot, pass))
 }
 
-/// Removes each note with this serial number.
-fn remove_each(held: &mut Vec<PassNote>, serial: u64)
-    ensures held { held.new.items ≡ filter (λ g. not (g.serial == serial)) held.old.items }
-    ensures fewer { vec_len held.new ≤ vec_len held.old }
-    ensures capacity { vec_capacity held.new ≡ vec_capacity held.old }
+/// Whether the slot's pass is held, and has another serial number.
+fn is_another(slot: &Slot, serial: u64) -> bool
+    ensures { result ≡ (slot.now.is_held && not (slot.now.note.serial == serial)) }
 {
-    held.retain(|note| differs(note, serial));
+    slot.is_held && slot.note.serial() != serial
 }
 
-/// Drops so many of the oldest notes.
-fn drop_first(held: &mut Vec<PassNote>, count: usize)
-    requires { count ≤ vec_len held.old }
-    ensures held { held.new.items ≡ drop count held.old.items }
-    ensures fewer { vec_len held.new + count ≡ vec_len held.old }
-    ensures capacity { vec_capacity held.new ≡ vec_capacity held.old }
+/// Leaves the slots whose passes are held.
+fn close_up(slots: &mut Vec<Slot>)
+    ensures slots { slots.new.items ≡ filter (λ s. s.is_held) slots.old.items }
+    ensures fewer { vec_len slots.new ≤ vec_len slots.old }
+    ensures capacity { vec_capacity slots.new ≡ vec_capacity slots.old }
 {
-    let left = held.len() - count;
-    held.rotate_left(count);
-    held.truncate(left);
+    slots.retain(|slot| slot.is_held);
+}
+
+/// Leaves the slots whose passes are held and have another serial number.
+fn remove_each(slots: &mut Vec<Slot>, serial: u64)
+    ensures slots { slots.new.items ≡ filter
+        (λ s. s.is_held && not (s.note.serial == serial)) slots.old.items }
+    ensures fewer { vec_len slots.new ≤ vec_len slots.old }
+    ensures capacity { vec_capacity slots.new ≡ vec_capacity slots.old }
+{
+    slots.retain(|slot| is_another(slot, serial));
 }
 
 /// Whether the numbers rise with one note more.
-fn rises_with(held: &[PassNote], is_rising: bool, note: &PassNote) -> bool
-    requires { MayRise is_rising held.now }
-    ensures { MayRise result (held.now ++ note.now ∷ []) }
+fn rises_with(slots: &[Slot], is_rising: bool, note: &PassNote) -> bool
+    requires { MayRise is_rising slots.now }
+    ensures { (slot : Slot) → slot.note ≡ note.now → MayRise result (slots.now ++ slot ∷ []) }
 {
-    match held.last() {
-        Some(last) => is_rising && last.serial() < note.serial(),
+    match slots.last() {
+        Some(last) => is_rising && last.note.serial() < note.serial(),
         None => true,
     }
 }
 
-/// Where the note with this serial number stands or would stand, found by halving.
-fn place_for(held: &[PassNote], serial: u64) -> usize
-    requires { IsRisingBy (λ (g : Grant). g.serial) held.now }
-    ensures { IsPlaceFor (λ (g : Grant). g.serial) held.now serial result }
+/// Where the slot with this serial number stands or would stand, found by halving.
+fn place_for(slots: &[Slot], serial: u64) -> usize
+    requires { IsRisingBy (λ (s : Slot). s.note.serial) slots.now }
+    ensures { IsPlaceFor (λ (s : Slot). s.note.serial) slots.now serial result }
 {
-    held.partition_point(|note| note.serial() < serial)
+    slots.partition_point(|slot| slot.note.serial() < serial)
 }
 
-/// Where the note with this serial number stands, if it is there.
-fn place_of(held: &[PassNote], serial: u64) -> Option<usize>
-    requires { IsRisingBy (λ (g : Grant). g.serial) held.now }
-    ensures { IsPlaceOf (λ (g : Grant). g.serial) held.now serial result }
+/// Where the slot with this serial number stands, if it is there.
+fn place_of(slots: &[Slot], serial: u64) -> Option<usize>
+    requires { IsRisingBy (λ (s : Slot). s.note.serial) slots.now }
+    ensures { IsPlaceOf (λ (s : Slot). s.note.serial) slots.now serial result }
 {
-    let place = place_for(held, serial);
-    if place < held.len() && held[place].serial() == serial {
+    let place = place_for(slots, serial);
+    if place < slots.len() && slots[place].note.serial() == serial {
         Some(place)
     } else {
         None
     }
+}
+
+/// Where the pass with this serial number stands, if it is held.
+fn place_held(slots: &[Slot], serial: u64) -> Option<usize>
+    requires { IsRisingBy (λ (s : Slot). s.note.serial) slots.now }
+    ensures { IsPlaceHeld slots.now serial result }
+{
+    let place = place_of(slots, serial)?;
+    if slots[place].is_held {
+        Some(place)
+    } else {
+        None
+    }
+}
+
+/// The first place from this one on whose pass is held, or the end.
+fn first_from(slots: &[Slot], from: usize) -> usize
+    requires within { from ≤ length slots.now }
+    requires left { (k : ℕ) (d : Slot) → k < from → (slice_index_or slots.now k d).is_held ≡ false }
+    ensures { IsFirst slots.now result }
+{
+    let mut first = from;
+    while first < slots.len() && !slots[first].is_held {
+        first += 1;
+    }
+    first
 }
 
 impl Held {
@@ -120,17 +166,11 @@ impl Held {
         ensures { result.passes ≡ [] }
     {
         Held {
-            notes: Vec::new(alloc),
-            gone: 0,
+            slots: Vec::new(alloc),
+            first: 0,
+            count: 0,
             is_rising: true,
         }
-    }
-
-    /// Their notes, in the order taken.
-    pub(crate) fn notes(&self) -> &[PassNote]
-        ensures { result.now ≡ self.now.passes }
-    {
-        &self.notes[self.gone..]
     }
 
     /// How many there are.
@@ -138,7 +178,18 @@ impl Held {
         ensures count { result ≡ length self.now.passes }
         ensures small { result < 2 ^ 63 }
     {
-        self.notes.len() - self.gone
+        self.count
+    }
+
+    /// The pass that was taken first.
+    pub(crate) fn oldest(&self) -> Option<PassNote>
+        ensures { result ≡ slice_get self.now.passes 0 }
+    {
+        if self.first < self.slots.len() {
+            Some(self.slots[self.first].note)
+        } else {
+            None
+        }
     }
 
     /// Room for so many more. Where memory is refused the passes stay, with no less room.
@@ -147,11 +198,11 @@ impl Held {
         ensures room { OnOk result (more ≤ self.new.room) }
         ensures no_less { self.old.room ≤ self.new.room }
     {
-        if self.gone > self.notes.len() / 2 {
-            drop_first(&mut self.notes, self.gone);
-            self.gone = 0;
+        if self.count < self.slots.len() / 2 {
+            close_up(&mut self.slots);
+            self.first = 0;
         }
-        self.notes.reserve(more)
+        self.slots.reserve(more)
     }
 
     /// Adds the pass taken latest, which takes no memory.
@@ -160,8 +211,12 @@ impl Held {
         ensures passes { self.new.passes ≡ self.old.passes ++ note ∷ [] }
         ensures room { self.new.room + 1 ≡ self.old.room }
     {
-        self.is_rising = rises_with(self.notes(), self.is_rising, &note);
-        self.notes.push_reserved(note);
+        self.is_rising = rises_with(&self.slots, self.is_rising, &note);
+        self.slots.push_reserved(Slot {
+            note,
+            is_held: true,
+        });
+        self.count += 1;
     }
 
     /// Whether this pass is held.
@@ -169,26 +224,12 @@ impl Held {
         ensures { result ≡ is_held pass.now self.now.passes }
     {
         if !self.is_rising {
-            return is_held(self.notes(), pass);
+            return is_among(&self.slots, pass);
         }
-        let notes = self.notes();
-        match place_of(notes, pass.serial()) {
-            Some(place) => is_of(&notes[place], pass),
+        match place_of(&self.slots, pass.serial()) {
+            Some(place) => holds(&self.slots[place], pass),
             None => false,
         }
-    }
-
-    /// Removes the pass at this place.
-    fn remove_at(&mut self, place: usize)
-        requires { place < length self.old.passes }
-        ensures passes { self.new.passes ≡ remove self.old.passes place }
-        ensures room { self.old.room ≤ self.new.room }
-    {
-        if place == 0 {
-            self.gone += 1;
-            return;
-        }
-        self.notes.remove(self.gone + place);
     }
 
     /// Removes the pass with this serial number.
@@ -197,14 +238,16 @@ impl Held {
         ensures room { self.old.room ≤ self.new.room }
     {
         if !self.is_rising {
-            drop_first(&mut self.notes, self.gone);
-            self.gone = 0;
-            remove_each(&mut self.notes, serial);
+            remove_each(&mut self.slots, serial);
+            self.first = 0;
+            self.count = self.slots.len();
             return;
         }
-        match place_of(self.notes(), serial) {
-            Some(place) => self.remove_at(place),
-            None => {}
-        }
+        let Some(place) = place_held(&self.slots, serial) else {
+            return;
+        };
+        self.slots[place].is_held = false;
+        self.first = first_from(&self.slots, self.first);
+        self.count -= 1;
     }
 }

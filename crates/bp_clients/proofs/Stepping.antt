@@ -18,9 +18,8 @@ use Rattle.bp_trail.specs.Passes.{passes_out}
 use Rattle.bp_trail.specs.Pieces.{Outcome, by, outcome_of}
 use Rattle.bp_trail.specs.Pieces.Manner.{session}
 use Rattle.bp_trail.specs.Pieces.Outcome.{accepted, refused}
-use Rattle.bp_trail.specs.Script.{is_pass_of, latest_pass, WithPass, RowPiece, give_back}
+use Rattle.bp_trail.specs.Script.{is_pass_of, held_passes, latest_pass, WithPass, RowPiece, give_back}
 use Rattle.bp_trail.specs.declared.entries.Flushed.{Flushed}
-use Rattle.bp_device.specs.Rows.{AreHeld}
 use Rattle.bp_device.proofs.PieceSteps.{find-there, at-first, at-second}
 use Rattle.bp_book.specs.Turns.{ReadSaid, WriteSaid, TickSaid, PurgeSaid}
 use Rattle.bp_shared.specs.Sessions.{FixSaid, FlushSaid}
@@ -67,7 +66,7 @@ purge_refused client _ said after h = absurd h
 -- ---- with the pass that the client took latest
 
 -- what was found among the passes held is what the list gives
-pub latest_found : (held : List Grant) (said : Trail) (client page : ℕ) (found : Option Grant) → AreHeld held said → found ≡ find (is_pass_of client page) (reverse held) → found ≡ latest_pass said client page
+pub latest_found : (held : List Grant) (said : Trail) (client page : ℕ) (found : Option Grant) → held ≡ held_passes said → found ≡ find (is_pass_of client page) (reverse held) → found ≡ latest_pass said client page
 latest_found held said client page found are is = is ∙ ap (λ gs. find (is_pass_of client page) (reverse gs)) are ∙ ap (find (is_pass_of client page)) (reverse-reverse (passes_out said))
 
 -- the pass made from the note that was found

@@ -8,7 +8,7 @@ ghost use Rattle.bp_clients.specs.Jobs.{NoneIsStrange, ScriptFits};
 
 use crate::runner::Runner;
 use bp_core::{Entry, Refused, Row};
-use bp_device::note_refused;
+use bp_device::{HeldList, note_refused};
 use bp_page::Refusal;
 use bp_ports::Port;
 use bp_shared::{PoolName, SharedPool};
@@ -16,9 +16,11 @@ use std::alloc::{AllocError, Global};
 use std::marker::Model;
 use std::sync::Wait;
 
-/// What one client's thread is given, with room for all that it will note, and what it leaves.
+/// What one client's thread is given, and what it leaves, with room for it: where the pieces of its rows end, and its
+/// refused rows.
 #[derive(Drop)]
 pub(crate) struct Job<N: PoolName, P: Port> {
+    alloc: Global,
     runner: Runner<N, P>,
     script: Vec<Row>,
     /// How many entries the client's list had after each row.
@@ -65,6 +67,7 @@ fn is_fault(outcome: &Result<(), Refusal>) -> bool
 /// Runs the rows in order. Whether all were run: it ends at a fault of the run.
 fn run_rows<N: PoolName, P: Port, R: Wait>(
     rt: &R,
+    alloc: Global,
     pool: &SharedPool<N>,
     runner: &mut Runner<N, P>,
     script: &[Row],
@@ -82,8 +85,9 @@ fn run_rows<N: PoolName, P: Port, R: Wait>(
     ensures ends_capacity { vec_capacity ends.new ≡ vec_capacity ends.old }
     ensures refused_capacity { vec_capacity refused.new ≡ vec_capacity refused.old }
 {
+    let mut held = HeldList::new(alloc);
     for row in script {
-        let outcome = runner.step(rt, pool, &row.step);
+        let outcome = runner.step(rt, pool, &mut held, &row.step);
         if is_fault(&outcome) {
             return false;
         }
@@ -111,6 +115,7 @@ impl<N: PoolName, P: Port> Job<N, P> {
         let ends = Vec::with_capacity(alloc, script.len())?;
         let refused = Vec::with_capacity(alloc, script.len())?;
         Ok(Job {
+            alloc,
             runner,
             script,
             ends,
@@ -146,6 +151,7 @@ impl<N: PoolName, P: Port> Job<N, P> {
         }
         let all_run = run_rows(
             rt,
+            self.alloc,
             pool,
             &mut self.runner,
             &self.script,
@@ -168,6 +174,7 @@ impl<N: PoolName, P: Port> Job<N, P> {
         ensures undone { IfNone result (self.is_done ≡ false) }
     {
         let Job {
+            alloc: _,
             runner,
             script,
             ends,

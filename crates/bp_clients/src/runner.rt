@@ -11,7 +11,7 @@ ghost use Rattle.bp_trail.specs.Script.{next_to_go_back};
 ghost use Rattle.bp_clients.specs.Steps.{as_fault, StepSaid};
 
 use bp_core::{Entry, PassNote, Step};
-use bp_device::latest_pass;
+use bp_device::HeldList;
 use bp_page::{Bytes, Lsn, PageNo, Refusal};
 use bp_ports::Port;
 use bp_shared::{LogWriter, PoolName, Session, SharedPool, give_back};
@@ -79,7 +79,7 @@ fn next_of<N: PoolName>(session: &Session<N>) -> Option<PassNote>
     ensures first { result ≡ next_to_go_back session.now.said }
     ensures none { IfNone result (held_passes session.now.said ≡ []) }
 {
-    session.held().first().copied()
+    session.oldest_held()
 }
 
 impl<N: PoolName, P: Port> Runner<N, P> {
@@ -119,20 +119,24 @@ impl<N: PoolName, P: Port> Runner<N, P> {
         session.into_said()
     }
 
-    fn fix<R: Wait>(&mut self, rt: &R, pool: &SharedPool<N>, page: PageNo) -> Result<(), Refusal>
+    fn fix<R: Wait>(
+        &mut self,
+        rt: &R,
+        pool: &SharedPool<N>,
+        held: &mut HeldList,
+        page: PageNo,
+    ) -> Result<(), Refusal>
         requires page_in { page < N.parameters.pages }
+        requires held { held.old.passes ≡ held_passes self.old.said }
         ensures client { self.new.client ≡ self.old.client }
         ensures outcome { StepSaid self.old.client (Step.Fix page)
             (outcome_of result) self.old.said self.new.said }
+        ensures held { held.new.passes ≡ held_passes self.new.said }
     {
-        match pool.fix(rt, &mut self.session, &mut self.port, page) {
-            Ok(pass) => {
-                // The session knows which passes it holds.
-                pass.note();
-                Ok(())
-            }
-            Err(refusal) => Err(refusal),
-        }
+        held.reserve(1)?;
+        let pass = pool.fix(rt, &mut self.session, &mut self.port, page)?;
+        held.push(pass.note());
+        Ok(())
     }
 
     fn flush<R: Wait>(&mut self, rt: &R, pool: &SharedPool<N>, page: PageNo) -> Result<(), Refusal>
@@ -140,6 +144,7 @@ impl<N: PoolName, P: Port> Runner<N, P> {
         ensures client { self.new.client ≡ self.old.client }
         ensures outcome { StepSaid self.old.client (Step.Flush page)
             (outcome_of result) self.old.said self.new.said }
+        ensures held { held_passes self.new.said ≡ held_passes self.old.said }
     {
         match pool.flush(rt, &mut self.session, &mut self.port, page) {
             Ok(_) => Ok(()),
@@ -148,19 +153,28 @@ impl<N: PoolName, P: Port> Runner<N, P> {
     }
 
     /// The pass of the page that the client took latest and still holds.
-    fn latest(&self, page: PageNo) -> Option<PassNote>
+    fn latest(&self, held: &HeldList, page: PageNo) -> Option<PassNote>
+        requires held { held.now.passes ≡ held_passes self.now.said }
         ensures { result ≡ latest_pass self.now.said self.now.client page }
     {
-        latest_pass(self.session.held(), self.session.client(), page)
+        held.latest(self.session.client(), page)
     }
 
     /// `Disagree` where the pool does not know a pass that the client holds.
-    fn read<R: Wait>(&mut self, rt: &R, pool: &SharedPool<N>, page: PageNo) -> Result<(), Refusal>
+    fn read<R: Wait>(
+        &mut self,
+        rt: &R,
+        pool: &SharedPool<N>,
+        held: &HeldList,
+        page: PageNo,
+    ) -> Result<(), Refusal>
+        requires held { held.now.passes ≡ held_passes self.old.said }
         ensures client { self.new.client ≡ self.old.client }
         ensures outcome { StepSaid self.old.client (Step.Read page)
             (outcome_of result) self.old.said self.new.said }
+        ensures held { held_passes self.new.said ≡ held_passes self.old.said }
     {
-        let Some(note) = self.latest(page) else {
+        let Some(note) = self.latest(held, page) else {
             return Err(Refusal::UnknownPass);
         };
         let pass = note.pass();
@@ -178,17 +192,20 @@ impl<N: PoolName, P: Port> Runner<N, P> {
         &mut self,
         rt: &R,
         pool: &SharedPool<N>,
+        held: &HeldList,
         page: PageNo,
         offset: u32,
         bytes: &Bytes,
         lsn: Lsn,
     ) -> Result<(), Refusal>
         requires fits { offset + length bytes.now ≤ N.parameters.size }
+        requires held { held.now.passes ≡ held_passes self.old.said }
         ensures client { self.new.client ≡ self.old.client }
         ensures outcome { StepSaid self.old.client (Step.Write page offset bytes.now lsn)
             (outcome_of result) self.old.said self.new.said }
+        ensures held { held_passes self.new.said ≡ held_passes self.old.said }
     {
-        let Some(note) = self.latest(page) else {
+        let Some(note) = self.latest(held, page) else {
             return Err(Refusal::UnknownPass);
         };
         let pass = note.pass();
@@ -200,21 +217,36 @@ impl<N: PoolName, P: Port> Runner<N, P> {
         }
     }
 
-    fn unfix<R: Wait>(&mut self, rt: &R, pool: &SharedPool<N>, page: PageNo) -> Result<(), Refusal>
+    /// `Disagree` where the numbers of the passes do not rise, or the session can't give the pass back.
+    fn unfix<R: Wait>(
+        &mut self,
+        rt: &R,
+        pool: &SharedPool<N>,
+        held: &mut HeldList,
+        page: PageNo,
+    ) -> Result<(), Refusal>
+        requires held { held.old.passes ≡ held_passes self.old.said }
         ensures client { self.new.client ≡ self.old.client }
         ensures outcome { StepSaid self.old.client (Step.Unfix page)
             (outcome_of result) self.old.said self.new.said }
+        ensures held { held.new.passes ≡ held_passes self.new.said }
     {
-        let Some(note) = self.latest(page) else {
+        let Some(note) = self.latest(held, page) else {
             return Err(Refusal::UnknownPass);
         };
-        post(rt, pool, &mut self.session, note)
+        if !held.serials_rise() {
+            return Err(Refusal::Disagree);
+        }
+        post(rt, pool, &mut self.session, note)?;
+        held.take_latest(self.session.client(), page);
+        Ok(())
     }
 
     fn tick<R: Wait>(&mut self, rt: &R, pool: &SharedPool<N>, n: u64) -> Result<(), Refusal>
         ensures client { self.new.client ≡ self.old.client }
         ensures outcome { StepSaid self.old.client (Step.Tick n)
             (outcome_of result) self.old.said self.new.said }
+        ensures held { held_passes self.new.said ≡ held_passes self.old.said }
     {
         pool.tick(rt, &mut self.session, n)
     }
@@ -223,6 +255,7 @@ impl<N: PoolName, P: Port> Runner<N, P> {
         ensures client { self.new.client ≡ self.old.client }
         ensures outcome { StepSaid self.old.client Step.Purge
             (outcome_of result) self.old.said self.new.said }
+        ensures held { held_passes self.new.said ≡ held_passes self.old.said }
     {
         match pool.purge(rt, &mut self.session) {
             Ok(_) => Ok(()),
@@ -235,6 +268,7 @@ impl<N: PoolName, P: Port> Runner<N, P> {
         ensures client { self.new.client ≡ self.old.client }
         ensures outcome { StepSaid self.old.client (Step.Log lsn)
             (outcome_of result) self.old.said self.new.said }
+        ensures held { held_passes self.new.said ≡ held_passes self.old.said }
     {
         if let Some(log) = &mut self.log {
             log.raise(pool, lsn);
@@ -242,29 +276,33 @@ impl<N: PoolName, P: Port> Runner<N, P> {
         Ok(())
     }
 
-    /// Does what a step asks for. `UnknownTicket` and `Disagree` are that the pool does not know
-    /// what it gave: then the run is at fault. Every other refusal is the row's.
+    /// Does what a step asks for, with the passes that the client holds at hand. `UnknownTicket` and `Disagree` are
+    /// that the pool does not know what it gave, or gave passes whose numbers do not rise: then the run is at fault.
+    /// Every other refusal is the row's.
     pub(crate) fn step<R: Wait>(
         &mut self,
         rt: &R,
         pool: &SharedPool<N>,
+        held: &mut HeldList,
         step: &Step,
     ) -> Result<(), Refusal>
         requires fits { StepFits N.parameters step.now }
+        requires held { held.old.passes ≡ held_passes self.old.said }
         ensures client { self.new.client ≡ self.old.client }
         ensures outcome { StepSaid self.old.client step.now
             (outcome_of result) self.old.said self.new.said }
+        ensures held { held.new.passes ≡ held_passes self.new.said }
     {
         match step {
-            Step::Fix(page) => self.fix(rt, pool, *page),
-            Step::Unfix(page) => self.unfix(rt, pool, *page),
-            Step::Read(page) => self.read(rt, pool, *page),
+            Step::Fix(page) => self.fix(rt, pool, held, *page),
+            Step::Unfix(page) => self.unfix(rt, pool, held, *page),
+            Step::Read(page) => self.read(rt, pool, held, *page),
             Step::Write {
                 page,
                 offset,
                 bytes,
                 lsn,
-            } => self.write(rt, pool, *page, *offset, bytes, *lsn),
+            } => self.write(rt, pool, held, *page, *offset, bytes, *lsn),
             Step::Flush(page) => self.flush(rt, pool, *page),
             Step::Tick(n) => self.tick(rt, pool, *n),
             Step::Purge => self.purge(rt, pool),

@@ -2,6 +2,7 @@ pub mod Causes
 pub mod ClientPasses
 pub mod Driving
 pub mod GivingBack
+pub mod HeldRising
 pub mod HeldSlots
 pub mod PieceSteps
 pub mod Removing

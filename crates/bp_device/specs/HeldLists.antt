@@ -3,6 +3,7 @@ use Rattle.std.specs.Prelude.{◌≡◌, ℕ, Bool, true, ◌&&◌, ◌==◌, if
 use Rattle.std.specs.HashMap.{HashMap, get}
 use Rattle.bp_trail.specs.Event.{Grant}
 use Rattle.bp_trail.specs.Script.{is_pass_of}
+use Rattle.bp_frames.specs.Rising.{IsRisingBy}
 use Rattle.bp_device.specs.declared.held_list.Slot.{Slot}
 
 -- the passes, in the order taken, and how many more the list takes with no memory taken
@@ -14,6 +15,10 @@ pub record HeldValue : Type 0 where
 abbrev pub passes_in : List Slot → List Grant
 passes_in [] = []
 passes_in (s ∷ ss) = if s.is_held then s.note ∷ passes_in ss else passes_in ss
+
+-- the serial numbers of the slots rise, if that is said of them
+abbrev pub MayRise : Bool → List Slot → Type 0
+MayRise is_rising slots = is_rising ≡ true → IsRisingBy (λ s. s.note.serial) slots
 
 -- a key is a client and a page
 abbrev pub same_key : ℕ × ℕ → ℕ × ℕ → Bool

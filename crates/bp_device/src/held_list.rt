@@ -1,10 +1,11 @@
 //! The passes that a script's clients hold, with the latest of each client and page at hand.
 ghost use Rattle.std.specs.Prelude.{◌≡◌, ◌≤◌, ◌<◌, ◌+◌, ◌++◌, ◌∷◌, [], ◌==◌, ℕ, not, find, filter, reverse};
 ghost use Rattle.std.specs.Prelude.{length, if◌then◌else◌, vec_len, vec_capacity};
-ghost use Rattle.std.specs.Prelude.{IfNone, IfOk, IfSome, IsSome, IsTrue};
+ghost use Rattle.std.specs.Prelude.{IfNone, IfSome, IsSome, IsTrue, OnOk};
 ghost use Rattle.std.specs.HashMap.{get, spare};
 ghost use Rattle.bp_trail.specs.Script.{is_pass_of};
-ghost use Rattle.bp_device.specs.HeldLists.{passes_in, same_key};
+ghost use Rattle.bp_device.specs.declared.held_list.Slot.{Slot};
+ghost use Rattle.bp_device.specs.HeldLists.{passes_in, same_key, MayRise};
 ghost use Rattle.bp_device.specs.Rows.{SerialsDiffer};
 
 use bp_core::PassNote;
@@ -29,18 +30,22 @@ struct Slot {
 /// The passes that are held, in the order taken.
 ///
 /// `latest`, `push` and `take_latest` take O(1) on average, whatever is held: they look at no other pass, move none and
-/// take no memory. A pass that goes back leaves its slot, which keeps the order of the others.
+/// take no memory. A pass that goes back leaves its slot, which keeps the order of the others. So the list takes memory
+/// for each pass that was taken.
 #[derive(Drop)]
-pub(crate) struct HeldList {
+pub struct HeldList {
     slots: Vec<Slot>,
     /// Where the pass stands that a client took latest of a page and holds.
     latest: HashMap<Key, usize>,
+    /// Whether each slot has a greater serial number than the one before it.
+    is_rising: bool,
 }
 
 impl Model for HeldList {
     ghost use Rattle.std.specs.Prelude.{◌-◌, min, reverse, vec_len, vec_capacity};
     ghost use Rattle.std.specs.HashMap.{spare};
     ghost use Rattle.bp_device.specs.HeldLists.{HeldValue, passes_in, AreLinked, FindsNewest};
+    ghost use Rattle.bp_device.specs.HeldLists.{MayRise};
 
     ghost Value = { HeldValue };
 
@@ -50,7 +55,8 @@ impl Model for HeldList {
     } };
 
     ghost invariant = { λ h. AreLinked (reverse h.slots.items)
-        × FindsNewest h.latest (reverse h.slots.items) };
+        × FindsNewest h.latest (reverse h.slots.items)
+        × MayRise h.is_rising h.slots.items };
 }
 
 /// Whose pass it is and of which page.
@@ -86,6 +92,17 @@ fn relink(latest: &mut HashMap<Key, usize>, key: Key, place: Option<usize>)
     }
 }
 
+/// Whether the numbers rise with one note more.
+fn rises_with(slots: &[Slot], is_rising: bool, note: &PassNote) -> bool
+    requires { MayRise is_rising slots.now }
+    ensures { (slot : Slot) → slot.note ≡ note.now → MayRise result (slots.now ++ slot ∷ []) }
+{
+    match slots.last() {
+        Some(last) => is_rising && last.note.serial() < note.serial(),
+        None => true,
+    }
+}
+
 /// Adds the slot's note, if its pass is held.
 fn add_held(notes: &mut Vec<PassNote>, slot: &Slot)
     requires room { IsTrue slot.now.is_held → vec_len notes.old < vec_capacity notes.old }
@@ -110,18 +127,37 @@ fn copy_held(slots: &[Slot], notes: &mut Vec<PassNote>)
 }
 
 impl HeldList {
-    /// None, with room for so many. It fails by want of memory alone.
-    pub(crate) fn with_capacity(alloc: Global, room: usize) -> Result<HeldList, AllocError>
-        ensures none { IfOk result (λ held. held.passes ≡ []) }
-        ensures room { IfOk result (λ held. room ≤ held.room) }
+    /// None. It takes no memory.
+    pub fn new(alloc: Global) -> HeldList
+        ensures { result.passes ≡ [] }
     {
-        let slots = Vec::with_capacity(alloc, room)?;
-        let latest = HashMap::with_capacity(alloc, room)?;
-        Ok(HeldList { slots, latest })
+        HeldList {
+            slots: Vec::new(alloc),
+            latest: HashMap::new(alloc),
+            is_rising: true,
+        }
+    }
+
+    /// Room for so many more. Where memory is refused the passes stay, with no less room.
+    pub fn reserve(&mut self, more: usize) -> Result<(), AllocError>
+        ensures passes { self.new.passes ≡ self.old.passes }
+        ensures room { OnOk result (more ≤ self.new.room) }
+        ensures no_less { self.old.room ≤ self.new.room }
+    {
+        self.slots.reserve(more)?;
+        self.latest.reserve(more)
+    }
+
+    /// Whether each pass had a greater serial number than the one taken before it, as those of one core have. Then no
+    /// two have the same.
+    pub fn serials_rise(&self) -> bool
+        ensures { IsTrue result → SerialsDiffer self.now.passes }
+    {
+        self.is_rising
     }
 
     /// The pass of the page that the client took latest.
-    pub(crate) fn latest(&self, client: u8, page: PageNo) -> Option<PassNote>
+    pub fn latest(&self, client: u8, page: PageNo) -> Option<PassNote>
         ensures { result ≡ find (is_pass_of client page) (reverse self.now.passes) }
     {
         let Some(place) = place_of(&self.latest, (client, page.number())) else {
@@ -131,11 +167,12 @@ impl HeldList {
     }
 
     /// Adds the pass taken latest, which takes no memory.
-    pub(crate) fn push(&mut self, note: PassNote)
+    pub fn push(&mut self, note: PassNote)
         requires room { 0 < self.old.room }
         ensures passes { self.new.passes ≡ self.old.passes ++ note ∷ [] }
         ensures room { self.old.room ≤ self.new.room + 1 }
     {
+        self.is_rising = rises_with(&self.slots, self.is_rising, &note);
         let place = self.slots.len();
         let Ok(previous) = self.latest.insert(key_of(&note), place) else {
             unreachable!()
@@ -147,8 +184,9 @@ impl HeldList {
         });
     }
 
-    /// Takes out the pass of the page that the client took latest, and gives its note.
-    pub(crate) fn take_latest(&mut self, client: u8, page: PageNo) -> Option<PassNote>
+    /// Takes out the pass of the page that the client took latest, and gives its note. Where the client holds none of
+    /// the page, nothing changes.
+    pub fn take_latest(&mut self, client: u8, page: PageNo) -> Option<PassNote>
         requires differ { SerialsDiffer self.old.passes }
         ensures note { result ≡ find (is_pass_of client page) (reverse self.old.passes) }
         ensures taken { IfSome result (λ note. self.new.passes ≡

@@ -1,40 +1,21 @@
 //! The passes that a script's clients hold, as notes in the order taken.
-ghost use Rattle.std.specs.Prelude.{IfNone, IfSome, All, Any, List, true, not, ◌==◌, find, filter};
-ghost use Rattle.std.specs.Prelude.{reverse, ◌≡◌, ◌≤◌, []};
+ghost use Rattle.std.specs.Prelude.{IfNone, IfSome, All, Any, List, true, not, ◌==◌, filter};
+ghost use Rattle.std.specs.Prelude.{◌≡◌, ◌≤◌, []};
 ghost use Rattle.bp_trail.specs.declared.entries.Call.TheVariants as Call;
 ghost use Rattle.bp_trail.specs.declared.entries.Reply.TheVariants as Reply;
 ghost use Rattle.bp_trail.specs.Event.{Grant};
 ghost use Rattle.bp_trail.specs.Passes.{passes_out};
 ghost use Rattle.bp_trail.specs.Legal.{is_out};
 ghost use Rattle.bp_core.specs.CoreView.{EachPast, with_entry};
-ghost use Rattle.bp_trail.specs.Script.{is_pass_of};
 ghost use Rattle.bp_device.specs.Rows.{EndsIn, SerialsDiffer, GoingBack, GaveBack};
 
 use bp_core::{Keeper, PassNote, PoolCore};
-use bp_page::PageNo;
-
-/// Whether the note is of a pass of the page that the client took.
-fn is_of(note: &PassNote, client: u8, page: PageNo) -> bool
-    ensures { result ≡ is_pass_of client page note.now }
-{
-    note.client() == client && note.page().number() == page.number()
-}
 
 /// Whether the note is of a pass that this client took.
 fn is_taken_by(note: &PassNote, client: u8) -> bool
     ensures { result ≡ (note.now.client == client) }
 {
     note.client() == client
-}
-
-/// Of the passes that are held, in the order taken, the one of the page that the client took latest.
-pub fn latest_pass(held: &[PassNote], client: u8, page: PageNo) -> Option<PassNote>
-    ensures { result ≡ find (is_pass_of client page) (reverse held.now) }
-{
-    held.iter()
-        .rev()
-        .find(|note| is_of(note, client, page))
-        .copied()
 }
 
 /// Gives the pass back. Its note stays.

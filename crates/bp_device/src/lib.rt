@@ -3,7 +3,7 @@
 
 pub mod drivers;
 mod held_list;
-pub mod held_passes;
+mod held_passes;
 mod rows;
 pub mod scripts;
 
@@ -13,5 +13,5 @@ pub use bp_ports::{
 };
 pub use bp_trail::Flushed;
 pub use drivers::{drive_fix, drive_flush};
-pub use held_passes::latest_pass;
+pub use held_list::HeldList;
 pub use scripts::{drive_all, note_refused};

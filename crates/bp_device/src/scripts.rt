@@ -82,7 +82,8 @@ pub fn drive_all<K: Keeper, P: Port, R: Wait>(
     ensures work { DoesWork P.read_gives P.write_gives core.old port.old core.new port.new }
     ensures geometry { P.geometry_of port.new ≡ P.geometry_of port.old }
 {
-    let mut held = HeldList::with_capacity(alloc, rows.len())?;
+    let mut held = HeldList::new(alloc);
+    held.reserve(rows.len())?;
     let mut left = Vec::with_capacity(alloc, rows.len())?;
     let mut refused = Vec::with_capacity(alloc, rows.len())?;
     drive_rows(rt, core, port, &mut held, &mut refused, rows);

@@ -59,7 +59,7 @@ impl<N: PoolName, K: ListKeeper> Model for Session<N, K> {
 }
 
 impl<N: PoolName, K: ListKeeper> Session<N, K> {
-    ghost use Rattle.std.specs.Prelude.{◌≡◌, ◌<◌, [], All};
+    ghost use Rattle.std.specs.Prelude.{◌≡◌, ◌<◌, [], All, length, slice_get};
     ghost use Rattle.rtrb.specs.Ring.{sent, known_free};
     ghost use Rattle.bp_trail.specs.Script.{held_passes};
     ghost use Rattle.bp_shared.specs.Sessions.{UnfixSaid};
@@ -98,12 +98,19 @@ impl<N: PoolName, K: ListKeeper> Session<N, K> {
         self.book.client()
     }
 
-    /// The passes that the list gave and did not give back, in the order taken.
-    pub fn held(&self) -> &[PassNote]
-        ensures held { result.now ≡ held_passes self.now.said }
-        ensures own { All (λ g. g.client ≡ self.now.client) result.now }
+    /// How many passes the list gave and did not give back.
+    pub fn held_count(&self) -> usize
+        ensures { result ≡ length (held_passes self.now.said) }
     {
-        self.book.held()
+        self.book.held_count()
+    }
+
+    /// Of the passes that the list gave and did not give back, the one taken first. All are the client's own.
+    pub fn oldest_held(&self) -> Option<PassNote>
+        ensures first { result ≡ slice_get (held_passes self.now.said) 0 }
+        ensures own { All (λ g. g.client ≡ self.now.client) (held_passes self.now.said) }
+    {
+        self.book.oldest_held()
     }
 
     /// Ends the session and gives what it kept for itself: its own list, and the passes that it holds. It takes no

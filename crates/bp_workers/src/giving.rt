@@ -17,7 +17,7 @@ fn give_first_back<N: PoolName, K: ListKeeper, R: Wait>(
     ensures before { session.new.before ≡ session.old.before }
     ensures back { GoBack session.old.said session.new.said }
 {
-    let Some(note) = session.held().first().copied() else {
+    let Some(note) = session.oldest_held() else {
         return;
     };
     if let Err((pass, _)) = give_back(rt, pool, session, note.pass()) {
@@ -36,8 +36,8 @@ pub(crate) fn give_back_all<N: PoolName, K: ListKeeper, R: Wait>(
     ensures back { GoBack session.old.said session.new.said }
     ensures all { IsTrue result ↔ held_passes session.new.said ≡ [] }
 {
-    for _ in 0..session.held().len() {
+    for _ in 0..session.held_count() {
         give_first_back(rt, pool, session);
     }
-    session.held().is_empty()
+    session.held_count() == 0
 }

@@ -67,7 +67,7 @@ impl<N: PoolName, P: Port, K: ListKeeper, W: Worker<P, K>> Job<N, P, K, W> {
             Some(upkeep) => self.worker.lead(rt, pool, &mut self.client, upkeep),
             None => self.worker.work(rt, pool, &mut self.client),
         }
-        self.held = self.client.session.held().len();
+        self.held = self.client.session.held_count();
         self.all_went_back = give_back_all(rt, pool, &mut self.client.session);
     }
 

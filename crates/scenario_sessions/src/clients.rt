@@ -60,7 +60,7 @@ fn tickets_out(entries: &[Entry]) -> u64 {
 pub(crate) fn told_of<N: PoolName, K: Kind>(session: &Session<N, K>, failures: u64) -> Told {
     let list = K::list(session);
     Told {
-        held: session.held().len(),
+        held: session.held_count(),
         entries: list.len(),
         out: tickets_out(list),
         failures,
@@ -97,7 +97,7 @@ pub(crate) fn tell<N: PoolName, K: Kind>(
     let entries = K::list(session).len() as u64;
     match verb {
         Verb::List => Some(Answer::Number(entries.saturating_sub(note.unread.saturating_mul(2)))),
-        Verb::Held => Some(Answer::Number(session.held().len() as u64)),
+        Verb::Held => Some(Answer::Number(session.held_count() as u64)),
         Verb::CutList => Some(K::cut_list(session, &mut note.cut)),
         Verb::Failures => Some(Answer::Number(failures)),
         _ => None,

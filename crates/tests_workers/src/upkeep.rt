@@ -47,7 +47,7 @@ impl Hoarder {
         ensures client { client.new.session.client ≡ client.old.session.client }
     {
         for _ in 0..PASSES {
-            let Some(note) = client.session.held().first().copied() else {
+            let Some(note) = client.session.oldest_held() else {
                 return;
             };
             if give(rt, pool, client, note).is_ok() {

@@ -26,6 +26,7 @@ loop-row-preserved g c =
           (follows-more c.loop-row.runner.client (take at c.args.script.now) row c.loop-row.ends.items c.push_reserved.new.self.items _ _ c.loop-row.refused.items c.note_refused.new.refused.items (outcome_of c.step-outcome.result) (fits.own ∙ sym i.client) i.follows c.step-outcome.ensures.outcome none c.note_refused.ensures.refused
           (c.push_reserved.ensures.items ∙ ap (λ n. c.loop-row.ends.items ++ n ∷ []) c.count.ensures));
       known = known-more row.row c.loop-row.refused.items c.note_refused.new.refused.items (outcome_of c.step-outcome.result) i.known none c.note_refused.ensures.refused;
+      held = c.step-outcome.ensures.held;
       few_ends = omega (arith, c.push_reserved.ensures.len, i.few_ends);
       few_refused = omega (arith, c.note_refused.ensures.more, i.few_refused);
       ends_capacity = c.push_reserved.ensures.capacity ∙ i.ends_capacity;

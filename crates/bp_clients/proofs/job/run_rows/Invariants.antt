@@ -1,7 +1,7 @@
 -- The list so far follows the rows so far.
 use Rattle.std.proofs.Common.{◌≡◌, ◌≤◌, reverse, take, vec_len, vec_capacity}
 use Rattle.bp_trail.specs.Pieces.Manner.{session}
-use Rattle.bp_trail.specs.Script.{FollowsBy}
+use Rattle.bp_trail.specs.Script.{FollowsBy, held_passes}
 use Rattle.bp_clients.specs.Jobs.{NoneIsStrange}
 use Rattle.bp_clients.proofs.job.run_rows.Given as goal
 
@@ -10,6 +10,7 @@ invariant-loop-row g l = record {
   client : l.runner.client ≡ l.initial.runner.client;
   follows : FollowsBy session (reverse (take l.row-index l.script)) (reverse l.ends.items) l.runner.said (reverse l.refused.items);
   known : NoneIsStrange l.refused.items;
+  held : l.held.passes ≡ held_passes l.runner.said;
   few_ends : vec_len l.ends ≤ l.row-index;
   few_refused : vec_len l.refused ≤ l.row-index;
   ends_capacity : vec_capacity l.ends ≡ vec_capacity l.initial.ends;

@@ -25,14 +25,10 @@ none-of : (held : List Grant) → IfNone (slice_get held 0) (held ≡ [])
 none-of [] = refl
 none-of (g ∷ gs) = tt
 
-first-held : (client : ℕ) (held kept : List Grant) → All (λ (x : Grant). x.client ≡ client) held → held ≡ kept → slice_get held 0 ≡ first_to_go_back kept
-first-held client held kept own is = first-of client held own ∙ ap first_to_go_back is
-
 pub returns-clause-first : goal.returns-clause-first
 returns-clause-first g c =
-    c.copied.ensures ∙ c.first.ensures.value ∙ first-held c.args.session.now.client c.held.result.now _ c.held.ensures.own c.held.ensures.held
+    c.oldest_held.ensures.first ∙ first-of c.args.session.now.client (held_passes c.args.session.now.said) c.oldest_held.ensures.own
 
 pub returns-clause-none : goal.returns-clause-none
 returns-clause-none g c =
-    subst (λ (o : Option Grant). IfNone o (held_passes c.args.session.now.said ≡ [])) (sym (c.copied.ensures ∙ c.first.ensures.value))
-    (subst (λ (gs : List Grant). IfNone (slice_get c.held.result.now 0) (gs ≡ [])) c.held.ensures.held (none-of c.held.result.now))
+    subst (λ (o : Option Grant). IfNone o (held_passes c.args.session.now.said ≡ [])) (sym c.oldest_held.ensures.first) (none-of (held_passes c.args.session.now.said))

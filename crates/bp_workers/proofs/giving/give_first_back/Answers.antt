@@ -1,5 +1,5 @@
 -- The first pass held went back, or none did.
-use Rattle.std.proofs.Common.{sym, ◌∙◌, rules}
+use Rattle.std.proofs.Common.{refl, sym, ◌∙◌, rules}
 use Rattle.bp_workers.proofs.GoingBack.{nothing_back, first_back}
 use Rattle.bp_workers.proofs.giving.give_first_back.Goals as goal
 
@@ -10,4 +10,4 @@ pub returns-in-Err-clause-back : goal.returns-in-Err-clause-back
 returns-in-Err-clause-back g c = search (rules, nothing_back)
 
 pub returns-in_default-give_back-clause-back : goal.returns-in_default-give_back-clause-back
-returns-in_default-give_back-clause-back g c = first_back _ _ c.held.result.now c.in-Some.note c.held.ensures.held (sym c.first.ensures.value ∙ sym c.copied.ensures ∙ c.in-Some.is) (search rules)
+returns-in_default-give_back-clause-back g c = first_back _ _ _ c.in-Some.note refl (sym c.oldest_held.ensures.first ∙ c.in-Some.is) (search rules)

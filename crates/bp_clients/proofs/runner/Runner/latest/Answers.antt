@@ -1,4 +1,4 @@
--- The passes held are those that the list leaves out.
+-- The passes at hand are those that the list leaves out.
 use Rattle.std.proofs.Common.{◌∙◌, ap}
 use Rattle.std.specs.Prelude.{find, reverse}
 use Rattle.bp_trail.specs.Script.{is_pass_of}
@@ -8,5 +8,5 @@ use Rattle.bp_clients.proofs.runner.Runner.latest.Goals as goal
 pub returns : goal.returns
 returns g c =
     rw (← c.self.view_is)
-    (latest_found c.held.result.now c.self.inside.session.said c.self.inside.session.client c.args.page c.latest_pass.result c.held.ensures.held
-    (c.latest_pass.ensures ∙ ap (λ who. find (is_pass_of who c.args.page) (reverse c.held.result.now)) c.client.ensures))
+    (latest_found c.args.held.now.passes c.self.inside.session.said c.self.inside.session.client c.args.page c.latest.result (rw (← c.self.view_is) at c.requires.held)
+    (c.latest.ensures ∙ ap (λ who. find (is_pass_of who c.args.page) (reverse c.args.held.now.passes)) c.client.ensures))

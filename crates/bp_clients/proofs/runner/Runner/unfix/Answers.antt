@@ -1,10 +1,27 @@
--- The latest pass goes back.
-use Rattle.std.proofs.Common.{◌≡◌, Some, sym, ◌∙◌}
-use Rattle.bp_trail.specs.Script.{latest_pass}
-use Rattle.bp_clients.proofs.Stepping.{posted_said}
+-- The latest pass goes back, and is at hand no more.
+use Rattle.std.proofs.Common.{◌≡◌, Some, sym, ap, subst, ◌∙◌, ◌==◌, not}
+use Rattle.std.specs.Prelude.{find, filter, reverse, IfSome}
+use Rattle.bp_trail.specs.Event.{Grant}
+use Rattle.bp_trail.specs.Script.{held_passes, latest_pass, is_pass_of}
+use Rattle.bp_clients.proofs.Stepping.{latest_found, unfix_said}
+use Rattle.bp_clients.proofs.Holding.{posted-holds}
 use Rattle.bp_clients.proofs.runner.Runner.unfix.Goals as goal
 
 pub returns-clause-outcome : goal.returns-clause-outcome
 returns-clause-outcome g c =
     let found : latest_pass c.args.self.now.said c.args.self.now.client c.args.page ≡ Some c.in-Some.note = sym c.latest.ensures ∙ c.in-Some.is in
-    rw (← c.self.view_is) (posted_said _ _ c.in-Some.note c.post.result _ _ (rw (← c.self.view_is) at found) c.post.ensures.posted c.post.ensures.refused)
+    rw (← c.self.view_is) (unfix_said _ _ c.in-Some.note _ _ (rw (← c.self.view_is) at found) c.in_ok-post.ensures.posted.1)
+
+pub returns-clause-held : goal.returns-clause-held
+returns-clause-held g c =
+    let said = c.self.inside.session.said in
+    let held = c.args.held.now.passes in
+    let are : held ≡ held_passes said = rw (← c.self.view_is) at c.requires.held in
+    let found : latest_pass c.args.self.now.said c.args.self.now.client c.args.page ≡ Some c.in-Some.note = sym c.latest.ensures ∙ c.in-Some.is in
+    let own : latest_pass said c.self.inside.session.client c.args.page ≡ Some c.in-Some.note = rw (← c.self.view_is) at found in
+    let taken : c.take_latest.result ≡ Some c.in-Some.note =
+    latest_found held said c.self.inside.session.client c.args.page c.take_latest.result are
+    (c.take_latest.ensures.note ∙ ap (λ who. find (is_pass_of who c.args.page) (reverse held)) (c.client.ensures ∙ c.post.ensures.client)) ∙ own in
+    posted-holds c.in-Some.note said c.post.new.session.said held c.take_latest.new.self.passes are
+    (subst (λ o. IfSome o (λ (n : Grant). c.take_latest.new.self.passes ≡ filter (λ (h : Grant). not (h.serial == n.serial)) held)) taken c.take_latest.ensures.taken)
+    c.in_ok-post.ensures.posted.1

@@ -1,12 +1,12 @@
 -- The pass is the newest of its key.
-use Rattle.std.proofs.Common.{◌≡◌, [], ◌∷◌, ◌++◌, true, Some, sym, ap, subst, ◌∙◌, arith, length, if◌then◌else◌}
+use Rattle.std.proofs.Common.{◌≡◌, [], ◌∷◌, ◌++◌, true, Some, refl, sym, ap, subst, ◌∙◌, arith, length, if◌then◌else◌}
 use Rattle.std.proofs.lemmas.List.{length-reverse}
 use Rattle.std.specs.Prelude.{reverse}
 use Rattle.std.specs.HashMap.{get}
 use Rattle.bp_trail.specs.Script.{is_pass_of}
 use Rattle.bp_trail.proofs.Counting.{reverse-push}
 use Rattle.bp_device.specs.declared.held_list.Slot.{Slot}
-use Rattle.bp_device.specs.HeldLists.{HeldValue, AreLinked, newest_of, passes_in, same_key}
+use Rattle.bp_device.specs.HeldLists.{HeldValue, MayRise, AreLinked, newest_of, passes_in, same_key}
 use Rattle.bp_device.proofs.HeldSlots.{passes-append}
 use Rattle.bp_device.proofs.held_list.HeldList.push.Goals as goal
 
@@ -21,6 +21,8 @@ invariant_of-self c =
           ∙ ap (λ n. if is_pass_of q.0 q.1 c.args.note then Some n else get same_key c.self.inside.latest q) count
           ∙ ap (λ o. if is_pass_of q.0 q.1 c.args.note then Some (length (reverse items)) else o) (c.self.invariant.1 q)
           ∙ ap (newest_of q) (sym turned),
+      subst (MayRise c.rises_with-self-inside.result) (sym c.push_reserved.ensures.items)
+          (subst (λ ss. MayRise c.rises_with-self-inside.result (ss ++ slot ∷ [])) c.deref.ensures.value (c.rises_with-self-inside.ensures slot refl)),
     )
 
 pub returns-clause-passes : goal.returns-clause-passes

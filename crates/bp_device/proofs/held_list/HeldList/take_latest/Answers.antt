@@ -1,9 +1,12 @@
 -- The newest slot of the key is marked, and the one before it takes its place in the table.
-use Rattle.std.proofs.Common.{◌≡◌, false, Some, refl, ap, ◌∙◌, arith, is_some, if◌then◌else◌}
+use Rattle.std.proofs.Common.{◌≡◌, false, Some, refl, sym, ap, ◌∙◌, arith, is_some, if◌then◌else◌}
 use Rattle.std.specs.HashMap.{get}
+use Rattle.std.proofs.lemmas.List.{get_or_default}
+use Rattle.bp_frames.proofs.Rising.{rising-set}
 use Rattle.bp_device.specs.declared.held_list.Slot.{Slot}
 use Rattle.bp_device.specs.HeldLists.{HeldValue, same_key}
 use Rattle.bp_device.proofs.HeldSlots.{marked-links, marked-newest, marked-passes, none-found, note-found, own-place, place-within, stands-at}
+use Rattle.bp_device.proofs.HeldRising.{serial_of}
 use Rattle.bp_device.proofs.held_list.HeldList.take_latest.Goals as goal
 
 -- the slot as it is left
@@ -34,6 +37,10 @@ invariant_of-self c = (
   marked-links c.self.inside.latest c.self.inside.slots.items c.args.client c.args.page c.number.result c.place_of.result c.self.invariant.1 c.number.ensures c.place_of.ensures c.in-Some.place c.index.result.now (left c.index_mut.result.now) c.in-Some.is c.index.ensures refl c.self.invariant.0,
   marked-newest c.self.inside.latest c.self.inside.slots.items c.args.client c.args.page c.number.result c.place_of.result c.self.invariant.1 c.number.ensures c.place_of.ensures c.in-Some.place c.index.result.now (left c.index_mut.result.now) c.in-Some.is c.index.ensures refl c.self.invariant.0 c.relink.new.latest
       (λ q. c.relink.ensures.places q ∙ ap (λ k. if same_key k q then c.index.result.now.previous else get same_key c.self.inside.latest q) c.key_of.ensures),
+  λ rises.
+      let within = place-within (c.args.client, c.args.page) c.self.inside.slots.items c.in-Some.place (stands-at c.self.inside.latest c.self.inside.slots.items c.args.client c.args.page c.number.result c.place_of.result c.self.invariant.1 c.number.ensures c.place_of.ensures c.in-Some.place c.in-Some.is) in
+      rising-set serial_of c.self.inside.slots.items c.in-Some.place (left c.index_mut.result.now) within
+      (λ d. ap serial_of (get_or_default c.self.inside.slots.items c.in-Some.place d c.index_mut.result.now within ∙ sym c.index_mut.ensures.value)) (c.self.invariant.2 rises),
 )
 
 pub returns-clause-note : goal.returns-clause-note
