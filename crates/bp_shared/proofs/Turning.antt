@@ -1,5 +1,6 @@
 -- The turns of a fix and of a flush, each of at most one mark and one event.
-use Rattle.std.proofs.Common.{◌≡◌, refl, sym, subst, ℕ, [], ◌∷◌, ◌++◌, Result, Err, inl, inr}
+use Rattle.std.proofs.Common.{◌≡◌, refl, sym, subst, ℕ, [], ◌∷◌, ◌++◌, Result, Ok, Err, inl, inr}
+use Rattle.std.specs.Prelude.{IsErrAnd}
 use Rattle.bp_page.specs.declared.refusals.Refusal.{Refusal}
 use Rattle.bp_page.specs.declared.refusals.Refusal.TheVariants as refusal
 use Rattle.bp_book.specs.declared.pending.Fix.{Fix as Fixing}
@@ -57,8 +58,10 @@ flush_not_looked A client page seen core why said after h =
     record { marked = said; marks = inl refl; asks = subst (λ r. AskFlushOutcome client page (Err r) said after) (sym n.0) (refl, n.1) }
 
 -- a turn for which there was no memory
-pub fix_no_memory : (client page : ℕ) (said after : Trail) → after ≡ said → FixTurn client page (Err refusal.OutOfMemory) said after
-fix_no_memory client page said after same = record { marked = said; marks = inl refl; asks = (refl, same) }
+pub fix_no_memory : (client page : ℕ) (answer : Result Fixing Refusal) (why : Refusal) (said after : Trail) → IsErrAnd answer (λ r. r ≡ why) → why ≡ refusal.OutOfMemory → after ≡ said → FixTurn client page answer said after
+fix_no_memory client page (Ok fix) why said after is memory same = absurd is
+fix_no_memory client page (Err r) why said after is memory same = rw (is, memory) (record { marked = said; marks = inl refl; asks = (refl, same) })
 
-pub flush_no_memory : (client page : ℕ) (said after : Trail) → after ≡ said → FlushTurn client page (Err refusal.OutOfMemory) said after
-flush_no_memory client page said after same = record { marked = said; marks = inl refl; asks = (refl, same) }
+pub flush_no_memory : (client page : ℕ) (answer : Result Flushing Refusal) (why : Refusal) (said after : Trail) → IsErrAnd answer (λ r. r ≡ why) → why ≡ refusal.OutOfMemory → after ≡ said → FlushTurn client page answer said after
+flush_no_memory client page (Ok flush) why said after is memory same = absurd is
+flush_no_memory client page (Err r) why said after is memory same = rw (is, memory) (record { marked = said; marks = inl refl; asks = (refl, same) })

@@ -41,9 +41,7 @@ impl<N: PoolName, K: ListKeeper> SharedPool<N, K> {
         ensures free { session.new.free ≡ session.old.free }
         ensures turn { FlushTurn session.old.client page result session.old.said session.new.said }
     {
-        let Ok(()) = session.book.reserve_for_event() else {
-            return Err(Refusal::OutOfMemory);
-        };
+        session.book.reserve_for_event()?;
         let mut state = self.enter(rt);
         let answer = state.flush(&self.mark, &mut session.book, &mut session.line, page);
         self.leave(rt, state, &answer);
