@@ -2,7 +2,7 @@
 ghost use Rattle.std.specs.Prelude.{ℕ, ◌≤◌};
 ghost use Rattle.bp_replacer.specs.Histories.{last_of};
 
-use crate::pools::done;
+use crate::outcomes::done;
 use bp_lruk::{Histories, Settings};
 use bp_page::{PageNo, Refusal};
 use bp_trail::Reply;

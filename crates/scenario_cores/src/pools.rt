@@ -3,8 +3,9 @@ ghost use Rattle.std.specs.Prelude.{◌≡◌, ◌<◌, IfSome, IsTrue};
 
 use crate::devices::{Device, device_for};
 use crate::lists::{LOST, Lists, new_lists};
+use crate::outcomes::{done, flushed, forgot};
 use bp_core::{Fix, Flush, Keeper, PoolCore, ReadTicket, WriteTicket};
-use bp_device::{Flushed, Port, drive_fix, drive_flush};
+use bp_device::{Port, drive_fix, drive_flush};
 use bp_lruk::Settings;
 use bp_page::{Geometry, Image, Lsn, PageNo, Refusal};
 use bp_trail::{Grant, Reply};
@@ -46,14 +47,6 @@ pub fn new_pool<K: Keeper>(alloc: Global, thing: Thing, shape: &Shape) -> Result
             unread: 0,
         }),
         Err(refusal) => Err(refusal),
-    }
-}
-
-/// What a call answers that gives nothing.
-pub fn done(outcome: Result<(), Refusal>) -> Answer {
-    match outcome {
-        Ok(()) => Answer::Reply(Reply::Done),
-        Err(refusal) => Answer::Refused(refusal),
     }
 }
 
@@ -172,13 +165,7 @@ impl<K: Keeper> Pool<K> {
                 Err(refusal) => Answer::Refused(refusal),
             };
         };
-        match drive_flush(rt, &mut self.core, &mut device.port, client, page) {
-            Ok(Flushed::Clean) => Answer::Reply(Reply::Clean),
-            Ok(Flushed::Absent) => Answer::Reply(Reply::Absent),
-            Ok(Flushed::Cleaned) => Answer::Reply(Reply::Cleaned),
-            Ok(Flushed::StillDirty) => Answer::Reply(Reply::StillDirty),
-            Err(refusal) => Answer::Refused(refusal),
-        }
+        flushed(drive_flush(rt, &mut self.core, &mut device.port, client, page))
     }
 
     /// A call by a client.
@@ -191,10 +178,7 @@ impl<K: Keeper> Pool<K> {
         match call.verb {
             Verb::Tick => done(self.core.tick(client, second)),
             Verb::Mark => done(self.core.mark(client, Lsn::new(second))),
-            Verb::Purge => match self.core.purge(client) {
-                Ok(count) => Answer::Reply(Reply::Forgot(count)),
-                Err(refusal) => Answer::Refused(refusal),
-            },
+            Verb::Purge => forgot(self.core.purge(client)),
             Verb::Fix if self.has_page(page) => self.fix(rt, client, page),
             Verb::Flush if self.has_page(page) => self.flush(rt, client, page),
             _ => Answer::BadLine,

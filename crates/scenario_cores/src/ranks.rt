@@ -1,6 +1,6 @@
 //! Candidates of LRU-K by themselves: a plain list and one in the order of replacement, side by side.
 
-use crate::pools::done;
+use crate::outcomes::done;
 use bp_lruk::{Candidates, Settings, scan};
 use bp_page::{PageNo, Refusal};
 use scenario_words::{Answer, Said, Shape, Verb};

@@ -2,7 +2,8 @@
 ghost use Rattle.std.specs.Prelude.{◌≡◌, IfOk, length};
 
 use crate::lists::{grant_of, pass_of};
-use crate::pools::{Pool, done};
+use crate::outcomes::{content, done};
+use crate::pools::Pool;
 use bp_core::{EndRefusal, Ended as WriteEnded, Keeper};
 use bp_page::{Bytes, Image, Lsn, PortFault, Refusal};
 use bp_trail::{Grant, Reply};
@@ -57,10 +58,7 @@ impl<K: Keeper> Pool<K> {
         let pass = pass_of(grant);
         let read = self.core.read(&pass);
         pass.note();
-        match read {
-            Ok(image) => Answer::Reply(Reply::Content(image)),
-            Err(refusal) => Answer::Refused(refusal),
-        }
+        content(read)
     }
 
     fn write(&mut self, grant: Grant, offset: u64, bytes: &Bytes, lsn: Lsn) -> Answer {

@@ -5,11 +5,11 @@ use crate::kinds::Kind;
 use crate::making::Fused;
 use bp_audit::agrees;
 use bp_core::{Call, Entry, Reply};
-use bp_device::{Flushed, Port};
+use bp_device::Port;
 use bp_page::Lsn;
 use bp_shared::{PoolName, Session, SharedPool};
 use bp_trail::Grant;
-use scenario_cores::{Lists, done, grant_of, pass_of};
+use scenario_cores::{Lists, content, done, flushed, forgot, grant_of, pass_of};
 use scenario_words::{Answer, Said, Verb, named};
 use std::alloc::Global;
 use std::sync::Wait;
@@ -139,13 +139,7 @@ fn flush<N: PoolName, K: Kind, R: Wait>(
     let Some(page) = port.geometry().page(number) else {
         return Answer::BadLine;
     };
-    match pool.flush(rt, session, port, page) {
-        Ok(Flushed::Clean) => Answer::Reply(Reply::Clean),
-        Ok(Flushed::Absent) => Answer::Reply(Reply::Absent),
-        Ok(Flushed::Cleaned) => Answer::Reply(Reply::Cleaned),
-        Ok(Flushed::StillDirty) => Answer::Reply(Reply::StillDirty),
-        Err(refusal) => Answer::Refused(refusal),
-    }
+    flushed(pool.flush(rt, session, port, page))
 }
 
 fn read<N: PoolName, K: Kind, R: Wait>(
@@ -157,10 +151,7 @@ fn read<N: PoolName, K: Kind, R: Wait>(
     let pass = pass_of(grant);
     let read = pool.read(rt, session, &pass);
     pass.note();
-    match read {
-        Ok(image) => Answer::Reply(Reply::Content(image)),
-        Err(refusal) => Answer::Refused(refusal),
-    }
+    content(read)
 }
 
 /// Writes the bytes of a line, if they fit the pages of the client's port.
@@ -241,10 +232,7 @@ pub(crate) fn call<N: PoolName, K: Kind, R: Wait>(
         Verb::Fix => fix(rt, pool, session, port, lists, second),
         Verb::Flush => flush(rt, pool, session, port, second),
         Verb::Tick => done(pool.tick(rt, session, second)),
-        Verb::Purge => match pool.purge(rt, session) {
-            Ok(count) => Answer::Reply(Reply::Forgot(count)),
-            Err(refusal) => Answer::Refused(refusal),
-        },
+        Verb::Purge => forgot(pool.purge(rt, session)),
         Verb::Settle => {
             pool.settle(rt);
             done(Ok(()))
