@@ -44,7 +44,7 @@ impl Failures {
     }
 
     /// Counts a failure of another port as one of this one.
-    pub(crate) fn counted<T>(&mut self, outcome: Result<T, PortFault>) -> Result<T, PortFault>
+    pub(crate) fn count_failure<T>(&mut self, outcome: Result<T, PortFault>) -> Result<T, PortFault>
         ensures same { result ≡ outcome }
         ensures counts { Counts result self.old self.new }
     {

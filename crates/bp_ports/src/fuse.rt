@@ -21,8 +21,8 @@ pub struct FusePort<P: Port> {
 }
 
 impl<P: Port> FusePort<P> {
-    /// A port whose n-th call of `read` or `write`, from 1, fails. With `spoil`, a write that fails first puts a page of bytes 255 on
-    /// the device. `OutOfMemory` where that page can't be had.
+    /// A port whose n-th call of `read` or `write`, from 1, fails. With `spoil`, a write that fails first puts a page
+    /// of bytes 255 on the device. `OutOfMemory` where that page can't be had.
     pub fn new(alloc: Global, inner: P, n: u64, spoil: bool) -> Result<FusePort<P>, Refusal>
         ensures inner { IfOk result (λ port. port.inner ≡ inner) }
         ensures left { IfOk result (λ port. port.left ≡ n) }
@@ -80,7 +80,8 @@ impl<P: Port> Port for FusePort<P> {
 
     ghost write_gives = { λ port page image lsn written after.
         IsNext port.left port.spoiled after.left after.spoiled ×
-        FailsOrPasses port.left (FailsSpoiling (λ spoiled. P.write_gives port.inner page spoiled lsn)
+        FailsOrPasses port.left
+        (FailsSpoiling (λ spoiled. P.write_gives port.inner page spoiled lsn)
         port.spoiled written port.inner after.inner)
         (P.write_gives port.inner page image lsn written after.inner) };
 
@@ -107,7 +108,7 @@ impl<P: Port> Port for FusePort<P> {
             return Err(self.count.add());
         }
         let read = self.inner.read(rt, page);
-        self.count.counted(read)
+        self.count.count_failure(read)
     }
 
     fn write<R: Wait>(
@@ -135,6 +136,6 @@ impl<P: Port> Port for FusePort<P> {
             return Err(self.count.add());
         }
         let written = self.inner.write(rt, page, image, lsn);
-        self.count.counted(written)
+        self.count.count_failure(written)
     }
 }

@@ -48,7 +48,8 @@ impl Gate {
         Ok((one, other))
     }
 
-    /// Comes to this side, and looks at the other one, up to so many times, until somebody has come there. It tells whether somebody was seen.
+    /// Comes to this side, and looks at the other one, up to so many times, until somebody has come there. It tells
+    /// whether somebody was seen.
     fn opens<R: Wait>(&self, rt: &R, turns: u64) -> bool
         ensures looked { IsTrue result → 0 < turns }
     {
@@ -63,8 +64,9 @@ impl Gate {
     }
 }
 
-/// One port of a pair, each over another port. A read goes to the port below once some read of the pair's other port has begun, and a write
-/// once some write has. So where two clients read once each, and both reads are good, neither ended before the other began.
+/// One port of a pair, each over another port. A read goes to the port below once some read of the pair's other port
+/// has begun, and a write once some write has. So where two clients read once each, and both reads are good, neither
+/// ended before the other began.
 #[derive(Drop)]
 pub struct GatePort<P: Port> {
     inner: P,
@@ -91,8 +93,9 @@ impl<P: Port> GatePort<P> {
         }
     }
 
-    /// A pair of ports. Each call looks up to `turns` times whether one of its kind has begun at the other port, and lets other threads run
-    /// in between. Where none is seen, as always with 0 turns, the call fails with `Device`, is counted, and never gets to the port below.
+    /// A pair of ports. Each call looks up to `turns` times whether one of its kind has begun at the other port, and
+    /// lets other threads run in between. Where none is seen, as always with 0 turns, the call fails with `Device`, is
+    /// counted, and never gets to the port below.
     ///
     /// `OutOfMemory` where the pair's flags can't be had; `a` and `b` are then dropped.
     pub fn pair(
@@ -152,7 +155,7 @@ impl<P: Port> Port for GatePort<P> {
             return Err(self.count.add());
         }
         let read = self.inner.read(rt, page);
-        self.count.counted(read)
+        self.count.count_failure(read)
     }
 
     fn write<R: Wait>(
@@ -175,6 +178,6 @@ impl<P: Port> Port for GatePort<P> {
             return Err(self.count.add());
         }
         let written = self.inner.write(rt, page, image, lsn);
-        self.count.counted(written)
+        self.count.count_failure(written)
     }
 }

@@ -5,7 +5,7 @@ use Rattle.std.proofs.lemmas.Bool.Decides.{nat_tests}
 use Rattle.std.proofs.lemmas.Option.{none-some, same_Some}
 use Rattle.std.proofs.lemmas.List.{get_or-set_same, get_or-set_other, get_or_past, length-set}
 use Rattle.bp_references.specs.Candidates.{Candidate, is_before}
-use Rattle.bp_replacer.specs.Seats.{winner, seat_at, Known, known_by, is_aged, aged_first, older_of, both, node, IsWon, Has, IsOfBoth, AreTaken, IsFromBelow, IsTournament, IsFirst, above, IsBelow, IsFirstBelow}
+use Rattle.bp_replacer.specs.Seats.{winner, seat_at, Known, known_by, is_aged, aged_first, older_of, played, node, IsWon, Has, IsOfBoth, AreTaken, IsFromBelow, IsTournament, IsFirst, above, IsBelow, IsFirstBelow}
 use Rattle.bp_replacer.specs.Replay.{IsUntold, IsWonUpTo}
 use Rattle.bp_replacer.specs.declared.tournament.Winners.{Winners}
 use Rattle.bp_references.proofs.VictimLaws.{not_before_itself, not_before_earlier, not_both}
@@ -193,7 +193,7 @@ had_on_way nodes seat up lt on_way from_below (suc fuel) i le in_range enough ha
 pub record IsRenewed (nodes : List Winners) (seats : List (Option Candidate)) (i : ℕ) (w : Winners) : Type 0 where
   pub had : IsOfBoth (node nodes (2 * i)) (node nodes (2 * i + 1)) w
   pub taken : AreTaken seats w
-  pub known : known_by seats w ≡ both (known_by seats (node nodes (2 * i))) (known_by seats (node nodes (2 * i + 1)))
+  pub known : known_by seats w ≡ played (known_by seats (node nodes (2 * i))) (known_by seats (node nodes (2 * i + 1)))
 
 -- with no node above, all are won
 pub won_at_root : (nodes : List Winners) (seats : List (Option Candidate)) (seat at : ℕ) → at < 2 → IsWonUpTo nodes seats seat at → IsTournament nodes seats
@@ -219,7 +219,7 @@ won_put nodes seats seat e in_range t = record {
     | inr untold ↦
         let own : Has (node nodes i) seat → ⊥ = λ has. elim (t.from_below i le lt seat has) [ inl left ↦ untold.0 left | inr right ↦ untold.1 right ] in
         known_kept seats seat e (node nodes i) own ∙ t.won i le lt
-        ∙ (λ j. both (sym (known_kept seats seat e (node nodes (2 * i)) untold.0) j) (sym (known_kept seats seat e (node nodes (2 * i + 1)) untold.1) j))
+        ∙ (λ j. played (sym (known_kept seats seat e (node nodes (2 * i)) untold.0) j) (sym (known_kept seats seat e (node nodes (2 * i + 1)) untold.1) j))
   ];
 }
 
@@ -252,7 +252,7 @@ module _ (nodes : List Winners) (seats : List (Option Candidate)) (seat at : ℕ
       | inl here ↦ subst (IsWon (set nodes (at / 2) found) seats) (sym here) own_won
       | inr apart ↦
           ap (known_by seats) (kept i apart) ∙ w.won i le (omega (arith, length-set nodes (at / 2) found)) apart (reason i le (omega (arith, length-set nodes (at / 2) found)) apart (omega arith) (omega arith) why)
-          ∙ (λ j. both (known_by seats (sym (kept (2 * i) (omega arith)) j)) (known_by seats (sym (kept (2 * i + 1) (omega arith)) j)))
+          ∙ (λ j. played (known_by seats (sym (kept (2 * i) (omega arith)) j)) (known_by seats (sym (kept (2 * i + 1) (omega arith)) j)))
     ];
   }
     where
@@ -274,7 +274,7 @@ module _ (nodes : List Winners) (seats : List (Option Candidate)) (seat at : ℕ
       own_won : IsWon (set nodes (at / 2) found) seats (at / 2)
       own_won =
           ap (known_by seats) (node_changed nodes (at / 2) found (omega arith)) ∙ renewed.known
-          ∙ (λ j. both (known_by seats (sym (kept (2 * (at / 2)) (omega arith)) j)) (known_by seats (sym (kept (2 * (at / 2) + 1) (omega arith)) j)))
+          ∙ (λ j. played (known_by seats (sym (kept (2 * (at / 2)) (omega arith)) j)) (known_by seats (sym (kept (2 * (at / 2) + 1) (omega arith)) j)))
 
       -- what stands between the two is not above the seat
       aside : (i : ℕ) → 1 ≤ i → i < 2 * length nodes → at / 2 < i → i < at → Has (node nodes i) seat → ⊥
@@ -415,7 +415,7 @@ seat_empty (suc n) zero = refl
 seat_empty (suc n) (suc k) = seat_empty n k
 
 pub empty_won : (n : ℕ) (nodes : List Winners) (seats : List (Option Candidate)) → nodes ≡ replicate n (record { first = n; older = n }) → seats ≡ replicate n None → length nodes ≡ n → length seats ≡ n → IsTournament nodes seats
-unfolding both older_of
+unfolding played older_of
 empty_won n nodes seats nodes_are seats_are len seats_len = record {
   length_is = len ∙ sym seats_len;
   taken = λ i le lt k has in_seats. absurd (elim (subst (λ w. Has w k) (inner i lt) has) [ inl is ↦ omega arith | inr is ↦ omega arith ]);
@@ -423,7 +423,7 @@ empty_won n nodes seats nodes_are seats_are len seats_len = record {
     | inl is ↦ inl (subst (Has (node nodes (2 * i))) (sym is) (has_none (2 * i)))
     | inr other ↦ absurd (elim (subst (λ w. Has w s) (inner i lt) has) [ inl is ↦ other (sym is) | inr is ↦ other (sym is) ])
   ];
-  won = λ i le lt. nobody i ∙ (λ j. both (sym (nobody (2 * i)) j) (sym (nobody (2 * i + 1)) j));
+  won = λ i le lt. nobody i ∙ (λ j. played (sym (nobody (2 * i)) j) (sym (nobody (2 * i + 1)) j));
 }
   where
     inner : (i : ℕ) → i < length nodes → node nodes i ≡ record { first = n; older = n }
@@ -517,13 +517,13 @@ pub aged_is_older : (time : ℕ) (w : Known) → is_aged time w.first ≡ false 
 unfolding aged_first
 aged_is_older time w young = rw young refl
 
-both_first : (a b : Known) → (both a b).first ≡ winner a.first b.first
-unfolding both
-both_first a b = refl
+played_first : (a b : Known) → (played a b).first ≡ winner a.first b.first
+unfolding played
+played_first a b = refl
 
-both_older : (a b : Known) (e : Candidate) → winner a.first b.first ≡ Some e → (both a b).older ≡ older_of a b (Some e)
-unfolding both
-both_older a b e is = ap (older_of a b) is
+played_older : (a b : Known) (e : Candidate) → winner a.first b.first ≡ Some e → (played a b).older ≡ older_of a b (Some e)
+unfolding played
+played_older a b e is = ap (older_of a b) is
 
 pub older_nobody : (a b : Known) → older_of a b None ≡ None
 unfolding older_of
@@ -558,21 +558,21 @@ older_swapped a b (Some e) = elim (cases_Bool (is_aged e.1 (aged_first e.1 a))) 
   ]
 ]
 
-both_swapped : (a b : Known) → both a b ≡ both b a
-unfolding both
-both_swapped a b =
+played_swapped : (a b : Known) → played a b ≡ played b a
+unfolding played
+played_swapped a b =
     let older = older_swapped a b (winner a.first b.first) ∙ ap (older_of b a) (winner_swapped a.first b.first) in
     λ i. record { first = winner_swapped a.first b.first i; older = older i }
 
 -- of two nodes beside one another
-pub renewed_beside : (nodes : List Winners) (seats : List (Option Candidate)) (at other : ℕ) (found : Winners) → at + other ≡ 4 * (at / 2) + 1 → AreTaken seats found → IsOfBoth (node nodes at) (node nodes other) found → known_by seats found ≡ both (known_by seats (node nodes at)) (known_by seats (node nodes other)) → IsRenewed nodes seats (at / 2) found
+pub renewed_beside : (nodes : List Winners) (seats : List (Option Candidate)) (at other : ℕ) (found : Winners) → at + other ≡ 4 * (at / 2) + 1 → AreTaken seats found → IsOfBoth (node nodes at) (node nodes other) found → known_by seats found ≡ played (known_by seats (node nodes at)) (known_by seats (node nodes other)) → IsRenewed nodes seats (at / 2) found
 renewed_beside nodes seats at other found are taken had known = elim (cases_eq (2 * (at / 2)) at) [
   | inl even ↦
       let right : other ≡ 2 * (at / 2) + 1 = omega arith in
       record {
         had = λ s has. elim (had s has) [ inl a ↦ inl (subst (λ k. Has (node nodes k) s) (sym even) a) | inr b ↦ inr (subst (λ k. Has (node nodes k) s) right b) ];
         taken = taken;
-        known = known ∙ (λ j. both (known_by seats (node nodes (sym even j))) (known_by seats (node nodes (right j))));
+        known = known ∙ (λ j. played (known_by seats (node nodes (sym even j))) (known_by seats (node nodes (right j))));
       }
   | inr odd ↦
       let left : other ≡ 2 * (at / 2) = omega arith in
@@ -580,7 +580,7 @@ renewed_beside nodes seats at other found are taken had known = elim (cases_eq (
       record {
         had = λ s has. elim (had s has) [ inl a ↦ inr (subst (λ k. Has (node nodes k) s) right a) | inr b ↦ inl (subst (λ k. Has (node nodes k) s) left b) ];
         taken = taken;
-        known = known ∙ both_swapped (known_by seats (node nodes at)) (known_by seats (node nodes other)) ∙ (λ j. both (known_by seats (node nodes (left j))) (known_by seats (node nodes (right j))));
+        known = known ∙ played_swapped (known_by seats (node nodes at)) (known_by seats (node nodes other)) ∙ (λ j. played (known_by seats (node nodes (left j))) (known_by seats (node nodes (right j))));
       }
 ]
 
@@ -618,7 +618,7 @@ module _ (nodes : List Winners) (seats : List (Option Candidate)) (t : IsTournam
         let left = first_known fuel (2 * i) (omega arith) (omega arith) (omega arith) in
         let right = first_known fuel (2 * i + 1) (omega arith) (omega arith) (omega arith) in
         let is : (whom i).first ≡ winner (whom (2 * i)).first (whom (2 * i + 1)).first =
-        ap (λ (w : Known). w.first) (t.won i le (omega (arith, t.length_is))) ∙ both_first (whom (2 * i)) (whom (2 * i + 1)) in
+        ap (λ (w : Known). w.first) (t.won i le (omega (arith, t.length_is))) ∙ played_first (whom (2 * i)) (whom (2 * i + 1)) in
         subst (IsFirstBelow seats i (λ x. Unit {0})) (sym is) (first_of_both seats (λ x. Unit {0}) i _ _ inner left right)
   ]
 
@@ -651,10 +651,10 @@ module _ (nodes : List Winners) (seats : List (Option Candidate)) (t : IsTournam
       below inner young aged known_left known_right =
           let a = whom (2 * i) in
           let b = whom (2 * i + 1) in
-          let won : whom i ≡ both a b = t.won i le (omega (arith, t.length_is)) in
+          let won : whom i ≡ played a b = t.won i le (omega (arith, t.length_is)) in
           let late = not_aged time (whom i).first young in
           let e : Candidate = late.0 in
-          let older : (whom i).older ≡ older_of a b (Some e) = ap (λ (w : Known). w.older) won ∙ both_older a b e (sym (both_first a b) ∙ sym (ap (λ (w : Known). w.first) won) ∙ late.1) in
+          let older : (whom i).older ≡ older_of a b (Some e) = ap (λ (w : Known). w.older) won ∙ played_older a b e (sym (played_first a b) ∙ sym (ap (λ (w : Known). w.first) won) ∙ late.1) in
           elim (older_known a b e) [
             | inr again ↦ absurd (omega (arith, late.2, aged_some time (whom i).older aged e (older ∙ again)))
             | inl knows ↦

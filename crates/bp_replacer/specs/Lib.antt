@@ -1,4 +1,5 @@
--- What is promised: the limits of the settings, what the histories tell, and who stands at the seats.
+-- What is promised: the limits of the settings, what the histories tell, and who stands at the
+-- seats.
 pub mod Limits
 pub mod Histories
 pub mod Seats

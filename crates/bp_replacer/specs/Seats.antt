@@ -116,9 +116,10 @@ older_of a b (Some e) =
 abbrev pub older_at : List (Option Candidate) → Winners → Winners → ℕ → Option Candidate
 older_at seats a b first = older_of (known_by seats a) (known_by seats b) (seat_at seats first)
 
--- who is known of the seats below two nodes
-unfoldable pub both : Known → Known → Known
-both a b = record { first = winner a.first b.first; older = older_of a b (winner a.first b.first) }
+-- who is known above two nodes, when they have played each other
+unfoldable pub played : Known → Known → Known
+played a b =
+    record { first = winner a.first b.first; older = older_of a b (winner a.first b.first) }
 
 -- below the nodes stand the seats, each a node that knows itself
 unfoldable pub node : List Winners → ℕ → Winners
@@ -130,7 +131,7 @@ node nodes i =
 abbrev pub IsWon : List Winners → List (Option Candidate) → ℕ → Type 0
 IsWon nodes seats i =
     known_by seats (node nodes i)
-    ≡ both (known_by seats (node nodes (2 * i))) (known_by seats (node nodes (2 * i + 1)))
+    ≡ played (known_by seats (node nodes (2 * i))) (known_by seats (node nodes (2 * i + 1)))
 
 -- a node has the number of a seat
 abbrev pub Has : Winners → ℕ → Type 0

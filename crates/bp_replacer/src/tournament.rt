@@ -1,7 +1,7 @@
 //! A tree of winners over a number of seats.
 ghost use Rattle.std.specs.Prelude.{◌≡◌, ◌⊎◌, ℕ, ◌*◌, ◌+◌, ◌-◌, ◌/◌, ◌^◌, ◌<◌, ◌≤◌, [], IsTrue, IsFalse, Some, None, IfOk, IfSome, IfNone, IsSome, length, replicate, set, slice_index_or};
 ghost use Rattle.bp_references.specs.Candidates.{Candidate, is_before};
-ghost use Rattle.bp_replacer.specs.Seats.{winner, seat_at, is_aged, aged_first, older_of, both, node, known_by, Has, IsOfBoth, IsTaken, AreTaken, IsFirst, IsFirstAt, IsFirstBelow, IsTournament, older_at};
+ghost use Rattle.bp_replacer.specs.Seats.{winner, seat_at, is_aged, aged_first, older_of, played, node, known_by, Has, IsOfBoth, IsTaken, AreTaken, IsFirst, IsFirstAt, IsFirstBelow, IsTournament, older_at};
 ghost use Rattle.bp_replacer.specs.Replay.{IsWonUpTo};
 
 use crate::seat_list::SeatList;
@@ -108,13 +108,13 @@ fn older_of(seats: &SeatList, a: &Winners, b: &Winners, first: usize) -> usize
     }
 }
 
-// Whom a node above two others knows.
-fn both(seats: &SeatList, a: &Winners, b: &Winners) -> Winners
+// Plays two nodes against each other: whom the node above them knows.
+fn play(seats: &SeatList, a: &Winners, b: &Winners) -> Winners
     requires a { AreTaken seats.now a.now }
     requires b { AreTaken seats.now b.now }
     ensures had { IsOfBoth a.now b.now result }
     ensures known { let knows = known_by seats.now in
-        knows result ≡ both (knows a.now) (knows b.now) }
+        knows result ≡ played (knows a.now) (knows b.now) }
 {
     let first = winner(seats, a.first, b.first);
     let older = older_of(seats, a, b, first);
@@ -170,7 +170,7 @@ fn replay(nodes: &mut [Winners], seats: &SeatList, seat: usize)
     while at > 1 {
         let other = node(nodes, seats, beside(at));
         at /= 2;
-        winners = both(seats, &winners, &other);
+        winners = play(seats, &winners, &other);
         if is_settled(&nodes[at], &winners, seat) {
             return;
         }

@@ -56,7 +56,7 @@ impl<'a, R: Clock, E: Write> SweepMeter<'a, R, E> {
 
 // A fault of the error output changes nothing. The spaces at the end are over what a longer line had there.
 impl<R: Clock, E: Write> bp_sweep::Progress for SweepMeter<'_, R, E> {
-    fn counted(&mut self, cell: u64, cells: u64, counted: u64, references: u64) {
+    fn advanced(&mut self, cell: u64, cells: u64, counted: u64, references: u64) {
         let (Some(since), Ok(now)) = (self.since, Instant::now(self.clock)) else {
             return;
         };

@@ -212,7 +212,7 @@ pub fn count_cells<R: Wait, G: Progress>(
     let mut cell = 0;
     for plan in plans {
         cell += 1;
-        progress.counted(cell, cells, 0, fixes);
+        progress.advanced(cell, cells, 0, fixes);
         let turn = Turn { cell, cells };
         let totals = match count_plan(rt, alloc, references, plan, progress, turn) {
             Ok(totals) => totals,
