@@ -10,7 +10,8 @@ pub record IsLoaded (h : Blocks) (pages t : ℕ) : Type 0 where
 
 -- a table of the blocks of the pages from 0 on
 abbrev pub IsTable : Blocks → List ℕ → Type 0
-IsTable h blocks = (page : ℕ) → page < length blocks → place_of h page ≡ Some (slice_index blocks page)
+IsTable h blocks =
+    (page : ℕ) → page < length blocks → place_of h page ≡ Some (slice_index blocks page)
 
 -- the pages below `so_far` are loaded at time 1, and no other is held or has a reference
 pub record LoadsBelow (h : Blocks) (so_far : ℕ) : Type 0 where

@@ -1,6 +1,7 @@
-//! Times fix and unfix of client threads over one shared pool, where its argument is the path of a page file. The pool has
-//! its trail and its lists in memory, but only counts their entries where a second argument is `silent`. With no argument
-//! four threads use a pool of each kind for a moment, over pages in memory. docs/BENCHMARKS.md has the numbers.
+//! Times fix and unfix of client threads over one shared pool, where its argument is the path of a page file. The pool
+//! has its trail and its lists in memory, but only counts their entries where a second argument is `silent`. With no
+//! argument four threads use a pool of each kind for a moment, over pages in memory. docs/BENCHMARKS.md has the
+//! numbers.
 #![tactic(auto)]
 
 ghost use Rattle.std.specs.Prelude.{◌≡◌, ◌<◌, ◌≤◌, []};

@@ -17,8 +17,8 @@ pub fn one_client_in_either_order()
         (of_client client entries) }
 {}
 
-/// The row that `row_at` counts to is the row in whose piece the entry stands, by the very cut that says that the entries
-/// follow the rows.
+/// The row that `row_at` counts to is the row in whose piece the entry stands, by the very cut that says that the
+/// entries follow the rows.
 pub fn entry_is_in_the_piece_of_its_row()
     ensures { (m : Manner) (rows : List ARow) (ends : List ℕ) (past newer older : Trail)
         (e : AnEntry) (refusals : List ARefused) (cut : FollowsBy m rows ends past refusals) →
@@ -26,9 +26,9 @@ pub fn entry_is_in_the_piece_of_its_row()
         (length older)) e older rows ends past refusals cut }
 {}
 
-/// What `is_within_log` tests is the bound. Where it holds by the cut by which the entries of client 0 follow its script,
-/// each entry of client 0 that is no unfix stands in the piece of a row, and the greatest LSN marked up to and with that
-/// entry is at most the greatest of the log rows before that row.
+/// What `is_within_log` tests is the bound. Where it holds by the cut by which the entries of client 0 follow its
+/// script, each entry of client 0 that is no unfix stands in the piece of a row, and the greatest LSN marked up to and
+/// with that entry is at most the greatest of the log rows before that row.
 pub fn marks_are_bounded_row_by_row()
     ensures { (m : Manner) (script : List ARow) (trail newer past said : Trail) (e : AnEntry)
         (refusals : List ARefused) (cut : Follows m script said refusals) →

@@ -15,7 +15,8 @@ fn same_reply(a: &Reply, b: &Reply) -> bool
     *a == *b
 }
 
-/// Whether two entries are the same: by client, by call and by reply. Images and written bytes are compared byte by byte.
+/// Whether two entries are the same: by client, by call and by reply. Images and written bytes are compared byte by
+/// byte.
 pub fn same_entry(a: &Entry, b: &Entry) -> bool
     ensures { IsTrue result ↔ (a.now ≡ b.now) }
 {

@@ -36,7 +36,8 @@ impl Totals {
         }
     }
 
-    /// The totals of some entries, as those of a trail, of a piece of one, or of a session's list. It goes over them once.
+    /// The totals of some entries, as those of a trail, of a piece of one, or of a session's list. It goes over them
+    /// once.
     pub fn of(entries: &[Entry]) -> Totals
         ensures { result ≡ totals_of entries.now }
     {

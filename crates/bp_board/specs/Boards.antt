@@ -12,8 +12,10 @@ pub record Opens (old new : Board) (line : Line) : Type 0 where
   pub number_is : line.number ≡ length old.lists
   pub empty : line.list ≡ []
 
--- the board had at the line's number what the line has; now both have this list there, and all else stays
-pub record Writes (old : Board) (had : Line) (list : Trail) (new : Board) (has : Line) : Type 0 where
+-- the board had at the line's number what the line has; now both have this list there, and all else
+-- stays
+pub record Writes (old : Board) (had : Line) (list : Trail) (new : Board)
+    (has : Line) : Type 0 where
   pub within : had.number < length old.lists
   pub was : slice_index_or old.lists had.number [] ≡ had.list
   pub name : new.name ≡ old.name

@@ -1,5 +1,6 @@
--- What a board and its lines own: one name, and under it a key for each line. The board has a part of each key with its list,
--- and the line has the rest of it, with the same list. So both agree, and either list changes only with both at hand.
+-- What a board and its lines own: one name, and under it a key for each line. The board has a part
+-- of each key with its list, and the line has the rest of it, with the same list. So both agree,
+-- and either list changes only with both at hand.
 use Rattle.std.specs.Prelude.{ℕ, List}
 use base.Stored.{Coded, coded_list}
 use base.Share.{three_quarters}

@@ -15,7 +15,8 @@ use Rattle.bp_trail.specs.Pieces.{by}
 use Rattle.bp_trail.specs.Script.{held_passes}
 use Rattle.bp_core.specs.CoreView.{CoreView, with_entry}
 
--- a client's own list, newest first, and what cuts handed out of it, the bytes of a page, and the room beyond all that the list owes: for entries, for passes held, and for copies of images
+-- a client's own list, newest first, and what cuts handed out of it, the bytes of a page, and the
+-- room beyond all that the list owes: for entries, for passes held, and for copies of images
 pub record BookValue : Type 0 where
   pub client : ℕ
   pub size : ℕ
@@ -75,13 +76,15 @@ abbrev pub open_tickets : Trail → ℕ
 open_tickets [] = 0
 open_tickets (e ∷ before) = tickets_given e.reply + (open_tickets before - tickets_ended e.call)
 
--- the entries that a list still owes: an unfix for each pass held, and an end and an unfix for each open ticket
+-- the entries that a list still owes: an unfix for each pass held, and an end and an unfix for each
+-- open ticket
 abbrev pub owed : Trail → ℕ
 owed said = length (held_passes said) + 2 * open_tickets said
 
--- the passes held are those that the list leaves out, and there is room for what is owed: an unfix for each of them;
--- for each open ticket an end, an unfix and a copy of an image
-pub record KeepsRoom (client : ℕ) (said : Trail) (held : List Grant) (tickets kept copies for_said for_held : ℕ) : Type 0 where
+-- the passes held are those that the list leaves out, and there is room for what is owed: an unfix
+-- for each of them; for each open ticket an end, an unfix and a copy of an image
+pub record KeepsRoom (client : ℕ) (said : Trail) (held : List Grant)
+    (tickets kept copies for_said for_held : ℕ) : Type 0 where
   pub held_are : held ≡ held_passes said
   pub own : All (λ g. g.client ≡ client) held
   pub tickets_are : tickets ≡ open_tickets said
@@ -125,4 +128,6 @@ pub record OwesWrite (client : ℕ) (ticket : WriteTicket) (said : Trail) : Type
 
 -- the trail and the list get the same entry, or neither gets one
 abbrev pub Alike : CoreView → Trail → CoreView → Trail → Type 0
-Alike old said new after = ((new ≡ old) × (after ≡ said)) ⊎ ((e : Entry) × (new ≡ with_entry old e.client e.call e.reply) × (after ≡ e ∷ said))
+Alike old said new after =
+    ((new ≡ old) × (after ≡ said))
+    ⊎ ((e : Entry) × (new ≡ with_entry old e.client e.call e.reply) × (after ≡ e ∷ said))

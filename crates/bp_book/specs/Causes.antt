@@ -1,4 +1,5 @@
--- What the core answers where a client's list asks it: which entry it adds, and when each refusal comes.
+-- What the core answers where a client's list asks it: which entry it adds, and when each refusal
+-- comes.
 use Rattle.std.specs.Prelude.{◌≡◌, ◌⊎◌, ◌≤◌, ◌<◌, ℕ, List, Result, Ok, Err, IsOk}
 use Rattle.bp_page.specs.declared.refusals.Refusal.{Refusal}
 use Rattle.bp_page.specs.declared.refusals.Refusal.TheVariants as refusal
@@ -21,7 +22,8 @@ use Rattle.bp_book.specs.declared.pending.Flush.{Flush as Flushing}
 use Rattle.bp_book.specs.declared.pending.Flush.TheVariants as flushing
 use Rattle.bp_core.specs.Outcomes.{FixOutcome, FlushOutcome, LacksRead, LacksWrite, ReadEndOutcome, StepOutcome, WriteEndOutcome}
 
--- a look that saw this LSN: a mark of it where it is above what is durable, and nothing where it is not
+-- a look that saw this LSN: a mark of it where it is above what is durable, and nothing where it is
+-- not
 abbrev pub Looks : {A : Type 0} → ℕ → ℕ → CoreView → Result A Refusal → CoreView → Type 0
 Looks client seen old answer new =
     (IsOk answer × (seen ≤ durable old.past) × (new ≡ old))
@@ -47,13 +49,16 @@ abbrev pub AsksFlush : ℕ → ℕ → Result Flushing Refusal → CoreView → 
 AsksFlush client page answer old new = FlushOutcome old client page (flushed_by_core answer) new
 
 -- the end of a read: a ticket is forfeited only where the core does not know it
-abbrev pub EndsRead : CoreView → ReadTicket → Result (List ℕ) PortFault → Result Pass Refusal → CoreView → Type 0
+abbrev pub EndsRead : CoreView → ReadTicket → Result (List ℕ) PortFault → Result Pass Refusal
+    → CoreView → Type 0
 EndsRead old ticket read (Ok pass) new = ReadEndOutcome old ticket read (Ok pass) new
 EndsRead old ticket read (Err refusal.UnknownTicket) new = LacksRead old ticket × (new ≡ old)
 EndsRead old ticket read (Err why) new = ReadEndOutcome old ticket read (Err (Failed why)) new
 
 -- the end of a write-out, likewise
-abbrev pub EndsWrite : CoreView → WriteTicket → Result (Unit {0}) PortFault → Result Ended Refusal → CoreView → Type 0
+abbrev pub EndsWrite : CoreView → WriteTicket → Result (Unit {0}) PortFault → Result Ended Refusal
+    → CoreView → Type 0
 EndsWrite old ticket written (Ok how) new = WriteEndOutcome old ticket written (Ok how) new
 EndsWrite old ticket written (Err refusal.UnknownTicket) new = LacksWrite old ticket × (new ≡ old)
-EndsWrite old ticket written (Err why) new = WriteEndOutcome old ticket written (Err (Failed why)) new
+EndsWrite old ticket written (Err why) new =
+    WriteEndOutcome old ticket written (Err (Failed why)) new

@@ -4,7 +4,8 @@ use Rattle.bp_trail.specs.Event.{Grant}
 use Rattle.bp_frames.specs.Rising.{IsRisingBy, StandsAt}
 use Rattle.bp_book.specs.declared.held.Slot.{Slot}
 
--- the passes that a list holds, in the order taken, and how many more may be held with no memory taken
+-- the passes that a list holds, in the order taken, and how many more may be held with no memory
+-- taken
 pub record HeldValue : Type 0 where
   pub passes : List Grant
   pub room : ℕ
@@ -33,7 +34,9 @@ pub record IsFirst (slots : List Slot) (first : ℕ) : Type 0 where
 -- the place of the slot with this number, if its pass is held
 abbrev pub IsPlaceHeld : List Slot → ℕ → Option ℕ → Type 0
 IsPlaceHeld slots n (Some at) = StandsAt (λ s. s.note.serial) slots n at × IsHeldAt slots at
-IsPlaceHeld slots n None = (k : ℕ) (d : Slot) → k < length slots → (slice_index_or slots k d).is_held ≡ true → (slice_index_or slots k d).note.serial ≢ n
+IsPlaceHeld slots n None =
+    (k : ℕ) (d : Slot) → k < length slots → (slice_index_or slots k d).is_held ≡ true
+    → (slice_index_or slots k d).note.serial ≢ n
 
 -- the slots, as they are counted
 pub record AreKept (slots : List Slot) (first count : ℕ) (is_rising : Bool) : Type 0 where

@@ -71,7 +71,8 @@ fn holds(slot: &Slot, pass: &Pass) -> bool
 /// Whether a pass is among those held, found by a look at each slot. That taken latest is looked at first.
 fn is_among(slots: &[Slot], pass: &Pass) -> bool
     ensures { result ≡ some (λ s. s.is_held
-        && same_grant (grant pass.now.client pass.now.page pass.now.serial) s.note) (reverse slots.now) }
+        && same_grant (grant pass.now.client pass.now.page pass.now.serial) s.note)
+        (reverse slots.now) }
 {
     slots.iter().rev().any(|slot| holds(slot, pass))
 }

@@ -9,7 +9,8 @@ unfoldable pub tenth_text : ℕ → ℕ → List ℕ
 tenth_text down tenths =
     codes "<path class='grid' d='M800 " ++ (decimal down
     ++ (codes "h6400'/><text class='left' x='720' y='" ++ (decimal down
-    ++ (codes "' dy='45'>" ++ (decimal (tenths / 10) ++ (codes "." ++ (decimal (tenths % 10) ++ codes "</text>\n")))))))
+    ++ (codes "' dy='45'>"
+    ++ (decimal (tenths / 10) ++ (codes "." ++ (decimal (tenths % 10) ++ codes "</text>\n")))))))
 
 -- the first so many: each where a point with so many hits of ten fixes stands
 unfoldable pub tenths_text : ℕ → List ℕ

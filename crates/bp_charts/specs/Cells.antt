@@ -28,4 +28,6 @@ pub record IsLine (cells : List Cell) (which : Which) (line : Curve) : Type 0 wh
 -- each name has its line, in order
 pub data AreLines (cells : List Cell) : List Which → List Curve → Type 0 where
   none : AreLines cells [] []
-  one_more : {names : List Which} {lines : List Curve} (which : Which) {line : Curve} → AreLines cells names lines → IsLine cells which line → AreLines cells (names ++ which ∷ []) (lines ++ line ∷ [])
+  one_more : {names : List Which} {lines : List Curve} (which : Which) {line : Curve}
+      → AreLines cells names lines → IsLine cells which line
+      → AreLines cells (names ++ which ∷ []) (lines ++ line ∷ [])

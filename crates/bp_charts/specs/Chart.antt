@@ -8,7 +8,8 @@ use Rattle.bp_charts.specs.Places.{stroke_of, mark_of}
 use Rattle.bp_charts.specs.Axis.{tenths_text, ticks_text}
 use Rattle.bp_charts.specs.Labels.{style_text, legend_text}
 
--- the line with this number: one stroke through all its points, a mark at each, and its row of the legend
+-- the line with this number: one stroke through all its points, a mark at each, and its row of the
+-- legend
 unfoldable pub line_text : Scale → ℕ → Curve → List ℕ
 line_text s number line =
     style_text line.which number
@@ -30,7 +31,9 @@ axes_text = codes "<path class='axis' d='M800 400v4000h6400'/>\n"
 -- a chart with this axis of frames
 unfoldable pub chart_on : Scale → List Curve → List ℕ
 chart_on s lines =
-    HEAD.now ++ (tenths_text 11 ++ (ticks_text s (s.doublings + 1) ++ (axes_text ++ (lines_text s 0 lines ++ codes "</svg>\n"))))
+    HEAD.now ++ (tenths_text 11
+    ++ (ticks_text s (s.doublings + 1)
+    ++ (axes_text ++ (lines_text s 0 lines ++ codes "</svg>\n"))))
 
 abbrev pub chart_text : List Curve → List ℕ
 chart_text lines = chart_on (scale_over (span_of lines)) lines

@@ -19,6 +19,10 @@ DropsLast old new = (last : ℕ) × IsGreatest old last × (new ≡ without_one 
 
 -- what becomes of the keys by a reference
 pub data Steps (frames now next : ℕ) (old new : Held) (before after : Optimum) : Type 0 where
-  a_hit : old.has now ≡ true → 0 < old.count → new ≡ with_one next (without_one now old) → after ≡ one_hit before → Steps frames now next old new before after
-  a_load : old.has now ≡ false → old.count < frames → new ≡ with_one next old → after ≡ one_load before → Steps frames now next old new before after
-  an_exchange : (victim : ℕ) → old.has now ≡ false → frames ≤ old.count → IsGreatest old victim → new ≡ with_one next (without_one victim old) → after ≡ one_exchange before → Steps frames now next old new before after
+  a_hit : old.has now ≡ true → 0 < old.count → new ≡ with_one next (without_one now old)
+      → after ≡ one_hit before → Steps frames now next old new before after
+  a_load : old.has now ≡ false → old.count < frames → new ≡ with_one next old
+      → after ≡ one_load before → Steps frames now next old new before after
+  an_exchange : (victim : ℕ) → old.has now ≡ false → frames ≤ old.count → IsGreatest old victim
+      → new ≡ with_one next (without_one victim old) → after ≡ one_exchange before
+      → Steps frames now next old new before after

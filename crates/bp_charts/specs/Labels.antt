@@ -12,9 +12,12 @@ abbrev pub name_text : Which → List ℕ
 name_text (K k) = name_of_k k
 name_text Optimum = codes "optimum"
 
--- one of six colours and one of five dashes, so that 30 lines one after the other all differ; the optimum is black
+-- one of six colours and one of five dashes, so that 30 lines one after the other all differ; the
+-- optimum is black
 abbrev pub style_text : Which → ℕ → List ℕ
-style_text (K k) number = codes "<g class='c" ++ decimal (number % 6) ++ codes " d" ++ decimal (number % 5) ++ codes "'>\n"
+style_text (K k) number =
+    codes "<g class='c" ++ decimal (number % 6) ++ codes " d" ++ decimal (number % 5)
+    ++ codes "'>\n"
 style_text Optimum number = codes "<g class='optimum'>\n"
 
 -- how far down the legend has the line with this number
@@ -24,7 +27,9 @@ row_of number = 500 + 210 * number
 -- a piece of the line there, and the beginning of its name
 unfoldable pub sample_text : ℕ → List ℕ
 sample_text row =
-    codes "<path d='M7450 " ++ (decimal row ++ (codes "h600'/><text x='8150' y='" ++ (decimal row ++ codes "' dy='45'>")))
+    codes "<path d='M7450 "
+    ++ (decimal row ++ (codes "h600'/><text x='8150' y='" ++ (decimal row ++ codes "' dy='45'>")))
 
 unfoldable pub legend_text : Which → ℕ → List ℕ
-legend_text which number = sample_text (row_of number) ++ (name_text which ++ codes "</text>\n</g>\n")
+legend_text which number =
+    sample_text (row_of number) ++ (name_text which ++ codes "</text>\n</g>\n")

@@ -6,13 +6,15 @@ use Rattle.bp_charts.specs.declared.scale.Scale.{Scale}
 use Rattle.bp_charts.specs.declared.places.Place.{Place}
 use Rattle.bp_charts.specs.Scale.{halvings}
 
--- how far right so many frames stand: 800 is where the axis begins, and 6400 its width. A doubling from 2 ^ h frames on
--- has 2 ^ h parts, one for each frame that it adds
+-- how far right so many frames stand: 800 is where the axis begins, and 6400 its width. A doubling
+-- from 2 ^ h frames on has 2 ^ h parts, one for each frame that it adds
 abbrev pub right_of : Scale → ℕ → ℕ
 right_of s frames =
-    800 + 6400 * ((halvings frames - s.low) * 2 ^ halvings frames + (frames - 2 ^ halvings frames)) / (s.doublings * 2 ^ halvings frames)
+    800 + 6400 * ((halvings frames - s.low) * 2 ^ halvings frames + (frames - 2 ^ halvings frames))
+    / (s.doublings * 2 ^ halvings frames)
 
--- how far down the ratio of so many hits to so many fixes stands: one of 0 at 4400, and one of 1 higher by 4000
+-- how far down the ratio of so many hits to so many fixes stands: one of 0 at 4400, and one of 1
+-- higher by 4000
 abbrev pub down_of : ℕ → ℕ → ℕ
 down_of hits fixes = 4400 - 4000 * min hits fixes / max fixes 1
 

@@ -12,7 +12,8 @@ halvings n = 63 - count_leading_zeros 64 n
 
 -- the span, with this point in it
 abbrev pub and_point : Span → Point → Span
-and_point span point = record { least = min span.least point.frames; greatest = max span.greatest point.frames }
+and_point span point =
+    record { least = min span.least point.frames; greatest = max span.greatest point.frames }
 
 abbrev pub and_line : Span → Curve → Span
 and_line span line = fold and_point span line.points.items
@@ -21,7 +22,8 @@ and_line span line = fold and_point span line.points.items
 abbrev pub span_of : List Curve → Span
 span_of lines = fold and_line (record { least = 2 ^ 64 - 1; greatest = 1 }) lines
 
--- from the power of two at or below the least to the one at or above the greatest, and at least one doubling
+-- from the power of two at or below the least to the one at or above the greatest, and at least one
+-- doubling
 abbrev pub scale_over : Span → Scale
 scale_over span = record {
   low = halvings (min span.least span.greatest);

@@ -14,11 +14,15 @@ k_text None = codes "opt"
 
 -- the counts that both kinds of line have
 unfoldable pub counts_text : Line → List ℕ
-counts_text l = codes "," ++ decimal l.fixes ++ codes "," ++ decimal l.hits ++ codes "," ++ decimal l.faults ++ codes "," ++ ratio_text l.hits l.fixes ++ codes "," ++ decimal l.evictions
+counts_text l =
+    codes "," ++ decimal l.fixes ++ codes "," ++ decimal l.hits ++ codes "," ++ decimal l.faults
+    ++ codes "," ++ ratio_text l.hits l.fixes ++ codes "," ++ decimal l.evictions
 
 -- what was written and failed, and what was refused, of which the optimum has nothing
 abbrev pub rest_text : Line → Option ℕ → List ℕ
-rest_text l (Some k) = codes "," ++ decimal l.writes ++ codes "," ++ decimal l.failed ++ codes "," ++ decimal l.refused ++ codes "\n"
+rest_text l (Some k) =
+    codes "," ++ decimal l.writes ++ codes "," ++ decimal l.failed ++ codes "," ++ decimal l.refused
+    ++ codes "\n"
 rest_text l None = codes ",,,\n"
 
 unfoldable pub line_text : Line → List ℕ

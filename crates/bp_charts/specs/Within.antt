@@ -1,4 +1,5 @@
--- What a chart's places mean: every point stands within the axes, and the grid lines are numbered rightly.
+-- What a chart's places mean: every point stands within the axes, and the grid lines are numbered
+-- rightly.
 use Rattle.std.specs.Prelude.{◌≡◌, ℕ, ◌+◌, ◌^◌, ◌<◌, ◌≤◌, List, All}
 use Rattle.bp_charts.specs.declared.curves.Curve.{Curve}
 use Rattle.bp_charts.specs.declared.curves.Point.{Point}
@@ -13,7 +14,8 @@ pub record IsWithin (place : Place) : Type 0 where
   pub top : 400 ≤ place.down
   pub bottom : place.down ≤ 4400
 
--- the axis of frames goes from no more than the point's to no fewer, and the point stands within the axes
+-- the axis of frames goes from no more than the point's to no fewer, and the point stands within
+-- the axes
 pub record IsOnAxes (s : Scale) (p : Point) : Type 0 where
   pub from : 2 ^ s.low ≤ p.frames
   pub to : p.frames ≤ 2 ^ (s.low + s.doublings)
@@ -32,4 +34,6 @@ AreOnAxes s lines = All (λ (line : Curve). All (IsOnAxes s) line.points.items) 
 
 -- each grid line stands where points with as many frames do, up to what a `usize` tells
 abbrev pub HasItsNumbers : Scale → Type 0
-HasItsNumbers s = (step : ℕ) → step ≤ s.doublings → s.low + step < 64 → tick_at s step ≡ right_of s (2 ^ (s.low + step))
+HasItsNumbers s =
+    (step : ℕ) → step ≤ s.doublings → s.low + step < 64
+    → tick_at s step ≡ right_of s (2 ^ (s.low + step))

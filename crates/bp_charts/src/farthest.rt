@@ -91,8 +91,8 @@ fn refer(
 /// last: of all pages in frames, its next reference is the farthest. Each page is brought in where it is referred to.
 /// No other choice of the pages that leave gives fewer faults, as Belady found; that is not proved here.
 ///
-/// It takes eight bytes of memory for each reference, eight for each page up to the greatest, and a tree of the pages in
-/// frames. `AllocError` where there is no memory.
+/// It takes eight bytes of memory for each reference, eight for each page up to the greatest, and a tree of the pages
+/// in frames. `AllocError` where there is no memory.
 pub fn count_optimum(
     alloc: Global,
     references: &[u32],

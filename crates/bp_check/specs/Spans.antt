@@ -9,7 +9,8 @@ use Rattle.bp_check.specs.declared.spans.Span.{Span}
 
 -- the times of a burst's oldest and newest reference, and whether the oldest is a hit
 abbrev pub span : Burst → Span
-span burst = record { first = first_time burst; last = last_time burst; by_hit = is_opened_by_hit burst }
+span burst =
+    record { first = first_time burst; last = last_time burst; by_hit = is_opened_by_hit burst }
 
 -- the spans of the bursts of some references
 abbrev pub spans : ℕ → List Reference → List Span
@@ -35,7 +36,10 @@ has_none (newest ∷ older) = Bool.false
 abbrev pub spans_at : {A : Type 0} → List (Vec Span A) → ℕ → List Span
 spans_at table p = reverse (slice_index_or (map (λ v. v.items) table) p [])
 
--- a purge forgets a page of these spans, where these pages are resident and these read tickets are out
+-- a purge forgets a page of these spans, where these pages are resident and these read tickets are
+-- out
 abbrev pub outdated : ℕ → ℕ → List ℕ → List Grant → ℕ → List Span → Bool
 outdated retained now residents reads p known =
-    not (has_none known) && (not (some (λ q. q == p) residents || some (is_of p) reads) && nat_lt retained (now - last_of known))
+    not (has_none known)
+    && (not (some (λ q. q == p) residents || some (is_of p) reads)
+    && nat_lt retained (now - last_of known))

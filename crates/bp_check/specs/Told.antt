@@ -23,13 +23,15 @@ pub record Told : Type 0 where
   pub parameters : Parameters
   pub past : Trail
 
--- of passes or tickets of a kind, the one with the number that ends goes, and the one that is given comes
+-- of passes or tickets of a kind, the one with the number that ends goes, and the one that is given
+-- comes
 abbrev pub passed_on : Option Grant → Option ℕ → List Grant → List Grant
 passed_on gives ends out = and_given gives (without (λ (g : Grant). g.serial) ends out)
 
 -- of the resident pages, the one that an entry evicts goes, and the one that it loads comes
 abbrev pub pages_after : Entry → List ℕ → List ℕ
-pages_after e pages = and_given (loaded (page_of e.call) e.reply) (without (λ (q : ℕ). q) (evicted e.reply) pages)
+pages_after e pages =
+    and_given (loaded (page_of e.call) e.reply) (without (λ (q : ℕ). q) (evicted e.reply) pages)
 
 -- the ticket, where it is this one
 abbrev pub is_ticket : ℕ → Option ℕ → Bool
@@ -42,10 +44,13 @@ AreEnded past ended = (t : ℕ) → slice_index_or ended t false ≡ some (λ e.
 
 -- by pages, the spans of the page's references
 abbrev pub AreSpans : {A : Type 0} → Parameters → Trail → List (Vec Span A) → Type 0
-AreSpans c past table = (p : ℕ) → p < c.pages → spans_at table p ≡ spans c.correlated (references c past p)
+AreSpans c past table =
+    (p : ℕ) → p < c.pages → spans_at table p ≡ spans c.correlated (references c past p)
 
 -- what is kept is what the entries say, and they are legal
-pub record Keeps {A : Type 0} (c : Parameters) (past : Trail) (now mark given : ℕ) (out reads writes : List Grant) (pages : List ℕ) (done : List Bool) (table : List (Vec Span A)) : Type 0 where
+pub record Keeps {A : Type 0} (c : Parameters) (past : Trail) (now mark given : ℕ)
+    (out reads writes : List Grant) (pages : List ℕ) (done : List Bool)
+    (table : List (Vec Span A)) : Type 0 where
   pub legal : Legal c past
   pub clock : now ≡ clock past
   pub durable : mark ≡ durable past
@@ -59,8 +64,10 @@ pub record Keeps {A : Type 0} (c : Parameters) (past : Trail) (now mark given : 
   pub spans : AreSpans c past table
   pub one_a_page : length table ≡ c.pages
 
--- where the entry is lawful, and what is kept is what the entries before it say, the new spans are those after it
-abbrev pub KeepsSpans : {A : Type 0} → Parameters → Trail → Entry → ℕ → List ℕ → List Grant → List (Vec Span A) → List (Vec Span A) → Type 0
+-- where the entry is lawful, and what is kept is what the entries before it say, the new spans are
+-- those after it
+abbrev pub KeepsSpans : {A : Type 0} → Parameters → Trail → Entry → ℕ → List ℕ → List Grant
+    → List (Vec Span A) → List (Vec Span A) → Type 0
 KeepsSpans c past e now pages reads old new =
     IsLawful c past e → now ≡ clock past → pages ≡ residents past → reads ≡ reads_out past
     → length old ≡ c.pages → AreSpans c past old → AreSpans c (e ∷ past) new

@@ -8,4 +8,5 @@ use Rattle.bp_trail.specs.Legal.{IsLawful, Legal}
 pub record IsFirstUnlawful (c : Parameters) (entries : List Entry) (place : ℕ) : Type 0 where
   pub within : place < length entries
   pub before : Legal c (reverse (take place entries))
-  pub unlawful : (d : Entry) → ¬ (IsLawful c (reverse (take place entries)) (slice_index_or entries place d))
+  pub unlawful : (d : Entry)
+      → ¬ (IsLawful c (reverse (take place entries)) (slice_index_or entries place d))

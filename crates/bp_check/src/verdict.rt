@@ -13,8 +13,8 @@ use std::alloc::{AllocError, Global};
 /// trail. They are in the order of time, from the first on that a pool made. What room the pool had doesn't matter.
 ///
 /// It fails by want of memory alone. It takes memory for an empty list of each page of the file, and then for what is
-/// out, for the references that no purge forgot, and for an image or two at a time. An entry takes time in proportion to
-/// those before it, and a purge to the pages of the file besides.
+/// out, for the references that no purge forgot, and for an image or two at a time. An entry takes time in proportion
+/// to those before it, and a purge to the pages of the file besides.
 pub fn first_unlawful(
     alloc: Global,
     setup: &Setup,

@@ -36,13 +36,15 @@ abbrev pub NoneIsStrange : List Refused → Type 0
 NoneIsStrange refused = All (λ r. r.number ≢ 16) refused
 
 -- the list (newest first) follows the script by the cut with these ends (newest first)
-pub record FollowsCut (client : ℕ) (script : List Row) (ends : List ℕ) (said : Trail) (refused : List Refused) : Type 0 where
+pub record FollowsCut (client : ℕ) (script : List Row) (ends : List ℕ) (said : Trail)
+    (refused : List Refused) : Type 0 where
   pub by_rows : Trail
   pub pieces : FollowsBy session (reverse script) ends by_rows (reverse refused)
   pub gives_back : GivesBack by_rows said
   pub known : NoneIsStrange refused
 
--- a client's script, its list and the ends of its rows' pieces (newest first), the rows refused, and whether all of it was run
+-- a client's script, its list and the ends of its rows' pieces (newest first), the rows refused,
+-- and whether all of it was run
 pub record JobValue : Type 0 where
   pub client : ℕ
   pub script : List Row
@@ -52,7 +54,8 @@ pub record JobValue : Type 0 where
   pub is_done : Bool
 
 -- a job as its fields have it
-abbrev pub job_view : {A : Type 0} → SessionValue → Vec Row A → Vec ℕ A → Vec Refused A → Bool → JobValue
+abbrev pub job_view : {A : Type 0} → SessionValue → Vec Row A → Vec ℕ A → Vec Refused A → Bool
+    → JobValue
 job_view runner script ends refused is_done = record {
   client = runner.client;
   script = script.items;
@@ -69,7 +72,8 @@ pub record IsJob (p : Parameters) (j : JobValue) (for_ends for_refused : ℕ) : 
   pub done : j.is_done ≡ true → FollowsCut j.client j.script j.ends j.said j.refused
 
 abbrev pub new_job : ℕ → List Row → JobValue
-new_job client script = record { client = client; script = script; said = []; ends = []; refused = []; is_done = false }
+new_job client script =
+    record { client = client; script = script; said = []; ends = []; refused = []; is_done = false }
 
 -- a job for each script, the clients from this one on
 abbrev pub new_jobs : ℕ → List (List Row) → List JobValue
@@ -92,19 +96,25 @@ lists vectors = map (λ v. v.items) vectors
 
 -- ---- after the threads
 
--- the job is done, its list is what the trail (in order) has of its client, and the log of client 0 bounds the marks
+-- the job is done, its list is what the trail (in order) has of its client, and the log of client 0
+-- bounds the marks
 pub record Agrees (trail : List Entry) (j : JobValue) : Type 0 where
   pub follows : FollowsCut j.client j.script j.ends j.said j.refused
   pub said : reverse j.said ≡ of_client j.client trail
   pub within : j.client ≡ 0 → IsWithinLog j.script j.ends (reverse trail)
 
--- a comparison fails: the script was not run whole, the list is not what the trail has of the client, or the log does not bound the marks
+-- a comparison fails: the script was not run whole, the list is not what the trail has of the
+-- client, or the log does not bound the marks
 abbrev pub Disagrees : List Entry → JobValue → Type 0
-Disagrees trail j = (j.is_done ≡ false) ⊎ (reverse j.said ≢ of_client j.client trail) ⊎ ((j.client ≡ 0) × (¬ IsWithinLog j.script j.ends (reverse trail)))
+Disagrees trail j =
+    (j.is_done ≡ false) ⊎ (reverse j.said ≢ of_client j.client trail)
+    ⊎ ((j.client ≡ 0) × (¬ IsWithinLog j.script j.ends (reverse trail)))
 
 -- some comparison fails
 abbrev pub SomeDisagrees : List Entry → List JobValue → Type 0
-SomeDisagrees trail jobs = (earlier later : List JobValue) × (j : JobValue) × (jobs ≡ earlier ++ j ∷ later) × Disagrees trail j
+SomeDisagrees trail jobs =
+    (earlier later : List JobValue) × (j : JobValue) × (jobs ≡ earlier ++ j ∷ later)
+    × Disagrees trail j
 
 -- why the jobs are not added: memory is wanted, or a comparison fails
 abbrev pub NotAdded : Type 0 → Refusal → Type 0
@@ -113,7 +123,8 @@ NotAdded disagrees refusal.Disagree = disagrees
 NotAdded disagrees _ = ⊥
 
 -- the lists of some jobs, in order, and their refused rows
-pub record Collected (trail : List Entry) (jobs : List JobValue) (said : List (List Entry)) (refused : List Refused) : Type 0 where
+pub record Collected (trail : List Entry) (jobs : List JobValue) (said : List (List Entry))
+    (refused : List Refused) : Type 0 where
   pub agree : All (Agrees trail) jobs
   pub said_are : said ≡ map (λ j. reverse j.said) jobs
   pub refused_are : refused ≡ flat_map (λ j. j.refused) jobs

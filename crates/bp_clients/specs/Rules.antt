@@ -11,13 +11,17 @@ use Rattle.bp_trail.specs.Sentences.{IsCandidate, IsFirst}
 use Rattle.bp_trail.specs.Safety.{EvictsSafely, WritesAreDurable}
 use Rattle.bp_trail.specs.Claims.{AnswersPlain}
 
--- each reply is what the page map answers there; each page that leaves has no pins and is not unsaved, and is the eligible page that comes
--- first, so that none is farther; no image goes out beyond the durable log; and over an honest device each content is the plain map's
+-- each reply is what the page map answers there; each page that leaves has no pins and is not
+-- unsaved, and is the eligible page that comes first, so that none is farther; no image goes out
+-- beyond the durable log; and over an honest device each content is the plain map's
 pub record KeepsRules (c : Parameters) (trail : List Entry) : Type 0 where
   pub replies : EachEntry (λ before e. MayReply c before e.call e.reply) (reverse trail)
   pub evictions : EachEntry (EvictsSafely c) (reverse trail)
-  pub victims : EachEntry (λ before e. (t v : ℕ) → e.reply ≡ Load t (Some v) → IsFirst c before v) (reverse trail)
-  pub farthest : EachEntry (λ before e. (t v q : ℕ) → e.reply ≡ Load t (Some v) → IsCandidate c before q
-      → is_farther (backward_distance c before q) (backward_distance c before v) ≡ false) (reverse trail)
+  pub victims : EachEntry (λ before e. (t v : ℕ) → e.reply ≡ Load t (Some v) → IsFirst c before v)
+      (reverse trail)
+  pub farthest : EachEntry (λ before e. (t v q : ℕ) → e.reply ≡ Load t (Some v)
+      → IsCandidate c before q
+      → is_farther (backward_distance c before q) (backward_distance c before v) ≡ false)
+      (reverse trail)
   pub write_outs : EachEntry WritesAreDurable (reverse trail)
   pub contents : EachEntry AnswersPlain (reverse trail)

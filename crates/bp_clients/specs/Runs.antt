@@ -1,4 +1,5 @@
--- What holds after a run of client threads. A trail and a client's list are in the order of time here, and so are scripts and refused rows.
+-- What holds after a run of client threads. A trail and a client's list are in the order of time
+-- here, and so are scripts and refused rows.
 use Rattle.std.specs.Prelude.{◌≡◌, ℕ, ◌<◌, false, List, [], ◌∷◌, ◌++◌, reverse, length, flat_map, Result, Ok, Err, IfOk}
 use Rattle.std.specs.List.Sorted.{IsPermutation, IsNonDecreasingBy}
 use Rattle.bp_page.specs.declared.refusals.Refusal.{Refusal}
@@ -20,35 +21,45 @@ use Rattle.bp_clients.specs.declared.run.Outcome.{Outcome}
 use Rattle.bp_clients.specs.Rules.{KeepsRules}
 use Rattle.bp_clients.specs.Jobs.{list_of, lists, new_jobs, NoneIsStrange, JobValue, Collected}
 
--- there is one list for each client, with the trail's entries of that client, in order, and no others
+-- there is one list for each client, with the trail's entries of that client, in order, and no
+-- others
 pub record SaidIsTheirs (clients : ℕ) (trail : List Entry) (said : List (List Entry)) : Type 0 where
   pub counted : length said ≡ clients
   pub each : (c : ℕ) → c < clients → list_of c said ≡ of_client c trail
 
--- each client's list follows its script; the refused rows of all, in the order of their numbers, are those of each
-pub record EachFollows (scripts : List (List Row)) (said : List (List Entry)) (refused : List Refused) : Type 0 where
+-- each client's list follows its script; the refused rows of all, in the order of their numbers,
+-- are those of each
+pub record EachFollows (scripts : List (List Row)) (said : List (List Entry))
+    (refused : List Refused) : Type 0 where
   pub refusals : List (List Refused)
-  pub each : (c : ℕ) → c < length scripts → Follows session (list_of c scripts) (reverse (list_of c said)) (list_of c refusals)
+  pub each : (c : ℕ) → c < length scripts
+      → Follows session (list_of c scripts) (reverse (list_of c said)) (list_of c refusals)
   pub counted : length refusals ≡ length scripts
   pub joined : IsPermutation (flat_map (λ r. r) refusals) refused
   pub in_order : IsNonDecreasingBy (λ r. r.row) refused
 
--- by one cut of client 0's list, by which it follows its script with the refused rows that the run has, no mark comes before the log rows allow it
-pub record MarksWithinLog (scripts : List (List Row)) (trail : List Entry) (said : List (List Entry)) (refused : List Refused) : Type 0 where
+-- by one cut of client 0's list, by which it follows its script with the refused rows that the run
+-- has, no mark comes before the log rows allow it
+pub record MarksWithinLog (scripts : List (List Row)) (trail : List Entry)
+    (said : List (List Entry)) (refused : List Refused) : Type 0 where
   pub follows : EachFollows scripts said refused
   pub some : 0 < length scripts
   pub within : IsWithinLog (list_of 0 scripts) (follows.each 0 some).ends (reverse trail)
 
--- each entry of client 0 that is no unfix stands in the piece of a row, by that cut, and the greatest LSN marked up to and with it is at most
--- the greatest of the log rows before that row
-abbrev pub MarksByRows : (scripts : List (List Row)) (trail : List Entry) (said : List (List Entry)) (refused : List Refused) → MarksWithinLog scripts trail said refused → Type 0
+-- each entry of client 0 that is no unfix stands in the piece of a row, by that cut, and the
+-- greatest LSN marked up to and with it is at most the greatest of the log rows before that row
+abbrev pub MarksByRows : (scripts : List (List Row)) (trail : List Entry) (said : List (List Entry))
+    (refused : List Refused) → MarksWithinLog scripts trail said refused → Type 0
 MarksByRows scripts trail said refused log =
-    (newer past : Trail) (e : Entry) → reverse trail ≡ newer ++ e ∷ past → e.client ≡ 0 → is_unfix e.call ≡ false
-    → BoundedByItsRow session (list_of 0 scripts) (reverse (list_of 0 said)) (list_of 0 log.follows.refusals) (log.follows.each 0 log.some) past e
+    (newer past : Trail) (e : Entry) → reverse trail ≡ newer ++ e ∷ past → e.client ≡ 0
+    → is_unfix e.call ≡ false
+    → BoundedByItsRow session (list_of 0 scripts) (reverse (list_of 0 said))
+    (list_of 0 log.follows.refusals) (log.follows.each 0 log.some) past e
 
--- the trail is one legal history, by the rules of the pool; it holds each client's calls once and in that client's order, as its script asks
--- for them; and no mark is ahead of the log
-pub record IsRun (c : Parameters) (scripts : List (List Row)) (trail : List Entry) (said : List (List Entry)) (refused : List Refused) : Type 0 where
+-- the trail is one legal history, by the rules of the pool; it holds each client's calls once and
+-- in that client's order, as its script asks for them; and no mark is ahead of the log
+pub record IsRun (c : Parameters) (scripts : List (List Row)) (trail : List Entry)
+    (said : List (List Entry)) (refused : List Refused) : Type 0 where
   pub legal : Legal c (reverse trail)
   pub rules : KeepsRules c trail
   pub theirs : SaidIsTheirs (length scripts) trail said
@@ -64,7 +75,8 @@ RunsJobs c jobs answer =
     → IfOk answer (λ run. IsRun c scripts run.trail.items (lists run.said.items) run.refused.items)
 
 -- what the jobs left, with the refused rows of all put in the order of their numbers
-pub record Joined (trail : List Entry) (jobs : List JobValue) (said : List (List Entry)) (refused : List Refused) : Type 0 where
+pub record Joined (trail : List Entry) (jobs : List JobValue) (said : List (List Entry))
+    (refused : List Refused) : Type 0 where
   pub one_by_one : List Refused
   pub collected : Collected trail jobs said one_by_one
   pub same : IsPermutation one_by_one refused
@@ -102,7 +114,9 @@ after_lists before (piece ∷ pieces) = after_lists (reverse piece ++ before) pi
 abbrev pub joined_lists : List (List Entry) → List Entry
 joined_lists pieces = flat_map (λ piece. piece) pieces
 
--- of each client the pieces of its list are, joined, what the pieces of the trail have of it, joined; each piece of the trail can be looked at alone
-pub record PiecesAreTheirs (clients : ℕ) (trail : List (List Entry)) (said : List (List (List Entry))) : Type 0 where
+-- of each client the pieces of its list are, joined, what the pieces of the trail have of it,
+-- joined; each piece of the trail can be looked at alone
+pub record PiecesAreTheirs (clients : ℕ) (trail : List (List Entry))
+    (said : List (List (List Entry))) : Type 0 where
   pub counted : length said ≡ clients
   pub each : (c : ℕ) → c < clients → joined_lists (list_of c said) ≡ flat_map (of_client c) trail

@@ -19,11 +19,13 @@ as_fault refusal.UnknownPass = refusal.Disagree
 as_fault why = why
 
 -- the piece of the step was added
-pub record AddsStep (client : ℕ) (step : Step) (outcome : Outcome) (said after : Trail) : Type 0 where
+pub record AddsStep (client : ℕ) (step : Step) (outcome : Outcome)
+    (said after : Trail) : Type 0 where
   pub piece : Trail
   pub of_row : RowPiece session said client step piece outcome
   pub grows : after ≡ piece ++ said
 
 -- so it was, where the run is not at fault
 abbrev pub StepSaid : ℕ → Step → Outcome → Trail → Trail → Type 0
-StepSaid client step outcome said after = IsTrue (is_fault outcome) ⊎ AddsStep client step outcome said after
+StepSaid client step outcome said after =
+    IsTrue (is_fault outcome) ⊎ AddsStep client step outcome said after

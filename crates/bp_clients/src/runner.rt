@@ -1,5 +1,5 @@
 //! What one client's thread acts with, and what each step of a script does.
-ghost use Rattle.std.specs.Prelude.{◌≡◌, ◌+◌, ◌≤◌, ◌<◌, All, IfNone, OnOk, OnErr, IsTrue, []};
+ghost use Rattle.std.specs.Prelude.{◌≡◌, ◌+◌, ◌≤◌, ◌<◌, IfNone, OnOk, OnErr, IsTrue, []};
 ghost use Rattle.std.specs.Prelude.{◌∷◌, length};
 ghost use Rattle.bp_trail.specs.declared.entries.Call.TheVariants as Call;
 ghost use Rattle.bp_trail.specs.declared.entries.Reply.TheVariants as Reply;

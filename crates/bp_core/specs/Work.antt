@@ -1,5 +1,5 @@
--- Which work a driver had its device do, by the entries that it added. What a port says of its calls,
--- `reads` and `writes`, leads from the port as it was to the port as it is.
+-- Which work a driver had its device do, by the entries that it added. What a port says of its
+-- calls, `reads` and `writes`, leads from the port as it was to the port as it is.
 use Rattle.std.specs.Prelude.{◌≡◌, ℕ, Bool, List, [], ◌∷◌, ◌++◌, Option, Some, None, Result, Ok}
 use Rattle.std.specs.Prelude.{Err}
 use Rattle.std.specs.Result.{is_ok}

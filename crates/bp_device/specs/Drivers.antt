@@ -26,7 +26,8 @@ use Rattle.bp_trail.specs.Pieces.Outcome.{accepted, refused}
 use Rattle.bp_trail.specs.declared.entries.Flushed.{Flushed}
 
 -- a piece was added that is as P says
-pub record AddsPiece (old : CoreView) (P : Trail → Type 0) (given : Option Grant) (new : CoreView) : Type 0 where
+pub record AddsPiece (old : CoreView) (P : Trail → Type 0) (given : Option Grant)
+    (new : CoreView) : Type 0 where
   pub piece : Trail
   pub is : new ≡ with_piece old piece
   pub of_row : P piece
@@ -34,15 +35,24 @@ pub record AddsPiece (old : CoreView) (P : Trail → Type 0) (given : Option Gra
 
 abbrev pub DrivesFix : CoreView → ℕ → ℕ → Result Pass Refusal → CoreView → Type 0
 DrivesFix old client page (Ok pass) new =
-    (pass.client ≡ client) × (pass.page ≡ page) × AddsPiece old (λ piece. FixPiece driver client page piece accepted) (Some (grant client page pass.serial)) new
-DrivesFix old client page (Err refusal) new = AddsPiece old (λ piece. FixPiece driver client page piece (refused (number_of refusal))) None new
+    (pass.client ≡ client) × (pass.page ≡ page)
+    × AddsPiece old (λ piece. FixPiece driver client page piece accepted)
+    (Some (grant client page pass.serial)) new
+DrivesFix old client page (Err refusal) new =
+    AddsPiece old (λ piece. FixPiece driver client page piece (refused (number_of refusal))) None
+    new
 
 abbrev pub DrivesFlush : CoreView → ℕ → ℕ → Result Flushed Refusal → CoreView → Type 0
-DrivesFlush old client page (Ok flushed) new = AddsPiece old (λ piece. FlushPiece driver client page piece accepted × Ends (flushed_reply flushed) piece) None new
-DrivesFlush old client page (Err refusal) new = AddsPiece old (λ piece. FlushPiece driver client page piece (refused (number_of refusal))) None new
+DrivesFlush old client page (Ok flushed) new =
+    AddsPiece old (λ piece. FlushPiece driver client page piece accepted
+    × Ends (flushed_reply flushed) piece) None new
+DrivesFlush old client page (Err refusal) new =
+    AddsPiece old (λ piece. FlushPiece driver client page piece (refused (number_of refusal))) None
+    new
 
--- why a driver's fix or flush, which asks for so much room, is refused, by what it leaves: 20 where the core has less room, 22 where it
--- has as much and the call takes memory, and 12 with the LSN of the newest entry
+-- why a driver's fix or flush, which asks for so much room, is refused, by what it leaves: 20 where
+-- the core has less room, 22 where it has as much and the call takes memory, and 12 with the LSN of
+-- the newest entry
 abbrev pub IsCaused : ℕ → Call → Refusal → CoreView → Type 0
 IsCaused n call refusal.TrailFull core = LacksRoomFor n core
 IsCaused n call refusal.OutOfMemory core = HasRoomFor n core × TakesMemory call core
@@ -50,22 +60,31 @@ IsCaused n call (refusal.NeedLog lsn) core = Ends (NeedLog lsn) core.past
 IsCaused n call _ core = Unit {0}
 
 -- the end of a read or of a write-out whose ticket is known
-abbrev pub LoadOutcome : CoreView → ReadTicket → Result (List ℕ) PortFault → Result Pass Refusal → CoreView → Type 0
+abbrev pub LoadOutcome : CoreView → ReadTicket → Result (List ℕ) PortFault → Result Pass Refusal
+    → CoreView → Type 0
 LoadOutcome old ticket (Ok image) (Ok pass) new =
     (pass.client ≡ ticket.client) × (pass.page ≡ ticket.page)
-    × (new ≡ with_entry old ticket.client (ReadEnd ticket.serial ticket.page (Some image)) (Fixed pass.serial))
+    × (new ≡ with_entry old ticket.client (ReadEnd ticket.serial ticket.page (Some image))
+    (Fixed pass.serial))
 LoadOutcome old ticket (Err fault) (Err refusal) new =
-    (refusal ≡ read_refusal fault) × (new ≡ with_entry old ticket.client (ReadEnd ticket.serial ticket.page None) (read_failure fault))
+    (refusal ≡ read_refusal fault)
+    × (new ≡ with_entry old ticket.client (ReadEnd ticket.serial ticket.page None)
+    (read_failure fault))
 LoadOutcome old ticket _ _ new = ⊥
 
 abbrev pub SaveOutcome : CoreView → WriteTicket → Result Ended Refusal → CoreView → Type 0
-SaveOutcome old ticket (Ok ended) new = Adds old ticket.client (WriteEnd ticket.serial ticket.page true) (ended_reply ended) new
-SaveOutcome old ticket (Err refusal) new = (refusal ≡ WriteRefused) × Adds old ticket.client (WriteEnd ticket.serial ticket.page false) WriteFailed new
+SaveOutcome old ticket (Ok ended) new =
+    Adds old ticket.client (WriteEnd ticket.serial ticket.page true) (ended_reply ended) new
+SaveOutcome old ticket (Err refusal) new =
+    (refusal ≡ WriteRefused)
+    × Adds old ticket.client (WriteEnd ticket.serial ticket.page false) WriteFailed new
 
--- a fix, made again once an unsaved victim was written out: it gives a pass or a ticket to read, or it is refused
+-- a fix, made again once an unsaved victim was written out: it gives a pass or a ticket to read, or
+-- it is refused
 abbrev pub SavingOutcome : CoreView → ℕ → ℕ → Result Fixing Refusal → CoreView → Type 0
 SavingOutcome old client page (Ok (fixing.Hit pass)) new = DrivesFix old client page (Ok pass) new
 SavingOutcome old client page (Ok (fixing.Load ticket evicted)) new =
-    (mid : CoreView) × AddsPiece old (FixGoesOn driver client page) None mid × FixOutcome mid client page (Ok (fixing.Load ticket evicted)) new
+    (mid : CoreView) × AddsPiece old (FixGoesOn driver client page) None mid
+    × FixOutcome mid client page (Ok (fixing.Load ticket evicted)) new
 SavingOutcome old client page (Ok (fixing.WriteFirst ticket)) new = ⊥
 SavingOutcome old client page (Err refusal) new = DrivesFix old client page (Err refusal) new

@@ -28,12 +28,14 @@ same_key k q = (k.0 == q.0) && (k.1 == q.1)
 abbrev pub has_pass_of : ℕ × ℕ → Slot → Bool
 has_pass_of k s = s.is_held && is_pass_of k.0 k.1 s.note
 
--- where the newest slot stands that has a pass of this key; here and below the slots come newest first
+-- where the newest slot stands that has a pass of this key; here and below the slots come newest
+-- first
 abbrev pub newest_of : ℕ × ℕ → List Slot → Option ℕ
 newest_of k [] = None
 newest_of k (s ∷ older) = if has_pass_of k s then Some (length older) else newest_of k older
 
--- each slot whose pass is held says where the newest of its key stands among those older than itself
+-- each slot whose pass is held says where the newest of its key stands among those older than
+-- itself
 abbrev pub AreLinked : List Slot → Type 0
 AreLinked [] = Unit {0}
 AreLinked (s ∷ older) =

@@ -1,9 +1,9 @@
 //! The frames of a buffer pool's core, and the passes and tickets that it has given out.
 //!
-//! A [`FrameTable`] holds the images of the pages that are in memory, and knows which pages may be replaced and which of
-//! them goes first. It finds a page's frame in one step, as a [`FrameSlot`], and other calls go on by that. A [`GrantList`] holds the passes, or the tickets of one kind,
-//! that are out. Neither knows of a trail: what each is seen as is said in `specs`, and the core above ties that to
-//! its entries.
+//! A [`FrameTable`] holds the images of the pages that are in memory, and knows which pages may be replaced and which
+//! of them goes first. It finds a page's frame in one step, as a [`FrameSlot`], and other calls go on by that. A
+//! [`GrantList`] holds the passes, or the tickets of one kind, that are out. Neither knows of a trail: what each is
+//! seen as is said in `specs`, and the core above ties that to its entries.
 //!
 //! Memory is taken by `FrameTable::with_capacity` and `provide`, and by `GrantList::with_capacity` and `reserve`; by
 //! nothing else.

@@ -8,7 +8,16 @@ MarkName = TableId
 
 -- the name of no mark
 abbrev pub no_mark : MarkName
-no_mark = record { words = 0; slots = 0; views_name = 0; atom = 0; block = 0; offset = 0; slot_names = [] }
+no_mark =
+    record {
+      words = 0;
+      slots = 0;
+      views_name = 0;
+      atom = 0;
+      block = 0;
+      offset = 0;
+      slot_names = [];
+    }
 
 -- the log end of a mark, and the greatest LSN that it has raised
 pub record LogEndValue : Type 0 where

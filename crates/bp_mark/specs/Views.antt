@@ -14,7 +14,8 @@ reader seen = record { frontier = None; seen = seen }
 
 -- the frontier becomes the greater of itself and the LSN
 abbrev pub raised : ℕ → View → View
-raised lsn v = record { frontier = option_map (λ frontier. max frontier lsn) v.frontier; seen = v.seen }
+raised lsn v =
+    record { frontier = option_map (λ frontier. max frontier lsn) v.frontier; seen = v.seen }
 
 -- what was seen becomes what was found
 abbrev pub looked : ℕ → View → View
@@ -30,4 +31,5 @@ Raises step before found after = after ≡ (raised step.first before.0, before.1
 
 -- what a look tells: no less is found than was seen before
 abbrev pub Looks : Step ℕ → Me ℕ View → ℕ → Me ℕ View → Type 0
-Looks step before found after = (after ≡ (looked found before.0, before.1)) × (before.0.seen ≤ found)
+Looks step before found after =
+    (after ≡ (looked found before.0, before.1)) × (before.0.seen ≤ found)

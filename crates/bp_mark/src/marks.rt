@@ -27,7 +27,8 @@ impl Model for Mark {
 
     ghost view = { λ m. m.table.shared.table_id };
 
-    ghost invariant = { λ m. (m.table.shared.table_id.words ≡ 1) × (m.table.shared.table_id.slots ≡ 0) };
+    ghost invariant = { λ m. (m.table.shared.table_id.words ≡ 1)
+        × (m.table.shared.table_id.slots ≡ 0) };
 }
 
 // The word at the end, which the seat's view fits.

@@ -2,8 +2,11 @@
 use Rattle.std.specs.Prelude.{ℕ, ◌==◌, List, [], ◌∷◌, codes, find, Option, option_map}
 
 abbrev pub explanations : List (ℕ × List ℕ)
-explanations =
-    (1, codes "the number of pages, as of different references, or the page size is out of its limits")
+explanations = (
+  1,
+  codes
+      "the number of pages, as of different references, or the page size is out of its limits",
+)
     ∷ (2, codes "a setting of the pool is out of its limits")
     ∷ (3, codes "the page file is no positive number of whole pages, or has too many")
     ∷ (11, codes "no page may leave its frame")
@@ -19,7 +22,11 @@ explanations =
     ∷ (22, codes "out of memory")
     ∷ (23, codes "the ring of passes to give back is full")
     ∷ (24, codes "the clients' lists and the trail do not agree")
-    ∷ (40, codes "a record does not have the fields of its operation, or lacks the column of a sweep")
+    ∷ (
+      40,
+      codes
+          "a record does not have the fields of its operation, or lacks the column of a sweep",
+    )
     ∷ (41, codes "no client has this number here")
     ∷ (42, codes "no operation has this name")
     ∷ (43, codes "a field is not a number within the limits")

@@ -12,14 +12,18 @@ spoiled_page false size = None
 abbrev pub Writing : Type 0 → Type 1
 Writing P = List ℕ → Result (Unit {0}) PortFault → P → Type 0
 
--- that page was written below, whatever came of it; where none is wanted, the port below was not asked
+-- that page was written below, whatever came of it; where none is wanted, the port below was not
+-- asked
 abbrev pub Spoils : {P : Type 0} → Writing P → Option (List ℕ) → P → P → Type 0
-Spoils writes (Some page) inner after = (written : Result (Unit {0}) PortFault) × writes page written after
+Spoils writes (Some page) inner after =
+    (written : Result (Unit {0}) PortFault) × writes page written after
 Spoils writes None inner after = after ≡ inner
 
 -- the write that fails: the device's failure, and what it leaves below
-abbrev pub FailsSpoiling : {P : Type 0} → Writing P → Option (List ℕ) → Result (Unit {0}) PortFault → P → P → Type 0
-FailsSpoiling writes spoiled written inner after = IsFailure written × Spoils writes spoiled inner after
+abbrev pub FailsSpoiling : {P : Type 0} → Writing P → Option (List ℕ) → Result (Unit {0}) PortFault
+    → P → P → Type 0
+FailsSpoiling writes spoiled written inner after =
+    IsFailure written × Spoils writes spoiled inner after
 
 -- a call was counted down, and the spoiled page kept
 abbrev pub IsNext : ℕ → Option (List ℕ) → ℕ → Option (List ℕ) → Type 0

@@ -2,7 +2,7 @@
 pub mod Ports
 pub mod Files
 pub mod Fuses
--- What is read and what is written as a page file of version 1 is written anew in version 2, and what stands where
--- that fails.
+-- What is read and what is written as a page file of version 1 is written anew in version 2, and
+-- what stands where that fails.
 pub mod WholeFiles
 pub mod MigrateFaults

@@ -25,12 +25,14 @@ IsFailure result = result ≡ Err Device
 abbrev pub IsUnasked : {A P : Type 0} → Result A PortFault → P → P → Type 0
 IsUnasked result inner after = IsFailure result × (after ≡ inner)
 
--- of a port that counts its calls down and fails once, at 1: that call fails so, and each other one passes
+-- of a port that counts its calls down and fails once, at 1: that call fails so, and each other one
+-- passes
 abbrev pub FailsOrPasses : ℕ → Type 0 → Type 0 → Type 0
 FailsOrPasses left fails passes = (left ≡ 1 → fails) × (left ≢ 1 → passes)
 
--- what a caller sees of a port: its device's pages and their size, the failures that it has counted, whether the pages stand with their
--- numbers, and the bytes of the slot that it moved last, where it keeps one
+-- what a caller sees of a port: its device's pages and their size, the failures that it has
+-- counted, whether the pages stand with their numbers, and the bytes of the slot that it moved
+-- last, where it keeps one
 pub record PortView : Type 0 where
   pub device : Geometry
   pub failures : ℕ
@@ -42,12 +44,15 @@ new_port geometry = record { device = geometry; failures = 0; headed = false; sl
 
 -- a read by a port to these pages: a failure is counted, and a page that the device lacks is one
 abbrev pub ReadsPage : PortView → ℕ → Result (List ℕ) PortFault → PortView → Type 0
-ReadsPage port page found after = Counts found port.failures after.failures × (port.device.pages ≤ page → IsFailure found)
+ReadsPage port page found after =
+    Counts found port.failures after.failures × (port.device.pages ≤ page → IsFailure found)
 
--- a write by such a port: it takes no memory, and an image that is no page of the device is a failure too
+-- a write by such a port: it takes no memory, and an image that is no page of the device is a
+-- failure too
 abbrev pub WritesPage : PortView → ℕ → List ℕ → Result (Unit {0}) PortFault → PortView → Type 0
 WritesPage port page image written after =
-    Counts written port.failures after.failures × (written ≢ Err Memory) × (port.device.pages ≤ page → IsFailure written)
+    Counts written port.failures after.failures × (written ≢ Err Memory)
+    × (port.device.pages ≤ page → IsFailure written)
     × (length image ≢ port.device.size → IsFailure written)
 
 -- whether pages stand with their numbers in a file of this version

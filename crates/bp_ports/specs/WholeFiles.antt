@@ -24,7 +24,8 @@ abbrev pub headed_file : List (List ℕ) → List ℕ
 headed_file images = slots_from numbered 0 images
 
 -- one page was read and written
-pub record MigratesPage (page : ℕ) (image : List ℕ) (unread left old new : Option (List ℕ)) : Type 0 where
+pub record MigratesPage (page : ℕ) (image : List ℕ)
+    (unread left old new : Option (List ℕ)) : Type 0 where
   pub read : Consumes unread left image
   pub written : Appends old new (headed_slot page 0 image)
 
@@ -36,5 +37,6 @@ pub record Copies (pages size : ℕ) (unread left old new : Option (List ℕ)) :
   pub read : Consumes unread left (raw_file images)
   pub written : Appends old new (headed_file images)
 
-abbrev pub Migrates : Geometry → Option (List ℕ) → Option (List ℕ) → Option (List ℕ) → Option (List ℕ) → Type 0
+abbrev pub Migrates : Geometry → Option (List ℕ) → Option (List ℕ) → Option (List ℕ)
+    → Option (List ℕ) → Type 0
 Migrates g unread left old new = Copies g.pages g.size unread left old new

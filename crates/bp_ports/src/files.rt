@@ -29,8 +29,8 @@ pub enum OpenFault {
     Port(PortFault),
 }
 
-/// A client's way to a page file. In version 1 page p stands at byte p · size, as its bytes; in version 2 at byte p · (size + 16), after
-/// its number and its page LSN.
+/// A client's way to a page file. In version 1 page p stands at byte p · size, as its bytes; in version 2 at byte p ·
+/// (size + 16), after its number and its page LSN.
 #[derive(Drop)]
 pub struct FilePort {
     alloc: Global,
@@ -46,11 +46,16 @@ pub struct FilePort {
 impl Model for FilePort {
     ghost Value = { PortView };
 
-    ghost view = { λ p. record { device = p.device; failures = p.count; headed = has_headers p.format; slot = p.buffer.items } };
+    ghost view = { λ p. record {
+      device = p.device;
+      failures = p.count;
+      headed = has_headers p.format;
+      slot = p.buffer.items;
+    } };
 }
 
-/// The geometry of a page file of so many bytes and this version, with pages of this size. `BadLength` where they are no whole slots,
-/// none, or more than 1,048,576.
+/// The geometry of a page file of so many bytes and this version, with pages of this size. `BadLength` where they are
+/// no whole slots, none, or more than 1,048,576.
 pub fn geometry_of_file(bytes: u64, size: usize, format: Format) -> Result<Geometry, Refusal>
     requires size { IsGeometry 1 size }
     ensures accepted { IsOk result ↔ IsFileLength (slot_size format size) bytes }
@@ -69,10 +74,11 @@ pub fn geometry_of_file(bytes: u64, size: usize, format: Format) -> Result<Geome
 }
 
 impl FilePort {
-    /// Opens a page file of this version for reading and writing. It is neither made nor cut, and its length tells how many pages it has.
+    /// Opens a page file of this version for reading and writing. It is neither made nor cut, and its length tells how
+    /// many pages it has.
     ///
-    /// `Refused(BadLength)` where it is no positive number of whole slots of pages of this size, or more than 1,048,576;
-    /// `Port(Device)` where it can't be opened, and `Port(Memory)` where a page's bytes can't be had.
+    /// `Refused(BadLength)` where it is no positive number of whole slots of pages of this size, or more than
+    /// 1,048,576; `Port(Device)` where it can't be opened, and `Port(Memory)` where a page's bytes can't be had.
     pub fn open<R: Files<File = File>, P: AsPath>(
         rt: &R,
         alloc: Global,
@@ -117,8 +123,8 @@ impl FilePort {
     }
 }
 
-/// The image in a slot of this version that was read as that of this page. `WrongPage` exactly where the slot has the number
-/// of another page, else `Memory` where the image can't be had.
+/// The image in a slot of this version that was read as that of this page. `WrongPage` exactly where the slot has the
+/// number of another page, else `Memory` where the image can't be had.
 fn image_in(alloc: Global, format: Format, page: PageNo, slot: &[u8]) -> Result<Image, PortFault>
     requires header { has_headers format ≡ true → 16 ≤ length slot.now }
     ensures found { FoundIn (has_headers format) page slot.now result }
@@ -163,7 +169,8 @@ impl Port for FilePort {
         }
     }
 
-    // A slot of version 1 is the image's own bytes, and one of version 2 is made in the buffer, so a write takes no memory.
+    // A slot of version 1 is the image's own bytes, and one of version 2 is made in the buffer, so a write takes no
+    // memory.
     fn write<R: Wait>(
         &mut self,
         _rt: &R,

@@ -70,7 +70,12 @@ pub struct MemPort {
 impl Model for MemPort {
     ghost Value = { PortView };
 
-    ghost view = { λ p. record { device = p.device; failures = p.count; headed = false; slot = [] } };
+    ghost view = { λ p. record {
+      device = p.device;
+      failures = p.count;
+      headed = false;
+      slot = [];
+    } };
 }
 
 impl Port for MemPort {
@@ -82,7 +87,8 @@ impl Port for MemPort {
 
     ghost read_gives = { ReadsPage };
 
-    ghost write_gives = { λ port page image lsn written after. WritesPage port page image written after };
+    ghost write_gives = { λ port page image lsn written after.
+        WritesPage port page image written after };
 
     fn geometry(&self) -> Geometry {
         self.device

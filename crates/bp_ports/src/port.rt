@@ -5,13 +5,13 @@ use std::sync::Wait;
 
 /// A client's way to the pages of a device. What a read finds there, no port promises.
 ///
-/// A fault is `Device` only where the port counts a failure in that call (the count stays at 2^64 − 1 once it is there),
-/// and `Memory` only where the image's memory was refused. A page that the device does not have, or an image of another
-/// size than its pages, is a failure of the device. `WrongPage` is none: a read alone answers it, and only of a device whose
-/// pages stand with their numbers, where another page's number stands in the page's place.
+/// A fault is `Device` only where the port counts a failure in that call (the count stays at 2^64 − 1 once it is
+/// there), and `Memory` only where the image's memory was refused. A page that the device does not have, or an image of
+/// another size than its pages, is a failure of the device. `WrongPage` is none: a read alone answers it, and only of a
+/// device whose pages stand with their numbers, where another page's number stands in the page's place.
 ///
-/// A port says by two relations of its own which calls led from it, as it was, to it, as it is. What is promised by them of
-/// any port, as of the drivers, can be kept only by these calls.
+/// A port says by two relations of its own which calls led from it, as it was, to it, as it is. What is promised by
+/// them of any port, as of the drivers, can be kept only by these calls.
 pub trait Port: Drop {
     ghost use Rattle.std.specs.Prelude.{◌≡◌, ◌≢◌, ℕ, Bool, true, List, Result, length, IfOk};
     ghost use Rattle.bp_page.specs.declared.limits.Geometry.{Geometry};

@@ -35,7 +35,8 @@ ReadsAny port page found after = ⊥
 
 abbrev pub WritesAny : AnyPort → ℕ → List ℕ → ℕ → Result (Unit {0}) PortFault → AnyPort → Type 0
 WritesAny (Mem port) page image lsn written (Mem after) = WritesPage port page image written after
-WritesAny (File port) page image lsn written (File after) = WritesFile port page image lsn written after
+WritesAny (File port) page image lsn written (File after) =
+    WritesFile port page image lsn written after
 WritesAny port page image lsn written after = ⊥
 
 -- a port to this device, whose pages stand with their numbers or not
@@ -63,11 +64,13 @@ is_headed_pages (pages.File file) = file.first.headed
 
 -- one of a path keeps the path and the version, by which it is opened again
 abbrev pub OpensPages : Text → ℕ → Format → Result OpenPages OpenFault → Type 0
-OpensPages word size format (Ok (pages.File file)) = (string_bytes file.path ≡ word) × (file.format ≡ format)
+OpensPages word size format (Ok (pages.File file)) =
+    (string_bytes file.path ≡ word) × (file.format ≡ format)
 OpensPages word size format _ = Unit {0}
 
 abbrev pub ConnectsPages : OpenPages → ℕ → Result (Vec AnyPort Global) OpenFault → Type 0
-ConnectsPages file clients ports = IfOk ports (λ ports. AreOf (geometry_of_pages file) (is_headed_pages file) clients ports.items)
+ConnectsPages file clients ports =
+    IfOk ports (λ ports. AreOf (geometry_of_pages file) (is_headed_pages file) clients ports.items)
 
 -- how `PageFiles` opens page files and traces; what stands in files, std does not say
 abbrev pub pages_ways : Ways OpenPages AnyPort StdFile

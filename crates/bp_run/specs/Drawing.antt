@@ -18,7 +18,11 @@ which_of None = Optimum
 
 -- what the picture shows of a line of the table
 abbrev pub cell_of : Line → Cell
-cell_of line = record { which = which_of line.k; point = record { frames = line.frames; hits = line.hits; fixes = line.fixes } }
+cell_of line =
+    record {
+      which = which_of line.k;
+      point = record { frames = line.frames; hits = line.hits; fixes = line.fixes };
+    }
 
 -- the cells are those of the table, by growing frames
 pub record AreShown (table : List Line) (cells : List Cell) : Type 0 where
@@ -49,9 +53,11 @@ pub record Pictures (ks : List ℕ) (table : List Line) (bytes : List ℕ) : Typ
 -- where a picture is asked for, its bytes were written to its path
 abbrev pub IsDrawn : (Text → List ℕ → Bool → Type 0) → Option Text → List ℕ → List Line → Type 0
 IsDrawn saves None ks table = Unit {0}
-IsDrawn saves (Some path) ks table = (bytes : List ℕ) × Pictures ks table bytes × saves path bytes true
+IsDrawn saves (Some path) ks table =
+    (bytes : List ℕ) × Pictures ks table bytes × saves path bytes true
 
 -- a picture is asked for, and writing its bytes to its path failed
 abbrev pub FailsToDraw : (Text → List ℕ → Bool → Type 0) → Option Text → List ℕ → List Line → Type 0
 FailsToDraw saves None ks table = ⊥
-FailsToDraw saves (Some path) ks table = (bytes : List ℕ) × Pictures ks table bytes × saves path bytes false
+FailsToDraw saves (Some path) ks table =
+    (bytes : List ℕ) × Pictures ks table bytes × saves path bytes false

@@ -1,4 +1,5 @@
--- Which pages a run is over, what is printed of it and of a sweep, and why there is no report or no table.
+-- Which pages a run is over, what is printed of it and of a sweep, and why there is no report or no
+-- table.
 pub mod PageFile
 pub mod Ways
 pub mod Opening

@@ -26,8 +26,10 @@ abbrev pub headed_in : Option ℕ → Format → Bool
 headed_in (Some n) format = false
 headed_in None format = has_headers format
 
--- what a word names, with pages of so many bytes in a version: the pages in memory, if it names so many, the geometry, and whether pages stand with their numbers
-pub record IsNamed (word : Text) (size : ℕ) (format : Format) (memory : Option ℕ) (geometry : Geometry) (headed : Bool) : Type 0 where
+-- what a word names, with pages of so many bytes in a version: the pages in memory, if it names so
+-- many, the geometry, and whether pages stand with their numbers
+pub record IsNamed (word : Text) (size : ℕ) (format : Format) (memory : Option ℕ)
+    (geometry : Geometry) (headed : Bool) : Type 0 where
   pub memory_is : memory ≡ memory_named word
   pub pages : HasPages (memory_named word) geometry.pages
   pub size_is : geometry.size ≡ size
@@ -42,7 +44,9 @@ IsForMemory fault = (fault ≡ Refused OutOfMemory) ⊎ (fault ≡ Port Memory)
 abbrev pub IsOfFile : OpenFault → Type 0
 IsOfFile fault = (fault ≡ Refused BadLength) ⊎ (fault ≡ Port Device)
 
--- of pages in memory: their number or size is out of its limits; of a path: its file is at fault; and of both: memory is wanted
+-- of pages in memory: their number or size is out of its limits; of a path: its file is at fault;
+-- and of both: memory is wanted
 abbrev pub IsOpenFault : Option ℕ → ℕ → OpenFault → Type 0
-IsOpenFault (Some n) size fault = IsForMemory fault ⊎ ((fault ≡ Refused BadGeometry) × ¬ IsGeometry n size)
+IsOpenFault (Some n) size fault =
+    IsForMemory fault ⊎ ((fault ≡ Refused BadGeometry) × ¬ IsGeometry n size)
 IsOpenFault None size fault = IsForMemory fault ⊎ IsOfFile fault

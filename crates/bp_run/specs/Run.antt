@@ -42,7 +42,8 @@ abbrev pub ports_for : Order → List Row → ℕ
 ports_for order.Trace rows = 1
 ports_for order.Free rows = clients_of rows
 
--- what the core of a run in this order is made with, over a page file of this geometry, for these rows
+-- what the core of a run in this order is made with, over a page file of this geometry, for these
+-- rows
 abbrev pub parameters_for : Order → Told → Geometry → List Row → Parameters
 parameters_for in_order told g rows = record {
   frames = told.frames;
@@ -59,9 +60,11 @@ parameters_for in_order told g rows = record {
 abbrev pub report_of : Bool → List Entry → List ℕ
 report_of totals trail = if totals then totals_text (totals_of trail) else report_text trail
 
--- what was written is the report of a legal trail and of refused rows, both of which follow the script; the trail's device work was done
--- by the port, in the trail's order, and nothing else was
-pub record Reports {P : Type 0} (reads : Reads P) (writes : Writes P) (totals : Bool) (c : Parameters) (port : P) (script : List Row) (all_accepted : Bool) (old new : Option (List ℕ)) : Type 0 where
+-- what was written is the report of a legal trail and of refused rows, both of which follow the
+-- script; the trail's device work was done by the port, in the trail's order, and nothing else was
+pub record Reports {P : Type 0} (reads : Reads P) (writes : Writes P) (totals : Bool)
+    (c : Parameters) (port : P) (script : List Row) (all_accepted : Bool)
+    (old new : Option (List ℕ)) : Type 0 where
   pub trail : List Entry
   pub refused : List Refused
   pub legal : Legal c (reverse trail)
@@ -71,8 +74,10 @@ pub record Reports {P : Type 0} (reads : Reads P) (writes : Writes P) (totals : 
   pub accepted : all_accepted ≡ (length refused == 0)
   pub written : Appends old new (report_of totals trail ++ rows_text refused)
 
--- what was written is the report of the trail of a run of client threads, which ran these scripts, and of its refused rows
-pub record ReportsFree (totals : Bool) (c : Parameters) (scripts : List (List Row)) (all_accepted : Bool) (old new : Option (List ℕ)) : Type 0 where
+-- what was written is the report of the trail of a run of client threads, which ran these scripts,
+-- and of its refused rows
+pub record ReportsFree (totals : Bool) (c : Parameters) (scripts : List (List Row))
+    (all_accepted : Bool) (old new : Option (List ℕ)) : Type 0 where
   pub trail : List Entry
   pub said : List (List Entry)
   pub refused : List Refused
@@ -80,34 +85,50 @@ pub record ReportsFree (totals : Bool) (c : Parameters) (scripts : List (List Ro
   pub accepted : all_accepted ≡ (length refused == 0)
   pub written : Appends old new (report_of totals trail ++ rows_text refused)
 
--- the rows were run over the one port in the order of the trace, or the clients as threads, each with its own rows
-abbrev pub ReportsIn : {P : Type 0} → Reads P → Writes P → Order → Bool → Parameters → List P → List Row → Bool → Option (List ℕ) → Option (List ℕ) → Type 0
-ReportsIn {P} reads writes order.Trace totals c ports rows all_accepted old new = (port : P) × (ports ≡ port ∷ []) × Reports reads writes totals c port rows all_accepted old new
-ReportsIn reads writes order.Free totals c ports rows all_accepted old new = ReportsFree totals c (scripts_of rows) all_accepted old new
+-- the rows were run over the one port in the order of the trace, or the clients as threads, each
+-- with its own rows
+abbrev pub ReportsIn : {P : Type 0} → Reads P → Writes P → Order → Bool → Parameters → List P
+    → List Row → Bool → Option (List ℕ) → Option (List ℕ) → Type 0
+ReportsIn {P} reads writes order.Trace totals c ports rows all_accepted old new =
+    (port : P) × (ports ≡ port ∷ []) × Reports reads writes totals c port rows all_accepted old new
+ReportsIn reads writes order.Free totals c ports rows all_accepted old new =
+    ReportsFree totals c (scripts_of rows) all_accepted old new
 
--- the rows are those that the bytes say, where these are known, and those of some records in any case
+-- the rows are those that the bytes say, where these are known, and those of some records in any
+-- case
 pub record AreRowsOf (g : Geometry) (bytes : Option (List ℕ)) (rows : List Row) : Type 0 where
   pub said : IfSome bytes (λ bytes. script_of g bytes ≡ Ok rows)
   pub some : IsScriptOfSome g rows
 
 -- the trace is standard input, with these bytes, or what was opened at its path
-abbrev pub AreRead : {T : Type 0} → (Text → Option T → Type 0) → (T → Option (List ℕ)) → TraceAt → Geometry → Option (List ℕ) → List Row → Type 0
+abbrev pub AreRead : {T : Type 0} → (Text → Option T → Type 0) → (T → Option (List ℕ)) → TraceAt
+    → Geometry → Option (List ℕ) → List Row → Type 0
 AreRead traces bytes_of from_stdin g bytes rows = AreRowsOf g bytes rows
-AreRead {T} traces bytes_of (at_path path) g bytes rows = (file : T) × traces path (Some file) × AreRowsOf g (bytes_of file) rows
+AreRead {T} traces bytes_of (at_path path) g bytes rows =
+    (file : T) × traces path (Some file) × AreRowsOf g (bytes_of file) rows
 
--- what was written is the report of such a run of the rows of the trace, over ports to the page file that was opened as the words name it
-pub record Runs {F P T : Type 0} (ways : Ways F P T) (bytes_of : T → Option (List ℕ)) (reads : Reads P) (writes : Writes P) (told : Told) (bytes : Option (List ℕ)) (all_accepted : Bool) (old new : Option (List ℕ)) : Type 0 where
+-- what was written is the report of such a run of the rows of the trace, over ports to the page
+-- file that was opened as the words name it
+pub record Runs {F P T : Type 0} (ways : Ways F P T) (bytes_of : T → Option (List ℕ))
+    (reads : Reads P) (writes : Writes P) (told : Told) (bytes : Option (List ℕ))
+    (all_accepted : Bool) (old new : Option (List ℕ)) : Type 0 where
   pub file : F
   pub opened : ways.opens told.page_file told.size told.format (Ok file)
-  pub named : IsNamed told.page_file told.size told.format (ways.memory file) (ways.geometry file) (ways.headed file)
+  pub named : IsNamed told.page_file told.size told.format (ways.memory file) (ways.geometry file)
+      (ways.headed file)
   pub rows : List Row
   pub read : AreRead ways.traces bytes_of told.trace (ways.geometry file) bytes rows
   pub ports : Vec P Global
   pub connected : ways.connects file (ports_for told.order rows) (Ok ports)
-  pub reports : ReportsIn reads writes told.order told.totals (parameters_for told.order told (ways.geometry file) rows) ports.items rows all_accepted old new
+  pub reports : ReportsIn reads writes told.order told.totals
+      (parameters_for told.order told (ways.geometry file) rows) ports.items rows all_accepted
+      old new
 
--- what was written is the report of such a run, with what the words name; the status is 0 where all rows were accepted, else 1
-pub record RunsWords {F P T : Type 0} (ways : Ways F P T) (bytes_of : T → Option (List ℕ)) (reads : Reads P) (writes : Writes P) (words : List Text) (bytes : Option (List ℕ)) (status : ℕ) (old new : Option (List ℕ)) : Type 0 where
+-- what was written is the report of such a run, with what the words name; the status is 0 where all
+-- rows were accepted, else 1
+pub record RunsWords {F P T : Type 0} (ways : Ways F P T) (bytes_of : T → Option (List ℕ))
+    (reads : Reads P) (writes : Writes P) (words : List Text) (bytes : Option (List ℕ)) (status : ℕ)
+    (old new : Option (List ℕ)) : Type 0 where
   pub told : Told
   pub named : asked_by words ≡ Some (a_run told)
   pub all_accepted : Bool
@@ -129,7 +150,9 @@ pub record ExplainsWords (words : List Text) (status : ℕ) (old new : Option (L
   pub status_is : status ≡ 0
 
 -- what the words name was done
-abbrev pub DoesWords : {F P T : Type 0} → Ways F P T → (T → Option (List ℕ)) → Reads P → Writes P → List Text → Option (List ℕ) → ℕ → Option (List ℕ) → Option (List ℕ) → Type 0
+abbrev pub DoesWords : {F P T : Type 0} → Ways F P T → (T → Option (List ℕ)) → Reads P → Writes P
+    → List Text → Option (List ℕ) → ℕ → Option (List ℕ) → Option (List ℕ) → Type 0
 DoesWords ways bytes_of reads writes words bytes status old new =
     RunsWords ways bytes_of reads writes words bytes status old new
-    ⊎ (SweepsWords ways bytes_of words bytes status old new ⊎ (MigratesWords words status old new ⊎ ExplainsWords words status old new))
+    ⊎ (SweepsWords ways bytes_of words bytes status old new
+    ⊎ (MigratesWords words status old new ⊎ ExplainsWords words status old new))

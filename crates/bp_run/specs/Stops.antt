@@ -1,4 +1,5 @@
--- How a run ends without a report, a sweep without a table, and a migration without a new page file, by the cause.
+-- How a run ends without a report, a sweep without a table, and a migration without a new page
+-- file, by the cause.
 use Rattle.std.specs.Prelude.{◌≡◌, ◌⊎◌, ℕ, Bool, true, false, List, Option, Some, None, IfSome, Ok, Err}
 use Rattle.std.specs.Io.KnownBytes.{Appends}
 use Rattle.clap.specs.Words.{Text}
@@ -23,54 +24,69 @@ use Rattle.bp_run.specs.Ways.{Ways}
 use Rattle.bp_run.specs.Run.{AreRead, ports_for}
 
 -- the page file is not opened
-pub record NotOpened {F P T : Type 0} (ways : Ways F P T) (told : Told) (ended : Ending) : Type 0 where
+pub record NotOpened {F P T : Type 0} (ways : Ways F P T) (told : Told)
+    (ended : Ending) : Type 0 where
   pub fault : OpenFault
   pub gave : ways.opens told.page_file told.size told.format (Err fault)
   pub cause : IsOpenFault (memory_named told.page_file) told.size fault
   pub said : ended ≡ ending_of fault
 
--- no rows can be read: the bytes have this fault, where they are known, but for want of memory and a reader that failed
+-- no rows can be read: the bytes have this fault, where they are known, but for want of memory and
+-- a reader that failed
 pub record HasNoRows (g : Geometry) (bytes : Option (List ℕ)) (ended : Ending) : Type 0 where
   pub fault : TraceFault
   pub cause : IfSome bytes (λ bytes. Answers (Err fault) (script_of g bytes))
   pub said : ended ≡ ending.TraceRefused fault
 
--- the trace has no rows: those of standard input, or of what was opened at its path; or nothing could be opened there
-abbrev pub NotRead : {T : Type 0} → (Text → Option T → Type 0) → (T → Option (List ℕ)) → TraceAt → Geometry → Option (List ℕ) → Ending → Type 0
+-- the trace has no rows: those of standard input, or of what was opened at its path; or nothing
+-- could be opened there
+abbrev pub NotRead : {T : Type 0} → (Text → Option T → Type 0) → (T → Option (List ℕ)) → TraceAt
+    → Geometry → Option (List ℕ) → Ending → Type 0
 NotRead traces bytes_of from_stdin g bytes ended = HasNoRows g bytes ended
 NotRead {T} traces bytes_of (at_path path) g bytes ended =
-    (traces path None × (ended ≡ ending.TraceNotOpened)) ⊎ ((file : T) × traces path (Some file) × HasNoRows g (bytes_of file) ended)
+    (traces path None × (ended ≡ ending.TraceNotOpened))
+    ⊎ ((file : T) × traces path (Some file) × HasNoRows g (bytes_of file) ended)
 
 -- there are not so many ports to the page file
-pub record NotConnected {F P T : Type 0} (ways : Ways F P T) (file : F) (clients : ℕ) (ended : Ending) : Type 0 where
+pub record NotConnected {F P T : Type 0} (ways : Ways F P T) (file : F) (clients : ℕ)
+    (ended : Ending) : Type 0 where
   pub fault : OpenFault
   pub gave : ways.connects file clients (Err fault)
   pub cause : IsOpenFault (ways.memory file) (ways.geometry file).size fault
   pub said : ended ≡ ending_of fault
 
--- memory is wanted; of threads, what one of them saw is not what the pool has; or not all of the report was written
+-- memory is wanted; of threads, what one of them saw is not what the pool has; or not all of the
+-- report was written
 abbrev pub NotReported : Order → Ending → Type 0
 NotReported in_order ended =
-    (ended ≡ ending.RunRefused OutOfMemory) ⊎ ((ended ≡ ending.OutputFailed) ⊎ ((in_order ≡ order.Free) × (ended ≡ ending.RunRefused Disagree)))
+    (ended ≡ ending.RunRefused OutOfMemory)
+    ⊎ ((ended ≡ ending.OutputFailed)
+    ⊎ ((in_order ≡ order.Free) × (ended ≡ ending.RunRefused Disagree)))
 
 -- the page file was opened, and the trace has no rows
-pub record StopsAtTrace {F P T : Type 0} (ways : Ways F P T) (bytes_of : T → Option (List ℕ)) (told : Told) (bytes : Option (List ℕ)) (ended : Ending) : Type 0 where
+pub record StopsAtTrace {F P T : Type 0} (ways : Ways F P T) (bytes_of : T → Option (List ℕ))
+    (told : Told) (bytes : Option (List ℕ)) (ended : Ending) : Type 0 where
   pub file : F
   pub opened : ways.opens told.page_file told.size told.format (Ok file)
   pub not_read : NotRead ways.traces bytes_of told.trace (ways.geometry file) bytes ended
 
--- the page file was opened and the rows were read, and then the run came to no end, or its report to none
-pub record StopsAfterRead {F P T : Type 0} (ways : Ways F P T) (bytes_of : T → Option (List ℕ)) (told : Told) (bytes : Option (List ℕ)) (ended : Ending) : Type 0 where
+-- the page file was opened and the rows were read, and then the run came to no end, or its report
+-- to none
+pub record StopsAfterRead {F P T : Type 0} (ways : Ways F P T) (bytes_of : T → Option (List ℕ))
+    (told : Told) (bytes : Option (List ℕ)) (ended : Ending) : Type 0 where
   pub file : F
   pub opened : ways.opens told.page_file told.size told.format (Ok file)
   pub rows : List Row
   pub read : AreRead ways.traces bytes_of told.trace (ways.geometry file) bytes rows
-  pub stopped : NotConnected ways file (ports_for told.order rows) ended ⊎ NotReported told.order ended
+  pub stopped : NotConnected ways file (ports_for told.order rows) ended
+      ⊎ NotReported told.order ended
 
 -- why a run makes no report
-abbrev pub StopsRun : {F P T : Type 0} → Ways F P T → (T → Option (List ℕ)) → Told → Option (List ℕ) → Ending → Type 0
+abbrev pub StopsRun : {F P T : Type 0} → Ways F P T → (T → Option (List ℕ)) → Told → Option (List ℕ)
+    → Ending → Type 0
 StopsRun ways bytes_of told bytes ended =
-    NotOpened ways told ended ⊎ (StopsAtTrace ways bytes_of told bytes ended ⊎ StopsAfterRead ways bytes_of told bytes ended)
+    NotOpened ways told ended
+    ⊎ (StopsAtTrace ways bytes_of told bytes ended ⊎ StopsAfterRead ways bytes_of told bytes ended)
 
 -- and a migration no page file
 abbrev pub StopsMigration : Ending → Type 0
@@ -82,7 +98,8 @@ StopsMigration ending.OutputFailed = Unit {0}
 StopsMigration _ = ⊥
 
 -- the words name such a run, or such a migration
-pub record StopsRunOf {F P T : Type 0} (ways : Ways F P T) (bytes_of : T → Option (List ℕ)) (words : List Text) (bytes : Option (List ℕ)) (ended : Ending) : Type 0 where
+pub record StopsRunOf {F P T : Type 0} (ways : Ways F P T) (bytes_of : T → Option (List ℕ))
+    (words : List Text) (bytes : Option (List ℕ)) (ended : Ending) : Type 0 where
   pub told : Told
   pub named : asked_by words ≡ Some (a_run told)
   pub stops : StopsRun ways bytes_of told bytes ended
@@ -99,15 +116,18 @@ pub record StopsExplanationOf (words : List Text) (ended : Ending) : Type 0 wher
   pub stops : ended ≡ ending.OutputFailed
 
 -- the words decide on this end, or what they name comes to it
-abbrev pub EndsBy : {F P T : Type 0} → Ways F P T → (T → Option (List ℕ)) → List Text → Option (List ℕ) → Option (List ℕ) → Option (List ℕ) → Ending → Type 0
+abbrev pub EndsBy : {F P T : Type 0} → Ways F P T → (T → Option (List ℕ)) → List Text
+    → Option (List ℕ) → Option (List ℕ) → Option (List ℕ) → Ending → Type 0
 EndsBy ways bytes_of words bytes old new ended =
     IsDecision words (Err ended)
     ⊎ (StopsRunOf ways bytes_of words bytes ended
-    ⊎ (StopsSweepOf ways bytes_of words bytes old new ended ⊎ (StopsMigrationOf words ended ⊎ StopsExplanationOf words ended)))
+    ⊎ (StopsSweepOf ways bytes_of words bytes old new ended
+    ⊎ (StopsMigrationOf words ended ⊎ StopsExplanationOf words ended)))
 
 -- ---- the outputs
 
--- help, the version, a report or a table that was begun, and a table that has no picture, may be on the output
+-- help, the version, a report or a table that was begun, and a table that has no picture, may be on
+-- the output
 abbrev pub keeps_out : Ending → Bool
 keeps_out (ending.Help text) = false
 keeps_out ending.Version = false

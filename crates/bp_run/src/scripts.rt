@@ -52,7 +52,8 @@ fn add_row(scripts: &mut [Vec<Row>], row: Row) -> Result<(), Refusal>
 /// memory for them.
 pub fn split(alloc: Global, rows: Vec<Row>, clients: usize) -> Result<Vec<Vec<Row>>, Refusal>
     requires { All (λ row. row.client < clients) rows.items }
-    ensures scripts { IfOk result (λ scripts. lists scripts.items ≡ scripts_for clients rows.items) }
+    ensures scripts { IfOk result (λ scripts.
+        lists scripts.items ≡ scripts_for clients rows.items) }
     ensures refused { OnErr result (result ≡ Err Refusal.OutOfMemory) }
 {
     let mut scripts = match empty_scripts(alloc, clients) {

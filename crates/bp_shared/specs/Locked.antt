@@ -14,10 +14,21 @@ use Rattle.bp_book.specs.Rings.{RingView, DrainsRings}
 
 -- no pool's parameters
 abbrev pub no_parameters : Parameters
-no_parameters = record { frames = 0; k = 0; correlated = 0; retained = 0; pages = 0; size = 0; clients = 0; room = 0 }
+no_parameters =
+    record {
+      frames = 0;
+      k = 0;
+      correlated = 0;
+      retained = 0;
+      pages = 0;
+      size = 0;
+      clients = 0;
+      room = 0;
+    }
 
--- what lies under the lock: the core, the greatest LSN that its reader has seen, how often device work ended, modulo 2^64,
--- the rings in the order in which they are drained, and how many passes were strays
+-- what lies under the lock: the core, the greatest LSN that its reader has seen, how often device
+-- work ended, modulo 2^64, the rings in the order in which they are drained, and how many passes
+-- were strays
 pub record LockedValue : Type 0 where
   pub core : CoreView
   pub seen : ℕ
@@ -25,8 +36,10 @@ pub record LockedValue : Type 0 where
   pub rings : List RingView
   pub strays : ℕ
 
--- the reader is the mark's, the core was made with these parameters, and every LSN that it marked was seen
-pub record IsLocked (mark : MarkName) (parameters : Parameters) (core : CoreView) (reader : ReaderValue) : Type 0 where
+-- the reader is the mark's, the core was made with these parameters, and every LSN that it marked
+-- was seen
+pub record IsLocked (mark : MarkName) (parameters : Parameters) (core : CoreView)
+    (reader : ReaderValue) : Type 0 where
   pub reader_is : reader.mark ≡ mark
   pub parameters_are : core.parameters ≡ parameters
   pub seen : durable core.past ≤ reader.seen
@@ -44,7 +57,8 @@ abbrev pub IsDrained : LockedValue → Type 0
 IsDrained state = (was : LockedValue) × Drained was state
 
 -- the core did what the event says, and the trail and the list got the same entries
-pub record InStep (Event : CoreView → CoreView → Type 0) (old : LockedValue) (said : Trail) (new : LockedValue) (after : Trail) : Type 0 where
+pub record InStep (Event : CoreView → CoreView → Type 0) (old : LockedValue) (said : Trail)
+    (new : LockedValue) (after : Trail) : Type 0 where
   pub event : Event old.core new.core
   pub rings_stay : (new.rings ≡ old.rings) × (new.strays ≡ old.strays)
   pub piece : Trail
@@ -56,7 +70,8 @@ abbrev pub not_refused : Result (Unit {0}) Refusal
 not_refused = Ok tt
 
 -- a look, and where it is not refused one event after it
-abbrev pub LooksFirst : {A : Type 0} → ℕ → ℕ → Result A Refusal → (CoreView → CoreView → Type 0) → CoreView → CoreView → Type 0
+abbrev pub LooksFirst : {A : Type 0} → ℕ → ℕ → Result A Refusal → (CoreView → CoreView → Type 0)
+    → CoreView → CoreView → Type 0
 LooksFirst client seen answer Event core new =
     (IsErr answer × Looks client seen core answer new)
     ⊎ ((looked : CoreView) × Looks client seen core not_refused looked × Event looked new)
@@ -68,7 +83,8 @@ FixStep client page seen answer = LooksFirst client seen answer (AsksFix client 
 abbrev pub FlushStep : ℕ → ℕ → ℕ → Result Flushing Refusal → CoreView → CoreView → Type 0
 FlushStep client page seen answer = LooksFirst client seen answer (AsksFlush client page answer)
 
--- how often device work ended, after one end more: that of a ticket that the pool does not know is none
+-- how often device work ended, after one end more: that of a ticket that the pool does not know is
+-- none
 abbrev pub ends_after : {A : Type 0} → Result A Refusal → ℕ → ℕ
 ends_after (Err refusal.UnknownTicket) ends = ends
 ends_after _ ends = (ends + 1) % 2 ^ 64

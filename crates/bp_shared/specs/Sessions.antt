@@ -19,8 +19,8 @@ use Rattle.bp_trail.specs.declared.entries.Flushed.{Flushed}
 use Rattle.bp_core.specs.Added.{Gives, Ends, flushed_reply}
 use Rattle.bp_core.specs.Work.{Reads, Writes, WorksThrough}
 
--- whose session it is, and its list: what cuts handed out, and all of it; in how many places of its ring it knows no pass;
--- and for how many entries the list has room beyond all that it owes
+-- whose session it is, and its list: what cuts handed out, and all of it; in how many places of its
+-- ring it knows no pass; and for how many entries the list has room beyond all that it owes
 pub record SessionValue : Type 0 where
   pub client : ℕ
   pub before : Trail
@@ -59,30 +59,43 @@ Repeats _ piece = Unit {0}
 
 abbrev pub FixSaid : ℕ → ℕ → Result Pass Refusal → Trail → Trail → Type 0
 FixSaid client page (Ok pass) said after =
-    (pass.client ≡ client) × (pass.page ≡ page) × Says (λ piece. FixPiece session client page piece accepted) (Some (grant client page pass.serial)) said after
-FixSaid client page (Err why) said after = Says (λ piece. FixPiece session client page piece (refused (number_of why)) × Repeats why piece) None said after
+    (pass.client ≡ client) × (pass.page ≡ page)
+    × Says (λ piece. FixPiece session client page piece accepted)
+    (Some (grant client page pass.serial)) said after
+FixSaid client page (Err why) said after =
+    Says (λ piece. FixPiece session client page piece (refused (number_of why)) × Repeats why piece)
+    None said after
 
 abbrev pub FlushSaid : ℕ → ℕ → Result Flushed Refusal → Trail → Trail → Type 0
-FlushSaid client page (Ok how) said after = Says (λ piece. FlushPiece session client page piece accepted × Ends (flushed_reply how) piece) None said after
-FlushSaid client page (Err why) said after = Says (λ piece. FlushPiece session client page piece (refused (number_of why)) × Repeats why piece) None said after
+FlushSaid client page (Ok how) said after =
+    Says (λ piece. FlushPiece session client page piece accepted × Ends (flushed_reply how) piece)
+    None said after
+FlushSaid client page (Err why) said after =
+    Says (λ piece. FlushPiece session client page piece (refused (number_of why))
+    × Repeats why piece) None said after
 
 -- a write with some page LSN, which the trail has under the lock
 abbrev pub WithSomeLsn : {A : Type 0} → Writes A → Writes A
-WithSomeLsn writes port page image hidden written after = (lsn : ℕ) × writes port page image lsn written after
+WithSomeLsn writes port page image hidden written after =
+    (lsn : ℕ) × writes port page image lsn written after
 
 -- the device did the work of the entries that the list got, in their order, and nothing else
-pub record DoesWorkSaid {A : Type 0} (reads : Reads A) (writes : Writes A) (said after : Trail) (port kept : A) : Type 0 where
+pub record DoesWorkSaid {A : Type 0} (reads : Reads A) (writes : Writes A) (said after : Trail)
+    (port kept : A) : Type 0 where
   pub piece : Trail
   pub grows : after ≡ piece ++ said
   pub through : WorksThrough reads (WithSomeLsn writes) said piece port kept
 
--- a pass that the list leaves out is posted, or finds the ring full: then the session knew of no free place, and nothing changes;
--- any other is unknown
-abbrev pub UnfixSaid : {A : Type 0} → SessionValue → Pass → Result A (Pass × Refusal) → SessionValue → Type 0
+-- a pass that the list leaves out is posted, or finds the ring full: then the session knew of no
+-- free place, and nothing changes; any other is unknown
+abbrev pub UnfixSaid : {A : Type 0} → SessionValue → Pass → Result A (Pass × Refusal) → SessionValue
+    → Type 0
 UnfixSaid old pass (Ok done) new =
     (pass_is_out pass old.said ≡ true) × (pass.client ≡ old.client)
-    × (new.said ≡ by old.client (Unfix pass.serial pass.page) Done ∷ old.said) × (old.free ≤ new.free + 1)
-UnfixSaid old pass (Err (back, refusal.UnknownPass)) new = (pass_is_out pass old.said ≡ false) × (back ≡ pass) × (new ≡ old)
+    × (new.said ≡ by old.client (Unfix pass.serial pass.page) Done ∷ old.said)
+    × (old.free ≤ new.free + 1)
+UnfixSaid old pass (Err (back, refusal.UnknownPass)) new =
+    (pass_is_out pass old.said ≡ false) × (back ≡ pass) × (new ≡ old)
 UnfixSaid old pass (Err (back, refusal.RingFull)) new =
     (pass_is_out pass old.said ≡ true) × (back ≡ pass) × (new ≡ old) × (old.free ≡ 0)
 UnfixSaid old pass (Err (back, _)) new = ⊥

@@ -22,17 +22,20 @@ pub record RingName : Type 0 where
   pub slots : Ptr
   pub names : ℕ × (ℕ × ℕ)
 
--- the names of what is made before a pool: the ring by which its trail is taken, and the board of its sessions
+-- the names of what is made before a pool: the ring by which its trail is taken, and the board of
+-- its sessions
 pub record PoolRing : Type 0 where
   pub trail : RingName
   pub board : ℕ
 
 -- the names of nothing
 abbrev pub no_ring : PoolRing
-no_ring = record { trail = record { words = null_ptr; slots = null_ptr; names = (0, (0, 0)) }; board = 0 }
+no_ring =
+    record { trail = record { words = null_ptr; slots = null_ptr; names = (0, (0, 0)) }; board = 0 }
 
 abbrev pub ring_of : {T A P : Type 0} → Producer T A P → RingName
-ring_of pieces = record { words = pieces.end.words; slots = pieces.end.slots; names = pieces.end.names }
+ring_of pieces =
+    record { words = pieces.end.words; slots = pieces.end.slots; names = pieces.end.names }
 
 abbrev pub ring_at : {T A P : Type 0} → Consumer T A P → RingName
 ring_at taken = record { words = taken.end.words; slots = taken.end.slots; names = taken.end.names }
@@ -41,8 +44,8 @@ ring_at taken = record { words = taken.end.words; slots = taken.end.slots; names
 abbrev pub IsEmptied : {T A P : Type 0} → Producer T A P → Type 0
 IsEmptied pieces = (producer_capacity pieces ≡ 1) × (known_free pieces ≡ 1)
 
--- the entries so far, newest first: those from before the pool, and those of the pieces that were taken; and how many
--- pieces these are
+-- the entries so far, newest first: those from before the pool, and those of the pieces that were
+-- taken; and how many pieces these are
 pub record TakerValue : Type 0 where
   pub past : Trail
   pub pieces : ℕ
@@ -53,20 +56,23 @@ after_pieces before [] = before
 after_pieces before (piece ∷ pieces) = after_pieces (reverse piece.items ++ before) pieces
 
 -- what the core handed out went through the ring, in order
-pub record IsHandedOut {A B P : Type 0} (ring : RingName) (before : Trail) (pieces : Producer (Vec Entry A) B P)
+pub record IsHandedOut {A B P : Type 0} (ring : RingName) (before : Trail)
+    (pieces : Producer (Vec Entry A) B P)
     (core : CoreView) : Type 0 where
   pub ring_is : ring_of pieces ≡ ring
   pub emptied : IsEmptied pieces
   pub pieces_are : core.before ≡ after_pieces before (sent pieces)
 
 -- the piece comes next: it is one more, and goes on lawfully from where those before it led
-pub record ComesNext (c : Parameters) (had : TakerValue) (entries : List Entry) (has : TakerValue) : Type 0 where
+pub record ComesNext (c : Parameters) (had : TakerValue) (entries : List Entry)
+    (has : TakerValue) : Type 0 where
   pub one_more : has.pieces ≡ had.pieces + 1
   pub joins : has.past ≡ reverse entries ++ had.past
   pub leads_on : LeadsOn c (standing c had.past) (reverse entries) (standing c has.past)
   pub legal : Legal c has.past
 
--- the core's entries, which fit its room and go on lawfully from all that its taker had, gave more than 2^62 passes or tickets
+-- the core's entries, which fit its room and go on lawfully from all that its taker had, gave more
+-- than 2^62 passes or tickets
 pub record GaveTooMany (c : Parameters) (had : TakerValue) : Type 0 where
   pub past : Trail
   pub piece : Trail
@@ -75,8 +81,10 @@ pub record GaveTooMany (c : Parameters) (had : TakerValue) : Type 0 where
   pub legal : Legal c past
   pub many : (2 ^ 62 < passes past) ⊎ (2 ^ 62 < tickets past)
 
--- the rings were drained, then the core was cut; and its taker, which had all that was handed out, got exactly that piece
-pub record HandsOut (old : LockedValue) (had : TakerValue) (entries : List Entry) (new : LockedValue) (has : TakerValue) : Type 0 where
+-- the rings were drained, then the core was cut; and its taker, which had all that was handed out,
+-- got exactly that piece
+pub record HandsOut (old : LockedValue) (had : TakerValue) (entries : List Entry)
+    (new : LockedValue) (has : TakerValue) : Type 0 where
   pub mid : LockedValue
   pub drained : Drained old mid
   pub cuts : Cuts mid.core entries new.core

@@ -12,7 +12,8 @@ abbrev pub is_told : Call → Bool
 is_told (Unfix n p) = false
 is_told _ = true
 
--- all entries but the unfixes: a pass that was posted stands in the list at once, and in the trail when its ring is drained
+-- all entries but the unfixes: a pass that was posted stands in the list at once, and in the trail
+-- when its ring is drained
 abbrev pub told : Trail → Trail
 told past = filter (λ e. is_told e.call) past
 
@@ -22,7 +23,8 @@ pub record IsLineOf (board : ℕ) (line : Line) (client : ℕ) (said : Trail) : 
   pub number_is : line.number ≡ client
   pub list_is : line.list ≡ told said
 
--- on a pool's board each client's line has what the core's trail tells of the client, since the pool was made
+-- on a pool's board each client's line has what the core's trail tells of the client, since the
+-- pool was made
 pub record IsShown (board : ℕ) (start : Trail) (b : Board) (past : Trail) : Type 0 where
   pub board_is : b.name ≡ board
   pub since : Trail
@@ -37,7 +39,8 @@ IsBlank lists = (c : ℕ) → slice_index_or lists c [] ≡ []
 abbrev pub GoesOnFrom : Trail → Trail → Type 0
 GoesOnFrom start past = (since : Trail) × (past ≡ since ++ start)
 
--- since the pool was made, the trail tells of the client what its session's list tells, and nothing else
+-- since the pool was made, the trail tells of the client what its session's list tells, and nothing
+-- else
 pub record IsToldBy (start past : Trail) (client : ℕ) (said : Trail) : Type 0 where
   pub since : Trail
   pub goes_on : past ≡ since ++ start

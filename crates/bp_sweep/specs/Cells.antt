@@ -1,4 +1,5 @@
--- What a cell of a sweep counts: the replies of a legal trail that follows the references, each a fix, an unfix and a tick.
+-- What a cell of a sweep counts: the replies of a legal trail that follows the references, each a
+-- fix, an unfix and a tick.
 use Rattle.std.specs.Prelude.{◌≡◌, ℕ, ◌+◌, ◌*◌, ◌^◌, ◌<◌, max, List, [], ◌∷◌, ◌++◌, All}
 use Rattle.bp_page.specs.declared.limits.Geometry.{Geometry}
 use Rattle.bp_replacer.specs.declared.settings.Settings.{Settings}
@@ -13,7 +14,8 @@ use Rattle.bp_trail.specs.Script.{Follows}
 use Rattle.bp_audit.specs.declared.totals.Totals.{Totals}
 use Rattle.bp_audit.specs.Totals.{totals_of}
 
--- the rows of the reference with this number, from 0: client 0 fixes the page, gives it back, and moves the clock by one
+-- the rows of the reference with this number, from 0: client 0 fixes the page, gives it back, and
+-- moves the clock by one
 abbrev pub rows_of : ℕ → ℕ → List Row
 rows_of i page =
     record { row = 3 * i + 1; client = 0; step = Fix page }
@@ -42,7 +44,8 @@ cell_parameters g settings frames = record {
   room = 2 ^ 61;
 }
 
--- the pool of a table's cell: over a page of 16 bytes for each different number, and with a history that is never forgotten
+-- the pool of a table's cell: over a page of 16 bytes for each different number, and with a history
+-- that is never forgotten
 abbrev pub pool_parameters : ℕ → ℕ → ℕ → ℕ → Parameters
 pool_parameters different frames k correlated = record {
   frames = frames;
@@ -55,7 +58,8 @@ pool_parameters different frames k correlated = record {
   room = 2 ^ 61;
 }
 
--- the totals are those of a legal trail that follows the rows of the references, none of which was refused for want of room, time or memory
+-- the totals are those of a legal trail that follows the rows of the references, none of which was
+-- refused for want of room, time or memory
 pub record Counted (c : Parameters) (pages : List ℕ) (totals : Totals) : Type 0 where
   pub past : Trail
   pub refusals : List Refused

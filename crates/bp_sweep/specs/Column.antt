@@ -40,26 +40,32 @@ without_sign (b ∷ later) = if (b == 43) || (b == 45) then later else b ∷ lat
 
 -- decimal digits of any value, before which a sign may stand
 abbrev pub is_numeral : List ℕ → Bool
-is_numeral field = nat_le 1 (length (without_sign field)) && list_all is_ascii_digit (without_sign field)
+is_numeral field =
+    nat_le 1 (length (without_sign field)) && list_all is_ascii_digit (without_sign field)
 
 -- the field is there, and is no numeral
 abbrev pub is_title : Option (List ℕ) → Bool
 is_title None = false
 is_title (Some field) = not (is_numeral field)
 
--- how many records are passed over as a header: the first, where its field is a title, and else none
+-- how many records are passed over as a header: the first, where its field is a title, and else
+-- none
 abbrev pub headers : ℕ → List Fields → ℕ
 headers column [] = 0
 headers column (row ∷ later) = if is_title (field_in column row) then 1 else 0
 
 -- what reading a column of records answers
 abbrev pub AnswersRows : ℕ → List Fields → Result Pages ReferenceFault → Type 0
-AnswersRows column rows result = Answers (headers column rows + 1) (map (record_said column) (drop (headers column rows) rows)) result
+AnswersRows column rows result =
+    Answers (headers column rows + 1) (map (record_said column) (drop (headers column rows) rows))
+    result
 
 abbrev pub ReadsColumn : Result Pages ReferenceFault → ℕ → List ℕ → Type 0
 ReadsColumn result column bytes = AnswersRows column (rows_in bytes) result
 
 -- the reader had no record left, or gave this one
-abbrev pub TakesRecord : {R : Type 0} → (R → Option (List ℕ)) → Reader R → Reader R → ℕ → Fields → Option Said → Type 0
+abbrev pub TakesRecord : {R : Type 0} → (R → Option (List ℕ)) → Reader R → Reader R → ℕ → Fields
+    → Option Said → Type 0
 TakesRecord rem old new column row None = (fields : Fields) × ReadRecord rem old new false fields
-TakesRecord rem old new column row (Some said) = ReadRecord rem old new true row × (said ≡ record_said column row)
+TakesRecord rem old new column row (Some said) =
+    ReadRecord rem old new true row × (said ≡ record_said column row)

@@ -8,7 +8,8 @@ use Rattle.bp_page.specs.declared.refusals.Refusal.TheVariants as refusal
 abbrev pub most_numbers : ℕ
 most_numbers = 1048576
 
--- the page of a number, where these different ones came before, the newest first: as many as came before it
+-- the page of a number, where these different ones came before, the newest first: as many as came
+-- before it
 abbrev pub page_of : ℕ → List ℕ → Option ℕ
 page_of n [] = None
 page_of n (m ∷ before) = if m == n then Some (length before) else page_of n before
@@ -21,7 +22,8 @@ pub data ComesNext (n : ℕ) (seen : List ℕ) : ℕ → List ℕ → Type 0 whe
 -- the pages of numbers, and the different ones of these, the newest first
 pub data AreDense : List ℕ → List ℕ → List ℕ → Type 0 where
   none : AreDense [] [] []
-  one_more : {numbers pages seen newer : List ℕ} {n page : ℕ} → AreDense numbers pages seen → ComesNext n seen page newer → AreDense (numbers ++ n ∷ []) (pages ++ page ∷ []) newer
+  one_more : {numbers pages seen newer : List ℕ} {n page : ℕ} → AreDense numbers pages seen
+      → ComesNext n seen page newer → AreDense (numbers ++ n ∷ []) (pages ++ page ∷ []) newer
 
 -- what contracts see of references: the page of each, and how many different pages there are
 pub record Pages : Type 0 where
@@ -41,7 +43,9 @@ pub record IsIndex {S : Type 0} (places : HashMap ℕ ℕ S) (seen : List ℕ) :
 
 -- the page of a number that comes next and the map with it, or why it has none
 abbrev pub PlacesNumber : {S : Type 0} → ℕ → List ℕ → Result ℕ Refusal → HashMap ℕ ℕ S → Type 0
-PlacesNumber n seen (Ok page) places = (newer : List ℕ) × ComesNext n seen page newer × IsIndex places newer
-PlacesNumber n seen (Err refusal.BadGeometry) places = (page_of n seen ≡ None) × (most_numbers ≤ length seen)
+PlacesNumber n seen (Ok page) places =
+    (newer : List ℕ) × ComesNext n seen page newer × IsIndex places newer
+PlacesNumber n seen (Err refusal.BadGeometry) places =
+    (page_of n seen ≡ None) × (most_numbers ≤ length seen)
 PlacesNumber n seen (Err refusal.OutOfMemory) places = Unit {0}
 PlacesNumber n seen (Err _) places = ⊥

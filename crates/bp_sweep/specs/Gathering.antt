@@ -17,9 +17,12 @@ abbrev pub IsGathered : Gathered → Type 0
 IsGathered g = (numbers : List ℕ) × (seen : List ℕ) × Holds g numbers seen
 
 -- a number came in, or what the line said is no reference
-abbrev pub Gathers : List ℕ → List ℕ → ℕ → Said → Result (Unit {0}) ReferenceFault → Gathered → Type 0
-Gathers numbers seen line said (Ok done) new = (n : ℕ) × (newer : List ℕ) × (said ≡ Ok n) × Holds new (numbers ++ n ∷ []) newer
-Gathers numbers seen line said (Err fault) new = IsOutside fault ⊎ ((fault.line ≡ line) × IsFaulty (length numbers) seen said fault.refusal)
+abbrev pub Gathers : List ℕ → List ℕ → ℕ → Said → Result (Unit {0}) ReferenceFault → Gathered
+    → Type 0
+Gathers numbers seen line said (Ok done) new =
+    (n : ℕ) × (newer : List ℕ) × (said ≡ Ok n) × Holds new (numbers ++ n ∷ []) newer
+Gathers numbers seen line said (Err fault) new =
+    IsOutside fault ⊎ ((fault.line ≡ line) × IsFaulty (length numbers) seen said fault.refusal)
 
 abbrev pub pages_gathered : Gathered → Pages
 pages_gathered g = record { pages = g.pages.items; different = hash_map_len g.places }

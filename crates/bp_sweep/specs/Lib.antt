@@ -1,4 +1,5 @@
--- What is promised: what a list of references says, what a cell of a sweep counts, and which table they give.
+-- What is promised: what a list of references says, what a cell of a sweep counts, and which table
+-- they give.
 pub mod Dense
 pub mod References
 pub mod Gathering

@@ -26,7 +26,8 @@ IsOutside fault = (fault.refusal ≡ ReadFault) ⊎ (fault.refusal ≡ OutOfMemo
 pub data IsFaulty (count : ℕ) (seen : List ℕ) : Said → Refusal → Type 0 where
   too_long : {said : Said} → most_references ≤ count → IsFaulty count seen said TooLong
   no_number : {why : Refusal} → count < most_references → IsFaulty count seen (Err why) why
-  too_many : {n : ℕ} → count < most_references → page_of n seen ≡ None → most_numbers ≤ length seen → IsFaulty count seen (Ok n) BadGeometry
+  too_many : {n : ℕ} → count < most_references → page_of n seen ≡ None → most_numbers ≤ length seen
+      → IsFaulty count seen (Ok n) BadGeometry
 
 -- all of them say numbers, and these are the references
 pub record AreOf (said : List Said) (references : Pages) : Type 0 where
@@ -38,7 +39,8 @@ pub record AreOf (said : List Said) (references : Pages) : Type 0 where
   pub few : length numbers ≤ most_references
   pub few_different : length seen ≤ most_numbers
 
--- the first of them that is no reference, where the first of all has this line: those before it are references
+-- the first of them that is no reference, where the first of all has this line: those before it are
+-- references
 pub record StopsAt (line : ℕ) (said : List Said) (fault : ReferenceFault) : Type 0 where
   pub numbers : List ℕ
   pub pages : List ℕ

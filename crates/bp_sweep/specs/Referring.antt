@@ -35,7 +35,8 @@ pub record HasRun (start : CoreView) (pages : List ℕ) (core : CoreView) : Type
 -- a pass of the page, or none where the fix was refused or its read failed
 abbrev pub FixesPage : CoreView → ℕ → Result (Option Pass) Refusal → CoreView → Type 0
 FixesPage old page (Ok (Some pass)) new = DrivesFix old 0 page (Ok pass) new
-FixesPage old page (Ok None) new = (why : Refusal) × (number_of why < 20) × DrivesFix old 0 page (Err why) new
+FixesPage old page (Ok None) new =
+    (why : Refusal) × (number_of why < 20) × DrivesFix old 0 page (Err why) new
 FixesPage old page (Err why) new = Unit {0}
 
 -- a fix that was refused so is an entry, after which the references go on

@@ -17,15 +17,25 @@ use Rattle.bp_sweep.specs.Referring.{AreFrames, EndsCell}
 
 -- the totals of an optimum, which writes nothing out, and of which nothing fails or is refused
 abbrev pub best_totals : BestCounts → Totals
-best_totals best = record { hits = best.hits; faults = best.faults; evictions = best.evictions; writes = 0; failed = 0; refused = 0 }
+best_totals best =
+    record {
+      hits = best.hits;
+      faults = best.faults;
+      evictions = best.evictions;
+      writes = 0;
+      failed = 0;
+      refused = 0;
+    }
 
 -- the totals are those of an optimum of the references over so many frames
 abbrev pub CountsBest : ℕ → List ℕ → Totals → Type 0
-CountsBest frames pages totals = (best : BestCounts) × IsOptimum frames pages best × (totals ≡ best_totals best)
+CountsBest frames pages totals =
+    (best : BestCounts) × IsOptimum frames pages best × (totals ≡ best_totals best)
 
 -- the totals are those of a pool with this policy over the references
 abbrev pub CountsOf : Pages → ℕ → Policy → Totals → Type 0
-CountsOf r frames (LruK k correlated) totals = Counted (pool_parameters r.different frames k correlated) r.pages totals
+CountsOf r frames (LruK k correlated) totals =
+    Counted (pool_parameters r.different frames k correlated) r.pages totals
 CountsOf r frames Optimum totals = CountsBest frames r.pages totals
 
 -- what a plan may have
@@ -70,7 +80,9 @@ pub record IsCell (r : Pages) (plan : Plan) (line : Line) : Type 0 where
 -- each plan has the line of its cell, in order
 pub data AreCells (r : Pages) : List Plan → List Line → Type 0 where
   none : AreCells r [] []
-  one_more : {plans : List Plan} {lines : List Line} (plan : Plan) {line : Line} → AreCells r plans lines → IsCell r plan line → AreCells r (plans ++ plan ∷ []) (lines ++ line ∷ [])
+  one_more : {plans : List Plan} {lines : List Line} (plan : Plan) {line : Line}
+      → AreCells r plans lines → IsCell r plan line
+      → AreCells r (plans ++ plan ∷ []) (lines ++ line ∷ [])
 
 -- the plans before this one had their cells counted, and then it was refused
 pub record SweepRefused (r : Pages) (plans : List Plan) (fault : CellFault) : Type 0 where
@@ -98,4 +110,5 @@ plans_with frames ks correlated = map (pool_with frames correlated) ks ++ optimu
 -- the same for each number of frames
 abbrev pub plans_of : List ℕ → List ℕ → ℕ → List Plan
 plans_of [] ks correlated = []
-plans_of (frames ∷ more) ks correlated = plans_with frames ks correlated ++ plans_of more ks correlated
+plans_of (frames ∷ more) ks correlated =
+    plans_with frames ks correlated ++ plans_of more ks correlated

@@ -182,8 +182,8 @@ pub(crate) fn count_cell<P: Port, R: Wait, G: Progress>(
     turn: Turn,
 ) -> Result<Totals, Refusal>
     requires pages_in { All (λ page. page < (P.geometry_of port.old).pages) references.now }
-    ensures counted { IfOk result (Counted (cell_parameters (P.geometry_of port.old) settings frames)
-        references.now) }
+    ensures counted { IfOk result (Counted
+        (cell_parameters (P.geometry_of port.old) settings frames) references.now) }
     ensures fit { IfOk result (λ _. AreFrames frames) }
     ensures fault { IfErr result (CellRefused frames) }
     ensures geometry { P.geometry_of port.new ≡ P.geometry_of port.old }
@@ -209,8 +209,8 @@ pub fn count_references<P: Port, R: Wait>(
     references: &[u32],
 ) -> Result<Totals, Refusal>
     requires pages_in { All (λ page. page < (P.geometry_of port.old).pages) references.now }
-    ensures counted { IfOk result (Counted (cell_parameters (P.geometry_of port.old) settings frames)
-        references.now) }
+    ensures counted { IfOk result (Counted
+        (cell_parameters (P.geometry_of port.old) settings frames) references.now) }
     ensures fit { IfOk result (λ _. AreFrames frames) }
     ensures fault { IfErr result (CellRefused frames) }
     ensures geometry { P.geometry_of port.new ≡ P.geometry_of port.old }

@@ -7,7 +7,8 @@ ghost use Rattle.bp_sweep.specs.Dense.{AreDense};
 pub fn one_page_a_number()
     ensures same { (numbers pages seen : List ℕ) (i j : ℕ) → AreDense numbers pages seen →
         i < length numbers → j < length numbers →
-        (slice_index pages i ≡ slice_index pages j) ↔ (slice_index numbers i ≡ slice_index numbers j) }
+        (slice_index pages i ≡ slice_index pages j) ↔
+        (slice_index numbers i ≡ slice_index numbers j) }
     ensures count { (numbers pages seen : List ℕ) → AreDense numbers pages seen →
         length pages ≡ length numbers }
     ensures below { (numbers pages seen : List ℕ) → AreDense numbers pages seen →

@@ -4,4 +4,6 @@ use Rattle.bp_audit.specs.declared.totals.Totals.{Totals}
 
 -- no total is above the number of entries
 abbrev pub AreWithin : ℕ → Totals → Type 0
-AreWithin entries t = (t.hits ≤ entries) × (t.faults ≤ entries) × (t.evictions ≤ entries) × (t.writes ≤ entries) × (t.failed ≤ entries) × (t.refused ≤ entries)
+AreWithin entries t =
+    (t.hits ≤ entries) × (t.faults ≤ entries) × (t.evictions ≤ entries) × (t.writes ≤ entries)
+    × (t.failed ≤ entries) × (t.refused ≤ entries)

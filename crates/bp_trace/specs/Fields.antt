@@ -18,10 +18,19 @@ pub record Texts : Type 0 where
   pub lsn : List ℕ
 
 abbrev pub texts_of : Fields → Texts
-texts_of f = record { client = f.client.now; op = f.op.now; number = f.number.now; offset = f.offset.now; bytes = f.bytes.now; lsn = f.lsn.now }
+texts_of f =
+    record {
+      client = f.client.now;
+      op = f.op.now;
+      number = f.number.now;
+      offset = f.offset.now;
+      bytes = f.bytes.now;
+      lsn = f.lsn.now;
+    }
 
 unfoldable pub six_of : List (List ℕ) → Option Texts
-six_of (a ∷ b ∷ c ∷ d ∷ e ∷ f ∷ []) = Some (record { client = a; op = b; number = c; offset = d; bytes = e; lsn = f })
+six_of (a ∷ b ∷ c ∷ d ∷ e ∷ f ∷ []) =
+    Some (record { client = a; op = b; number = c; offset = d; bytes = e; lsn = f })
 six_of _ = None
 
 -- one step after another, up to the first that fails

@@ -22,12 +22,14 @@ CanBeSaid (step.Tick n) = n ≤ 2 ^ 62
 CanBeSaid (step.Log lsn) = lsn ≤ 2 ^ 62
 CanBeSaid _ = Unit {0}
 
--- the row is of one of the clients, and each pool over these pages that has a place for this client allows it
+-- the row is of one of the clients, and each pool over these pages that has a place for this client
+-- allows it
 pub record IsInRange (g : Geometry) (row : Row) : Type 0 where
   pub client : row.client ≤ most_client
   pub log : SpeaksForLog row.client row.step
   pub said : CanBeSaid row.step
-  pub fits : (c : Parameters) → c.pages ≡ g.pages → c.size ≡ g.size → row.client < c.clients → RowFits c row
+  pub fits : (c : Parameters) → c.pages ≡ g.pages → c.size ≡ g.size → row.client < c.clients
+      → RowFits c row
 
 -- rows are numbered from n on, one by one
 abbrev pub AreNumberedFrom : ℕ → List Row → Type 0

@@ -19,7 +19,8 @@ out_line time page = codes "out " ++ decimal time ++ codes " " ++ decimal page +
 -- a client read a page; of its image the first 16 bytes, in lower case hex
 unfoldable pub read_line : ℕ → ℕ → List ℕ → List ℕ
 read_line client page image =
-    codes "read " ++ decimal client ++ codes " " ++ decimal page ++ codes " " ++ encode_lower (take 16 image) ++ codes "\n"
+    codes "read " ++ decimal client ++ codes " " ++ decimal page ++ codes " "
+    ++ encode_lower (take 16 image) ++ codes "\n"
 
 -- the line of a reply at a time, to a client's call on a page; most replies have none
 abbrev pub line_of : ℕ → ℕ → ℕ → Reply → List ℕ
@@ -34,4 +35,5 @@ event_line time e = line_of time e.client (page_of e.call) e.reply
 
 -- the line of a refused row
 abbrev pub refused_line : Refused → List ℕ
-refused_line r = codes "row " ++ decimal r.row ++ codes " refused " ++ decimal r.number ++ codes "\n"
+refused_line r =
+    codes "row " ++ decimal r.row ++ codes " refused " ++ decimal r.number ++ codes "\n"

@@ -55,19 +55,21 @@ is_dot b = b == 46
 -- what stands before the first dot of a text, and what stands after it
 abbrev pub cut : List ℕ → Option (List ℕ × List ℕ)
 cut text =
-    if nat_lt (position_or_len is_dot text) (length text) then Some (before_first is_dot text, after_first is_dot text)
+    if nat_lt (position_or_len is_dot text) (length text)
+    then Some (before_first is_dot text, after_first is_dot text)
     else None
 
 abbrev pub next_dot : List ℕ → Option (List ℕ × List ℕ) → Option (List ℕ × List ℕ)
 next_dot first (Some p) = if length p.0 == 0 then Some (first, p.1) else None
 next_dot first None = None
 
--- what stands before and after the two dots of a range, which are the first of the text, with nothing between
+-- what stands before and after the two dots of a range, which are the first of the text, with
+-- nothing between
 abbrev pub ends_of : List ℕ → Option (List ℕ × List ℕ)
 ends_of text = option_map_or (λ p. next_dot p.0 (cut p.1)) (cut text) None
 
--- the numbers from the first on, each the double of the one before, as long as they are below the last, and then the
--- last: at most so many
+-- the numbers from the first on, each the double of the one before, as long as they are below the
+-- last, and then the last: at most so many
 unfoldable pub doubled : ℕ → ℕ → ℕ → List ℕ
 doubled zero first last = []
 doubled (suc most) first last =
@@ -90,17 +92,20 @@ abbrev pub range_or : ℕ → ℕ → List ℕ → Option (List ℕ × List ℕ)
 range_or low high text (Some ends) = range_between low high ends.0 ends.1
 range_or low high text None = with_commas low high text
 
--- the numbers that a list says, each from low to high: those of a range, or with a comma between two
+-- the numbers that a list says, each from low to high: those of a range, or with a comma between
+-- two
 abbrev pub numbers_listed : ℕ → ℕ → List ℕ → Option (List ℕ)
 numbers_listed low high text = range_or low high text (ends_of text)
 
 -- ---- what a range has
 
--- both its ends, and each number but the first is the double of the one before, or the last where the double is above
+-- both its ends, and each number but the first is the double of the one before, or the last where
+-- the double is above
 pub record IsRange (first last : ℕ) (numbers : List ℕ) : Type 0 where
   pub some : 1 ≤ length numbers
   pub few : length numbers ≤ most_listed
   pub begins : get_or numbers 0 0 ≡ first
   pub ends : get_or numbers (length numbers - 1) 0 ≡ last
   pub below : (i : ℕ) → i + 1 < length numbers → get_or numbers i 0 < last
-  pub doubles : (i : ℕ) → i + 1 < length numbers → get_or numbers (i + 1) 0 ≡ min (get_or numbers i 0 * 2) last
+  pub doubles : (i : ℕ) → i + 1 < length numbers
+      → get_or numbers (i + 1) 0 ≡ min (get_or numbers i 0 * 2) last

@@ -34,13 +34,15 @@ is_blank text = length text == 0
 -- a field that the op leaves empty is not empty
 abbrev pub has_extra : Op → Texts → Bool
 has_extra op.Write t = false
-has_extra op.Purge t = not (is_blank t.number && (is_blank t.offset && (is_blank t.bytes && is_blank t.lsn)))
+has_extra op.Purge t =
+    not (is_blank t.number && (is_blank t.offset && (is_blank t.bytes && is_blank t.lsn)))
 has_extra _ t = not (is_blank t.offset && (is_blank t.bytes && is_blank t.lsn))
 
 -- a write within a page of the file
 abbrev pub place_in : Geometry → ℕ → ℕ → List ℕ → ℕ → Result Step Refusal
 place_in g page offset bytes lsn =
-    if nat_lt page g.pages && nat_le (offset + length bytes) g.size then Ok (step.Write page offset bytes lsn) else Err refusal.OutOfPage
+    if nat_lt page g.pages && nat_le (offset + length bytes) g.size
+    then Ok (step.Write page offset bytes lsn) else Err refusal.OutOfPage
 
 unfoldable pub write_in : Geometry → Texts → Result Step Refusal
 write_in g t = do

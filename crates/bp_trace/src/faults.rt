@@ -5,7 +5,8 @@ ghost use Rattle.bp_trace.specs.Script.{fault};
 use bp_page::Refusal;
 use thiserror::Error;
 
-/// Why there is no script: the number of the refusal, and the record that it is of, from 1. Row 0 is the trace as a whole.
+/// Why there is no script: the number of the refusal, and the record that it is of, from 1. Row 0 is the trace as a
+/// whole.
 #[derive(Clone, Copy, PartialEq, Eq, Debug, Error)]
 #[error("trace row {row} refused {number}")]
 pub struct TraceFault {

@@ -124,8 +124,8 @@ fn doubled(alloc: Global, first: usize, last: usize) -> Result<Vec<usize>, Alloc
     Ok(numbers)
 }
 
-/// The numbers of a range with these ends, if each says one from `low` to `high`, the first is not 0, and the last is not
-/// below it.
+/// The numbers of a range with these ends, if each says one from `low` to `high`, the first is not 0, and the last is
+/// not below it.
 fn range_between(
     alloc: Global,
     first: &str,
@@ -150,9 +150,10 @@ fn range_between(
     Ok(Some(range))
 }
 
-/// The numbers that a list says, each from `low` to `high`, and no two equal. It is 1 to 64 of them with a comma between
-/// two, or a range `FIRST..LAST`, which says FIRST, its double, the double of that and so on as long as they are below
-/// LAST, and LAST. Each number that stands there has 1 to 19 decimal digits; signs and spaces may not stand there.
+/// The numbers that a list says, each from `low` to `high`, and no two equal. It is 1 to 64 of them with a comma
+/// between two, or a range `FIRST..LAST`, which says FIRST, its double, the double of that and so on as long as they
+/// are below LAST, and LAST. Each number that stands there has 1 to 19 decimal digits; signs and spaces may not stand
+/// there.
 ///
 /// `None` where the text is no such list: it or one of its parts is empty, a part is no number within the limits, there
 /// are too many, a number comes twice, FIRST is 0, or LAST is below FIRST.

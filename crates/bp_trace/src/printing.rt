@@ -42,7 +42,8 @@ fn write_events<W: Write>(entries: &[Entry], writer: &mut W) -> io::Result<Total
     Ok(totals)
 }
 
-/// Writes the report of the entries, oldest first: a line for each eviction, write-out and read, and then the six totals.
+/// Writes the report of the entries, oldest first: a line for each eviction, write-out and read, and then the six
+/// totals.
 ///
 /// A fault of the writer is passed on; how much of the report the writer then holds is not told.
 pub fn report<W: Write>(entries: &[Entry], writer: &mut W) -> io::Result<()>

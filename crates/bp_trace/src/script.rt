@@ -76,9 +76,10 @@ fn rows_of(alloc: Global, bytes: &[u8], geometry: &Geometry) -> Result<Vec<Row>,
 
 /// The rows of a trace, or the first fault. The trace is read whole before any record is looked at.
 ///
-/// A record is refused by its number from 1, with `BadShape`, `BadClient`, `BadOp`, `BadNumber`, `BadHex` or `OutOfPage`,
-/// or with `TooLong` where it is one past 262,144 records. Of the trace as a whole, by row 0, are `TooLong` for more than
-/// 67,108,864 bytes, `ReadFault` for a reader that fails or takes more than 134,217,728 calls, and `OutOfMemory`.
+/// A record is refused by its number from 1, with `BadShape`, `BadClient`, `BadOp`, `BadNumber`, `BadHex` or
+/// `OutOfPage`, or with `TooLong` where it is one past 262,144 records. Of the trace as a whole, by row 0, are
+/// `TooLong` for more than 67,108,864 bytes, `ReadFault` for a reader that fails or takes more than 134,217,728 calls,
+/// and `OutOfMemory`.
 pub fn read_script<R: Read>(
     alloc: Global,
     reader: &mut R,

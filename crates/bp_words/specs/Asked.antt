@@ -1,4 +1,5 @@
--- What a command line asks for, in clap's own words: a run, a migration, a sweep, or an explanation.
+-- What a command line asks for, in clap's own words: a run, a migration, a sweep, or an
+-- explanation.
 use Rattle.std.specs.Prelude.{◌≢◌, ℕ, ◌^◌, ◌≤◌, if◌then◌else◌, All, Bool, List, codes, length, Option, Some, None, IfSome, option_map}
 use Rattle.std.specs.Str.{bytes_eq}
 use Rattle.clap.specs.Walk.{is_empty}
@@ -24,7 +25,8 @@ pub record Sweep : Type 0 where
   pub frames : List ℕ
   pub ks : List ℕ
   pub correlated : ℕ
-  -- which field of a record the number is in, from 1, where each line is a record; else each is a number
+  -- which field of a record the number is in, from 1, where each line is a record; else each is a
+  -- number
   pub column : Option ℕ
   -- where a picture of the table is written, if one is asked for
   pub svg : Option Text
@@ -78,7 +80,8 @@ asked_in (Some met) =
 
 -- what the words ask for, where they have no fault
 abbrev pub asked_by : List Text → Option Asked
-asked_by words = if is_empty (fault_in words) then asked_in (subcommand_of bpool_app words) else None
+asked_by words =
+    if is_empty (fault_in words) then asked_in (subcommand_of bpool_app words) else None
 
 -- a page has so many bytes at most, and at least
 pub record HasPageSize (size : ℕ) : Type 0 where
@@ -100,8 +103,8 @@ pub record IsColumn (column : ℕ) : Type 0 where
   pub from_one : 1 ≤ column
   pub few_columns : column ≤ 65536
 
--- the numbers of a sweep are in the limits of the options, there are some of each, but not too many, and no picture is
--- drawn where the references are
+-- the numbers of a sweep are in the limits of the options, there are some of each, but not too
+-- many, and no picture is drawn where the references are
 pub record SweepsInLimits (s : Sweep) : Type 0 where
   pub frames : All IsFrames s.frames
   pub some_sizes : 1 ≤ length s.frames

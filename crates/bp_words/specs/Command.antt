@@ -12,12 +12,22 @@ positional id = record (new_rule id) { value_names = 1; required = true }
 -- an option that takes a whole number from low to high
 abbrev pub number_option : Text → ℕ → ℕ → Text → Rule
 number_option id low high default =
-    record (new_rule id) { long = Some id; value_names = 1; parser = Some (parser.Unsigned low high); defaults = default ∷ [] }
+    record (new_rule id) {
+      long = Some id;
+      value_names = 1;
+      parser = Some (parser.Unsigned low high);
+      defaults = default ∷ [];
+    }
 
 -- an option without a default that takes a whole number from low to high
 abbrev pub bare_number : Text → Bool → ℕ → ℕ → Rule
 bare_number id must low high =
-    record (new_rule id) { long = Some id; value_names = 1; required = must; parser = Some (parser.Unsigned low high) }
+    record (new_rule id) {
+      long = Some id;
+      value_names = 1;
+      required = must;
+      parser = Some (parser.Unsigned low high);
+    }
 
 -- and one that takes any word
 abbrev pub bare_word : Text → Bool → Rule
@@ -29,7 +39,8 @@ flag id = record (new_rule id) { long = Some id; action = Some SetTrue }
 
 -- an option that takes any word, and has a default
 abbrev pub word_option : Text → Text → Rule
-word_option id default = record (new_rule id) { long = Some id; value_names = 1; defaults = default ∷ [] }
+word_option id default =
+    record (new_rule id) { long = Some id; value_names = 1; defaults = default ∷ [] }
 
 abbrev pub run_rules : List Rule
 run_rules =
@@ -62,7 +73,9 @@ abbrev pub sweep_shape : Shape
 sweep_shape = record (new_shape (codes "sweep")) { rules = sweep_rules }
 
 abbrev pub migrate_rules : List Rule
-migrate_rules = positional (codes "old") ∷ positional (codes "new") ∷ bare_number (codes "page-size") true 16 65536 ∷ []
+migrate_rules =
+    positional (codes "old") ∷ positional (codes "new")
+    ∷ bare_number (codes "page-size") true 16 65536 ∷ []
 
 abbrev pub migrate_shape : Shape
 migrate_shape = record (new_shape (codes "migrate")) { rules = migrate_rules }

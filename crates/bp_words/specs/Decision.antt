@@ -78,6 +78,7 @@ IsDecision words (Ok task) = (asked_by words ≡ Some (asked_of task)) × CanBeg
 IsDecision words (Err (ending.Help text)) = AsksForHelp words
 IsDecision words (Err ending.Version) = AsksForVersion words
 IsDecision words (Err (ending.CommandLine line)) = HasFault words
-IsDecision words (Err (ending.PageFileRefused refusal)) = (refusal ≡ BadGeometry) × NamesNoPages words
+IsDecision words (Err (ending.PageFileRefused refusal)) =
+    (refusal ≡ BadGeometry) × NamesNoPages words
 IsDecision words (Err (ending.RunRefused refusal)) = refusal ≡ OutOfMemory
 IsDecision words (Err _) = ⊥

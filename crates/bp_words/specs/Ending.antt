@@ -15,14 +15,17 @@ message_of ending.Version = codes "bpool " ++ (version ++ codes "\n")
 message_of ending.WordsNotText = codes "error: a word is not UTF-8; try 'bpool --help'"
 message_of (ending.CommandLine line) = string_bytes line.text ++ codes "; try 'bpool --help'"
 message_of ending.PageFileNotOpened = codes "page file not opened"
-message_of (ending.PageFileRefused refusal) = codes "page file refused " ++ decimal (number_of refusal)
+message_of (ending.PageFileRefused refusal) =
+    codes "page file refused " ++ decimal (number_of refusal)
 message_of ending.TraceNotOpened = codes "trace not opened"
-message_of (ending.TraceRefused fault) = codes "trace row " ++ (decimal fault.row ++ (codes " refused " ++ decimal fault.number))
+message_of (ending.TraceRefused fault) =
+    codes "trace row " ++ (decimal fault.row ++ (codes " refused " ++ decimal fault.number))
 message_of (ending.RunRefused refusal) = codes "run refused " ++ decimal (number_of refusal)
 message_of ending.OutputFailed = codes "output failed"
 message_of ending.PictureNotWritten = codes "picture not written"
 message_of ending.ReferencesNotOpened = codes "references not opened"
-message_of (ending.ReferenceRefused line refusal) = codes "reference line " ++ (decimal line ++ (codes " refused " ++ decimal (number_of refusal)))
+message_of (ending.ReferenceRefused line refusal) =
+    codes "reference line " ++ (decimal line ++ (codes " refused " ++ decimal (number_of refusal)))
 
 -- the ending is an answer: help, or the version
 abbrev pub is_help : Ending → Bool

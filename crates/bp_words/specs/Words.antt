@@ -46,7 +46,9 @@ trace_of word = if bytes_eq word (codes "stdin") then from_stdin else at_path wo
 
 -- the order that a word names
 abbrev pub order_of : Text → Option Order
-order_of word = if bytes_eq word (codes "trace") then Some order.Trace else if bytes_eq word (codes "free") then Some order.Free else None
+order_of word =
+    if bytes_eq word (codes "trace") then Some order.Trace
+    else if bytes_eq word (codes "free") then Some order.Free else None
 
 -- the version with this number, of 1 and 2
 abbrev pub format_of : ℕ → Format
@@ -56,7 +58,8 @@ format_of number = if number == 2 then format.Headed else format.Plain
 abbrev pub unsigned_of : Text → Option ℕ
 unsigned_of text =
     let digits = without_leading_plus text in
-    if is_numeral digits && nat_lt (digits_value 10 digits) (2 ^ 64) then Some (digits_value 10 digits) else None
+    if is_numeral digits && nat_lt (digits_value 10 digits) (2 ^ 64)
+    then Some (digits_value 10 digits) else None
 
 -- ---- all of them
 
@@ -88,7 +91,8 @@ are_same _ _ = false
 abbrev pub draws_over : List Row → Bool
 draws_over rows = are_same (first_of (codes "references") rows) (first_of (codes "svg") rows)
 
--- the words of a sweep name numbers of frames, values of K, and no picture or another file than the references
+-- the words of a sweep name numbers of frames, values of K, and no picture or another file than the
+-- references
 abbrev pub names_sweep : Option (List ℕ) → Option (List ℕ) → Bool → Bool
 names_sweep frames ks over = is_some frames && is_some ks && not over
 
@@ -116,13 +120,26 @@ told_by_rows rows = do
   size ← number_at (codes "page-size") rows
   version ← number_at (codes "format") rows
   order ← order_at rows
-  Some (record { trace = trace_of trace; page_file = page_file; frames = frames; k = k; correlated = correlated; retained = retained; size = size; format = format_of version; order = order; totals = flag_at (codes "totals") rows })
+  Some (record {
+    trace = trace_of trace;
+    page_file = page_file;
+    frames = frames;
+    k = k;
+    correlated = correlated;
+    retained = retained;
+    size = size;
+    format = format_of version;
+    order = order;
+    totals = flag_at (codes "totals") rows;
+  })
 
--- the words that clap lets through name what they should: an order, lists of numbers and a picture, a refusal
+-- the words that clap lets through name what they should: an order, lists of numbers and a picture,
+-- a refusal
 abbrev pub names_all : Text → List Row → Bool
 names_all command rows =
     if bytes_eq command (codes "run") then is_some (order_at rows)
-    else if bytes_eq command (codes "sweep") then names_sweep (frames_at rows) (ks_at rows) (draws_over rows)
+    else if bytes_eq command (codes "sweep")
+    then names_sweep (frames_at rows) (ks_at rows) (draws_over rows)
     else if bytes_eq command (codes "explain") then is_some (explanation_at rows)
     else true
 
@@ -144,7 +161,9 @@ pub record IsInLimits (told : Told) : Type 0 where
 
 -- no words at all act as these
 abbrev pub default_words : List Text
-default_words = codes "run" ∷ codes "stdin" ∷ codes "mem:16" ∷ codes "--frames" ∷ codes "2" ∷ codes "--k" ∷ codes "1" ∷ []
+default_words =
+    codes "run" ∷ codes "stdin" ∷ codes "mem:16" ∷ codes "--frames" ∷ codes "2" ∷ codes "--k"
+    ∷ codes "1" ∷ []
 
 abbrev pub words_or_default : List Text → List Text
 words_or_default [] = default_words
@@ -157,4 +176,16 @@ trace_told trace_source.Stdin = from_stdin
 trace_told (trace_source.Path path) = at_path path.now
 
 abbrev pub told_of : RunWords → Told
-told_of w = record { trace = trace_told w.trace; page_file = w.page_file.now; frames = w.frames; k = w.k; correlated = w.correlated; retained = w.retained; size = w.page_size; format = w.format; order = w.order; totals = w.totals }
+told_of w =
+    record {
+      trace = trace_told w.trace;
+      page_file = w.page_file.now;
+      frames = w.frames;
+      k = w.k;
+      correlated = w.correlated;
+      retained = w.retained;
+      size = w.page_size;
+      format = w.format;
+      order = w.order;
+      totals = w.totals;
+    }

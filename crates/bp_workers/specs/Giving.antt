@@ -7,4 +7,5 @@ use Rattle.bp_trail.specs.Script.{held_passes, give_back}
 -- some of the passes held go back, that taken first before the others
 pub data GoBack : Trail → Trail → Type 0 where
   no_more : {said : Trail} → GoBack said said
-  one_more : {said after : Trail} (g : Grant) (later : List Grant) → GoBack said after → held_passes after ≡ g ∷ later → GoBack said (give_back g ∷ after)
+  one_more : {said after : Trail} (g : Grant) (later : List Grant) → GoBack said after
+      → held_passes after ≡ g ∷ later → GoBack said (give_back g ∷ after)

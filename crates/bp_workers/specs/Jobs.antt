@@ -28,7 +28,8 @@ pub record IsOfPool (p : Parameters) (g : Geometry) : Type 0 where
   pub pages : g.pages ≡ p.pages
   pub size : g.size ≡ p.size
 
--- the worker did its work over its port and by its session, and then passes that it still held went back
+-- the worker did its work over its port and by its session, and then passes that it still held went
+-- back
 pub record Ran {W P : Type 0} (Leaves : Leaving W P) (old new : JobValue W P) : Type 0 where
   pub returned : SessionValue
   pub leaves : Leaves old.session.client old.worker old.port new.worker new.port returned new.upkeep
@@ -40,9 +41,11 @@ pub record Ran {W P : Type 0} (Leaves : Leaving W P) (old new : JobValue W P) : 
   pub all_back : (new.all_went_back ≡ true) ↔ (held_passes new.session.said ≡ [])
   pub upkeep : is_some new.upkeep ≡ is_some old.upkeep
 
--- what it leaves: the worker, its port, which is one to the pool's pages, and the session's own list, with what cuts handed out of that;
--- the list told what the trail tells of the client, since the pool was made
-pub record IsLeftOf {P W K I B S : Type 0} (p : Parameters) (geometry_of : P → Geometry) (start past : Trail) (j : JobValue W P) (left : Left P W K I B S) : Type 0 where
+-- what it leaves: the worker, its port, which is one to the pool's pages, and the session's own
+-- list, with what cuts handed out of that; the list told what the trail tells of the client, since
+-- the pool was made
+pub record IsLeftOf {P W K I B S : Type 0} (p : Parameters) (geometry_of : P → Geometry)
+    (start past : Trail) (j : JobValue W P) (left : Left P W K I B S) : Type 0 where
   pub worker : left.worker ≡ j.worker
   pub port : left.port ≡ j.port
   pub of_pool : IsOfPool p (geometry_of left.port)

@@ -31,14 +31,16 @@ run_parameters config clients = record {
 }
 
 -- there are 1 to 64 workers, and as many ports, on devices of the geometry
-pub record FitTogether {P : Type 0} (geometry_of : P → Geometry) (config : PoolConfig) (ports : List P) (workers : ℕ) : Type 0 where
+pub record FitTogether {P : Type 0} (geometry_of : P → Geometry) (config : PoolConfig)
+    (ports : List P) (workers : ℕ) : Type 0 where
   pub some : 1 ≤ workers
   pub few : workers ≤ 64
   pub ports_are : length ports ≡ workers
   pub of_file : All (λ p. geometry_of p ≡ config.geometry) ports
 
 -- and a core can be made for them, whose keeper has room for so many entries at most
-pub record CanRunUpTo {P : Type 0} (most_room : ℕ) (geometry_of : P → Geometry) (config : PoolConfig) (ports : List P) (workers : ℕ) : Type 0 where
+pub record CanRunUpTo {P : Type 0} (most_room : ℕ) (geometry_of : P → Geometry)
+    (config : PoolConfig) (ports : List P) (workers : ℕ) : Type 0 where
   pub fit : FitTogether geometry_of config ports workers
   pub core : IsFitUpTo most_room (run_parameters config workers)
 
@@ -53,18 +55,20 @@ RunAnswers can_run (Err refusal.BadSettings) = ¬ can_run
 RunAnswers can_run (Err refusal.OutOfMemory) = can_run
 RunAnswers can_run (Err _) = ⊥
 
--- client 0 alone has the upkeep still: what was taken is all that the core handed out, and the core was told of no LSN
--- above what the mark was raised to
+-- client 0 alone has the upkeep still: what was taken is all that the core handed out, and the core
+-- was told of no LSN above what the mark was raised to
 abbrev pub KeepsUp : CoreView → ℕ → Option UpkeepValue → Type 0
 KeepsUp core zero None = ⊥
 KeepsUp core zero (Some u) = (u.taken ≡ core.before) × (durable core.past ≤ u.raised)
 KeepsUp core (suc client) None = Unit {0}
 KeepsUp core (suc client) (Some u) = ⊥
 
--- what a client's worker left of itself and of the port that it was given, by its own word, and what client 0's upkeep
--- came to; the port is still one to the pool's pages; the book is the client's. Then the passes go back that it held,
--- and the session's list is handed over, less what was cut. But for unfixes it is what the core's trail tells of the client
-pub record LeftBy {P W K I B S : Type 0} (core : CoreView) (geometry_of : P → Geometry) (Leaves : Leaving W P)
+-- what a client's worker left of itself and of the port that it was given, by its own word, and
+-- what client 0's upkeep came to; the port is still one to the pool's pages; the book is the
+-- client's. Then the passes go back that it held, and the session's list is handed over, less what
+-- was cut. But for unfixes it is what the core's trail tells of the client
+pub record LeftBy {P W K I B S : Type 0} (core : CoreView) (geometry_of : P → Geometry)
+    (Leaves : Leaving W P)
     (client : ℕ) (given : W × P) (left : Left P W K I B S) : Type 0 where
   pub returned : SessionValue
   pub upkeep : Option UpkeepValue

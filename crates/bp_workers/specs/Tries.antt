@@ -10,16 +10,17 @@ use Rattle.bp_trail.specs.Pieces.{by}
 use Rattle.bp_book.specs.Turns.{TickSaid}
 use Rattle.bp_shared.specs.Sessions.{FixSaid}
 
--- what comes between a refused fix and the next try. Where the log was wanted, the mark is raised so far; where no page
--- may leave, the clock was moved, if it was not before
+-- what comes between a refused fix and the next try. Where the log was wanted, the mark is raised
+-- so far; where no page may leave, the clock was moved, if it was not before
 abbrev pub GoesOn : ℕ → ℕ → ℕ → Refusal → Bool → Bool → Trail → Trail → Type 0
-GoesOn client steps raised (refusal.NeedLog lsn) ticked now said after = (lsn ≤ raised) × (now ≡ ticked) × (after ≡ said)
+GoesOn client steps raised (refusal.NeedLog lsn) ticked now said after =
+    (lsn ≤ raised) × (now ≡ ticked) × (after ≡ said)
 GoesOn client steps raised refusal.NoVictim ticked now said after =
     (now ≡ true) × (after ≡ (if ticked then said else by client (Tick steps) Done ∷ said))
 GoesOn client steps raised _ ticked now said after = ⊥
 
--- or what is answered for it: its own refusal, where the log is not durable so far, or nothing here overcomes it; and
--- where no page may leave, the refusal of the clock's first move
+-- or what is answered for it: its own refusal, where the log is not durable so far, or nothing here
+-- overcomes it; and where no page may leave, the refusal of the clock's first move
 abbrev pub GivesUp : ℕ → ℕ → ℕ → Refusal → Bool → Refusal → Trail → Trail → Type 0
 GivesUp client steps durable (refusal.NeedLog lsn) ticked answer said after =
     (durable < lsn) × (answer ≡ refusal.NeedLog lsn) × (after ≡ said)
@@ -27,17 +28,24 @@ GivesUp client steps durable refusal.NoVictim ticked answer said after =
     (ticked ≡ false) × TickSaid {A = Unit {0}} client steps (Err answer) said after
 GivesUp client steps durable why ticked answer said after = (answer ≡ why) × (after ≡ said)
 
--- fixes, each refused but the last, where so many more may be tried and the clock was moved or not: the log is durable,
--- and the mark raised, up to these LSNs in the end
-pub data Tries (client page steps durable raised : ℕ) : ℕ → Bool → Result Pass Refusal → Trail → Trail → Type 0 where
-  at_last : {ticked : Bool} {answer : Result Pass Refusal} {said after : Trail} → FixSaid client page answer said after
+-- fixes, each refused but the last, where so many more may be tried and the clock was moved or not:
+-- the log is durable, and the mark raised, up to these LSNs in the end
+pub data Tries (client page steps durable raised : ℕ) : ℕ → Bool → Result Pass Refusal → Trail
+    → Trail → Type 0 where
+  at_last : {ticked : Bool} {answer : Result Pass Refusal} {said after : Trail}
+      → FixSaid client page answer said after
       → Tries client page steps durable raised 0 ticked answer said after
-  fixed : {left : ℕ} {ticked : Bool} {pass : Pass} {said after : Trail} → FixSaid client page (Ok pass) said after
+  fixed : {left : ℕ} {ticked : Bool} {pass : Pass} {said after : Trail}
+      → FixSaid client page (Ok pass) said after
       → Tries client page steps durable raised left ticked (Ok pass) said after
-  given_up : {left : ℕ} {ticked : Bool} {answer : Refusal} {said after : Trail} (why : Refusal) (tried : Trail)
-      → FixSaid client page (Err why) said tried → GivesUp client steps durable why ticked answer tried after
+  given_up : {left : ℕ} {ticked : Bool} {answer : Refusal} {said after : Trail} (why : Refusal)
+      (tried : Trail)
+      → FixSaid client page (Err why) said tried
+      → GivesUp client steps durable why ticked answer tried after
       → Tries client page steps durable raised (suc left) ticked (Err answer) said after
-  again : {left : ℕ} {ticked now : Bool} {answer : Result Pass Refusal} {said after : Trail} (why : Refusal) (tried mid : Trail)
-      → FixSaid client page (Err why) said tried → GoesOn client steps raised why ticked now tried mid
+  again : {left : ℕ} {ticked now : Bool} {answer : Result Pass Refusal} {said after : Trail}
+      (why : Refusal) (tried mid : Trail)
+      → FixSaid client page (Err why) said tried
+      → GoesOn client steps raised why ticked now tried mid
       → Tries client page steps durable raised left now answer mid after
       → Tries client page steps durable raised (suc left) ticked answer said after

@@ -25,6 +25,7 @@ abbrev pub new_upkeep : ℕ → Option UpkeepValue
 new_upkeep zero = Some unused_upkeep
 new_upkeep (suc client) = None
 
--- by a client's number, its worker and port before the work, both after it, its session after it, and client 0's upkeep
+-- by a client's number, its worker and port before the work, both after it, its session after it,
+-- and client 0's upkeep
 abbrev pub Leaving : Type 0 → Type 0 → Type 1
 Leaving W P = ℕ → W → P → W → P → SessionValue → Option UpkeepValue → Type 0

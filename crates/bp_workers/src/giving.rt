@@ -1,5 +1,5 @@
 //! How the passes that a worker still holds go back.
-ghost use Rattle.std.specs.Prelude.{◌≡◌, ◌↔◌, IsTrue, [], length};
+ghost use Rattle.std.specs.Prelude.{◌≡◌, ◌↔◌, IsTrue, []};
 ghost use Rattle.bp_trail.specs.Script.{held_passes};
 ghost use Rattle.bp_workers.specs.Giving.{GoBack};
 

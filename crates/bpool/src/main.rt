@@ -1,5 +1,5 @@
-//! Runs a trace over a buffer pool and reports what the pool did, counts what references come to in pools of many sizes, or writes a
-//! page file anew in its second version.
+//! Runs a trace over a buffer pool and reports what the pool did, counts what references come to in pools of many
+//! sizes, or writes a page file anew in its second version.
 #![tactic(auto)]
 
 use bp_page::Refusal;
@@ -30,8 +30,9 @@ fn words_given<R: AllocGlobal + Env>(rt: &R) -> Result<Vec<String>, Ending> {
         .map_err(|_| Ending::RunRefused(Refusal::OutOfMemory))
 }
 
-/// Does what the words say, over standard input and output, and gives the status to end with. Where somebody watches, how far a
-/// migration or a sweep has come is shown on `err`. Where there is a note, it has a line once standard input is read.
+/// Does what the words say, over standard input and output, and gives the status to end with. Where somebody watches,
+/// how far a migration or a sweep has come is shown on `err`. Where there is a note, it has a line once standard input
+/// is read.
 fn run_words<
     R: AllocGlobal + Files<File = File> + Clock + Input + Print + Threads + Wait + Sync,
     N: Write + Drop,

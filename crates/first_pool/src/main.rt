@@ -11,7 +11,8 @@ use std::alloc::Global;
 use std::rt::Runtime;
 use std::sync::Wait;
 
-/// Changes a page under a log record, and gives its pass back. No flush comes before the log is durable as far as `lsn`.
+/// Changes a page under a log record, and gives its pass back. No flush comes before the log is durable as far as
+/// `lsn`.
 fn change(
     rt: &impl Wait,
     core: &mut Core,
@@ -53,7 +54,8 @@ fn save(
     core.tick(0, 1)
 }
 
-/// A page is changed and flushed, the clock moves, and the trail of all that is cut off. Returns how many entries it had.
+/// A page is changed and flushed, the clock moves, and the trail of all that is cut off. Returns how many entries it
+/// had.
 fn use_pool(
     rt: &impl Wait,
     core: &mut Core,

@@ -29,8 +29,8 @@ code_of (Err why) = number_of why
 abbrev pub Told : {A : Type 0} → ℕ → (Result A Refusal → Type 0) → Type 0
 Told {A} number P = (r : Result A Refusal) × (number ≡ code_of r) × P r
 
--- a handle that has a core has one afterwards, as P says; one that has none stays so, the number is 50, and C's
--- memory is as it was
+-- a handle that has a core has one afterwards, as P says; one that has none stays so, the number is
+-- 50, and C's memory is as it was
 abbrev pub OnCore : Option CoreView → Option CoreView → ℕ → Type 0 → (CoreView → CoreView → Type 0)
     → Type 0
 OnCore None new number Kept P = (number ≡ 50) × (new ≡ None) × Kept

@@ -1,5 +1,5 @@
--- What each call answers and leaves, for any client, page, grant and length that C may pass: the core's own outcome, or
--- the refusal of what the core requires exactly where that does not hold.
+-- What each call answers and leaves, for any client, page, grant and length that C may pass: the
+-- core's own outcome, or the refusal of what the core requires exactly where that does not hold.
 use Rattle.std.specs.Prelude.{◌≡◌, ◌≢◌, ℕ, ◌+◌, ◌^◌, ◌<◌, ◌≤◌, Bool, true, false, List, [], length}
 use Rattle.std.specs.Prelude.{slice_range, Result, Ok, Err, OnErr, Option, Some, None}
 use Rattle.bp_page.specs.declared.refusals.Refusal.{Refusal}
@@ -154,8 +154,8 @@ Flushes old client page before result image new =
     (ForImage old before result new (FlushTold old client page before result image new)))
     × OnErr result (image ≡ before)
 
--- a read that went well gives a pass: a ticket that is not out is unknown, and memory may be wanting for the
--- image of one that is
+-- a read that went well gives a pass: a ticket that is not out is unknown, and memory may be
+-- wanting for the image of one that is
 abbrev pub ReadTold : CoreView → HzGrant → List ℕ → Result HzGrant Refusal → CoreView → Type 0
 ReadTold old held image (Ok pass) new =
     (given : Pass) × ReadEndByOutcome old (grant_of held) (Ok image) (Ok given) new

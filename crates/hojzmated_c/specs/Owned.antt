@@ -1,6 +1,7 @@
--- What a seal owns: nothing, or a pool in its block with the right to free the block. Of the pointer of one with no pool
--- nothing is said: no call reads it, and whether there is a pool the handle tells by a field of its own. So the handle
--- that C fills with zeros is one with none, whatever null is.
+-- What a seal owns: nothing, or a pool in its block with the right to free the block. Of the
+-- pointer of one with no pool nothing is said: no call reads it, and whether there is a pool the
+-- handle tells by a field of its own. So the handle that C fills with zeros is one with none,
+-- whatever null is.
 use base.Fml.{Fml, ftrue}
 use base.Stored.{Coded}
 use denote.RawPtr.{Ptr}

@@ -3,8 +3,8 @@ use Rattle.std.specs.Prelude.{ℕ, ◌==◌, if◌then◌else◌, List, ◌++◌
 use Rattle.std.specs.Option.{unwrap_or}
 use Rattle.bp_page.specs.Explained.{explanation_of}
 
--- the text of each number, as bytes: that of its refusal, but for two that the header words otherwise, and four that
--- it adds; 52 comes from the calls that stand before these, in bindings/c
+-- the text of each number, as bytes: that of its refusal, but for two that the header words
+-- otherwise, and four that it adds; 52 comes from the calls that stand before these, in bindings/c
 unfoldable pub text_of : ℕ → List ℕ
 text_of number =
     if number == 0 then codes "done"

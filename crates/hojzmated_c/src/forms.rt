@@ -31,7 +31,8 @@ pub struct HzGrant {
     pub client: u8,
 }
 
-/// What a fix or a flush gave: its kind, a grant where the kind has one, and where pages move the one that left and the LSN.
+/// What a fix or a flush gave: its kind, a grant where the kind has one, and where pages move the one that left and the
+/// LSN.
 #[repr(C)]
 #[derive(Clone, Copy)]
 pub struct HzFixed {

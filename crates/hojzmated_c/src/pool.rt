@@ -36,7 +36,8 @@ impl Pool {
     ghost use Rattle.std.specs.Prelude.{◌≡◌};
     ghost use Rattle.hojzmated_c.specs.Totals.{totals_of};
 
-    /// A core as the settings say. `BadGeometry`, then `BadSettings` where they are out of their limits, then `OutOfMemory`.
+    /// A core as the settings say. `BadGeometry`, then `BadSettings` where they are out of their limits, then
+    /// `OutOfMemory`.
     pub(crate) fn new(alloc: Global, config: &HzConfig) -> Result<Pool, Refusal>
         ensures { Opens config.now result }
     {

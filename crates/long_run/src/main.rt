@@ -1,6 +1,6 @@
-//! Two long runs. One core makes ten million entries in a room of 4,096: its trail is cut as it goes, and goes on in the
-//! memory of the piece before. Another only counts its entries, while two gigabytes of images go by; what the program
-//! has in memory at the end is told. The file `stdout` was worked out by hand.
+//! Two long runs. One core makes ten million entries in a room of 4,096: its trail is cut as it goes, and goes on in
+//! the memory of the piece before. Another only counts its entries, while two gigabytes of images go by; what the
+//! program has in memory at the end is told. The file `stdout` was worked out by hand.
 //!
 //! With the word `cut` it makes the first run alone, with `uncut` the same in a room for all entries. With `silent`, a
 //! number of rounds and the bytes of a page it makes such a second run.

@@ -15,8 +15,8 @@ pub fn rows_of(alloc: Global, geometry: &Geometry, text: &str) -> Result<Vec<Row
     }
 }
 
-/// The rows of a text by client: a script for each of so many. They are numbered over the whole text, which is read once
-/// more where memory is refused.
+/// The rows of a text by client: a script for each of so many. They are numbered over the whole text, which is read
+/// once more where memory is refused.
 pub fn scripts_of(
     alloc: Global,
     geometry: &Geometry,

@@ -7,9 +7,9 @@ use std::process::Abort;
 const BEGIN: &str =
     "<svg xmlns='http://www.w3.org/2000/svg' viewBox='0 0 9400 5200' width='940' height='520' role='img'>\n";
 
-/// How this one ends. A hit ratio of 0 is at 4,400, and 1 higher by 4,000. From 64 on there are two doublings: 64 stands
-/// at the left, 128 in the middle, 192 halfway on, and 256 at the right. Of 8 fixes 2 hits are 1,000 tenths of a pixel
-/// above the foot at 4,400, and 8 are 4,000.
+/// How this one ends. A hit ratio of 0 is at 4,400, and 1 higher by 4,000. From 64 on there are two doublings: 64
+/// stands at the left, 128 in the middle, 192 halfway on, and 256 at the right. Of 8 fixes 2 hits are 1,000 tenths of a
+/// pixel above the foot at 4,400, and 8 are 4,000.
 const REST: &str = "\
 <path class='grid' d='M800 4400h6400'/><text class='left' x='720' y='4400' dy='45'>0.0</text>
 <path class='grid' d='M800 4000h6400'/><text class='left' x='720' y='4000' dy='45'>0.1</text>

@@ -121,8 +121,8 @@ fn expect_made<R: Files<File = File> + AllocGlobal + Wait + Abort>(
     remove(rt, path);
 }
 
-/// Of slots of version 2 each has its page's number, an LSN of 0, and the page. In a folder that is not there no file is
-/// made.
+/// Of slots of version 2 each has its page's number, an LSN of 0, and the page. In a folder that is not there no file
+/// is made.
 #[test]
 fn page_files_are_opened_and_made(rt: HostRuntime) {
     let run = process::id(rt.process());

@@ -202,8 +202,8 @@ fn log_is_made_durable(rt: HostRuntime) {
     assert_eq!(rt; left.said().len(), 13);
 }
 
-/// A page that is held never leaves: each try is one entry, and the clock is moved once. A clock that cannot be moved so
-/// far ends the fix at once.
+/// A page that is held never leaves: each try is one entry, and the clock is moved once. A clock that cannot be moved
+/// so far ends the fix at once.
 #[test]
 fn held_page_stays(rt: HostRuntime) {
     let rt = &rt;

@@ -56,8 +56,9 @@ impl<P: Port> Worker<P, RecordingKeeper> for Visitor {
     ghost use Rattle.bp_shared.specs.Sessions.{DoesWorkSaid};
 
     // Its port did the work of its session's list, and nothing else; and it raised no mark.
-    ghost leaves = { λ _ _ given left kept session upkeep. (left.refused ≢ Some Refusal.UnknownTicket
-        → DoesWorkSaid P.read_gives P.write_gives [] session.said given kept)
+    ghost leaves = { λ _ _ given left kept session upkeep.
+        (left.refused ≢ Some Refusal.UnknownTicket →
+        DoesWorkSaid P.read_gives P.write_gives [] session.said given kept)
         × IfSome upkeep (λ u. u.raised ≡ 0) };
 
     fn work<N: PoolName, R: Wait>(
@@ -80,8 +81,8 @@ impl<P: Port> Worker<P, RecordingKeeper> for Visitor {
     }
 }
 
-/// Runs visitors. The list left of client c is of client c, and the port that it was given did the work of that list, to
-/// which the unfix of the pass that went back adds none, and nothing else. Nothing is marked durable, since client 0
+/// Runs visitors. The list left of client c is of client c, and the port that it was given did the work of that list,
+/// to which the unfix of the pass that went back adds none, and nothing else. Nothing is marked durable, since client 0
 /// raised no mark.
 fn visit_all<P: Port + Send, R: Threads + Wait + Sync>(
     rt: &R,

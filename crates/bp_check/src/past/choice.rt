@@ -48,8 +48,8 @@ impl<'a> Past<'a> {
         }
     }
 
-    /// Whether a resident page may leave: it has no pins, is not being written out, and was last referenced more than the
-    /// correlated period ago.
+    /// Whether a resident page may leave: it has no pins, is not being written out, and was last referenced more than
+    /// the correlated period ago.
     fn candidate(&self, page: PageNo) -> bool
         requires { resident self.now.past page ≡ true }
         ensures { result ≡ of.candidate self.now.parameters self.now.past page }

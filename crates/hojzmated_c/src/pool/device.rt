@@ -54,7 +54,8 @@ impl Pool {
         }
     }
 
-    /// Ends a read that failed, and tells the number of why: `WrongPage` or `ReadFailed`, or `UnknownTicket`, which changes nothing.
+    /// Ends a read that failed, and tells the number of why: `WrongPage` or `ReadFailed`, or `UnknownTicket`, which
+    /// changes nothing.
     pub(crate) fn read_failed(&mut self, held: &HzGrant, is_wrong_page: bool) -> u16
         ensures { FailsRead self.old held.now (fault_of is_wrong_page) result self.new }
     {

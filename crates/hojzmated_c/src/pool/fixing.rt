@@ -46,8 +46,8 @@ fn send(ticket: WriteTicket, image: &mut [u8]) -> HzFixed
 }
 
 impl Pool {
-    /// Asks for a page, and tells in `out` what it gave. `BadClient`, `OutOfPage` also where the buffer has another length
-    /// than a page, and what the core refuses: nothing is told then.
+    /// Asks for a page, and tells in `out` what it gave. `BadClient`, `OutOfPage` also where the buffer has another
+    /// length than a page, and what the core refuses: nothing is told then.
     pub(crate) fn fix(
         &mut self,
         client: u8,
