@@ -8,8 +8,9 @@ use std::marker::{Model, Send};
 /// A list of entries for each of its lines, newest first. The lists stand in proofs alone, and take no memory.
 #[derive(Drop)]
 pub struct Board {
-    // By this it is told from every other board.
+    /// The number by which it is told from every other board.
     pub ghost name: { ℕ },
+    /// The list of each line, by the line's number. Each has its newest entry first.
     pub ghost lists: { List Trail },
 }
 
@@ -20,8 +21,11 @@ impl Model for Board {
 /// One line of a board: its number, and the list that the board has there. Nobody else has this line.
 #[derive(Drop)]
 pub struct Line {
+    /// The name of its board.
     pub ghost name: { ℕ },
+    /// Its number on the board, from 0, in the order in which the lines were opened.
     pub ghost number: { ℕ },
+    /// The list that the board has there, the newest entry first.
     pub ghost list: { Trail },
 }
 

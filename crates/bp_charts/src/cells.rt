@@ -6,7 +6,7 @@ use crate::curves::{Curve, Point, Which};
 use std::alloc::{AllocError, Global};
 
 /// A cell of a table: what the references came to over one pool, and which line shows it.
-#[derive(Clone, Copy, PartialEq, Eq, Debug)]
+#[derive(Clone, Copy)]
 pub struct Cell {
     /// The line that shows it.
     pub which: Which,

@@ -1,7 +1,7 @@
 //! What a chart shows.
 
 /// Whose hit ratios a line shows.
-#[derive(Clone, Copy, PartialEq, Eq, Debug)]
+#[derive(Clone, Copy)]
 pub enum Which {
     /// LRU-K's for this K; 1 is LRU.
     K(usize),
@@ -10,7 +10,7 @@ pub enum Which {
 }
 
 /// What the references came to over one pool.
-#[derive(Clone, Copy, PartialEq, Eq, Debug)]
+#[derive(Clone, Copy)]
 pub struct Point {
     /// How many frames the pool has.
     pub frames: usize,
@@ -21,7 +21,7 @@ pub struct Point {
 }
 
 /// A curve of a chart, drawn from point to point in their order.
-#[derive(Debug, Drop)]
+#[derive(Drop)]
 pub struct Curve {
     /// What the legend calls it.
     pub which: Which,

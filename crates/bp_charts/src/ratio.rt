@@ -6,7 +6,7 @@ use std::fmt;
 
 /// A part of a whole, in ten-thousandths, rounded down: `1.0000` is shown of a part that is the whole, and of no
 /// smaller one. Of a whole of 0 any part is `0.0000`.
-#[derive(Clone, Copy, PartialEq, Eq, Debug, Drop)]
+#[derive(Clone, Copy, Drop)]
 pub struct Ratio {
     ten_thousandths: u128,
 }

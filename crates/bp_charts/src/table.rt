@@ -8,7 +8,7 @@ use std::io;
 use std::io::Write;
 
 /// A line of the table: a pool, and how many replies of each kind it gave.
-#[derive(Clone, Copy, PartialEq, Eq, Debug, Drop)]
+#[derive(Clone, Copy, Drop)]
 pub struct Line {
     /// How many frames the pool has.
     pub frames: usize,

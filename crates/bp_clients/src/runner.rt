@@ -93,7 +93,7 @@ impl<N: PoolName, P: Port> Runner<N, P> {
         Runner { session, port, log }
     }
 
-    /// Whose it is.
+    /// The number of the client that acts with it, 0 to 63.
     pub(crate) fn client(&self) -> u8
         ensures { result ≡ self.now.client }
     {

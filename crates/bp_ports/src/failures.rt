@@ -6,7 +6,7 @@ use bp_page::PortFault;
 use std::marker::Model;
 
 /// How many failures were counted, up to 2^64 − 1, where it stays.
-#[derive(Debug, Drop)]
+#[derive(Drop)]
 pub(crate) struct Failures {
     count: u64,
 }

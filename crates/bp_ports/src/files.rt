@@ -23,8 +23,10 @@ use thiserror::Error;
 /// Why a page file was not opened.
 #[derive(Clone, Copy, PartialEq, Eq, Debug, Error)]
 pub enum OpenFault {
+    /// Its length, its geometry or the memory for it was refused.
     #[error("{0}")]
     Refused(Refusal),
+    /// It can't be opened, or a port to it could not be made.
     #[error("{0}")]
     Port(PortFault),
 }

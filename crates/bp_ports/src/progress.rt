@@ -7,7 +7,7 @@ pub trait Progress {
 }
 
 /// Nobody is told.
-#[derive(Clone, Copy, Debug)]
+#[derive(Clone, Copy)]
 pub struct Untold;
 
 impl Progress for Untold {

@@ -258,7 +258,8 @@ impl PageFiles {
         }
     }
 
-    /// The same, and whether somebody watches.
+    /// The same page files, told whether somebody watches the program. Where somebody does, how far a migration or a
+    /// sweep has come is shown on the error output.
     pub fn watched(self, is_watched: bool) -> PageFiles {
         PageFiles {
             alloc: self.alloc,

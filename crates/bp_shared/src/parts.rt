@@ -9,11 +9,17 @@ use std::alloc::Global;
 /// A mark with its log end and its first reader, and the ring by which the trail goes to its taker.
 #[derive(Drop)]
 pub struct Parts {
+    /// The pool's durable mark: up to which LSN the log is durable.
     pub mark: Mark,
+    /// The log end of the mark, which raises it.
     pub end: LogEnd,
+    /// The first reader of the mark, from which the others are split.
     pub reader: Reader,
+    /// The ring by which the trail goes to its taker, a piece at a time.
     pub ring: TrailRing,
+    /// The log end is of this mark.
     pub ghost end_is: { end.mark ≡ mark },
+    /// The reader is of this mark.
     pub ghost reader_is: { reader.mark ≡ mark },
 }
 

@@ -18,7 +18,9 @@ impl Progress for Untold {
 /// Which cell is counted, from 1, and of how many.
 #[derive(Clone, Copy)]
 pub struct Turn {
+    /// The number of the cell that is counted, from 1.
     pub cell: u64,
+    /// How many cells the sweep has, 1 or more.
     pub cells: u64,
 }
 

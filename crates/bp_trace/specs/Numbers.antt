@@ -12,8 +12,8 @@ abbrev pub at_most : ℕ → Option ℕ → Option ℕ
 at_most limit None = None
 at_most limit (Some n) = if nat_le n limit then Some n else None
 
--- the number that a text says, if it says one: 1 to 19 decimal digits with a value of at most 2 ^
--- 62
+-- the number that a text says, if it says one: 1 to 19 decimal digits with a value of at most
+-- 2 ^ 62
 unfoldable pub number_in : List ℕ → Option ℕ
 number_in text =
     if nat_le 1 (length text) && nat_le (length text) 19 then at_most (2 ^ 62) (digits_in text)

@@ -10,7 +10,9 @@ use thiserror::Error;
 #[derive(Clone, Copy, PartialEq, Eq, Debug, Error)]
 #[error("trace row {row} refused {number}")]
 pub struct TraceFault {
+    /// The number of the record, from 1, or 0 for the trace as a whole.
     pub row: u64,
+    /// The number of the refusal: 22, or 40 to 47.
     pub number: u16,
 }
 

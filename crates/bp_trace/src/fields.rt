@@ -12,14 +12,20 @@ use std::alloc::Global;
 /// The greatest number of a client.
 const MAX_CLIENT: u64 = 63;
 
-/// The six fields of a record.
+/// The six fields of a record as they stand, unchecked. This is what each has in a good one, where it is not empty.
 #[derive(Clone, Copy)]
 pub struct Fields<'a> {
+    /// The client's number, 0 to 63 in decimal.
     pub client: &'a [u8],
+    /// The word of the op, in lower case.
     pub op: &'a [u8],
+    /// The page's number, the ticks or the log's LSN, as the op has it, in decimal.
     pub number: &'a [u8],
+    /// Where in the page a write begins, in bytes and in decimal.
     pub offset: &'a [u8],
+    /// The bytes of a write, as pairs of hex digits.
     pub bytes: &'a [u8],
+    /// The LSN of a write, in decimal.
     pub lsn: &'a [u8],
 }
 

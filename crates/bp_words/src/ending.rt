@@ -39,7 +39,12 @@ pub enum Ending {
     /// The file of the references can't be opened.
     ReferencesNotOpened,
     /// A line of the references is at fault. Line 0 is the list as a whole.
-    ReferenceRefused { line: u64, refusal: Refusal },
+    ReferenceRefused {
+        /// The number of the line from 1, of the record where a column is read, or 0.
+        line: u64,
+        /// Why it was refused.
+        refusal: Refusal,
+    },
     /// The picture of a table was not written. The table was.
     PictureNotWritten,
 }

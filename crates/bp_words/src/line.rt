@@ -50,6 +50,7 @@ pub(crate) fn plain(alloc: Global, text: &str) -> Result<String, AllocError>
 #[derive(Drop)]
 pub struct Line {
     text: String,
+    /// No byte of the text is a line end or another control character of ASCII.
     pub ghost unbroken: { is_line (string_bytes text) ≡ true },
 }
 

@@ -57,7 +57,9 @@ pub trait DurableLog<N: PoolName> {
 /// The log, and who raises the pool's mark: the two with which client 0 works.
 #[derive(Drop)]
 pub struct Leading<'a, N: PoolName, L: Log> {
+    /// The log, which can be made durable.
     pub log: &'a mut L,
+    /// Who raises the pool's mark.
     pub writer: &'a mut LogWriter<N>,
 }
 
@@ -94,7 +96,7 @@ impl<N: PoolName, L: Log> DurableLog<N> for Leading<'_, N, L> {
 }
 
 /// How long a fix is tried.
-#[derive(Clone, Copy, Debug)]
+#[derive(Clone, Copy)]
 pub struct Patience {
     /// How often it is tried again.
     pub rounds: u32,

@@ -27,8 +27,11 @@ use std::thread::Threads;
 /// What a pool of workers is made with.
 #[derive(Clone, Copy)]
 pub struct PoolConfig {
+    /// How many pages the file has, and the bytes of each.
     pub geometry: Geometry,
+    /// K of LRU-K and its two periods.
     pub settings: Settings,
+    /// How many frames there are, 1 to 65,536.
     pub frames: usize,
     /// The entries that the trail may have between two cuts.
     pub room: usize,

@@ -11,16 +11,22 @@ use std::sync::Wait;
 /// One client of a pool: its session, and its port on a device of the pool's pages.
 #[derive(Drop)]
 pub struct Client<N: PoolName, P: Port, K: ListKeeper = RecordingKeeper> {
+    /// Its session, through which it calls the pool and which keeps its list.
     pub session: Session<N, K>,
+    /// Its own way to the device.
     pub port: P,
+    /// The port's device has as many pages as the pool's file.
     pub ghost pages_are: { (P.geometry_of port).pages ≡ N.parameters.pages },
+    /// The pages of the port's device have as many bytes as the pool's.
     pub ghost size_is: { (P.geometry_of port).size ≡ N.parameters.size },
 }
 
 /// What client 0 is given besides: who raises the pool's mark, and who takes its trail.
 #[derive(Drop)]
 pub struct Upkeep<N: PoolName> {
+    /// Who raises the pool's mark.
     pub log: LogWriter<N>,
+    /// Who takes the pool's trail.
     pub taker: Taker<N>,
 }
 
@@ -70,6 +76,7 @@ pub trait Worker<P: Port, K: ListKeeper>: Drop {
 /// What a worker left.
 #[derive(Drop)]
 pub struct Left<P: Port, W: Drop, K: ListKeeper = RecordingKeeper> {
+    /// The worker, as it was when it returned.
     pub worker: W,
     /// The port that it was given.
     pub port: P,

@@ -38,6 +38,7 @@ impl<N: PoolName> LockedPool<N, RecordingKeeper> {
             Err(refusal) => {
                 // The taker has all that was handed out, and the core's entries go on from that.
                 join_ends(&mut self.pieces, &mut taker.taken);
+                // `trail` is called for its clauses alone: these entries fit the room, and all so far are legal.
                 self.core.trail();
                 return Err(refusal);
             }
