@@ -1,19 +1,21 @@
 //! What a run of client threads left.
 
 use bp_check::Setup;
+use bp_clients::Outcome;
 use bp_core::{Call, Entry, Reply};
 use scenario_cores::Device;
 use scenario_words::{Answer, Said, Verb, entry_of, refusals_of, totals_of};
 use std::alloc::Global;
 use std::sync::Wait;
 
-/// What a run left: its trail, what that is judged by, and its device.
+/// What a run left: its trail, what that is judged by, the list of each client, and its device.
 #[derive(Drop)]
 pub struct Ran {
     alloc: Global,
     device: Device,
     setup: Setup,
     trail: Vec<Entry>,
+    said: Vec<Vec<Entry>>,
 }
 
 /// How many reads of the device began before one had ended.
@@ -45,12 +47,18 @@ fn writes_at_once(trail: &[Entry]) -> u64 {
 }
 
 impl Ran {
-    pub(crate) fn new(alloc: Global, device: Device, setup: Setup, trail: Vec<Entry>) -> Ran {
+    pub(crate) fn new(alloc: Global, device: Device, setup: Setup, outcome: Outcome) -> Ran {
+        let Outcome {
+            trail,
+            said,
+            refused: _,
+        } = outcome;
         Ran {
             alloc,
             device,
             setup,
             trail,
+            said,
         }
     }
 
@@ -64,10 +72,19 @@ impl Ran {
         &self.trail
     }
 
+    /// How many entries a client's list has.
+    fn list(&self, client: u64) -> Answer {
+        match self.said.get(client as usize) {
+            Some(list) => Answer::Number(list.len() as u64),
+            None => Answer::BadLine,
+        }
+    }
+
     /// Tells what a line asks of it.
     pub fn call(&self, rt: &impl Wait, call: &Said) -> Answer {
         match call.verb {
             Verb::Trail => Answer::Number(self.trail.len() as u64),
+            Verb::List => self.list(call.numbers.list[0]),
             Verb::Entry => entry_of(self.alloc, &self.trail, call.numbers.list[0]),
             Verb::Totals => totals_of(self.alloc, &self.trail, 0),
             Verb::Refusals => refusals_of(&self.trail),

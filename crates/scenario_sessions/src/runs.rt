@@ -179,7 +179,7 @@ fn left_by(alloc: Global, config: &Config, clients: u8, run: Run, answers: &mut 
         frames: config.frames,
         clients,
     };
-    Ran::new(alloc, device, setup, outcome.trail)
+    Ran::new(alloc, device, setup, outcome)
 }
 
 /// Runs client threads over a pool of this shape, by the lines after the one that makes it, of which the last ends it.

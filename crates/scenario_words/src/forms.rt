@@ -4,7 +4,7 @@ use crate::calls::Verb;
 use bp_page::PortFault;
 
 /// Each call.
-pub(crate) const CALLS: [(&str, Verb); 44] = [
+pub(crate) const CALLS: [(&str, Verb); 45] = [
     ("fix N N", Verb::Fix),
     ("flush N N", Verb::Flush),
     ("tick N N", Verb::Tick),
@@ -41,6 +41,7 @@ pub(crate) const CALLS: [(&str, Verb); 44] = [
     ("refusals", Verb::Refusals),
     ("reads_at_once", Verb::ReadsAtOnce),
     ("writes_at_once", Verb::WritesAtOnce),
+    ("N list", Verb::List),
     ("put N I", Verb::Put),
     ("device N", Verb::Device),
     ("failures", Verb::Failures),
