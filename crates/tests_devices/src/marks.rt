@@ -1,35 +1,10 @@
-//! The answers of marks, in one thread and in two.
+//! The answers of a mark in two threads.
 ghost use Rattle.std.specs.Prelude.{◌≡◌};
 
 use bp_mark::{LogEnd, Mark, Reader};
 use bp_page::Lsn;
 use std::process::Abort;
 use std::thread;
-
-#[test]
-fn views_of_the_mark(rt: HostRuntime) {
-    let (mark, mut end, mut first) = Mark::new(rt.alloc()).expect(&rt, "the mark");
-    end.raise(&mark, Lsn::new(5));
-    assert_eq!(rt; first.look(&mark), Lsn::new(5));
-    end.raise(&mark, Lsn::new(3));
-    assert_eq!(rt; end.frontier(), Lsn::new(5));
-    assert_eq!(rt; first.look(&mark), Lsn::new(5));
-    let (first, mut second) = first.split(&mark);
-    end.raise(&mark, Lsn::new(9));
-    assert_eq!(rt; second.look(&mark), Lsn::new(9));
-    let reader = first.join(&mark, second);
-    assert_eq!(rt; mark.close(end, reader), Lsn::new(9));
-}
-
-#[test]
-fn mark_at_its_end(rt: HostRuntime) {
-    let greatest = Lsn::new(18446744073709551615);
-    let (mark, mut end, mut reader) = Mark::new(rt.alloc()).expect(&rt, "the mark");
-    assert_eq!(rt; reader.look(&mark), Lsn::new(0));
-    end.raise(&mark, greatest);
-    assert_eq!(rt; reader.look(&mark), greatest);
-    assert_eq!(rt; mark.close(end, reader), greatest);
-}
 
 // Raises 1 to 1,000 in order.
 fn raise_a_thousand(mark: &Mark, mut end: LogEnd) -> LogEnd
