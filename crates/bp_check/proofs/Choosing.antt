@@ -6,10 +6,12 @@ use Rattle.std.proofs.lemmas.Bool.{eqb-true, true≢false, lt-ltb, ltb-true}
 use Rattle.std.proofs.lemmas.Bool.Decides.{nat_tests}
 use Rattle.std.proofs.lemmas.List.{take_more, take_all}
 use Rattle.bp_references.specs.Burst.{Reference, bursts}
+use Rattle.bp_references.specs.Numbers.{count_below}
+use Rattle.bp_replacer.proofs.PurgeLaws.{count_below_same}
 use Rattle.bp_references.specs.Stamp.{stamp, burst_stamp}
 use Rattle.bp_trail.specs.Parameters.{Parameters}
 use Rattle.bp_trail.specs.Trail.{Trail}
-use Rattle.bp_trail.specs.Lists.{some, count_below}
+use Rattle.bp_trail.specs.Lists.{some}
 use Rattle.bp_trail.specs.Event.{Grant}
 use Rattle.bp_trail.specs.Clock.{clock}
 use Rattle.bp_trail.specs.Passes.{reads_out}
@@ -50,17 +52,11 @@ pub outdated-forgets : (c : Parameters) (past : Trail) (now p : ℕ) (pages : Li
 outdated-forgets c past now p pages reads known time here loading =
     rw (time, here, loading, none-spans c.correlated known, last-spans c.correlated known) refl
 
-count-agree : (f g : ℕ → Bool) (n : ℕ) → ((p : ℕ) → p < n → f p ≡ g p) → count_below f n ≡ count_below g n
-count-agree f g zero same = refl
-count-agree f g (suc n) same =
-    ap (λ b. if b then suc (count_below f n) else count_below f n) (same n (omega arith))
-    ∙ ap (λ m. if g n then suc m else m) (count-agree f g n (λ p below. same p (omega arith)))
-
 pub counts-forgotten : {A : Type 0} (c : Parameters) (past : Trail) (now : ℕ) (pages : List ℕ) (reads : List Grant) (table : List (Vec Span A)) → now ≡ clock past → pages ≡ residents past → reads ≡ reads_out past → length table ≡ c.pages → AreSpans c past table
     → count_below (λ p. outdated c.retained now pages reads p (spans_at table p)) (length table) ≡ forgotten c past
 counts-forgotten c past now pages reads table time here loading whole are =
     ap (count_below (λ p. outdated c.retained now pages reads p (spans_at table p))) whole
-    ∙ count-agree (λ p. outdated c.retained now pages reads p (spans_at table p)) (λ p. forgets c past p (references c past p)) c.pages
+    ∙ count_below_same (λ p. forgets c past p (references c past p)) (λ p. outdated c.retained now pages reads p (spans_at table p)) c.pages
     (λ p below. ap (outdated c.retained now pages reads p) (are p below) ∙ outdated-forgets c past now p pages reads (references c past p) time here loading)
 
 -- ---- the victim

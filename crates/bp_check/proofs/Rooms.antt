@@ -1,7 +1,9 @@
 -- Which trails are legal does not hang on the room.
 use Rattle.std.proofs.Common.{◌≡◌, ℕ, zero, suc, Bool, not, ◌&&◌, cond, List, [], ◌∷◌, filter, find, Some, None, inl, inr, refl, sym, ap, ◌∙◌}
 use Rattle.std.specs.Prelude.{if◌then◌else◌}
+use Rattle.bp_references.specs.Numbers.{count_below}
 use Rattle.bp_references.specs.Burst.{last_time}
+use Rattle.bp_replacer.proofs.PurgeLaws.{count_below_same}
 use Rattle.bp_references.specs.Stamp.{stamp}
 use Rattle.bp_trail.specs.declared.entries.Entry.{Entry}
 use Rattle.bp_trail.specs.declared.entries.Call.{Call}
@@ -9,7 +11,7 @@ use Rattle.bp_trail.specs.declared.entries.Call.TheVariants.{Tick, Mark, Fix, Re
 use Rattle.bp_trail.specs.declared.entries.Reply.{Reply}
 use Rattle.bp_trail.specs.declared.entries.Reply.TheVariants.{Hit, Load, Busy, Forgot}
 use Rattle.bp_trail.specs.Trail.{Trail}
-use Rattle.bp_trail.specs.Lists.{every, count_below}
+use Rattle.bp_trail.specs.Lists.{every}
 use Rattle.bp_trail.specs.Passes.{passes, tickets}
 use Rattle.bp_trail.specs.Places.{residents, resident, loading}
 use Rattle.bp_trail.specs.References.{references, references_with, forgets, last}
@@ -30,10 +32,6 @@ find-agree p q same (x ∷ xs) = ap (λ b. cond b (Some x) (find p xs)) (same x)
 every-agree : {X : Type 0} (p q : X → Bool) → ((x : X) → p x ≡ q x) → (xs : List X) → every p xs ≡ every q xs
 every-agree p q same [] = refl
 every-agree p q same (x ∷ xs) = ap (λ b. b && every p xs) (same x) ∙ ap (λ b. q x && b) (every-agree p q same xs)
-
-count-agree : (p q : ℕ → Bool) → ((n : ℕ) → p n ≡ q n) → (n : ℕ) → count_below p n ≡ count_below q n
-count-agree p q same zero = refl
-count-agree p q same (suc n) = ap (λ b. if b then suc (count_below p n) else count_below p n) (same n) ∙ ap (λ m. if q n then suc m else m) (count-agree p q same n)
 
 module _ (s : Setup) (r : ℕ) where
   same-references : (past : Trail) (p : ℕ) → references (parameters_of s r) past p ≡ references (parameters_of s 0) past p
@@ -68,7 +66,7 @@ module _ (s : Setup) (r : ℕ) where
 
   same-reply : (past : Trail) (call : Call) → reply_of (parameters_of s r) past call ≡ reply_of (parameters_of s 0) past call
   same-reply past (Fix p) = ap (λ o. if loading past p then Busy else if resident past p then Hit (passes past) else if has_free_frame (parameters_of s 0) past then Load (tickets past) None else replace_reply past o) (same-victim past)
-  same-reply past Purge = ap Forgot (count-agree (λ p. forgets (parameters_of s r) past p (references (parameters_of s r) past p)) (λ p. forgets (parameters_of s 0) past p (references (parameters_of s 0) past p)) (same-forgets past) s.geometry.pages)
+  same-reply past Purge = ap Forgot (count_below_same (λ p. forgets (parameters_of s 0) past p (references (parameters_of s 0) past p)) (λ p. forgets (parameters_of s r) past p (references (parameters_of s r) past p)) s.geometry.pages (λ p below. same-forgets past p))
   same-reply past (Flush p) = refl
   same-reply past (ReadEnd t p image) = refl
   same-reply past (WriteEnd t p good) = refl

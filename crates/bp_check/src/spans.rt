@@ -2,7 +2,7 @@
 ghost use Rattle.std.specs.Prelude.{◌≡◌, ◌≢◌, ℕ, ◌-◌, ◌*◌, ◌^◌, ◌<◌, ◌≤◌, List, [], map, length, reverse, slice_index_or, if◌then◌else◌, OnOk, IfOk, vec_len};
 ghost use Rattle.bp_references.specs.Burst.{Burst};
 ghost use Rattle.bp_references.specs.Stamp as stamp;
-ghost use Rattle.bp_trail.specs.Lists.{count_below};
+ghost use Rattle.bp_references.specs.Numbers.{count_below};
 ghost use Rattle.bp_check.specs.Spans as of;
 ghost use Rattle.bp_check.specs.Spans.{span, with_reference, spans_at};
 ghost use Rattle.bp_check.specs.declared.spans.Span.{Span as ASpan};

@@ -1,7 +1,8 @@
 -- A core stays one with each entry: here those that touch no page. What a caller sees of each entry.
 use Rattle.std.proofs.Common.{◌≡◌, ℕ, suc, ◌+◌, ◌*◌, ◌^◌, ◌<◌, ◌≤◌, max, true, false, [], ◌∷◌, length, sym, ◌∙◌, ap, subst, arith, refl}
 use Rattle.std.proofs.lemmas.Bool.{lt-ltb}
-use Rattle.bp_replacer.specs.Histories.{Blocks, is_held, place_of, last_of, HasStampsOf, SameAt, SameSettings, KeepsPlaces, forgets, count_below}
+use Rattle.bp_references.specs.Numbers.{count_below}
+use Rattle.bp_replacer.specs.Histories.{Blocks, is_held, place_of, last_of, HasStampsOf, SameAt, SameSettings, KeepsPlaces, forgets}
 use Rattle.bp_trail.specs.declared.entries.Entry.{Entry}
 use Rattle.bp_trail.specs.declared.entries.Call.{Call}
 use Rattle.bp_trail.specs.declared.entries.Call.TheVariants.{Tick, Mark, Purge}

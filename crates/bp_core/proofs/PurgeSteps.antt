@@ -1,5 +1,5 @@
 -- A purge keeps what the core holds in agreement with the trail.
-use Rattle.std.proofs.Common.{inl, ◌≡◌, ℕ, suc, ◌+◌, ◌-◌, ◌≤◌, nat_lt, Bool, true, false, not, if◌then◌else◌, ◌||◌, ◌&&◌, List, [], ◌∷◌, refl, ◌∙◌, ap, arith}
+use Rattle.std.proofs.Common.{inl, ◌≡◌, ℕ, ◌-◌, ◌≤◌, nat_lt, Bool, true, false, not, if◌then◌else◌, ◌||◌, ◌&&◌, List, [], ◌∷◌, refl, ◌∙◌, ap, arith}
 use Rattle.std.proofs.lemmas.Bool.{lt-ltb}
 use Rattle.std.proofs.lemmas.Bool.Decides.{nat_tests}
 use Rattle.bp_references.specs.Burst.{Reference}
@@ -17,20 +17,12 @@ use Rattle.bp_core.proofs.StampsKept.{stamps-kept, told-alike}
 use Rattle.bp_core.proofs.Steps.{by}
 use Rattle.bp_references.specs.Burst.{last_time}
 use Rattle.bp_references.specs.Stamp.{IsTimed}
-use Rattle.bp_replacer.specs.Histories.{last_of, forgets, count_below}
+use Rattle.bp_references.specs.Numbers.{count_below}
+use Rattle.bp_replacer.specs.Histories.{last_of, forgets}
+use Rattle.bp_replacer.proofs.PurgeLaws.{count_below_same}
 use Rattle.bp_trail.specs.References.{is_empty, forgotten, forgets as forgets_page}
-use Rattle.bp_trail.specs.Lists.{count_below as numbers_below}
 use Rattle.bp_trail.proofs.Timed.{references-timed}
 use Rattle.bp_trail.proofs.Ranges.{referred}
-use Rattle.std.proofs.Common.{zero}
-
-same-count : (f g : ℕ → Bool) → ((n : ℕ) → f n ≡ g n) → (n : ℕ) → count_below f n ≡ numbers_below g n
-same-count f g same zero = refl
-same-count f g same (suc n) = ap (λ b. count_below f n + (if b then 1 else 0)) (same n) ∙ go (g n) (same-count f g same n)
-  where
-    go : (b : Bool) → count_below f n ≡ numbers_below g n → count_below f n + (if b then 1 else 0) ≡ (if b then suc (numbers_below g n) else numbers_below g n)
-    go true ih = omega (arith, ih)
-    go false ih = omega (arith, ih)
 
 positive-is : (refs : List Reference) → IsTimed refs → nat_lt 0 (last_time refs) ≡ not (is_empty refs)
 positive-is [] t = refl
@@ -54,7 +46,7 @@ module _ (c : Parameters) (past : Trail) (x : Parts) (a : Agrees c past x) where
       ∙ turned (resident past p || loading past p) (not (is_empty (references c past p))) (nat_lt c.retained (clock past - last_time (references c past p)))
 
   pub count-same : count_below (forgets x.blocks x.now) c.pages ≡ forgotten c past
-  count-same = same-count (forgets x.blocks x.now) (λ p. forgets_page c past p (references c past p)) forgets-same c.pages
+  count-same = count_below_same (λ p. forgets_page c past p (references c past p)) (forgets x.blocks x.now) c.pages (λ p below. forgets-same p)
 
   -- no page beyond the file has a hist
   pub nothing-beyond : (p : ℕ) → c.pages ≤ p → last_of x.blocks p ≡ 0

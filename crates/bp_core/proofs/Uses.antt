@@ -1,6 +1,6 @@
--- What a slot that was found says, and the frame of a page whose use ended.
-use Rattle.std.proofs.Common.{◌≡◌, ℕ, Option, Some, sym, ap, ◌∙◌, subst}
-use Rattle.std.specs.Prelude.{Contains, IfSome, IsSome}
+-- What a slot or a frame that was found says, and the frame of a page whose use ended.
+use Rattle.std.proofs.Common.{◌≡◌, ℕ, Option, Some, None, refl, sym, ap, ◌∙◌, subst}
+use Rattle.std.specs.Prelude.{Contains, IfSome, IfNone, IsSome}
 use Rattle.bp_replacer.specs.Histories.{place_of}
 use Rattle.bp_frames.specs.declared.frame.Frame.{Frame}
 use Rattle.bp_frames.specs.declared.frame.FrameSlot.{FrameSlot}
@@ -14,8 +14,16 @@ use Rattle.bp_core.specs.Agreement.{parts_of, frame_of, IsCore, TellBlocks}
 use Rattle.bp_core.proofs.Seen.{frame_in}
 use Rattle.bp_core.proofs.Placed.{tell-blocks}
 
+-- what is sure to be there
+pub is_there : {A : Type 0} (o : Option A) (Away : Type 0) → IfNone o Away → (Away → ⊥) → IsSome o
+is_there None Away away never = absurd (never away)
+is_there (Some a) Away away never = refl
+
+pub at_some : {A : Type 0} (P : A → Type 0) (o : Option A) (a : A) → IfSome o P → o ≡ Some a → P a
+at_some P o a tells is = subst (λ o. IfSome o P) is tells
+
 pub found : (table : Table) (page : ℕ) (o : Option FrameSlot) (slot : FrameSlot) → IfSome o (λ s. IsSlotIn table s × (s.page ≡ page)) → o ≡ Some slot → IsSlotIn table slot × (slot.page ≡ page)
-found table page o slot tells is = subst (λ o. IfSome o (λ s. IsSlotIn table s × (s.page ≡ page))) is tells
+found table page o slot tells is = at_some (λ s. IsSlotIn table s × (s.page ≡ page)) o slot tells is
 
 module _ (c : Parameters) (trail : Kept) (x : State) (core : IsCore c trail x) (p : ℕ) (change : Frame → Frame) (same : (f : Frame) → (change f).page ≡ f.page) where
   -- what the frame of a page is after a change of it

@@ -7,7 +7,6 @@ use bp_trail::Grant;
 use std::marker::Model;
 
 /// The right to use a page that is in a frame. Its serial number is the number of passes given before it, from 0.
-#[derive(Debug)]
 pub struct Pass {
     pub(crate) client: u8,
     pub(crate) page: PageNo,
@@ -16,7 +15,6 @@ pub struct Pass {
 
 /// The duty to read a page from the device. Its serial number is the number of tickets of both kinds given before it,
 /// from 0.
-#[derive(Debug)]
 pub struct ReadTicket {
     pub(crate) client: u8,
     pub(crate) page: PageNo,
@@ -24,7 +22,6 @@ pub struct ReadTicket {
 }
 
 /// The duty to write an image of a page to the device, numbered with the tickets to read.
-#[derive(Debug)]
 pub struct WriteTicket {
     pub(crate) client: u8,
     pub(crate) page: PageNo,
@@ -34,7 +31,7 @@ pub struct WriteTicket {
 }
 
 /// What a pass stands for: a plain note, which may be copied and dropped. A dropped note leaves its page pinned.
-#[derive(Clone, Copy, Debug)]
+#[derive(Clone, Copy)]
 pub struct PassNote {
     client: u8,
     page: PageNo,
@@ -52,7 +49,6 @@ impl Model for PassNote {
 }
 
 /// What `fix` gave.
-#[derive(Debug)]
 pub enum Fix {
     /// The page is in a frame: the pass of it.
     Hit(Pass),
@@ -64,7 +60,6 @@ pub enum Fix {
 }
 
 /// What `flush` gave.
-#[derive(Debug)]
 pub enum Flush {
     /// The page is in a frame and not unsaved: nothing is to be written.
     Clean,
@@ -75,7 +70,7 @@ pub enum Flush {
 }
 
 /// How a write-out ended.
-#[derive(Clone, Copy, PartialEq, Eq, Debug, Drop)]
+#[derive(Clone, Copy, Drop)]
 pub enum Ended {
     /// The page is saved.
     Cleaned,
@@ -84,7 +79,6 @@ pub enum Ended {
 }
 
 /// Why the end of a device operation was refused.
-#[derive(Debug)]
 pub enum EndRefusal<T, R> {
     /// No such ticket is out here: the ticket and the result of the operation come back, and nothing changed.
     Unknown(T, R),
@@ -107,7 +101,7 @@ impl<T, R> EndRefusal<T, R> {
 }
 
 impl Pass {
-    /// Whose it is.
+    /// The client that the pass was given to.
     pub fn client(&self) -> u8
         ensures { result ≡ self.now.client }
     {
@@ -166,7 +160,7 @@ impl PassNote {
         }
     }
 
-    /// Whose pass it stands for.
+    /// The client that the pass was given to.
     pub fn client(&self) -> u8
         ensures { result ≡ self.now.client }
     {
@@ -202,7 +196,7 @@ impl PassNote {
 }
 
 impl ReadTicket {
-    /// Whose it is.
+    /// The client that the ticket was given to.
     pub fn client(&self) -> u8
         ensures { result ≡ self.now.client }
     {
@@ -245,7 +239,7 @@ impl ReadTicket {
 }
 
 impl WriteTicket {
-    /// Whose it is.
+    /// The client that the ticket was given to.
     pub fn client(&self) -> u8
         ensures { result ≡ self.now.client }
     {

@@ -13,7 +13,7 @@ use std::alloc::Global;
 pub const HEADER: usize = 16;
 
 /// How the pages of a file stand in it, one after the other.
-#[derive(Clone, Copy, PartialEq, Eq, Debug)]
+#[derive(Clone, Copy)]
 pub enum Format {
     /// Version 1: a page's bytes.
     Plain,

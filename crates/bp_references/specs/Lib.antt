@@ -4,6 +4,7 @@ pub mod Cut
 pub mod Stamp
 pub mod Distance
 pub mod Candidates
+pub mod Numbers
 -- What a body may keep of the references, and how a reference moves it.
 pub mod Alike
 pub mod Shift

@@ -5,7 +5,8 @@ use Rattle.std.proofs.lemmas.Bool.Decides.{nat_tests}
 use Rattle.bp_replacer.specs.declared.histories.Block.{Block}
 use Rattle.bp_references.specs.Stamp.{stamp}
 use Rattle.bp_references.proofs.StampLaws.{no_stamps}
-use Rattle.bp_replacer.specs.Histories.{Blocks, find_block, no_block, block_of, stamp_of, is_outdated, count_below, HasStampsOf, SameAt}
+use Rattle.bp_replacer.specs.Histories.{Blocks, find_block, no_block, block_of, stamp_of, is_outdated, HasStampsOf, SameAt}
+use Rattle.bp_references.specs.Numbers.{count_below}
 
 -- ---- one page
 

@@ -8,7 +8,8 @@ use Rattle.std.proofs.lemmas.List.Sorted.{sum_by_pushed, sum_by_popped}
 use Rattle.bp_replacer.specs.declared.histories.Block.{Block}
 use Rattle.bp_replacer.specs.declared.histories.Histories.TheInside.{Inside}
 use Rattle.bp_replacer.specs.contracts.histories.Histories.{the_view}
-use Rattle.bp_replacer.specs.Histories.{Blocks, find_block, no_block, block_of, has_block, place_of, stamp_of, is_held, last_of, is_outdated, forgets, count_below, HasStampsOf, SameAt}
+use Rattle.bp_replacer.specs.Histories.{Blocks, find_block, no_block, block_of, has_block, place_of, stamp_of, is_held, last_of, is_outdated, forgets, HasStampsOf, SameAt}
+use Rattle.bp_references.specs.Numbers.{count_below}
 use Rattle.bp_replacer.specs.Queue.{Waiting}
 use Rattle.bp_replacer.specs.Kept.{slot, blocks_in, IsSound, IsKept, IsQueued}
 use Rattle.bp_replacer.proofs.KeptLaws.{number, Changes, some_number, not_found, others_stay, was_sound, before, after, others_after}

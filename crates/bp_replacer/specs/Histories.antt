@@ -100,8 +100,3 @@ is_outdated retained t b = not b.held && (nat_lt 0 b.last && nat_lt retained (t 
 -- whether a purge at t forgets the page
 abbrev pub forgets : Blocks → ℕ → ℕ → Bool
 forgets h t page = is_outdated h.retained t (block_of h page)
-
--- how many numbers below n pass the test
-abbrev pub count_below : (ℕ → Bool) → ℕ → ℕ
-count_below test zero = 0
-count_below test (suc n) = count_below test n + (if test n then 1 else 0)

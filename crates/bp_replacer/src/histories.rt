@@ -2,7 +2,8 @@
 ghost use Rattle.std.specs.Prelude.{◌≡◌, ◌≢◌, ℕ, ◌+◌, ◌-◌, ◌^◌, ◌<◌, ◌≤◌, [], IsTrue, IsFalse, true, false, is_some, IsSome, IfOk, OnOk, OnErr, slice_index};
 ghost use Rattle.bp_references.specs.Shift.{IsShifted};
 ghost use Rattle.bp_references.specs.Burst.Reference.{hit, fault};
-ghost use Rattle.bp_replacer.specs.Histories.{is_held, has_block, place_of, last_of, stamp_of, IsNow, HasStampsOf, SameAt, SameStampsAt, SameSettings, KeepsPlaces, AddsReference, forgets, count_below};
+ghost use Rattle.bp_replacer.specs.Histories.{is_held, has_block, place_of, last_of, stamp_of, IsNow, HasStampsOf, SameAt, SameStampsAt, SameSettings, KeepsPlaces, AddsReference, forgets};
+ghost use Rattle.bp_references.specs.Numbers.{count_below};
 
 use crate::queue::Queue;
 use crate::settings::{MAX_STAMPS, Settings};
@@ -24,7 +25,7 @@ pub struct Block {
 
 /// The number of a page's block. It stays the same while the page is held, so who keeps it finds the block without a
 /// look-up.
-#[derive(Clone, Copy, PartialEq, Eq, Debug, Drop)]
+#[derive(Clone, Copy, Drop)]
 pub struct BlockNo {
     number: u32,
 }

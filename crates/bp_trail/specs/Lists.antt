@@ -7,7 +7,7 @@
 --     since start stop xs      some element passes start, and no later one passes stop
 --     outstanding key gives ends xs      what elements gave and no later one ended, newest first;
 --                                        one ends all that have its key
-use Rattle.std.specs.Prelude.{ℕ, zero, suc, ◌+◌, max, Bool, true, false, not, ◌&&◌, ◌||◌, ◌==◌, if◌then◌else◌, List, [], ◌∷◌, filter, length, Option, Some, None}
+use Rattle.std.specs.Prelude.{ℕ, ◌+◌, max, Bool, true, false, not, ◌&&◌, ◌||◌, ◌==◌, if◌then◌else◌, List, [], ◌∷◌, filter, length, Option, Some, None}
 use Rattle.std.specs.List.{list_any}
 
 abbrev pub total : List ℕ → ℕ
@@ -55,8 +55,3 @@ outstanding key gives ends (x ∷ xs) =
 abbrev pub EachEntry : {X : Type 0} → (List X → X → Type 0) → List X → Type 0
 EachEntry P [] = Unit {0}
 EachEntry P (x ∷ xs) = record { here : P xs x; before : EachEntry P xs }
-
--- how many numbers below n pass
-abbrev pub count_below : (ℕ → Bool) → ℕ → ℕ
-count_below p zero = 0
-count_below p (suc n) = if p n then suc (count_below p n) else count_below p n

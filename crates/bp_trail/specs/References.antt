@@ -6,7 +6,7 @@ use Rattle.bp_references.specs.Stamp.{stamp}
 use Rattle.bp_trail.specs.declared.entries.Entry.{Entry}
 use Rattle.bp_trail.specs.Parameters.{Parameters}
 use Rattle.bp_trail.specs.Trail.{Trail}
-use Rattle.bp_trail.specs.Lists.{count_below}
+use Rattle.bp_references.specs.Numbers.{count_below}
 use Rattle.bp_trail.specs.Event.{hits, loads, is_purge}
 use Rattle.bp_trail.specs.Clock.{clock}
 use Rattle.bp_trail.specs.Places.{resident, loading}

@@ -78,9 +78,7 @@ impl<K: Keeper> PoolCore<K> {
             self.answer(client, Call::Fix(page), Reply::NoVictim);
             return Err(Refusal::NoVictim);
         };
-        let Some(frame) = self.frame(victim) else {
-            unreachable!()
-        };
+        let frame = self.frame(victim).unwrap();
         if !frame.is_unsaved {
             return self.replace(client, page, victim);
         }

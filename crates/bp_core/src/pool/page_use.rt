@@ -21,9 +21,7 @@ impl<K: Keeper> PoolCore<K> {
         if !self.knows(pass) {
             return Err(Refusal::UnknownPass);
         }
-        let Some(frame) = self.frame(pass.page) else {
-            unreachable!()
-        };
+        let frame = self.frame(pass.page).unwrap();
         let image = Image::of(self.alloc, frame.image.bytes())?;
         let spare = K::spare_image(self.alloc, &image)?;
         self.answer_read(pass.grant(), &image, spare);

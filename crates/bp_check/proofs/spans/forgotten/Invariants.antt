@@ -1,5 +1,5 @@
 use Rattle.std.proofs.Common.{◌≡◌, ◌≤◌}
-use Rattle.bp_trail.specs.Lists.{count_below}
+use Rattle.bp_references.specs.Numbers.{count_below}
 use Rattle.bp_check.specs.Spans.{outdated, spans_at}
 use Rattle.bp_check.proofs.spans.forgotten.Given as goal
 

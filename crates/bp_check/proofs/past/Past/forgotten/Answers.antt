@@ -1,5 +1,5 @@
 use Rattle.std.proofs.Common.{ap, ◌∙◌, reverse, length, List, Vec, Global}
-use Rattle.bp_trail.specs.Lists.{count_below}
+use Rattle.bp_references.specs.Numbers.{count_below}
 use Rattle.bp_trail.specs.References as references
 use Rattle.bp_check.specs.Setups.{parameters_of}
 use Rattle.bp_check.specs.declared.spans.Span.{Span}

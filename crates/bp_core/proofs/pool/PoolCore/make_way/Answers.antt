@@ -6,19 +6,21 @@ use Rattle.bp_trail.specs.Victim.{victim}
 use Rattle.bp_core.specs.Outcomes.IsQuiet.{fix_none, fix_log}
 use Rattle.bp_core.specs.Outcomes.IsBegin.{by_fix}
 use Rattle.bp_trail.proofs.Victim.{victim-is, candidate-resident}
+use Rattle.bp_core.proofs.Uses.{is_there}
 use Rattle.bp_core.proofs.pool.PoolCore.make_way.Goals as goal
 
 pub answer-requires-clause-quiet : goal.answer-requires-clause-quiet
 answer-requires-clause-quiet g c = fix_none c.args.page
 
-pub unreachable-requires : goal.unreachable-requires
-unreachable-requires g c =
+pub unwrap-frame-requires : goal.unwrap-frame-requires
+unwrap-frame-requires g c =
     let v = c.args.self.now in
     let chosen : victim v.parameters v.past ≡ Some c.in-Some.victim = sym c.victim.ensures.chosen ∙ c.in-Some.is in
-    true≢false (sym (candidate-resident v.parameters v.past c.in-Some.victim (victim-is v.parameters v.past c.in-Some.victim chosen).eligible) ∙ subst (λ (v : CoreView). EachPast v (λ past. resident past c.in-Some.victim ≡ false)) c.victim.ensures.same c.in_default-frame.ensures.away)
+    is_there c.frame.result _ c.frame.ensures.away (λ gone.
+    true≢false (sym (candidate-resident v.parameters v.past c.in-Some.victim (victim-is v.parameters v.past c.in-Some.victim chosen).eligible) ∙ subst (λ (v : CoreView). EachPast v (λ past. resident past c.in-Some.victim ≡ false)) c.victim.ensures.same gone))
 
 pub answer-requires-then-lt-clause-quiet : goal.answer-requires-then-lt-clause-quiet
-answer-requires-then-lt-clause-quiet g c = fix_log c.args.page c.in-Some-frame.frame.now.top
+answer-requires-then-lt-clause-quiet g c = fix_log c.args.page c.unwrap-frame.result.now.top
 
 pub begin-requires-clause-begins : goal.begin-requires-clause-begins
 begin-requires-clause-begins g c = by_fix c.args.page

@@ -9,15 +9,17 @@ use Rattle.bp_trail.proofs.Places.{places, out-of_page}
 use Rattle.bp_trail.specs.Images.{held}
 use Rattle.bp_trail.proofs.Ranges.{owned, owner, sized}
 use Rattle.bp_core.proofs.Keeps.{at-past}
+use Rattle.bp_core.proofs.Uses.{is_there, at_some}
 use Rattle.bp_core.proofs.pool.PoolCore.read.Goals as goal
 
-pub unreachable-requires : goal.unreachable-requires
-unreachable-requires g c =
+pub unwrap-frame-requires : goal.unwrap-frame-requires
+unwrap-frame-requires g c =
     let a = c.self.invariant.agrees in
     let p = c.args.pass.now in
     let out = at-past _ _ _ c.self.invariant _ c.self.view_is (λ q past. is_out (grant p.client p.page p.serial) (passes_out past) ≡ true) (sym c.knows.ensures ∙ c.if-not-knows.false) in
-    let away = at-past _ _ _ c.self.invariant _ c.self.view_is (λ q past. resident past p.page ≡ false) c.in_default.ensures.away in
-    true≢false (sym ((places _ _ a.legal).pinned p.page (out-of_page p.client p.page p.serial _ out)) ∙ away)
+    is_there c.frame.result _ c.frame.ensures.away (λ gone.
+    let away = at-past _ _ _ c.self.invariant _ c.self.view_is (λ q past. resident past p.page ≡ false) gone in
+    true≢false (sym ((places _ _ a.legal).pinned p.page (out-of_page p.client p.page p.serial _ out)) ∙ away))
 
 pub answer_read-requires-clause-client_in : goal.answer_read-requires-clause-client_in
 answer_read-requires-clause-client_in g c =
@@ -33,5 +35,5 @@ returns-clause-size g c =
     let past = (g.K.Keeper.kept c.self.inside.trail).past in
     let out = at-past _ _ _ c.self.invariant _ c.self.view_is (λ q past. is_out (grant p.client p.page p.serial) (passes_out past) ≡ true) (sym c.knows.ensures ∙ c.if-not-knows.false) in
     let here : resident past p.page ≡ true = (places _ _ a.legal).pinned p.page (out-of_page p.client p.page p.serial _ out) in
-    let image : c.in_ok-image.image ≡ held past p.page = c.in_ok-image.ensures ∙ c.bytes.ensures ∙ ap (λ f. f.image) c.in-Some.ensures.found ∙ ap (λ v. held v.past p.page) (sym c.self.view_is) in
+    let image : c.in_ok-image.image ≡ held past p.page = c.in_ok-image.ensures ∙ c.bytes.ensures ∙ ap (λ f. f.image) (at_some _ _ _ c.frame.ensures.found c.unwrap-frame.ensures) ∙ ap (λ v. held v.past p.page) (sym c.self.view_is) in
     subst (λ v. length c.in_ok-image.image ≡ v.parameters.size) c.self.view_is (ap length image ∙ sized _ _ a.legal p.page here)
