@@ -1,19 +1,27 @@
 -- Passes whose serial numbers rise, and slots of them.
-use Rattle.std.proofs.Common.{◌≡◌, sym, refl, ap, ◌∙◌, ℕ, suc, ◌-◌, ◌<◌, ◌≤◌, arith, cond, Bool, true, false, ◌==◌, List, [], ◌∷◌, ◌++◌, length, get_or, map, None, if◌then◌else◌, inl, inr}
+use Rattle.std.proofs.Common.{◌≡◌, sym, refl, ap, ◌∙◌, ℕ, zero, suc, ◌-◌, ◌<◌, ◌≤◌, nat_lt, arith, cond, Bool, true, false, ◌&&◌, ◌==◌, List, [], ◌∷◌, ◌++◌, length, get_or, map, None, if◌then◌else◌}
 use Rattle.std.specs.Prelude.{filter}
-use Rattle.std.proofs.lemmas.Bool.{ne_eqb, eqb-true, cases_lt}
-use Rattle.std.proofs.lemmas.List.{length-map, get_or-map, get_or_default}
+use Rattle.std.proofs.lemmas.Bool.{ne_eqb, eqb-true, and_parts, ltb-true}
+use Rattle.std.proofs.lemmas.List.{length-map, get_or-map}
 use Rattle.bp_trail.specs.Event.{Grant}
 use Rattle.bp_trail.specs.Lists.{count}
 use Rattle.bp_trail.proofs.Counting.{count-cons, none-count}
 use Rattle.bp_frames.specs.Rising.{IsRisingBy}
-use Rattle.bp_frames.proofs.Rising.{some-none, rising-filter, rising-pushed}
+use Rattle.bp_frames.proofs.Rising.{some-none, rising-filter}
 use Rattle.bp_device.specs.Rows.{SerialsDiffer}
 use Rattle.bp_device.specs.declared.held_list.Slot.{Slot}
-use Rattle.bp_device.specs.HeldLists.{passes_in}
+use Rattle.bp_device.specs.HeldLists.{passes_in, rise, serials_in}
 
 abbrev pub serial_of : Slot → ℕ
 serial_of s = s.note.serial
+
+and-true : (b : Bool) → (b && true) ≡ b
+and-true true = refl
+and-true false = refl
+
+and-assoc : (a b c : Bool) → (a && (b && c)) ≡ ((a && b) && c)
+and-assoc true b c = refl
+and-assoc false b c = refl
 
 -- the numbers of the passes rise where those of the slots do
 passes-are : (ss : List Slot) → passes_in ss ≡ map (λ (s : Slot). s.note) (filter (λ (s : Slot). s.is_held) ss)
@@ -49,15 +57,31 @@ rise-differ (g ∷ gs) rising n = go (g.serial == n) refl (rise-differ gs (λ i 
         omega (arith, count-cons has g gs, ap {B = ℕ} (λ b. cond b 1 0) same, none-count has gs (some-none has gs others))
     go false other rest = omega (arith, count-cons has g gs, ap {B = ℕ} (λ b. cond b 1 0) other, rest)
 
--- one more whose number is above that of the last
-pub rises-pushed : (xs : List Slot) (x last : Slot) → IsRisingBy serial_of xs → 0 < length xs → last ≡ get_or xs (length xs - 1) last → last.note.serial < x.note.serial → IsRisingBy serial_of (xs ++ x ∷ [])
-rises-pushed xs x last rising some is above = rising-pushed serial_of xs rising x (λ k d lt. below k d lt)
-  where
-    at_end : (d : Slot) → get_or xs (length xs - 1) d ≡ last
-    at_end d = get_or_default xs (length xs - 1) d last (omega (arith, some)) ∙ sym is
+-- one number more after that of the last slot
+rise-more : (ss : List Slot) (last : Slot) (n i : ℕ) → suc i ≡ length ss → last ≡ get_or ss i last → rise (serials_in ss ++ n ∷ []) ≡ (rise (serials_in ss) && nat_lt (serial_of last) n)
+rise-more [] last n i count is = absurd (omega (arith, count))
+rise-more (s ∷ []) last n zero count is = ap (λ t. nat_lt (serial_of t) n && true) (sym is) ∙ and-true (nat_lt (serial_of last) n)
+rise-more (s ∷ []) last n (suc i) count is = absurd (omega (arith, count))
+rise-more (s ∷ t ∷ ss) last n zero count is = absurd (omega (arith, count))
+rise-more (s ∷ t ∷ ss) last n (suc i) count is =
+    ap (λ r. nat_lt (serial_of s) (serial_of t) && r) (rise-more (t ∷ ss) last n i (omega (arith, count)) is)
+    ∙ and-assoc (nat_lt (serial_of s) (serial_of t)) (rise (serials_in (t ∷ ss))) (nat_lt (serial_of last) n)
 
-    below : (k : ℕ) (d : Slot) → k < length xs → (get_or xs k d).note.serial < x.note.serial
-    below k d lt = elim (cases_lt k (length xs - 1)) [
-      | inl less ↦ omega (arith, rising k (length xs - 1) d less (omega (arith, some)), ap serial_of (at_end d), above)
-      | inr ge ↦ omega (arith, ap (λ i. (get_or xs i d).note.serial) {x = k} {y = length xs - 1} (omega (arith, ge, lt)), ap serial_of (at_end d), above)
-    ]
+pub rise-pushed : (ss : List Slot) (last : Slot) (n : ℕ) → 0 < length ss → last ≡ get_or ss (length ss - 1) last → rise (serials_in ss ++ n ∷ []) ≡ (rise (serials_in ss) && nat_lt (serial_of last) n)
+rise-pushed ss last n some is = rise-more ss last n (length ss - 1) (omega (arith, some)) is
+
+-- numbers each greater than the one before it are each greater than all before it
+pub rise-is : (ss : List Slot) → rise (serials_in ss) ≡ true → IsRisingBy serial_of ss
+rise-is [] is i j d less lt = absurd (omega (arith, lt))
+rise-is (s ∷ []) is i j d less lt = absurd (omega (arith, less, lt))
+rise-is (s ∷ t ∷ ss) is i j d less lt =
+    let both = and_parts (nat_lt (serial_of s) (serial_of t)) _ is in
+    let rest = rise-is (t ∷ ss) both.1 in
+    go i j (ltb-true (serial_of s) (serial_of t) both.0) rest less lt
+  where
+    go : (i j : ℕ) → serial_of s < serial_of t → IsRisingBy serial_of (t ∷ ss) → i < j → j < length (s ∷ t ∷ ss) → serial_of (get_or (s ∷ t ∷ ss) i d) < serial_of (get_or (s ∷ t ∷ ss) j d)
+    go zero zero above rest less lt = absurd (omega (arith, less))
+    go zero (suc zero) above rest less lt = above
+    go zero (suc (suc k)) above rest less lt = omega (arith, above, rest 0 (suc k) d (omega arith) (omega (arith, lt)))
+    go (suc i) zero above rest less lt = absurd (omega (arith, less))
+    go (suc i) (suc j) above rest less lt = rest i j d (omega (arith, less)) (omega (arith, lt))

@@ -5,7 +5,7 @@ ghost use Rattle.std.specs.Prelude.{IfNone, IfSome, IsSome, IsTrue, OnOk};
 ghost use Rattle.std.specs.HashMap.{get, spare};
 ghost use Rattle.bp_trail.specs.Script.{is_pass_of};
 ghost use Rattle.bp_device.specs.declared.held_list.Slot.{Slot};
-ghost use Rattle.bp_device.specs.HeldLists.{passes_in, same_key, MayRise};
+ghost use Rattle.bp_device.specs.HeldLists.{passes_in, same_key, rise, serials_in};
 ghost use Rattle.bp_device.specs.Rows.{SerialsDiffer};
 
 use bp_core::PassNote;
@@ -42,21 +42,22 @@ pub struct HeldList {
 }
 
 impl Model for HeldList {
-    ghost use Rattle.std.specs.Prelude.{◌-◌, min, reverse, vec_len, vec_capacity};
+    ghost use Rattle.std.specs.Prelude.{◌≡◌, ◌-◌, min, reverse, vec_len, vec_capacity};
     ghost use Rattle.std.specs.HashMap.{spare};
     ghost use Rattle.bp_device.specs.HeldLists.{HeldValue, passes_in, AreLinked, FindsNewest};
-    ghost use Rattle.bp_device.specs.HeldLists.{MayRise};
+    ghost use Rattle.bp_device.specs.HeldLists.{rise, serials_in};
 
     ghost Value = { HeldValue };
 
     ghost view = { λ h. record {
       passes = passes_in h.slots.items;
+      serials = serials_in h.slots.items;
       room = min (vec_capacity h.slots - vec_len h.slots) (spare h.latest);
     } };
 
     ghost invariant = { λ h. AreLinked (reverse h.slots.items)
         × FindsNewest h.latest (reverse h.slots.items)
-        × MayRise h.is_rising h.slots.items };
+        × (h.is_rising ≡ rise (serials_in h.slots.items)) };
 }
 
 /// Whose pass it is and of which page.
@@ -94,8 +95,8 @@ fn relink(latest: &mut HashMap<Key, usize>, key: Key, place: Option<usize>)
 
 /// Whether the numbers rise with one note more.
 fn rises_with(slots: &[Slot], is_rising: bool, note: &PassNote) -> bool
-    requires { MayRise is_rising slots.now }
-    ensures { (slot : Slot) → slot.note ≡ note.now → MayRise result (slots.now ++ slot ∷ []) }
+    requires { is_rising ≡ rise (serials_in slots.now) }
+    ensures { result ≡ rise (serials_in slots.now ++ note.now.serial ∷ []) }
 {
     match slots.last() {
         Some(last) => is_rising && last.note.serial() < note.serial(),
@@ -129,7 +130,8 @@ fn copy_held(slots: &[Slot], notes: &mut Vec<PassNote>)
 impl HeldList {
     /// None. It takes no memory.
     pub fn new(alloc: Global) -> HeldList
-        ensures { result.passes ≡ [] }
+        ensures passes { result.passes ≡ [] }
+        ensures serials { result.serials ≡ [] }
     {
         HeldList {
             slots: Vec::new(alloc),
@@ -141,6 +143,7 @@ impl HeldList {
     /// Room for so many more. Where memory is refused the passes stay, with no less room.
     pub fn reserve(&mut self, more: usize) -> Result<(), AllocError>
         ensures passes { self.new.passes ≡ self.old.passes }
+        ensures serials { self.new.serials ≡ self.old.serials }
         ensures room { OnOk result (more ≤ self.new.room) }
         ensures no_less { self.old.room ≤ self.new.room }
     {
@@ -151,7 +154,8 @@ impl HeldList {
     /// Whether each pass had a greater serial number than the one taken before it, as those of one core have. Then no
     /// two have the same.
     pub fn serials_rise(&self) -> bool
-        ensures { IsTrue result → SerialsDiffer self.now.passes }
+        ensures rise { result ≡ rise self.now.serials }
+        ensures differ { IsTrue result → SerialsDiffer self.now.passes }
     {
         self.is_rising
     }
@@ -170,6 +174,7 @@ impl HeldList {
     pub fn push(&mut self, note: PassNote)
         requires room { 0 < self.old.room }
         ensures passes { self.new.passes ≡ self.old.passes ++ note ∷ [] }
+        ensures serials { self.new.serials ≡ self.old.serials ++ note.serial ∷ [] }
         ensures room { self.old.room ≤ self.new.room + 1 }
     {
         self.is_rising = rises_with(&self.slots, self.is_rising, &note);
@@ -192,6 +197,7 @@ impl HeldList {
         ensures taken { IfSome result (λ note. self.new.passes ≡
             filter (λ g. not (g.serial == note.serial)) self.old.passes) }
         ensures none { IfNone result (self.new.passes ≡ self.old.passes) }
+        ensures serials { self.new.serials ≡ self.old.serials }
         ensures room { self.old.room ≤ self.new.room }
     {
         let Some(place) = place_of(&self.latest, (client, page.number())) else {

@@ -1,11 +1,16 @@
--- The last slot has the greatest number.
-use Rattle.std.proofs.Common.{rules, arith, ap}
-use Rattle.std.proofs.lemmas.Bool.{ltb-true}
-use Rattle.bp_trail.specs.Event.{Grant}
-use Rattle.bp_device.proofs.HeldRising.{rises-pushed}
+-- The last slot is the one to compare with.
+use Rattle.std.proofs.Common.{rules, ◌∙◌, ◌&&◌, ap, sym, nat_lt}
+use Rattle.bp_device.proofs.HeldRising.{rise-pushed}
 use Rattle.bp_device.proofs.held_list.rises_with.Goals as goal
 
 pub returns-then-is_rising : goal.returns-then-is_rising
-returns-then-is_rising c slot same below =
-    let less = ltb-true c.serial.result c.serial-then-is_rising.result below in
-    rises-pushed c.args.slots.now slot c.in-Some.last.now (c.requires c.if-is_rising.true) (search rules) (search rules) (omega (arith, less, c.serial.ensures, c.serial-then-is_rising.ensures, ap (λ (g : Grant). g.serial) same))
+returns-then-is_rising c =
+    let n = c.args.note.now.serial in
+    let more = rise-pushed c.args.slots.now c.in-Some.last.now n (search rules) (search rules) in
+    rw (c.serial.ensures, c.serial-then-is_rising.ensures) (sym (more ∙ ap (λ b. b && nat_lt c.in-Some.last.now.note.serial n) (sym c.requires ∙ c.if-is_rising.true)))
+
+pub returns-else-is_rising : goal.returns-else-is_rising
+returns-else-is_rising c =
+    let n = c.args.note.now.serial in
+    let more = rise-pushed c.args.slots.now c.in-Some.last.now n (search rules) (search rules) in
+    c.if-is_rising.false ∙ sym (more ∙ ap (λ b. b && nat_lt c.in-Some.last.now.note.serial n) (sym c.requires ∙ c.if-is_rising.false))

@@ -1,12 +1,12 @@
 -- The pass is the newest of its key.
-use Rattle.std.proofs.Common.{◌≡◌, [], ◌∷◌, ◌++◌, true, Some, refl, sym, ap, subst, ◌∙◌, arith, length, if◌then◌else◌}
-use Rattle.std.proofs.lemmas.List.{length-reverse}
+use Rattle.std.proofs.Common.{◌≡◌, [], ◌∷◌, ◌++◌, true, Some, sym, ap, subst, ◌∙◌, arith, length, if◌then◌else◌}
+use Rattle.std.proofs.lemmas.List.{length-reverse, map-append}
 use Rattle.std.specs.Prelude.{reverse}
 use Rattle.std.specs.HashMap.{get}
 use Rattle.bp_trail.specs.Script.{is_pass_of}
 use Rattle.bp_trail.proofs.Counting.{reverse-push}
 use Rattle.bp_device.specs.declared.held_list.Slot.{Slot}
-use Rattle.bp_device.specs.HeldLists.{HeldValue, MayRise, AreLinked, newest_of, passes_in, same_key}
+use Rattle.bp_device.specs.HeldLists.{HeldValue, AreLinked, newest_of, passes_in, same_key, rise, serials_in}
 use Rattle.bp_device.proofs.HeldSlots.{passes-append}
 use Rattle.bp_device.proofs.held_list.HeldList.push.Goals as goal
 
@@ -21,8 +21,10 @@ invariant_of-self c =
           ∙ ap (λ n. if is_pass_of q.0 q.1 c.args.note then Some n else get same_key c.self.inside.latest q) count
           ∙ ap (λ o. if is_pass_of q.0 q.1 c.args.note then Some (length (reverse items)) else o) (c.self.invariant.1 q)
           ∙ ap (newest_of q) (sym turned),
-      subst (MayRise c.rises_with-self-inside.result) (sym c.push_reserved.ensures.items)
-          (subst (λ ss. MayRise c.rises_with-self-inside.result (ss ++ slot ∷ [])) c.deref.ensures.value (c.rises_with-self-inside.ensures slot refl)),
+      c.rises_with-self-inside.ensures
+          ∙ ap (λ ss. rise (serials_in ss ++ c.args.note.serial ∷ [])) c.deref.ensures.value
+          ∙ ap rise (sym (map-append (λ (s : Slot). s.note.serial) items (slot ∷ [])))
+          ∙ ap (λ ss. rise (serials_in ss)) (sym c.push_reserved.ensures.items),
     )
 
 pub returns-clause-passes : goal.returns-clause-passes
@@ -30,3 +32,9 @@ returns-clause-passes c =
     let items = c.self.inside.slots.items in
     let slot : Slot = record { note = c.args.note; is_held = true; previous = c.in-Ok.previous } in
     ap passes_in c.push_reserved.ensures.items ∙ passes-append items (slot ∷ []) ∙ ap (λ (v : HeldValue). v.passes ++ c.args.note ∷ []) c.self.view_is
+
+pub returns-clause-serials : goal.returns-clause-serials
+returns-clause-serials c =
+    let items = c.self.inside.slots.items in
+    let slot : Slot = record { note = c.args.note; is_held = true; previous = c.in-Ok.previous } in
+    ap serials_in c.push_reserved.ensures.items ∙ map-append (λ (s : Slot). s.note.serial) items (slot ∷ []) ∙ ap (λ (v : HeldValue). v.serials ++ c.args.note.serial ∷ []) c.self.view_is

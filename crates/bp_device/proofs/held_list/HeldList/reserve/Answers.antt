@@ -1,13 +1,11 @@
 -- The slots stay, and the table finds what it found.
 use Rattle.std.proofs.Common.{sym, ap, subst, ◌∙◌, reverse}
-use Rattle.bp_frames.specs.Rising.{IsRisingBy}
-use Rattle.bp_device.specs.HeldLists.{AreLinked, newest_of}
-use Rattle.bp_device.proofs.HeldRising.{serial_of}
+use Rattle.bp_device.specs.HeldLists.{AreLinked, newest_of, rise, serials_in}
 use Rattle.bp_device.proofs.held_list.HeldList.reserve.Goals as goal
 
 pub invariant_of-self-2 : goal.invariant_of-self-2
 invariant_of-self-2 c = (
   subst (λ slots. AreLinked (reverse slots)) (sym c.reserve.ensures.items) c.self.invariant.0,
   λ k. c.reserve-2.ensures.entries.2 k ∙ c.self.invariant.1 k ∙ ap (λ slots. newest_of k (reverse slots)) (sym c.reserve.ensures.items),
-  λ rises. subst (IsRisingBy serial_of) (sym c.reserve.ensures.items) (c.self.invariant.2 rises),
+  c.self.invariant.2 ∙ ap (λ slots. rise (serials_in slots)) (sym c.reserve.ensures.items),
 )
