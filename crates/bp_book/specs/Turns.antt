@@ -64,11 +64,6 @@ abbrev pub fix_refuses : Refusal → Bool
 fix_refuses refusal.NoVictim = true
 fix_refuses why = flush_refuses why
 
--- somebody else has the page in flight
-abbrev pub is_busy : Refusal → Bool
-is_busy refusal.Busy = true
-is_busy _ = false
-
 -- one fix event
 abbrev pub AskFixOutcome : ℕ → ℕ → Result Fixing Refusal → Trail → Trail → Type 0
 AskFixOutcome client page (Ok (fixing.Hit pass)) said after =

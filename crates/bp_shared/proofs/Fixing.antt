@@ -1,5 +1,5 @@
 -- A fix, turn by turn.
-use Rattle.std.proofs.Common.{◌≡◌, refl, sym, ap, subst, ◌∙◌, ℕ, true, false, List, [], ◌∷◌, ◌++◌, append_assoc, Option, Some, None, Result, Ok, Err}
+use Rattle.std.proofs.Common.{◌≡◌, ◌≢◌, refl, sym, ap, ◌∙◌, ℕ, true, false, List, [], ◌∷◌, ◌++◌, append_assoc, Option, Some, None, Result, Ok, Err}
 use Rattle.bp_page.specs.declared.refusals.Refusal.{Refusal}
 use Rattle.bp_page.specs.declared.refusals.Refusal.TheVariants as refusal
 use Rattle.bp_page.specs.declared.refusals.PortFault.{PortFault}
@@ -20,7 +20,7 @@ use Rattle.bp_trail.specs.Pieces.Manner.{session}
 use Rattle.bp_trail.specs.Pieces.FixGoesOn.{begins, marked, waited, cleaned, still_dirty}
 use Rattle.bp_trail.specs.Pieces.FixPiece.{hit, fixed, no_victim, need_log, read_failed, wrong_page, write_failed, lost_read, lost_write, no_room, no_memory}
 use Rattle.bp_book.specs.Books.{OwesRead, OwesWrite}
-use Rattle.bp_book.specs.Turns.{is_busy, FixTurn, EndReadOutcome, EndWriteOutcome, LoadOutcome, WriteOutOutcome}
+use Rattle.bp_book.specs.Turns.{FixTurn, EndReadOutcome, EndWriteOutcome, LoadOutcome, WriteOutOutcome}
 use Rattle.bp_shared.proofs.Turning.{FixWaits, FixTurns, fix_marked}
 use Rattle.bp_shared.specs.Sessions.{FixSaid}
 use Rattle.bp_core.specs.Added.{Gives}
@@ -65,24 +65,19 @@ hit_said client page pass said after t =
       record { piece = e ∷ w.piece; grows = t.asks.2 ∙ ap (λ es. e ∷ es) w.grows; of_row = hit pass.serial w.goes_on; gives = λ s. ap (λ gs. grant client page pass.serial ∷ gs) (gives_none client page w.piece w.goes_on s) },
     )
 
-pub is-busy : (why : Refusal) → is_busy why ≡ true → why ≡ refusal.Busy
-is-busy refusal.Busy h = refl
-is-busy _ h = absurd (let no : false ≡ true = h in cc)
-
-pub busy_waits : (client page : ℕ) (why : Refusal) (said after : Trail) → is_busy why ≡ true → FixTurns client page (Err why) said after → FixWaits client page said after
-busy_waits client page why said after busy turn =
-    let t = subst (λ (r : Refusal). FixTurns client page (Err r) said after) (is-busy why busy) turn in
+pub busy_waits : (client page : ℕ) (said after : Trail) → FixTurns client page (Err refusal.Busy) said after → FixWaits client page said after
+busy_waits client page said after t =
     let e = by client (Fix page) Busy in
     record { piece = e ∷ t.waits.piece; goes_on = waited refl t.waits.goes_on; grows = t.asks.1 ∙ ap (λ es. e ∷ es) t.waits.grows }
 
-pub refused_said : (client page : ℕ) (why : Refusal) (said after : Trail) → is_busy why ≡ false → FixTurns client page (Err why) said after → FixSaid client page (Err why) said after
+pub refused_said : (client page : ℕ) (why : Refusal) (said after : Trail) → why ≢ refusal.Busy → FixTurns client page (Err why) said after → FixSaid client page (Err why) said after
 refused_said client page refusal.NoVictim said after not t =
     let w = t.waits in
     let e = by client (Fix page) NoVictim in record { piece = e ∷ w.piece; grows = t.asks.1 ∙ ap (λ es. e ∷ es) w.grows; of_row = (no_victim w.goes_on, tt); gives = gives_none client page w.piece w.goes_on }
 refused_said client page (refusal.NeedLog lsn) said after not t =
     let w = t.waits in
     let e = by client (Fix page) (NeedLog lsn) in record { piece = e ∷ w.piece; grows = t.asks.1 ∙ ap (λ es. e ∷ es) w.grows; of_row = (need_log lsn w.goes_on, refl); gives = gives_none client page w.piece w.goes_on }
-refused_said client page refusal.Busy said after not t = absurd (let no : true ≡ false = not in cc)
+refused_said client page refusal.Busy said after not t = absurd (not refl)
 refused_said client page refusal.TrailFull said after not t =
     let w = t.waits in record { piece = w.piece; grows = t.asks.1 ∙ w.grows; of_row = (no_room w.goes_on, tt); gives = gives_none client page w.piece w.goes_on }
 refused_said client page refusal.OutOfMemory said after not t =

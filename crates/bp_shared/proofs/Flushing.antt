@@ -1,5 +1,5 @@
 -- A flush, turn by turn.
-use Rattle.std.proofs.Common.{◌≡◌, refl, sym, ap, subst, ◌∙◌, ℕ, true, false, [], ◌∷◌, ◌++◌, append_assoc, None, Result, Ok, Err}
+use Rattle.std.proofs.Common.{◌≡◌, ◌≢◌, refl, sym, ap, ◌∙◌, ℕ, true, false, [], ◌∷◌, ◌++◌, append_assoc, None, Result, Ok, Err}
 use Rattle.bp_page.specs.declared.refusals.Refusal.{Refusal}
 use Rattle.bp_page.specs.declared.refusals.Refusal.TheVariants as refusal
 use Rattle.bp_page.specs.declared.refusals.PortFault.{PortFault}
@@ -18,12 +18,11 @@ use Rattle.bp_trail.specs.Pieces.FlushGoesOn.{begins, marked, waited}
 use Rattle.bp_trail.specs.Pieces.FlushPiece.{clean, absent, cleaned, still_dirty, need_log, write_failed, lost_write, no_room, no_memory}
 use Rattle.bp_trail.specs.declared.entries.Flushed.{Flushed}
 use Rattle.bp_trail.specs.declared.entries.Flushed.TheVariants as flushed
-use Rattle.bp_book.specs.Turns.{is_busy, FlushTurn, EndWriteOutcome, WriteOutOutcome}
+use Rattle.bp_book.specs.Turns.{FlushTurn, EndWriteOutcome, WriteOutOutcome}
 use Rattle.bp_shared.proofs.Turning.{FlushWaits, FlushTurns, flush_marked}
 use Rattle.bp_shared.specs.Sessions.{FlushSaid}
 use Rattle.bp_core.specs.Added.{Gives, ended_reply, flushed_reply}
 use Rattle.bp_core.specs.Work.{Writes}
-use Rattle.bp_shared.proofs.Fixing.{is-busy}
 
 goes_on-append : (client page : ℕ) (xs ys : Trail) → FlushGoesOn session client page xs → FlushGoesOn session client page ys → FlushGoesOn session client page (xs ++ ys)
 goes_on-append client page _ ys begins q = q
@@ -59,17 +58,16 @@ absent_said client page said after t =
     let w = t.waits in
     let e = by client (Flush page) Absent in record { piece = e ∷ w.piece; grows = t.asks ∙ ap (λ es. e ∷ es) w.grows; of_row = (absent w.goes_on, refl); gives = gives_none client page w.piece w.goes_on }
 
-pub flush_busy_waits : (client page : ℕ) (why : Refusal) (said after : Trail) → is_busy why ≡ true → FlushTurns client page (Err why) said after → FlushWaits client page said after
-flush_busy_waits client page why said after busy turn =
-    let t = subst (λ (r : Refusal). FlushTurns client page (Err r) said after) (is-busy why busy) turn in
+pub flush_busy_waits : (client page : ℕ) (said after : Trail) → FlushTurns client page (Err refusal.Busy) said after → FlushWaits client page said after
+flush_busy_waits client page said after t =
     let e = by client (Flush page) Busy in
     record { piece = e ∷ t.waits.piece; goes_on = waited refl t.waits.goes_on; grows = t.asks.1 ∙ ap (λ es. e ∷ es) t.waits.grows }
 
-pub flush_refused_said : (client page : ℕ) (why : Refusal) (said after : Trail) → is_busy why ≡ false → FlushTurns client page (Err why) said after → FlushSaid client page (Err why) said after
+pub flush_refused_said : (client page : ℕ) (why : Refusal) (said after : Trail) → why ≢ refusal.Busy → FlushTurns client page (Err why) said after → FlushSaid client page (Err why) said after
 flush_refused_said client page (refusal.NeedLog lsn) said after not t =
     let w = t.waits in
     let e = by client (Flush page) (NeedLog lsn) in record { piece = e ∷ w.piece; grows = t.asks.1 ∙ ap (λ es. e ∷ es) w.grows; of_row = (need_log lsn w.goes_on, refl); gives = gives_none client page w.piece w.goes_on }
-flush_refused_said client page refusal.Busy said after not t = absurd (let no : true ≡ false = not in cc)
+flush_refused_said client page refusal.Busy said after not t = absurd (not refl)
 flush_refused_said client page refusal.TrailFull said after not t =
     let w = t.waits in record { piece = w.piece; grows = t.asks.1 ∙ w.grows; of_row = (no_room w.goes_on, tt); gives = gives_none client page w.piece w.goes_on }
 flush_refused_said client page refusal.OutOfMemory said after not t =

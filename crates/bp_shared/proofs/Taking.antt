@@ -23,14 +23,14 @@ one_more before [] piece = refl
 one_more before (p ∷ ps) piece = one_more (reverse p.items ++ before) ps piece
 
 pub handed_out : {A B P : Type 0} (name : RingName) (before : Trail) (pieces now : Producer (Vec Entry A) B P)
-    (piece : Vec Entry A) (old mid new : CoreView) → IsHandedOut name before pieces old → mid.before ≡ old.before
-    → Cuts mid piece.items new → ring_of now ≡ ring_of pieces → IsEmptied now → sent now ≡ sent pieces ++ piece ∷ []
+    (piece : Vec Entry A) (old new : CoreView) → IsHandedOut name before pieces old
+    → Cuts old piece.items new → ring_of now ≡ ring_of pieces → IsEmptied now → sent now ≡ sent pieces ++ piece ∷ []
     → IsHandedOut name before now new
-handed_out name before pieces now piece old mid new is same cut ring emptied more = record {
+handed_out name before pieces now piece old new is cut ring emptied more = record {
   ring_is = ring ∙ is.ring_is;
   emptied = emptied;
   pieces_are = ap (λ (n : CoreView). n.before) cut.is ∙ sym cut.whole
-      ∙ ap (λ (b : Trail). reverse piece.items ++ b) (same ∙ is.pieces_are)
+      ∙ ap (λ (b : Trail). reverse piece.items ++ b) is.pieces_are
       ∙ sym (one_more before (sent pieces) piece) ∙ ap (after_pieces before) (sym more);
 }
 
@@ -62,26 +62,11 @@ comes_next c had has mid new entries same is more takes cut = record { one_more 
         (subst (λ p. LeadsOn p (standing p mid.before) (reverse entries) (standing new.parameters new.before)) same
         cut.leads_on)))
 
--- why a cut was refused, in the words of its taker
-pub gave_too_many : (c : Parameters) (had : TakerValue) (mid core : CoreView) (entries : List Entry) → mid.parameters ≡ c
-    → had.past ≡ mid.before → length entries ≤ core.parameters.room → reverse entries ++ core.before ≡ core.past → Legal core.parameters core.past
-    → CutRefused mid refusal.ClockFull core → GaveTooMany c had
-gave_too_many c had mid core entries same is fits whole legal refused = record {
-  past = mid.past;
-  piece = reverse entries;
-  goes_on =
-      sym (subst (λ (n : CoreView). reverse entries ++ n.before ≡ n.past) refused.1 whole)
-      ∙ ap (λ b. reverse entries ++ b) (sym is);
-  fits = subst (λ n. n ≤ c.room) (sym (length-reverse entries)) (subst (λ p. length entries ≤ p.room) same (subst (λ (n : CoreView). length entries ≤ n.parameters.room) refused.1 fits));
-  legal = subst (λ p. Legal p mid.past) same (subst (λ (n : CoreView). Legal n.parameters n.past) refused.1 legal);
-  many = refused.0;
-}
-
-pub still_locked : (mark : MarkName) (c : Parameters) (old mid new : CoreView) (reader : ReaderValue) (entries : List Entry) → IsLocked mark c old reader → mid.parameters ≡ old.parameters → durable mid.past ≡ durable old.past → Cuts mid entries new
+pub still_locked : (mark : MarkName) (c : Parameters) (old new : CoreView) (reader : ReaderValue) (entries : List Entry) → IsLocked mark c old reader → Cuts old entries new
     → IsLocked mark c new reader
-still_locked mark c old mid new reader entries is same as_durable cut =
+still_locked mark c old new reader entries is cut =
     record {
       reader_is = is.reader_is;
-      parameters_are = ap (λ (n : CoreView). n.parameters) cut.is ∙ same ∙ is.parameters_are;
-      seen = subst (λ n. n ≤ reader.seen) (sym (ap (λ (n : CoreView). durable n.past) cut.is ∙ as_durable)) is.seen;
+      parameters_are = ap (λ (n : CoreView). n.parameters) cut.is ∙ is.parameters_are;
+      seen = subst (λ n. n ≤ reader.seen) (sym (ap (λ (n : CoreView). durable n.past) cut.is)) is.seen;
     }

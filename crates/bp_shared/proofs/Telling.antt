@@ -255,9 +255,9 @@ shown_drained board start b past mid s d = record {
   each = λ c. ap (of_client c) (told-append d.back s.since ∙ ap (λ es. es ++ told s.since) d.untold) ∙ s.each c;
 }
 
--- the rings were drained, and then the core was cut
-pub shown_cut : (board : ℕ) (start : Trail) (b : Board) (past : Trail) (mid new : CoreView) (entries : List Entry) → IsShown board start b past → AddsUnfixes past mid.past → Cuts mid entries new → IsShown board start b new.past
-shown_cut board start b past mid new entries s d cut = subst (λ p. IsShown board start b p) (sym (ap (λ (core : CoreView). core.past) cut.is)) (shown_drained board start b past mid.past s d)
+-- the core was cut
+pub shown_cut : (board : ℕ) (start : Trail) (b : Board) (old new : CoreView) (entries : List Entry) → IsShown board start b old.past → Cuts old entries new → IsShown board start b new.past
+shown_cut board start b old new entries s cut = subst (λ p. IsShown board start b p) (sym (ap (λ (core : CoreView). core.past) cut.is)) s
 
 -- a board with no entries, of a pool that was just made
 pub shown_none : (board : ℕ) (start : Trail) (b : Board) (past : Trail) → b.name ≡ board → IsBlank b.lists → past ≡ start → IsShown board start b past

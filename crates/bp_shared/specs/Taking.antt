@@ -14,7 +14,7 @@ use Rattle.bp_trail.specs.Legal.{Legal}
 use Rattle.bp_trail.specs.Standing.{standing}
 use Rattle.bp_core.specs.CoreView.{CoreView}
 use Rattle.bp_core.specs.Outcomes.{Cuts}
-use Rattle.bp_shared.specs.Locked.{LockedValue, Drained}
+use Rattle.bp_shared.specs.Locked.{LockedValue}
 
 -- the name by which a ring is told from every other
 pub record RingName : Type 0 where
@@ -81,14 +81,11 @@ pub record GaveTooMany (c : Parameters) (had : TakerValue) : Type 0 where
   pub legal : Legal c past
   pub many : (2 ^ 62 < passes past) ⊎ (2 ^ 62 < tickets past)
 
--- the rings were drained, then the core was cut; and its taker, which had all that was handed out,
--- got exactly that piece
+-- the core was cut, and its taker, which had all that was handed out, got exactly that piece
 pub record HandsOut (old : LockedValue) (had : TakerValue) (entries : List Entry)
     (new : LockedValue) (has : TakerValue) : Type 0 where
-  pub mid : LockedValue
-  pub drained : Drained old mid
-  pub cuts : Cuts mid.core entries new.core
-  pub rings_stay : (new.rings ≡ mid.rings) × (new.strays ≡ mid.strays)
-  pub ends_stay : new.ends ≡ mid.ends
+  pub cuts : Cuts old.core entries new.core
+  pub rings_stay : (new.rings ≡ old.rings) × (new.strays ≡ old.strays)
+  pub ends_stay : new.ends ≡ old.ends
   pub had_all : had.past ≡ old.core.before
   pub takes : has.past ≡ reverse entries ++ had.past

@@ -3,7 +3,6 @@ ghost use Rattle.std.specs.Prelude.{◌≡◌, [], IfOk, OnOk, OnErr};
 ghost use Rattle.bp_page.specs.declared.refusals.Refusal.TheVariants as Refusal;
 ghost use Rattle.bp_shared.specs.Sessions.{new_sessions};
 ghost use Rattle.bp_shared.specs.Telling.{IsBlank};
-ghost use Rattle.bp_book.specs.Turns.{is_busy};
 
 use crate::closed_pool::ClosedPool;
 use crate::locked_pool::LockedPool;
@@ -28,16 +27,6 @@ mod fixing;
 mod flushing;
 mod pieces;
 mod single;
-
-/// Whether somebody else has the page in flight.
-fn is_busy(refusal: &Refusal) -> bool
-    ensures { result ≡ is_busy refusal.now }
-{
-    match refusal {
-        Refusal::Busy => true,
-        _ => false,
-    }
-}
 
 /// A session for each client, with the next line of the board, and the taking end of its ring, in order.
 fn new_clients<N: PoolName, K: ListKeeper>(

@@ -1,26 +1,26 @@
 //! The critical section in which the trail is handed out.
 ghost use Rattle.std.specs.Prelude.{◌≡◌, ◌≤◌, IfOk, OnErr, vec_capacity};
 ghost use Rattle.bp_page.specs.declared.refusals.Refusal.TheVariants as Refusal;
-ghost use Rattle.bp_shared.specs.Locked.{Drained};
+ghost use Rattle.bp_shared.specs.Locked.{IsDrained};
 ghost use Rattle.bp_shared.specs.Taking.{HandsOut, ComesNext, GaveTooMany};
 
 use super::LockedPool;
 use crate::names::PoolName;
 use crate::taker::Taker;
 use crate::trail_ring::{join_ends, pass_on};
-use bp_book::draining::{ALL, drain_all};
 use bp_core::Entry;
 use bp_keeper::RecordingKeeper;
 use bp_page::Refusal;
 
 impl<N: PoolName> LockedPool<N, RecordingKeeper> {
-    /// Drains the rings, and hands the trail to the taker. The core goes on in the spare's memory, and takes none.
-    /// `ClockFull` where more than 2^62 passes or tickets were given: then the rings are drained, and no more.
+    /// Hands the trail to the taker. The core goes on in the spare's memory, and takes none. `ClockFull` where more than
+    /// 2^62 passes or tickets were given, which changes nothing.
     pub(crate) fn cut(
         &mut self,
         taker: &mut Taker<N>,
         spare: Vec<Entry>,
     ) -> Result<Vec<Entry>, Refusal>
+        requires drained { IsDrained self.old }
         requires room { N.parameters.room ≤ vec_capacity spare }
         ensures done { IfOk result (λ entries.
             HandsOut self.old taker.old entries.items self.new taker.new) }
@@ -29,10 +29,9 @@ impl<N: PoolName> LockedPool<N, RecordingKeeper> {
             ComesNext N.parameters taker.old entries.items taker.new) }
         ensures refused { OnErr result (result ≡ Err Refusal.ClockFull) }
         ensures cause { OnErr result (GaveTooMany N.parameters taker.old) }
-        ensures drained { OnErr result (Drained self.old self.new) }
+        ensures same { OnErr result (self.new ≡ self.old) }
         ensures unchanged { OnErr result (taker.new ≡ taker.old) }
     {
-        drain_all(&mut self.core, &mut self.strays, &mut self.consumers, ALL);
         let entries = match self.core.cut_into(spare) {
             Ok(entries) => entries,
             Err(refusal) => {

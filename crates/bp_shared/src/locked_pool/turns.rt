@@ -55,10 +55,7 @@ impl<N: PoolName, K: ListKeeper> LockedPool<N, K> {
         ensures in_step { InStep (FixStep book.old.client page self.new.seen result)
             self.old book.old.said self.new book.new.said }
     {
-        match book.look(&mut self.core, &mut self.reader, mark) {
-            Ok(()) => {}
-            Err(refusal) => return Err(refusal),
-        }
+        book.look(&mut self.core, &mut self.reader, mark)?;
         let answer = book.ask_fix(&mut self.core, page);
         self.board.write::<Book<K>, Told>(line, book);
         answer
@@ -88,10 +85,7 @@ impl<N: PoolName, K: ListKeeper> LockedPool<N, K> {
         ensures in_step { InStep (FlushStep book.old.client page self.new.seen result)
             self.old book.old.said self.new book.new.said }
     {
-        match book.look(&mut self.core, &mut self.reader, mark) {
-            Ok(()) => {}
-            Err(refusal) => return Err(refusal),
-        }
+        book.look(&mut self.core, &mut self.reader, mark)?;
         let answer = book.ask_flush(&mut self.core, page);
         self.board.write::<Book<K>, Told>(line, book);
         answer

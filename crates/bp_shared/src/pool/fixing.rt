@@ -1,7 +1,7 @@
 //! Fixes of shared pages, with their device work.
 ghost use Rattle.std.specs.Prelude.{◌≡◌, ◌<◌};
 
-use super::{SharedPool, is_busy};
+use super::SharedPool;
 use crate::names::PoolName;
 use crate::session::Session;
 use bp_book::{Fix, PendingRead, PendingWrite};
@@ -118,15 +118,14 @@ impl<N: PoolName, K: ListKeeper> SharedPool<N, K> {
             match self.ask_fix(rt, session, page) {
                 Ok(Fix::Hit(pass)) => return Ok(pass),
                 Ok(Fix::Load(ticket, _)) => return self.load(rt, session, port, ticket),
-                Ok(Fix::WriteFirst(ticket)) => match self.write_out(rt, session, port, ticket) {
-                    Ok(_) => {}
-                    Err(refusal) => return Err(refusal),
-                },
-                Err(refusal) => {
-                    if !is_busy(&refusal) {
-                        return Err(refusal);
-                    }
+                Ok(Fix::WriteFirst(ticket)) => {
+                    self.write_out(rt, session, port, ticket)?;
                 }
+                Err(refusal) => match refusal {
+                    // Some device work has ended: ask again.
+                    Refusal::Busy => {}
+                    other => return Err(other),
+                },
             }
         }
         unreachable!()

@@ -2,7 +2,7 @@
 ghost use Rattle.std.specs.Prelude.{◌≡◌};
 ghost use Rattle.bp_core.specs.Added.{ended_reply, flushed_reply};
 
-use super::{SharedPool, is_busy};
+use super::SharedPool;
 use crate::names::PoolName;
 use crate::session::Session;
 use bp_book::Flush;
@@ -76,16 +76,14 @@ impl<N: PoolName, K: ListKeeper> SharedPool<N, K> {
                 Ok(Flush::Clean) => return Ok(Flushed::Clean),
                 Ok(Flush::Absent) => return Ok(Flushed::Absent),
                 Ok(Flush::WriteFirst(ticket)) => {
-                    match self.write_out(rt, session, port, ticket) {
-                        Ok(ended) => return Ok(flushed_by(ended)),
-                        Err(refusal) => return Err(refusal),
-                    }
+                    let ended = self.write_out(rt, session, port, ticket)?;
+                    return Ok(flushed_by(ended));
                 }
-                Err(refusal) => {
-                    if !is_busy(&refusal) {
-                        return Err(refusal);
-                    }
-                }
+                Err(refusal) => match refusal {
+                    // Some device work has ended: ask again.
+                    Refusal::Busy => {}
+                    other => return Err(other),
+                },
             }
         }
         unreachable!()

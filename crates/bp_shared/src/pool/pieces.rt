@@ -2,6 +2,7 @@
 use super::SharedPool;
 use crate::names::PoolName;
 use crate::taker::Taker;
+use bp_book::draining::ALL;
 use bp_core::Entry;
 use bp_keeper::RecordingKeeper;
 use bp_page::Refusal;
@@ -51,6 +52,9 @@ impl<N: PoolName> SharedPool<N, RecordingKeeper> {
         let mut empty = spare;
         empty.clear();
         empty.reserve_exact(self.room)?;
-        self.state.lock(rt).cut(taker, empty)
+        // With no pause before it: clients at work would fill the room meanwhile.
+        let mut state = self.state.lock(rt);
+        state.drain(ALL);
+        state.cut(taker, empty)
     }
 }

@@ -1,7 +1,11 @@
 -- At most one mark, one event.
-use Rattle.std.proofs.Common.{rules, refl, sym, inl, inr, ◌∙◌, subst}
+use Rattle.std.proofs.Common.{rules, refl, sym, ap, inl, inr, ◌∙◌, subst, Err}
+use Rattle.std.proofs.lemmas.Result.{err_from_is_err_and}
 use Rattle.bp_book.specs.declared.pending.Fix.{Fix as Fixing}
+use Rattle.bp_book.specs.Causes.{AsksFix}
+use Rattle.bp_book.specs.Turns.{FixTurn}
 use Rattle.bp_core.specs.CoreView.{CoreView}
+use Rattle.bp_shared.specs.Locked.{LooksFirst}
 use Rattle.bp_shared.specs.Telling.{IsShown}
 use Rattle.bp_shared.proofs.Stepping.{step_one, step_two, look_refused, looked, marks_once, not_looked}
 use Rattle.bp_shared.proofs.Telling.{OneMore, same_core, adds_one, adds_both, look_one, ask_fix_one, line_written, shown_more}
@@ -10,7 +14,7 @@ use Rattle.bp_shared.proofs.locked_pool.LockedPool.fix.Goals as goal
 
 pub invariant_of-self : goal.invariant_of-self
 invariant_of-self g c =
-    let nothing = not_looked (Unit {0}) c.args.book.now.client _ c.self.inside.core _ _ _ c.in-Err.ensures.outcome in
+    let nothing = not_looked (Unit {0}) c.args.book.now.client _ c.self.inside.core _ _ _ c.in_err-look.ensures.outcome in
     let still = same_core c.self.inside.core c.look.new.core _ _ c.look.ensures.alike nothing.1 in
     (search rules, search rules, subst (λ (core : CoreView). IsShown g.N.PoolName.ring.board g.N.PoolName.past c.self.inside.board core.past) (sym still) c.self.invariant.2)
 
@@ -24,20 +28,24 @@ invariant_of-self-2 g c =
 pub returns-clause-line : goal.returns-clause-line
 returns-clause-line g c = line_written _ _ _ _ _ _ _ _ _ c.requires.line c.write.ensures (c.ask_fix-answer.ensures.owner.client ∙ c.look.ensures.owner.client)
 
-pub returns-in-Err-clause-turn : goal.returns-in-Err-clause-turn
-returns-in-Err-clause-turn g c = fix_not_looked (Unit {0}) _ _ _ c.self.inside.core _ _ _ c.in-Err.ensures.outcome
+pub returns-in_err-look-clause-turn : goal.returns-in_err-look-clause-turn
+returns-in_err-look-clause-turn g c =
+    let is = err_from_is_err_and c.from_residual.result c.from_residual.ensures.1 in
+    subst (λ r. FixTurn c.args.book.now.client c.args.page r c.args.book.now.said c.look.new.self.said) (sym (is.1 ∙ ap Err is.2))
+    (fix_not_looked (Unit {0}) _ _ _ c.self.inside.core _ _ _ c.in_err-look.ensures.outcome)
 
-pub returns-in-Err-clause-in_step : goal.returns-in-Err-clause-in_step
-returns-in-Err-clause-in_step g c =
-    let looks = look_refused (Unit {0}) Fixing c.args.book.now.client _ _ _ _ c.in-Err.ensures.looks in
-    rw (← c.self.view_is) (step_one _ _ _ _ _ refl refl (inl (refl, looks)) c.look.ensures.alike)
+pub returns-in_err-look-clause-in_step : goal.returns-in_err-look-clause-in_step
+returns-in_err-look-clause-in_step g c =
+    let is = err_from_is_err_and c.from_residual.result c.from_residual.ensures.1 in
+    let looks = look_refused (Unit {0}) Fixing c.args.book.now.client _ _ _ _ c.in_err-look.ensures.looks in
+    rw (← c.self.view_is) (step_one _ _ _ _ _ refl refl (subst (λ r. LooksFirst c.args.book.now.client c.look.new.reader.seen r (AsksFix c.args.book.now.client c.args.page r) c.self.inside.core c.look.new.core) (sym (is.1 ∙ ap Err is.2)) (inl (refl, looks))) c.look.ensures.alike)
 
 pub returns-clause-turn : goal.returns-clause-turn
 returns-clause-turn g c =
-    record { marked = c.look.new.self.said; marks = marks_once _ _ c.self.inside.core _ _ _ _ c.in-Ok.is c.look.ensures.outcome; asks = rw (c.look.ensures.owner.client) at c.ask_fix-answer.ensures.outcome }
+    record { marked = c.look.new.self.said; marks = marks_once _ _ c.self.inside.core _ _ _ _ c.in_ok-look.was c.look.ensures.outcome; asks = rw (c.look.ensures.owner.client) at c.ask_fix-answer.ensures.outcome }
 
 pub returns-clause-in_step : goal.returns-clause-in_step
 returns-clause-in_step g c =
-    let looks = looked _ _ _ _ _ _ c.in-Ok.is c.look.ensures.looks in
+    let looks = looked _ _ _ _ _ _ c.in_ok-look.was c.look.ensures.looks in
     let asked = rw (c.look.ensures.owner.client) at c.ask_fix-answer.ensures.asked in
     rw (← c.self.view_is) (step_two _ _ _ _ _ _ _ refl refl (inr (_, looks, asked)) c.look.ensures.alike c.ask_fix-answer.ensures.alike)
