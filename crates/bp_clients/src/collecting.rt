@@ -77,10 +77,7 @@ pub(crate) fn collect<N: PoolName, P: Port>(
     ensures fault { IfErr result (NotAdded (SomeDisagrees trail.now jobs.items)) }
 {
     for job in jobs {
-        match add_left(trail, job, said, refused) {
-            Ok(()) => {}
-            Err(refusal) => return Err(refusal),
-        }
+        add_left(trail, job, said, refused)?;
     }
     Ok(())
 }

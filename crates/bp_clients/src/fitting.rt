@@ -7,6 +7,7 @@ ghost use Rattle.bp_clients.specs.Jobs.{lists, EachScriptFits, RowFitsClient, Sc
 ghost use Rattle.bp_clients.specs.Runs.{run_parameters};
 
 use crate::run::Config;
+use bp_core::config::MAX_CLIENTS;
 use bp_core::{Row, Step};
 use bp_page::{Geometry, PageNo};
 
@@ -77,7 +78,7 @@ pub fn scripts_fit(config: &Config, scripts: &[Vec<Row>]) -> bool
     ensures { IsTrue result ↔ ((0 < length scripts.now) × (length scripts.now ≤ 64) ×
         EachScriptFits (run_parameters config.now (length scripts.now)) (lists scripts.now)) }
 {
-    if scripts.is_empty() || scripts.len() > 64 {
+    if scripts.is_empty() || scripts.len() > MAX_CLIENTS as usize {
         return false;
     }
     for client in 0..scripts.len() {

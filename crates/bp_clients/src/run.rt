@@ -121,10 +121,7 @@ fn joined<N: PoolName, P: Port>(
 {
     let mut said = said;
     let mut refused = refused;
-    match collect(core.trail(), jobs, &mut said, &mut refused) {
-        Ok(()) => {}
-        Err(refusal) => return Err(refusal),
-    }
+    collect(core.trail(), jobs, &mut said, &mut refused)?;
     refused.sort_unstable_by_key(|refused| refused.row);
     Ok(Outcome {
         trail: core.into_trail(),
@@ -164,10 +161,7 @@ fn run_pool<N: PoolName + Send + Sync, P: Port + Send, R: Threads + Wait + Sync>
     ensures refused { OnErr result ((result ≡ Err Refusal.OutOfMemory) ⊎
         (result ≡ Err Refusal.Disagree)) }
 {
-    let (said, refused) = match empty_lists(alloc, jobs.len(), count_rows(&jobs)) {
-        Ok(empty) => empty,
-        Err(refusal) => return Err(refusal),
-    };
+    let (said, refused) = empty_lists(alloc, jobs.len(), count_rows(&jobs))?;
     let mut jobs = jobs;
     run_jobs(rt, &pool, jobs.as_mut_slice());
     let (core, _, _) = pool.finish(taker);
@@ -205,14 +199,9 @@ fn run_named<N: PoolName + Send + Sync, P: Port + Send, R: Threads + Wait + Sync
         reader,
         ring,
     } = parts;
-    let (pool, sessions, taker) = match SharedPool::<N>::new(alloc, core, mark, reader, ring) {
-        Ok(made) => made,
-        Err(refusal) => return Err(refusal),
-    };
-    match make_jobs(alloc, sessions, scripts, ports, LogWriter::new(end)) {
-        Ok(jobs) => run_pool(rt, alloc, pool, taker, jobs),
-        Err(refusal) => Err(refusal),
-    }
+    let (pool, sessions, taker) = SharedPool::<N>::new(alloc, core, mark, reader, ring)?;
+    let jobs = make_jobs(alloc, sessions, scripts, ports, LogWriter::new(end))?;
+    run_pool(rt, alloc, pool, taker, jobs)
 }
 
 /// Runs the clients of one pool, each in a thread of its own: client c runs `scripts[c]` over
@@ -246,20 +235,14 @@ pub fn run_clients<P: Port + Send, R: Threads + Wait + Sync>(
     ensures answers { RunAnswers (run_parameters config (vec_len scripts)) result }
 {
     let clients = scripts.len() as u8;
-    let core = match Core::new(
+    let core = Core::new(
         alloc,
         config.geometry,
         config.settings,
         config.frames,
         clients,
         config.room,
-    ) {
-        Ok(core) => core,
-        Err(refusal) => return Err(refusal),
-    };
-    let parts = match Parts::new(alloc) {
-        Ok(parts) => parts,
-        Err(refusal) => return Err(refusal),
-    };
+    )?;
+    let parts = Parts::new(alloc)?;
     run_named::<Brand, P, R>(rt, alloc, core, parts, scripts, ports)
 }

@@ -146,10 +146,8 @@ impl<N: PoolName, P: Port> Runner<N, P> {
             (outcome_of result) self.old.said self.new.said }
         ensures held { held_passes self.new.said ≡ held_passes self.old.said }
     {
-        match pool.flush(rt, &mut self.session, &mut self.port, page) {
-            Ok(_) => Ok(()),
-            Err(refusal) => Err(refusal),
-        }
+        pool.flush(rt, &mut self.session, &mut self.port, page)?;
+        Ok(())
     }
 
     /// The pass of the page that the client took latest and still holds.
@@ -257,10 +255,8 @@ impl<N: PoolName, P: Port> Runner<N, P> {
             (outcome_of result) self.old.said self.new.said }
         ensures held { held_passes self.new.said ≡ held_passes self.old.said }
     {
-        match pool.purge(rt, &mut self.session) {
-            Ok(_) => Ok(()),
-            Err(refusal) => Err(refusal),
-        }
+        pool.purge(rt, &mut self.session)?;
+        Ok(())
     }
 
     /// Raises the mark. Only client 0 has the log.

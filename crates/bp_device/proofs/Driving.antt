@@ -135,9 +135,9 @@ refusal-drives old mid new client page refusal.OutOfMemory waits h = adds-as old
 refusal-drives old mid new client page _ waits h = absurd h
 
 -- the refusal that a `?` hands on
-pub refusal-is : (result : Result Fixing Refusal) (why : Refusal) → IsErrAnd result (λ r. r ≡ why) → result ≡ Err why
-refusal-is (Ok fix) why is = absurd is
-refusal-is (Err r) why is = ap Err is
+pub handed_on : {A : Type 0} (result : Result A Refusal) (why : Refusal) → IsErrAnd result (λ r. r ≡ why) → result ≡ Err why
+handed_on (Ok done) why is = absurd is
+handed_on (Err r) why is = ap Err is
 
 -- any fix that asks for no write-out
 pub fix-drives : (old mid new : CoreView) (client page : ℕ) (result : Result Fixing Refusal) → Waits old client page mid → FixOutcome mid client page result new

@@ -237,7 +237,3 @@ log-drives old new held client lsn (Err _) h = absurd h
 
 pub purge-drives : (old new : CoreView) (held : List Grant) (client n : ℕ) → PurgeOutcome old client (Ok n) new → DrivesRow old client step.Purge accepted held held new
 purge-drives old new held client n h = one-drives old new held client step.Purge Purge (Forgot n) h.1.is (λ said. refl) (λ said are. (Forgot n, refl))
-
-pub purge_refused-drives : (old new : CoreView) (held : List Grant) (client : ℕ) (r : Refusal) → PurgeOutcome old client (Err r) new → DrivesRow old client step.Purge (outcome_of {A = Unit {0}} (Err r)) held held new
-purge_refused-drives old new held client refusal.TrailFull h = none-drives old new held client step.Purge (refused 20) h.1 (λ said are. (at-first 20 (22 ∷ []), refl))
-purge_refused-drives old new held client _ h = absurd h

@@ -31,19 +31,6 @@ flush-row-caused core page refusal.OutOfMemory h = h
 flush-row-caused core page refusal.ClockFull h = tt
 flush-row-caused core page _ h = tt
 
-pub read-row-caused : (old new : CoreView) (page : ℕ) (pass : Pass) (why : Refusal) → ReadOutcome old pass (Err why) new → RowCaused (step.Read page) why new
-read-row-caused old new page pass refusal.UnknownPass h = tt
-read-row-caused old new page pass refusal.TrailFull h = subst (LacksRoomFor 1) (sym h.1) h.0
-read-row-caused old new page pass refusal.OutOfMemory h = (subst (HasRoomFor 1) (sym h.2) h.0, tt)
-read-row-caused old new page pass _ h = absurd h
-
-pub write-row-caused : (old new : CoreView) (page offset : ℕ) (bytes : List ℕ) (lsn : ℕ) (pass : Pass) (why : Refusal) → WriteOutcome {A = Unit {0}} old pass offset bytes lsn (Err why) new
-    → RowCaused (step.Write page offset bytes lsn) why new
-write-row-caused old new page offset bytes lsn pass refusal.UnknownPass h = tt
-write-row-caused old new page offset bytes lsn pass refusal.TrailFull h = subst (LacksRoomFor 1) (sym h.1) h.0
-write-row-caused old new page offset bytes lsn pass refusal.OutOfMemory h = (subst (HasRoomFor 1) (sym h.2) h.0, tt)
-write-row-caused old new page offset bytes lsn pass _ h = absurd h
-
 pub tick-row-caused : (old new : CoreView) (client n : ℕ) (result : Result (Unit {0}) Refusal) → TickOutcome old client n result new → IfErr result (λ why. RowCaused (step.Tick n) why new)
 tick-row-caused old new client n (Ok done) h = tt
 tick-row-caused old new client n (Err refusal.TrailFull) h = subst (LacksRoomFor 1) (sym h.1) h.0
@@ -54,10 +41,6 @@ pub log-row-caused : (old new : CoreView) (client lsn : ℕ) (result : Result (U
 log-row-caused old new client lsn (Ok done) h = tt
 log-row-caused old new client lsn (Err refusal.TrailFull) h = subst (LacksRoomFor 1) (sym h.1) h.0
 log-row-caused old new client lsn (Err _) h = absurd h
-
-pub purge-row-caused : (old new : CoreView) (client : ℕ) (why : Refusal) → PurgeOutcome old client (Err why) new → RowCaused step.Purge why new
-purge-row-caused old new client refusal.TrailFull h = subst (LacksRoomFor 1) (sym h.1) h.0
-purge-row-caused old new client _ h = absurd h
 
 pub caused-none : (core : CoreView) → DrivesRowsCaused core [] [] [] core
 unfolding rows-none

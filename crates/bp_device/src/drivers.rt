@@ -123,17 +123,15 @@ pub fn drive_flush<K: Keeper, P: Port, R: Wait>(
     ensures work { DoesWork P.read_gives P.write_gives core.old port.old core.new port.new }
     ensures geometry { P.geometry_of port.new ≡ P.geometry_of port.old }
 {
-    match core.flush(client, page) {
-        Ok(Flush::Clean) => Ok(Flushed::Clean),
-        Ok(Flush::Absent) => Ok(Flushed::Absent),
-        Ok(Flush::WriteFirst(ticket)) => {
+    match core.flush(client, page)? {
+        Flush::Clean => Ok(Flushed::Clean),
+        Flush::Absent => Ok(Flushed::Absent),
+        Flush::WriteFirst(ticket) => {
             let written = port.write(rt, ticket.page(), ticket.image(), ticket.lsn());
-            match save(core, ticket, written) {
-                Ok(Ended::Cleaned) => Ok(Flushed::Cleaned),
-                Ok(Ended::StillDirty) => Ok(Flushed::StillDirty),
-                Err(refusal) => Err(refusal),
+            match save(core, ticket, written)? {
+                Ended::Cleaned => Ok(Flushed::Cleaned),
+                Ended::StillDirty => Ok(Flushed::StillDirty),
             }
         }
-        Err(refusal) => Err(refusal),
     }
 }

@@ -32,10 +32,7 @@ fn read_row<K: Keeper>(
     let pass = note.pass();
     let read = core.read(&pass);
     pass.note();
-    let _image = match read {
-        Ok(image) => image,
-        Err(refusal) => return Err(refusal),
-    };
+    read?;
     Ok(())
 }
 
@@ -62,10 +59,7 @@ fn write_row<K: Keeper>(
     let pass = note.pass();
     let written = core.write(&pass, offset, bytes, lsn);
     pass.note();
-    match written {
-        Ok(()) => Ok(()),
-        Err(refusal) => Err(refusal),
-    }
+    written
 }
 
 /// Gives back the pass of the page that the client took latest.
@@ -111,13 +105,9 @@ fn fix_row<K: Keeper, P: Port, R: Wait>(
     ensures work { DoesWork P.read_gives P.write_gives core.old port.old core.new port.new }
     ensures geometry { P.geometry_of port.new ≡ P.geometry_of port.old }
 {
-    match drive_fix(rt, core, port, client, page) {
-        Ok(pass) => {
-            held.push(pass.note());
-            Ok(())
-        }
-        Err(refusal) => Err(refusal),
-    }
+    let pass = drive_fix(rt, core, port, client, page)?;
+    held.push(pass.note());
+    Ok(())
 }
 
 /// Writes the page out.
@@ -137,10 +127,8 @@ fn flush_row<K: Keeper, P: Port, R: Wait>(
     ensures work { DoesWork P.read_gives P.write_gives core.old port.old core.new port.new }
     ensures geometry { P.geometry_of port.new ≡ P.geometry_of port.old }
 {
-    match drive_flush(rt, core, port, client, page) {
-        Ok(_) => Ok(()),
-        Err(refusal) => Err(refusal),
-    }
+    drive_flush(rt, core, port, client, page)?;
+    Ok(())
 }
 
 /// Moves the clock.
@@ -165,10 +153,8 @@ fn purge_row<K: Keeper>(core: &mut PoolCore<K>, held: &HeldList, client: u8) -> 
         (outcome_of result) held.now.passes held.now.passes core.new }
     ensures cause { IfErr result (λ why. RowCaused Step.Purge why core.new) }
 {
-    match core.purge(client) {
-        Ok(_) => Ok(()),
-        Err(refusal) => Err(refusal),
-    }
+    core.purge(client)?;
+    Ok(())
 }
 
 /// Marks the log durable as far as the row says.

@@ -20,19 +20,19 @@ use std::rt::Files;
 use std::sync::Wait;
 use thiserror::Error;
 
-/// Why a page file was not opened.
+/// Why a page file was not opened or made.
 #[derive(Clone, Copy, PartialEq, Eq, Debug, Error)]
 pub enum OpenFault {
     /// Its length, its geometry or the memory for it was refused.
     #[error("{0}")]
     Refused(Refusal),
-    /// It can't be opened, or a port to it could not be made.
+    /// It can't be opened or made, or a port to it could not be made.
     #[error("{0}")]
     Port(PortFault),
 }
 
-/// A client's way to a page file. In version 1 page p stands at byte p · size, as its bytes; in version 2 at byte p ·
-/// (size + 16), after its number and its page LSN.
+/// A client's way to a page file. In version 1 page p stands as its bytes, at byte p · size; in version 2 after its
+/// number and its page LSN, at byte p · (size + 16).
 #[derive(Drop)]
 pub struct FilePort {
     alloc: Global,
@@ -135,10 +135,10 @@ fn image_in(alloc: Global, format: Format, page: PageNo, slot: &[u8]) -> Result<
 {
     match format {
         Format::Plain => unslot(alloc, slot),
-        Format::Headed => match unslot2(alloc, page, slot) {
-            Ok((_, image)) => Ok(image),
-            Err(fault) => Err(fault),
-        },
+        Format::Headed => {
+            let (_, image) = unslot2(alloc, page, slot)?;
+            Ok(image)
+        }
     }
 }
 

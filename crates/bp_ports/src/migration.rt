@@ -70,10 +70,8 @@ pub fn migrate_told<I: Read, W: Write, P: Progress>(
     };
     for page in 0..geometry.pages {
         let number = PageNo::new(page);
-        match migrate_page(alloc, reader, writer, number, &mut buffer) {
-            Ok(()) => progress.written(page + 1, geometry.pages),
-            Err(fault) => return Err(fault),
-        }
+        migrate_page(alloc, reader, writer, number, &mut buffer)?;
+        progress.written(page + 1, geometry.pages);
     }
     Ok(())
 }

@@ -55,18 +55,12 @@ fn fill<R: Files<File = File> + Wait>(
     let Ok(()) = file.set_len(bytes) else {
         return Err(OpenFault::Port(PortFault::Device));
     };
-    let mut port = match FilePort::open(rt, alloc, path, geometry.size, format) {
-        Ok(port) => port,
-        Err(fault) => return Err(fault),
-    };
+    let mut port = FilePort::open(rt, alloc, path, geometry.size, format)?;
     // Another program may have had the file meanwhile.
     if port.geometry().pages != geometry.pages {
         return Err(OpenFault::Refused(Refusal::BadLength));
     }
-    match blank_pages(rt, alloc, &mut port, &geometry) {
-        Ok(()) => {}
-        Err(fault) => return Err(fault),
-    }
+    blank_pages(rt, alloc, &mut port, &geometry)?;
     match file.sync_all() {
         Ok(()) => Ok(port),
         Err(_) => Err(OpenFault::Port(PortFault::Device)),

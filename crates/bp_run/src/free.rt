@@ -89,12 +89,7 @@ pub(crate) fn run_free<P: Port + Send, R: Threads + Wait + Sync, W: Write>(
     ensures kept { IfErr result (λ ended. ended ≢ Ending.OutputFailed → out.new ≡ out.old) }
 {
     let config = config_of(run, geometry, &rows);
-    let outcome = match run_threads(rt, alloc, config, ports, rows) {
-        Ok(outcome) => outcome,
-        Err(ending) => return Err(ending),
-    };
-    match print_run(run.totals, &outcome.trail, &outcome.refused, out) {
-        Ok(()) => Ok(outcome.refused.is_empty()),
-        Err(fault) => Err(fault),
-    }
+    let outcome = run_threads(rt, alloc, config, ports, rows)?;
+    print_run(run.totals, &outcome.trail, &outcome.refused, out)?;
+    Ok(outcome.refused.is_empty())
 }

@@ -143,10 +143,7 @@ pub(crate) fn migrate<R: Files, E: Write>(
     ensures fault { IfErr result StopsMigration }
     ensures err_kept { is_watched ≡ false → err.new ≡ err.old }
 {
-    let (old, geometry) = match open_old(rt, alloc, words) {
-        Ok(opened) => opened,
-        Err(ending) => return Err(ending),
-    };
+    let (old, geometry) = open_old(rt, alloc, words)?;
     let new = words.new;
     if is_no_regular_file(rt, new) {
         return Err(words_refused(alloc, "error: NEW is no regular file"));

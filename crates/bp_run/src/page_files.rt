@@ -114,10 +114,7 @@ fn open_path<R: Files<File = File>>(
     ensures size { IfOk result (λ file. file.first.device.size ≡ size) }
     ensures refused { IfErr result (λ fault. IsForMemory fault ⊎ IsOfFile fault) }
 {
-    let first = match FilePort::open(rt, alloc, path, size, format) {
-        Ok(first) => first,
-        Err(fault) => return Err(fault),
-    };
+    let first = FilePort::open(rt, alloc, path, size, format)?;
     let Ok(path) = String::from_str(alloc, path) else {
         return Err(OpenFault::Port(PortFault::Memory));
     };
@@ -160,10 +157,7 @@ fn reopen<R: Files<File = File>>(
     ensures same { IfOk result (λ port. IsPortTo geometry (has_headers format) port) }
     ensures refused { IfErr result (λ fault. IsForMemory fault ⊎ IsOfFile fault) }
 {
-    let port = match FilePort::open(rt, alloc, path, geometry.size, format) {
-        Ok(port) => port,
-        Err(fault) => return Err(fault),
-    };
+    let port = FilePort::open(rt, alloc, path, geometry.size, format)?;
     if port.geometry().pages != geometry.pages {
         return Err(OpenFault::Port(PortFault::Device));
     }
@@ -211,10 +205,8 @@ fn file_ports<R: Files<File = File>>(
         return Err(OpenFault::Port(PortFault::Memory));
     };
     for _ in 0..clients {
-        match next_port(rt, alloc, path, format, geometry, &mut first) {
-            Ok(port) => ports.push_reserved(port),
-            Err(fault) => return Err(fault),
-        }
+        let port = next_port(rt, alloc, path, format, geometry, &mut first)?;
+        ports.push_reserved(port);
     }
     Ok(ports)
 }
@@ -290,14 +282,8 @@ impl<R: Files<File = File>> Ports<R> for PageFiles {
         format: Format,
     ) -> Result<OpenPages, OpenFault> {
         match memory_named(word) {
-            Some(pages) => match open_memory(self.alloc, pages, size) {
-                Ok(memory) => Ok(OpenPages::Mem(memory)),
-                Err(fault) => Err(fault),
-            },
-            None => match open_path(rt, self.alloc, word, size, format) {
-                Ok(file) => Ok(OpenPages::File(file)),
-                Err(fault) => Err(fault),
-            },
+            Some(pages) => Ok(OpenPages::Mem(open_memory(self.alloc, pages, size)?)),
+            None => Ok(OpenPages::File(open_path(rt, self.alloc, word, size, format)?)),
         }
     }
 

@@ -21,6 +21,7 @@ use crate::migration::migrate;
 use crate::opening::Ports;
 use crate::scripts::client_count;
 use crate::sweeping::sweep_told;
+use bp_core::config::MAX_CLIENTS;
 use bp_core::{Core, Entry, Refused, Row};
 use bp_device::drive_all;
 use bp_page::{Geometry, PortFault, Refusal};
@@ -39,9 +40,6 @@ use std::time::Clock;
 
 /// The most entries that a trail may have.
 const MAX_ROOM: usize = 16_777_216;
-
-/// The clients that a trace may name.
-const CLIENTS: u8 = 64;
 
 /// The room of a trail for so many rows.
 pub(crate) fn room_for(order: Order, rows: usize) -> usize
@@ -114,7 +112,7 @@ fn new_core(
         geometry,
         settings,
         run.frames,
-        CLIENTS,
+        MAX_CLIENTS,
         room_for(Order::Trace, rows.len()),
     ) {
         Ok(core) => Ok(core),
@@ -145,10 +143,8 @@ fn drive_rows<P: Port, R: Wait, W: Write>(
         Ok(refused) => refused,
         Err(refusal) => return Err(Ending::RunRefused(refusal)),
     };
-    match print_run(totals, core.trail(), &refused, out) {
-        Ok(()) => Ok(refused.is_empty()),
-        Err(fault) => Err(fault),
-    }
+    print_run(totals, core.trail(), &refused, out)?;
+    Ok(refused.is_empty())
 }
 
 /// Runs the rows in the order of the trace over a new core and the port, and writes the report and the refused rows.
@@ -169,10 +165,7 @@ fn run_rows<P: Port, R: Wait, W: Write>(
     ensures fault { IfErr result (NotReported Order.Trace) }
     ensures kept { IfErr result (λ ended. ended ≢ Ending.OutputFailed → out.new ≡ out.old) }
 {
-    let mut core = match new_core(alloc, run, port.geometry(), rows) {
-        Ok(core) => core,
-        Err(ending) => return Err(ending),
-    };
+    let mut core = new_core(alloc, run, port.geometry(), rows)?;
     drive_rows(rt, alloc, &mut core, port, run.totals, rows, out)
 }
 
@@ -315,19 +308,10 @@ fn run_told<R: Threads + Wait + Sync, I: Read, O: Ports<R>, W: Write>(
         (I.remaining reader.old)) }
     ensures kept { IfErr result (λ ended. ended ≢ Ending.OutputFailed → out.new ≡ out.old) }
 {
-    let file = match open_file(rt, ports, run) {
-        Ok(file) => file,
-        Err(ending) => return Err(ending),
-    };
+    let file = open_file(rt, ports, run)?;
     let geometry = ports.geometry(&file);
-    let rows = match rows_of(rt, alloc, run.trace, reader, ports, &geometry) {
-        Ok(rows) => rows,
-        Err(ending) => return Err(ending),
-    };
-    let opened = match connect(rt, ports, run.order, file, &rows) {
-        Ok(opened) => opened,
-        Err(ending) => return Err(ending),
-    };
+    let rows = rows_of(rt, alloc, run.trace, reader, ports, &geometry)?;
+    let opened = connect(rt, ports, run.order, file, &rows)?;
     run_in_order(rt, alloc, run, opened, geometry, rows, out)
 }
 
@@ -372,26 +356,23 @@ pub fn carry_out<
         ⊎ (err.new ≡ err.old) }
     ensures status { IfOk result (λ status. status < 2) }
 {
-    match decide(alloc, words) {
-        Ok(Task::Run(run)) => match run_told(rt, alloc, &run, reader, ports, out) {
-            Ok(all_accepted) => Ok(status_of_run(all_accepted)),
-            Err(ending) => Err(ending),
-        },
-        Ok(Task::Migrate(migration)) => {
-            match migrate(rt, alloc, &migration, ports.is_watched(), err) {
-                Ok(()) => Ok(0),
-                Err(ending) => Err(ending),
-            }
+    match decide(alloc, words)? {
+        Task::Run(run) => {
+            let all_accepted = run_told(rt, alloc, &run, reader, ports, out)?;
+            Ok(status_of_run(all_accepted))
         }
-        Ok(Task::Sweep(sweep)) => match sweep_told(rt, alloc, &sweep, reader, ports, out, err) {
-            Ok(()) => Ok(0),
-            Err(ending) => Err(ending),
-        },
-        Ok(Task::Explain(text)) => match explain(text, out) {
-            Ok(()) => Ok(0),
-            Err(ending) => Err(ending),
-        },
-        Err(ending) => Err(ending),
+        Task::Migrate(migration) => {
+            migrate(rt, alloc, &migration, ports.is_watched(), err)?;
+            Ok(0)
+        }
+        Task::Sweep(sweep) => {
+            sweep_told(rt, alloc, &sweep, reader, ports, out, err)?;
+            Ok(0)
+        }
+        Task::Explain(text) => {
+            explain(text, out)?;
+            Ok(0)
+        }
     }
 }
 

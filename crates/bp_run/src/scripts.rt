@@ -56,15 +56,9 @@ pub fn split(alloc: Global, rows: Vec<Row>, clients: usize) -> Result<Vec<Vec<Ro
         lists scripts.items ≡ scripts_for clients rows.items) }
     ensures refused { OnErr result (result ≡ Err Refusal.OutOfMemory) }
 {
-    let mut scripts = match empty_scripts(alloc, clients) {
-        Ok(scripts) => scripts,
-        Err(refusal) => return Err(refusal),
-    };
+    let mut scripts = empty_scripts(alloc, clients)?;
     for row in rows {
-        match add_row(&mut scripts, row) {
-            Ok(()) => {}
-            Err(refusal) => return Err(refusal),
-        }
+        add_row(&mut scripts, row)?;
     }
     Ok(scripts)
 }

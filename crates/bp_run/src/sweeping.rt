@@ -187,10 +187,8 @@ fn write_lines<R, O: Ports<R>, W: Write>(
     let Ok(picture) = picture_of(alloc, &words.ks, lines) else {
         return Err(Ending::RunRefused(Refusal::OutOfMemory));
     };
-    match print_table(lines, out) {
-        Ok(()) => save(rt, path, &picture, ports),
-        Err(ending) => Err(ending),
-    }
+    print_table(lines, out)?;
+    save(rt, path, &picture, ports)
 }
 
 /// Counts the cells, and shows their lines once all are counted.
@@ -212,10 +210,8 @@ fn show<R: Wait + Clock, O: Ports<R>, W: Write, E: Write>(
         → ended ≢ Ending.PictureNotWritten → out.new ≡ out.old) }
     ensures err_kept { is_watched ≡ false → err.new ≡ err.old }
 {
-    match count_watched(rt, alloc, words, references, is_watched, err) {
-        Ok(lines) => write_lines(rt, alloc, words, &lines, ports, out),
-        Err(ending) => Err(ending),
-    }
+    let lines = count_watched(rt, alloc, words, references, is_watched, err)?;
+    write_lines(rt, alloc, words, &lines, ports, out)
 }
 
 /// Reads the references, counts a cell for each number of frames with each K and for the optimum, writes their table,
@@ -244,9 +240,6 @@ pub(crate) fn sweep_told<R: Wait + Clock, I: Read, O: Ports<R>, W: Write, E: Wri
     ensures err_kept { O.watched ports.old ≡ false → err.new ≡ err.old }
 {
     let is_watched = ports.is_watched();
-    let references = match references_of(rt, alloc, words, reader, ports) {
-        Ok(references) => references,
-        Err(ending) => return Err(ending),
-    };
+    let references = references_of(rt, alloc, words, reader, ports)?;
     show(rt, alloc, words, &references, is_watched, ports, out, err)
 }

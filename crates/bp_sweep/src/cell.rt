@@ -132,14 +132,10 @@ fn refer<P: Port, R: Wait>(
     ensures fault { IfErr result EndsCell }
     ensures geometry { P.geometry_of port.new ≡ P.geometry_of port.old }
 {
-    match fix_page(rt, core, port, page, totals) {
-        Ok(Some(pass)) => {
-            give_back(core, pass);
-            core.tick(0, 1)
-        }
-        Ok(None) => core.tick(0, 1),
-        Err(refusal) => Err(refusal),
+    if let Some(pass) = fix_page(rt, core, port, page, totals)? {
+        give_back(core, pass);
     }
+    core.tick(0, 1)
 }
 
 /// All references, one after the other. Somebody is told each 65,536.

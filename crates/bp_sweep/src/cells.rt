@@ -11,18 +11,14 @@ use crate::dense::References;
 use crate::progress::{Progress, Turn};
 use bp_audit::Totals;
 use bp_charts::{Line, Optimum, count_optimum};
+use bp_core::config::MAX_FRAMES;
 use bp_page::{Geometry, Refusal};
 use bp_ports::MemDevice;
 use bp_replacer::Settings;
+use bp_replacer::settings::MAX_PERIOD;
 use std::alloc::Global;
 use std::sync::Wait;
 use thiserror::Error;
-
-/// The most frames of a pool.
-const MAX_FRAMES: usize = 65_536;
-
-/// The longest period that settings may have.
-const LONGEST: u64 = 1 << 62;
 
 /// The bytes of a page.
 const PAGE_SIZE: usize = 16;
@@ -181,7 +177,7 @@ fn count_plan<R: Wait, G: Progress>(
 {
     match plan.policy {
         Policy::LruK { k, correlated } => {
-            let settings = Settings::new(k, correlated, LONGEST)?;
+            let settings = Settings::new(k, correlated, MAX_PERIOD)?;
             count_pool(rt, alloc, references, plan.frames, settings, progress, turn)
         }
         Policy::Optimum => count_best(alloc, references, plan.frames),

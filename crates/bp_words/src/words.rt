@@ -13,6 +13,7 @@ ghost use Rattle.bp_words.specs.Decision.{size_asked};
 
 use crate::command::bpool_command;
 use bp_page::{Format, explanation_of};
+use bp_replacer::settings::MAX_STAMPS;
 use bp_trace::decimal::parse_number;
 use bp_trace::{MAX_LISTED, numbers_listed};
 use clap::error::ErrorKind;
@@ -21,9 +22,6 @@ use std::alloc::{AllocError, Global};
 
 /// The most frames of a pool.
 const MAX_FRAMES: usize = 65_536;
-
-/// The greatest K of LRU-K.
-const MAX_K: usize = 16;
 
 /// Where a run reads its trace, or a sweep its references.
 #[derive(Clone, Copy)]
@@ -307,7 +305,7 @@ fn sweep_words<'a>(
     let Some(frames) = list_at(alloc, matches, "frames", 1, MAX_FRAMES)? else {
         return Ok(None);
     };
-    let Some(ks) = list_at(alloc, matches, "k", 1, MAX_K)? else {
+    let Some(ks) = list_at(alloc, matches, "k", 1, MAX_STAMPS)? else {
         return Ok(None);
     };
     if draws_over(matches) {
@@ -390,8 +388,8 @@ fn no_sweep(alloc: Global, sweep: &ArgMatches<'_>) -> Result<Error, AllocError>
     if list_at(alloc, sweep, "frames", 1, MAX_FRAMES)?.is_none() {
         return no_list(alloc, sweep, "frames", MAX_FRAMES);
     }
-    if list_at(alloc, sweep, "k", 1, MAX_K)?.is_none() {
-        return no_list(alloc, sweep, "k", MAX_K);
+    if list_at(alloc, sweep, "k", 1, MAX_STAMPS)?.is_none() {
+        return no_list(alloc, sweep, "k", MAX_STAMPS);
     }
     let picture = word_at(sweep, "svg").unwrap_or("");
     let said = format!(in alloc;
@@ -434,10 +432,7 @@ pub fn read_words<'a>(alloc: Global, words: &'a [&'a str]) -> Result<Task<'a>, E
     ensures faults { FailsBy (fault_in (texts words.now)) result }
 {
     let command = bpool_command(alloc)?;
-    let matches = match command.try_get_matches_from(words) {
-        Ok(matches) => matches,
-        Err(error) => return Err(error),
-    };
+    let matches = command.try_get_matches_from(words)?;
     let told = task_in(alloc, &matches)?;
     match told {
         Some(task) => Ok(task),

@@ -193,7 +193,7 @@ pub fn fix_durably<N: PoolName, P: Port, K: ListKeeper, L: DurableLog<N>, R: Wai
         match pool.fix(rt, &mut client.session, &mut client.port, page) {
             Ok(pass) => return Ok(pass),
             Err(why) => {
-                match overcome(
+                overcome(
                     rt,
                     pool,
                     &mut client.session,
@@ -201,10 +201,7 @@ pub fn fix_durably<N: PoolName, P: Port, K: ListKeeper, L: DurableLog<N>, R: Wai
                     why,
                     patience,
                     &mut is_ticked,
-                ) {
-                    Ok(()) => {}
-                    Err(last) => return Err(last),
-                }
+                )?;
             }
         }
     }

@@ -13,6 +13,7 @@ use crate::job::Job;
 use crate::kinds::Kind;
 use crate::worker::{Client, Left, Upkeep, Worker};
 use bp_core::PoolCore;
+use bp_core::config::MAX_CLIENTS;
 use bp_keeper::{ListKeeper, RecordingKeeper};
 use bp_page::{Geometry, Refusal};
 use bp_ports::Port;
@@ -234,7 +235,7 @@ fn are_of<P: Port>(ports: &[P], geometry: &Geometry) -> bool
 fn fit_together<P: Port>(config: &PoolConfig, ports: &[P], workers: usize) -> bool
     ensures { IsTrue result ↔ FitTogether P.geometry_of config.now ports.now workers }
 {
-    if workers < 1 || workers > 64 || ports.len() != workers {
+    if workers < 1 || workers > MAX_CLIENTS as usize || ports.len() != workers {
         return false;
     }
     are_of(ports, &config.geometry)
@@ -273,21 +274,15 @@ pub fn run_workers_over<K: Kind, P: Port + Send, W: Worker<P, K> + Send, R: Thre
         return Err(Refusal::BadSettings);
     }
     let clients = workers.len() as u8;
-    let core = match PoolCore::<K>::new(
+    let core = PoolCore::<K>::new(
         alloc,
         config.geometry,
         config.settings,
         config.frames,
         clients,
         config.room,
-    ) {
-        Ok(core) => core,
-        Err(refusal) => return Err(refusal),
-    };
-    let parts = match Parts::new(alloc) {
-        Ok(parts) => parts,
-        Err(refusal) => return Err(refusal),
-    };
+    )?;
+    let parts = Parts::new(alloc)?;
     let ran = run_named::<Brand, P, K, W, R>(rt, alloc, core, parts, ports, workers);
     if let Ok(run) = &ran {
         run.core.keeps_the_rules();

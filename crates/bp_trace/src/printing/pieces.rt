@@ -12,10 +12,10 @@ use std::io;
 use std::io::{ErrorKind, Write};
 
 /// The last time of a report.
-const TIME_END: u128 = 4611686018427387904;
+const TIME_END: u128 = 1 << 62;
 
 /// More entries than a report takes in.
-const ENTRIES_END: u128 = 18446744073709551616;
+const ENTRIES_END: u128 = 1 << 64;
 
 /// A report under way: the time, and what was counted so far.
 #[derive(Drop)]

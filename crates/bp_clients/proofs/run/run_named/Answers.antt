@@ -7,11 +7,11 @@ use Rattle.bp_clients.proofs.Headline.{length-new_jobs}
 use Rattle.bp_clients.proofs.run.run_named.Goals as goal
 
 pub make_jobs-requires-clause-sessions : goal.make_jobs-requires-clause-sessions
-make_jobs-requires-clause-sessions g c = c.in-Ok.ensures.sessions ∙ in_order _ ∙ ap (sessions_from 0) c.requires.clients
+make_jobs-requires-clause-sessions g c = c.in_ok-pool.ensures.sessions ∙ in_order _ ∙ ap (sessions_from 0) c.requires.clients
 
 pub run_pool-requires-clause-some : goal.run_pool-requires-clause-some
 run_pool-requires-clause-some g c =
-    omega (arith, ap length c.in-Ok-make_jobs.ensures.jobs, length-new_jobs 0 (lists c.args.scripts.items), length-map c.args.scripts.items (λ v. v.items), c.requires.some, c.args.scripts.ok, c.in-Ok-make_jobs.jobs.ok)
+    omega (arith, ap length c.in_ok-jobs.ensures.jobs, length-new_jobs 0 (lists c.args.scripts.items), length-map c.args.scripts.items (λ v. v.items), c.requires.some, c.args.scripts.ok, c.in_ok-jobs.jobs.ok)
 
-pub returns-in-Ok-make_jobs-clause-run : goal.returns-in-Ok-make_jobs-clause-run
-returns-in-Ok-make_jobs-clause-run g c = c.run_pool.ensures.run (lists c.args.scripts.items) c.in-Ok-make_jobs.ensures.jobs
+pub returns-clause-run : goal.returns-clause-run
+returns-clause-run g c = c.run_pool.ensures.run (lists c.args.scripts.items) c.in_ok-jobs.ensures.jobs

@@ -4,14 +4,14 @@ use Rattle.bp_core.specs.declared.passes.Fix.TheVariants as fixing
 use Rattle.bp_core.specs.Outcomes.{FixOutcome}
 use Rattle.bp_trail.specs.Pieces.FixGoesOn.{begins}
 use Rattle.bp_device.specs.Drivers.{SavingOutcome}
-use Rattle.bp_device.proofs.Driving.{adds-none, fix-drives, save-waits, save-drives, refusal-drives, refusal-is}
+use Rattle.bp_device.proofs.Driving.{adds-none, fix-drives, save-waits, save-drives, refusal-drives, handed_on}
 use Rattle.bp_device.proofs.SecondTry.{no-second-write}
 use Rattle.bp_device.proofs.Working.{none-yet, fixed-work, victim-work}
 use Rattle.bp_device.proofs.drivers.fix_saving_victim.Goals as goal
 
 pub returns-in_err-answer-clause-outcome : goal.returns-in_err-answer-clause-outcome
 returns-in_err-answer-clause-outcome g c =
-    subst (λ r. SavingOutcome c.args.core.now c.args.client c.args.page r c.fix.new.self) (sym (refusal-is c.from_residual.result c.in_err-answer.field-0.0 c.from_residual.ensures.1))
+    subst (λ r. SavingOutcome c.args.core.now c.args.client c.args.page r c.fix.new.self) (sym (handed_on c.from_residual.result c.in_err-answer.field-0.0 c.from_residual.ensures.1))
     (refusal-drives _ c.args.core.now _ _ _ _ (adds-none c.args.core.now _ begins) c.in_err-answer.ensures.outcome)
 
 pub returns-in_err-answer-clause-work : goal.returns-in_err-answer-clause-work
@@ -30,7 +30,7 @@ returns-in_default g c = record {
 pub returns-in_err-save-clause-outcome : goal.returns-in_err-save-clause-outcome
 returns-in_err-save-clause-outcome g c =
     let h = subst (λ f. FixOutcome c.args.core.now c.args.client c.args.page (Ok f) c.fix.new.self) c.in-WriteFirst.is c.in_ok-answer.ensures.outcome in
-    subst (λ r. SavingOutcome c.args.core.now c.args.client c.args.page r c.save.new.core) (sym (refusal-is c.from_residual-in_err-save.result c.in_err-save.field-0.0 c.from_residual-in_err-save.ensures.1))
+    subst (λ r. SavingOutcome c.args.core.now c.args.client c.args.page r c.save.new.core) (sym (handed_on c.from_residual-in_err-save.result c.in_err-save.field-0.0 c.from_residual-in_err-save.ensures.1))
     (save-drives _ c.args.core.now c.fix.new.self _ _ _ c.in-WriteFirst.victim _ (adds-none c.args.core.now _ begins) h c.in_err-save.ensures.outcome)
 
 pub returns-in_err-save-clause-work : goal.returns-in_err-save-clause-work

@@ -1,11 +1,17 @@
 -- The write, or its refusal, by the latest pass.
-use Rattle.std.proofs.Common.{sym, ◌∙◌}
+use Rattle.std.proofs.Common.{◌∙◌, sym, Result, Ok, Err}
+use Rattle.bp_page.specs.declared.refusals.Refusal.{Refusal}
+use Rattle.bp_core.specs.Outcomes.{WriteOutcome}
+use Rattle.bp_trail.specs.Pieces.{outcome_of}
+use Rattle.bp_trail.specs.declared.scripts.Step.TheVariants.{Write}
+use Rattle.bp_device.specs.Rows.{DrivesRow}
 use Rattle.bp_device.proofs.PieceSteps.{write-drives, write_refused-drives}
-use Rattle.bp_device.proofs.RowCauses.{write-row-caused}
 use Rattle.bp_device.proofs.rows.write_row.Goals as goal
 
-pub returns-in-Ok : goal.returns-in-Ok
-returns-in-Ok g c = record { outcome = write-drives _ _ _ _ _ _ _ _ c.in-Some.note c.pass-pass.result c.requires.ends_in (sym c.latest.ensures ∙ c.in-Some.is) (record { client_is = c.pass-pass.ensures.client; page_is = c.pass-pass.ensures.page; serial_is = c.pass-pass.ensures.serial }) c.in-Ok.ensures.outcome; cause = tt }
-
-pub returns-in-Err : goal.returns-in-Err
-returns-in-Err g c = record { outcome = write_refused-drives _ _ _ _ _ _ _ _ c.in-Some.note c.pass-pass.result _ c.requires.ends_in (sym c.latest.ensures ∙ c.in-Some.is) (record { client_is = c.pass-pass.ensures.client; page_is = c.pass-pass.ensures.page; serial_is = c.pass-pass.ensures.serial }) c.in-Err.ensures.outcome; cause = write-row-caused _ _ c.args.page c.args.offset c.args.bytes.now c.args.lsn c.pass-pass.result _ c.in-Err.ensures.outcome }
+pub returns-clause-outcome : goal.returns-clause-outcome
+returns-clause-outcome g c = go c.write-written.result c.write-written.ensures.outcome
+  where
+    go : (written : Result (Unit {0}) Refusal) → WriteOutcome c.args.core.now c.pass-pass.result c.args.offset c.args.bytes.now c.args.lsn written c.write-written.new.self
+        → DrivesRow c.args.core.now c.args.client (Write c.args.page c.args.offset c.args.bytes.now c.args.lsn) (outcome_of written) c.args.held.now.passes c.args.held.now.passes c.write-written.new.self
+    go (Ok done) outcome = write-drives _ _ _ _ _ _ _ _ c.in-Some.note c.pass-pass.result c.requires.ends_in (sym c.latest.ensures ∙ c.in-Some.is) (record { client_is = c.pass-pass.ensures.client; page_is = c.pass-pass.ensures.page; serial_is = c.pass-pass.ensures.serial }) outcome
+    go (Err why) outcome = write_refused-drives _ _ _ _ _ _ _ _ c.in-Some.note c.pass-pass.result _ c.requires.ends_in (sym c.latest.ensures ∙ c.in-Some.is) (record { client_is = c.pass-pass.ensures.client; page_is = c.pass-pass.ensures.page; serial_is = c.pass-pass.ensures.serial }) outcome

@@ -22,7 +22,7 @@ shown saves s references lines lent old new (Ok done) same cells written drawn =
 }
 shown saves s references lines lent old new (Err ended) same cells written drawn = tt
 
-pub returns-in-Ok-clause-shown : goal.returns-in-Ok-clause-shown
-returns-in-Ok-clause-shown g c =
-    shown g.O.Ports.ways.saves (sweep_of c.args.words.now) c.args.references.now c.in-Ok.lines.items c.deref.result.now (g.W.Write.contents c.args.out.now) (g.W.Write.contents c.write_lines.new.out) c.write_lines.result
-    c.deref.ensures.value c.in-Ok.ensures.cells c.write_lines.ensures.written c.write_lines.ensures.drawn
+pub returns-clause-shown : goal.returns-clause-shown
+returns-clause-shown g c =
+    shown g.O.Ports.ways.saves (sweep_of c.args.words.now) c.args.references.now c.in_ok-lines.lines.items c.deref.result.now (g.W.Write.contents c.args.out.now) (g.W.Write.contents c.write_lines.new.out) c.write_lines.result
+    c.deref.ensures.value c.in_ok-lines.ensures.cells c.write_lines.ensures.written c.write_lines.ensures.drawn

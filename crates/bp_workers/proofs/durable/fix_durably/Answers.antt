@@ -1,5 +1,6 @@
 -- Try after try.
-use Rattle.std.proofs.Common.{arith, refl, ◌∙◌}
+use Rattle.std.proofs.Common.{arith, refl, ap, ◌∙◌, Err}
+use Rattle.std.proofs.lemmas.Result.{err_from_is_err_and}
 use Rattle.bp_shared.proofs.Working.{none-yet}
 use Rattle.bp_workers.proofs.Raising.{raises-none, raises-then}
 use Rattle.bp_workers.proofs.Trying.{leads-none, leads-more, leads-fixed, leads-given_up, leads-end, goes-on-known, gives-up-known}
@@ -13,7 +14,7 @@ pub loop-round-preserved : goal.loop-round-preserved
 loop-round-preserved g c =
     let i = c.loop-round.invariant in
     let said = rw i.client at c.in-Err.ensures.outcome in
-    let goes = rw (c.fix.ensures.client ∙ i.client) at c.in-Ok-overcome.ensures.goes_on in
+    let goes = rw (c.fix.ensures.client ∙ i.client) at c.in_ok-overcome-in-Err.ensures.goes_on in
     let known = goes-on-known _ _ _ _ _ _ _ _ goes in
     record {
       client = c.overcome.ensures.client ∙ c.fix.ensures.client ∙ i.client;
@@ -36,19 +37,22 @@ returns-in-Ok-clause-work g c =
     let i = c.loop-round.invariant in
     λ known. work-on _ _ _ _ _ _ _ _ i.work (c.in-Ok.ensures.work known)
 
-pub returns-in-Err-overcome-clause-outcome : goal.returns-in-Err-overcome-clause-outcome
-returns-in-Err-overcome-clause-outcome g c =
+pub returns-in_err-overcome-in-Err-clause-outcome : goal.returns-in_err-overcome-in-Err-clause-outcome
+returns-in_err-overcome-in-Err-clause-outcome g c =
     let i = c.loop-round.invariant in
-    let ends = rw (c.fix.ensures.client ∙ i.client) at c.in-Err-overcome.ensures.gives_up in
-    leads-given_up _ _ _ _ _ _ _ _ _ _ _ _ _ _ _ i.leads c.loop-round-test.true c.overcome.ensures.raises.rises (rw i.client at c.in-Err.ensures.outcome) ends
+    let ends = rw (c.fix.ensures.client ∙ i.client) at c.in_err-overcome-in-Err.ensures.gives_up in
+    let is = err_from_is_err_and c.from_residual.result c.from_residual.ensures.1 in
+    rw (is.1 ∙ ap Err is.2)
+    (leads-given_up _ _ _ _ _ _ _ _ _ _ _ _ _ _ _ i.leads c.loop-round-test.true c.overcome.ensures.raises.rises (rw i.client at c.in-Err.ensures.outcome) ends)
 
-pub returns-in-Err-overcome-clause-work : goal.returns-in-Err-overcome-clause-work
-returns-in-Err-overcome-clause-work g c =
+pub returns-in_err-overcome-in-Err-clause-work : goal.returns-in_err-overcome-in-Err-clause-work
+returns-in_err-overcome-in-Err-clause-work g c =
     let i = c.loop-round.invariant in
-    let ends = rw (c.fix.ensures.client ∙ i.client) at c.in-Err-overcome.ensures.gives_up in
+    let ends = rw (c.fix.ensures.client ∙ i.client) at c.in_err-overcome-in-Err.ensures.gives_up in
     let client = c.args.client.now.session.client in
     let steps = c.args.patience.steps in
-    λ known. gives-up-work _ _ client steps _ _ _ _ _ _ _ _ _ (work-on _ _ _ _ _ _ _ _ i.work (c.in-Err.ensures.work (gives-up-known client steps _ _ _ _ _ _ ends known))) ends
+    let is = err_from_is_err_and c.from_residual.result c.from_residual.ensures.1 in
+    λ known. gives-up-work _ _ client steps _ _ _ _ _ _ _ _ _ (work-on _ _ _ _ _ _ _ _ i.work (c.in-Err.ensures.work (gives-up-known client steps _ _ _ _ _ _ ends (λ unknown. known (is.1 ∙ ap Err is.2 ∙ unknown))))) ends
 
 pub returns-clause-outcome : goal.returns-clause-outcome
 returns-clause-outcome g c =
