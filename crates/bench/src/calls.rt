@@ -2,7 +2,7 @@
 ghost use Rattle.std.specs.Prelude.{◌≡◌, ◌+◌, ◌<◌, ◌≤◌, length};
 
 use crate::tell;
-use bp_core::{Core, EndRefusal, Entry, Fix, Flush, PassNote, ReadTicket};
+use bp_core::{Core, EndRefusal, Entry, Fix, Flush, Pass, PassNote, ReadTicket};
 use bp_page::{Bytes, Geometry, Image, Lsn, PageNo, Refusal};
 use bp_replacer::Settings;
 use std::alloc::Global;
@@ -22,7 +22,10 @@ enum Call {
     Unfix,
     Tick,
     Read,
+    ReadInto,
+    Page,
     Write,
+    WriteFrom,
     Flush,
     Mark,
     Purge,
@@ -30,13 +33,16 @@ enum Call {
 }
 
 /// What is timed in a round, in this order.
-const CALLS: [(Call, &str); 11] = [
+const CALLS: [(Call, &str); 14] = [
     (Call::Fix, "fix that loads, and read_end"),
     (Call::Unfix, "unfix"),
     (Call::Tick, "tick"),
     (Call::Fix, "fix of a page that is here"),
     (Call::Read, "read"),
+    (Call::ReadInto, "read_into"),
+    (Call::Page, "page"),
     (Call::Write, "write"),
+    (Call::WriteFrom, "write_from"),
     (Call::Unfix, "unfix"),
     (Call::Flush, "flush that writes out, and write_end"),
     (Call::Mark, "mark"),
@@ -51,11 +57,14 @@ struct Bench {
     core: Core,
     pages: u64,
     bytes: Bytes,
+    /// What was read or looked at last.
+    into: [u8; 16],
     passes: Vec<PassNote>,
     spare: Vec<Entry>,
     ghost client: { 0 < core.parameters.clients },
     ghost pages_in: { core.parameters.pages ≡ pages },
     ghost fits: { 0 + length bytes ≤ core.parameters.size },
+    ghost into_fits: { 0 + 16 ≤ core.parameters.size },
 }
 
 /// A core of K 2 and no correlated period, which forgets what is older than a tick. It has twice as many pages as
@@ -73,6 +82,7 @@ fn new_bench(alloc: Global, frames: u64) -> Result<Bench, Refusal>
         core: Core::new(alloc, geometry, settings, frames as usize, 1, room)?,
         pages,
         bytes,
+        into: [0; 16],
         passes: Vec::new(alloc),
         spare: Vec::new(alloc),
     })
@@ -126,7 +136,14 @@ impl Bench {
         }
     }
 
-    /// Reads the page of a pass, writes to it, or gives the pass back.
+    /// Looks at the first byte of a page that is lent.
+    fn look(&mut self, pass: &Pass) {
+        if let Some([first, ..]) = self.core.page(pass) {
+            self.into[0] = *first;
+        }
+    }
+
+    /// Reads the page of a pass, looks at it, writes to it, or gives the pass back.
     fn use_pass(&mut self, call: Call, place: usize) {
         let Some(note) = self.passes.get(place).copied() else {
             return;
@@ -136,8 +153,16 @@ impl Bench {
             Call::Read => {
                 let _ = self.core.read(&pass);
             }
+            Call::ReadInto => {
+                let _ = self.core.read_into(&pass, 0, &mut self.into);
+            }
+            Call::Page => self.look(&pass),
             Call::Write => {
                 let _ = self.core.write(&pass, 0, &self.bytes, Lsn::new(0));
+            }
+            Call::WriteFrom => {
+                let bytes = self.bytes.bytes();
+                let _ = self.core.write_from(&pass, 0, bytes, Lsn::new(0));
             }
             _ => {
                 if let Err(pass) = self.core.unfix(pass) {

@@ -35,7 +35,7 @@ struct Made<K: Kind> {
 fn make<K: Kind>(alloc: Global, clients: u8) -> Result<Made<K>, Refusal> {
     let geometry = Geometry::new(FILE_PAGES, SIZE)?;
     let settings = Settings::new(2, 0, MAX_PERIOD)?;
-    let parts = Parts::new(alloc)?;
+    let parts = Parts::new(alloc, clients)?;
     let core = PoolCore::new(alloc, geometry, settings, FRAMES, clients, K::room())?;
     Ok(Made { core, parts })
 }

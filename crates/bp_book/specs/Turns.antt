@@ -1,5 +1,6 @@
 -- What each step of a session's call adds to its list.
 use Rattle.std.specs.Prelude.{◌≡◌, ◌⊎◌, ◌≤◌, ◌<◌, ℕ, Bool, true, false, List, ◌∷◌, Option, Some, None, Result, Ok, Err}
+use Rattle.std.specs.Prelude.{length, take, drop}
 use Rattle.bp_page.specs.declared.refusals.Refusal.{Refusal}
 use Rattle.bp_page.specs.declared.refusals.Refusal.TheVariants as refusal
 use Rattle.bp_page.specs.declared.refusals.PortFault.{PortFault}
@@ -99,6 +100,16 @@ ReadSaid client pass (Err refusal.UnknownPass) said after = after ≡ said
 ReadSaid client pass (Err refusal.TrailFull) said after = (pass.client ≡ client) × (after ≡ said)
 ReadSaid client pass (Err refusal.OutOfMemory) said after = (pass.client ≡ client) × (after ≡ said)
 ReadSaid client pass (Err _) said after = ⊥
+
+-- the same, with so many bytes of the image from the offset on in place of those that were there; a
+-- refusal leaves these
+abbrev pub ReadIntoSaid : {A : Type 0} → ℕ → Pass → ℕ → List ℕ → Result A Refusal → List ℕ → Trail
+    → Trail → Type 0
+ReadIntoSaid client pass offset before (Ok done) bytes said after =
+    (image : List ℕ) × ReadSaid client pass (Ok image) said after
+    × (bytes ≡ take (length before) (drop offset image))
+ReadIntoSaid client pass offset before (Err why) bytes said after =
+    ReadSaid client pass (Err why) said after × (bytes ≡ before)
 
 abbrev pub WriteSaid : {A : Type 0} → ℕ → Pass → ℕ → List ℕ → ℕ → Result A Refusal → Trail → Trail
     → Type 0

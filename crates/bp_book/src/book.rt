@@ -40,6 +40,8 @@ pub struct Book<K: ListKeeper> {
     tickets: usize,
     /// Blanks for the entries that will need a copy of an image.
     blanks: Vec<K::Blank>,
+    /// Memory that the last end of device work left, to be freed with no lock held.
+    left: Option<Image>,
 }
 
 impl<K: ListKeeper> Model for Book<K> {
@@ -124,7 +126,15 @@ impl<K: ListKeeper> Book<K> {
             held: Held::new(alloc),
             tickets: 0,
             blanks: Vec::new(alloc),
+            left: None,
         }
+    }
+
+    /// Frees the memory that the last end of device work left, for which no lock has to be held.
+    pub fn free_left(&mut self)
+        ensures { self.new ≡ self.old }
+    {
+        self.left = None;
     }
 
     /// Where its memory comes from.

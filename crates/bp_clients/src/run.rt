@@ -183,6 +183,7 @@ fn run_named<N: PoolName + Send + Sync, P: Port + Send, R: Threads + Wait + Sync
     requires ring { parts.ring ≡ N.ring }
     requires new { (core.past ≡ N.past) × (core.past ≡ []) }
     requires clients { N.parameters.clients ≡ vec_len scripts }
+    requires rings { length parts.ring.rings ≡ vec_len scripts }
     requires some { 0 < vec_len scripts }
     requires ports { vec_len ports ≡ vec_len scripts }
     requires size { All (λ p. (P.geometry_of p).size ≡ N.parameters.size) ports.items }
@@ -243,6 +244,6 @@ pub fn run_clients<P: Port + Send, R: Threads + Wait + Sync>(
         clients,
         config.room,
     )?;
-    let parts = Parts::new(alloc)?;
+    let parts = Parts::new(alloc, clients)?;
     run_named::<Brand, P, R>(rt, alloc, core, parts, scripts, ports)
 }

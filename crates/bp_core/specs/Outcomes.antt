@@ -1,12 +1,13 @@
 -- What each call answers and leaves.
 use Rattle.std.specs.Prelude.{◌≡◌, ℕ, ◌+◌, ◌^◌, ◌<◌, ◌≤◌, Bool, true, false, List, [], ◌++◌, ◌⊎◌}
-use Rattle.std.specs.Prelude.{reverse, Some, None, Result, Ok, Err}
+use Rattle.std.specs.Prelude.{reverse, Some, None, Result, Ok, Err, length, take, drop}
 use Rattle.bp_page.specs.declared.refusals.Refusal.{Refusal}
 use Rattle.bp_page.specs.declared.refusals.Refusal.TheVariants as refusal
 use Rattle.bp_page.specs.declared.refusals.PortFault.{PortFault}
 use Rattle.bp_trail.specs.Parameters.{Parameters}
 use Rattle.bp_trail.specs.Event.{Grant, grant}
 use Rattle.bp_trail.specs.Clock.{clock}
+use Rattle.bp_trail.specs.Images.{held}
 use Rattle.bp_trail.specs.Passes.{passes, tickets, passes_out, reads_out, writes_out}
 use Rattle.bp_trail.specs.Saved.{top}
 use Rattle.bp_trail.specs.Legal.{is_out, Legal}
@@ -290,6 +291,16 @@ ReadOutcome old pass (Err refusal.TrailFull) new = LacksRoomFor 1 old × (new �
 ReadOutcome old pass (Err refusal.OutOfMemory) new =
     HasRoomFor 1 old × KnowsPass old pass × (new ≡ old)
 ReadOutcome old pass (Err _) new = ⊥
+
+-- the same, of the image held, with so many of its bytes from the offset on in place of those that
+-- were there; a refusal leaves these
+abbrev pub ReadIntoOutcome : {A : Type 0} → CoreView → Pass → ℕ → List ℕ → Result A Refusal
+    → List ℕ → CoreView → Type 0
+ReadIntoOutcome old pass offset before (Ok done) after new =
+    EachPast old (λ past. ReadOutcome old pass (Ok (held past pass.page)) new
+    × (after ≡ take (length before) (drop offset (held past pass.page))))
+ReadIntoOutcome old pass offset before (Err why) after new =
+    ReadOutcome old pass (Err why) new × (after ≡ before)
 
 abbrev pub WriteOutcome : {A : Type 0} → CoreView → Pass → ℕ → List ℕ → ℕ → Result A Refusal
     → CoreView → Type 0

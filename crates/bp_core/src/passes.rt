@@ -285,14 +285,22 @@ impl WriteTicket {
         }
     }
 
-    /// Spends the ticket. No core is asked: where one knows the ticket, its write-out stays in flight.
-    pub fn forfeit(self) {
+    /// Spends the ticket as `forfeit` does, and gives its image, so that the caller frees that memory where it likes.
+    pub fn into_image(self) -> Image
+        ensures { result ≡ self.image }
+    {
         let WriteTicket {
             client: _,
             page: _,
             serial: _,
-            image: _,
+            image,
             lsn: _,
         } = self;
+        image
+    }
+
+    /// Spends the ticket. No core is asked: where one knows the ticket, its write-out stays in flight.
+    pub fn forfeit(self) {
+        drop(self.into_image());
     }
 }

@@ -3,6 +3,7 @@ ghost use Rattle.std.specs.Prelude.{max, ◌≡◌, ◌+◌, ◌^◌, ◌<◌, �
 
 use bp_page::{Image, Lsn, PageNo};
 use bp_replacer::BlockNo;
+use std::mem;
 
 /// A frame with the page that it holds. A [`FrameTable`](crate::FrameTable) makes and changes it; others read it.
 #[derive(Drop)]
@@ -52,7 +53,7 @@ impl Frame {
     ghost use Rattle.bp_frames.specs.Frames.{is_unused, loaded_with, pinned, unpinned, written_on};
     ghost use Rattle.bp_frames.specs.Frames.{saving, saved, not_saved};
 
-    /// A frame that waits for a page, with this image to copy it into.
+    /// A frame that waits for a page, with this image until then.
     pub(crate) fn waiting(image: Image) -> Frame
         ensures { result.image ≡ image }
     {
@@ -68,10 +69,11 @@ impl Frame {
         }
     }
 
-    /// Takes a page that was read, whose references are in this block, with one pass out.
-    pub(crate) fn load(&mut self, page: PageNo, block: BlockNo, image: &Image)
-        requires { length self.old.image ≡ length image.now }
-        ensures { self.new ≡ loaded_with page block image.now }
+    /// Takes a page that was read, whose references are in this block, with one pass out. It keeps the image itself, and
+    /// hands out the one that it had.
+    pub(crate) fn load(&mut self, page: PageNo, block: BlockNo, image: Image) -> Image
+        ensures loaded { self.new ≡ loaded_with page block image }
+        ensures left { result ≡ self.old.image }
     {
         self.page = page;
         self.block = Some(block);
@@ -80,7 +82,7 @@ impl Frame {
         self.is_rewritten = false;
         self.is_writing = false;
         self.top = Lsn::new(0);
-        self.image.copy_from(image);
+        mem::replace(&mut self.image, image)
     }
 
     /// Counts one more pass.

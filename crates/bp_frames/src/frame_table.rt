@@ -195,13 +195,17 @@ impl FrameTable {
     }
 
     /// Puts a page of the file that was read, and has no frame, into a frame that waits, with the number of the block
-    /// of its references, and with one pass out. It takes no memory, but copies the image.
-    pub fn fill(&mut self, page: PageNo, block: BlockNo, image: &Image)
+    /// of its references, and with one pass out. The frame keeps the image itself. Returns where it is, and the image
+    /// that it had before, whose bytes mean nothing. It takes no memory.
+    pub fn fill(&mut self, page: PageNo, block: BlockNo, image: Image) -> (FrameSlot, Image)
         requires absent { some (is_frame_of page) self.old.frames ≡ false }
         requires in_range { page < self.old.pages }
         requires spare { 0 < self.old.spare }
-        requires size { length image.now ≡ self.old.size }
-        ensures frames { IsPermutation (loaded_with page block image.now ∷
+        requires size { length image ≡ self.old.size }
+        ensures at { IsSlotIn self.new result.0 }
+        ensures page { result.0.page ≡ page }
+        ensures left { length result.1 ≡ self.old.size }
+        ensures frames { IsPermutation (loaded_with page block image ∷
             self.old.frames) self.new.frames }
         ensures spare { self.new.spare + 1 ≡ self.old.spare }
         ensures size { self.new.size ≡ self.old.size }
@@ -209,9 +213,10 @@ impl FrameTable {
         ensures pages { self.new.pages ≡ self.old.pages }
         ensures candidates { self.new.candidates ≡ self.old.candidates }
     {
-        let slot = self.spare.pop().unwrap();
-        self.slots[slot].load(page, block, image);
-        self.places[page.number() as usize] = slot as u32 + 1;
+        let index = self.spare.pop().unwrap();
+        let left = self.slots[index].load(page, block, image);
+        self.places[page.number() as usize] = index as u32 + 1;
+        (FrameSlot { page, index }, left)
     }
 
     /// Takes a page that is no candidate out of its frame, which then waits for another.

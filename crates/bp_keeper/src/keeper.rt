@@ -1,8 +1,8 @@
 //! What a core asks of the keeper of its trail.
-ghost use Rattle.std.specs.Prelude.{◌≡◌, ℕ, ◌^◌, ◌<◌, ◌≤◌, Bool, false, List, IsOk, IfOk};
-ghost use Rattle.bp_trail.specs.declared.entries.Reply.TheVariants.{Done, Content};
+ghost use Rattle.std.specs.Prelude.{◌≡◌, ℕ, ◌^◌, ◌<◌, ◌≤◌, Bool, false, List, length, IsOk, IfOk};
+ghost use Rattle.bp_trail.specs.declared.entries.Reply.TheVariants.{Done, Content, Fixed};
 
-use bp_page::{Bytes, Image, Lsn};
+use bp_page::{Image, Lsn};
 use bp_trail::{Call, Grant, Reply};
 use std::alloc::{AllocError, Global};
 
@@ -11,7 +11,8 @@ use std::alloc::{AllocError, Global};
 /// What an entry needs beside what its caller has is taken beforehand, as a *spare*. So to add an entry takes no
 /// memory.
 pub trait Keeper: Drop {
-    ghost use Rattle.bp_keeper.specs.Kept.{Kept, IsEmpty, with_next, read_by, write_by, write_first};
+    ghost use Rattle.bp_keeper.specs.Kept.{Kept, IsEmpty, with_next, read_by, write_by};
+    ghost use Rattle.bp_keeper.specs.Kept.{read_end, write_first};
 
     /// What an entry with an image needs beside the image that its caller has.
     type SpareImage: Drop;
@@ -48,7 +49,7 @@ pub trait Keeper: Drop {
         ensures memory { REFUSES ≡ false → IsOk result };
 
     /// What an entry with these bytes will need. It fails by want of memory alone.
-    fn spare_bytes(alloc: Global, bytes: &Bytes) -> Result<Self::SpareBytes, AllocError>
+    fn spare_bytes(alloc: Global, bytes: &[u8]) -> Result<Self::SpareBytes, AllocError>
         ensures serves { IfOk result (λ spare. serves_bytes spare bytes.now) }
         ensures memory { REFUSES ≡ false → IsOk result };
 
@@ -73,7 +74,7 @@ pub trait Keeper: Drop {
         &mut self,
         pass: Grant,
         offset: u32,
-        bytes: &Bytes,
+        bytes: &[u8],
         lsn: Lsn,
         spare: Self::SpareBytes,
     )
@@ -81,6 +82,20 @@ pub trait Keeper: Drop {
         requires spare { serves_bytes spare bytes.now }
         ensures { kept self.new ≡ with_next (kept self.old) pass.client
             (write_by pass offset bytes.now lsn) Done };
+
+    /// Adds the entry of a read that ended well, by its ticket, with the image that it found and the pass that it
+    /// gives. It takes no memory. The image that is left of the page's frame is the entry's, or comes back.
+    fn record_read_end(
+        &mut self,
+        ticket: Grant,
+        pass: u64,
+        image: &Image,
+        left: Image,
+    ) -> Option<Image>
+        requires room { (kept self.old).len < (kept self.old).capacity }
+        requires size { length left ≡ length image.now }
+        ensures { kept self.new ≡ with_next (kept self.old) ticket.client
+            (read_end ticket image.now) (Fixed pass) };
 
     /// Adds the entry of a call by which a write-out begins, with the ticket that it gives. It takes no memory.
     fn record_begin(&mut self, call: Call, ticket: Grant, image: &Image, spare: Self::SpareImage)

@@ -3,14 +3,14 @@ ghost use Rattle.std.specs.Prelude.{IsOk};
 
 use crate::keeper::Keeper;
 use crate::silent::SilentKeeper;
-use bp_page::{Bytes, Image};
+use bp_page::Image;
 use std::alloc::{AllocError, Global};
 
 /// A silent keeper asks for no memory: each spare that is wanted of it is there.
 pub fn silent_keeper_refuses_nothing(
     alloc: Global,
     image: &Image,
-    bytes: &Bytes,
+    bytes: &[u8],
 ) -> Result<(), AllocError>
     ensures { IsOk result }
 {

@@ -68,8 +68,8 @@ impl Keeper for RecordingKeeper {
         Image::of(alloc, image.bytes())
     }
 
-    fn spare_bytes(alloc: Global, bytes: &Bytes) -> Result<Bytes, AllocError> {
-        Bytes::of(alloc, bytes.bytes())
+    fn spare_bytes(alloc: Global, bytes: &[u8]) -> Result<Bytes, AllocError> {
+        Bytes::of(alloc, bytes)
     }
 
     fn len(&self) -> usize {
@@ -95,7 +95,7 @@ impl Keeper for RecordingKeeper {
         });
     }
 
-    fn record_write(&mut self, pass: Grant, offset: u32, _bytes: &Bytes, lsn: Lsn, spare: Bytes) {
+    fn record_write(&mut self, pass: Grant, offset: u32, _bytes: &[u8], lsn: Lsn, spare: Bytes) {
         self.entries.push_reserved(Entry {
             client: pass.client,
             call: Call::Write {
@@ -107,6 +107,19 @@ impl Keeper for RecordingKeeper {
             },
             reply: Reply::Done,
         });
+    }
+
+    fn record_read_end(
+        &mut self,
+        ticket: Grant,
+        pass: u64,
+        image: &Image,
+        left: Image,
+    ) -> Option<Image> {
+        let mut own = left;
+        own.copy_from(image);
+        self.record_load(ticket, pass, own);
+        None
     }
 
     fn record_begin(&mut self, call: Call, ticket: Grant, _image: &Image, spare: Image) {

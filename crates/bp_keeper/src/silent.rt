@@ -3,7 +3,7 @@
 use crate::ghost_trail::{Event, GhostImage, GhostTrail, Shown};
 use crate::keeper::Keeper;
 use crate::list_keeper::ListKeeper;
-use bp_page::{Bytes, Geometry, Image, Lsn};
+use bp_page::{Geometry, Image, Lsn};
 use bp_trail::{Call, Entry, Grant, Reply};
 use std::alloc::{AllocError, Global};
 use std::marker::Model;
@@ -67,7 +67,7 @@ impl Keeper for SilentKeeper {
         Ok(GhostImage::of(image))
     }
 
-    fn spare_bytes(_alloc: Global, _bytes: &Bytes) -> Result<(), AllocError> {
+    fn spare_bytes(_alloc: Global, _bytes: &[u8]) -> Result<(), AllocError> {
         Ok(())
     }
 
@@ -94,13 +94,24 @@ impl Keeper for SilentKeeper {
         self.count += 1;
     }
 
-    fn record_write(&mut self, pass: Grant, offset: u32, bytes: &Bytes, lsn: Lsn, _spare: ()) {
+    fn record_write(&mut self, pass: Grant, offset: u32, bytes: &[u8], lsn: Lsn, _spare: ()) {
         self.trail = self.trail.then_shown(&Shown {
             grant: pass,
             event: Event::Write { offset, lsn },
-            bytes: bytes.bytes(),
+            bytes,
         });
         self.count += 1;
+    }
+
+    fn record_read_end(
+        &mut self,
+        ticket: Grant,
+        pass: u64,
+        image: &Image,
+        left: Image,
+    ) -> Option<Image> {
+        self.record_load(ticket, pass, GhostImage::of(image));
+        Some(left)
     }
 
     fn record_begin(&mut self, call: Call, ticket: Grant, image: &Image, _spare: GhostImage) {

@@ -1,5 +1,5 @@
 //! The bytes of a page, and the bytes that a write puts there.
-ghost use Rattle.std.specs.Prelude.{◌≡◌, ℕ, ◌+◌, ◌≤◌, List, IfOk, length, replicate};
+ghost use Rattle.std.specs.Prelude.{◌≡◌, ℕ, ◌+◌, ◌≤◌, List, IfOk, length, replicate, take, drop};
 ghost use Rattle.std.specs.Str.{bytes_eq};
 ghost use Rattle.std.specs.Cmp.Rules.{comparing};
 ghost use Rattle.std.proofs.Common.{rules};
@@ -12,14 +12,14 @@ use std::marker::Model;
 /// The bytes of one page, its own copy. Two images are equal where their bytes are.
 #[derive(Debug, Drop)]
 pub struct Image {
-    // One word, so that an entry is small.
-    bytes: Box<Vec<u8>>,
+    // With no box between: who has the image is one step from its bytes.
+    bytes: Vec<u8>,
 }
 
 impl Model for Image {
     ghost Value = { List ℕ };
 
-    ghost view = { λ image. image.bytes.value.items };
+    ghost view = { λ image. image.bytes.items };
 }
 
 impl PartialEq for Image {
@@ -41,22 +41,36 @@ impl Image {
     pub fn of(alloc: Global, bytes: &[u8]) -> Result<Image, AllocError>
         ensures { IfOk result (λ image. image ≡ bytes.now) }
     {
-        let mut own = Vec::new(alloc);
-        own.extend_from_slice(bytes)?;
-        Ok(Image {
-            bytes: Box::new(alloc, own)?,
-        })
+        let bytes = Vec::from_slice(alloc, bytes)?;
+        Ok(Image { bytes })
+    }
+
+    /// An image of these bytes, in the memory that they have. It takes none.
+    pub fn from_vec(bytes: Vec<u8>) -> Image
+        ensures { result ≡ bytes.items }
+    {
+        Image { bytes }
+    }
+
+    /// An image of these bytes, in the memory of the spare where that has as many. It fails by want of memory alone.
+    pub fn of_with(alloc: Global, spare: Option<Image>, bytes: &[u8]) -> Result<Image, AllocError>
+        ensures { IfOk result (λ image. image ≡ bytes.now) }
+    {
+        match spare {
+            Some(mut image) if image.bytes.len() == bytes.len() => {
+                image.bytes.copy_from_slice(bytes);
+                Ok(image)
+            }
+            _ => Image::of(alloc, bytes),
+        }
     }
 
     /// An image of zeros, of the page size. It fails by want of memory alone.
     pub fn blank(alloc: Global, geometry: &Geometry) -> Result<Image, AllocError>
         ensures { IfOk result (λ image. image ≡ replicate geometry.now.size 0) }
     {
-        let size = geometry.size;
-        let zeros = vec![in alloc; 0; size]?;
-        Ok(Image {
-            bytes: Box::new(alloc, zeros)?,
-        })
+        let bytes = vec![in alloc; 0; geometry.size]?;
+        Ok(Image { bytes })
     }
 
     /// Its bytes.
@@ -64,6 +78,17 @@ impl Image {
         ensures { result.now ≡ self.now }
     {
         &self.bytes
+    }
+
+    /// Copies so many of its bytes, from the offset on. It takes no memory.
+    pub fn copy_to(&self, offset: usize, into: &mut [u8])
+        requires { offset + length into.old ≤ length self.now }
+        ensures { into.new ≡ take (length into.old) (drop offset self.now) }
+    {
+        let rest = self.bytes.len() - offset;
+        prove!(into.len() <= rest);
+        let end = offset + into.len();
+        into.copy_from_slice(&self.bytes[offset..end]);
     }
 
     /// Takes the bytes of another image of the same length. It takes no memory.

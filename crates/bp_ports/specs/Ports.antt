@@ -1,5 +1,5 @@
 -- What a port says of itself.
-use Rattle.std.specs.Prelude.{◌≡◌, ◌≢◌, ◌⊎◌, ℕ, Bool, true, false, ◌<◌, ◌≤◌, ◌^◌, ◌+◌, List, [], length, Result, Ok, Err}
+use Rattle.std.specs.Prelude.{◌≡◌, ◌≢◌, ◌⊎◌, ℕ, Bool, true, false, ◌<◌, ◌≤◌, ◌^◌, ◌+◌, List, length, Result, Ok, Err}
 use Rattle.bp_page.specs.declared.limits.Geometry.{Geometry}
 use Rattle.bp_page.specs.declared.refusals.PortFault.{PortFault}
 use Rattle.bp_page.specs.declared.slots.Format.{Format}
@@ -31,25 +31,26 @@ abbrev pub FailsOrPasses : ℕ → Type 0 → Type 0 → Type 0
 FailsOrPasses left fails passes = (left ≡ 1 → fails) × (left ≢ 1 → passes)
 
 -- what a caller sees of a port: its device's pages and their size, the failures that it has
--- counted, whether the pages stand with their numbers, and the bytes of the slot that it moved
--- last, where it keeps one
-pub record PortView : Type 0 where
+-- counted, whether the pages stand with their numbers, and what holds their bytes, where it tells
+pub record PortView (S : Type 0) : Type 0 where
   pub device : Geometry
   pub failures : ℕ
   pub headed : Bool
-  pub slot : List ℕ
+  pub store : S
 
-abbrev pub new_port : Geometry → PortView
-new_port geometry = record { device = geometry; failures = 0; headed = false; slot = [] }
+abbrev pub new_port : Geometry → PortView (Unit {0})
+new_port geometry = record { device = geometry; failures = 0; headed = false; store = tt }
 
 -- a read by a port to these pages: a failure is counted, and a page that the device lacks is one
-abbrev pub ReadsPage : PortView → ℕ → Result (List ℕ) PortFault → PortView → Type 0
+abbrev pub ReadsPage : {S : Type 0} → PortView S → ℕ → Result (List ℕ) PortFault → PortView S
+    → Type 0
 ReadsPage port page found after =
     Counts found port.failures after.failures × (port.device.pages ≤ page → IsFailure found)
 
 -- a write by such a port: it takes no memory, and an image that is no page of the device is a
 -- failure too
-abbrev pub WritesPage : PortView → ℕ → List ℕ → Result (Unit {0}) PortFault → PortView → Type 0
+abbrev pub WritesPage : {S : Type 0} → PortView S → ℕ → List ℕ → Result (Unit {0}) PortFault
+    → PortView S → Type 0
 WritesPage port page image written after =
     Counts written port.failures after.failures × (written ≢ Err Memory)
     × (port.device.pages ≤ page → IsFailure written)

@@ -1,7 +1,8 @@
--- Whole page files of both versions, by the images of their pages.
-use Rattle.std.specs.Prelude.{◌≡◌, ℕ, suc, List, [], ◌∷◌, ◌++◌, length, All, Option}
+-- Whole page files of both versions, by the images of their pages, and the writes of a blank one.
+use Rattle.std.specs.Prelude.{◌≡◌, ℕ, zero, suc, List, [], ◌∷◌, ◌++◌, length, replicate, All, Option, Result, Ok}
 use Rattle.std.specs.Io.KnownBytes.{Consumes, Appends}
 use Rattle.bp_page.specs.declared.limits.Geometry.{Geometry}
+use Rattle.bp_page.specs.declared.refusals.PortFault.{PortFault}
 use Rattle.bp_page.specs.Slots.{raw_slot, headed_slot}
 
 -- the slots of images one after the other, of pages numbered from this one on
@@ -40,3 +41,12 @@ pub record Copies (pages size : ℕ) (unread left old new : Option (List ℕ)) :
 abbrev pub Migrates : Geometry → Option (List ℕ) → Option (List ℕ) → Option (List ℕ)
     → Option (List ℕ) → Type 0
 Migrates g unread left old new = Copies g.pages g.size unread left old new
+
+-- so many pages from page 0 on were written by a port, one after the other, each of so many bytes 0
+-- and with LSN 0
+abbrev pub WritesBlank : {P : Type 0}
+    → (P → ℕ → List ℕ → ℕ → Result (Unit {0}) PortFault → P → Type 0) → ℕ → ℕ → P → P → Type 0
+WritesBlank {P} gives zero size port after = after ≡ port
+WritesBlank {P} gives (suc pages) size port after =
+    (between : P) × WritesBlank gives pages size port between
+    × gives between pages (replicate size 0) 0 (Ok tt) after

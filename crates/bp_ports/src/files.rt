@@ -1,20 +1,18 @@
 //! A page file, and the port on it.
-ghost use Rattle.std.specs.Prelude.{◌≡◌, ◌≢◌, ◌≤◌, ◌*◌, ◌↔◌, true, IsOk, IfOk, IfErr, OnErr, length, vec_len};
+ghost use Rattle.std.specs.Prelude.{◌≡◌, ◌≢◌, ◌<◌, ◌≤◌, ◌+◌, ◌*◌, ◌↔◌, ℕ, true, false, IsOk, IfOk, IfErr, OnErr, IsSome, IfSome, length, vec_len};
 ghost use Rattle.bp_page.specs.Limits.{IsGeometry};
-ghost use Rattle.bp_page.specs.Slots.{page_in, slot_size};
+ghost use Rattle.bp_page.specs.Slots.{slot_size};
 ghost use Rattle.bp_ports.specs.Ports.{PortView, has_headers};
-ghost use Rattle.bp_ports.specs.Files.{FoundIn, IsFileLength, IsOpenFault, ReadsFile, WritesFile};
+ghost use Rattle.bp_ports.specs.Files.{FoundIn, IsFileLength, IsOpenFault, ReadsStore, WritesStore, place_of, room_of};
 
 use crate::failures::Failures;
 use crate::places::start_of;
 use crate::port::Port;
-use bp_page::{
-    Format, Geometry, Image, Lsn, PageNo, PortFault, Refusal, fill_slot2, unslot, unslot2,
-};
+use crate::store::Store;
+use bp_page::{Format, Geometry, Image, Lsn, PageNo, PortFault, Refusal, fill_slot2, unslot2};
 use std::alloc::Global;
 use std::fs::{File, OpenOptions};
 use std::marker::Model;
-use std::os::unix::fs::FileExt;
 use std::path::AsPath;
 use std::rt::Files;
 use std::sync::Wait;
@@ -31,28 +29,28 @@ pub enum OpenFault {
     Port(PortFault),
 }
 
-/// A client's way to a page file. In version 1 page p stands as its bytes, at byte p · size; in version 2 after its
-/// number and its page LSN, at byte p · (size + 16).
+/// A client's way to a page file: to a file, or to another store where one is named. In version 1 page p stands as its
+/// bytes, at byte p · size; in version 2 after its number and its page LSN, at byte p · (size + 16).
 #[derive(Drop)]
-pub struct FilePort {
+pub struct FilePort<S: Store = File> {
     alloc: Global,
     device: Geometry,
     format: Format,
-    file: File,
-    /// A slot.
+    store: S,
+    /// A slot of version 2. One of version 1 is the image, so there it has no bytes.
     buffer: Vec<u8>,
     count: Failures,
-    ghost room: { vec_len buffer ≡ slot_size format device.size },
+    ghost room: { vec_len buffer ≡ room_of format device.size },
 }
 
-impl Model for FilePort {
-    ghost Value = { PortView };
+impl<S: Store> Model for FilePort<S> {
+    ghost Value = { PortView S };
 
     ghost view = { λ p. record {
       device = p.device;
       failures = p.count;
       headed = has_headers p.format;
-      slot = p.buffer.items;
+      store = p.store;
     } };
 }
 
@@ -80,7 +78,8 @@ impl FilePort {
     /// many pages it has.
     ///
     /// `Refused(BadLength)` where it is no positive number of whole slots of pages of this size, or more than
-    /// 1,048,576; `Port(Device)` where it can't be opened, and `Port(Memory)` where a page's bytes can't be had.
+    /// 1,048,576; `Port(Device)` where it can't be opened, and `Port(Memory)` where the bytes of a slot of version 2
+    /// can't be had.
     pub fn open<R: Files<File = File>, P: AsPath>(
         rt: &R,
         alloc: Global,
@@ -102,56 +101,104 @@ impl FilePort {
         let Ok(device) = geometry_of_file(metadata.len(), size, format) else {
             return Err(OpenFault::Refused(Refusal::BadLength));
         };
-        let Ok(buffer) = vec![in alloc; 0u8; format.slot_size(size)] else {
+        FilePort::over(alloc, file, device, format)
+    }
+}
+
+impl<S: Store> FilePort<S> {
+    /// A port to the pages of this geometry and version in a store. `Port(Memory)` where the bytes of a slot of version
+    /// 2 can't be had; version 1 takes none.
+    pub fn over(
+        alloc: Global,
+        store: S,
+        device: Geometry,
+        format: Format,
+    ) -> Result<FilePort<S>, OpenFault>
+        ensures device { IfOk result (λ port. (port.device ≡ device) × (port.failures ≡ 0)) }
+        ensures headed { IfOk result (λ port. port.headed ≡ has_headers format) }
+        ensures store { IfOk result (λ port. port.store ≡ store) }
+        ensures refused { OnErr result (result ≡ Err (OpenFault.Port PortFault.Memory)) }
+        ensures plain { has_headers format ≡ false → IsOk result }
+    {
+        let buffer = match format {
+            Format::Plain => Ok(Vec::new(alloc)),
+            Format::Headed => vec![in alloc; 0u8; format.slot_size(device.size)],
+        };
+        let Ok(buffer) = buffer else {
             return Err(OpenFault::Port(PortFault::Memory));
         };
         Ok(FilePort {
             alloc,
             device,
             format,
-            file,
+            store,
             buffer,
             count: Failures::none(),
         })
     }
 
-    /// The image in the buffer, which was read as the slot of this page.
-    fn image_read(&self, page: PageNo) -> Result<Image, PortFault>
-        ensures size { IfOk result (λ image. length image ≡ self.now.device.size) }
-        ensures found { FoundIn self.now.headed page self.now.slot result }
-        ensures not_counted { result ≢ Err PortFault.Device }
+    /// The byte at which a page's slot begins, if the file has the page.
+    fn start(&self, page: PageNo) -> Option<u64>
+        ensures in_range { IsSome result ↔ (page < self.now.device.pages) }
+        ensures start { IfSome result (λ start. start ≡ place_of self.now page) }
     {
-        image_in(self.alloc, self.format, page, &self.buffer)
+        start_of(&self.device, self.format.slot_size(self.device.size), page)
     }
 }
 
-/// The image in a slot of this version that was read as that of this page. `WrongPage` exactly where the slot has the
-/// number of another page, else `Memory` where the image can't be had.
-fn image_in(alloc: Global, format: Format, page: PageNo, slot: &[u8]) -> Result<Image, PortFault>
-    requires header { has_headers format ≡ true → 16 ≤ length slot.now }
-    ensures found { FoundIn (has_headers format) page slot.now result }
-    ensures size { IfOk result (λ image. slot_size format (length image) ≡ length slot.now) }
-    ensures not_counted { result ≢ Err PortFault.Device }
+/// Reads the slot of version 1 that begins at this byte, as the image itself. `Memory` where the image can't be had,
+/// and then nothing is read.
+fn read_plain<S: Store>(
+    store: &mut S,
+    alloc: Global,
+    start: u64,
+    size: usize,
+) -> Result<Image, PortFault>
+    ensures size { IfOk result (λ image. length image ≡ size) }
+    ensures never_wrong { result ≢ Err PortFault.WrongPage }
+    ensures found { (page : ℕ) → FoundIn S.reads false page start store.old result store.new }
 {
-    match format {
-        Format::Plain => unslot(alloc, slot),
-        Format::Headed => {
+    let Ok(mut bytes) = vec![in alloc; 0u8; size] else {
+        return Err(PortFault::Memory);
+    };
+    match store.read_slot(start, &mut bytes) {
+        Ok(()) => Ok(Image::from_vec(bytes)),
+        Err(_) => Err(PortFault::Device),
+    }
+}
+
+/// Reads the slot of version 2 that begins at this byte. `WrongPage` exactly where it was read and has the number of
+/// another page, else `Memory` where the image can't be had.
+fn read_headed<S: Store>(
+    store: &mut S,
+    alloc: Global,
+    page: PageNo,
+    start: u64,
+    slot: &mut [u8],
+) -> Result<Image, PortFault>
+    requires header { 16 ≤ length slot.old }
+    ensures size { IfOk result (λ image. length slot.old ≡ 16 + length image) }
+    ensures found { FoundIn S.reads true page start store.old result store.new }
+{
+    match store.read_slot(start, slot) {
+        Ok(()) => {
             let (_, image) = unslot2(alloc, page, slot)?;
             Ok(image)
         }
+        Err(_) => Err(PortFault::Device),
     }
 }
 
-impl Port for FilePort {
+impl<S: Store> Port for FilePort<S> {
     ghost geometry_of = { λ p. p.device };
 
     ghost failures_of = { λ p. p.failures };
 
     ghost is_headed = { λ p. p.headed };
 
-    ghost read_gives = { ReadsFile };
+    ghost read_gives = { ReadsStore S.reads };
 
-    ghost write_gives = { WritesFile };
+    ghost write_gives = { WritesStore S.writes };
 
     fn geometry(&self) -> Geometry {
         self.device
@@ -162,13 +209,17 @@ impl Port for FilePort {
     }
 
     fn read<R: Wait>(&mut self, _rt: &R, page: PageNo) -> Result<Image, PortFault> {
-        let Some(start) = start_of(&self.device, self.buffer.len(), page) else {
+        let Some(start) = self.start(page) else {
             return Err(self.count.add());
         };
-        match self.file.read_exact_at(&mut self.buffer, start) {
-            Ok(()) => self.image_read(page),
-            Err(_) => Err(self.count.add()),
-        }
+        let size = self.device.size;
+        let read = match self.format {
+            Format::Plain => read_plain(&mut self.store, self.alloc, start, size),
+            Format::Headed => {
+                read_headed(&mut self.store, self.alloc, page, start, &mut self.buffer)
+            }
+        };
+        self.count.count_failure(read)
     }
 
     // A slot of version 1 is the image's own bytes, and one of version 2 is made in the buffer, so a write takes no
@@ -180,17 +231,17 @@ impl Port for FilePort {
         image: &Image,
         lsn: Lsn,
     ) -> Result<(), PortFault> {
-        let Some(start) = start_of(&self.device, self.buffer.len(), page) else {
+        let Some(start) = self.start(page) else {
             return Err(self.count.add());
         };
         if image.bytes().len() != self.device.size {
             return Err(self.count.add());
         }
         let written = match self.format {
-            Format::Plain => self.file.write_all_at(image.bytes(), start),
+            Format::Plain => self.store.write_slot(start, image.bytes()),
             Format::Headed => {
                 fill_slot2(&mut self.buffer, page, lsn, image);
-                self.file.write_all_at(&self.buffer, start)
+                self.store.write_slot(start, &self.buffer)
             }
         };
         match written {

@@ -11,6 +11,7 @@ pub mod new_files;
 mod places;
 pub mod port;
 pub mod progress;
+pub mod store;
 
 pub use files::{FilePort, OpenFault, geometry_of_file};
 pub use fuse::FusePort;
@@ -20,3 +21,4 @@ pub use migration::{MigrateFault, migrate_told, migrate_with};
 pub use new_files::create_page_file;
 pub use port::Port;
 pub use progress::{Progress, Untold};
+pub use store::Store;

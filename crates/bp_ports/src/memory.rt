@@ -1,5 +1,5 @@
 //! A device in memory, and the ports on it.
-ghost use Rattle.std.specs.Prelude.{◌≡◌, ◌*◌, false, [], IfOk, OnErr};
+ghost use Rattle.std.specs.Prelude.{◌≡◌, ◌*◌, false, IfOk, OnErr, replicate};
 ghost use Rattle.bp_page.specs.declared.limits.Geometry.{Geometry};
 ghost use Rattle.bp_ports.specs.Ports.{PortView, ReadsPage, WritesPage, new_port};
 
@@ -7,7 +7,7 @@ use crate::failures::Failures;
 use crate::places::start_of;
 use crate::port::Port;
 use bp_page::{Geometry, Image, Lsn, PageNo, PortFault, Refusal};
-use std::alloc::Global;
+use std::alloc::{AllocError, Global};
 use std::marker::Model;
 use std::sync::{Arc, Mutex, Wait};
 
@@ -31,8 +31,7 @@ impl MemDevice {
         ensures geometry { IfOk result (λ made. made ≡ geometry) }
         ensures memory { OnErr result (result ≡ Err Refusal.OutOfMemory) }
     {
-        let length = geometry.pages as usize * geometry.size;
-        let zeros = vec![in alloc; 0u8; length]?;
+        let zeros = zero_bytes(alloc, geometry.pages as usize * geometry.size)?;
         let Ok(bytes) = Arc::new(alloc, Mutex::new(zeros)) else {
             return Err(Refusal::OutOfMemory);
         };
@@ -58,6 +57,13 @@ impl MemDevice {
     }
 }
 
+/// So many bytes 0. It fails by want of memory alone.
+fn zero_bytes(alloc: Global, length: usize) -> Result<Vec<u8>, AllocError>
+    ensures { IfOk result (λ bytes. bytes.items ≡ replicate length 0) }
+{
+    vec![in alloc; 0u8; length]
+}
+
 /// A client's way to a device in memory. It waits while another port reads or writes there.
 #[derive(Drop)]
 pub struct MemPort {
@@ -68,13 +74,13 @@ pub struct MemPort {
 }
 
 impl Model for MemPort {
-    ghost Value = { PortView };
+    ghost Value = { PortView (Unit {0}) };
 
     ghost view = { λ p. record {
       device = p.device;
       failures = p.count;
       headed = false;
-      slot = [];
+      store = tt;
     } };
 }
 

@@ -1,6 +1,7 @@
 //! Page files that are made.
 ghost use Rattle.std.specs.Prelude.{◌≡◌, ◌⊎◌, OnOk, IfOk, IfErr};
 ghost use Rattle.bp_ports.specs.Files.{IsOpenFault};
+ghost use Rattle.bp_ports.specs.WholeFiles.{WritesBlank};
 ghost use Rattle.bp_ports.specs.Ports.{has_headers};
 
 use crate::files::{FilePort, OpenFault};
@@ -12,20 +13,19 @@ use std::fs::File;
 use std::rt::Files;
 use std::sync::Wait;
 
-/// Writes each page out with bytes 0 and LSN 0. In a file of version 2 each page has its number then.
-fn blank_pages<R: Wait>(
-    rt: &R,
-    alloc: Global,
-    port: &mut FilePort,
-    geometry: &Geometry,
-) -> Result<(), OpenFault>
-    ensures device { port.new.device ≡ port.old.device }
-    ensures headed { port.new.headed ≡ port.old.headed }
-    ensures uncounted { OnOk result (port.new.failures ≡ port.old.failures) }
+/// Writes each page of a port out with bytes 0 and LSN 0, one after the other. In a file of version 2 each page has its
+/// number then.
+fn blank_pages<R: Wait, P: Port>(rt: &R, alloc: Global, port: &mut P) -> Result<(), OpenFault>
+    ensures device { P.geometry_of port.new ≡ P.geometry_of port.old }
+    ensures headed { P.is_headed port.new ≡ P.is_headed port.old }
+    ensures uncounted { OnOk result (P.failures_of port.new ≡ P.failures_of port.old) }
+    ensures written { OnOk result (WritesBlank P.write_gives (P.geometry_of port.old).pages
+        (P.geometry_of port.old).size port.old port.new) }
     ensures refused { IfErr result (λ fault. (fault ≡ OpenFault.Port PortFault.Device) ⊎
         (fault ≡ OpenFault.Port PortFault.Memory)) }
 {
-    let Ok(blank) = Image::blank(alloc, geometry) else {
+    let geometry = port.geometry();
+    let Ok(blank) = Image::blank(alloc, &geometry) else {
         return Err(OpenFault::Port(PortFault::Memory));
     };
     for page in 0..geometry.pages {
@@ -60,7 +60,7 @@ fn fill<R: Files<File = File> + Wait>(
     if port.geometry().pages != geometry.pages {
         return Err(OpenFault::Refused(Refusal::BadLength));
     }
-    blank_pages(rt, alloc, &mut port, &geometry)?;
+    blank_pages(rt, alloc, &mut port)?;
     match file.sync_all() {
         Ok(()) => Ok(port),
         Err(_) => Err(OpenFault::Port(PortFault::Device)),

@@ -11,10 +11,10 @@ use Rattle.bp_trail.specs.Script.{Follows}
 use Rattle.bp_trail.specs.Trail.{Trail}
 use Rattle.bp_core.specs.CoreView.{CoreView}
 use Rattle.bp_core.specs.Added.{with_piece}
-use Rattle.bp_device.specs.Rows.{AddsScript}
+use Rattle.bp_device.specs.Rows.{AddsScript, ScriptCaused}
 use Rattle.bp_core.specs.Work.{DoesWork, Reads, Writes, WorksThrough}
 use Rattle.bp_trace.specs.Report.{rows_text}
-use Rattle.bp_run.specs.Run.{Reports, report_of}
+use Rattle.bp_run.specs.Run.{Reports, report_of, new_core}
 
 -- what was added to a new core is all that it has
 all_added : (old new : CoreView) (piece trail : Trail) → old.before ≡ [] → old.past ≡ [] → new ≡ with_piece old piece → trail ++ new.before ≡ new.past → trail ≡ piece
@@ -23,9 +23,10 @@ all_added old new piece trail none empty is entries =
     ∙ ap (λ (c : CoreView). c.past) is ∙ ap (λ (p : Trail). piece ++ p) empty ∙ append-nil piece
 
 pub reported : {P : Type 0} (reads : Reads P) (writes : Writes P) (totals : Bool) (old new : CoreView) (port after : P) (rows : List Row) (trail : List Entry) (refused : List Refused) (ok : Bool) (out written : Option (List ℕ))
-    → old.before ≡ [] → old.past ≡ [] → AddsScript old rows refused new → DoesWork reads writes old port new after → reverse trail ++ new.before ≡ new.past → Legal new.parameters new.past
+    → old.before ≡ [] → old.past ≡ [] → AddsScript old rows refused new → ScriptCaused old rows refused new → DoesWork reads writes old port new after → reverse trail ++ new.before ≡ new.past → Legal new.parameters new.past
     → ok ≡ (length refused == 0) → Appends out written (report_of totals trail ++ rows_text refused) → Reports reads writes totals old.parameters port rows ok out written
-reported reads writes totals old new port after rows trail refused ok out written none empty adds works entries legal accepted prints =
+reported reads writes totals old new port after rows trail refused ok out written none empty adds caused works entries legal accepted prints =
+    let fresh : old ≡ new_core old.parameters = λ i. record { parameters = old.parameters; before = none i; past = empty i } in
     let said : reverse trail ≡ adds.said = all_added old new adds.said (reverse trail) none empty adds.is entries in
     let done : reverse trail ≡ works.piece = all_added old new works.piece (reverse trail) none empty works.is entries in
     let past : new.past ≡ reverse trail = sym entries ∙ ap (λ (b : Trail). reverse trail ++ b) (ap (λ (c : CoreView). c.before) adds.is ∙ none) ∙ append-nil (reverse trail) in
@@ -34,6 +35,7 @@ reported reads writes totals old new port after rows trail refused ok out writte
       refused = refused;
       legal = subst (λ c. Legal c (reverse trail)) (ap (λ (c : CoreView). c.parameters) adds.is) (subst (λ p. Legal new.parameters p) past legal);
       follows = subst (λ p. Follows driver rows p refused) (sym said) adds.follows;
+      caused = subst (λ o. ScriptCaused o rows refused (with_piece o (reverse trail))) fresh (subst (λ n. ScriptCaused old rows refused n) (adds.is ∙ ap (with_piece old) (sym said)) caused);
       after = after;
       work = subst (λ p. WorksThrough reads writes [] p port after) (sym done) (subst (λ p. WorksThrough reads writes p works.piece port after) empty works.through);
       accepted = accepted;

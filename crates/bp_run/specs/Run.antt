@@ -10,7 +10,10 @@ use Rattle.bp_trail.specs.Parameters.{Parameters}
 use Rattle.bp_trail.specs.Legal.{Legal}
 use Rattle.bp_trail.specs.Pieces.Manner.{driver}
 use Rattle.bp_trail.specs.Script.{Follows}
+use Rattle.bp_core.specs.CoreView.{CoreView}
+use Rattle.bp_core.specs.Added.{with_piece}
 use Rattle.bp_core.specs.Work.{Reads, Writes, WorksThrough}
+use Rattle.bp_device.specs.Rows.{ScriptCaused}
 use Rattle.bp_trace.specs.Script.{IsScriptOfSome, script_of}
 use Rattle.bp_trace.specs.Report.{report_text, rows_text}
 use Rattle.bp_trace.specs.Totals.{totals_text}
@@ -60,8 +63,13 @@ parameters_for in_order told g rows = record {
 abbrev pub report_of : Bool → List Entry → List ℕ
 report_of totals trail = if totals then totals_text (totals_of trail) else report_text trail
 
+-- a core that has said nothing
+abbrev pub new_core : Parameters → CoreView
+new_core c = record { parameters = c; before = []; past = [] }
+
 -- what was written is the report of a legal trail and of refused rows, both of which follow the
--- script; the trail's device work was done by the port, in the trail's order, and nothing else was
+-- script, and each refused row had its cause; the trail's device work was done by the port, in the
+-- trail's order, and nothing else was
 pub record Reports {P : Type 0} (reads : Reads P) (writes : Writes P) (totals : Bool)
     (c : Parameters) (port : P) (script : List Row) (all_accepted : Bool)
     (old new : Option (List ℕ)) : Type 0 where
@@ -69,6 +77,7 @@ pub record Reports {P : Type 0} (reads : Reads P) (writes : Writes P) (totals : 
   pub refused : List Refused
   pub legal : Legal c (reverse trail)
   pub follows : Follows driver script (reverse trail) refused
+  pub caused : ScriptCaused (new_core c) script refused (with_piece (new_core c) (reverse trail))
   pub after : P
   pub work : WorksThrough reads writes [] (reverse trail) port after
   pub accepted : all_accepted ≡ (length refused == 0)

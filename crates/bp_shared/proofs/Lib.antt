@@ -6,3 +6,4 @@ pub mod Fixing
 pub mod Making
 pub mod Flushing
 pub mod Telling
+pub mod Posting

@@ -1,10 +1,8 @@
 -- What a cut hands out goes on from what was handed out before.
-use Rattle.std.proofs.Common.{◌≡◌, refl, sym, ap, subst, ◌∙◌, ◌+◌, ◌≤◌, List, [], ◌∷◌, ◌++◌, length, reverse}
-use Rattle.std.proofs.lemmas.List.{length-reverse}
+use Rattle.std.proofs.Common.{◌≡◌, refl, sym, ap, subst, ◌∙◌, ◌+◌, ◌≤◌, List, [], ◌∷◌, ◌++◌, reverse}
 use Rattle.std.specs.declared.vec.Vec.{Vec}
 use Rattle.rtrb.specs.declared.producer.Producer.{Producer}
 use Rattle.rtrb.specs.Ring.{sent}
-use Rattle.bp_page.specs.declared.refusals.Refusal.TheVariants as refusal
 use Rattle.bp_trail.specs.declared.entries.Entry.{Entry}
 use Rattle.bp_trail.specs.Parameters.{Parameters}
 use Rattle.bp_trail.specs.Trail.{Trail}
@@ -13,10 +11,11 @@ use Rattle.bp_trail.specs.Cuts.{LeadsOn}
 use Rattle.bp_trail.specs.Legal.{Legal}
 use Rattle.bp_trail.specs.Standing.{standing}
 use Rattle.bp_core.specs.CoreView.{CoreView}
-use Rattle.bp_core.specs.Outcomes.{Cuts, CutRefused}
+use Rattle.bp_core.specs.Outcomes.{Cuts}
 use Rattle.bp_mark.specs.Marks.{MarkName, ReaderValue}
 use Rattle.bp_shared.specs.Locked.{IsLocked}
-use Rattle.bp_shared.specs.Taking.{RingName, ring_of, IsEmptied, TakerValue, after_pieces, IsHandedOut, ComesNext, GaveTooMany}
+use Rattle.bp_book.specs.Rings.{RingName, ring_of}
+use Rattle.bp_shared.specs.Taking.{IsEmptied, TakerValue, after_pieces, IsHandedOut, ComesNext}
 
 pub one_more : {A : Type 0} (before : Trail) (sent : List (Vec Entry A)) (piece : Vec Entry A) → after_pieces before (sent ++ piece ∷ []) ≡ reverse piece.items ++ after_pieces before sent
 one_more before [] piece = refl

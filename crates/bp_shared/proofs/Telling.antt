@@ -1,5 +1,5 @@
 -- The board, the trail and a client's list tell the same after each section.
-use Rattle.std.proofs.Common.{◌≡◌, ◌≢◌, ◌⊎◌, ◌<◌, ◌≤◌, refl, sym, ap, subst, ◌∙◌, ℕ, zero, suc, Bool, true, false, cond, List, [], ◌∷◌, ◌++◌, length, get_or, set, All, append_assoc, arith, Option, Some, None, Result, Ok, Err, inl, inr}
+use Rattle.std.proofs.Common.{◌≡◌, ◌≢◌, ◌⊎◌, refl, sym, ap, subst, ◌∙◌, ℕ, zero, suc, Bool, true, false, cond, List, [], ◌∷◌, ◌++◌, length, get_or, set, All, append_assoc, arith, Option, Some, None, Result, Ok, Err, inl, inr}
 use Rattle.std.proofs.lemmas.List.{append-nil, get_or-set_same, get_or-set_other}
 use Rattle.std.proofs.lemmas.List.Elements.{filter-append, All-nil, All-cons, All-head, All-tail, All-append}
 use native.Mathlib.Decide.{ℕ_discrete}
@@ -19,7 +19,7 @@ use Rattle.bp_core.specs.declared.passes.Pass.{Pass}
 use Rattle.bp_core.specs.declared.passes.ReadTicket.{ReadTicket}
 use Rattle.bp_core.specs.declared.passes.WriteTicket.{WriteTicket}
 use Rattle.bp_core.specs.declared.passes.Ended.{Ended}
-use Rattle.bp_core.specs.CoreView.{CoreView, with_entry}
+use Rattle.bp_core.specs.CoreView.{CoreView}
 use Rattle.bp_core.specs.Outcomes.{Cuts}
 use Rattle.bp_core.specs.Added.{ended_reply}
 use Rattle.bp_audit.specs.Clients.{of_client}
@@ -35,7 +35,7 @@ use Rattle.bp_book.specs.declared.pending.Fix.{Fix as Fixing}
 use Rattle.bp_book.specs.declared.pending.Fix.TheVariants as fixing
 use Rattle.bp_book.specs.declared.pending.Flush.{Flush as Flushing}
 use Rattle.bp_book.specs.declared.pending.Flush.TheVariants as flushing
-use Rattle.bp_book.specs.Turns.{LookOutcome, refusal_reply, and_told, AskFixOutcome, AskFlushOutcome, ReadSaid, WriteSaid, TickSaid, PurgeSaid, EndReadOutcome, EndWriteOutcome}
+use Rattle.bp_book.specs.Turns.{LookOutcome, refusal_reply, and_told, AskFixOutcome, AskFlushOutcome, ReadSaid, ReadIntoSaid, WriteSaid, TickSaid, PurgeSaid, EndReadOutcome, EndWriteOutcome}
 use Rattle.bp_shared.specs.Telling.{is_told, told, IsLineOf, IsShown, IsToldBy, IsBlank}
 
 -- ---- what is told, part by part
@@ -75,19 +75,19 @@ more_unfixes start mid past a b = record {
   untold = told-append b.back a.back ∙ ap (λ es. es ++ told a.back) b.untold ∙ a.untold;
 }
 
-one_back : (start : Trail) (strays : ℕ) (g : Grant) (past : Trail) (strayed : ℕ) → OneBack start strays g past strayed → AddsUnfixes start past
-one_back start strays g past strayed (inl h) = record { back = give_back g ∷ []; goes_on = h.1; untold = refl }
-one_back start strays g past strayed (inr h) = record { back = []; goes_on = h.1; untold = refl }
+one_back : (client : ℕ) (start : Trail) (strays : ℕ) (g : Grant) (past : Trail) (strayed : ℕ) → OneBack client start strays g past strayed → AddsUnfixes start past
+one_back client start strays g past strayed (inl h) = record { back = give_back g ∷ []; goes_on = h.2; untold = refl }
+one_back client start strays g past strayed (inr h) = record { back = []; goes_on = h.1; untold = refl }
 
-went_back : (start : Trail) (strays : ℕ) (taken : List Grant) (past : Trail) (strayed : ℕ) → GoBack start strays taken past strayed → AddsUnfixes start past
-went_back start strays _ _ _ none_taken = no_unfixes start
-went_back start strays _ _ _ (next_taken {taken} {past} {after} {strayed} {now_strayed} g before one) =
-    more_unfixes start past after (went_back start strays taken past strayed before) (one_back past strayed g after now_strayed one)
+went_back : (client : ℕ) (start : Trail) (strays : ℕ) (taken : List Grant) (past : Trail) (strayed : ℕ) → GoBack client start strays taken past strayed → AddsUnfixes start past
+went_back client start strays _ _ _ none_taken = no_unfixes start
+went_back client start strays _ _ _ (next_taken {taken} {past} {after} {strayed} {now_strayed} g before one) =
+    more_unfixes start past after (went_back client start strays taken past strayed before) (one_back client past strayed g after now_strayed one)
 
-pub drained_unfixes : (most : ℕ) (rings rings_after : List RingView) (start : Trail) (strays : ℕ) (past : Trail) (strayed : ℕ) → DrainsRings most rings rings_after start strays past strayed → AddsUnfixes start past
-drained_unfixes most _ _ start strays _ _ none_left = no_unfixes start
-drained_unfixes most _ _ start strays past strayed (next_ring {rings} {rings_after} {mid} {so_far} first rest) =
-    more_unfixes start mid past (went_back start strays first.taken mid so_far first.go_back) (drained_unfixes most rings rings_after mid so_far past strayed rest)
+pub drained_unfixes : (most client : ℕ) (rings rings_after : List RingView) (start : Trail) (strays : ℕ) (past : Trail) (strayed : ℕ) → DrainsRings most client rings rings_after start strays past strayed → AddsUnfixes start past
+drained_unfixes most client _ _ start strays _ _ none_left = no_unfixes start
+drained_unfixes most client _ _ start strays past strayed (next_ring {rings} {rings_after} {mid} {so_far} first rest) =
+    more_unfixes start mid past (went_back client start strays first.taken mid so_far first.go_back) (drained_unfixes most (suc client) rings rings_after mid so_far past strayed rest)
 
 -- ---- the entries that a call adds are its client's
 -- a list got one entry of the client's, or none
@@ -175,6 +175,10 @@ read_one client pass (Err refusal.UnknownPass) said after h = inl h
 read_one client pass (Err refusal.TrailFull) said after h = inl h.1
 read_one client pass (Err refusal.OutOfMemory) said after h = inl h.1
 read_one client pass (Err _) said after h = absurd h
+
+pub read_into_one : {A : Type 0} (client : ℕ) (pass : Pass) (offset : ℕ) (before : List ℕ) (answer : Result A Refusal) (bytes : List ℕ) (said after : Trail) → ReadIntoSaid client pass offset before answer bytes said after → OneMore client said after
+read_into_one client pass offset before (Ok done) bytes said after h = read_one client pass (Ok h.0) said after h.1
+read_into_one client pass offset before (Err why) bytes said after h = read_one client pass (Err why) said after h.0
 
 pub write_one : {A : Type 0} (client : ℕ) (pass : Pass) (offset : ℕ) (bytes : List ℕ) (lsn : ℕ) (answer : Result A Refusal) (said after : Trail) → WriteSaid client pass offset bytes lsn answer said after → OneMore client said after
 write_one client pass offset bytes lsn (Ok done) said after h = inr (Write pass.serial pass.page offset bytes lsn, Done, h.1)

@@ -50,7 +50,7 @@ pub record Drained (old new : LockedValue) : Type 0 where
   pub before : new.core.before ≡ old.core.before
   pub seen : new.seen ≡ old.seen
   pub ends : new.ends ≡ old.ends
-  pub drained : DrainsRings 32 old.rings new.rings old.core.past old.strays new.core.past new.strays
+  pub drained : DrainsRings 32 0 old.rings new.rings old.core.past old.strays new.core.past new.strays
 
 -- the rings were drained, and nothing was done since
 abbrev pub IsDrained : LockedValue → Type 0

@@ -1,9 +1,7 @@
 -- The trail of a pool, as it is taken piece by piece.
 use Rattle.std.specs.Prelude.{◌≡◌, ◌⊎◌, ℕ, ◌+◌, ◌<◌, ◌^◌, ◌≤◌, List, [], ◌∷◌, ◌++◌, length, reverse}
 use Rattle.std.specs.declared.vec.Vec.{Vec}
-use denote.RawPtr.{Ptr, null_ptr}
 use Rattle.rtrb.specs.declared.producer.Producer.{Producer}
-use Rattle.rtrb.specs.declared.consumer.Consumer.{Consumer}
 use Rattle.rtrb.specs.Ring.{sent, known_free, producer_capacity}
 use Rattle.bp_trail.specs.declared.entries.Entry.{Entry}
 use Rattle.bp_trail.specs.Parameters.{Parameters}
@@ -14,31 +12,19 @@ use Rattle.bp_trail.specs.Legal.{Legal}
 use Rattle.bp_trail.specs.Standing.{standing}
 use Rattle.bp_core.specs.CoreView.{CoreView}
 use Rattle.bp_core.specs.Outcomes.{Cuts}
+use Rattle.bp_book.specs.Rings.{RingName, no_name, ring_of}
 use Rattle.bp_shared.specs.Locked.{LockedValue}
 
--- the name by which a ring is told from every other
-pub record RingName : Type 0 where
-  pub words : Ptr
-  pub slots : Ptr
-  pub names : ℕ × (ℕ × ℕ)
-
--- the names of what is made before a pool: the ring by which its trail is taken, and the board of
--- its sessions
+-- the names of what is made before a pool: the ring by which its trail is taken, the board of its
+-- sessions, and the ring of each session, in the order of their clients
 pub record PoolRing : Type 0 where
   pub trail : RingName
   pub board : ℕ
+  pub rings : List RingName
 
 -- the names of nothing
 abbrev pub no_ring : PoolRing
-no_ring =
-    record { trail = record { words = null_ptr; slots = null_ptr; names = (0, (0, 0)) }; board = 0 }
-
-abbrev pub ring_of : {T A P : Type 0} → Producer T A P → RingName
-ring_of pieces =
-    record { words = pieces.end.words; slots = pieces.end.slots; names = pieces.end.names }
-
-abbrev pub ring_at : {T A P : Type 0} → Consumer T A P → RingName
-ring_at taken = record { words = taken.end.words; slots = taken.end.slots; names = taken.end.names }
+no_ring = record { trail = no_name; board = 0; rings = [] }
 
 -- no piece waits in the ring, which has room for one
 abbrev pub IsEmptied : {T A P : Type 0} → Producer T A P → Type 0

@@ -31,6 +31,8 @@ impl<N: PoolName, K: ListKeeper> Model for ClosedPool<N, K> {
 impl<N: PoolName, K: ListKeeper> ClosedPool<N, K> {
     ghost use Rattle.std.specs.Prelude.{◌≡◌, ◌≤◌};
     ghost use Rattle.bp_trail.specs.Clock.{durable};
+    ghost use Rattle.bp_book.specs.Books.{unfixes};
+    ghost use Rattle.bp_shared.specs.Posting.{IsSettledBy};
     ghost use Rattle.bp_shared.specs.Telling.{GoesOnFrom, IsToldBy};
 
     /// A pool whose state nobody else has.
@@ -44,15 +46,21 @@ impl<N: PoolName, K: ListKeeper> ClosedPool<N, K> {
     /// Ends a session and gives what it kept for itself, as [`Session::into_book`] does. It takes no memory.
     ///
     /// What the session's list told is what the core's trail tells of its client since the pool was made, entry by
-    /// entry and with nothing between. Unfixes are left out of both: the trail may have one later than the list, and
-    /// which ones it has no clause says. So this core gave each answer that the list has, and the client has no other
-    /// entry but unfixes. A refusal that adds no entry is not bound by it.
-    pub fn end_session(&mut self, session: Session<N, K>) -> Book<K>
+    /// entry and with nothing between. Unfixes are left out of that: a pass is posted at once, and goes back when its
+    /// ring is next drained. So of these it says that the passes which went back are some of those that the client
+    /// posted, in that order, and no other. The second value tells whether they are all of them. It is false only where
+    /// a pass still waits in the ring, or one that came out of a ring was not its client's or not out.
+    ///
+    /// So this core gave each answer that the list has, the client has no other entry, and a page is pinned while its
+    /// client's list holds a pass of it. A refusal that adds no entry is not bound by it.
+    pub fn end_session(&mut self, session: Session<N, K>) -> (Book<K>, bool)
         ensures same { self.new ≡ self.old }
-        ensures client { result.client ≡ session.client }
-        ensures before { result.before ≡ session.before }
-        ensures said { result.said ≡ session.said }
+        ensures client { result.0.client ≡ session.client }
+        ensures before { result.0.before ≡ session.before }
+        ensures said { result.0.said ≡ session.said }
         ensures theirs { IsToldBy N.past self.old.past session.client session.said }
+        ensures posted { IsSettledBy N.past self.old.past session.client
+            (unfixes session.said) result.1 }
     {
         self.state.end_session(session)
     }

@@ -24,7 +24,7 @@ pub(crate) struct LockedPool<N: PoolName, K: ListKeeper> {
     consumers: Vec<Consumer<PassNote>>,
     /// How often device work ended.
     ends: u64,
-    /// The passes taken from rings that the core did not know.
+    /// The passes taken from rings that were not of the ring's client, or that the core did not know.
     strays: u64,
     /// Where the trail is handed out.
     pieces: Producer<Vec<Entry>>,
@@ -34,9 +34,10 @@ pub(crate) struct LockedPool<N: PoolName, K: ListKeeper> {
 }
 
 impl<N: PoolName, K: ListKeeper> Model for LockedPool<N, K> {
-    ghost use Rattle.std.specs.Prelude.{map};
+    ghost use Rattle.std.specs.Prelude.{◌≡◌, map, length};
     ghost use Rattle.bp_shared.specs.Locked.{LockedValue, IsLocked};
     ghost use Rattle.bp_book.specs.Rings.{ring_view};
+    ghost use Rattle.bp_shared.specs.Posting.{IsPosted};
     ghost use Rattle.bp_shared.specs.Taking.{IsHandedOut};
     ghost use Rattle.bp_shared.specs.Telling.{IsShown};
 
@@ -52,16 +53,20 @@ impl<N: PoolName, K: ListKeeper> Model for LockedPool<N, K> {
 
     ghost invariant = { λ s. IsLocked N.mark N.parameters s.core s.reader
         × IsHandedOut N.ring.trail N.before s.pieces s.core
-        × IsShown N.ring.board N.past s.board s.core.past };
+        × IsShown N.ring.board N.past s.board s.core.past
+        × IsPosted N.ring.rings N.past (map ring_view s.consumers.items) s.strays s.core.past
+        × (length N.ring.rings ≡ N.parameters.clients) };
 }
 
 impl<N: PoolName, K: ListKeeper> LockedPool<N, K> {
-    ghost use Rattle.std.specs.Prelude.{◌≡◌, ◌≤◌, [], map};
-    ghost use Rattle.rtrb.specs.Ring.{sent};
+    ghost use Rattle.std.specs.Prelude.{◌≡◌, ◌<◌, ◌≤◌, [], All, map, length, reverse, slice_index_or};
+    ghost use Rattle.rtrb.specs.Ring.{sent, received};
     ghost use Rattle.bp_trail.specs.Clock.{durable};
-    ghost use Rattle.bp_book.specs.Rings.{ring_view};
+    ghost use Rattle.bp_book.specs.Books.{unfixes};
+    ghost use Rattle.bp_book.specs.Rings.{ring_view, ring_of, ring_at};
+    ghost use Rattle.bp_shared.specs.Posting.{IsSettledBy};
     ghost use Rattle.bp_shared.specs.Locked.{Drained};
-    ghost use Rattle.bp_shared.specs.Taking.{ring_of, IsEmptied};
+    ghost use Rattle.bp_shared.specs.Taking.{IsEmptied};
     ghost use Rattle.bp_shared.specs.Telling.{GoesOnFrom, IsShown, IsToldBy};
 
     /// A core whose rings gave nothing yet.
@@ -79,6 +84,10 @@ impl<N: PoolName, K: ListKeeper> LockedPool<N, K> {
         requires unused { IsEmptied pieces × (sent pieces ≡ []) }
         requires seen { durable core.past ≤ reader.seen }
         requires shown { IsShown N.ring.board N.past board core.past }
+        requires rings { map ring_at consumers.items ≡ N.ring.rings }
+        requires empty { All (λ ring. received ring ≡ []) consumers.items }
+        requires count { length N.ring.rings ≡ N.parameters.clients }
+        requires begins { core.past ≡ N.past }
         ensures core { result.core ≡ core }
         ensures rings { result.rings ≡ map ring_view consumers.items }
         ensures strays { result.strays ≡ 0 }
@@ -110,22 +119,46 @@ impl<N: PoolName, K: ListKeeper> LockedPool<N, K> {
         drain_all(&mut self.core, &mut self.strays, &mut self.consumers, asked);
     }
 
-    /// Ends a session and gives its book. What its list told is what the trail tells of its client.
-    pub(crate) fn end_session(&mut self, session: Session<N, K>) -> Book<K>
-        ensures same { self.new ≡ self.old }
-        ensures client { result.client ≡ session.client }
-        ensures before { result.before ≡ session.before }
-        ensures said { result.said ≡ session.said }
+    /// Whether each pass that a client posted went back: none waits in its ring, and none that came out of a ring was a
+    /// stray.
+    fn is_settled(&mut self, client: u8, producer: &mut Producer<PassNote>) -> bool
+        requires client_in { client < N.parameters.clients }
+        requires ring { slice_index_or N.ring.rings client (ring_of producer.old)
+            ≡ ring_of producer.old }
+        ensures core { self.new.core ≡ self.old.core }
+        ensures producer { sent producer.new ≡ sent producer.old }
+        ensures shown { (b : _) → IsShown N.ring.board N.past b self.old.core.past
+            → IsShown N.ring.board N.past b self.new.core.past }
+        ensures posted { IsSettledBy N.past self.old.core.past client
+            (reverse (sent producer.old)) result }
+    {
+        let waiting = self.consumers[usize::from(client)].slots_beside(producer);
+        if waiting > 0 {
+            return false;
+        }
+        self.strays == 0
+    }
+
+    /// Ends a session and gives its book, and whether each pass that its client posted went back. What its list told is
+    /// what the trail tells of its client.
+    pub(crate) fn end_session(&mut self, session: Session<N, K>) -> (Book<K>, bool)
+        ensures same { self.new.core ≡ self.old.core }
+        ensures client { result.0.client ≡ session.client }
+        ensures before { result.0.before ≡ session.before }
+        ensures said { result.0.said ≡ session.said }
         ensures theirs { IsToldBy N.past self.old.core.past session.client session.said }
+        ensures posted { IsSettledBy N.past self.old.core.past session.client
+            (unfixes session.said) result.1 }
     {
         let Session {
             book,
-            producer: _,
+            mut producer,
             mut line,
             of: _,
         } = session;
         self.board.write::<Book<K>, Told>(&mut line, &book);
-        book
+        let is_settled = self.is_settled(book.client(), &mut producer);
+        (book, is_settled)
     }
 
     /// The core and its reader. The taker has all that the core handed out.

@@ -6,7 +6,7 @@ use bp_mark::{LogEnd, Mark, Reader};
 use bp_page::Refusal;
 use std::alloc::Global;
 
-/// A mark with its log end and its first reader, and the ring by which the trail goes to its taker.
+/// A mark with its log end and its first reader, and the rings of the trail and of the sessions.
 #[derive(Drop)]
 pub struct Parts {
     /// The pool's durable mark: up to which LSN the log is durable.
@@ -15,7 +15,7 @@ pub struct Parts {
     pub end: LogEnd,
     /// The first reader of the mark, from which the others are split.
     pub reader: Reader,
-    /// The ring by which the trail goes to its taker, a piece at a time.
+    /// The ring by which the trail goes to its taker, a piece at a time, and that of each session.
     pub ring: TrailRing,
     /// The log end is of this mark.
     pub ghost end_is: { end.mark ≡ mark },
@@ -24,20 +24,21 @@ pub struct Parts {
 }
 
 impl Parts {
-    ghost use Rattle.std.specs.Prelude.{◌≡◌, IfOk, OnErr};
+    ghost use Rattle.std.specs.Prelude.{◌≡◌, IfOk, OnErr, length};
     ghost use Rattle.bp_page.specs.declared.refusals.Refusal.TheVariants as Refusal;
 
-    /// A mark at 0, of which the reader has seen nothing, and a ring that no piece went through. Where there is no
-    /// memory this is `OutOfMemory`, and nothing is made.
-    pub fn new(alloc: Global) -> Result<Parts, Refusal>
+    /// The parts of a pool of so many clients: a mark at 0, of which the reader has seen nothing, and rings that nothing
+    /// went through. Where there is no memory this is `OutOfMemory`, and nothing is made.
+    pub fn new(alloc: Global, clients: u8) -> Result<Parts, Refusal>
         ensures log_end { IfOk result (λ parts.
             parts.end ≡ record { mark = parts.mark; frontier = 0 }) }
         ensures reader { IfOk result (λ parts.
             parts.reader ≡ record { mark = parts.mark; seen = 0 }) }
+        ensures rings { IfOk result (λ parts. length parts.ring.rings ≡ clients) }
         ensures refused { OnErr result (result ≡ Err Refusal.OutOfMemory) }
     {
         let (mark, end, reader) = Mark::new(alloc)?;
-        let ring = TrailRing::new(alloc)?;
+        let ring = TrailRing::new(alloc, clients)?;
         Ok(Parts {
             mark,
             end,

@@ -1,6 +1,8 @@
 //! The pool: a core behind a lock, and the mark that it looks at.
-ghost use Rattle.std.specs.Prelude.{◌≡◌, [], IfOk, OnOk, OnErr};
+ghost use Rattle.std.specs.Prelude.{◌≡◌, ◌≢◌, [], All, map, length, IfOk, OnOk, OnErr};
 ghost use Rattle.bp_page.specs.declared.refusals.Refusal.TheVariants as Refusal;
+ghost use Rattle.bp_book.specs.Rings.{ring_of};
+ghost use Rattle.bp_shared.specs.Posting.{IsUnused};
 ghost use Rattle.bp_shared.specs.Sessions.{new_sessions};
 ghost use Rattle.bp_shared.specs.Telling.{IsBlank};
 
@@ -13,12 +15,12 @@ use crate::taker::Taker;
 use crate::trail_ring::TrailRing;
 use bp_board::Board;
 use bp_book::Posted;
-use bp_book::draining::{ALL, RING};
+use bp_book::draining::ALL;
 use bp_core::{Pass, PassNote, PoolCore};
 use bp_keeper::{ListKeeper, RecordingKeeper};
 use bp_mark::{Mark, Reader};
 use bp_page::{Geometry, Refusal};
-use rtrb::{Consumer, RingBuffer};
+use rtrb::Producer;
 use std::alloc::Global;
 use std::marker::Model;
 use std::sync::{Condvar, Mutex, MutexGuard, Wait};
@@ -28,35 +30,38 @@ mod flushing;
 mod pieces;
 mod single;
 
-/// A session for each client, with the next line of the board, and the taking end of its ring, in order.
+/// A session for each client, with the next line of the board and the posting end of its ring, in order.
 fn new_clients<N: PoolName, K: ListKeeper>(
     alloc: Global,
     geometry: Geometry,
     clients: u8,
+    producers: Vec<Producer<PassNote>>,
     board: &mut Board,
-) -> Result<(Vec<Session<N, K>>, Vec<Consumer<PassNote>>), Refusal>
+) -> Result<Vec<Session<N, K>>, Refusal>
     requires clients { clients ≡ N.parameters.clients }
     requires size { geometry.size ≡ N.parameters.size }
+    requires rings { map ring_of producers.items ≡ N.ring.rings }
+    requires unused { All IsUnused producers.items }
+    requires count { length producers.items ≡ clients }
     requires board { board.old.name ≡ N.ring.board }
     requires empty { board.old.lists ≡ [] }
     ensures board { board.new.name ≡ N.ring.board }
     ensures blank { OnOk result (IsBlank board.new.lists) }
-    ensures sessions { IfOk result (λ made. made.0.items ≡ new_sessions N.parameters.clients) }
+    ensures sessions { IfOk result (λ made. made.items ≡ new_sessions N.parameters.clients) }
     ensures refused { OnErr result (result ≡ Err Refusal.OutOfMemory) }
 {
     let mut sessions = Vec::new(alloc);
-    let mut consumers = Vec::new(alloc);
+    let mut producers = producers.into_iter();
     for client in 0..clients {
-        let (producer, consumer) = RingBuffer::new(alloc, RING)?;
+        let Some(producer) = producers.next() else {
+            unreachable!()
+        };
         let session = Session::new(alloc, geometry, client, producer, board.line());
         let Ok(()) = sessions.push(session) else {
             return Err(Refusal::OutOfMemory);
         };
-        let Ok(()) = consumers.push(consumer) else {
-            return Err(Refusal::OutOfMemory);
-        };
     }
-    Ok((sessions, consumers))
+    Ok(sessions)
 }
 
 /// A buffer pool that many clients share, each through its own session.
@@ -88,7 +93,7 @@ impl<N: PoolName, K: ListKeeper> Model for SharedPool<N, K> {
 }
 
 impl<N: PoolName, K: ListKeeper> SharedPool<N, K> {
-    ghost use Rattle.std.specs.Prelude.{◌≡◌, ◌≤◌, IfOk, OnErr};
+    ghost use Rattle.std.specs.Prelude.{◌≡◌, ◌≢◌, ◌≤◌, length, IfOk, OnErr};
     ghost use Rattle.std.specs.Sync.Mutex.{mutex_guard_value};
     ghost use Rattle.bp_page.specs.declared.refusals.Refusal.TheVariants as Refusal;
     ghost use Rattle.bp_trail.specs.Clock.{durable};
@@ -99,7 +104,8 @@ impl<N: PoolName, K: ListKeeper> SharedPool<N, K> {
     /// A pool over a core, and one session for each client, in order. The reader is the mark's, and has seen what the
     /// core was told.
     ///
-    /// Where memory is refused, which is `OutOfMemory`, all that was given is dropped.
+    /// `BadClient` where the rings are not made for as many clients as the core has; else `OutOfMemory`. All that was
+    /// given is dropped then.
     pub fn new(
         alloc: Global,
         core: PoolCore<K>,
@@ -117,17 +123,26 @@ impl<N: PoolName, K: ListKeeper> SharedPool<N, K> {
         ensures taker { IfOk result (λ made. made.2.past ≡ N.before) }
         ensures pieces { IfOk result (λ made. made.2.pieces ≡ 0) }
         ensures sessions { IfOk result (λ made. made.1.items ≡ new_sessions N.parameters.clients) }
-        ensures refused { OnErr result (result ≡ Err Refusal.OutOfMemory) }
+        ensures clients { length N.ring.rings ≢ N.parameters.clients
+            → result ≡ Err Refusal.BadClient }
+        ensures refused { length N.ring.rings ≡ N.parameters.clients
+            → OnErr result (result ≡ Err Refusal.OutOfMemory) }
     {
         let TrailRing {
             pieces,
             taken,
             mut board,
+            producers,
+            consumers,
         } = ring;
-        let (sessions, consumers) = new_clients(
+        if producers.len() != usize::from(core.clients()) {
+            return Err(Refusal::BadClient);
+        }
+        let sessions = new_clients(
             alloc,
             core.geometry(),
             core.clients(),
+            producers,
             &mut board,
         )?;
         let room = core.room();

@@ -35,9 +35,10 @@ pub struct Session<N: PoolName, K: ListKeeper = RecordingKeeper> {
 }
 
 impl<N: PoolName, K: ListKeeper> Model for Session<N, K> {
-    ghost use Rattle.std.specs.Prelude.{◌≡◌, ◌<◌, reverse};
+    ghost use Rattle.std.specs.Prelude.{◌≡◌, ◌<◌, reverse, slice_index_or};
     ghost use Rattle.rtrb.specs.Ring.{sent, known_free};
     ghost use Rattle.bp_book.specs.Books.{unfixes};
+    ghost use Rattle.bp_book.specs.Rings.{ring_of};
     ghost use Rattle.bp_shared.specs.Sessions.{SessionValue};
     ghost use Rattle.bp_shared.specs.Telling.{IsLineOf};
 
@@ -51,16 +52,20 @@ impl<N: PoolName, K: ListKeeper> Model for Session<N, K> {
       room = s.book.entries;
     } };
 
-    // The passes posted are those of the list's own unfixes, in order; the line has what else the list told.
+    // The ring is the client's; the passes posted are those of the list's own unfixes, in order; the line has what else
+    // the list told.
     ghost invariant = { λ s. (s.book.client < N.parameters.clients)
         × (s.book.size ≡ N.parameters.size)
         × (sent s.producer ≡ reverse (unfixes s.book.said))
-        × IsLineOf N.ring.board s.line s.book.client s.book.said };
+        × IsLineOf N.ring.board s.line s.book.client s.book.said
+        × (slice_index_or N.ring.rings s.book.client (ring_of s.producer)
+        ≡ ring_of s.producer) };
 }
 
 impl<N: PoolName, K: ListKeeper> Session<N, K> {
-    ghost use Rattle.std.specs.Prelude.{◌≡◌, ◌<◌, [], All, length, slice_get};
-    ghost use Rattle.rtrb.specs.Ring.{sent, known_free};
+    ghost use Rattle.std.specs.Prelude.{◌≡◌, ◌<◌, [], All, length, slice_get, slice_index_or};
+    ghost use Rattle.bp_book.specs.Rings.{ring_of};
+    ghost use Rattle.bp_shared.specs.Posting.{IsUnused};
     ghost use Rattle.bp_trail.specs.Script.{held_passes};
     ghost use Rattle.bp_shared.specs.Sessions.{UnfixSaid};
     ghost use Rattle.bp_shared.specs.Telling.{IsLineOf};
@@ -75,7 +80,9 @@ impl<N: PoolName, K: ListKeeper> Session<N, K> {
     ) -> Session<N, K>
         requires client_in { client < N.parameters.clients }
         requires size { geometry.size ≡ N.parameters.size }
-        requires unused { (sent producer ≡ []) × (known_free producer ≡ 32) }
+        requires unused { IsUnused producer }
+        requires ring { slice_index_or N.ring.rings client (ring_of producer)
+            ≡ ring_of producer }
         requires line { IsLineOf N.ring.board line client [] }
         ensures client { result.client ≡ client }
         ensures before { result.before ≡ [] }

@@ -1,50 +1,93 @@
-//! The ring by which a pool's trail goes to its taker.
-ghost use Rattle.std.specs.Prelude.{◌≡◌, ◌∷◌, ◌++◌, []};
+//! The rings of a pool, which are made before it: that by which its trail goes to its taker, and one for each session.
+ghost use Rattle.std.specs.Prelude.{◌≡◌, ◌∷◌, ◌++◌, [], IfOk, OnErr, length};
+ghost use Rattle.bp_page.specs.declared.refusals.Refusal.TheVariants as Refusal;
 ghost use Rattle.rtrb.specs.Ring.{sent, received};
-ghost use Rattle.bp_shared.specs.Taking.{ring_of, ring_at, IsEmptied};
+ghost use Rattle.bp_book.specs.Rings.{ring_of, ring_at};
+ghost use Rattle.bp_shared.specs.Posting.{AreRings};
+ghost use Rattle.bp_shared.specs.Taking.{IsEmptied};
 
 use bp_board::Board;
-use bp_core::Entry;
+use bp_book::draining::RING;
+use bp_core::{Entry, PassNote};
 use bp_page::Refusal;
 use rtrb::{Consumer, Producer, RingBuffer};
 use std::alloc::Global;
 use std::marker::Model;
 
-/// A ring with room for one piece of a trail, made before its pool. Contracts see its name and that of the board on
-/// which the pool's sessions will show their lists, by which it is told from every other ring.
+/// The rings of a pool, made before it: one with room for one piece of a trail, and one for the passes that each client
+/// posts. Contracts see their names and that of the board on which the pool's sessions will show their lists, by which
+/// they are told from all others.
 #[derive(Drop)]
 pub struct TrailRing {
     pub(crate) pieces: Producer<Vec<Entry>>,
     pub(crate) taken: Consumer<Vec<Entry>>,
     pub(crate) board: Board,
+    /// Where each client posts its passes, and where they come out.
+    pub(crate) producers: Vec<Producer<PassNote>>,
+    pub(crate) consumers: Vec<Consumer<PassNote>>,
 }
 
 impl Model for TrailRing {
-    ghost use Rattle.std.specs.Prelude.{◌≡◌, []};
+    ghost use Rattle.std.specs.Prelude.{◌≡◌, [], map};
     ghost use Rattle.rtrb.specs.Ring.{sent, received};
-    ghost use Rattle.bp_shared.specs.Taking.{PoolRing, ring_of, ring_at, IsEmptied};
+    ghost use Rattle.bp_book.specs.Rings.{ring_of, ring_at};
+    ghost use Rattle.bp_shared.specs.Posting.{AreRings};
+    ghost use Rattle.bp_shared.specs.Taking.{PoolRing, IsEmptied};
 
     ghost Value = { PoolRing };
 
-    ghost view = { λ r. record { trail = ring_of r.pieces; board = r.board.name } };
+    ghost view = { λ r. record {
+      trail = ring_of r.pieces;
+      board = r.board.name;
+      rings = map ring_of r.producers.items;
+    } };
 
     ghost invariant = { λ r. (ring_at r.taken ≡ ring_of r.pieces) × IsEmptied r.pieces
-        × (sent r.pieces ≡ []) × (received r.taken ≡ []) × (r.board.lists ≡ []) };
+        × (sent r.pieces ≡ []) × (received r.taken ≡ []) × (r.board.lists ≡ [])
+        × AreRings r.producers.items r.consumers.items };
+}
+
+/// The two ends of a ring for each of so many clients.
+fn session_rings(
+    alloc: Global,
+    clients: u8,
+) -> Result<(Vec<Producer<PassNote>>, Vec<Consumer<PassNote>>), Refusal>
+    ensures rings { IfOk result (λ made. AreRings made.0.items made.1.items) }
+    ensures count { IfOk result (λ made. length made.0.items ≡ clients) }
+    ensures refused { OnErr result (result ≡ Err Refusal.OutOfMemory) }
+{
+    let mut producers = Vec::new(alloc);
+    let mut consumers = Vec::new(alloc);
+    for _ in 0..clients {
+        let (producer, consumer) = RingBuffer::new(alloc, RING)?;
+        let Ok(()) = producers.push(producer) else {
+            return Err(Refusal::OutOfMemory);
+        };
+        let Ok(()) = consumers.push(consumer) else {
+            return Err(Refusal::OutOfMemory);
+        };
+    }
+    Ok((producers, consumers))
 }
 
 impl TrailRing {
-    ghost use Rattle.std.specs.Prelude.{◌≡◌, OnErr};
+    ghost use Rattle.std.specs.Prelude.{◌≡◌, IfOk, OnErr, length};
     ghost use Rattle.bp_page.specs.declared.refusals.Refusal.TheVariants as Refusal;
 
-    /// A ring that no piece went through. Where there is no memory this is `OutOfMemory`.
-    pub fn new(alloc: Global) -> Result<TrailRing, Refusal>
-        ensures { OnErr result (result ≡ Err Refusal.OutOfMemory) }
+    /// The rings of a pool of so many clients, through which nothing went. Where there is no memory this is
+    /// `OutOfMemory`.
+    pub fn new(alloc: Global, clients: u8) -> Result<TrailRing, Refusal>
+        ensures count { IfOk result (λ ring. length ring.rings ≡ clients) }
+        ensures refused { OnErr result (result ≡ Err Refusal.OutOfMemory) }
     {
+        let (producers, consumers) = session_rings(alloc, clients)?;
         let (pieces, taken) = RingBuffer::<Vec<Entry>>::new(alloc, 1)?;
         Ok(TrailRing {
             pieces,
             taken,
             board: Board::new(),
+            producers,
+            consumers,
         })
     }
 }

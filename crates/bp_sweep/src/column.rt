@@ -9,6 +9,7 @@ ghost use Rattle.bp_sweep.specs.References.{IsOutside};
 
 use crate::dense::{Gathered, MAX_REFERENCES, References};
 use crate::faults::ReferenceFault;
+use crate::retried::Retried;
 use bp_page::Refusal;
 use bp_trace::decimal::parse_number;
 use csv::{ByteRecord, ErrorKind, Reader, ReaderBuilder};
@@ -87,17 +88,8 @@ fn next_record<R: Read>(
     }
 }
 
-/// The references of a list of CSV records, each the number in this column, from 1. The number is in decimal digits
-/// alone, up to 2^62. Fields are separated by commas and may be quoted, records may differ in length, and lines without
-/// a byte between records are passed over, as are a byte order mark and a header: a first record whose field in the
-/// column is there and is no numeral. A numeral is decimal digits of any value, before which a sign may stand.
-///
-/// A record without such a field is `BadShape`, and one whose field is no number `BadNumber`, where it is not a header;
-/// so is each `BadShape` in column 0, which no record has. The record with the 1,048,577th different number is
-/// `BadGeometry`, and the one after 268,435,456 references `TooLong`, whatever it says. A fault of the reader is
-/// `ReadFault`, and refused memory `OutOfMemory`. A fault tells the number of its record, from 1, the header among
-/// them.
-pub fn read_column<R: Read + Drop>(
+/// As `read_column`, but a read that was interrupted is a fault of the reader.
+fn read_records<R: Read + Drop>(
     alloc: Global,
     reader: R,
     column: u32,
@@ -121,4 +113,24 @@ pub fn read_column<R: Read + Drop>(
         }
     }
     unreachable!()
+}
+
+/// The references of a list of CSV records, each the number in this column, from 1. The number is in decimal digits
+/// alone, up to 2^62. Fields are separated by commas and may be quoted, records may differ in length, and lines without
+/// a byte between records are passed over, as are a byte order mark and a header: a first record whose field in the
+/// column is there and is no numeral. A numeral is decimal digits of any value, before which a sign may stand.
+///
+/// A record without such a field is `BadShape`, and one whose field is no number `BadNumber`, where it is not a header;
+/// so is each `BadShape` in column 0, which no record has. The record with the 1,048,577th different number is
+/// `BadGeometry`, and the one after 268,435,456 references `TooLong`, whatever it says. A fault of the reader is
+/// `ReadFault`, and refused memory `OutOfMemory`. A fault tells the number of its record, from 1, the header among
+/// them. A read that was interrupted is made again.
+pub fn read_column<R: Read + Drop>(
+    alloc: Global,
+    reader: R,
+    column: u32,
+) -> Result<References, ReferenceFault>
+    ensures { IfSome (R.remaining reader) (ReadsColumn result column) }
+{
+    read_records(alloc, Retried::new(reader), column)
 }

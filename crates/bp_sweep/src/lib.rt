@@ -10,6 +10,7 @@ pub mod laws;
 mod lists;
 mod plans;
 mod progress;
+mod retried;
 
 pub use bp_audit::Totals;
 pub use cell::count_references;

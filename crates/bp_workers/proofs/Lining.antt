@@ -12,6 +12,9 @@ use Rattle.bp_core.specs.CoreView.{CoreView}
 use Rattle.bp_shared.specs.Sessions.{SessionValue, new_session, new_sessions}
 use Rattle.bp_shared.specs.Telling.{told, IsToldBy}
 use Rattle.bp_shared.proofs.Telling.{told_whole}
+use Rattle.bp_book.specs.Books.{unfixes}
+use Rattle.bp_shared.specs.Posting.{unfixed, IsWithin}
+use Rattle.bp_shared.proofs.Posting.{posted_whole, settled_whole}
 use Rattle.bp_workers.specs.declared.worker.Left.{Left}
 use Rattle.bp_workers.specs.Giving.{GoBack}
 use Rattle.bp_workers.specs.Lists.{SideBySide}
@@ -151,6 +154,8 @@ left_by p geometry_of core Leaves client given old new left is ran leaves same k
       all_back = (λ yes. ap held_passes leaves.said ∙ ran.all_back.0 (sym leaves.all_back ∙ yes), λ none. leaves.all_back ∙ ran.all_back.1 (sym (ap held_passes leaves.said) ∙ none));
       cut = leaves.before ∙ ran.before;
       theirs = subst (λ c. of_client c (told core.past) ≡ told left.book.said) whose (told_whole core.past left.book.client left.book.said leaves.theirs);
+      posted = subst (λ c. IsWithin (unfixed c core.past) (unfixes left.book.said)) whose (posted_whole core.past left.book.client (unfixes left.book.said) left.is_settled leaves.posted);
+      settled = λ yes. subst (λ c. unfixed c core.past ≡ unfixes left.book.said) whose (settled_whole core.past left.book.client (unfixes left.book.said) left.is_settled leaves.posted yes);
     }
 
 each_left : {W P K I B S : Type 0} (p : Parameters) (geometry_of : P → Geometry) (core : CoreView) (Leaves : Leaving W P) (n : ℕ) (given : List (W × P)) (olds news : List (JobValue W P)) (lefts : List (Left P W K I B S))

@@ -5,6 +5,8 @@ use Rattle.bp_trail.specs.Parameters.{Parameters}
 use Rattle.bp_trail.specs.Script.{held_passes}
 use Rattle.bp_trail.specs.Trail.{Trail}
 use Rattle.bp_shared.specs.Sessions.{SessionValue, new_session}
+use Rattle.bp_book.specs.Books.{unfixes}
+use Rattle.bp_shared.specs.Posting.{IsSettledBy}
 use Rattle.bp_shared.specs.Telling.{IsToldBy}
 use Rattle.bp_workers.specs.declared.worker.Left.{Left}
 use Rattle.bp_workers.specs.Giving.{GoBack}
@@ -55,6 +57,7 @@ pub record IsLeftOf {P W K I B S : Type 0} (p : Parameters) (geometry_of : P →
   pub held : left.held ≡ j.held
   pub all_back : left.all_went_back ≡ j.all_went_back
   pub theirs : IsToldBy start past left.book.client left.book.said
+  pub posted : IsSettledBy start past left.book.client (unfixes left.book.said) left.is_settled
 
 -- the upkeep of the first of some jobs
 abbrev pub first_upkeep : {W P : Type 0} → List (JobValue W P) → Option UpkeepValue

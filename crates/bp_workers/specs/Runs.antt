@@ -10,6 +10,8 @@ use Rattle.bp_audit.specs.Clients.{of_client}
 use Rattle.bp_core.specs.CoreView.{CoreView}
 use Rattle.bp_core.specs.Outcomes.{IsFitUpTo}
 use Rattle.bp_shared.specs.Sessions.{SessionValue, new_session}
+use Rattle.bp_book.specs.Books.{unfixes}
+use Rattle.bp_shared.specs.Posting.{unfixed, IsWithin}
 use Rattle.bp_shared.specs.Telling.{told}
 use Rattle.bp_workers.specs.declared.run.PoolConfig.{PoolConfig}
 use Rattle.bp_workers.specs.declared.worker.Left.{Left}
@@ -66,7 +68,9 @@ KeepsUp core (suc client) (Some u) = ⊥
 -- what a client's worker left of itself and of the port that it was given, by its own word, and
 -- what client 0's upkeep came to; the port is still one to the pool's pages; the book is the
 -- client's. Then the passes go back that it held, and the session's list is handed over, less what
--- was cut. But for unfixes it is what the core's trail tells of the client
+-- was cut. Except for unfixes it is what the core's trail tells of the client; and the client gave
+-- back in the trail some of the passes that its list gave back, in that order, and no other: all of
+-- them, where they are settled
 pub record LeftBy {P W K I B S : Type 0} (core : CoreView) (geometry_of : P → Geometry)
     (Leaves : Leaving W P)
     (client : ℕ) (given : W × P) (left : Left P W K I B S) : Type 0 where
@@ -82,6 +86,8 @@ pub record LeftBy {P W K I B S : Type 0} (core : CoreView) (geometry_of : P → 
   pub all_back : (left.all_went_back ≡ true) ↔ (held_passes left.book.said ≡ [])
   pub cut : left.book.before ≡ returned.before
   pub theirs : of_client client (told core.past) ≡ told left.book.said
+  pub posted : IsWithin (unfixed client core.past) (unfixes left.book.said)
+  pub settled : left.is_settled ≡ true → unfixed client core.past ≡ unfixes left.book.said
 
 -- the job of a client's worker over its port, before its thread
 pub record IsNewJob {W P : Type 0} (client : ℕ) (given : W × P) (j : JobValue W P) : Type 0 where

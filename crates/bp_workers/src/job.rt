@@ -85,12 +85,14 @@ impl<N: PoolName, P: Port, K: ListKeeper, W: Worker<P, K>> Job<N, P, K, W> {
             all_went_back,
         } = self;
         let Client { session, port } = client;
+        let (book, is_settled) = pool.end_session(session);
         let left = Left {
             worker,
             port,
-            book: pool.end_session(session),
+            book,
             held,
             all_went_back,
+            is_settled,
         };
         (left, upkeep)
     }

@@ -188,6 +188,7 @@ fn run_named<
     requires ring { parts.ring ≡ N.ring }
     requires new { (core.past ≡ N.past) × (core.past ≡ []) }
     requires clients { N.parameters.clients ≡ vec_len workers }
+    requires rings { length parts.ring.rings ≡ vec_len workers }
     requires some { 0 < vec_len workers }
     requires ports { vec_len ports ≡ vec_len workers }
     requires of_pool { All (λ p. IsOfPool N.parameters (P.geometry_of p)) ports.items }
@@ -282,7 +283,7 @@ pub fn run_workers_over<K: Kind, P: Port + Send, W: Worker<P, K> + Send, R: Thre
         clients,
         config.room,
     )?;
-    let parts = Parts::new(alloc)?;
+    let parts = Parts::new(alloc, clients)?;
     let ran = run_named::<Brand, P, K, W, R>(rt, alloc, core, parts, ports, workers);
     if let Ok(run) = &ran {
         run.core.keeps_the_rules();

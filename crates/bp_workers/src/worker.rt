@@ -86,6 +86,9 @@ pub struct Left<P: Port, W: Drop, K: ListKeeper = RecordingKeeper> {
     pub held: usize,
     /// Whether all of them went back.
     pub all_went_back: bool,
+    /// Whether the pool has taken back each pass that the session's list gave back: none waited in the session's ring,
+    /// and none that came out of a ring was a stray.
+    pub is_settled: bool,
 }
 
 impl<P: Port, W: Drop> Left<P, W, RecordingKeeper> {

@@ -1,5 +1,6 @@
 -- What the exported functions answer and leave in a handle, and in the memory that C passes.
-use Rattle.std.specs.Prelude.{◌≡◌, ℕ, Bool, List, Option, Some, None, Result, Ok, Err}
+use Rattle.std.specs.Prelude.{◌≡◌, ◌⊎◌, ℕ, Bool, List, Option, Some, None, Result, Ok, Err}
+use denote.RawPtr.{Ptr}
 use Rattle.bp_page.specs.declared.refusals.Refusal.{Refusal}
 use Rattle.bp_page.specs.declared.refusals.PortFault.{PortFault}
 use Rattle.bp_page.specs.Refusals.{number_of}
@@ -10,7 +11,7 @@ use Rattle.bp_core.specs.declared.passes.Ended.TheVariants as ended
 use Rattle.bp_core.specs.declared.passes.EndRefusal.{EndRefusal}
 use Rattle.bp_core.specs.EndRefusals.{number_of_end}
 use Rattle.bp_core.specs.CoreView.{CoreView}
-use Rattle.bp_core.specs.Outcomes.{UnfixOutcome}
+use Rattle.bp_core.specs.Outcomes.{KnowsPass, LacksPass, UnfixOutcome}
 use Rattle.hojzmated_c.specs.declared.forms.HzConfig.{HzConfig}
 use Rattle.hojzmated_c.specs.declared.forms.HzFixed.{HzFixed}
 use Rattle.hojzmated_c.specs.declared.forms.HzGrant.{HzGrant}
@@ -125,6 +126,15 @@ abbrev pub PartWrote : Option CoreView → Option CoreView → HzGrant → ℕ �
 PartWrote old new pass offset bytes lsn number =
     OnCore old new number (Unit {0})
     (λ old new. Told number (λ r. WritesPart {A = Unit {0}} old pass offset bytes lsn r new))
+
+-- the pass is out, which is 0; or it is not, which is 14. Only in the first case is a place told. The
+-- core stays as it is
+abbrev pub PageLent : Option CoreView → Option CoreView → HzGrant → Ptr → Ptr → ℕ → Type 0
+PageLent old new pass place place' number =
+    OnCore old new number (place' ≡ place)
+    (λ old new. (new ≡ old)
+    × (((number ≡ 0) × KnowsPass old (pass_of pass))
+    ⊎ ((number ≡ 14) × LacksPass old (pass_of pass) × (place' ≡ place))))
 
 -- a pass goes back, or is not out here, which is 14
 abbrev pub code_of_unfix : {A : Type 0} → Result A Pass → ℕ

@@ -1,7 +1,7 @@
 -- What each call answers and leaves, for any client, page, grant and length that C may pass: the
 -- core's own outcome, or the refusal of what the core requires exactly where that does not hold.
 use Rattle.std.specs.Prelude.{◌≡◌, ◌≢◌, ℕ, ◌+◌, ◌^◌, ◌<◌, ◌≤◌, Bool, true, false, List, [], length}
-use Rattle.std.specs.Prelude.{slice_range, Result, Ok, Err, OnErr, Option, Some, None}
+use Rattle.std.specs.Prelude.{Result, Ok, Err, OnErr, Option, Some, None}
 use Rattle.bp_page.specs.declared.refusals.Refusal.{Refusal}
 use Rattle.bp_page.specs.declared.refusals.Refusal.TheVariants as refusal
 use Rattle.bp_page.specs.declared.refusals.PortFault.{PortFault}
@@ -23,7 +23,8 @@ use Rattle.bp_core.specs.declared.passes.EndRefusal.{EndRefusal}
 use Rattle.bp_core.specs.EndRefusals.{number_of_end}
 use Rattle.bp_core.specs.CoreView.{CoreView, EachPast}
 use Rattle.bp_core.specs.Outcomes.{IsFitUpTo, TakesMemory, StepOutcome, TickOutcome, PurgeOutcome}
-use Rattle.bp_core.specs.Outcomes.{FixOutcome, FlushOutcome, ReadEndByOutcome, ReadOutcome}
+use Rattle.bp_core.specs.Outcomes.{FixOutcome, FlushOutcome, ReadEndByOutcome}
+use Rattle.bp_core.specs.Outcomes.{ReadIntoOutcome}
 use Rattle.bp_core.specs.Outcomes.{WriteEndByOutcome, WriteOutcome}
 use Rattle.hojzmated_c.specs.declared.forms.HzConfig.{HzConfig}
 use Rattle.hojzmated_c.specs.declared.forms.HzGrant.{HzGrant}
@@ -182,22 +183,19 @@ abbrev pub EndsWrite : CoreView → HzGrant → Bool
 EndsWrite old held is_good result new =
     WriteEndByOutcome old (grant_of held) (write_of is_good) result new
 
--- a part of the image that the core's read gives; a refusal leaves the bytes
-abbrev pub PartTold : {A : Type 0} → CoreView → HzGrant → ℕ → List ℕ → Result A Refusal → List ℕ
-    → CoreView → Type 0
-PartTold old held offset before (Ok done) after new =
-    (image : List ℕ) × ReadOutcome old (pass_of held) (Ok image) new
-    × (after ≡ slice_range image offset (offset + length before))
-PartTold old held offset before (Err why) after new = ReadOutcome old (pass_of held) (Err why) new
-
+-- a part of the image held, by the core's own read; a refusal leaves the bytes, and none is for want
+-- of memory
 abbrev pub ReadsPart : {A : Type 0} → CoreView → HzGrant → ℕ → List ℕ → Result A Refusal → List ℕ
     → CoreView → Type 0
 ReadsPart old held offset before result after new =
-    ForPart old offset (length before) result new (PartTold old held offset before result after new)
+    ForPart old offset (length before) result new
+    (ReadIntoOutcome old (pass_of held) offset before result after new
+    × (result ≢ Err refusal.OutOfMemory))
     × OnErr result (after ≡ before)
 
 abbrev pub WritesPart : {A : Type 0} → CoreView → HzGrant → ℕ → List ℕ → ℕ → Result A Refusal
     → CoreView → Type 0
 WritesPart old held offset bytes lsn result new =
     ForPart old offset (length bytes) result new
-    (WriteOutcome old (pass_of held) offset bytes lsn result new)
+    (WriteOutcome old (pass_of held) offset bytes lsn result new
+    × (result ≢ Err refusal.OutOfMemory))

@@ -8,7 +8,7 @@
 ghost use Rattle.std.specs.Prelude.{◌≡◌, None, is_some, if◌then◌else◌, Ok, Err, IfOk, IfErr, length};
 ghost use Rattle.hojzmated_c.specs.Texts.{begun_with, text_of};
 ghost use Rattle.hojzmated_c.specs.Outcomes.{Opens, told};
-ghost use Rattle.hojzmated_c.specs.Exports.{code_of, Made, Ticked, Marked, Purged, Asked, Flushed, ReadEnded, ReadFailed, WriteEnded, PartRead, PartWrote, Unfixed, Counted, shown_fix};
+ghost use Rattle.hojzmated_c.specs.Exports.{code_of, Made, Ticked, Marked, Purged, Asked, Flushed, ReadEnded, ReadFailed, WriteEnded, PageLent, PartRead, PartWrote, Unfixed, Counted, shown_fix};
 
 mod forms;
 mod handle;
@@ -22,6 +22,7 @@ use crate::pool::Pool;
 use bp_core::{EndRefusal, Ended};
 use bp_page::Refusal;
 use std::alloc::Global;
+use std::ptr;
 
 /// The handle has no core.
 const NO_CORE: u16 = 50;
@@ -276,6 +277,34 @@ pub extern "C" fn hz_read(
     let read = pool.read(pass, offset, into);
     *core = HzCore::of(pool);
     code(&read)
+}
+
+/// Tells where the bytes of a page are, while this pass is out. No entry is added.
+#[unsafe(no_mangle)]
+pub extern "C" fn hz_page(
+    alloc: Global,
+    core: &mut HzCore,
+    pass: &HzGrant,
+    bytes: &mut *const u8,
+) -> u16
+    ensures { PageLent core.old.seal.pool core.new.seal.pool pass.now bytes.old bytes.new
+        result }
+{
+    let Some(pool) = core.take(alloc) else {
+        return NO_CORE;
+    };
+    let number = match pool.page(pass) {
+        Some(page) => {
+            // A page has bytes.
+            if let Some(first) = page.first() {
+                *bytes = ptr::from_ref(first);
+            }
+            0
+        }
+        None => Refusal::UnknownPass.number(),
+    };
+    *core = HzCore::of(pool);
+    number
 }
 
 /// Puts bytes into a page.

@@ -7,7 +7,7 @@ mod page_use;
 
 use crate::forms::{HzConfig, HzTotals};
 use bp_core::SilentCore;
-use bp_page::{Geometry, Lsn, Refusal};
+use bp_page::{Geometry, Image, Lsn, Refusal};
 use bp_replacer::Settings;
 use std::alloc::Global;
 use std::marker::Model;
@@ -18,6 +18,8 @@ pub struct Pool {
     alloc: Global,
     core: SilentCore,
     totals: HzTotals,
+    /// What the newest load left of its frame: memory for the image of the next one.
+    spare: Option<Image>,
 }
 
 impl Model for Pool {
@@ -55,6 +57,7 @@ impl Pool {
             alloc,
             core,
             totals: HzTotals::new(),
+            spare: None,
         })
     }
 

@@ -2,6 +2,7 @@
 //! candidates of LRU-K; and lists of entries before the judge of trails.
 #![tactic(auto)]
 
+pub mod buffers;
 pub mod devices;
 pub mod histories;
 pub mod judged;
@@ -12,6 +13,7 @@ pub mod ranks;
 pub mod trails;
 pub mod uses;
 
+pub use buffers::{Span, bytes_read, span_of};
 pub use devices::{Device, new_device};
 pub use histories::{Timed, new_timed};
 pub use judged::{Judged, new_judged};

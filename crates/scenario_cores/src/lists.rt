@@ -14,6 +14,7 @@ const MOST_ENTRIES: usize = 512;
 /// What was given, by serial numbers, and entries in their order. What has come back stands here too.
 #[derive(Drop)]
 pub struct Lists {
+    pub alloc: Global,
     pub passes: Vec<Grant>,
     pub tickets: Vec<Grant>,
     pub entries: Vec<Entry>,
@@ -31,6 +32,7 @@ pub fn new_lists(alloc: Global) -> Option<Lists> {
     let entries = Vec::with_capacity(alloc, MOST_ENTRIES);
     match (passes, tickets, entries) {
         (Ok(passes), Ok(tickets), Ok(entries)) => Some(Lists {
+            alloc,
             passes,
             tickets,
             entries,

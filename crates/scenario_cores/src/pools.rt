@@ -211,7 +211,12 @@ impl<K: Keeper> Pool<K> {
             Verb::Fix | Verb::Flush | Verb::Tick | Verb::Mark | Verb::Purge => {
                 self.by_client(rt, call)
             }
-            Verb::Read | Verb::Write | Verb::Unfix => self.by_pass(call),
+            Verb::Read
+            | Verb::Page
+            | Verb::ReadInto
+            | Verb::Write
+            | Verb::WriteFrom
+            | Verb::Unfix => self.by_pass(call),
             Verb::ReadEnd | Verb::ReadFails(_) | Verb::WriteEnd | Verb::WriteFails(_) => {
                 self.by_ticket(call)
             }

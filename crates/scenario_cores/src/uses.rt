@@ -1,6 +1,7 @@
 //! Uses of a page by a pass, and ends of reads and write-outs by a ticket.
 ghost use Rattle.std.specs.Prelude.{◌≡◌, IfOk, length};
 
+use crate::buffers::{bytes_read, span_of};
 use crate::lists::{grant_of, pass_of};
 use crate::outcomes::{content, done};
 use crate::pools::Pool;
@@ -13,7 +14,7 @@ impl<K: Keeper> Pool<K> {
     fn end_read(&mut self, ticket: Grant, read: Result<Image, PortFault>) -> Answer
         requires size { IfOk read (λ image. length image ≡ self.old.core.parameters.size) }
     {
-        match self.core.read_end_by(ticket, read) {
+        match self.core.read_end_by(ticket, read, &mut None) {
             Ok(pass) => self.lists.give(pass),
             Err(EndRefusal::Failed(refusal)) => Answer::Refused(refusal),
             Err(EndRefusal::Unknown(back, read)) => {
@@ -61,7 +62,36 @@ impl<K: Keeper> Pool<K> {
         content(read)
     }
 
-    fn write(&mut self, grant: Grant, offset: u64, bytes: &Bytes, lsn: Lsn) -> Answer {
+    /// What the core lends, by both of its calls.
+    fn page(&self, grant: Grant) -> Answer {
+        let pass = pass_of(grant);
+        let answer = match (self.core.page(&pass), self.core.image(&pass)) {
+            (Some(bytes), Some(image)) if bytes == image.bytes() => {
+                match Image::of(self.alloc, bytes) {
+                    Ok(image) => Answer::Reply(Reply::Content(image)),
+                    Err(_) => Answer::BadLine,
+                }
+            }
+            (None, None) => Answer::Word("none"),
+            _ => Answer::Word("page and image differ"),
+        };
+        pass.note();
+        answer
+    }
+
+    fn read_into(&mut self, grant: Grant, offset: u64, count: u64) -> Answer {
+        let geometry = self.core.geometry();
+        let Some(mut span) = span_of(self.alloc, &geometry, offset, count) else {
+            return Answer::BadLine;
+        };
+        let pass = pass_of(grant);
+        let read = self.core.read_into(&pass, span.offset, &mut span.into);
+        pass.note();
+        bytes_read(read, span)
+    }
+
+    /// Writes a list of bytes, or those of a slice.
+    fn write(&mut self, grant: Grant, verb: Verb, offset: u64, bytes: &Bytes, lsn: Lsn) -> Answer {
         let fits = self
             .core
             .geometry()
@@ -69,7 +99,10 @@ impl<K: Keeper> Pool<K> {
         match u32::try_from(offset) {
             Ok(offset) if fits => {
                 let pass = pass_of(grant);
-                let written = self.core.write(&pass, offset, bytes, lsn);
+                let written = match verb {
+                    Verb::WriteFrom => self.core.write_from(&pass, offset, bytes.bytes(), lsn),
+                    _ => self.core.write(&pass, offset, bytes, lsn),
+                };
                 pass.note();
                 done(written)
             }
@@ -89,11 +122,15 @@ impl<K: Keeper> Pool<K> {
         let Some(pass) = named(&self.lists.passes, &call.name) else {
             return Answer::BadLine;
         };
-        let [offset, lsn, _] = call.numbers.list;
+        let [offset, second, _] = call.numbers.list;
         match (call.verb, &call.bytes) {
             (Verb::Read, _) => self.read(pass),
+            (Verb::Page, _) => self.page(pass),
+            (Verb::ReadInto, _) => self.read_into(pass, offset, second),
             (Verb::Unfix, _) => self.unfix(pass),
-            (Verb::Write, Some(bytes)) => self.write(pass, offset, bytes, Lsn::new(lsn)),
+            (Verb::Write | Verb::WriteFrom, Some(bytes)) => {
+                self.write(pass, call.verb, offset, bytes, Lsn::new(second))
+            }
             _ => Answer::BadLine,
         }
     }

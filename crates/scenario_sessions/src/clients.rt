@@ -9,7 +9,9 @@ use bp_device::Port;
 use bp_page::Lsn;
 use bp_shared::{PoolName, Session, SharedPool};
 use bp_trail::Grant;
-use scenario_cores::{Lists, content, done, flushed, forgot, grant_of, pass_of};
+use scenario_cores::{
+    Lists, bytes_read, content, done, flushed, forgot, grant_of, pass_of, span_of,
+};
 use scenario_words::{Answer, Said, Verb, named};
 use std::alloc::Global;
 use std::sync::Wait;
@@ -154,7 +156,29 @@ fn read<N: PoolName, K: Kind, R: Wait>(
     content(read)
 }
 
-/// Writes the bytes of a line, if they fit the pages of the client's port.
+/// Reads as many bytes as a line asks for, if they lie within the pages of the client's port.
+fn read_into<N: PoolName, K: Kind, R: Wait>(
+    rt: &R,
+    pool: &SharedPool<N, K>,
+    session: &mut Session<N, K>,
+    port: &Fused,
+    alloc: Global,
+    grant: Grant,
+    call: &Said,
+) -> Answer
+    requires size { port.now.inner.device.size ≡ N.parameters.size }
+{
+    let [_, offset, count] = call.numbers.list;
+    let Some(mut span) = span_of(alloc, &port.geometry(), offset, count) else {
+        return Answer::BadLine;
+    };
+    let pass = pass_of(grant);
+    let read = pool.read_into(rt, session, &pass, span.offset, &mut span.into);
+    pass.note();
+    bytes_read(read, span)
+}
+
+/// Writes the bytes of a line, as a list or from a slice, if they fit the pages of the client's port.
 fn write<N: PoolName, K: Kind, R: Wait>(
     rt: &R,
     pool: &SharedPool<N, K>,
@@ -173,7 +197,11 @@ fn write<N: PoolName, K: Kind, R: Wait>(
     match u32::try_from(offset) {
         Ok(offset) if fits => {
             let pass = pass_of(grant);
-            let written = pool.write(rt, session, &pass, offset, bytes, Lsn::new(lsn));
+            let lsn = Lsn::new(lsn);
+            let written = match call.verb {
+                Verb::WriteFrom => pool.write_from(rt, session, &pass, offset, bytes.bytes(), lsn),
+                _ => pool.write(rt, session, &pass, offset, bytes, lsn),
+            };
             pass.note();
             done(written)
         }
@@ -208,8 +236,9 @@ fn by_pass<N: PoolName, K: Kind, R: Wait>(
     };
     match call.verb {
         Verb::Read => read(rt, pool, session, pass),
+        Verb::ReadInto => read_into(rt, pool, session, port, lists.alloc, pass, call),
         Verb::Unfix => unfix(pool, session, pass),
-        Verb::Write => write(rt, pool, session, port, pass, call),
+        Verb::Write | Verb::WriteFrom => write(rt, pool, session, port, pass, call),
         _ => Answer::BadLine,
     }
 }

@@ -47,7 +47,7 @@ pub(crate) fn make<K: Kind>(alloc: Global, shape: &Shape) -> Result<Made<K>, Ref
     let geometry = Geometry::new(shape.pages, shape.size)?;
     let settings = Settings::new(shape.k, shape.correlated, shape.retained)?;
     let beside = new_beside(alloc, geometry, shape)?;
-    let parts = Parts::new(alloc)?;
+    let parts = Parts::new(alloc, shape.clients)?;
     let (frames, clients, room) = (shape.frames, shape.clients, shape.room);
     let core = PoolCore::<K>::new(alloc, geometry, settings, frames, clients, room)?;
     Ok(Made {

@@ -97,7 +97,15 @@ fn lack_of(verb: Verb, answer: &Answer, before: Told, after: Told) -> Lack {
 fn drains(verb: Verb) -> bool {
     matches!(
         verb,
-        Verb::Fix | Verb::Flush | Verb::Tick | Verb::Purge | Verb::Read | Verb::Write | Verb::Settle
+        Verb::Fix
+            | Verb::Flush
+            | Verb::Tick
+            | Verb::Purge
+            | Verb::Read
+            | Verb::ReadInto
+            | Verb::Write
+            | Verb::WriteFrom
+            | Verb::Settle
     )
 }
 

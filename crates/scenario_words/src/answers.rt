@@ -1,7 +1,7 @@
 //! What a call answers, and its text.
 
 use crate::entries::write_reply;
-use crate::images::write_image;
+use crate::images::{write_bytes, write_image};
 use bp_page::{Image, Lsn, Refusal};
 use bp_trail::{Grant, Reply};
 use std::fmt;
@@ -16,6 +16,8 @@ pub enum Answer {
     Refused(Refusal),
     /// A pass or a ticket that comes back, and what came with the end of a read.
     Back(Refusal, Grant, Option<Image>),
+    /// Bytes of a page, all of them.
+    Bytes(Vec<u8>),
     Number(u64),
     Word(&'static str),
     Text(String),
@@ -71,6 +73,8 @@ impl fmt::Display for Answer {
             }
             Answer::Refused(refusal) => write_refusal(*refusal, f),
             Answer::Back(refusal, back, came) => write_back(*refusal, back, came, f),
+            Answer::Bytes(bytes) if bytes.is_empty() => write!(f, "no bytes"),
+            Answer::Bytes(bytes) => write_bytes(bytes, bytes.len(), f),
             Answer::Number(number) => write!(f, "{number}"),
             Answer::Word(word) => write!(f, "{word}"),
             Answer::Text(text) => write!(f, "{text}"),

@@ -21,6 +21,10 @@ pub enum Verb {
     Read,
     Write,
     Unfix,
+    /// What is lent of a page, and some bytes of it, read into a slice or written from one.
+    Page,
+    ReadInto,
+    WriteFrom,
     /// The newest reference of a page, and its stamp of a number.
     Last,
     Stamp,

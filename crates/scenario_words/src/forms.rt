@@ -4,7 +4,7 @@ use crate::calls::Verb;
 use bp_page::PortFault;
 
 /// Each call.
-pub(crate) const CALLS: [(&str, Verb); 45] = [
+pub(crate) const CALLS: [(&str, Verb); 48] = [
     ("fix N N", Verb::Fix),
     ("flush N N", Verb::Flush),
     ("tick N N", Verb::Tick),
@@ -25,7 +25,10 @@ pub(crate) const CALLS: [(&str, Verb); 45] = [
         Verb::WriteFails(PortFault::WrongPage),
     ),
     ("read G", Verb::Read),
+    ("read G at N into N", Verb::ReadInto),
+    ("page G", Verb::Page),
     ("write G at N B lsn N", Verb::Write),
+    ("write G at N from B lsn N", Verb::WriteFrom),
     ("unfix G", Verb::Unfix),
     ("last N", Verb::Last),
     ("stamp N N", Verb::Stamp),
@@ -59,13 +62,15 @@ pub(crate) const CALLS: [(&str, Verb); 45] = [
 ];
 
 /// Each call while sessions use a pool. That of a session has its client first.
-pub(crate) const SESSION_CALLS: [(&str, Verb); 16] = [
+pub(crate) const SESSION_CALLS: [(&str, Verb); 18] = [
     ("N fix N", Verb::Fix),
     ("N flush N", Verb::Flush),
     ("N tick N", Verb::Tick),
     ("N purge", Verb::Purge),
     ("N read G", Verb::Read),
+    ("N read G at N into N", Verb::ReadInto),
     ("N write G at N B lsn N", Verb::Write),
+    ("N write G at N from B lsn N", Verb::WriteFrom),
     ("N unfix G", Verb::Unfix),
     ("N settle", Verb::Settle),
     ("N list", Verb::List),

@@ -41,7 +41,7 @@ pub fn make<K: ListKeeper>(
     let geometry = Geometry::new(4, 16)?;
     let settings = Settings::new(2, 0, 1000)?;
     let device = MemDevice::new(alloc, geometry)?;
-    let parts = Parts::new(alloc)?;
+    let parts = Parts::new(alloc, clients)?;
     let core = PoolCore::<K>::new(alloc, geometry, settings, frames, clients, room)?;
     Ok(Made {
         core,

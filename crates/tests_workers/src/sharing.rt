@@ -78,7 +78,7 @@ fn passes_still_held_go_back(rt: HostRuntime) {
     let run = run(rt, 4, 2, true);
     for left in &run.left {
         assert_eq!(rt; left.held, 1);
-        assert!(rt; left.all_went_back);
+        assert!(rt; left.all_went_back && left.is_settled);
         assert!(rt;
             matches!(left.said().last(), Some(entry) if matches!(entry.call, Call::Unfix { .. }))
         );

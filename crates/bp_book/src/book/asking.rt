@@ -6,9 +6,9 @@ ghost use Rattle.bp_trail.specs.declared.entries.Reply.TheVariants as Reply;
 ghost use Rattle.bp_trail.specs.Clock.{durable};
 ghost use Rattle.bp_book.specs.Books.{SameOwner, Alike};
 ghost use Rattle.bp_book.specs.Turns.{LookOutcome, AskFixOutcome, AskFlushOutcome};
-ghost use Rattle.bp_book.specs.Turns.{TickSaid, PurgeSaid, ReadSaid, WriteSaid};
+ghost use Rattle.bp_book.specs.Turns.{TickSaid, PurgeSaid, ReadSaid, ReadIntoSaid, WriteSaid};
 ghost use Rattle.bp_core.specs.Outcomes.{TickOutcome, PurgeOutcome};
-ghost use Rattle.bp_core.specs.Outcomes.{ReadOutcome, WriteOutcome};
+ghost use Rattle.bp_core.specs.Outcomes.{ReadOutcome, ReadIntoOutcome, WriteOutcome};
 ghost use Rattle.bp_book.specs.Causes.{Looks, AsksFix, AsksFlush};
 
 use super::Book;
@@ -16,7 +16,7 @@ use crate::pending::{Fix, Flush, PendingRead, PendingWrite};
 use bp_core::{Call, Pass, PoolCore, Reply, passes};
 use bp_keeper::ListKeeper;
 use bp_mark::{Mark, Reader};
-use bp_page::{Bytes, Image, Lsn, PageNo, Refusal};
+use bp_page::{Image, Lsn, PageNo, Refusal};
 
 impl<K: ListKeeper> Book<K> {
     /// Looks at the mark once, and marks what it sees where that is above what the core was told: the trail and the
@@ -193,6 +193,37 @@ impl<K: ListKeeper> Book<K> {
         Ok(image)
     }
 
+    /// Copies so many bytes of the page of a pass of the client's, from the offset on. The trail and the list get the
+    /// read, each with an image of its own, where they are kept. `TrailFull`, `UnknownPass` and `OutOfMemory` add no
+    /// entry, and leave the bytes that were there.
+    #[tactic(auto, using(crate::proofs::Asking::read_refused))]
+    pub fn ask_read_into(
+        &mut self,
+        core: &mut PoolCore<K>,
+        pass: &Pass,
+        offset: u32,
+        into: &mut [u8],
+    ) -> Result<(), Refusal>
+        requires own { pass.now.client ≡ self.old.client }
+        requires size { self.old.size ≡ core.old.parameters.size }
+        requires fits { offset + length into.old ≤ core.old.parameters.size }
+        requires room { 0 < self.old.entries }
+        requires copies { 0 < self.old.copies }
+        ensures durable { durable core.new.past ≡ durable core.old.past }
+        ensures parameters { core.new.parameters ≡ core.old.parameters }
+        ensures before { core.new.before ≡ core.old.before }
+        ensures owner { SameOwner self.old self.new }
+        ensures asked { ReadIntoOutcome core.old pass.now offset into.old result into.new core.new }
+        ensures outcome { ReadIntoSaid self.old.client pass.now offset into.old result into.new
+            self.old.said self.new.said }
+        ensures alike { Alike core.old self.old.said core.new self.new.said }
+    {
+        core.read_into(pass, offset, into)?;
+        let image = core.image(pass).unwrap();
+        self.tell_read(pass, image);
+        Ok(())
+    }
+
     /// Writes to the page of a pass of the client's. The trail and the list get the write; the list keeps the bytes in
     /// the spare. `TrailFull`, `UnknownPass` and `OutOfMemory` add no entry.
     #[tactic(auto, using(crate::proofs::Asking::write_refused))]
@@ -201,7 +232,7 @@ impl<K: ListKeeper> Book<K> {
         core: &mut PoolCore<K>,
         pass: &Pass,
         offset: u32,
-        bytes: &Bytes,
+        bytes: &[u8],
         lsn: Lsn,
         spare: K::SpareBytes,
     ) -> Result<(), Refusal>
@@ -218,7 +249,7 @@ impl<K: ListKeeper> Book<K> {
             self.old.said self.new.said }
         ensures alike { Alike core.old self.old.said core.new self.new.said }
     {
-        core.write(pass, offset, bytes, lsn)?;
+        core.write_from(pass, offset, bytes, lsn)?;
         self.tell_write(pass, offset, bytes, lsn, spare);
         Ok(())
     }

@@ -47,7 +47,7 @@ impl<K: ListKeeper> Book<K> {
         let copy = copied::<K>(&mut self.blanks, &image);
         let page = ticket.page();
         let serial = ticket.serial();
-        match core.read_end(ticket, Ok(image)) {
+        match core.read_end_leaving(ticket, Ok(image), &mut self.left) {
             Ok(pass) => {
                 let note = pass.note();
                 let ended = Grant {
@@ -159,7 +159,7 @@ impl<K: ListKeeper> Book<K> {
         let PendingWrite { ticket } = ticket;
         let page = ticket.page();
         let serial = ticket.serial();
-        match core.write_end(ticket, written) {
+        match core.write_end_leaving(ticket, written, &mut self.left) {
             Ok(ended) => {
                 self.tell_write_end(serial, page, true, reply_of_end(ended));
                 Ok(ended)
@@ -169,7 +169,7 @@ impl<K: ListKeeper> Book<K> {
                 Err(Refusal::WriteFailed)
             }
             Err(EndRefusal::Unknown(lost, _)) => {
-                lost.forfeit();
+                self.left = Some(lost.into_image());
                 Err(Refusal::UnknownTicket)
             }
         }

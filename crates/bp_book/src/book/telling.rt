@@ -9,7 +9,7 @@ ghost use Rattle.bp_book.specs.Turns.{and_told, refusal_reply};
 use super::Book;
 use bp_core::{Call, Pass, ReadTicket, Reply, WriteTicket};
 use bp_keeper::ListKeeper;
-use bp_page::{Bytes, Image, Lsn, PageNo, Refusal};
+use bp_page::{Image, Lsn, PageNo, Refusal};
 use bp_trail::Grant;
 
 /// The reply that a refusal is, if there is an entry with it.
@@ -68,7 +68,7 @@ impl<K: ListKeeper> Book<K> {
         &mut self,
         pass: &Pass,
         offset: u32,
-        bytes: &Bytes,
+        bytes: &[u8],
         lsn: Lsn,
         spare: K::SpareBytes,
     )

@@ -1,5 +1,5 @@
 //! Bringing a page into a frame.
-ghost use Rattle.std.specs.Prelude.{◌≡◌, ℕ, ◌+◌, ◌^◌, ◌<◌, ◌≤◌, true, false, Some, None, IsSome};
+ghost use Rattle.std.specs.Prelude.{◌≡◌, ℕ, ◌+◌, ◌^◌, ◌<◌, ◌≤◌, true, false, Some, None, Ok, IsSome};
 ghost use Rattle.std.specs.Prelude.{length, IfOk, OnOk, OnErr, ◌≢◌};
 ghost use Rattle.bp_replacer.specs.Histories.{is_held, place_of, SameStampsAt, SameAt};
 ghost use Rattle.bp_replacer.specs.Histories.{SameSettings, KeepsPlaces};
@@ -99,7 +99,22 @@ impl<K: Keeper> PoolCore<K> {
         requires size { IfOk read (λ image. length image ≡ self.old.parameters.size) }
         ensures outcome { ReadEndOutcome self.old ticket read result self.new }
     {
-        match self.read_end_by(ticket.grant(), read) {
+        self.read_end_leaving(ticket, read, &mut None)
+    }
+
+    /// Ends a read as `read_end` does, for callers that hold a lock. A silent core keeps the image itself, and what the
+    /// page's frame had before goes to `left`: the caller frees that memory, or uses it again, when it likes. Its bytes
+    /// mean nothing.
+    pub fn read_end_leaving(
+        &mut self,
+        ticket: ReadTicket,
+        read: Result<Image, PortFault>,
+        left: &mut Option<Image>,
+    ) -> Result<Pass, EndRefusal<ReadTicket, Result<Image, PortFault>>>
+        requires size { IfOk read (λ image. length image ≡ self.old.parameters.size) }
+        ensures outcome { ReadEndOutcome self.old ticket read result self.new }
+    {
+        match self.read_end_by(ticket.grant(), read, left) {
             Ok(pass) => {
                 ticket.forfeit();
                 Ok(pass)
@@ -112,11 +127,12 @@ impl<K: Keeper> PoolCore<K> {
         }
     }
 
-    /// Ends a read as `read_end` does, by what its ticket was given as: for callers that keep no tickets.
+    /// Ends a read as `read_end_leaving` does, by what its ticket was given as: for callers that keep no tickets.
     pub fn read_end_by(
         &mut self,
         ticket: Grant,
         read: Result<Image, PortFault>,
+        left: &mut Option<Image>,
     ) -> Result<Pass, EndRefusal<Grant, Result<Image, PortFault>>>
         requires size { IfOk read (λ image. length image ≡ self.old.parameters.size) }
         ensures outcome { ReadEndByOutcome self.old ticket read result self.new }
@@ -130,7 +146,7 @@ impl<K: Keeper> PoolCore<K> {
             return Err(EndRefusal::Unknown(ticket, read));
         }
         match read {
-            Ok(image) => Ok(self.end_load(client, page, serial, image)),
+            Ok(image) => Ok(self.end_load(ticket, image, left)),
             Err(fault) => {
                 self.fail_load(client, page, serial, fault);
                 Err(EndRefusal::Failed(refusal_of_read(fault)))
@@ -139,26 +155,22 @@ impl<K: Keeper> PoolCore<K> {
     }
 
     /// A read went well: its page is resident, with one pass out.
-    fn end_load(&mut self, client: u8, page: PageNo, serial: u64, image: Image) -> Pass
-        requires out { EachPast self.old (λ past. is_out (grant client page serial)
-            (reads_out past) ≡ true) }
+    fn end_load(&mut self, ticket: Grant, image: Image, left: &mut Option<Image>) -> Pass
+        requires out { EachPast self.old (λ past. is_out ticket (reads_out past) ≡ true) }
         requires size { length image ≡ self.old.parameters.size }
-        ensures client { result.client ≡ client }
-        ensures page { result.page ≡ page }
-        ensures entry { Adds self.old client (Call.ReadEnd serial page (Some image))
-            (Reply.Fixed result.serial) self.new }
+        ensures outcome { ReadEndByOutcome self.old ticket (Ok image) (Ok result) self.new }
     {
-        self.state.reads.take_back(serial);
-        let block = self.state.histories.place(page).unwrap();
-        self.state.frames.fill(page, block, &image);
-        self.state.histories.fault_at(page, block, self.state.clock);
-        let pass = self.state.give_pass(client, page);
-        let call = Call::ReadEnd {
-            ticket: serial,
-            page,
-            image: Some(image),
-        };
-        self.trail.record(client, call, Reply::Fixed(pass.serial));
+        self.state.reads.take_back(ticket.serial);
+        let block = self.state.histories.place(ticket.page).unwrap();
+        let (slot, before) = self.state.frames.fill(ticket.page, block, image);
+        self.state
+            .histories
+            .fault_at(ticket.page, block, self.state.clock);
+        let pass = self.state.give_pass(ticket.client, ticket.page);
+        let image = &self.state.frames.frame(&slot).image;
+        *left = self
+            .trail
+            .record_read_end(ticket, pass.serial, image, before);
         pass
     }
 

@@ -112,14 +112,27 @@ impl<K: Keeper> PoolCore<K> {
     ) -> Result<Ended, EndRefusal<WriteTicket, Result<(), PortFault>>>
         ensures outcome { WriteEndOutcome self.old ticket write result self.new }
     {
+        self.write_end_leaving(ticket, write, &mut None)
+    }
+
+    /// Ends a write-out as `write_end` does, for callers that hold a lock. The image that went out goes to `left`: the
+    /// caller frees that memory when it likes.
+    pub fn write_end_leaving(
+        &mut self,
+        ticket: WriteTicket,
+        write: Result<(), PortFault>,
+        left: &mut Option<Image>,
+    ) -> Result<Ended, EndRefusal<WriteTicket, Result<(), PortFault>>>
+        ensures outcome { WriteEndOutcome self.old ticket write result self.new }
+    {
         match self.write_end_by(ticket.grant(), write) {
             Ok(how) => {
-                ticket.forfeit();
+                *left = Some(ticket.into_image());
                 Ok(how)
             }
             Err(EndRefusal::Unknown(_, write)) => Err(EndRefusal::Unknown(ticket, write)),
             Err(EndRefusal::Failed(why)) => {
-                ticket.forfeit();
+                *left = Some(ticket.into_image());
                 Err(EndRefusal::Failed(why))
             }
         }

@@ -4,9 +4,10 @@
 ghost use Rattle.std.specs.Prelude.{◌≡◌, ◌+◌, ◌<◌, ◌≤◌, length, IfOk};
 ghost use Rattle.bp_book.specs.Books.{SameOwner, OwesRead, OwesWrite};
 ghost use Rattle.bp_book.specs.Turns.{FixTurn, FlushTurn, EndReadOutcome, EndWriteOutcome};
-ghost use Rattle.bp_book.specs.Turns.{TickSaid, PurgeSaid, ReadSaid, WriteSaid};
+ghost use Rattle.bp_book.specs.Turns.{TickSaid, PurgeSaid, ReadSaid, ReadIntoSaid, WriteSaid};
 ghost use Rattle.bp_book.specs.Causes.{EndsRead, EndsWrite};
-ghost use Rattle.bp_core.specs.Outcomes.{TickOutcome, PurgeOutcome, ReadOutcome, WriteOutcome};
+ghost use Rattle.bp_core.specs.Outcomes.{TickOutcome, PurgeOutcome, ReadOutcome};
+ghost use Rattle.bp_core.specs.Outcomes.{ReadIntoOutcome, WriteOutcome};
 ghost use Rattle.bp_shared.specs.Locked.{IsDrained, InStep, FixStep, FlushStep, ends_after};
 ghost use Rattle.bp_shared.specs.Telling.{IsLineOf};
 
@@ -18,7 +19,7 @@ use bp_book::{Book, Fix, Flush, PendingRead, PendingWrite};
 use bp_core::{Ended, Pass};
 use bp_keeper::ListKeeper;
 use bp_mark::Mark;
-use bp_page::{Bytes, Image, Lsn, PageNo, PortFault, Refusal};
+use bp_page::{Image, Lsn, PageNo, PortFault, Refusal};
 
 /// How often device work ended, after an end that may have been that of an unknown ticket.
 fn ends_after<T>(ends: u64, ended: &Result<T, Refusal>) -> u64
@@ -207,6 +208,36 @@ impl<N: PoolName, K: ListKeeper> LockedPool<N, K> {
         answer
     }
 
+    /// Copies bytes of the page of a pass of the list's client.
+    pub(crate) fn read_into(
+        &mut self,
+        book: &mut Book<K>,
+        line: &mut Line,
+        pass: &Pass,
+        offset: u32,
+        into: &mut [u8],
+    ) -> Result<(), Refusal>
+        requires drained { IsDrained self.old }
+        requires own { pass.now.client ≡ book.old.client }
+        requires size { book.old.size ≡ N.parameters.size }
+        requires fits { offset + length into.old ≤ N.parameters.size }
+        requires room { 0 < book.old.entries }
+        requires copies { 0 < book.old.copies }
+        requires line { IsLineOf N.ring.board line.old book.old.client book.old.said }
+        ensures owner { SameOwner book.old book.new }
+        ensures line { IsLineOf N.ring.board line.new book.new.client book.new.said }
+        ensures ends { self.new.ends ≡ self.old.ends }
+        ensures outcome { ReadIntoSaid book.old.client pass.now offset into.old result into.new
+            book.old.said book.new.said }
+        ensures in_step { InStep
+            (λ core after. ReadIntoOutcome core pass.now offset into.old result into.new after)
+            self.old book.old.said self.new book.new.said }
+    {
+        let answer = book.ask_read_into(&mut self.core, pass, offset, into);
+        self.board.write::<Book<K>, Told>(line, book);
+        answer
+    }
+
     /// Writes to the page of a pass of the list's client.
     pub(crate) fn write(
         &mut self,
@@ -214,7 +245,7 @@ impl<N: PoolName, K: ListKeeper> LockedPool<N, K> {
         line: &mut Line,
         pass: &Pass,
         offset: u32,
-        bytes: &Bytes,
+        bytes: &[u8],
         lsn: Lsn,
         spare: K::SpareBytes,
     ) -> Result<(), Refusal>

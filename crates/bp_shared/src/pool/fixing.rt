@@ -39,6 +39,7 @@ impl<N: PoolName, K: ListKeeper> SharedPool<N, K> {
         let ended = state.end_read(session, ticket, read);
         drop(state);
         self.ended.notify_all();
+        session.book.free_left();
         ended
     }
 
@@ -63,6 +64,7 @@ impl<N: PoolName, K: ListKeeper> SharedPool<N, K> {
         let ended = state.end_write(session, ticket, written);
         drop(state);
         self.ended.notify_all();
+        session.book.free_left();
         ended
     }
 

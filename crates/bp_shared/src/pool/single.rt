@@ -11,7 +11,7 @@ use std::sync::Wait;
 
 impl<N: PoolName, K: ListKeeper> SharedPool<N, K> {
     ghost use Rattle.std.specs.Prelude.{◌≡◌, ◌≢◌, ◌+◌, ◌≤◌, length, IfOk};
-    ghost use Rattle.bp_book.specs.Turns.{TickSaid, PurgeSaid, ReadSaid, WriteSaid};
+    ghost use Rattle.bp_book.specs.Turns.{TickSaid, PurgeSaid, ReadSaid, ReadIntoSaid, WriteSaid};
 
     /// Moves the clock on. `OutOfMemory`, `TrailFull` and `ClockFull` change nothing.
     pub fn tick<R: Wait>(&self, rt: &R, session: &mut Session<N, K>, n: u64) -> Result<(), Refusal>
@@ -62,6 +62,32 @@ impl<N: PoolName, K: ListKeeper> SharedPool<N, K> {
         state.read(&mut session.book, &mut session.line, pass)
     }
 
+    /// Copies so many bytes of a pass's page, from the offset on. Refused as `read` is, which leaves the bytes that were
+    /// there. A silent pool copies them alone while it holds its lock, and takes no memory there.
+    pub fn read_into<R: Wait>(
+        &self,
+        rt: &R,
+        session: &mut Session<N, K>,
+        pass: &Pass,
+        offset: u32,
+        into: &mut [u8],
+    ) -> Result<(), Refusal>
+        requires fits { offset + length into.old ≤ N.parameters.size }
+        ensures client { session.new.client ≡ session.old.client }
+        ensures before { session.new.before ≡ session.old.before }
+        ensures free { session.new.free ≡ session.old.free }
+        ensures stranger { pass.now.client ≢ session.old.client → result ≡ Err Refusal.UnknownPass }
+        ensures outcome { ReadIntoSaid session.old.client pass.now offset into.old result into.new
+            session.old.said session.new.said }
+    {
+        if pass.client() != session.client() {
+            return Err(Refusal::UnknownPass);
+        }
+        session.book.reserve_for_event()?;
+        let mut state = self.enter(rt);
+        state.read_into(&mut session.book, &mut session.line, pass, offset, into)
+    }
+
     /// Puts bytes into a pass's page, from the offset on, and raises the page LSN to `lsn` if that is greater. Refusals
     /// as from `read`.
     pub fn write<R: Wait>(
@@ -71,6 +97,28 @@ impl<N: PoolName, K: ListKeeper> SharedPool<N, K> {
         pass: &Pass,
         offset: u32,
         bytes: &Bytes,
+        lsn: Lsn,
+    ) -> Result<(), Refusal>
+        requires fits { offset + length bytes.now ≤ N.parameters.size }
+        ensures client { session.new.client ≡ session.old.client }
+        ensures before { session.new.before ≡ session.old.before }
+        ensures free { session.new.free ≡ session.old.free }
+        ensures stranger { pass.now.client ≢ session.old.client → result ≡ Err Refusal.UnknownPass }
+        ensures outcome { WriteSaid session.old.client pass.now offset bytes.now lsn result
+            session.old.said session.new.said }
+    {
+        self.write_from(rt, session, pass, offset, bytes.bytes(), lsn)
+    }
+
+    /// Puts bytes into a pass's page as `write` does, which the caller has as they are. A silent pool takes no memory
+    /// for them.
+    pub fn write_from<R: Wait>(
+        &self,
+        rt: &R,
+        session: &mut Session<N, K>,
+        pass: &Pass,
+        offset: u32,
+        bytes: &[u8],
         lsn: Lsn,
     ) -> Result<(), Refusal>
         requires fits { offset + length bytes.now ≤ N.parameters.size }

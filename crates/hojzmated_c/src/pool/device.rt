@@ -43,8 +43,11 @@ impl Pool {
         if !self.core.knows_read(held.grant()) {
             return Err(Refusal::UnknownTicket);
         }
-        let own = Image::of(self.alloc, image)?;
-        match self.core.read_end_by(held.grant(), Ok(own)) {
+        let own = Image::of_with(self.alloc, self.spare.take(), image)?;
+        match self
+            .core
+            .read_end_by(held.grant(), Ok(own), &mut self.spare)
+        {
             Ok(pass) => {
                 count(&mut self.totals.faults);
                 Ok(HzGrant::of(pass.note()))
@@ -59,10 +62,8 @@ impl Pool {
     pub(crate) fn read_failed(&mut self, held: &HzGrant, is_wrong_page: bool) -> u16
         ensures { FailsRead self.old held.now (fault_of is_wrong_page) result self.new }
     {
-        match self
-            .core
-            .read_end_by(held.grant(), Err(fault(is_wrong_page)))
-        {
+        let found = Err(fault(is_wrong_page));
+        match self.core.read_end_by(held.grant(), found, &mut None) {
             Err(EndRefusal::Failed(why)) => {
                 count(&mut self.totals.failed);
                 why.number()

@@ -1,12 +1,15 @@
 //! Reading, writing and giving back a page by what its pass was given as.
-ghost use Rattle.bp_core.specs.Outcomes.{UnfixOutcome};
+ghost use Rattle.std.specs.Prelude.{◌≡◌, IfSome, IfNone};
+ghost use Rattle.bp_trail.specs.Images.{held as held_by};
+ghost use Rattle.bp_core.specs.CoreView.{EachPast};
+ghost use Rattle.bp_core.specs.Outcomes.{KnowsPass, LacksPass, UnfixOutcome};
 ghost use Rattle.hojzmated_c.specs.Forms.{pass_of};
 ghost use Rattle.hojzmated_c.specs.Outcomes.{ReadsPart, WritesPart};
 
 use crate::forms::HzGrant;
 use crate::pool::Pool;
 use bp_core::Pass;
-use bp_page::{Bytes, Lsn, Refusal};
+use bp_page::{Lsn, Refusal};
 
 impl Pool {
     /// Copies a part of the page of a pass. `OutOfPage` where it is not within the page, and what the core refuses.
@@ -22,12 +25,22 @@ impl Pool {
             return Err(Refusal::OutOfPage);
         }
         let pass = held.pass();
-        let read = self.core.read(&pass);
+        let read = self.core.read_into(&pass, offset as u32, into);
         pass.note();
-        let image = read?;
-        let end = offset + into.len();
-        into.copy_from_slice(&image.bytes()[offset..end]);
-        Ok(())
+        read
+    }
+
+    /// The bytes of the page of a pass, lent by the core. None where the pass is not out here.
+    pub(crate) fn page(&self, held: &HzGrant) -> Option<&[u8]>
+        ensures known { IfSome result (λ bytes. KnowsPass self.now (pass_of held.now)) }
+        ensures held { IfSome result (λ bytes. EachPast self.now
+            (λ past. bytes.now ≡ held_by past held.now.page)) }
+        ensures unknown { IfNone result (LacksPass self.now (pass_of held.now)) }
+    {
+        let pass = held.pass();
+        let page = self.core.page(&pass);
+        pass.note();
+        page
     }
 
     /// Puts bytes into the page of a pass. `OutOfPage` where they are not within the page, and what the core refuses.
@@ -43,19 +56,10 @@ impl Pool {
         if !self.core.geometry().fits(offset, from.len()) {
             return Err(Refusal::OutOfPage);
         }
-        if self.core.free() < 1 {
-            return Err(Refusal::TrailFull);
-        }
         let pass = held.pass();
-        if !self.core.knows(&pass) {
-            pass.note();
-            return Err(Refusal::UnknownPass);
-        }
-        let Ok(bytes) = Bytes::of(self.alloc, from) else {
-            pass.note();
-            return Err(Refusal::OutOfMemory);
-        };
-        let written = self.core.write(&pass, offset as u32, &bytes, Lsn::new(lsn));
+        let written = self
+            .core
+            .write_from(&pass, offset as u32, from, Lsn::new(lsn));
         pass.note();
         written
     }

@@ -9,5 +9,5 @@ use Rattle.bp_run.proofs.run.drive_rows.Goals as goal
 pub returns-clause-reported : goal.returns-clause-reported
 returns-clause-reported g c =
     reported g.P.Port.read_gives g.P.Port.write_gives c.args.totals c.args.core.now c.drive_all.new.core c.args.port.now c.drive_all.new.port c.args.rows.now c.trail.result.now c.in-Ok.refused.items c.is_empty.result _ _
-    c.requires.new.0 c.requires.new.1 c.in-Ok.ensures.follows c.drive_all.ensures.work c.trail.ensures.entries c.trail.ensures.legal (search rules)
+    c.requires.new.0 c.requires.new.1 c.in-Ok.ensures.follows c.in-Ok.ensures.caused c.drive_all.ensures.work c.trail.ensures.entries c.trail.ensures.legal (search rules)
     (subst (λ rows. Appends (g.W.Write.contents c.args.out.now) (g.W.Write.contents c.print_run.new.out) (report_of c.args.totals c.trail.result.now ++ rows_text rows)) c.deref.ensures.value c.in_ok-print_run.ensures.written)

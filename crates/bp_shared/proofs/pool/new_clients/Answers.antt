@@ -1,5 +1,10 @@
 -- One session after another.
-use Rattle.std.proofs.Common.{rules, arith, refl, sym, subst, ◌≡◌, ap, ◌∙◌, ◌+◌, [], ◌∷◌, add-one, length, length-append}
+use Rattle.std.proofs.Common.{rules, arith, refl, sym, subst, ◌≡◌, ◌<◌, ap, ◌∙◌, ◌+◌, [], ◌∷◌, add-one, length, drop, get_or, length-append}
+use Rattle.std.proofs.lemmas.List.{drop_more}
+use Rattle.std.proofs.lemmas.List.Elements.{All-get_or}
+use Rattle.std.specs.Vec.Iter.{into_iter_items}
+use Rattle.bp_shared.specs.Posting.{IsUnused}
+use Rattle.bp_shared.proofs.Posting.{next_name}
 use Rattle.bp_shared.specs.Sessions.{new_sessions}
 use Rattle.bp_shared.specs.Telling.{IsBlank}
 use Rattle.bp_shared.proofs.Making.{sessions_more}
@@ -9,10 +14,23 @@ use Rattle.bp_shared.proofs.pool.new_clients.Goals as goal
 pub loop-client-init : goal.loop-client-init
 loop-client-init g c = record {
   sessions = c.new-sessions.ensures.items;
+  rings = search rules;
   board = c.requires.board;
   lines = ap length c.requires.empty;
   blank = subst IsBlank (sym c.requires.empty) (λ _. refl);
 }
+
+pub new-session-requires-clause-unused : goal.new-session-requires-clause-unused
+new-session-requires-clause-unused g c =
+    let from = sym c.in-Some.ensures.items ∙ c.loop-client.invariant.rings in
+    let below : c.loop-client.client < length c.args.producers.items = omega (arith, c.loop-client-test.true, c.requires.count) in
+    let here = ap (λ ps. get_or ps 0 c.in-Some.producer) (sym (drop_more c.args.producers.items c.loop-client.client c.in-Some.producer below) ∙ sym from) in
+    subst IsUnused here (All-get_or IsUnused c.args.producers.items c.loop-client.client c.in-Some.producer below c.requires.unused)
+
+pub new-session-requires-clause-ring : goal.new-session-requires-clause-ring
+new-session-requires-clause-ring g c =
+    let below : c.loop-client.client < length c.args.producers.items = omega (arith, c.loop-client-test.true, c.requires.count) in
+    next_name c.args.producers.items g.N.PoolName.ring.rings c.loop-client.client c.in-Some.producer (into_iter_items c.next.new.self) c.requires.rings below (sym c.in-Some.ensures.items ∙ c.loop-client.invariant.rings)
 
 pub new-session-requires-clause-line : goal.new-session-requires-clause-line
 new-session-requires-clause-line g c = record {
@@ -28,6 +46,7 @@ loop-client-preserved g c =
     let counted : length c.line.new.self.lists ≡ length c.loop-client.board.lists + 1 = ap length more.lists ∙ length-append c.loop-client.board.lists ([] ∷ []) in
     record {
       sessions = sessions_more c.loop-client.client _ _ _ c.new-session.result i.sessions (search rules) c.new-session.ensures.client c.new-session.ensures.before c.new-session.ensures.said c.new-session.ensures.free c.new-session.ensures.room (add-one c.loop-client.client);
+      rings = ap (drop 1) (sym c.in-Some.ensures.items ∙ i.rings ∙ drop_more c.args.producers.items c.loop-client.client c.in-Some.producer (omega (arith, c.loop-client-test.true, c.requires.count)));
       board = more.name ∙ i.board;
       lines = omega (arith, counted, i.lines);
       blank = subst IsBlank (sym more.lists) (blank_more _ i.blank);

@@ -1,5 +1,6 @@
--- So many sessions were made, each with a line of the board.
-use Rattle.std.proofs.Common.{◌≡◌, length}
+-- So many sessions were made, each with a line of the board, and the rings of the others are left.
+use Rattle.std.proofs.Common.{◌≡◌, length, drop}
+use Rattle.std.specs.Vec.Iter.{into_iter_items}
 use Rattle.bp_shared.specs.Sessions.{new_sessions}
 use Rattle.bp_shared.specs.Telling.{IsBlank}
 use Rattle.bp_shared.proofs.pool.new_clients.Given as goal
@@ -7,6 +8,7 @@ use Rattle.bp_shared.proofs.pool.new_clients.Given as goal
 abbrev pub invariant-loop-client : goal.invariant-loop-client
 invariant-loop-client g l = record {
   sessions : l.sessions.items ≡ new_sessions l.client;
+  rings : into_iter_items l.producers ≡ drop l.client l.fn.producers.items;
   board : l.board.name ≡ g.N.PoolName.ring.board;
   lines : length l.board.lists ≡ l.client;
   blank : IsBlank l.board.lists;

@@ -16,35 +16,35 @@ away : (c : goal.After-self-2-1) → get_or c.self.inside.places.items c.args.pa
 away c = away-known _ _ _ _ _ c.self.invariant.0 _ _ c.self.view_is c.args.page c.requires.absent
 
 -- its place is new
-one-more : (c : goal.After-self-2-1) → places_from 0 (set c.self.inside.places.items c.number.result (c.unwrap-slot.result + 1)) ≡ insert (places_from 0 c.self.inside.places.items) (rank c.self.inside.places.items c.args.page) (place_at c.args.page c.unwrap-slot.result)
+one-more : (c : goal.After-self-2-1) → places_from 0 (set c.self.inside.places.items c.number.result (c.unwrap-index.result + 1)) ≡ insert (places_from 0 c.self.inside.places.items) (rank c.self.inside.places.items c.args.page) (place_at c.args.page c.unwrap-index.result)
 one-more c =
     let i = c.self.inside in
-    let next : c.unwrap-slot.result + 1 ≡ suc c.unwrap-slot.result = omega arith in
+    let next : c.unwrap-index.result + 1 ≡ suc c.unwrap-index.result = omega arith in
     (λ k. places_from 0 (set i.places.items (c.number.ensures k) (next k)))
-    ∙ placed 0 i.places.items c.args.page c.unwrap-slot.result (omega (arith, c.requires.in_range, ap (λ (t : Table). t.pages) c.self.view_is)) (away c)
-    ∙ (let own : 0 + c.args.page ≡ c.args.page = omega arith in ap (λ m. insert (places_from 0 i.places.items) (rank i.places.items c.args.page) (place_at m c.unwrap-slot.result)) own)
+    ∙ placed 0 i.places.items c.args.page c.unwrap-index.result (omega (arith, c.requires.in_range, ap (λ (t : Table). t.pages) c.self.view_is)) (away c)
+    ∙ (let own : 0 + c.args.page ≡ c.args.page = omega arith in ap (λ m. insert (places_from 0 i.places.items) (rank i.places.items c.args.page) (place_at m c.unwrap-index.result)) own)
 
 pub invariant_of-self : goal.invariant_of-self
 invariant_of-self c =
     let i = c.self.inside in
     let t = c.self.invariant.0 in
     let room = c.self.invariant.1 in
-    let last : i.spare.items ≡ c.pop.new.self.items ++ c.unwrap-slot.result ∷ [] = rw c.unwrap-slot.ensures at c.pop.ensures.items in
-    let size = ap (λ (f : Frame). length f.image) c.load.ensures ∙ c.requires.size ∙ sym (ap (λ (v : Table). v.size) c.self.view_is) in
-    let filled = table-filled _ _ _ _ _ t c.pop.new.self.items c.unwrap-slot.result last (rank i.places.items c.args.page) (place_at c.args.page c.unwrap-slot.result) refl (own-place i.places.items c.args.page) (stands-no-place i.places.items c.args.page (away c)) c.load.new.self (ap (λ (f : Frame). f.page) c.load.ensures) size in (
-      subst (λ (ps : List Place). IsTable i.geometry.size i.limit (set i.slots.items c.unwrap-slot.result c.load.new.self) ps c.pop.new.self.items) (sym (one-more c)) filled,
+    let last : i.spare.items ≡ c.pop.new.self.items ++ c.unwrap-index.result ∷ [] = rw c.unwrap-index.ensures at c.pop.ensures.items in
+    let size = ap (λ (f : Frame). length f.image) c.load-left.ensures.loaded ∙ c.requires.size ∙ sym (ap (λ (v : Table). v.size) c.self.view_is) in
+    let filled = table-filled _ _ _ _ _ t c.pop.new.self.items c.unwrap-index.result last (rank i.places.items c.args.page) (place_at c.args.page c.unwrap-index.result) refl (own-place i.places.items c.args.page) (stands-no-place i.places.items c.args.page (away c)) c.load-left.new.self (ap (λ (f : Frame). f.page) c.load-left.ensures.loaded) size in (
+      subst (λ (ps : List Place). IsTable i.geometry.size i.limit (set i.slots.items c.unwrap-index.result c.load-left.new.self) ps c.pop.new.self.items) (sym (one-more c)) filled,
       record { small = room.small; for_slots = room.for_slots; for_spare = omega (arith, room.for_spare, c.pop.ensures.capacity) },
-      rw c.number.ensures (seating-filled _ _ _ c.self.invariant.2 c.args.page c.unwrap-slot.result (away c)),
+      rw c.number.ensures (seating-filled _ _ _ c.self.invariant.2 c.args.page c.unwrap-index.result (away c)),
     )
 
 pub returns-clause-frames : goal.returns-clause-frames
 returns-clause-frames c =
     let i = c.self.inside in
     let t = c.self.invariant.0 in
-    let last : i.spare.items ≡ c.pop.new.self.items ++ c.unwrap-slot.result ∷ [] = rw c.unwrap-slot.ensures at c.pop.ensures.items in
-    let slots = set i.slots.items c.unwrap-slot.result c.load.new.self in
-    let loaded = loaded_with c.args.page c.args.block c.args.image.now in
+    let last : i.spare.items ≡ c.pop.new.self.items ++ c.unwrap-index.result ∷ [] = rw c.unwrap-index.ensures at c.pop.ensures.items in
+    let slots = set i.slots.items c.unwrap-index.result c.load-left.new.self in
+    let loaded = loaded_with c.args.page c.args.block c.args.image in
     let at = rank i.places.items c.args.page in
-    let is = ap (frames_of slots) (one-more c) ∙ frames-filled _ _ _ _ _ t c.args.page c.unwrap-slot.result at (slot-within _ _ _ _ _ t c.pop.new.self.items c.unwrap-slot.result last) (slot-free _ _ _ _ _ t c.pop.new.self.items c.unwrap-slot.result last) (own-place i.places.items c.args.page) c.load.new.self (place_at c.args.page c.unwrap-slot.result) refl ∙ ap (insert (frames_of i.slots.items (places_from 0 i.places.items)) at) c.load.ensures in
-    subst (λ xs. IsPermutation (loaded ∷ xs) (frames_of slots (places_from 0 (set i.places.items c.number.result (c.unwrap-slot.result + 1))))) (ap (λ (v : Table). v.frames) c.self.view_is)
+    let is = ap (frames_of slots) (one-more c) ∙ frames-filled _ _ _ _ _ t c.args.page c.unwrap-index.result at (slot-within _ _ _ _ _ t c.pop.new.self.items c.unwrap-index.result last) (slot-free _ _ _ _ _ t c.pop.new.self.items c.unwrap-index.result last) (own-place i.places.items c.args.page) c.load-left.new.self (place_at c.args.page c.unwrap-index.result) refl ∙ ap (insert (frames_of i.slots.items (places_from 0 i.places.items)) at) c.load-left.ensures.loaded in
+    subst (λ xs. IsPermutation (loaded ∷ xs) (frames_of slots (places_from 0 (set i.places.items c.number.result (c.unwrap-index.result + 1))))) (ap (λ (v : Table). v.frames) c.self.view_is)
     (subst (IsPermutation (loaded ∷ frames_of i.slots.items (places_from 0 i.places.items))) (sym is) (IsPermutation-insert (frames_of i.slots.items (places_from 0 i.places.items)) at loaded))

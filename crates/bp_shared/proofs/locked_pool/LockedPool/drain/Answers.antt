@@ -1,8 +1,14 @@
 -- Rings drained, of which the board shows nothing.
 use Rattle.std.proofs.Common.{rules}
 use Rattle.bp_shared.proofs.Telling.{drained_unfixes, shown_drained}
+use Rattle.bp_shared.proofs.Posting.{posted_drained}
 use Rattle.bp_shared.proofs.locked_pool.LockedPool.drain.Goals as goal
 
 pub invariant_of-self : goal.invariant_of-self
-invariant_of-self g c =
-    (search rules, search rules, shown_drained _ _ _ _ _ c.self.invariant.2 (drained_unfixes 32 _ _ _ _ _ _ c.drain_all.ensures.drained))
+invariant_of-self g c = (
+  search rules,
+  search rules,
+  shown_drained _ _ _ _ _ c.self.invariant.2 (drained_unfixes 32 0 _ _ _ _ _ _ c.drain_all.ensures.drained),
+  posted_drained _ _ 32 _ _ _ _ _ _ c.self.invariant.3 c.drain_all.ensures.drained,
+  c.self.invariant.4,
+)

@@ -1,15 +1,19 @@
 -- One event, which the board shows.
 use Rattle.std.proofs.Common.{rules, refl}
 use Rattle.bp_shared.proofs.Stepping.{step_one}
-use Rattle.bp_shared.proofs.Telling.{adds_one, end_read_one, line_written, shown_more}
+use Rattle.bp_shared.proofs.Telling.{adds_one, end_read_one, shown_more}
+use Rattle.bp_shared.proofs.Posting.{posted_adds}
 use Rattle.bp_shared.proofs.locked_pool.LockedPool.end_read.Goals as goal
 
 pub invariant_of-self : goal.invariant_of-self
 invariant_of-self g c =
-    let done = c.end_read-ended.ensures in (
+    let done = c.end_read-ended.ensures in
+    let adds = adds_one c.session.inside.book.client _ _ _ _ done.alike (end_read_one _ _ _ _ _ _ (rw (← c.session.view_is) at c.requires.owes) done.outcome) in (
       search rules,
       search rules,
-      shown_more _ _ c.session.inside.book.client _ _ _ _ _ _ _ _ c.self.invariant.2 c.session.invariant.3 (adds_one c.session.inside.book.client _ _ _ _ done.alike (end_read_one _ _ _ _ _ _ (rw (← c.session.view_is) at c.requires.owes) done.outcome)) c.write.ensures,
+      shown_more _ _ c.session.inside.book.client _ _ _ _ _ _ _ _ c.self.invariant.2 c.session.invariant.3 adds c.write.ensures,
+      posted_adds _ _ _ _ c.session.inside.book.client _ _ _ _ c.self.invariant.3 adds done.owner.unfixes_are,
+      c.self.invariant.4,
     )
 
 pub returns-clause-in_step : goal.returns-clause-in_step

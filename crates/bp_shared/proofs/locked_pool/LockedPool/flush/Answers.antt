@@ -1,29 +1,43 @@
 -- At most one mark, one event.
-use Rattle.std.proofs.Common.{rules, refl, sym, ap, inl, inr, ◌∙◌, subst, Err}
+use Rattle.std.proofs.Common.{rules, refl, sym, ap, inl, inr, ◌∙◌, subst, map, Err}
 use Rattle.std.proofs.lemmas.Result.{err_from_is_err_and}
 use Rattle.bp_book.specs.declared.pending.Flush.{Flush as Flushing}
 use Rattle.bp_book.specs.Causes.{AsksFlush}
 use Rattle.bp_book.specs.Turns.{FlushTurn}
 use Rattle.bp_core.specs.CoreView.{CoreView}
 use Rattle.bp_shared.specs.Locked.{LooksFirst}
+use Rattle.bp_book.specs.Rings.{ring_view}
+use Rattle.bp_shared.specs.Posting.{IsPosted}
 use Rattle.bp_shared.specs.Telling.{IsShown}
 use Rattle.bp_shared.proofs.Stepping.{step_one, step_two, look_refused, looked, marks_once, not_looked}
 use Rattle.bp_shared.proofs.Telling.{OneMore, same_core, adds_one, adds_both, look_one, ask_flush_one, line_written, shown_more}
 use Rattle.bp_shared.proofs.Turning.{flush_not_looked}
+use Rattle.bp_shared.proofs.Posting.{posted_adds}
 use Rattle.bp_shared.proofs.locked_pool.LockedPool.flush.Goals as goal
 
 pub invariant_of-self : goal.invariant_of-self
 invariant_of-self g c =
     let nothing = not_looked (Unit {0}) c.args.book.now.client _ c.self.inside.core _ _ _ c.in_err-look.ensures.outcome in
-    let still = same_core c.self.inside.core c.look.new.core _ _ c.look.ensures.alike nothing.1 in
-    (search rules, search rules, subst (λ (core : CoreView). IsShown g.N.PoolName.ring.board g.N.PoolName.past c.self.inside.board core.past) (sym still) c.self.invariant.2)
+    let still = same_core c.self.inside.core c.look.new.core _ _ c.look.ensures.alike nothing.1 in (
+      search rules,
+      search rules,
+      subst (λ (core : CoreView). IsShown g.N.PoolName.ring.board g.N.PoolName.past c.self.inside.board core.past) (sym still) c.self.invariant.2,
+      subst (λ (core : CoreView). IsPosted g.N.PoolName.ring.rings g.N.PoolName.past (map ring_view c.self.inside.consumers.items) c.self.inside.strays core.past) (sym still) c.self.invariant.3,
+      c.self.invariant.4,
+    )
 
 pub invariant_of-self-2 : goal.invariant_of-self-2
 invariant_of-self-2 g c =
     let client = c.args.book.now.client in
     let looked = adds_one client _ _ _ _ c.look.ensures.alike (look_one client _ c.self.inside.core _ _ _ c.look.ensures.outcome) in
     let asked = adds_one client _ _ _ _ c.ask_flush-answer.ensures.alike (subst (λ n. OneMore n c.look.new.self.said c.ask_flush-answer.new.self.said) c.look.ensures.owner.client (ask_flush_one _ _ _ _ _ c.ask_flush-answer.ensures.outcome)) in
-    (search rules, search rules, shown_more _ _ client _ _ _ _ _ _ _ _ c.self.invariant.2 c.requires.line (adds_both client _ _ _ _ _ _ looked asked) c.write.ensures)
+    let adds = adds_both client _ _ _ _ _ _ looked asked in (
+      search rules,
+      search rules,
+      shown_more _ _ client _ _ _ _ _ _ _ _ c.self.invariant.2 c.requires.line adds c.write.ensures,
+      posted_adds _ _ _ _ client _ _ _ _ c.self.invariant.3 adds (c.ask_flush-answer.ensures.owner.unfixes_are ∙ c.look.ensures.owner.unfixes_are),
+      c.self.invariant.4,
+    )
 
 pub returns-clause-line : goal.returns-clause-line
 returns-clause-line g c = line_written _ _ _ _ _ _ _ _ _ c.requires.line c.write.ensures (c.ask_flush-answer.ensures.owner.client ∙ c.look.ensures.owner.client)

@@ -1,5 +1,4 @@
 -- The trail goes on from what it was when the pool was made.
-use Rattle.std.proofs.Common.{rules}
 use Rattle.bp_shared.proofs.locked_pool.LockedPool.into_parts.Goals as goal
 
 pub returns-clause-goes_on : goal.returns-clause-goes_on

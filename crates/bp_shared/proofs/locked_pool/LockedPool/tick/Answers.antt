@@ -2,14 +2,18 @@
 use Rattle.std.proofs.Common.{rules, refl}
 use Rattle.bp_shared.proofs.Stepping.{step_one}
 use Rattle.bp_shared.proofs.Telling.{adds_one, tick_one, line_written, shown_more}
+use Rattle.bp_shared.proofs.Posting.{posted_adds}
 use Rattle.bp_shared.proofs.locked_pool.LockedPool.tick.Goals as goal
 
 pub invariant_of-self : goal.invariant_of-self
 invariant_of-self g c =
-    let done = c.ask_tick-answer.ensures in (
+    let done = c.ask_tick-answer.ensures in
+    let adds = adds_one c.args.book.now.client _ _ _ _ done.alike (tick_one _ _ _ _ _ done.outcome) in (
       search rules,
       search rules,
-      shown_more _ _ c.args.book.now.client _ _ _ _ _ _ _ _ c.self.invariant.2 c.requires.line (adds_one c.args.book.now.client _ _ _ _ done.alike (tick_one _ _ _ _ _ done.outcome)) c.write.ensures,
+      shown_more _ _ c.args.book.now.client _ _ _ _ _ _ _ _ c.self.invariant.2 c.requires.line adds c.write.ensures,
+      posted_adds _ _ _ _ c.args.book.now.client _ _ _ _ c.self.invariant.3 adds done.owner.unfixes_are,
+      c.self.invariant.4,
     )
 
 pub returns-clause-line : goal.returns-clause-line

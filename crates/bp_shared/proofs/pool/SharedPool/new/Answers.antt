@@ -1,5 +1,5 @@
 -- Nothing was told yet.
-use Rattle.std.proofs.Common.{rules, sym, subst, ◌∙◌}
+use Rattle.std.proofs.Common.{rules}
 use Rattle.bp_shared.proofs.Telling.{shown_none}
 use Rattle.bp_shared.proofs.pool.SharedPool.new.Goals as goal
 

@@ -4,6 +4,7 @@ use Rattle.rtrb.specs.Ring.{received}
 use Rattle.bp_shared.specs.Taking.{after_pieces}
 use Rattle.bp_shared.proofs.Taking.{one_more, handed_out, comes_next, still_locked}
 use Rattle.bp_shared.proofs.Telling.{shown_cut}
+use Rattle.bp_shared.proofs.Posting.{posted_cut}
 use Rattle.bp_shared.proofs.locked_pool.cut_section.LockedPool+N+RecordingKeeper.cut.Goals as goal
 
 pub invariant_of-self-2 : goal.invariant_of-self-2
@@ -13,6 +14,8 @@ invariant_of-self-2 g c =
       still_locked _ _ _ _ _ _ c.self.invariant.0 cut,
       handed_out _ _ _ _ c.in-Ok.entries c.self.inside.core c.cut_into.new.self c.self.invariant.1 cut passed.producer passed.emptied passed.sent,
       shown_cut _ _ _ c.self.inside.core c.cut_into.new.self _ c.self.invariant.2 cut,
+      posted_cut _ _ _ _ c.self.inside.core c.cut_into.new.self _ c.self.invariant.3 cut,
+      c.self.invariant.4,
     )
 
 pub returns-clause-done : goal.returns-clause-done

@@ -1,7 +1,7 @@
 use Rattle.std.proofs.Common.{◌+◌, ◌≤◌}
 use Rattle.bp_sweep.specs.References.{most_references}
 use Rattle.bp_sweep.proofs.Columns.{Reading}
-use Rattle.bp_sweep.proofs.column.read_column.Given as goal
+use Rattle.bp_sweep.proofs.column.read_records.Given as goal
 
 abbrev pub invariant-loop-line : goal.invariant-loop-line
 invariant-loop-line g l = record {

@@ -6,8 +6,8 @@ use Rattle.csv.specs.Records.{fields_of}
 use Rattle.bp_sweep.specs.Column.{ReadsColumn, TakesRecord, field_in, is_title}
 use Rattle.bp_sweep.proofs.Lines.{fault-is}
 use Rattle.bp_sweep.proofs.Columns.{reading-next, reading-header, reading-end, reading-fault, reading-few, takes-plain, no-header, header-line, header-title}
-use Rattle.bp_sweep.proofs.column.read_column.Goals as goal
-use Rattle.bp_sweep.proofs.column.read_column.Goals.{then-not-is_header+in_ok-add-in-Some, else-not-is_header}
+use Rattle.bp_sweep.proofs.column.read_records.Goals as goal
+use Rattle.bp_sweep.proofs.column.read_records.Goals.{then-not-is_header+in_ok-add-in-Some, else-not-is_header}
 
 pub loop-line-init : goal.loop-line-init
 loop-line-init g c =

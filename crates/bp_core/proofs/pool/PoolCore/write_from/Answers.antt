@@ -5,7 +5,7 @@ use Rattle.bp_core.specs.CoreView.{HasRoomFor}
 use Rattle.bp_core.proofs.Keeps.{adds}
 use Rattle.bp_core.proofs.Uses.{found}
 use Rattle.bp_core.proofs.KeepsPasses.{frame-here, keeps-write}
-use Rattle.bp_core.proofs.pool.PoolCore.write.Goals as goal
+use Rattle.bp_core.proofs.pool.PoolCore.write_from.Goals as goal
 
 pub unwrap-slot-requires : goal.unwrap-slot-requires
 unwrap-slot-requires g c =
@@ -20,7 +20,7 @@ invariant_of-self g c =
     let room : HasRoomFor 1 c.args.self.now = omega (arith, c.free.ensures) in
     let p = c.args.pass.now in
     let at = found c.self.inside.state.frames c.args.pass.now.page c.find.result c.unwrap-slot.result c.find.ensures.found c.unwrap-slot.ensures in
-    rw (c.record_write.ensures, c.grant.ensures, c.write.ensures, at.1, c.bytes.ensures) (keeps-write _ _ _ c.self.invariant _ c.self.view_is p.client p.page p.serial c.args.offset c.args.bytes.now c.args.lsn (sym c.knows.ensures ∙ c.if-not-knows.false) c.requires.fits room)
+    rw (c.record_write.ensures, c.grant.ensures, c.write.ensures, at.1) (keeps-write _ _ _ c.self.invariant _ c.self.view_is p.client p.page p.serial c.args.offset c.args.bytes.now c.args.lsn (sym c.knows.ensures ∙ c.if-not-knows.false) c.requires.fits room)
 
 pub returns-clause-outcome : goal.returns-clause-outcome
 returns-clause-outcome g c =

@@ -1,0 +1,22 @@
+use Rattle.std.proofs.Common.{sym, ◌∙◌}
+use Rattle.bp_core.proofs.Uses.{found}
+use Rattle.bp_core.proofs.KeepsPasses.{frame-here}
+use Rattle.bp_core.proofs.Lent.{image-held, image-sized}
+use Rattle.bp_core.proofs.pool.PoolCore.image.Goals as goal
+
+pub unwrap-slot-requires : goal.unwrap-slot-requires
+unwrap-slot-requires g c =
+    let p = c.args.pass.now in
+    c.find.ensures.here ∙ frame-here _ _ _ c.self.invariant _ c.self.view_is p.client p.page p.serial (sym c.knows.ensures ∙ c.if-not-knows.false)
+
+pub returns-clause-held : goal.returns-clause-held
+returns-clause-held g c =
+    let p = c.args.pass.now in
+    let at = found c.self.inside.state.frames p.page c.find.result c.unwrap-slot.result c.find.ensures.found c.unwrap-slot.ensures in
+    image-held _ _ _ c.self.invariant _ c.self.view_is p.client p.page p.serial (sym c.knows.ensures ∙ c.if-not-knows.false) c.frame.result.now c.frame.ensures.here (c.frame.ensures.page ∙ at.1)
+
+pub returns-clause-size : goal.returns-clause-size
+returns-clause-size g c =
+    let p = c.args.pass.now in
+    let at = found c.self.inside.state.frames p.page c.find.result c.unwrap-slot.result c.find.ensures.found c.unwrap-slot.ensures in
+    image-sized _ _ _ c.self.invariant _ c.self.view_is p.client p.page p.serial (sym c.knows.ensures ∙ c.if-not-knows.false) c.frame.result.now c.frame.ensures.here (c.frame.ensures.page ∙ at.1)

@@ -1,0 +1,57 @@
+-- The passes that clients post by their rings, and what of them the trail has.
+use Rattle.std.specs.Prelude.{◌≡◌, ℕ, suc, ◌==◌, Bool, true, List, [], ◌∷◌, ◌++◌, map, reverse, All, if◌then◌else◌}
+use Rattle.rtrb.specs.declared.producer.Producer.{Producer}
+use Rattle.rtrb.specs.declared.consumer.Consumer.{Consumer}
+use Rattle.rtrb.specs.Ring.{sent, received, known_free}
+use Rattle.bp_trail.specs.Event.{Grant}
+use Rattle.bp_trail.specs.Trail.{Trail}
+use Rattle.bp_audit.specs.Clients.{of_client}
+use Rattle.bp_book.specs.Books.{unfixes}
+use Rattle.bp_book.specs.Rings.{RingName, RingView, ring_of, ring_at}
+
+-- the passes that a client gave back, newest first
+abbrev pub unfixed : ℕ → Trail → List Grant
+unfixed client past = unfixes (of_client client past)
+
+-- the passes that came out of a client's ring, newest first; the first ring is that of this client
+abbrev pub came_out : ℕ → List RingView → ℕ → List Grant
+came_out first [] client = []
+came_out first (ring ∷ rings) client =
+    if client == first then reverse ring.received else came_out (suc first) rings client
+
+-- the one list is the other, with some left out
+pub data IsWithin : List Grant → List Grant → Type 0 where
+  no_more : IsWithin [] []
+  kept : {few all : List Grant} (g : Grant) → IsWithin few all → IsWithin (g ∷ few) (g ∷ all)
+  left_out : {few all : List Grant} (g : Grant) → IsWithin few all → IsWithin few (g ∷ all)
+
+-- the rings have these names, and since the pool was made each client gave back what came out of its
+-- ring, in order: all of it, where there were no strays, and nothing else
+pub record IsPosted (names : List RingName) (start : Trail) (rings : List RingView) (strays : ℕ)
+    (past : Trail) : Type 0 where
+  pub names_are : map (λ (r : RingView). r.name) rings ≡ names
+  pub since : Trail
+  pub goes_on : past ≡ since ++ start
+  pub within : (c : ℕ) → IsWithin (unfixed c since) (came_out 0 rings c)
+  pub all : strays ≡ 0 → (c : ℕ) → unfixed c since ≡ came_out 0 rings c
+
+-- no pass went through the ring, which has 32 free places
+abbrev pub IsUnused : {A P : Type 0} → Producer Grant A P → Type 0
+IsUnused ring = (sent ring ≡ []) × (known_free ring ≡ 32)
+
+-- two lists of the ends of rings, that of the one and the other side in the same order, through
+-- which nothing went
+pub record AreRings {A B P Q : Type 0} (producers : List (Producer Grant A P))
+    (consumers : List (Consumer Grant B Q)) : Type 0 where
+  pub same : map ring_at consumers ≡ map ring_of producers
+  pub unused : All IsUnused producers
+  pub empty : All (λ ring. received ring ≡ []) consumers
+
+-- since the pool was made, the client gave back passes that it posted, in that order, and no other;
+-- where they are settled, all of them
+pub record IsSettledBy (start past : Trail) (client : ℕ) (posted : List Grant)
+    (is_settled : Bool) : Type 0 where
+  pub since : Trail
+  pub goes_on : past ≡ since ++ start
+  pub within : IsWithin (unfixed client since) posted
+  pub all : is_settled ≡ true → unfixed client since ≡ posted

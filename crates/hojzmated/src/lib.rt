@@ -1,0 +1,47 @@
+//! The buffer pool as one library, for engines in Rattle: an engine's line in crates.txt names this crate alone.
+//!
+//! It has no code. What stands here is lent from the crates below, each of which has the contracts of its own items.
+//! The definitions that those contracts cite are lent too: `Rattle.hojzmated.specs.Outcomes` is that of `bp_core`.
+#![tactic(auto)]
+
+// Pages, and what is refused.
+pub use bp_page::{
+    Bytes, Format, Geometry, Image, Lsn, PageNo, PortFault, Refusal, explanation_of,
+};
+
+// K and the periods of LRU-K.
+pub use bp_replacer::Settings;
+
+// Cores, their entries, and what their calls hand out.
+pub use bp_core::{
+    Core, EndRefusal, Ended, Fix, Flush, Pass, PassNote, PoolCore, ReadTicket, SilentCore,
+    WriteTicket,
+};
+pub use bp_keeper::{Keeper, ListKeeper, RecordingKeeper, SilentKeeper};
+pub use bp_trail::{Call, Entry, Flushed, Grant, Reply};
+
+// Ports, and page files.
+pub use bp_ports::{
+    FilePort, MemDevice, MemPort, MigrateFault, OpenFault, Port, Progress, Store, Untold,
+    create_page_file, geometry_of_file, migrate_told, migrate_with,
+};
+
+// A whole fix or flush of a core with one owner.
+pub use bp_device::{drive_fix, drive_flush};
+
+// Workers over one pool.
+pub use bp_workers::{
+    Client, DurableLog, Kind, Leading, Left, Log, Patience, PoolConfig, Run, Upkeep, Worker,
+    fix_durably, run_workers, run_workers_over,
+};
+
+// The shared pool that they have, and its parts for who runs threads himself.
+pub use bp_book::Book;
+pub use bp_mark::{LogEnd, Mark, Reader};
+pub use bp_shared::{
+    ClosedPool, LogWriter, Parts, PoolName, Session, SharedPool, SilentPool, SilentSession, Taker,
+    TrailRing, give_back,
+};
+
+// What lists of entries come to.
+pub use bp_audit::{Totals, agrees};
