@@ -12,8 +12,10 @@
  *
  * These the library cannot tell, and what it does then is not defined: a handle that is neither all zero nor as these
  * calls left it, or that is a copy; a pointer to other memory than its type says, or to fewer bytes than the length
- * beside it; a buffer that overlaps with a struct of the same call; a bool that is not 0 or 1; two calls on one core at
- * once. Two structs of a call may be one: hz_read_end may put its pass where its ticket is.
+ * beside it; a buffer that overlaps with a struct of the same call, or with a page that hz_page lent of this core; a
+ * bool that is not 0 or 1; two calls on one core at once; a write to a page that hz_page lent; a look at one after its
+ * pass went back, or while hz_write is at work there. Two structs of a call may be one: hz_read_end may put its pass
+ * where its ticket is.
  */
 #ifndef HOJZMATED_H
 #define HOJZMATED_H
@@ -138,10 +140,16 @@ uint16_t hz_write_end(hz_core *core, const hz_grant *ticket, bool is_good, uint8
 /* Gives a pass back. Refused: 14. */
 uint16_t hz_unfix(hz_core *core, const hz_grant *pass);
 
-/* Copies len bytes of the page from the offset on. Refused: 45, 20, 14, 22. */
+/* Copies len bytes of the page from the offset on. Refused: 45, 20, 14. */
 uint16_t hz_read(hz_core *core, const hz_grant *pass, size_t offset, uint8_t *into, size_t len);
 
-/* Puts len bytes into the page from the offset on, under the log record lsn. Refused: 45, 20, 14, 22. */
+/* Lends the page: tells in *bytes where its bytes are, as many as the page size, in the memory of the core. There they
+ * stay as long as this pass is out and the core is not freed, whatever other calls come: fixes, loads, write-outs. They
+ * change by hz_write alone, through whichever pass of the page. They may be looked at and not written to. No alignment
+ * is promised. It is no call that the room counts. Refused: 14. */
+uint16_t hz_page(hz_core *core, const hz_grant *pass, const uint8_t **bytes);
+
+/* Puts len bytes into the page from the offset on, under the log record lsn. Refused: 45, 20, 14. */
 uint16_t hz_write(hz_core *core, const hz_grant *pass, size_t offset, const uint8_t *bytes, size_t len, uint64_t lsn);
 
 /* Moves the clock on by n. It starts at 1. Refused: 41; 20; 21 where it would pass 2^62. */

@@ -1,7 +1,7 @@
 /* Random calls of the library, each held against a simple model of the pool, model.h: its number, what it writes, and
  * what it leaves. One call in four has input that is not of the core: another client, page, length or offset, a pass
  * or ticket that was made up or is back, a null pointer, a handle with no core. Each struct and buffer that is passed
- * ends where no memory is.
+ * ends where no memory is. What hz_page lent is held against the model's page after every call, until its pass is back.
  *
  *     fuzz CALLS [SEED]     prints how often each number came; status 0 where the model was right each time
  *
@@ -63,10 +63,15 @@ static hz_fixed *out;
 static hz_grant *held, *pass;
 static hz_totals *totals;
 static uint64_t *count;
+static const uint8_t **bytes_at;
 static uint8_t *dirty;
 
 static uint64_t came[NUMBERS], kinds[HZ_ABSENT + 1], calls; /* how often each number and kind came */
 static hz_grant stale;                                      /* the newest grant that went back */
+
+/* What went well while a page was lent. */
+enum meanwhile { LOAD, EVICTION, WRITE_OUT, WRITE, OTHERS_WRITE, MEANWHILES };
+static uint64_t meanwhile[MEANWHILES];
 
 static void *before_the_end(size_t len)
 {
@@ -87,6 +92,7 @@ static void prepare(void)
     pass = before_the_end(sizeof *pass);
     totals = before_the_end(sizeof *totals);
     count = before_the_end(sizeof *count);
+    bytes_at = before_the_end(sizeof *bytes_at);
     dirty = before_the_end(1);
 }
 
@@ -345,6 +351,45 @@ static void try_read(void)
     m.entries += !wanted;
 }
 
+static void try_page(void)
+{
+    how h = picked(3);
+    hz_grant grant = *held = a_grant(&m.passes);
+    memset(bytes_at, ODD, sizeof *bytes_at);
+    uint16_t number = noted(hz_page(h.core, UNLESS(1, held), UNLESS(2, bytes_at))), wanted = early(h, false);
+    if (!wanted)
+        wanted = is_out(&m.passes, &grant) ? 0 : HZ_UNKNOWN_PASS;
+    SAME(wanted, number);
+    if (wanted) {
+        SAME(true, is_odd(bytes_at, sizeof *bytes_at));
+        return;
+    }
+    const uint8_t **lent = &m.passes.lent[place_of(&m.passes, &grant)];
+    SAME(true, !*lent || *lent == *bytes_at);
+    *lent = *bytes_at;
+}
+
+/* Each page that is lent has the model's bytes. Returns how many there are. */
+static unsigned look_at_what_is_lent(void)
+{
+    unsigned lent = 0;
+    for (unsigned place = 0; place < m.passes.count; place++)
+        if (m.passes.lent[place]) {
+            const uint8_t *image = m.pages[m.passes.out[place].page].image;
+            SAME(true, !memcmp(m.passes.lent[place], image, m.config.page_size));
+            lent++;
+        }
+    return lent;
+}
+
+/* Counts a write to a page that is lent. */
+static void note_write(const hz_grant *by)
+{
+    for (unsigned place = 0; place < m.passes.count; place++)
+        if (m.passes.lent[place] && m.passes.out[place].page == by->page)
+            meanwhile[is_same(&m.passes.out[place], by) ? WRITE : OTHERS_WRITE]++;
+}
+
 static void try_write(void)
 {
     how h = picked(3);
@@ -366,6 +411,8 @@ static void try_write(void)
     page->is_dirty = page->is_written_since = true;
     page->lsn = lsn > page->lsn ? lsn : page->lsn;
     m.entries++;
+    if (len > 0)
+        note_write(&grant);
 }
 
 /* Why a call of a client is refused that needs room for one entry, or 0. */
@@ -521,7 +568,7 @@ static bool is_worth(const grants *list)
     return list->count > 0 || one_in(8);
 }
 
-static void step(void)
+static void call(void)
 {
     uint64_t which = below(100);
     if (which < 20 && is_worth(&m.passes))
@@ -532,8 +579,10 @@ static void step(void)
         try_read_failed();
     else if (which < 44 && is_worth(&m.writes))
         try_write_end();
-    else if (which < 50 && is_worth(&m.passes))
+    else if (which < 48 && is_worth(&m.passes))
         try_read();
+    else if (which < 53 && is_worth(&m.passes))
+        try_page();
     else if (which < 59 && is_worth(&m.passes))
         try_write();
     else if (which >= 59 && which < 66)
@@ -550,6 +599,18 @@ static void step(void)
         try_fix(false);
     else
         try_unfix();
+}
+
+/* A call, and then a look at all that is lent. */
+static void step(void)
+{
+    hz_totals before = m.totals;
+    call();
+    if (look_at_what_is_lent() > 0) {
+        meanwhile[LOAD] += m.totals.faults - before.faults;
+        meanwhile[EVICTION] += m.totals.evictions - before.evictions;
+        meanwhile[WRITE_OUT] += m.totals.writes - before.writes;
+    }
 }
 
 static void found_wrong(int line, const char *what, unsigned long long wanted, unsigned long long found)
@@ -577,7 +638,8 @@ int LLVMFuzzerTestOneInput(const uint8_t *bytes, size_t len)
 }
 #else
 
-/* Each number that a call may have came, and each kind, but for 22, which takes a memory that is full. */
+/* Each number that a call may have came, and each kind, but for 22, which takes a memory that is full. All that must
+ * leave lent pages where they are came while some were lent. */
 static void look_whether_all_came(void)
 {
     static const uint8_t numbers[] = {0, 1, 2, 11, 12, 13, 14, 16, 17, 18, 19, 20, 21, 41, 45, 50, 51, 52};
@@ -588,6 +650,11 @@ static void look_whether_all_came(void)
     for (unsigned kind = HZ_HIT; kind <= HZ_ABSENT; kind++)
         SAME(true, kinds[kind] > 0);
     SAME(0, came[HZ_OUT_OF_MEMORY]);
+    for (unsigned what = 0; what < MEANWHILES; what++)
+        SAME(true, meanwhile[what] > 0);
+    printf("while pages were lent: loads %lu, evictions %lu, write-outs %lu, writes by the pass %lu, by others %lu\n",
+           (unsigned long)meanwhile[LOAD], (unsigned long)meanwhile[EVICTION], (unsigned long)meanwhile[WRITE_OUT],
+           (unsigned long)meanwhile[WRITE], (unsigned long)meanwhile[OTHERS_WRITE]);
 }
 
 int main(int words, char **word)

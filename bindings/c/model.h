@@ -22,6 +22,7 @@ typedef struct model_page {
 
 typedef struct grants {
     hz_grant out[OUT];
+    const uint8_t *lent[OUT]; /* of a pass: where hz_page said that its page is, or null where it was not asked */
     unsigned count;
     uint64_t ever; /* how many were given, which is the next serial number */
 } grants;
@@ -56,14 +57,17 @@ static bool is_out(const grants *list, const hz_grant *grant)
 static hz_grant give(grants *list, grants *counter, uint8_t client, uint64_t page)
 {
     hz_grant grant = {.page = page, .serial = counter->ever++, .client = client};
+    list->lent[list->count] = NULL;
     list->out[list->count++] = grant;
     return grant;
 }
 
 static void take_back(grants *list, const hz_grant *grant)
 {
-    list->out[place_of(list, grant)] = list->out[list->count - 1];
+    unsigned place = place_of(list, grant);
     list->count--;
+    list->out[place] = list->out[list->count];
+    list->lent[place] = list->lent[list->count];
 }
 
 static uint64_t room_left(void)

@@ -1,6 +1,6 @@
-/* The calls of the header, as C makes them. Each refuses a null pointer, and else makes the proved call of its name. It
- * passes structs of its own, so that two of the caller's may be one, and a length beyond the largest page as one byte
- * more than that: the proved call refuses both. The proved calls are those of crates/hojzmated_c, to which the Makefile
+/* The calls of the header, as C makes them. Each refuses a null pointer, and else makes the proved call of its name. Where
+ * two structs of the caller's may be one, it passes its own. A length beyond the largest page it passes as one byte more
+ * than that, which the proved call refuses. The proved calls are those of crates/hojzmated_c, to which the Makefile
  * gives names that begin with proved_.
  *
  * This file is tested, by fuzz.c and peers/c/refusals.c, and not proved.
@@ -16,6 +16,7 @@ PROVED(hz_read_failed);
 PROVED(hz_write_end);
 PROVED(hz_unfix);
 PROVED(hz_read);
+PROVED(hz_page);
 PROVED(hz_write);
 PROVED(hz_tick);
 PROVED(hz_mark);
@@ -57,10 +58,7 @@ uint16_t hz_fix(hz_core *core, uint8_t client, uint64_t page, uint8_t *buffer, s
 {
     if (!core || is_null(buffer, len) || !out)
         return HZ_NULL;
-    hz_fixed gave = *out;
-    uint16_t number = proved_hz_fix(core, client, page, buffer ? buffer : &nowhere, length_of(len), &gave);
-    *out = gave;
-    return number;
+    return proved_hz_fix(core, client, page, buffer ? buffer : &nowhere, length_of(len), out);
 }
 
 uint16_t hz_read_end(hz_core *core, const hz_grant *ticket, const uint8_t *image, size_t len, hz_grant *pass)
@@ -96,24 +94,32 @@ uint16_t hz_unfix(hz_core *core, const hz_grant *pass)
 {
     if (!core || !pass)
         return HZ_NULL;
-    hz_grant own = *pass;
-    return proved_hz_unfix(core, &own);
+    return proved_hz_unfix(core, pass);
 }
 
 uint16_t hz_read(hz_core *core, const hz_grant *pass, size_t offset, uint8_t *into, size_t len)
 {
     if (!core || !pass || is_null(into, len))
         return HZ_NULL;
-    hz_grant own = *pass;
-    return proved_hz_read(core, &own, offset, into ? into : &nowhere, length_of(len));
+    return proved_hz_read(core, pass, offset, into ? into : &nowhere, length_of(len));
+}
+
+uint16_t hz_page(hz_core *core, const hz_grant *pass, const uint8_t **bytes)
+{
+    if (!core || !pass || !bytes)
+        return HZ_NULL;
+    const uint8_t *first = NULL;
+    uint16_t number = proved_hz_page(core, pass, &first);
+    if (number == HZ_DONE)
+        *bytes = first;
+    return number;
 }
 
 uint16_t hz_write(hz_core *core, const hz_grant *pass, size_t offset, const uint8_t *bytes, size_t len, uint64_t lsn)
 {
     if (!core || !pass || is_null(bytes, len))
         return HZ_NULL;
-    hz_grant own = *pass;
-    return proved_hz_write(core, &own, offset, bytes ? bytes : &nowhere, length_of(len), lsn);
+    return proved_hz_write(core, pass, offset, bytes ? bytes : &nowhere, length_of(len), lsn);
 }
 
 uint16_t hz_tick(hz_core *core, uint8_t client, uint64_t n)
@@ -130,10 +136,7 @@ uint16_t hz_flush(hz_core *core, uint8_t client, uint64_t page, uint8_t *buffer,
 {
     if (!core || is_null(buffer, len) || !out)
         return HZ_NULL;
-    hz_fixed gave = *out;
-    uint16_t number = proved_hz_flush(core, client, page, buffer ? buffer : &nowhere, length_of(len), &gave);
-    *out = gave;
-    return number;
+    return proved_hz_flush(core, client, page, buffer ? buffer : &nowhere, length_of(len), out);
 }
 
 uint16_t hz_purge(hz_core *core, uint8_t client, uint64_t *count)

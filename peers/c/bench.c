@@ -1,15 +1,25 @@
-/* Fixes and unfixes a second over this pool, or over the memory pool of Berkeley DB, by one program: the same pages in
- * the same order. Built with -DBERKELEY it runs over the second.
+/* Operations a second over this pool, or over the memory pool of Berkeley DB, by one program: the same pages in the
+ * same order. Built with -DBERKELEY it runs over the second. bench.py builds both and runs them in turn.
  *
- *     peers/c/bench SECONDS PAGES FRAMES PAGESIZE HOT
+ *     peers/c/bench USE SIZE SECONDS
  *
- * A file of PAGES pages is made and filled. Pages of the first HOT ones are then fixed and given back, by the generator
- * of numbers of peers/mpool.c. The clock of this pool moves once in 16 fixes. No page is written to after the file was
- * filled: none is unsaved, and none goes out.
+ * An operation is the fix of a page of SIZE bytes, its use and its unfix. The pages come at random, by the generator of
+ * numbers of peers/mpool.c. USE is one of
  *
- * Printed: fixes and unfixes a second of processor time, and the hit rate.
+ *     nothing    no use
+ *     look       the 16 bytes at byte 64 are read in place
+ *     page       all words of the page are added up in place
+ *     update     8 bytes are written, under LSN 1
+ *     tree       a look-up in a B+tree of three levels: three pages, each searched in place. SIZE is 4096
+ *     evict      look, over four times as many pages as there are frames
+ *
+ * There are 4,096 frames, and but for evict all pages are resident. The clock of this pool moves once in 16 fixes.
+ * Before it counts, the program uses each page once, and ends where it finds other bytes there than belong there.
+ *
+ * Printed: operations a second of the wall clock, and the hit rate.
  */
 #include <fcntl.h>
+#include <stdbool.h>
 #include <stdint.h>
 #include <stdio.h>
 #include <stdlib.h>
@@ -17,7 +27,12 @@
 #include <time.h>
 #include <unistd.h>
 
-static unsigned pages, frames, size, hot;
+enum { FRAMES = 4096, PLACE = 64 };
+enum use { NOTHING, LOOK, PAGE, UPDATE, TREE, EVICT, USES };
+static const char *const names[USES] = {"nothing", "look", "page", "update", "tree", "evict"};
+
+static enum use use;
+static unsigned pages, size;
 
 static void fail(const char *what)
 {
@@ -25,36 +40,69 @@ static void fail(const char *what)
     exit(1);
 }
 
+/* A word of a page, which need not be aligned. */
+static uint64_t word(const uint8_t *page, size_t at)
+{
+    uint64_t held;
+    memcpy(&held, page + at, sizeof held);
+    return held;
+}
+
+/* --- The pool: fix, look, update and unfix are of one page at a time --- */
+
+static void fill(unsigned page, uint8_t *image);
+
 #ifdef BERKELEY
 #include <db.h>
 
 static DB_ENV *env;
 static DB_MPOOLFILE *mpool;
+static uint8_t *fixed;
 
-static void use(uint64_t number)
+static void fix(uint64_t number)
 {
     db_pgno_t page = (db_pgno_t)number;
-    void *address;
-    if (mpool->get(mpool, &page, NULL, 0, &address))
+    if (mpool->get(mpool, &page, NULL, use == UPDATE ? DB_MPOOL_DIRTY : 0, &fixed))
         fail("memp_fget");
-    mpool->put(mpool, address, DB_PRIORITY_UNCHANGED, 0);
+}
+
+static const uint8_t *look(void)
+{
+    return fixed;
+}
+
+static void update(uint64_t with)
+{
+    memcpy(fixed + PLACE, &with, sizeof with);
+}
+
+static void unfix(void)
+{
+    if (mpool->put(mpool, fixed, DB_PRIORITY_UNCHANGED, 0))
+        fail("memp_fput");
+}
+
+/* Berkeley DB enlarges a small cache. For evict it gets one in which it hits a quarter too, and else twice what the
+ * pages need. */
+static size_t cache(void)
+{
+    return use == EVICT ? (size_t)FRAMES * (size * 4 / 5 + 90) : (size_t)FRAMES * (size + 1024) * 2;
 }
 
 static void start(void)
 {
     if (system("rm -rf bench.d && mkdir bench.d") || db_env_create(&env, 0))
         fail("the environment");
-    env->set_cachesize(env, 0, (size_t)frames * (size + 256), 1);
+    env->set_cachesize(env, 0, (unsigned)cache(), 1);
     if (env->open(env, "bench.d", DB_CREATE | DB_INIT_MPOOL | DB_PRIVATE | DB_THREAD, 0))
         fail("the environment");
     if (env->memp_fcreate(env, &mpool, 0) || mpool->open(mpool, "pages", DB_CREATE, 0644, size))
         fail("the page file");
     for (db_pgno_t page = 0; page < pages; page++) {
-        void *address;
-        if (mpool->get(mpool, &page, NULL, DB_MPOOL_CREATE | DB_MPOOL_DIRTY, &address))
+        if (mpool->get(mpool, &page, NULL, DB_MPOOL_CREATE | DB_MPOOL_DIRTY, &fixed))
             fail("memp_fget of a new page");
-        memset(address, (int)page, size);
-        mpool->put(mpool, address, DB_PRIORITY_UNCHANGED, 0);
+        fill(page, fixed);
+        unfix();
     }
     mpool->sync(mpool);
 }
@@ -73,38 +121,53 @@ static void counts(double *hits, double *misses)
 static hz_core core;
 static int file;
 static uint8_t *image;
+static hz_fixed asked;
 
-static void use(uint64_t page)
+static void fix(uint64_t page)
 {
     static unsigned turn;
-    static hz_fixed asked;
-    static hz_grant loaded;
-    const hz_grant *pass = &asked.grant;
     if (turn++ % 16 == 0 && hz_tick(&core, 0, 1))
         fail("tick");
     if (hz_fix(&core, 0, page, image, size, &asked))
         fail("fix");
-    if (asked.kind == HZ_LOAD) {
-        if (pread(file, image, size, (off_t)page * size) != (ssize_t)size)
-            fail("pread");
-        if (hz_read_end(&core, &asked.grant, image, size, &loaded))
-            fail("read_end");
-        pass = &loaded;
-    }
-    if (hz_unfix(&core, pass))
+    if (asked.kind == HZ_HIT)
+        return;
+    if (asked.kind != HZ_LOAD || pread(file, image, size, (off_t)page * size) != (ssize_t)size)
+        fail("pread");
+    if (hz_read_end(&core, &asked.grant, image, size, &asked.grant))
+        fail("read_end");
+}
+
+static const uint8_t *look(void)
+{
+    const uint8_t *bytes;
+    if (hz_page(&core, &asked.grant, &bytes))
+        fail("page");
+    return bytes;
+}
+
+static void update(uint64_t with)
+{
+    if (hz_write(&core, &asked.grant, PLACE, (uint8_t *)&with, sizeof with, 1))
+        fail("write");
+}
+
+static void unfix(void)
+{
+    if (hz_unfix(&core, &asked.grant))
         fail("unfix");
 }
 
 static void start(void)
 {
-    hz_config config = {.pages = pages, .page_size = size, .frames = frames, .room = (size_t)1 << 61,
+    hz_config config = {.pages = pages, .page_size = size, .frames = FRAMES, .room = (size_t)1 << 61,
                         .correlated = 0, .retained = 100000, .k = 2, .clients = 1};
     file = open("bench.pages", O_RDWR | O_CREAT | O_TRUNC, 0600);
     image = malloc(size);
     if (file < 0 || !image || hz_core_new(&config, &core))
         fail("the pool");
     for (unsigned page = 0; page < pages; page++) {
-        memset(image, (int)page, size);
+        fill(page, image);
         if (pwrite(file, image, size, (off_t)page * size) != (ssize_t)size)
             fail("pwrite");
     }
@@ -120,36 +183,160 @@ static void counts(double *hits, double *misses)
 }
 #endif
 
-static double processor(void)
+/* --- The tree: root 0, inner nodes 1 to 16 of 254 children, and leaves of 56 rows, by even keys. A node has its page
+ * number, how many entries it has, and from byte 32 on its entries: a key and a child, or a key and a value of 64
+ * bytes, which begins with the key and 7 --- */
+
+enum { HEAD = 32, INNERS = 16, CHILDREN = 254, ROWS = 56, NODES = 1 + INNERS + INNERS * CHILDREN };
+enum { INNER_STEP = 16, LEAF_STEP = 72, KEYS = INNERS * CHILDREN * ROWS };
+
+static void put(uint8_t *page, size_t at, uint64_t held)
+{
+    memcpy(page + at, &held, sizeof held);
+}
+
+/* Fills a node. Each entry begins where the first row below it does. */
+static void fill_node(unsigned page, uint8_t *node)
+{
+    bool is_leaf = page > INNERS;
+    unsigned entries = page == 0 ? INNERS : is_leaf ? ROWS : CHILDREN;
+    unsigned rows = page == 0 ? CHILDREN * ROWS : is_leaf ? 1 : ROWS; /* below an entry */
+    unsigned place = page == 0 ? 0 : is_leaf ? page - 1 - INNERS : page - 1, child = page == 0 ? 1 : 1 + INNERS;
+    memset(node, 0, size);
+    put(node, 0, page);
+    put(node, 8, entries);
+    for (unsigned i = 0; i < entries; i++) {
+        size_t at = HEAD + i * (is_leaf ? LEAF_STEP : INNER_STEP);
+        uint64_t key = 2 * (uint64_t)rows * (place * entries + i);
+        put(node, at, key);
+        put(node, at + 8, is_leaf ? key + 7 : child + place * entries + i);
+    }
+}
+
+/* Of the last entry that is not above the key, what follows its key. */
+static uint64_t search(const uint8_t *node, unsigned step, uint64_t key)
+{
+    unsigned low = 0, high = (unsigned)word(node, 8);
+    while (high - low > 1) {
+        unsigned middle = (low + high) / 2;
+        if (word(node, HEAD + step * middle) <= key)
+            low = middle;
+        else
+            high = middle;
+    }
+    if (step == LEAF_STEP && word(node, HEAD + step * low) != key)
+        fail("a key is lost");
+    return word(node, HEAD + step * low + 8);
+}
+
+static uint64_t look_up(uint64_t key)
+{
+    uint64_t found = 0;
+    for (int level = 0; level < 3; level++) {
+        fix(found);
+        found = search(look(), level == 2 ? LEAF_STEP : INNER_STEP, key);
+        unfix();
+    }
+    if (found != key + 7)
+        fail("a wrong value");
+    return found;
+}
+
+/* --- The other uses. A page has its number in each word --- */
+
+static void fill(unsigned page, uint8_t *filled)
+{
+    if (use == TREE) {
+        fill_node(page, filled);
+        return;
+    }
+    for (size_t at = 0; at < size; at += 8)
+        put(filled, at, page);
+}
+
+static uint64_t sum(const uint8_t *page)
+{
+    uint64_t total = 0;
+    for (size_t at = 0; at < size; at += 8)
+        total += word(page, at);
+    return total;
+}
+
+static uint64_t two_words(const uint8_t *page)
+{
+    return word(page, PLACE) + word(page, PLACE + 8);
+}
+
+/* Uses a page, or looks a key up, and returns what was found. */
+static uint64_t operate(uint64_t number)
+{
+    uint64_t found = 0;
+    if (use == TREE)
+        return look_up(2 * number);
+    fix(number);
+    if (use == LOOK || use == EVICT)
+        found = two_words(look());
+    else if (use == PAGE)
+        found = sum(look());
+    else if (use == UPDATE)
+        update(number);
+    unfix();
+    return found;
+}
+
+/* Uses each page once, and looks whether it finds there what belongs there. */
+static void use_all(void)
+{
+    for (uint64_t page = 0; page < pages; page++) {
+        fix(page);
+        uint64_t total = sum(look());
+        unfix();
+        if (use != TREE && total != page * (size / 8))
+            fail("a wrong page");
+    }
+    for (uint64_t key = 0; use == TREE && key < KEYS; key += ROWS / 2)
+        operate(key);
+    for (uint64_t page = 0; use != TREE && page < pages; page++) {
+        uint64_t words = use == LOOK || use == EVICT ? 2 : use == PAGE ? size / 8 : 0;
+        if (operate(page) != page * words)
+            fail("a wrong word");
+    }
+}
+
+static double now(void)
 {
     struct timespec t;
-    clock_gettime(CLOCK_PROCESS_CPUTIME_ID, &t);
+    clock_gettime(CLOCK_MONOTONIC, &t);
     return (double)t.tv_sec + (double)t.tv_nsec * 1e-9;
 }
 
 int main(int argc, char **argv)
 {
-    if (argc != 6)
-        fail("SECONDS PAGES FRAMES PAGESIZE HOT");
-    double length = atof(argv[1]), hits, misses, hits_before, misses_before;
-    pages = (unsigned)atoi(argv[2]), frames = (unsigned)atoi(argv[3]);
-    size = (unsigned)atoi(argv[4]), hot = (unsigned)atoi(argv[5]);
+    for (use = NOTHING; use < USES && (argc != 4 || strcmp(argv[1], names[use])); use++)
+        ;
+    size = argc == 4 ? (unsigned)atoi(argv[2]) : 0;
+    if (use == USES || size % 16 != 0 || size < 128 || size > 65536 || (use == TREE && size != 4096))
+        fail("USE SIZE SECONDS");
+    double length = atof(argv[3]), hits, misses, hits_before, misses_before;
+    pages = use == TREE ? NODES : use == EVICT ? 4 * FRAMES : FRAMES;
     start();
-    for (unsigned page = 0; page < hot; page++)
-        use(page);
+    use_all();
     counts(&hits_before, &misses_before);
-    uint64_t state = 1, done = 0;
-    double began = processor(), now;
+    volatile uint64_t kept;
+    uint64_t state = 1, done = 0, found = 0, most = use == TREE ? KEYS : pages;
+    double began = now(), ended;
     do {
         for (int i = 0; i < 1000; i++) {
             state = state * 6364136223846793005u + 1442695040888963407u;
-            use((state >> 33) % hot);
+            found += operate((state >> 33) % most);
         }
         done += 1000;
-        now = processor();
-    } while (now - began < length);
+        ended = now();
+    } while (ended - began < length);
+    kept = found; /* so that the compiler leaves no look out */
+    (void)kept;
     counts(&hits, &misses);
     hits -= hits_before, misses -= misses_before;
-    printf("%.0f a processor second, hit rate %.3f\n", (double)done / (now - began), hits / (hits + misses));
+    printf("%.0f %.3f\n", (double)done / (ended - began), hits / (hits + misses));
     return 0;
 }

@@ -8,6 +8,7 @@
 #include <pthread.h>
 #include <stdio.h>
 #include <stdlib.h>
+#include <string.h>
 #include <unistd.h>
 
 enum { PAGES = 64, SIZE = 256, FRAMES = 8, THREADS = 4, ROUNDS = 5000, WORDS = SIZE / 8 };
@@ -75,6 +76,7 @@ static hz_fixed ask(bool is_flush, uint8_t client, uint64_t page, uint64_t *imag
 static void add(uint8_t client, uint64_t page)
 {
     uint64_t image[WORDS] = {0}, held[2];
+    const uint8_t *bytes = NULL;
     hz_fixed asked = ask(false, client, page, image);
     hz_grant pass = asked.grant;
     if (asked.kind == HZ_LOAD) {
@@ -82,7 +84,9 @@ static void add(uint8_t client, uint64_t page)
         want(newest[page], image[0], "the LSN of a page that was read");
         want(0, hz_read_end(&core, &asked.grant, (uint8_t *)image, SIZE, &pass), "read_end");
     }
-    want(0, hz_read(&core, &pass, 0, (uint8_t *)held, sizeof held), "read");
+    want(0, hz_page(&core, &pass, &bytes), "page");
+    memcpy(held, bytes, sizeof held);
+    want(newest[page], held[0], "the LSN in the page");
     held[0] = newest[page] = ++log_end;
     held[1]++;
     want(0, hz_write(&core, &pass, 0, (uint8_t *)held, sizeof held, log_end), "write");

@@ -121,10 +121,10 @@ static void put(uint64_t page, const char *text, uint64_t lsn)
 
 static void holds(uint64_t page, const char *text)
 {
-    uint8_t found[SIZE];
+    const uint8_t *found;
     SAME(0, hz_file_fix(&core, &file, 0, page, &asked));
     SAME(page, asked.grant.page);
-    SAME(0, hz_read(&core, &asked.grant, 0, found, SIZE));
+    SAME(0, hz_page(&core, &asked.grant, &found));
     SAME(0, memcmp(found, text, SIZE));
     SAME(0, hz_unfix(&core, &asked.grant));
     SAME(0, hz_tick(&core, 0, 1));

@@ -3,6 +3,7 @@
 #include "hz_file.h"
 #include <fcntl.h>
 #include <stdio.h>
+#include <string.h>
 
 enum { PAGES = 100, SIZE = 4096 };
 
@@ -12,6 +13,7 @@ int main(void)
     const hz_config config = {PAGES, SIZE, 8, (size_t)1 << 61, 0, 1000, 2, 1}; /* 8 frames, K 2, one client */
     static hz_core core; /* all zero: none yet */
     hz_fixed asked;
+    const uint8_t *bytes;
     uint64_t count = 0;
     hz_file file = {open("least.pages", O_RDWR | O_CREAT, 0600), 2, SIZE, slot};
     uint16_t number = lseek(file.fd, 0, SEEK_END) == 0 ? hz_file_fill(&file, PAGES) : 0;
@@ -20,10 +22,11 @@ int main(void)
     for (uint64_t page = 0; page < PAGES && !number; page++) {
         if ((number = hz_file_fix(&core, &file, 0, page, &asked)))
             break;
-        number = hz_read(&core, &asked.grant, 0, (uint8_t *)&count, sizeof count);
-        count++;
-        if (!number)
+        if (!(number = hz_page(&core, &asked.grant, &bytes))) { /* where the page is, until hz_unfix */
+            memcpy(&count, bytes, sizeof count);
+            count++;
             number = hz_write(&core, &asked.grant, 0, (uint8_t *)&count, sizeof count, 0);
+        }
         hz_unfix(&core, &asked.grant);
         hz_tick(&core, 0, 1); /* the page may now leave its frame */
     }

@@ -1,7 +1,7 @@
 /* Each refusal, and each field of an answer of each kind, once at least, with what the header says of them. The whole
  * is then done again with one request for memory refused, the first, then the second and so on: the call that is
  * refused for it is made again, and has to answer what it had to answer at first. Only what makes a core, or gives a
- * pass, a ticket or a copy, takes memory.
+ * pass or a ticket, takes memory.
  *
  *     check/bindings        builds it with the library and the linker's --wrap of malloc and realloc, and runs it
  */
@@ -29,7 +29,7 @@ void *__wrap_realloc(void *old, size_t n)
 }
 
 /* The calls that may be refused for want of memory, and which of them were. */
-static const char *const takers[] = {"hz_core_new", "hz_fix", "hz_read_end", "hz_read(", "hz_write(", "hz_flush"};
+static const char *const takers[] = {"hz_core_new", "hz_fix", "hz_read_end", "hz_flush"};
 enum { TAKERS = sizeof takers / sizeof *takers };
 static bool was_refused[TAKERS], is_again; /* is_again: the newest answer came the second time */
 static bool kinds_again[HZ_ABSENT + 1];    /* the kinds of answer that came so */
@@ -116,6 +116,7 @@ static void no_core(void)
     hz_grant grant = {.page = 1}, pass;
     hz_totals totals;
     uint8_t image[SIZE], dirty = ODD;
+    const uint8_t *bytes = image;
     uint64_t count = ODD;
     memset(image, ODD, sizeof image);
     memset(&out, ODD, sizeof out);
@@ -128,6 +129,7 @@ static void no_core(void)
     CALL(HZ_NO_CORE, hz_write_end(&core, &grant, true, &dirty));
     CALL(HZ_NO_CORE, hz_unfix(&core, &grant));
     CALL(HZ_NO_CORE, hz_read(&core, &grant, 0, image, SIZE));
+    CALL(HZ_NO_CORE, hz_page(&core, &grant, &bytes));
     CALL(HZ_NO_CORE, hz_write(&core, &grant, 0, image, SIZE, 1));
     CALL(HZ_NO_CORE, hz_tick(&core, 0, 1));
     CALL(HZ_NO_CORE, hz_mark(&core, 0, 1));
@@ -138,6 +140,7 @@ static void no_core(void)
     SAME(true, is_filled(&pass, sizeof pass, ODD) && is_filled(&totals, sizeof totals, ODD));
     SAME(ODD, dirty);
     SAME(ODD, count);
+    SAME(true, bytes == image);
     SAME(true, is_filled(&core, sizeof core, 0));
 }
 
@@ -148,6 +151,7 @@ static void nulls(void)
     hz_grant grant = {.page = 1}, pass;
     hz_totals totals;
     uint8_t image[SIZE], dirty = ODD;
+    const uint8_t *bytes = image;
     uint64_t count = ODD;
     memset(image, ODD, sizeof image);
     memset(&out, ODD, sizeof out);
@@ -176,6 +180,9 @@ static void nulls(void)
     CALL(HZ_NULL, hz_read(NULL, &grant, 0, image, SIZE));
     CALL(HZ_NULL, hz_read(&core, NULL, 0, image, SIZE));
     CALL(HZ_NULL, hz_read(&core, &grant, SIZE_MAX, NULL, 1));
+    CALL(HZ_NULL, hz_page(NULL, &grant, &bytes));
+    CALL(HZ_NULL, hz_page(&core, NULL, &bytes));
+    CALL(HZ_NULL, hz_page(&core, &grant, NULL));
     CALL(HZ_NULL, hz_write(NULL, &grant, 0, image, SIZE, 1));
     CALL(HZ_NULL, hz_write(&core, NULL, 0, image, SIZE, 1));
     CALL(HZ_NULL, hz_write(&core, &grant, SIZE_MAX, NULL, 1, 1));
@@ -189,6 +196,7 @@ static void nulls(void)
     SAME(true, is_filled(&pass, sizeof pass, ODD) && is_filled(&totals, sizeof totals, ODD));
     SAME(ODD, dirty);
     SAME(ODD, count);
+    SAME(true, bytes == image);
 }
 
 /* A core is refused just beyond each limit, and made at each. */
@@ -253,6 +261,7 @@ static void strangers(void)
 {
     hz_grant stranger = {.page = 3, .serial = 0, .client = 0}, pass;
     uint8_t image[SIZE], dirty = ODD;
+    const uint8_t *bytes = image;
     uint64_t count = ODD;
     filled(image, ODD);
     memset(&pass, ODD, sizeof pass);
@@ -282,6 +291,7 @@ static void strangers(void)
     CALL(HZ_OUT_OF_PAGE, hz_write(&core, &stranger, 0, image, SIZE_MAX, 1));
     CALL(HZ_BAD_CLIENT, hz_tick(&core, 255, 1));
     CALL(HZ_UNKNOWN_PASS, hz_read(&core, &stranger, 0, image, SIZE));
+    CALL(HZ_UNKNOWN_PASS, hz_page(&core, &stranger, &bytes));
     CALL(HZ_UNKNOWN_PASS, hz_write(&core, &stranger, 0, image, SIZE, 1));
     CALL(HZ_UNKNOWN_PASS, hz_unfix(&core, &stranger));
     CALL(HZ_UNKNOWN_TICKET, hz_read_end(&core, &stranger, image, SIZE, &pass));
@@ -290,6 +300,7 @@ static void strangers(void)
     SAME(true, is_filled(image, sizeof image, ODD) && is_filled(&pass, sizeof pass, ODD));
     SAME(ODD, dirty);
     SAME(ODD, count);
+    SAME(true, bytes == image);
 }
 
 /* What differs in one field from a pass or a ticket that is out is a stranger. */
@@ -304,6 +315,7 @@ static void nearly(const hz_grant *own)
         {.page = own->page, .serial = UINT64_MAX, .client = own->client},
     };
     uint8_t image[SIZE] = {0}, dirty;
+    const uint8_t *bytes = image;
     hz_grant pass;
     for (size_t i = 0; i < sizeof others / sizeof *others; i++) {
         CALL(HZ_UNKNOWN_TICKET, hz_read_end(&core, &others[i], image, SIZE, &pass));
@@ -311,19 +323,33 @@ static void nearly(const hz_grant *own)
         CALL(HZ_UNKNOWN_TICKET, hz_write_end(&core, &others[i], true, &dirty));
         CALL(HZ_UNKNOWN_PASS, hz_unfix(&core, &others[i]));
         CALL(HZ_UNKNOWN_PASS, hz_read(&core, &others[i], 0, image, SIZE));
+        CALL(HZ_UNKNOWN_PASS, hz_page(&core, &others[i], &bytes));
         CALL(HZ_UNKNOWN_PASS, hz_write(&core, &others[i], 0, image, SIZE, 1));
     }
+    SAME(true, bytes == image);
+}
+
+/* Where the page of a pass is. */
+static const uint8_t *lent(const hz_grant *pass)
+{
+    const uint8_t *bytes = NULL;
+    CALL(HZ_DONE, hz_page(&core, pass, &bytes));
+    SAME(true, bytes != NULL);
+    return bytes;
 }
 
 /* Page 3 is read: twice in vain, and then well. Tickets 0 to 2. Gives its pass 0. */
 static hz_grant loads(void)
 {
     uint8_t image[SIZE], dirty;
+    const uint8_t *bytes = image;
     filled(image, ODD);
     CALL(HZ_DONE, hz_fix(&core, 0, 3, image, SIZE, &out));
     GAVE(HZ_LOAD, 0, 3, 0, 0, 0, 0);
     hz_grant ticket = out.grant;
     nearly(&ticket);
+    CALL(HZ_UNKNOWN_PASS, hz_page(&core, &ticket, &bytes));
+    SAME(true, bytes == image);
     CALL(HZ_UNKNOWN_TICKET, hz_write_end(&core, &ticket, true, &dirty));
     CALL(HZ_BUSY, hz_fix(&core, 1, 3, image, SIZE, &out));
     GAVE(0, 1, 3, 0, 0, 0, 0);
@@ -344,17 +370,24 @@ static hz_grant loads(void)
     return pass;
 }
 
-/* Another pass of page 3, which is given back; and a part of the page is written under LSN 7. */
+/* Another pass of page 3, which is given back; and a part of the page is written under LSN 7. What was lent by either
+ * pass has it then. */
 static void parts(const hz_grant *pass)
 {
     uint8_t image[SIZE], part[4] = {1, 2, 3, 4};
+    const uint8_t *own = lent(pass);
+    SAME(true, is_filled(own, SIZE, 0x33));
     filled(image, ODD);
     nearly(pass);
     CALL(HZ_DONE, hz_fix(&core, 1, 3, image, SIZE, &out));
     GAVE(HZ_HIT, 1, 3, 1, 0, 0, 0);
     SAME(true, is_filled(image, SIZE, ODD));
     hz_grant other = out.grant;
+    const uint8_t *others = lent(&other);
+    SAME(true, is_filled(others, SIZE, 0x33));
     CALL(HZ_DONE, hz_write(&core, pass, 12, part, sizeof part, 7));
+    SAME(true, is_filled(own, 12, 0x33) && !memcmp(own + 12, part, sizeof part));
+    SAME(0, memcmp(others, own, SIZE));
     CALL(HZ_DONE, hz_read(&core, &other, 11, image, 5));
     SAME(true, image[0] == 0x33 && !memcmp(image + 1, part, sizeof part) && is_filled(image + 5, SIZE - 5, ODD));
     CALL(HZ_DONE, hz_read(&core, &other, SIZE, NULL, 0));
@@ -362,6 +395,9 @@ static void parts(const hz_grant *pass)
     CALL(HZ_DONE, hz_unfix(&core, &other));
     CALL(HZ_UNKNOWN_PASS, hz_unfix(&core, &other));
     CALL(HZ_UNKNOWN_PASS, hz_read(&core, &other, 0, image, SIZE));
+    others = image;
+    CALL(HZ_UNKNOWN_PASS, hz_page(&core, &other, &others));
+    SAME(true, others == image);
     CALL(HZ_UNKNOWN_PASS, hz_write(&core, &other, 0, image, SIZE, 8));
 }
 
@@ -475,7 +511,8 @@ static void counts(void)
     SAME(3, totals.failed);
 }
 
-/* A core that may answer six calls: what passes and tickets that are out need for their ends is kept for them. */
+/* A core that may answer six calls: what passes and tickets that are out need for their ends is kept for them. Where no
+ * room is left a page is lent all the same. */
 static void little_room(void)
 {
     hz_config config = usual(6);
@@ -501,6 +538,7 @@ static void little_room(void)
     filled(image, ODD);
     CALL(HZ_TRAIL_FULL, hz_read(&core, &pass, 0, image, SIZE));
     CALL(HZ_TRAIL_FULL, hz_write(&core, &pass, 0, image, SIZE, 1));
+    SAME(true, is_filled(lent(&pass), SIZE, 0x11));
     CALL(HZ_DONE, hz_unfix(&core, &pass));
     SAME(true, is_filled(image, SIZE, ODD));
     CALL(HZ_DONE, hz_core_free(&core));
@@ -576,10 +614,12 @@ static void all(void)
     strangers();
     hz_grant pass = loads();
     parts(&pass);
+    const uint8_t *page = lent(&pass);
     flushes(&pass);
     replacements();
     times();
     counts();
+    SAME(true, page[0] == 9 && is_filled(page + 1, 11, 0x33) && !memcmp(page + 12, (uint8_t[]){1, 2, 3, 4}, 4));
     CALL(HZ_DONE, hz_core_free(&core));
     no_core();
     little_room();

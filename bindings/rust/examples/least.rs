@@ -16,7 +16,7 @@ impl PageIo for Pages {
         Ok(self.0.read_exact_at(image, page * SIZE as u64)?)
     }
 
-    fn write_page(&self, page: u64, image: &[u8], _lsn: u64) -> io::Result<()> {
+    fn write_page(&self, page: u64, image: &mut [u8], _lsn: u64) -> io::Result<()> {
         self.0.write_all_at(image, page * SIZE as u64)
     }
 
@@ -34,15 +34,15 @@ fn main() -> Result<(), Box<dyn Error>> {
         .open("counters.pages")?;
     file.set_len(PAGES * SIZE as u64)?;
     let pager = Pager::new(&Config::new(PAGES, SIZE, 8), Pages(file))?;
-    let mut count = [0; 8];
+    let mut count = 0;
     for number in 0..PAGES {
         let page = pager.fix(0, number)?;
-        page.read(0, &mut count)?;
-        count = (u64::from_le_bytes(count) + 1).to_le_bytes();
-        page.write(0, &count, 0)?;
+        let word = page.bytes()?[..8].try_into()?; // looks at the page in place
+        count = u64::from_le_bytes(word) + 1;
+        page.write(0, &count.to_le_bytes(), 0)?;
     }
     pager.flush_all(0)?;
     pager.io().0.sync_data()?;
-    println!("the last page counts {}", u64::from_le_bytes(count));
+    println!("the last page counts {count}");
     Ok(())
 }

@@ -5,8 +5,8 @@ use std::result;
 /// Why the pool refused a call. A refusal changes nothing, but that 11, 12 and 13 count as calls,
 /// and 17, 18 and 19 end the ticket.
 ///
-/// Each has the number that `hojzmated.h` gives it, and its text, which [`Display`](fmt::Display)
-/// shows.
+/// Each but [`Lent`](Error::Lent), which is this crate's own, has the number that `hojzmated.h`
+/// gives it, and its text, which [`Display`](fmt::Display) shows.
 #[derive(Clone, Copy, Debug, PartialEq, Eq, Hash)]
 #[non_exhaustive]
 pub enum Error {
@@ -52,6 +52,11 @@ pub enum Error {
     HasCore,
     /// 52: a pointer is null. No call of this crate gives it.
     Null,
+    /// 60, a number of this crate alone: bytes of the page are lent ([`PageBytes`]), and it is not
+    /// written to.
+    ///
+    /// [`PageBytes`]: crate::PageBytes
+    Lent,
     /// A number that a newer library has.
     Other(u16),
 }
@@ -59,8 +64,8 @@ pub enum Error {
 /// What a call of the pool gives.
 pub type Result<T, E = Error> = result::Result<T, E>;
 
-/// Each refusal that has a number of its own.
-const NUMBERED: [Error; 18] = [
+/// Each refusal of the library that has a number of its own.
+static NUMBERED: [Error; 18] = [
     Error::BadGeometry,
     Error::BadSettings,
     Error::NoVictim,
@@ -82,7 +87,7 @@ const NUMBERED: [Error; 18] = [
 ];
 
 impl Error {
-    /// The number that `hojzmated.h` gives it.
+    /// The number that `hojzmated.h` gives it; of [`Lent`](Error::Lent) one beyond those.
     pub const fn number(self) -> u16 {
         match self {
             Error::BadGeometry => 1,
@@ -103,18 +108,30 @@ impl Error {
             Error::NoCore => 50,
             Error::HasCore => 51,
             Error::Null => 52,
+            Error::Lent => 60,
             Error::Other(number) => number,
         }
     }
 
     /// The refusal with this number. Of one that needs the log, `lsn` is how far.
+    ///
+    /// It is inlined and its search is not: a function that is called with the place of the result
+    /// would keep what a call gives, such as a guard, out of registers.
+    #[inline]
     fn numbered(number: u16, lsn: u64) -> Error {
-        let known = NUMBERED.into_iter().find(|it| it.number() == number);
-        match known {
+        match NUMBERED.get(Error::place_of(number)) {
             Some(Error::NeedLog { .. }) => Error::NeedLog { lsn },
-            Some(error) => error,
+            Some(error) => *error,
             None => Error::Other(number),
         }
+    }
+
+    /// Where the refusal with this number stands in the list, or the end of the list.
+    #[cold]
+    #[inline(never)]
+    fn place_of(number: u16) -> usize {
+        let place = NUMBERED.iter().position(|it| it.number() == number);
+        place.unwrap_or(NUMBERED.len())
     }
 
     /// What a call came to that answered with this number.
@@ -135,6 +152,9 @@ impl Error {
 
 impl fmt::Display for Error {
     fn fmt(&self, f: &mut fmt::Formatter<'_>) -> fmt::Result {
+        if *self == Error::Lent {
+            return f.write_str("bytes of the page are lent");
+        }
         let mut text = [0; 128];
         // SAFETY: the pointer leads to `text`, which has this length and may be written to.
         let whole = unsafe { sys::hz_text(self.number(), text.as_mut_ptr(), text.len()) };
@@ -161,10 +181,10 @@ pub struct Refused<T> {
 }
 
 impl<T> Refused<T> {
-    /// What a call came to that took a token and answered with this number.
+    /// What a call came to that takes a token.
     #[inline]
-    pub(crate) fn check(number: u16, token: T) -> Result<(), Refused<T>> {
-        Error::check(number).map_err(|error| Refused { error, token })
+    pub(crate) fn check<D>(done: Result<D>, token: T) -> Result<D, Refused<T>> {
+        done.map_err(|error| Refused { error, token })
     }
 }
 
@@ -202,6 +222,8 @@ mod tests {
         }
         assert_eq!(Error::numbered(12, 7), Error::NeedLog { lsn: 7 });
         assert_eq!(Error::numbered(15, 7), Error::Other(15));
+        let last = NUMBERED.map(Error::number).into_iter().max();
+        assert!(last < Some(Error::Lent.number()));
         assert_eq!(Error::check(0), Ok(()));
     }
 
@@ -230,6 +252,7 @@ mod tests {
                 Error::OutOfPage,
                 "the page is not of the file, or the bytes are not within the page",
             ),
+            (Error::Lent, "bytes of the page are lent"),
             (Error::Other(15), "unknown number (15)"),
         ] {
             assert_eq!(error.to_string(), text);

@@ -24,7 +24,9 @@
 //!         Ok(self.pages.read_exact_at(image, page * image.len() as u64)?)
 //!     }
 //!
-//!     fn write_page(&self, page: u64, image: &[u8], _lsn: u64) -> io::Result<()> {
+//!     fn write_page(&self, page: u64, image: &mut [u8], lsn: u64) -> io::Result<()> {
+//!         // The image is a copy of the page: here its page LSN is put into its first word.
+//!         image[..8].copy_from_slice(&lsn.to_le_bytes());
 //!         self.pages.write_all_at(image, page * image.len() as u64)
 //!     }
 //!
@@ -51,16 +53,22 @@
 //! // Client 0 changes page 7 under the log record 1. The guard keeps the page in its frame until it is dropped.
 //! let page = pager.fix(0, 7)?;
 //! page.write(100, b"forty-two", 1)?;
+//! assert_eq!(page.bytes()?[100..105], *b"forty");
 //! drop(page);
 //!
 //! // The log goes out before the page.
 //! pager.flush(0, 7)?;
-//! let mut found = [0; 9];
-//! pager.io().pages.read_exact_at(&mut found, 7 * 4_096 + 100)?;
-//! assert_eq!(&found, b"forty-two");
+//! let mut found = [0; 109];
+//! pager.io().pages.read_exact_at(&mut found, 7 * 4_096)?;
+//! assert_eq!(found[..8], 1u64.to_le_bytes());
+//! assert_eq!(found[100..], *b"forty-two");
 //! # Ok(())
 //! # }
 //! ```
+//!
+//! [`PageGuard::bytes`] lends the page where it is, without a copy. What is lent stays as it is
+//! while the [`PageBytes`] is there: a write to that page is refused until then, and a program in
+//! which the page could leave its frame before does not compile. [`PageGuard::read`] copies a part.
 //!
 //! An engine that reads and writes by its own means calls a [`Pool`]. That does no input or output,
 //! and says what is to be read or written by tickets, which may be kept while a mutex is open.
@@ -87,13 +95,17 @@
 
 mod config;
 mod error;
+mod lent;
 mod page;
 mod pager;
 mod pool;
+#[cfg(doctest)]
+mod refused;
 mod sys;
 
 pub use config::Config;
 pub use error::{Error, Refused, Result};
+pub use lent::PageBytes;
 pub use page::{PageGuard, Pass, ReadTicket, WriteTicket};
 pub use pager::{PageIo, Pager, PagerError, ReadFault};
 pub use pool::{Fixed, Flushed, Pool, Saved, Totals};

@@ -1,13 +1,55 @@
-use crate::sys::{hz_fixed, hz_grant};
-use crate::{Pool, Result};
+use crate::sys::hz_grant;
+use crate::{PageBytes, Pool, Result};
 use std::mem;
+
+/// A grant of the library, and whose it is: two pools give grants of the same numbers. If one
+/// pool's pass did for another's, a page could leave its frame while its bytes are lent.
+///
+/// It is four words, of which each call makes an [`hz_grant`] anew. A guard is moved just after the
+/// library wrote its pass, and a load that is larger than the stores before it waits until these
+/// are in the cache, and so until all that was before them is done. In this order no two of them
+/// stand side by side as in an [`hz_grant`], so the compiler makes one of them at a time.
+#[derive(Debug, PartialEq, Eq)]
+pub(crate) struct Grant {
+    /// A `u8`, as a word.
+    client: u64,
+    page: u64,
+    pub(crate) pool: u64,
+    serial: u64,
+}
+
+impl Grant {
+    #[inline]
+    pub(crate) fn new(pool: u64, raw: &hz_grant) -> Grant {
+        Grant {
+            client: raw.client.into(),
+            page: raw.page,
+            pool,
+            serial: raw.serial,
+        }
+    }
+
+    #[inline]
+    pub(crate) fn raw(&self) -> hz_grant {
+        hz_grant {
+            page: self.page,
+            serial: self.serial,
+            client: self.client(),
+        }
+    }
+
+    #[inline]
+    fn client(&self) -> u8 {
+        self.client as u8
+    }
+}
 
 /// The right to a page: it stays in its frame while the pass is out. A [`PageGuard`] has one and
 /// gives it back; this is one without a guard, which may be kept while other threads use the pool.
 #[derive(Debug, PartialEq, Eq)]
 #[must_use = "the page is pinned until its pass goes back to the pool"]
 pub struct Pass {
-    pub(crate) grant: hz_grant,
+    pub(crate) grant: Grant,
 }
 
 /// The duty to read a page. The page's frame waits until [`Pool::end_read`] or [`Pool::fail_read`]
@@ -15,7 +57,7 @@ pub struct Pass {
 #[derive(Debug, PartialEq, Eq)]
 #[must_use = "the frame waits until the ticket is ended"]
 pub struct ReadTicket {
-    pub(crate) grant: hz_grant,
+    pub(crate) grant: Grant,
 }
 
 /// The duty to write a page out. The page's frame waits until [`Pool::end_write`] or
@@ -23,8 +65,8 @@ pub struct ReadTicket {
 #[derive(Debug, PartialEq, Eq)]
 #[must_use = "the frame waits until the ticket is ended"]
 pub struct WriteTicket {
-    pub(crate) grant: hz_grant,
-    lsn: u64,
+    pub(crate) grant: Grant,
+    pub(crate) lsn: u64,
 }
 
 /// A page that is pinned. It is unpinned when the guard is dropped.
@@ -64,7 +106,7 @@ impl Pass {
 
     /// The client that it was given to.
     pub fn client(&self) -> u8 {
-        self.grant.client
+        self.grant.client()
     }
 
     /// Its number among the passes of the pool, which begins at 0.
@@ -81,7 +123,7 @@ impl ReadTicket {
 
     /// The client that it was given to.
     pub fn client(&self) -> u8 {
-        self.grant.client
+        self.grant.client()
     }
 
     /// Its number among the tickets of the pool, which begins at 0.
@@ -91,13 +133,6 @@ impl ReadTicket {
 }
 
 impl WriteTicket {
-    pub(crate) fn of(out: hz_fixed) -> WriteTicket {
-        WriteTicket {
-            grant: out.grant,
-            lsn: out.lsn,
-        }
-    }
-
     /// The page to write out.
     pub fn page(&self) -> u64 {
         self.grant.page
@@ -105,7 +140,7 @@ impl WriteTicket {
 
     /// The client that it was given to.
     pub fn client(&self) -> u8 {
-        self.grant.client
+        self.grant.client()
     }
 
     /// Its number among the tickets of the pool, which begins at 0.
@@ -131,33 +166,40 @@ impl PageGuard<'_> {
         &self.pass
     }
 
+    /// Lends the bytes of the page, in place. They stay as they are while the [`PageBytes`] is
+    /// there.
+    ///
+    /// # Errors
+    /// Those of [`Pool::bytes`].
+    #[inline]
+    pub fn bytes(&self) -> Result<PageBytes<'_>> {
+        self.pool.bytes(&self.pass)
+    }
+
     /// Copies a part of the page from the offset on, as much as `into` has room for.
     ///
     /// # Errors
-    /// [`OutOfPage`](crate::Error::OutOfPage) where the part is not within the page,
-    /// [`TrailFull`](crate::Error::TrailFull), [`OutOfMemory`](crate::Error::OutOfMemory). `into`
-    /// stays as it was then.
+    /// Those of [`Pool::read`]. `into` stays as it was then.
     #[inline]
     pub fn read(&self, offset: usize, into: &mut [u8]) -> Result<()> {
-        self.pool.read(&self.pass.grant, offset, into)
+        self.pool.read(&self.pass, offset, into)
     }
 
     /// Puts bytes into the page from the offset on, under the log record with this LSN. The page
     /// does not go out before the log is durable so far.
     ///
     /// # Errors
-    /// [`OutOfPage`](crate::Error::OutOfPage) where the bytes are not within the page,
-    /// [`TrailFull`](crate::Error::TrailFull), [`OutOfMemory`](crate::Error::OutOfMemory). The page
-    /// stays as it was then.
+    /// Those of [`Pool::write`], such as [`Lent`](crate::Error::Lent) while bytes of the page are
+    /// lent, by this guard or another. The page stays as it was then.
     #[inline]
     pub fn write(&self, offset: usize, bytes: &[u8], lsn: u64) -> Result<()> {
-        self.pool.write(&self.pass.grant, offset, bytes, lsn)
+        self.pool.write(&self.pass, offset, bytes, lsn)
     }
 
     /// The pass, with which the page stays pinned. [`Pool::guard`] makes a guard of it again, and
     /// [`Pool::unfix`] gives it back.
     pub fn into_pass(self) -> Pass {
-        let grant = self.pass.grant;
+        let grant = Grant { ..self.pass.grant };
         mem::forget(self);
         Pass { grant }
     }
@@ -166,8 +208,8 @@ impl PageGuard<'_> {
 impl Drop for PageGuard<'_> {
     #[inline]
     fn drop(&mut self) {
-        // A pass of this pool always goes back. One of another pool is not out here, which changes
+        // A pass of this pool always goes back. One of another pool is refused, which changes
         // nothing.
-        let _ = self.pool.unfix_grant(&self.pass.grant);
+        let _ = self.pool.give_back(&self.pass);
     }
 }

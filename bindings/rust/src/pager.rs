@@ -18,12 +18,16 @@ pub trait PageIo {
     /// Writes the image, which has the page size, to the page's place. Its page LSN is `lsn`, and
     /// the log is durable so far.
     ///
+    /// The image is a copy of the page, and may be changed: the page LSN and a checksum can be put
+    /// where they belong in it. The page in the pool does not change by that. It has them once it
+    /// was read again.
+    ///
     /// The pool takes the page as saved where this goes well. A checkpoint has to see to it that
     /// the device has it too, as by [`File::sync_data`](std::fs::File::sync_data).
     ///
     /// # Errors
     /// Where it fails the page stays unsaved, in its frame.
-    fn write_page(&self, page: u64, image: &[u8], lsn: u64) -> io::Result<()>;
+    fn write_page(&self, page: u64, image: &mut [u8], lsn: u64) -> io::Result<()>;
 
     /// Makes the log durable as far as this LSN at least.
     ///
@@ -245,7 +249,7 @@ impl<F: PageIo> Pager<F> {
         }
     }
 
-    fn write_out(&self, ticket: WriteTicket, image: &[u8]) -> Result<(), PagerError> {
+    fn write_out(&self, ticket: WriteTicket, image: &mut [u8]) -> Result<(), PagerError> {
         let (page, lsn) = (ticket.page(), ticket.lsn());
         let mut writing = Writing::new(&self.pool, ticket);
         match self.io.write_page(page, image, lsn) {

@@ -1,8 +1,13 @@
+use crate::lent::LentPages;
+use crate::page::Grant;
 use crate::sys::{self, hz_config, hz_core, hz_fixed, hz_grant, hz_totals};
-use crate::{Config, Error, PageGuard, Pass, ReadFault, ReadTicket, Refused, Result, WriteTicket};
-use std::cell::UnsafeCell;
+use crate::{
+    Config, Error, PageBytes, PageGuard, Pass, ReadFault, ReadTicket, Refused, Result, WriteTicket,
+};
+use std::cell::{RefCell, UnsafeCell};
 use std::fmt;
 use std::ptr;
+use std::sync::atomic::{AtomicU64, Ordering};
 
 /// A buffer pool, which tells what is to be read and written. It does no input or output itself: a
 /// [`Pager`](crate::Pager) does.
@@ -10,7 +15,7 @@ use std::ptr;
 /// The calls take `&self`, so that several guards may be out at once. It may go from thread to
 /// thread, but no two threads use it at the same time (`Pool` is `Send` and not `Sync`): behind a
 /// mutex they take turns. A pass and a ticket borrow nothing, so a thread may keep one while the
-/// mutex is open.
+/// mutex is open. One that is of another pool is refused, and changes nothing.
 ///
 /// Where it is dropped, pages that were not written out are lost.
 ///
@@ -33,7 +38,8 @@ use std::ptr;
 ///         }
 ///     }
 /// };
-/// assert_eq!(page.page(), 7);
+/// assert_eq!(page.bytes()?[..4], [0; 4]);
+/// page.write(0, b"seven", 1)?;
 /// # Ok(())
 /// # }
 /// ```
@@ -41,7 +47,14 @@ pub struct Pool {
     /// The handle stays where it is, since no copy of it may be used. It always has a core.
     core: Box<UnsafeCell<hz_core>>,
     config: Config,
+    /// A number that no other pool of this process has or had. Its passes and tickets have it too.
+    number: u64,
+    lent: LentPages,
+    /// Room for a page: see [`Pool::apart`].
+    spare: RefCell<Vec<u8>>,
 }
+
+static NUMBERS: AtomicU64 = AtomicU64::new(0);
 
 // SAFETY: the library keeps nothing of a thread: a core may be used by any thread, one at a time.
 // There is no second way to the handle, and nobody but `Pool` has its pointers.
@@ -129,10 +142,16 @@ impl Pool {
         let core = Box::new(UnsafeCell::new(none));
         // SAFETY: both pointers lead to structs of their types, and the handle has no core.
         Error::check(unsafe { sys::hz_core_new(&asked, core.get()) })?;
-        Ok(Pool {
+        let pool = Pool {
             core,
             config: config.clone(),
-        })
+            number: NUMBERS.fetch_add(1, Ordering::Relaxed),
+            lent: LentPages::default(),
+            spare: RefCell::default(),
+        };
+        let room = pool.spare.borrow_mut().try_reserve_exact(config.page_size);
+        room.map_err(|_| Error::OutOfMemory)?;
+        Ok(pool)
     }
 
     /// What it was made with.
@@ -145,6 +164,47 @@ impl Pool {
     #[inline]
     fn core(&self) -> *mut hz_core {
         self.core.get()
+    }
+
+    /// Does something with bytes, or with a copy where they are lent: the library wants none of its
+    /// own memory. What is longer than a page is not lent.
+    #[inline]
+    fn apart<T>(&self, bytes: &[u8], work: impl FnOnce(&[u8]) -> T) -> T {
+        if !self.lent.hold(bytes) {
+            return work(bytes);
+        }
+        let mut spare = self.spare.borrow_mut();
+        if bytes.len() > spare.capacity() {
+            return work(bytes);
+        }
+        spare.clear();
+        spare.extend_from_slice(bytes);
+        work(&spare)
+    }
+
+    #[inline]
+    fn grant_of(&self, raw: &hz_grant) -> Grant {
+        Grant::new(self.number, raw)
+    }
+
+    /// The library's own grant. One that another pool gave is refused as unknown here: the library
+    /// would take it where it has the numbers of one that is out.
+    #[inline]
+    fn own(&self, grant: &Grant, unknown: Error) -> Result<hz_grant> {
+        let is_own = grant.pool == self.number;
+        is_own.then(|| grant.raw()).ok_or(unknown)
+    }
+
+    #[inline]
+    fn own_pass(&self, pass: &Pass) -> Result<hz_grant> {
+        self.own(&pass.grant, Error::UnknownPass)
+    }
+
+    fn write_ticket(&self, out: &hz_fixed) -> WriteTicket {
+        WriteTicket {
+            grant: self.grant_of(&out.grant),
+            lsn: out.lsn,
+        }
     }
 
     /// Fixes a page, which pins it, for a client. The buffer has the page size, and is written to
@@ -167,13 +227,15 @@ impl Pool {
         let number = unsafe { sys::hz_fix(self.core(), client, page, image, len, &mut out) };
         Error::check_with(number, out.lsn)?;
         Ok(match out.kind {
-            sys::HIT => Fixed::Hit(self.guard(Pass { grant: out.grant })),
+            sys::HIT => Fixed::Hit(self.guard_of(&out.grant)),
             sys::LOAD => Fixed::Load {
-                ticket: ReadTicket { grant: out.grant },
+                ticket: ReadTicket {
+                    grant: self.grant_of(&out.grant),
+                },
                 evicted: (out.has_evicted != 0).then_some(out.evicted),
             },
             // A fix that was not refused has one of three kinds.
-            _ => Fixed::WriteFirst(WriteTicket::of(out)),
+            _ => Fixed::WriteFirst(self.write_ticket(&out)),
         })
     }
 
@@ -195,7 +257,7 @@ impl Pool {
         let number = unsafe { sys::hz_flush(self.core(), client, page, image, len, &mut out) };
         Error::check_with(number, out.lsn)?;
         Ok(match out.kind {
-            sys::WRITE_FIRST => Flushed::WriteFirst(WriteTicket::of(out)),
+            sys::WRITE_FIRST => Flushed::WriteFirst(self.write_ticket(&out)),
             sys::CLEAN => Flushed::Clean,
             // A flush that was not refused has one of three kinds.
             _ => Flushed::Absent,
@@ -215,12 +277,20 @@ impl Pool {
         ticket: ReadTicket,
         image: &[u8],
     ) -> Result<PageGuard<'_>, Refused<ReadTicket>> {
+        let ended = self.read_end(&ticket, image);
+        Ok(self.guard_of(&Refused::check(ended, ticket)?))
+    }
+
+    #[inline]
+    fn read_end(&self, ticket: &ReadTicket, image: &[u8]) -> Result<hz_grant> {
+        let grant = self.own(&ticket.grant, Error::UnknownTicket)?;
         let mut pass = hz_grant::default();
-        let (bytes, len) = (image.as_ptr(), image.len());
-        // SAFETY: the handle is free; the image has this length; the pass may be written to.
-        let number = unsafe { sys::hz_read_end(self.core(), &ticket.grant, bytes, len, &mut pass) };
-        Refused::check(number, ticket)?;
-        Ok(self.guard(Pass { grant: pass }))
+        self.apart(image, |image| {
+            let (bytes, len) = (image.as_ptr(), image.len());
+            // SAFETY: the handle is free; the image has this length; the pass may be written to.
+            Error::check(unsafe { sys::hz_read_end(self.core(), &grant, bytes, len, &mut pass) })
+        })?;
+        Ok(pass)
     }
 
     /// Ends a read that failed. The frame is free again, and the page may be fixed anew.
@@ -236,9 +306,13 @@ impl Pool {
             ReadFault::WrongPage => (true, Error::WrongPage),
             ReadFault::Device(_) => (false, Error::ReadFailed),
         };
-        // SAFETY: the handle is free, and the ticket a grant.
-        let number = unsafe { sys::hz_read_failed(self.core(), &ticket.grant, is_wrong_page) };
-        match Refused::check(number, ticket) {
+        let told = self
+            .own(&ticket.grant, Error::UnknownTicket)
+            .and_then(|grant| {
+                // SAFETY: the handle is free, and the ticket a grant.
+                Error::check(unsafe { sys::hz_read_failed(self.core(), &grant, is_wrong_page) })
+            });
+        match Refused::check(told, ticket) {
             Err(it) if it.error == wanted => Ok(()),
             other => other,
         }
@@ -249,15 +323,8 @@ impl Pool {
     /// # Errors
     /// [`UnknownTicket`](Error::UnknownTicket) for a ticket of another pool, which comes back.
     pub fn end_write(&self, ticket: WriteTicket) -> Result<Saved, Refused<WriteTicket>> {
-        let mut is_still_dirty = 0;
-        // SAFETY: the handle is free, the ticket a grant, and the number may be written to.
-        let number =
-            unsafe { sys::hz_write_end(self.core(), &ticket.grant, true, &mut is_still_dirty) };
-        Refused::check(number, ticket)?;
-        Ok(match is_still_dirty {
-            0 => Saved::Clean,
-            _ => Saved::StillDirty,
-        })
+        let ended = self.write_end(&ticket, true);
+        Refused::check(ended, ticket)
     }
 
     /// Ends a write-out that failed. The page is still unsaved.
@@ -265,22 +332,36 @@ impl Pool {
     /// # Errors
     /// [`UnknownTicket`](Error::UnknownTicket) for a ticket of another pool, which comes back.
     pub fn fail_write(&self, ticket: WriteTicket) -> Result<(), Refused<WriteTicket>> {
-        let mut is_still_dirty = 0;
-        // SAFETY: the handle is free, the ticket a grant, and the number may be written to.
-        let number =
-            unsafe { sys::hz_write_end(self.core(), &ticket.grant, false, &mut is_still_dirty) };
-        match Refused::check(number, ticket) {
+        let told = self.write_end(&ticket, false).map(drop);
+        match Refused::check(told, ticket) {
             Err(it) if it.error == Error::WriteFailed => Ok(()),
             other => other,
         }
     }
 
+    fn write_end(&self, ticket: &WriteTicket, is_good: bool) -> Result<Saved> {
+        let grant = self.own(&ticket.grant, Error::UnknownTicket)?;
+        let (core, mut is_still_dirty) = (self.core(), 0);
+        // SAFETY: the handle is free, the ticket a grant, and the number may be written to.
+        Error::check(unsafe { sys::hz_write_end(core, &grant, is_good, &mut is_still_dirty) })?;
+        Ok(match is_still_dirty {
+            0 => Saved::Clean,
+            _ => Saved::StillDirty,
+        })
+    }
+
     /// The page of a pass, which the guard gives back when it is dropped.
     ///
-    /// A pass of another pool is found out by the calls of the guard, and is lost with it.
+    /// The calls of a guard with a pass of another pool are refused, and the pass is lost with it.
     #[inline]
     pub fn guard(&self, pass: Pass) -> PageGuard<'_> {
         PageGuard { pool: self, pass }
+    }
+
+    #[inline]
+    fn guard_of(&self, raw: &hz_grant) -> PageGuard<'_> {
+        let grant = self.grant_of(raw);
+        self.guard(Pass { grant })
     }
 
     /// Gives a pass back.
@@ -288,35 +369,91 @@ impl Pool {
     /// # Errors
     /// [`UnknownPass`](Error::UnknownPass) for a pass of another pool, which comes back.
     pub fn unfix(&self, pass: Pass) -> Result<(), Refused<Pass>> {
-        let number = self.unfix_grant(&pass.grant);
-        Refused::check(number, pass)
+        Refused::check(self.give_back(&pass), pass)
     }
 
+    /// Gives a pass back that its owner lets go then.
     #[inline]
-    pub(crate) fn unfix_grant(&self, grant: &hz_grant) -> u16 {
+    pub(crate) fn give_back(&self, pass: &Pass) -> Result<()> {
+        let grant = self.own_pass(pass)?;
         // SAFETY: the handle is free, and the pass a grant.
-        unsafe { sys::hz_unfix(self.core(), grant) }
+        Error::check(unsafe { sys::hz_unfix(self.core(), &grant) })
     }
 
+    /// Lends the bytes of a pass's page, in place. They stay as they are while the [`PageBytes`] is
+    /// there, which borrows the pass: what would write to the page is refused meanwhile.
+    ///
+    /// ```
+    /// # use hojzmated::{Config, Fixed, Pool};
+    /// # fn main() -> hojzmated::Result<()> {
+    /// # let pool = Pool::new(&Config::new(8, 16, 2))?;
+    /// # let Fixed::Load { ticket, .. } = pool.fix(0, 3, &mut [0; 16])? else { return Ok(()) };
+    /// # let pass = pool.end_read(ticket, b"sixteen of bytes")?.into_pass();
+    /// assert_eq!(pool.bytes(&pass)?[..7], *b"sixteen");
+    /// pool.write(&pass, 0, b"twelve ", 1)?;
+    /// assert_eq!(pool.bytes(&pass)?[..10], *b"twelve  of");
+    /// # Ok(pool.unfix(pass)?)
+    /// # }
+    /// ```
+    ///
+    /// It is no call that the room of the pool counts.
+    ///
+    /// # Errors
+    /// [`UnknownPass`](Error::UnknownPass) for a pass of another pool.
+    /// [`OutOfMemory`](Error::OutOfMemory) where more are lent at once than ever before, and that
+    /// cannot be noted. Nothing is lent then.
+    // Always: else what it gives goes through memory, which is a third of its cost.
+    #[inline(always)]
+    pub fn bytes<'a>(&'a self, pass: &'a Pass) -> Result<PageBytes<'a>> {
+        let grant = self.own_pass(pass)?;
+        let mut first = ptr::null();
+        // SAFETY: the handle is free, the pass a grant, and the pointer may be written to.
+        Error::check(unsafe { sys::hz_page(self.core(), &grant, &mut first) })?;
+        let bytes = ptr::slice_from_raw_parts(first, self.config.page_size);
+        // SAFETY: the page has this size. Its bytes are there while the pass is out and the pool is
+        // there: both are borrowed, and no other pass goes back for this one. Nothing but
+        // `hz_write` to this page changes them, which `write` does not call while it is lent.
+        unsafe { self.lent.lend(pass.page(), bytes) }
+    }
+
+    /// Copies a part of a pass's page from the offset on, as much as `into` has room for.
+    ///
+    /// # Errors
+    /// The first that has cause, and `into` stays as it was:
+    /// [`UnknownPass`](Error::UnknownPass) for a pass of another pool;
+    /// [`OutOfPage`](Error::OutOfPage) where the part is not within the page;
+    /// [`TrailFull`](Error::TrailFull).
     #[inline]
-    pub(crate) fn read(&self, grant: &hz_grant, offset: usize, into: &mut [u8]) -> Result<()> {
+    pub fn read(&self, pass: &Pass, offset: usize, into: &mut [u8]) -> Result<()> {
+        let grant = self.own_pass(pass)?;
         let (bytes, len) = (into.as_mut_ptr(), into.len());
         // SAFETY: the handle is free, the pass a grant, and `into` has this length and may be
         // written to.
-        Error::check(unsafe { sys::hz_read(self.core(), grant, offset, bytes, len) })
+        Error::check(unsafe { sys::hz_read(self.core(), &grant, offset, bytes, len) })
     }
 
+    /// Puts bytes into a pass's page from the offset on, under the log record with this LSN. The
+    /// page does not go out before the log is durable so far. The bytes may be those of another
+    /// page, as [`Pool::bytes`] lends them; they are copied once more then.
+    ///
+    /// # Errors
+    /// The first that has cause, and the page stays as it was:
+    /// [`UnknownPass`](Error::UnknownPass) for a pass of another pool;
+    /// [`Lent`](Error::Lent) while bytes of the page are lent, by whichever guard or pass;
+    /// [`OutOfPage`](Error::OutOfPage) where the bytes are not within the page;
+    /// [`TrailFull`](Error::TrailFull).
     #[inline]
-    pub(crate) fn write(
-        &self,
-        grant: &hz_grant,
-        offset: usize,
-        bytes: &[u8],
-        lsn: u64,
-    ) -> Result<()> {
-        let (from, len) = (bytes.as_ptr(), bytes.len());
-        // SAFETY: the handle is free, the pass a grant, and `bytes` has this length.
-        Error::check(unsafe { sys::hz_write(self.core(), grant, offset, from, len, lsn) })
+    pub fn write(&self, pass: &Pass, offset: usize, bytes: &[u8], lsn: u64) -> Result<()> {
+        let grant = self.own_pass(pass)?;
+        if self.lent.has(grant.page) {
+            return Err(Error::Lent);
+        }
+        self.apart(bytes, |bytes| {
+            let (from, len) = (bytes.as_ptr(), bytes.len());
+            // SAFETY: the handle is free, the pass a grant, and `bytes` has this length. None of
+            // the page is lent, so no reference leads to what is written.
+            Error::check(unsafe { sys::hz_write(self.core(), &grant, offset, from, len, lsn) })
+        })
     }
 
     /// Moves the clock on by `n`. A page may leave its frame once the clock has moved by more than
@@ -381,5 +518,34 @@ impl fmt::Debug for Pool {
             .field("config", &self.config)
             .field("totals", &self.totals())
             .finish_non_exhaustive()
+    }
+}
+
+#[cfg(test)]
+mod tests {
+    use super::*;
+
+    // The library gets bytes of its own memory as a copy, and others as they are: also such as are
+    // longer than a page.
+    #[test]
+    fn bytes_of_the_library_are_copied() -> Result<()> {
+        let pool = Pool::new(&Config::new(4, 16, 1))?;
+        let Fixed::Load { ticket, .. } = pool.fix(0, 2, &mut [0; 16])? else {
+            return Err(Error::Busy);
+        };
+        let page = pool.end_read(ticket, b"sixteen of bytes")?;
+        let (bytes, other) = (page.bytes()?, [7; 40]);
+        for (part, is_copied) in [
+            (&bytes[..], true),
+            (&bytes[15..], true),
+            (&other[..16], false),
+            (&other, false),
+        ] {
+            pool.apart(part, |given| {
+                assert_eq!(given, part);
+                assert_eq!(given.as_ptr() != part.as_ptr(), is_copied);
+            });
+        }
+        Ok(())
     }
 }

@@ -105,6 +105,7 @@ unsafe extern "C" {
         into: *mut u8,
         len: usize,
     ) -> u16;
+    pub(crate) fn hz_page(core: *mut hz_core, pass: *const hz_grant, bytes: *mut *const u8) -> u16;
     pub(crate) fn hz_write(
         core: *mut hz_core,
         pass: *const hz_grant,

@@ -76,7 +76,7 @@ impl PageIo for Memory {
         Ok(())
     }
 
-    fn write_page(&self, page: u64, image: &[u8], _lsn: u64) -> io::Result<()> {
+    fn write_page(&self, page: u64, image: &mut [u8], _lsn: u64) -> io::Result<()> {
         self.0.borrow_mut()[page as usize].copy_from_slice(image);
         Ok(())
     }
@@ -100,13 +100,14 @@ fn use_pages(pager: &Pager<Memory>) -> u32 {
     let times = Cell::new(0);
     for number in 0..2u8 {
         let page = again(&times, || pager.fix(0, number.into()));
-        again(&times, || Ok(page.write(1, &[number + 7], 1)?));
-        let found = again(&times, || {
-            let mut part = [0xa5; 2];
-            page.read(0, &mut part)?;
-            Ok(part)
-        });
-        assert_eq!(found, [0, number + 7]);
+        // A write and a read take none.
+        page.write(1, &[number + 7], 1).unwrap();
+        let mut part = [0xa5; 2];
+        page.read(0, &mut part).unwrap();
+        assert_eq!(part, [0, number + 7]);
+        let bytes = again(&times, || Ok(page.bytes()?));
+        assert_eq!(bytes[..2], part);
+        assert_eq!(page.write(0, &[7], 1), Err(Error::Lent));
     }
     again(&times, || pager.flush(0, 1));
     times.get()
@@ -129,7 +130,7 @@ fn pager_without_memory() {
         }
         refused += 1;
     }
-    // A fix, a read, a write and a flush may all take some.
+    // Two fixes, the first look and a flush take some.
     assert!(refused >= 4, "only {refused} requests");
 }
 
@@ -146,9 +147,25 @@ fn ticket_comes_back_without_memory() {
     };
     assert_eq!((error, token.page()), (Error::OutOfMemory, 2));
     let page = pool.end_read(token, &[9; 16]).unwrap();
-    let mut byte = [0];
-    page.read(15, &mut byte).unwrap();
-    assert_eq!(byte, [9]);
+    assert_eq!(page.bytes().unwrap()[15], 9);
+}
+
+// Nothing is lent then: the page is written to.
+#[test]
+fn look_without_memory() {
+    let pool = Pool::new(&Config::new(4, 16, 1)).unwrap();
+    let Ok(Fixed::Load { ticket, .. }) = pool.fix(0, 2, &mut [0; 16]) else {
+        panic!("page 2 is away");
+    };
+    let page = pool.end_read(ticket, &[9; 16]).unwrap();
+    let (told, has_come) = refusing(1, || page.bytes().map(drop));
+    assert!(has_come);
+    assert_eq!(told, Err(Error::OutOfMemory));
+    page.write(0, &[7], 0).unwrap();
+    // The first look has the memory of those that come after it.
+    drop(page.bytes().unwrap());
+    let (byte, has_come) = refusing(1, || page.bytes().unwrap()[0]);
+    assert_eq!((byte, has_come), (7, false));
 }
 
 // The first request is this crate's own.

@@ -74,7 +74,7 @@ impl PageIo for Memory {
         Ok(())
     }
 
-    fn write_page(&self, page: u64, image: &[u8], lsn: u64) -> io::Result<()> {
+    fn write_page(&self, page: u64, image: &mut [u8], lsn: u64) -> io::Result<()> {
         self.note(Asked::Write(page, image[0], lsn))
             .map_err(device_fault)?;
         self.pages.borrow_mut()[page as usize].copy_from_slice(image);
@@ -276,6 +276,45 @@ fn refusals_go_through() {
     assert_eq!(pager.io().asked(), []);
 }
 
+/// A device that puts the page LSN into the last byte of each image that goes out.
+struct Stamping(Memory);
+
+impl PageIo for Stamping {
+    fn read_page(&self, page: u64, image: &mut [u8]) -> Result<(), ReadFault> {
+        self.0.read_page(page, image)
+    }
+
+    fn write_page(&self, page: u64, image: &mut [u8], lsn: u64) -> io::Result<()> {
+        image[15] = lsn as u8;
+        self.0.write_page(page, image, lsn)
+    }
+
+    fn make_log_durable(&self, lsn: u64) -> io::Result<()> {
+        self.0.make_log_durable(lsn)
+    }
+}
+
+// The stamp goes to the device. The page in the pool has none until it was read again.
+#[test]
+fn image_that_is_stamped() {
+    let pager = Pager::new(&Config::new(16, 16, 1), Stamping(Memory::of(16))).unwrap();
+    let on_device = || pager.io().0.pages.borrow()[1][15];
+    let page = pager.fix(0, 1).unwrap();
+    page.write(0, &[9], 7).unwrap();
+    let bytes = page.bytes().unwrap();
+    pager.flush(0, 1).unwrap();
+    assert_eq!((on_device(), bytes[0], bytes[15]), (7, 9, 0));
+    drop(bytes);
+    page.write(1, &[9], 8).unwrap();
+    drop(page);
+    // Page 1 makes way, and is stamped then too.
+    assert_eq!(pager.fix(0, 2).unwrap().bytes().unwrap()[15], 0);
+    assert_eq!(on_device(), 8);
+    let page = pager.fix(0, 1).unwrap();
+    let bytes = page.bytes().unwrap();
+    assert_eq!((bytes[0], bytes[1], bytes[15]), (9, 9, 8));
+}
+
 /// A device that fixes page 2 while page 1 is read. Each page has its number in each byte.
 struct Nested(RefCell<Weak<Pager<Nested>>>);
 
@@ -289,7 +328,7 @@ impl PageIo for Nested {
         Ok(())
     }
 
-    fn write_page(&self, _page: u64, _image: &[u8], _lsn: u64) -> io::Result<()> {
+    fn write_page(&self, _page: u64, _image: &mut [u8], _lsn: u64) -> io::Result<()> {
         Ok(())
     }
 
@@ -389,5 +428,48 @@ fn random_walk() {
     assert_eq!(totals.hits + totals.faults, 20_000);
     assert_eq!(totals.writes, writes);
     assert!(totals.hits > 0 && totals.evictions > 0 && writes > 0);
+    assert_eq!(*pager.into_io().pages.borrow(), newest);
+}
+
+/// Uses a page: the lent ones are not written to, and each has the bytes that it had to.
+fn step(pager: &Pager<Memory>, newest: &mut [[u8; 16]], lent: &[u64], numbers: &mut Numbers) {
+    let number = numbers.below(16);
+    let page = pager.fix(0, number).unwrap();
+    assert_eq!(*page.bytes().unwrap(), newest[number as usize]);
+    if numbers.below(2) == 0 {
+        let (at, byte) = (numbers.below(16) as usize, numbers.below(256) as u8);
+        let told = page.write(at, &[byte], numbers.below(100));
+        if lent.contains(&number) {
+            assert_eq!(told, Err(Error::Lent));
+        } else {
+            told.unwrap();
+            newest[number as usize][at] = byte;
+        }
+    }
+    if numbers.below(8) == 0 {
+        pager.flush(0, numbers.below(16)).unwrap();
+    }
+}
+
+// Two pages are lent, while others are loaded, written to, written out and replaced in the frames
+// that are left.
+#[test]
+fn random_walk_beside_lent_pages() {
+    let pager = pager(4);
+    let mut newest = [[0; 16]; 16];
+    let mut numbers = Numbers(1);
+    for _ in 0..500 {
+        let lent = [numbers.below(16), numbers.below(16)];
+        let guards = lent.map(|number| pager.fix(0, number).unwrap());
+        let looks = guards.each_ref().map(|page| page.bytes().unwrap());
+        let before = lent.map(|number| newest[number as usize]);
+        for _ in 0..20 {
+            step(&pager, &mut newest, &lent, &mut numbers);
+            assert!(looks.iter().zip(&before).all(|(look, it)| **look == *it));
+        }
+    }
+    pager.flush_all(0).unwrap();
+    let totals = pager.pool().totals();
+    assert!(totals.hits > 0 && totals.evictions > 0 && totals.writes > 0);
     assert_eq!(*pager.into_io().pages.borrow(), newest);
 }

@@ -115,9 +115,7 @@ impl Engine {
 
     fn add(&mut self, client: u8, pass: Pass) {
         let page = self.pool.guard(pass);
-        let mut found = [0; 16];
-        page.read(0, &mut found).unwrap();
-        let [_, count] = words(&found);
+        let [_, count] = words(&page.bytes().unwrap());
         self.log_end += 1;
         self.newest[page.page() as usize] = self.log_end;
         page.write(0, &bytes_of([self.log_end, count + 1]), self.log_end)
@@ -216,7 +214,7 @@ impl PageIo for Memory {
         Ok(())
     }
 
-    fn write_page(&self, page: u64, image: &[u8], _lsn: u64) -> io::Result<()> {
+    fn write_page(&self, page: u64, image: &mut [u8], _lsn: u64) -> io::Result<()> {
         let at = page as usize * SIZE;
         self.0.borrow_mut()[at..at + SIZE].copy_from_slice(image);
         Ok(())
@@ -239,9 +237,7 @@ fn pager_under_a_mutex() {
                 for lsn in 1..=ROUNDS {
                     let pager = pager.lock().unwrap();
                     let page = pager.fix(client, next(&mut state)).unwrap();
-                    let mut found = [0; 16];
-                    page.read(0, &mut found).unwrap();
-                    let [_, count] = words(&found);
+                    let [_, count] = words(&page.bytes().unwrap());
                     page.write(0, &bytes_of([lsn, count + 1]), lsn).unwrap();
                 }
             });

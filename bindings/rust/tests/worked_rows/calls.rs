@@ -187,29 +187,33 @@ impl Run {
         }
     }
 
-    /// Does something with the page of a pass, which stays out.
-    fn with_page(&mut self, serial: usize, work: impl FnOnce(&PageGuard<'_>) -> Gives) -> Gives {
-        let Some(Some(pass)) = self.passes.get_mut(serial).map(Option::take) else {
+    /// The pass with this number, while it is out.
+    fn pass(&self, serial: usize) -> Option<&Pass> {
+        self.passes.get(serial)?.as_ref()
+    }
+
+    /// The bytes that are lent are those that are read.
+    fn read(&self, serial: usize) -> Gives {
+        let Some(pass) = self.pass(serial) else {
             return Gives::NotCalled;
         };
-        let guard = self.pool.guard(pass);
-        let gives = work(&guard);
-        self.passes[serial] = Some(guard.into_pass());
-        gives
-    }
-
-    fn read(&mut self, serial: usize) -> Gives {
-        self.with_page(serial, |page| {
-            let mut image = [0xa5; 16];
-            match page.read(0, &mut image) {
-                Ok(()) => Gives::Page(first_byte(&image)),
-                Err(error) => Gives::Refused(error),
+        let mut image = [0xa5; 16];
+        match self.pool.read(pass, 0, &mut image) {
+            Ok(()) => {
+                assert_eq!(*self.pool.bytes(pass).unwrap(), image);
+                Gives::Page(first_byte(&image))
             }
-        })
+            Err(error) => {
+                assert_eq!(self.pool.bytes(pass).err(), Some(error));
+                Gives::Refused(error)
+            }
+        }
     }
 
-    fn write(&mut self, serial: usize, byte: u8, lsn: u64) -> Gives {
-        self.with_page(serial, |page| done(page.write(0, &[byte], lsn)))
+    fn write(&self, serial: usize, byte: u8, lsn: u64) -> Gives {
+        self.pass(serial).map_or(Gives::NotCalled, |pass| {
+            done(self.pool.write(pass, 0, &[byte], lsn))
+        })
     }
 
     fn unfix(&mut self, serial: usize) -> Gives {

@@ -1,0 +1,302 @@
+//! Pages lent in place: which writes are refused meanwhile, and that what is lent stays as it is.
+use hojzmated::{
+    Config, Error, Fixed, Flushed, PageBytes, PageGuard, Pool, ReadFault, Refused, Saved,
+};
+use std::panic::{AssertUnwindSafe, catch_unwind, resume_unwind};
+use std::sync::Mutex;
+use std::{mem, thread};
+
+/// A pool over 16 pages of 16 bytes.
+fn pool(frames: usize) -> Pool {
+    Pool::new(&Config::new(16, 16, frames)).unwrap()
+}
+
+/// Fixes a page. Where it is read it has its number in each byte, and what goes out is let go.
+fn fix(pool: &Pool, page: u64) -> PageGuard<'_> {
+    pool.tick(0, 1).unwrap();
+    loop {
+        match pool.fix(0, page, &mut [0; 16]).unwrap() {
+            Fixed::Hit(guard) => return guard,
+            Fixed::Load { ticket, .. } => return pool.end_read(ticket, &[page as u8; 16]).unwrap(),
+            Fixed::WriteFirst(ticket) => assert!(pool.end_write(ticket).is_ok()),
+        }
+    }
+}
+
+// ---- Refusals
+
+// By the guard that lends it, by another one and by a pass. Another page is written to.
+#[test]
+fn write_to_a_lent_page() {
+    let pool = pool(2);
+    let (one, second, other) = (fix(&pool, 1), fix(&pool, 1), fix(&pool, 2));
+    let pass = fix(&pool, 1).into_pass();
+    let bytes = one.bytes().unwrap();
+    assert_eq!(one.write(0, b"a", 0), Err(Error::Lent));
+    assert_eq!(second.write(1, b"b", 0), Err(Error::Lent));
+    assert_eq!(pool.write(&pass, 2, b"c", 0), Err(Error::Lent));
+    assert_eq!(one.write(17, b"", 0), Err(Error::Lent));
+    other.write(0, b"other", 0).unwrap();
+    assert_eq!(*bytes, [1; 16]);
+    drop(bytes);
+    one.write(0, b"a", 0).unwrap();
+    second.write(1, b"b", 0).unwrap();
+    pool.write(&pass, 2, b"c", 0).unwrap();
+    assert_eq!(one.write(17, b"", 0), Err(Error::OutOfPage));
+    assert_eq!(second.bytes().unwrap()[..4], *b"abc\x01");
+    assert_eq!(other.bytes().unwrap()[..6], *b"other\x02");
+    pool.unfix(pass).unwrap();
+}
+
+// The page is written to once the last of them is gone, whichever that is.
+#[test]
+fn several_looks() {
+    let pool = pool(2);
+    let (one, second, other) = (fix(&pool, 1), fix(&pool, 1), fix(&pool, 2));
+    for turn in 0..3 {
+        let mut looks: Vec<PageBytes<'_>> = [&one, &other, &second, &one]
+            .map(|page| page.bytes().unwrap())
+            .into();
+        assert_eq!(looks[0].as_ptr(), looks[2].as_ptr());
+        drop(looks.remove(1));
+        other.write(0, b"x", 0).unwrap();
+        for place in [turn % 3, turn % 2, 0] {
+            assert_eq!(one.write(0, b"y", 0), Err(Error::Lent));
+            drop(looks.remove(place));
+        }
+        one.write(0, b"y", 0).unwrap();
+    }
+}
+
+// A look lasts to the end of its statement, whose other parts are done meanwhile.
+#[test]
+fn looks_within_a_statement() {
+    let pool = pool(1);
+    let page = fix(&pool, 1);
+    let told = page.write(0, &[page.bytes().unwrap()[0] + 1], 0);
+    assert_eq!(told, Err(Error::Lent));
+    match page.bytes().unwrap()[0] {
+        1 => assert_eq!(page.write(0, &[2], 0), Err(Error::Lent)),
+        _ => panic!("page 1 has ones"),
+    }
+    let first = page.bytes().unwrap()[0];
+    page.write(0, &[first + 1], 0).unwrap();
+    assert_eq!(page.bytes().unwrap()[..2], [2, 1]);
+}
+
+// It is read, flushed, replaced and loaded, and not written to. Others are, also in another thread.
+#[test]
+fn forgotten_look() {
+    let pool = pool(1);
+    let page = fix(&pool, 1);
+    page.write(0, b"before", 0).unwrap();
+    mem::forget(page.bytes().unwrap());
+    assert_eq!(page.write(0, b"after", 0), Err(Error::Lent));
+    assert_eq!(page.bytes().unwrap()[..7], *b"before\x01");
+    drop(page);
+    fix(&pool, 2).write(0, b"two", 0).unwrap();
+    let page = fix(&pool, 1);
+    assert_eq!(*page.bytes().unwrap(), [1; 16]);
+    assert_eq!(page.write(0, b"after", 0), Err(Error::Lent));
+    drop(page);
+    let moved = thread::spawn(move || {
+        fix(&pool, 2).write(0, b"two", 0).unwrap();
+        fix(&pool, 1).write(0, b"after", 0)
+    });
+    assert_eq!(moved.join().unwrap(), Err(Error::Lent));
+}
+
+#[test]
+fn panic_ends_a_look() {
+    let pool = pool(1);
+    let page = fix(&pool, 1);
+    let caught = catch_unwind(AssertUnwindSafe(|| {
+        let _bytes = page.bytes().unwrap();
+        assert_eq!(page.write(0, b"a", 0), Err(Error::Lent));
+        resume_unwind(Box::new("the engine's own code"));
+    }));
+    assert!(caught.is_err());
+    page.write(0, b"a", 0).unwrap();
+}
+
+// Looks are no calls that the room counts: they go on where it is full.
+#[test]
+fn looks_where_the_trail_is_full() {
+    let room = 3;
+    let config = Config {
+        room,
+        ..Config::new(16, 16, 1)
+    };
+    let pool = Pool::new(&config).unwrap();
+    let Fixed::Load { ticket, .. } = pool.fix(0, 1, &mut [0; 16]).unwrap() else {
+        panic!("page 1 is away");
+    };
+    let page = pool.end_read(ticket, &[1; 16]).unwrap();
+    for _ in 0..10 {
+        assert_eq!(*page.bytes().unwrap(), [1; 16]);
+    }
+    assert_eq!(page.read(0, &mut [0; 4]), Err(Error::TrailFull));
+    assert_eq!(page.write(0, b"a", 0), Err(Error::TrailFull));
+    pool.unfix(page.into_pass()).unwrap();
+}
+
+// ---- Two pools whose passes and tickets have the same numbers
+
+#[test]
+fn pass_with_the_numbers_of_another() {
+    let (own, other) = (pool(1), pool(1));
+    let pass = fix(&own, 1).into_pass();
+    let twin = fix(&other, 1).into_pass();
+    assert_eq!(pass.page(), twin.page());
+    assert_eq!(pass.serial(), twin.serial());
+    assert_ne!(pass, twin);
+    let bytes = own.bytes(&pass).unwrap();
+    assert_eq!(own.bytes(&twin).err(), Some(Error::UnknownPass));
+    assert_eq!(own.read(&twin, 0, &mut [0; 4]), Err(Error::UnknownPass));
+    assert_eq!(own.write(&twin, 0, b"a", 0), Err(Error::UnknownPass));
+    let refused = own.unfix(twin).unwrap_err();
+    assert_eq!(refused.error, Error::UnknownPass);
+    drop(own.guard(refused.token));
+    // Page 1 stays pinned in its own pool, where its pass is lent from, and in the other one.
+    own.tick(0, 1).unwrap();
+    for one in [&own, &other] {
+        assert_eq!(one.fix(0, 2, &mut [0; 16]).err(), Some(Error::NoVictim));
+    }
+    assert_eq!(*bytes, [1; 16]);
+    drop(bytes);
+    own.unfix(pass).unwrap();
+}
+
+/// Asks for page 1, which has to be read.
+fn ticket_to_read(pool: &Pool) -> hojzmated::ReadTicket {
+    match pool.fix(0, 1, &mut [0; 16]) {
+        Ok(Fixed::Load { ticket, .. }) => ticket,
+        other => panic!("{other:?}"),
+    }
+}
+
+/// Writes to page 1 and asks that it be written out.
+fn ticket_to_write(pool: &Pool) -> hojzmated::WriteTicket {
+    fix(pool, 1).write(0, b"a", 0).unwrap();
+    match pool.flush(0, 1, &mut [0; 16]) {
+        Ok(Flushed::WriteFirst(ticket)) => ticket,
+        other => panic!("{other:?}"),
+    }
+}
+
+#[test]
+fn ticket_with_the_numbers_of_another() {
+    let (own, other) = (pool(1), pool(1));
+    let (ticket, twin) = (ticket_to_read(&own), ticket_to_read(&other));
+    assert_eq!(ticket.serial(), twin.serial());
+    let Refused { error, token } = own.end_read(twin, &[9; 16]).unwrap_err();
+    assert_eq!(error, Error::UnknownTicket);
+    let refused = own.fail_read(token, &ReadFault::WrongPage).unwrap_err();
+    assert_eq!(refused.error, Error::UnknownTicket);
+    drop(own.end_read(ticket, &[1; 16]).unwrap());
+    drop(other.end_read(refused.token, &[1; 16]).unwrap());
+
+    let (ticket, twin) = (ticket_to_write(&own), ticket_to_write(&other));
+    assert_eq!(ticket.serial(), twin.serial());
+    let Refused { error, token } = own.end_write(twin).unwrap_err();
+    assert_eq!(error, Error::UnknownTicket);
+    let refused = own.fail_write(token).unwrap_err();
+    assert_eq!(refused.error, Error::UnknownTicket);
+    assert_eq!(own.end_write(ticket), Ok(Saved::Clean));
+    other.fail_write(refused.token).unwrap();
+    assert_eq!((own.totals().writes, other.totals().failed), (1, 1));
+}
+
+// ---- What is lent
+
+// The image that goes out is that of the lent page, which is saved by it.
+#[test]
+fn flush_of_a_lent_page() {
+    let pool = pool(1);
+    let page = fix(&pool, 1);
+    page.write(0, b"unsaved", 0).unwrap();
+    let bytes = page.bytes().unwrap();
+    let mut image = [0; 16];
+    let Flushed::WriteFirst(ticket) = pool.flush(0, 1, &mut image).unwrap() else {
+        panic!("page 1 is unsaved");
+    };
+    assert_eq!(image, *bytes);
+    image.fill(0);
+    assert_eq!(page.write(0, b"a", 0), Err(Error::Lent));
+    assert_eq!(pool.end_write(ticket), Ok(Saved::Clean));
+    assert_eq!(pool.flush(0, 1, &mut image), Ok(Flushed::Clean));
+    assert_eq!(bytes[..8], *b"unsaved\x01");
+}
+
+#[test]
+fn from_one_page_to_another() {
+    let pool = pool(2);
+    let (from, to) = (fix(&pool, 1), fix(&pool, 2));
+    from.write(0, b"from page 1", 0).unwrap();
+    let (bytes, before) = (from.bytes().unwrap(), to.bytes().unwrap());
+    assert_eq!(to.write(2, &bytes[5..], 0), Err(Error::Lent));
+    drop(before);
+    to.write(2, &bytes[5..], 0).unwrap();
+    assert_eq!(to.bytes().unwrap()[..9], *b"\x02\x02page 1\x01");
+    let mut part = [0; 4];
+    from.read(5, &mut part).unwrap();
+    assert_eq!(part, bytes[5..9]);
+    // Nothing and too much are answered as ever.
+    to.write(16, &bytes[16..], 0).unwrap();
+    assert_eq!(to.write(1, &bytes, 0), Err(Error::OutOfPage));
+    assert_eq!(to.write(0, &[7; 100], 0), Err(Error::OutOfPage));
+    drop(to);
+    // A page is taken for the image of another one.
+    pool.tick(0, 1).unwrap();
+    let Fixed::WriteFirst(ticket) = pool.fix(0, 3, &mut [0; 16]).unwrap() else {
+        panic!("page 2 is unsaved");
+    };
+    assert_eq!(pool.end_write(ticket), Ok(Saved::Clean));
+    let Fixed::Load { ticket, .. } = pool.fix(0, 3, &mut [0; 16]).unwrap() else {
+        panic!("page 3 is away");
+    };
+    let Refused { error, token } = pool.end_read(ticket, &bytes[1..]).unwrap_err();
+    assert_eq!(error, Error::OutOfPage);
+    let third = pool.end_read(token, &bytes).unwrap();
+    assert_eq!(*third.bytes().unwrap(), *bytes);
+    third.write(0, b"third", 0).unwrap();
+    assert_eq!(bytes[..11], *b"from page 1");
+}
+
+// The slice goes to other threads, while this one loads and writes other pages.
+#[test]
+fn slices_in_other_threads() {
+    let pool = pool(2);
+    let page = fix(&pool, 1);
+    let bytes = page.bytes().unwrap();
+    thread::scope(|threads| {
+        let slice: &[u8] = &bytes;
+        let sums = [0; 2].map(|_| threads.spawn(|| slice.iter().sum::<u8>()));
+        for number in 2..16 {
+            fix(&pool, number).write(0, b"new", 0).unwrap();
+        }
+        assert_eq!(sums.map(|sum| sum.join().unwrap()), [16, 16]);
+    });
+}
+
+#[test]
+fn looks_under_a_mutex() {
+    let pool = Mutex::new(pool(1));
+    let pass = fix(&pool.lock().unwrap(), 1).into_pass();
+    let count = |_: u32| {
+        let pool = pool.lock().unwrap();
+        let bytes = pool.bytes(&pass).unwrap();
+        assert_eq!(pool.write(&pass, 0, b"a", 0), Err(Error::Lent));
+        let next = bytes[0] + 1;
+        drop(bytes);
+        pool.write(&pass, 0, &[next], 0).unwrap();
+    };
+    thread::scope(|threads| {
+        for _ in 0..2 {
+            threads.spawn(|| (0..50).for_each(count));
+        }
+    });
+    let pool = pool.into_inner().unwrap();
+    assert_eq!(pool.bytes(&pass).unwrap()[0], 101);
+    pool.unfix(pass).unwrap();
+}
