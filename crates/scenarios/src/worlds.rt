@@ -196,7 +196,7 @@ impl World {
             _ => made.call(rt, call),
         };
         if let (Way::Pieces, Made::Kept(core)) = (self.way, made) {
-            core.cut();
+            core.gather();
         }
         Some(answer)
     }
