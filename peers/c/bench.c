@@ -1,10 +1,9 @@
 /* Operations a second over this pool, or over the memory pool of Berkeley DB, by one program: the same pages in the
  * same order. Built with -DBERKELEY it runs over the second. bench.py builds both and runs them in turn.
  *
- *     peers/c/bench USE SIZE SECONDS
+ *     peers/c/bench USE SIZE SECONDS [THREADS]
  *
- * An operation is the fix of a page of SIZE bytes, its use and its unfix. The pages come at random, by the generator of
- * numbers of peers/mpool.c. USE is one of
+ * An operation is the fix of a page of SIZE bytes, its use and its unfix. The pages come at random. USE is one of
  *
  *     nothing    no use
  *     look       the 16 bytes at byte 64 are read in place
@@ -16,16 +15,16 @@
  * There are 4,096 frames, and but for evict all pages are resident. The clock of this pool moves once in 16 fixes.
  * Before it counts, the program uses each page once, and ends where it finds other bytes there than belong there.
  *
- * Printed: operations a second of the wall clock, and the hit rate.
+ * THREADS threads operate at once, or one. More than one there are over Berkeley DB alone: a core of this pool has one
+ * owner. bindings/rust/examples/bench_shared.rs has more over this pool.
+ *
+ * Printed: operations a second of the wall clock, over all threads, and the hit rate.
  */
 #include <fcntl.h>
-#include <stdbool.h>
-#include <stdint.h>
-#include <stdio.h>
-#include <stdlib.h>
 #include <string.h>
-#include <time.h>
 #include <unistd.h>
+
+#include "threads.h"
 
 enum { FRAMES = 4096, PLACE = 64 };
 enum use { NOTHING, LOOK, PAGE, UPDATE, TREE, EVICT, USES };
@@ -33,12 +32,6 @@ static const char *const names[USES] = {"nothing", "look", "page", "update", "tr
 
 static enum use use;
 static unsigned pages, size;
-
-static void fail(const char *what)
-{
-    fprintf(stderr, "bench: %s\n", what);
-    exit(1);
-}
 
 /* A word of a page, which need not be aligned. */
 static uint64_t word(const uint8_t *page, size_t at)
@@ -48,7 +41,7 @@ static uint64_t word(const uint8_t *page, size_t at)
     return held;
 }
 
-/* --- The pool: fix, look, update and unfix are of one page at a time --- */
+/* --- The pool: fix, look, update and unfix are of one page at a time in each thread --- */
 
 static void fill(unsigned page, uint8_t *image);
 
@@ -57,7 +50,8 @@ static void fill(unsigned page, uint8_t *image);
 
 static DB_ENV *env;
 static DB_MPOOLFILE *mpool;
-static uint8_t *fixed;
+static _Thread_local uint8_t *fixed;
+static const bool is_shared = true;
 
 static void fix(uint64_t number)
 {
@@ -122,6 +116,7 @@ static hz_core core;
 static int file;
 static uint8_t *image;
 static hz_fixed asked;
+static const bool is_shared = false;
 
 static void fix(uint64_t page)
 {
@@ -303,40 +298,25 @@ static void use_all(void)
     }
 }
 
-static double now(void)
-{
-    struct timespec t;
-    clock_gettime(CLOCK_MONOTONIC, &t);
-    return (double)t.tv_sec + (double)t.tv_nsec * 1e-9;
-}
-
 int main(int argc, char **argv)
 {
-    for (use = NOTHING; use < USES && (argc != 4 || strcmp(argv[1], names[use])); use++)
+    bool is_asked = argc == 4 || argc == 5;
+    for (use = NOTHING; use < USES && (!is_asked || strcmp(argv[1], names[use])); use++)
         ;
-    size = argc == 4 ? (unsigned)atoi(argv[2]) : 0;
+    size = is_asked ? (unsigned)atoi(argv[2]) : 0;
     if (use == USES || size % 16 != 0 || size < 128 || size > 65536 || (use == TREE && size != 4096))
-        fail("USE SIZE SECONDS");
-    double length = atof(argv[3]), hits, misses, hits_before, misses_before;
+        fail("USE SIZE SECONDS [THREADS]");
+    int threads = argc == 5 ? atoi(argv[4]) : 1;
+    if (threads < 1 || threads > (is_shared ? MOST_THREADS : 1))
+        fail("so many threads do not share the pool");
     pages = use == TREE ? NODES : use == EVICT ? 4 * FRAMES : FRAMES;
     start();
     use_all();
+    double hits, misses, hits_before, misses_before;
     counts(&hits_before, &misses_before);
-    volatile uint64_t kept;
-    uint64_t state = 1, done = 0, found = 0, most = use == TREE ? KEYS : pages;
-    double began = now(), ended;
-    do {
-        for (int i = 0; i < 1000; i++) {
-            state = state * 6364136223846793005u + 1442695040888963407u;
-            found += operate((state >> 33) % most);
-        }
-        done += 1000;
-        ended = now();
-    } while (ended - began < length);
-    kept = found; /* so that the compiler leaves no look out */
-    (void)kept;
+    double rate = rate_of((unsigned)threads, use == TREE ? KEYS : pages, atof(argv[3]));
     counts(&hits, &misses);
     hits -= hits_before, misses -= misses_before;
-    printf("%.0f %.3f\n", (double)done / (ended - began), hits / (hits + misses));
+    printf("%.0f %.3f\n", rate, hits / (hits + misses));
     return 0;
 }

@@ -1,14 +1,21 @@
 #!/usr/bin/env python3
 """Measures the pool through C and through Rust beside Berkeley DB's memory pool, over the same pages in the same order.
 
-    apt-get install libdb5.3-dev
+    apt-get install -y libdb5.3-dev liblmdb-dev
     peers/c/bench.py [ROUNDS [SECONDS]]
+    peers/c/bench.py threads [ROUNDS [SECONDS]]
 
 It builds peers/c/bench.c with the library of bindings/c, bindings/rust/examples/bench.rs, and peers/c/bench.c with
 Berkeley DB. A round runs the three one after the other for each use and page size, for SECONDS each. There are seven
 rounds of a second, where nothing else is said. Printed is a table: millions of operations a second of the wall clock,
 the median of the rounds, and the ratio to Berkeley DB in the same round: the median, and the least to the greatest.
-Rust is left out where there is no cargo, and Berkeley DB where it does not compile.
+
+With `threads` it measures the pager that many threads share, bindings/rust/examples/bench_shared.rs, in pages of 4,096
+bytes and with 1, 2 and 4 threads. Beside it is peers/c/bench.c with Berkeley DB, and for look-ups in a tree also LMDB,
+by peers/c/lmdb.c. The operations are those of all threads.
+
+What stands on cargo, Berkeley DB or LMDB is left out where that is not there. The library comes of the proved one of
+$LIBRARY, or of the one that `rt lib` left in crates/hojzmated_c.
 
 The machine has to be quiet. How many processors other work had is told after each round, and under the table where it
 was too much.
@@ -22,41 +29,95 @@ import tempfile
 import time
 
 TOP = os.path.dirname(os.path.dirname(os.path.dirname(os.path.realpath(__file__))))
-C, RUST, PEER = "C", "Rust", "Berkeley DB"
-SIZES = (1024, 4096, 8192)
-CELLS = [(use, size) for use in ("nothing", "look", "page", "update") for size in SIZES] + [("tree", 4096)]
-# With pages that come and go: what Rust adds to C shows in the other rows.
-FAULTING = [("evict", size) for size in SIZES]
+CC = [os.environ.get("CC", "cc"), "-std=gnu11", "-O3"]  # as cargo has it
+C, RUST, SHARED, PEER, LMDB = "C", "Rust", "SharedPager", "Berkeley DB", "LMDB"
+PEERS = (PEER, LMDB)
+SIZES, THREADS = (1024, 4096, 8192), (1, 2, 4)
 MOST_FOR_OTHERS = 0.1  # of a processor
 
 
-def built(folder):
-    """Builds the benches, and returns the path of each under its name; the peer stands last."""
-    prefix, source = f"{folder}/prefix", f"{TOP}/peers/c/bench.c"
-    subprocess.run(["make", "-s", "-C", f"{TOP}/bindings/c", "install", f"PREFIX={prefix}"], check=True)
-    cc = [os.environ.get("CC", "cc"), "-std=gnu11", "-O3"]  # as cargo has it
-    words = [*cc, f"-I{prefix}/include", source, f"{prefix}/lib/libhojzmated.a", "-o", f"{folder}/c"]
-    subprocess.run(words, check=True)
-    benches = {C: f"{folder}/c"}
+class Owner:
+    """With one thread. A cell is a use and a page size."""
+    columns = "Use", "Page"
+    cells = [(use, size) for use in ("nothing", "look", "page", "update") for size in SIZES] + [("tree", 4096)]
+    cells += [("evict", size) for size in SIZES]
+
+    @staticmethod
+    def benches(folder, prefix):
+        linked = f"-I{prefix}/include", f"{prefix}/lib/libhojzmated.a"
+        return {C: compiled(f"{folder}/c", "bench.c", *linked), RUST: example(folder, prefix, "bench"),
+                PEER: peer(folder)}
+
+    @staticmethod
+    def words(name, cell, seconds):
+        """The words with which a bench runs for a cell, or none where it does not: what Rust adds to C shows without
+        evictions."""
+        return None if name == RUST and cell[0] == "evict" else [cell[0], str(cell[1]), seconds]
+
+
+class Shared:
+    """With many threads. A cell is a use and how many."""
+    columns = "Use", "Threads"
+    cells = [(use, threads) for use in ("look", "page", "update", "evict", "tree") for threads in THREADS]
+
+    @staticmethod
+    def benches(folder, prefix):
+        return {SHARED: example(folder, prefix, "bench_shared"), PEER: peer(folder),
+                LMDB: compiled(f"{folder}/lmdb", "lmdb.c", "-llmdb", is_needed=False)}
+
+    @staticmethod
+    def words(name, cell, seconds):
+        if name != LMDB:
+            return [cell[0], "4096", seconds, str(cell[1])]
+        return [seconds, str(cell[1])] if cell[0] == "tree" else None
+
+
+def compiled(path, source, *words, is_needed=True):
+    """Compiles a program of this folder, and returns its path; none where that fails and it is not needed."""
+    command = [*CC, f"{TOP}/peers/c/{source}", *words, "-lpthread", "-o", path]
+    said = None if is_needed else subprocess.DEVNULL
+    return path if subprocess.run(command, stderr=said, check=is_needed).returncode == 0 else None
+
+
+def peer(folder):
+    return compiled(f"{folder}/peer", "bench.c", "-DBERKELEY", "-ldb", is_needed=False)
+
+
+def example(folder, prefix, name):
+    """Builds an example of the crate, and returns its path; none where there is no cargo."""
     crate = f"{TOP}/bindings/rust"
-    if shutil.which("cargo") and os.path.exists(f"{crate}/examples/bench.rs"):
-        words = ["cargo", "build", "--offline", "--quiet", "--release", "--example", "bench"]
-        env = {**os.environ, "HOJZMATED_PREFIX": prefix, "CARGO_TARGET_DIR": f"{folder}/target"}
-        subprocess.run(words, cwd=crate, env=env, check=True)
-        benches[RUST] = f"{folder}/target/release/examples/bench"
-    words = [*cc, "-DBERKELEY", source, "-ldb", "-lpthread", "-o", f"{folder}/peer"]
-    if subprocess.run(words, stderr=subprocess.DEVNULL, check=False).returncode == 0:
-        benches[PEER] = f"{folder}/peer"
-    return benches
+    if not shutil.which("cargo") or not os.path.exists(f"{crate}/examples/{name}.rs"):
+        return None
+    words = ["cargo", "build", "--offline", "--quiet", "--release", "--example", name]
+    env = {**os.environ, "HOJZMATED_PREFIX": prefix, "CARGO_TARGET_DIR": f"{folder}/target"}
+    subprocess.run(words, cwd=crate, env=env, check=True)
+    return f"{folder}/target/release/examples/{name}"
 
 
-def measured(name, bench, cell, seconds, folder):
-    """The operations a second of a bench. The programs in C also tell the hit rate."""
-    words = [bench, cell[0], str(cell[1]), str(seconds)]
-    said = subprocess.run(words, cwd=folder, check=True, stdout=subprocess.PIPE, text=True).stdout.split()
-    if name != RUST and cell[0] != "evict" and float(said[1]) < 1:
-        sys.exit(f"bench.py: {' '.join(words)}: not all pages are resident")
+def built(measure, folder):
+    """Builds the benches, and returns the path of each under its name."""
+    prefix, library = f"{folder}/prefix", os.environ.get("LIBRARY")
+    words = ["make", "-s", "-C", f"{TOP}/bindings/c", "install", f"PREFIX={prefix}"]
+    words += [f"LIBRARY={os.path.abspath(library)}"] if library else []
+    subprocess.run(words, check=True)
+    return {name: bench for name, bench in measure.benches(folder, prefix).items() if bench}
+
+
+def measured(name, command, use, folder):
+    """The operations a second of a bench. Some also tell the hit rate."""
+    said = subprocess.run(command, cwd=folder, check=True, stdout=subprocess.PIPE, text=True).stdout.split()
+    if name not in (RUST, LMDB) and use != "evict" and float(said[1]) < 1:
+        sys.exit(f"bench.py: {' '.join(command)}: not all pages are resident")
     return float(said[0])
+
+
+def round_of(measure, benches, seconds, folder, rates):
+    """Runs each bench for each cell, and adds what it told to the rates."""
+    for cell in measure.cells:
+        for name, bench in benches.items():
+            words = measure.words(name, cell, str(seconds))
+            if words:
+                rates[cell, name].append(measured(name, [bench, *words], cell[0], folder))
 
 
 def spent():
@@ -77,39 +138,45 @@ def ratio_of(rates, peer):
     return f"{statistics.median(ratios):.2f} ({min(ratios):.2f} to {max(ratios):.2f})" if ratios else ""
 
 
-def table(benches, rates):
-    """The lines of the table. A column is there for each bench, and one for the ratio of each to the peer."""
-    compared = [name for name in benches if name != PEER and PEER in benches]
-    yield "| " + " | ".join(["Use", "Page", *benches, *(f"{name}, ratio" for name in compared)]) + " |"
-    yield "|---" * (2 + len(benches) + len(compared)) + "|"
-    for cell in [*CELLS, *FAULTING]:
+def table(measure, benches, rates):
+    """The lines of the table. A column is there for each bench, and one for the ratio of each own one to each peer."""
+    pairs = [(name, other) for name in benches if name not in PEERS for other in benches if other in PEERS]
+    ratios = [f"{name}, ratio" + (f" to {LMDB}" if other == LMDB else "") for name, other in pairs]
+    columns = [*measure.columns, *benches, *ratios]
+    yield "| " + " | ".join(columns) + " |"
+    yield "|---" * len(columns) + "|"
+    for cell in measure.cells:
         medians = [median_of(rates[cell, name]) for name in benches]
-        ratios = [ratio_of(rates[cell, name], rates[cell, PEER]) for name in compared]
+        ratios = [ratio_of(rates[cell, name], rates[cell, other]) for name, other in pairs]
         yield "| " + " | ".join([cell[0], f"{cell[1]:,}", *medians, *ratios]) + " |"
 
 
-def main(words):
+def numbers_of(words):
+    """The rounds and the seconds, or none where the words are others."""
     try:
         rounds, seconds = int(words[0]) if words else 7, float(words[1]) if len(words) > 1 else 1
     except ValueError:
-        rounds = seconds = 0
-    if len(words) > 2 or rounds < 1 or seconds <= 0:
+        return None
+    return (rounds, seconds) if len(words) < 3 and rounds > 0 and seconds > 0 else None
+
+
+def main(words):
+    measure = Shared if words[:1] == ["threads"] else Owner
+    numbers = numbers_of(words[1:] if measure == Shared else words)
+    if not numbers:
         print(__doc__.strip(), file=sys.stderr)
         return 2
+    others = []
     with tempfile.TemporaryDirectory() as folder:
-        benches = built(folder)
-        rates = {(cell, name): [] for cell in [*CELLS, *FAULTING] for name in benches}
-        others = []
-        for number in range(rounds):
+        benches = built(measure, folder)
+        rates = {(cell, name): [] for cell in measure.cells for name in benches}
+        for number in range(numbers[0]):
             before = spent()
-            for cell in [*CELLS, *FAULTING]:
-                for name, bench in benches.items():
-                    if name != RUST or cell not in FAULTING:
-                        rates[cell, name].append(measured(name, bench, cell, seconds, folder))
+            round_of(measure, benches, numbers[1], folder, rates)
             wall, every, own = (b - a for a, b in zip(before, spent()))
             others.append((every - own) / wall)
             print(f"round {number + 1}: other work had {others[-1]:.2f} processors", file=sys.stderr, flush=True)
-    print("\n".join(table(benches, rates)))
+    print("\n".join(table(measure, benches, rates)))
     if max(others) > MOST_FOR_OTHERS:
         print(f"\nThe machine was not quiet: other work had up to {max(others):.2f} processors in a round.")
     return 0

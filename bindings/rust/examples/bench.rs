@@ -10,85 +10,16 @@
 //!
 //! Printed: operations a second of wall clock, and the sum of what was seen.
 use hojzmated::{Config, Fixed, PageGuard, Pool};
+use pages::{Numbers, fill, sum_of, tree, two_words};
 use std::error::Error;
 use std::time::{Duration, Instant};
+
+#[path = "bench/pages.rs"]
+mod pages;
 
 type Outcome<T> = Result<T, Box<dyn Error>>;
 
 const PAGES: u64 = 4096;
-
-/// The word at an offset.
-#[inline]
-fn word(bytes: &[u8], at: usize) -> u64 {
-    let mut word = [0; 8];
-    word.copy_from_slice(&bytes[at..at + 8]);
-    u64::from_le_bytes(word)
-}
-
-fn sum_of(bytes: &[u8]) -> u64 {
-    let words = bytes.chunks_exact(8);
-    words.fold(0, |sum, bytes| sum.wrapping_add(word(bytes, 0)))
-}
-
-/// A B+tree: the root is page 0, the inner nodes are pages 1 to 16, and the leaves follow. A node
-/// has its number, how many entries it has, and from byte 32 on these: a key and a child, or in a
-/// leaf a key and 64 bytes of value, of which the first word is the key and 7. The keys are the
-/// even numbers.
-mod tree {
-    use super::word;
-
-    const INNERS: u64 = 16;
-    const CHILDREN: u64 = 254;
-    const ROWS: u64 = 56;
-    pub const PAGES: u64 = 1 + INNERS + INNERS * CHILDREN;
-    pub const KEYS: u64 = INNERS * CHILDREN * ROWS;
-    pub const LEVELS: u32 = 3;
-    pub const SIZE: usize = 4096;
-    const HEAD: usize = 32;
-
-    /// How many bytes an entry has.
-    fn step(level: u32) -> usize {
-        if level + 1 == LEVELS { 72 } else { 16 }
-    }
-
-    /// Fills in the node of a page.
-    pub fn node(page: u64, image: &mut [u8]) {
-        let (level, count, first, keys, child) = match page {
-            0 => (0, INNERS, 0, CHILDREN * ROWS, 1),
-            1..=INNERS => {
-                let leaf = (page - 1) * CHILDREN;
-                (1, CHILDREN, leaf * ROWS, ROWS, 1 + INNERS + leaf)
-            }
-            _ => (2, ROWS, (page - 1 - INNERS) * ROWS, 1, 0),
-        };
-        let mut put = |at: usize, word: u64| image[at..at + 8].copy_from_slice(&word.to_le_bytes());
-        put(0, page);
-        put(8, count);
-        for entry in 0..count {
-            let (at, key) = (
-                HEAD + entry as usize * step(level),
-                (first + entry * keys) * 2,
-            );
-            put(at, key);
-            put(at + 8, if level == 2 { key + 7 } else { child + entry });
-        }
-    }
-
-    /// The child in which a key is, or the first word of its value.
-    pub fn search(node: &[u8], level: u32, key: u64) -> u64 {
-        let at = |entry: usize| HEAD + entry * step(level);
-        let (mut low, mut high) = (0, word(node, 8) as usize);
-        while high - low > 1 {
-            let middle = (low + high) / 2;
-            if word(node, at(middle)) <= key {
-                low = middle;
-            } else {
-                high = middle;
-            }
-        }
-        word(node, at(low) + 8)
-    }
-}
 
 struct Bench {
     pool: Pool,
@@ -101,6 +32,7 @@ impl Bench {
     /// A pool with all pages in it, each filled by the function.
     fn new(pages: u64, size: usize, fill: impl Fn(u64, &mut [u8])) -> Outcome<Bench> {
         let config = Config {
+            correlated: 0,
             retained: 100_000,
             ..Config::new(pages, size, PAGES as usize)
         };
@@ -135,9 +67,7 @@ impl Bench {
     }
 
     fn look(&mut self, page: u64) -> Outcome<u64> {
-        let page = self.fix(page)?;
-        let bytes = page.bytes()?;
-        Ok(word(&bytes, 64).wrapping_add(word(&bytes, 72)))
+        Ok(two_words(&self.fix(page)?.bytes()?))
     }
 
     fn update(&mut self, number: u64) -> Outcome<u64> {
@@ -160,14 +90,11 @@ impl Bench {
 
 /// Does something again and again, with numbers of which each is below the end.
 fn measure(seconds: f64, end: u64, mut work: impl FnMut(u64) -> Outcome<u64>) -> Outcome<()> {
-    let (mut state, mut done, mut sum) = (1u64, 0u64, 0u64);
+    let (mut numbers, mut done, mut sum) = (Numbers::of_thread(0), 0u64, 0u64);
     let (began, length) = (Instant::now(), Duration::try_from_secs_f64(seconds)?);
     while began.elapsed() < length {
         for _ in 0..256 {
-            state = state
-                .wrapping_mul(6_364_136_223_846_793_005)
-                .wrapping_add(1_442_695_040_888_963_407);
-            sum = sum.wrapping_add(work((state >> 33) % end)?);
+            sum = sum.wrapping_add(work(numbers.next(end))?);
         }
         done += 256;
     }
@@ -189,10 +116,7 @@ fn main() -> Outcome<()> {
         let mut bench = Bench::new(tree::PAGES, size, tree::node)?;
         return measure(seconds, tree::KEYS, |key| bench.look_up(2 * key));
     }
-    let mut bench = Bench::new(PAGES, size, |page, image| {
-        let words = image.chunks_exact_mut(8);
-        words.for_each(|word| word.copy_from_slice(&page.to_le_bytes()));
-    })?;
+    let mut bench = Bench::new(PAGES, size, fill)?;
     match what.as_str() {
         "nothing" => measure(seconds, PAGES, |page| bench.fix(page).map(|_| 0)),
         "look" => measure(seconds, PAGES, |page| bench.look(page)),

@@ -23,6 +23,10 @@ impl PageIo for Pages {
     fn make_log_durable(&self, _lsn: u64) -> io::Result<()> {
         Ok(())
     }
+
+    fn sync(&self) -> io::Result<()> {
+        self.0.sync_data()
+    }
 }
 
 fn main() -> Result<(), Box<dyn Error>> {
@@ -42,7 +46,7 @@ fn main() -> Result<(), Box<dyn Error>> {
         page.write(0, &count.to_le_bytes(), 0)?;
     }
     pager.flush_all(0)?;
-    pager.io().0.sync_data()?;
+    pager.io().sync()?;
     println!("the last page counts {count}");
     Ok(())
 }

@@ -20,7 +20,10 @@ pub struct Config {
     /// [`Error::TrailFull`](crate::Error::TrailFull).
     pub room: usize,
     /// For so many ticks after its newest reference a page stays, and references to it count as
-    /// one: 0 to 2^62.
+    /// one: 0 to 2^62. Where (`correlated` + 1) times the fixes between two ticks, plus the other
+    /// pages that are pinned or in flight, is more than `frames`, all pages may be too young to
+    /// leave ([`Error::NoVictim`](crate::Error::NoVictim)). A [`Pager`](crate::Pager) ticks at each
+    /// fix.
     pub correlated: u64,
     /// References are kept for so many ticks after their page has left its frame, until the next
     /// [`purge`](crate::Pool::purge): 0 to 2^62.
@@ -32,14 +35,19 @@ pub struct Config {
 }
 
 impl Config {
-    /// One client, K 2, a correlated period of 0, a retained period and room without end.
+    /// One client, K 2, a correlated period of an eighth of the frames, a retained period and room
+    /// without end.
+    ///
+    /// With K 2 and no correlated period, a page that was met once leaves first, often before its
+    /// log record is durable. An eighth of the frames is for a tick at each fix. An engine that
+    /// ticks more seldom sets a shorter period.
     pub const fn new(pages: u64, page_size: usize, frames: usize) -> Config {
         Config {
             pages,
             page_size,
             frames,
             room: 1 << 61,
-            correlated: 0,
+            correlated: frames as u64 / 8,
             retained: 1 << 62,
             k: 2,
             clients: 1,

@@ -5,8 +5,9 @@
 //! out before its log record is durable. `docs/C.md` of the repository says what is proved of the
 //! library, and what a caller has to keep to. This crate keeps to that.
 //!
-//! A [`Pager`] is a pool with a device and a log, which are the engine's: three functions of
-//! [`PageIo`].
+//! A [`SharedPager`] is for many threads at once, with latches on its pages. A [`Pager`] is for one
+//! thread at a time. Both have a device and a log, which are the engine's: four functions of
+//! [`PageIo`]. With a pager:
 //!
 //! ```
 //! use hojzmated::{Config, PageIo, Pager, ReadFault};
@@ -32,6 +33,10 @@
 //!
 //!     fn make_log_durable(&self, _lsn: u64) -> io::Result<()> {
 //!         self.log.sync_data()
+//!     }
+//!
+//!     fn sync(&self) -> io::Result<()> {
+//!         self.pages.sync_data()
 //!     }
 //! }
 //!
@@ -101,6 +106,7 @@ mod pager;
 mod pool;
 #[cfg(doctest)]
 mod refused;
+mod shared;
 mod sys;
 
 pub use config::Config;
@@ -109,6 +115,7 @@ pub use lent::PageBytes;
 pub use page::{PageGuard, Pass, ReadTicket, WriteTicket};
 pub use pager::{PageIo, Pager, PagerError, ReadFault};
 pub use pool::{Fixed, Flushed, Pool, Saved, Totals};
+pub use shared::{Cleaner, PageMut, PagePin, PageRef, SharedConfig, SharedPager, Stats};
 
 /// The version of the library below, as major * 10,000 + minor * 100 + patch.
 pub fn version() -> u32 {

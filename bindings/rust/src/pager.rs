@@ -4,10 +4,12 @@ use crate::{
 use std::cell::Cell;
 use std::{error, fmt, io};
 
-/// An engine's device and log, as a [`Pager`] uses them.
+/// An engine's device and log, as a [`Pager`] or a [`SharedPager`](crate::SharedPager) uses them.
 ///
-/// The functions take `&self`: what they have to change goes into a `Cell` or a `RefCell`. A file
-/// can be read and written through `&File`.
+/// The functions take `&self`: what they have to change goes into a `Cell` or a `RefCell`, or with
+/// several threads under a lock. A file can be read and written through `&File`. A `SharedPager`
+/// calls them from several threads at once. None of its locks is held meanwhile, but a thread that
+/// calls may have latches of pages.
 pub trait PageIo {
     /// Fills the image, which has the page size, with the page.
     ///
@@ -34,6 +36,13 @@ pub trait PageIo {
     /// # Errors
     /// Where it fails nothing is written out.
     fn make_log_durable(&self, lsn: u64) -> io::Result<()>;
+
+    /// Has the device keep what was written to it, as by
+    /// [`File::sync_data`](std::fs::File::sync_data). A checkpoint calls it, before the log is cut.
+    ///
+    /// # Errors
+    /// Where it fails, what was written since the last good call may be lost.
+    fn sync(&self) -> io::Result<()>;
 }
 
 /// Why a page could not be read.
@@ -78,16 +87,21 @@ pub enum PagerError {
         /// What the log said.
         source: io::Error,
     },
+    /// The device could not keep what was written to it.
+    Sync {
+        /// What the device said.
+        source: io::Error,
+    },
 }
 
 impl PagerError {
-    /// The refusal that says the same, with its number: 17 for a read, 18 for a write-out, 12 for
-    /// the log.
+    /// The refusal that says the same, with its number: 17 for a read, 18 for a write-out or a sync,
+    /// 12 for the log.
     pub fn refusal(&self) -> Error {
         match *self {
             PagerError::Refused(error) => error,
             PagerError::Read { .. } => Error::ReadFailed,
-            PagerError::Write { .. } => Error::WriteFailed,
+            PagerError::Write { .. } | PagerError::Sync { .. } => Error::WriteFailed,
             PagerError::Log { lsn, .. } => Error::NeedLog { lsn },
         }
     }
@@ -115,6 +129,7 @@ impl fmt::Display for PagerError {
             PagerError::Log { lsn, .. } => {
                 write!(f, "the log could not be made durable as far as LSN {lsn}")
             }
+            PagerError::Sync { .. } => write!(f, "the device could not keep what was written"),
         }
     }
 }
@@ -125,7 +140,8 @@ impl error::Error for PagerError {
             PagerError::Refused(_) => None,
             PagerError::Read { source, .. }
             | PagerError::Write { source, .. }
-            | PagerError::Log { source, .. } => Some(source),
+            | PagerError::Log { source, .. }
+            | PagerError::Sync { source } => Some(source),
         }
     }
 }

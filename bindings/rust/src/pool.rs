@@ -115,6 +115,22 @@ pub struct Totals {
     pub failed: u64,
 }
 
+impl Totals {
+    /// Counts others too.
+    pub(crate) fn add(&mut self, others: &Totals) {
+        let of_others = [
+            (&mut self.hits, others.hits),
+            (&mut self.faults, others.faults),
+            (&mut self.evictions, others.evictions),
+            (&mut self.writes, others.writes),
+            (&mut self.failed, others.failed),
+        ];
+        for (sum, count) in of_others {
+            *sum = sum.saturating_add(count);
+        }
+    }
+}
+
 impl Pool {
     /// Makes a pool with empty frames, whose clock is at 1.
     ///
@@ -405,15 +421,21 @@ impl Pool {
     // Always: else what it gives goes through memory, which is a third of its cost.
     #[inline(always)]
     pub fn bytes<'a>(&'a self, pass: &'a Pass) -> Result<PageBytes<'a>> {
-        let grant = self.own_pass(pass)?;
-        let mut first = ptr::null();
-        // SAFETY: the handle is free, the pass a grant, and the pointer may be written to.
-        Error::check(unsafe { sys::hz_page(self.core(), &grant, &mut first) })?;
-        let bytes = ptr::slice_from_raw_parts(first, self.config.page_size);
+        let bytes = self.place(pass)?;
         // SAFETY: the page has this size. Its bytes are there while the pass is out and the pool is
         // there: both are borrowed, and no other pass goes back for this one. Nothing but
         // `hz_write` to this page changes them, which `write` does not call while it is lent.
         unsafe { self.lent.lend(pass.page(), bytes) }
+    }
+
+    /// Where the bytes of a pass's page are, as long as the pass is out.
+    #[inline(always)]
+    pub(crate) fn place(&self, pass: &Pass) -> Result<*const [u8]> {
+        let grant = self.own_pass(pass)?;
+        let mut first = ptr::null();
+        // SAFETY: the handle is free, the pass a grant, and the pointer may be written to.
+        Error::check(unsafe { sys::hz_page(self.core(), &grant, &mut first) })?;
+        Ok(ptr::slice_from_raw_parts(first, self.config.page_size))
     }
 
     /// Copies a part of a pass's page from the offset on, as much as `into` has room for.

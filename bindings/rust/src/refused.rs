@@ -255,3 +255,107 @@
 //! # Ok(())
 //! # }
 //! ```
+//!
+//! # Guards of a shared pager
+//!
+//! ```
+//! # use hojzmated::{PageIo, PagerError, SharedConfig, SharedPager};
+//! # fn work<F: PageIo>(io: F) -> Result<(), PagerError> {
+//! let pager = SharedPager::new(&SharedConfig::new(8, 16, 2), io)?;
+//! let pin = pager.pin(3)?;
+//! let mut page = pin.write();
+//! page.put(0, &[1], 1)?;
+//! assert_eq!(page.bytes()[0], 1);
+//! # Ok(())
+//! # }
+//! ```
+//!
+//! The pin goes while its page is under a latch:
+//!
+//! ```compile_fail,E0505
+//! # use hojzmated::{PageIo, PagerError, SharedConfig, SharedPager};
+//! # fn work<F: PageIo>(io: F) -> Result<(), PagerError> {
+//! # let pager = SharedPager::new(&SharedConfig::new(8, 16, 2), io)?;
+//! let pin = pager.pin(3)?;
+//! let page = pin.read();
+//! drop(pin);
+//! assert_eq!(page[0], 1);
+//! # Ok(())
+//! # }
+//! ```
+//!
+//! The latch goes while somebody looks:
+//!
+//! ```compile_fail,E0505
+//! # use hojzmated::{PageIo, PagerError, SharedConfig, SharedPager};
+//! # fn work<F: PageIo>(io: F) -> Result<(), PagerError> {
+//! # let pager = SharedPager::new(&SharedConfig::new(8, 16, 2), io)?;
+//! let page = pager.read(3)?;
+//! let bytes = &page[..4];
+//! drop(page);
+//! assert_eq!(bytes[0], 1);
+//! # Ok(())
+//! # }
+//! ```
+//!
+//! A write comes while somebody looks:
+//!
+//! ```compile_fail,E0502
+//! # use hojzmated::{PageIo, PagerError, SharedConfig, SharedPager};
+//! # fn work<F: PageIo>(io: F) -> Result<(), PagerError> {
+//! # let pager = SharedPager::new(&SharedConfig::new(8, 16, 2), io)?;
+//! let mut page = pager.write(3)?;
+//! let bytes = page.bytes();
+//! page.put(0, &[1], 1)?;
+//! assert_eq!(bytes[0], 1);
+//! # Ok(())
+//! # }
+//! ```
+//!
+//! The bytes that are put are those of the page itself:
+//!
+//! ```compile_fail,E0502
+//! # use hojzmated::{PageIo, PagerError, SharedConfig, SharedPager};
+//! # fn work<F: PageIo>(io: F) -> Result<(), PagerError> {
+//! # let pager = SharedPager::new(&SharedConfig::new(8, 16, 2), io)?;
+//! let mut page = pager.write(3)?;
+//! page.put(0, &page.bytes()[8..], 1)?;
+//! # Ok(())
+//! # }
+//! ```
+//!
+//! The pager goes while a page is pinned:
+//!
+//! ```compile_fail,E0505
+//! # use hojzmated::{PageIo, PagerError, SharedConfig, SharedPager};
+//! # fn work<F: PageIo>(io: F) -> Result<(), PagerError> {
+//! # let pager = SharedPager::new(&SharedConfig::new(8, 16, 2), io)?;
+//! let page = pager.read(3)?;
+//! drop(pager);
+//! assert_eq!(page[0], 1);
+//! # Ok(())
+//! # }
+//! ```
+//!
+//! A guard goes to another thread, where it would let go the latch:
+//!
+//! ```compile_fail,E0277
+//! fn is_send<T: Send>() {}
+//! is_send::<hojzmated::PageRef<'static>>();
+//! ```
+//!
+//! ```compile_fail,E0277
+//! fn is_send<T: Send>() {}
+//! is_send::<hojzmated::PageMut<'static>>();
+//! ```
+//!
+//! A pin may, and all threads may look by one guard:
+//!
+//! ```
+//! fn is_send<T: Send>() {}
+//! fn is_sync<T: Sync>() {}
+//! is_send::<hojzmated::PagePin<'static>>();
+//! is_sync::<hojzmated::PageRef<'static>>();
+//! is_send::<hojzmated::SharedPager<()>>();
+//! is_sync::<hojzmated::SharedPager<()>>();
+//! ```

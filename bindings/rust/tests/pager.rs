@@ -84,6 +84,10 @@ impl PageIo for Memory {
     fn make_log_durable(&self, lsn: u64) -> io::Result<()> {
         self.note(Asked::Log(lsn)).map_err(device_fault)
     }
+
+    fn sync(&self) -> io::Result<()> {
+        Ok(())
+    }
 }
 
 fn pager(frames: usize) -> Pager<Memory> {
@@ -292,6 +296,10 @@ impl PageIo for Stamping {
     fn make_log_durable(&self, lsn: u64) -> io::Result<()> {
         self.0.make_log_durable(lsn)
     }
+
+    fn sync(&self) -> io::Result<()> {
+        self.0.sync()
+    }
 }
 
 // The stamp goes to the device. The page in the pool has none until it was read again.
@@ -333,6 +341,10 @@ impl PageIo for Nested {
     }
 
     fn make_log_durable(&self, _lsn: u64) -> io::Result<()> {
+        Ok(())
+    }
+
+    fn sync(&self) -> io::Result<()> {
         Ok(())
     }
 }

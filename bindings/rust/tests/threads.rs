@@ -223,6 +223,10 @@ impl PageIo for Memory {
     fn make_log_durable(&self, _lsn: u64) -> io::Result<()> {
         Ok(())
     }
+
+    fn sync(&self) -> io::Result<()> {
+        Ok(())
+    }
 }
 
 #[test]

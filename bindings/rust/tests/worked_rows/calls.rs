@@ -57,6 +57,7 @@ pub enum Gives {
 pub fn pool(k: u8, retained: u64, frames: usize, room: usize) -> Pool {
     let config = Config {
         k,
+        correlated: 0,
         retained,
         room,
         clients: 2,

@@ -2,70 +2,13 @@
 //! The library asks this program for its memory, which refuses one request, and counts blocks.
 #![cfg(all(target_os = "linux", target_env = "gnu"))]
 
+mod requests;
+mod shared;
+
 use hojzmated::{Config, Error, Fixed, PageIo, Pager, PagerError, Pool, ReadFault, Refused};
+use requests::{BLOCKS, refusing};
 use std::cell::{Cell, RefCell};
-use std::ffi::c_void;
-use std::{io, ptr};
-
-unsafe extern "C" {
-    fn __libc_malloc(size: usize) -> *mut c_void;
-    fn __libc_realloc(old: *mut c_void, size: usize) -> *mut c_void;
-    fn __libc_free(old: *mut c_void);
-}
-
-thread_local! {
-    /// Which request of this thread is refused, of those to come: from 1. None where it is 0.
-    static REFUSED: Cell<usize> = const { Cell::new(0) };
-    /// How many blocks this thread has got and not given back, of those that are counted.
-    static BLOCKS: Cell<isize> = const { Cell::new(0) };
-}
-
-fn is_refused() -> bool {
-    let before = REFUSED.try_with(|left| left.replace(left.get().saturating_sub(1)));
-    before == Ok(1)
-}
-
-fn count(blocks: isize) {
-    let _ = BLOCKS.try_with(|it| it.set(it.get() + blocks));
-}
-
-/// The C library's `malloc`, but for the request that is refused.
-#[unsafe(no_mangle)]
-unsafe extern "C" fn malloc(size: usize) -> *mut c_void {
-    if is_refused() {
-        return ptr::null_mut();
-    }
-    count(1);
-    // SAFETY: this is `malloc` of the GNU C library by its other name.
-    unsafe { __libc_malloc(size) }
-}
-
-/// The C library's `realloc`, but for the request that is refused.
-#[unsafe(no_mangle)]
-unsafe extern "C" fn realloc(old: *mut c_void, size: usize) -> *mut c_void {
-    if is_refused() {
-        return ptr::null_mut();
-    }
-    count(old.is_null().into());
-    // SAFETY: this is `realloc` of the GNU C library by its other name, and the caller keeps to it.
-    unsafe { __libc_realloc(old, size) }
-}
-
-/// The C library's `free`.
-#[unsafe(no_mangle)]
-unsafe extern "C" fn free(old: *mut c_void) {
-    count(if old.is_null() { 0 } else { -1 });
-    // SAFETY: this is `free` of the GNU C library by its other name, and the caller keeps to it.
-    unsafe { __libc_free(old) }
-}
-
-/// Refuses the request of this number while something is done. Tells whether it came.
-fn refusing<T>(number: usize, work: impl FnOnce() -> T) -> (T, bool) {
-    REFUSED.set(number);
-    let done = work();
-    let left = REFUSED.replace(0);
-    (done, left == 0)
-}
+use std::io;
 
 /// Four pages of 16 bytes.
 struct Memory(RefCell<[[u8; 16]; 4]>);
@@ -82,6 +25,10 @@ impl PageIo for Memory {
     }
 
     fn make_log_durable(&self, _lsn: u64) -> io::Result<()> {
+        Ok(())
+    }
+
+    fn sync(&self) -> io::Result<()> {
         Ok(())
     }
 }

@@ -1,0 +1,182 @@
+//! Pages that many threads use at once, through a `SharedPager`: what `peers/c/bench.c` does over
+//! Berkeley DB, with the same pages in the same order in each thread.
+//!
+//!     bench_shared USE SIZE SECONDS THREADS [PARTS]
+//!
+//! There are 4,096 frames for as many pages of SIZE bytes, each with its number in each word. They
+//! are taken at random. USE is what is done with each: `nothing`, so it is pinned and let go; `look`
+//! at 16 bytes; the sum of the `page`; an `update` of 8 bytes. With `tree` it is a look-up in a
+//! B+tree of three levels, in 4,081 pages of 4,096 bytes: each is let go before the next is asked
+//! for. With `evict` it is `look` over four times as many pages as frames. The pages are in the file
+//! `bench.pages` of the folder, which is made anew, and each is used once before it counts.
+//!
+//! The settings are those of `SharedConfig::new`, but for PARTS. Printed: operations a second of
+//! wall clock, over all threads, and the hit rate.
+use hojzmated::{PageIo, ReadFault, SharedConfig, SharedPager};
+use pages::{Numbers, fill, sum_of, tree, two_words};
+use std::error::Error;
+use std::fs::File;
+use std::io;
+use std::os::unix::fs::FileExt;
+use std::sync::Barrier;
+use std::sync::atomic::{AtomicBool, Ordering};
+use std::thread::{scope, sleep};
+use std::time::{Duration, Instant};
+
+#[path = "bench/pages.rs"]
+mod pages;
+
+type Outcome<T> = Result<T, Box<dyn Error + Send + Sync>>;
+
+const FRAMES: usize = 4096;
+
+/// A file of pages, and a log that is always durable.
+struct Pages(File);
+
+impl Pages {
+    fn new(count: u64, size: usize, fill: fn(u64, &mut [u8])) -> io::Result<Pages> {
+        let mut options = File::options();
+        let options = options.read(true).write(true).create(true).truncate(true);
+        let pages = Pages(options.open("bench.pages")?);
+        for page in 0..count {
+            let mut image = vec![0; size];
+            fill(page, &mut image);
+            pages.0.write_all_at(&image, page * size as u64)?;
+        }
+        Ok(pages)
+    }
+}
+
+impl PageIo for Pages {
+    fn read_page(&self, page: u64, image: &mut [u8]) -> Result<(), ReadFault> {
+        Ok(self.0.read_exact_at(image, page * image.len() as u64)?)
+    }
+
+    fn write_page(&self, page: u64, image: &mut [u8], _lsn: u64) -> io::Result<()> {
+        self.0.write_all_at(image, page * image.len() as u64)
+    }
+
+    fn make_log_durable(&self, _lsn: u64) -> io::Result<()> {
+        Ok(())
+    }
+
+    fn sync(&self) -> io::Result<()> {
+        self.0.sync_data()
+    }
+}
+
+struct Bench {
+    pager: SharedPager<Pages>,
+    threads: u64,
+    length: Duration,
+}
+
+impl Bench {
+    fn look(&self, page: u64) -> Outcome<u64> {
+        Ok(two_words(&self.pager.read(page)?))
+    }
+
+    fn update(&self, page: u64) -> Outcome<u64> {
+        self.pager.write(page)?.put(64, &page.to_le_bytes(), 1)?;
+        Ok(0)
+    }
+
+    fn look_up(&self, key: u64) -> Outcome<u64> {
+        let mut found = 0;
+        for level in 0..tree::LEVELS {
+            found = tree::search(&self.pager.read(found)?, level, key);
+        }
+        if found != key + 7 {
+            return Err("a key is lost".into());
+        }
+        Ok(found)
+    }
+
+    /// Uses each page once, and looks whether it finds there what belongs there.
+    fn use_all(&self, is_tree: bool) -> Outcome<()> {
+        let config = self.pager.config();
+        for page in 0..config.pages {
+            let sum = sum_of(&self.pager.read(page)?);
+            if !is_tree && sum != page * (config.page_size as u64 / 8) {
+                return Err("a wrong page".into());
+            }
+        }
+        Ok(())
+    }
+
+    /// Has all threads do something again and again, with numbers of which each is below the end.
+    fn measure(&self, end: u64, work: impl Fn(u64) -> Outcome<u64> + Sync) -> Outcome<()> {
+        let (all_are_here, is_over) = (
+            Barrier::new(self.threads as usize + 1),
+            AtomicBool::new(false),
+        );
+        let before = self.pager.stats().totals;
+        let client = |thread| -> Outcome<(u64, u64)> {
+            let (mut numbers, mut done, mut sum) = (Numbers::of_thread(thread), 0, 0u64);
+            all_are_here.wait();
+            while !is_over.load(Ordering::Relaxed) {
+                for _ in 0..64 {
+                    sum = sum.wrapping_add(work(numbers.next(end))?);
+                }
+                done += 64;
+            }
+            Ok((done, sum))
+        };
+        let rate = scope(|scope| -> Outcome<f64> {
+            let client = &client;
+            let starts = (0..self.threads).map(|thread| scope.spawn(move || client(thread)));
+            let threads: Vec<_> = starts.collect();
+            all_are_here.wait();
+            let began = Instant::now();
+            sleep(self.length);
+            is_over.store(true, Ordering::Relaxed);
+            let mut done = 0;
+            for thread in threads {
+                done += thread.join().map_err(|_| "a thread panicked")??.0;
+            }
+            Ok(done as f64 / began.elapsed().as_secs_f64())
+        })?;
+        let totals = self.pager.stats().totals;
+        let (hits, faults) = (totals.hits - before.hits, totals.faults - before.faults);
+        println!("{rate:.0} {:.3}", hits as f64 / (hits + faults) as f64);
+        Ok(())
+    }
+}
+
+fn main() -> Outcome<()> {
+    let words: Vec<String> = std::env::args().skip(1).collect();
+    let (4 | 5, [what, size, seconds, threads, ..]) = (words.len(), words.as_slice()) else {
+        return Err("bench_shared USE SIZE SECONDS THREADS [PARTS]".into());
+    };
+    let (size, is_tree) = (size.parse()?, what == "tree");
+    if is_tree && size != tree::SIZE {
+        return Err("the tree has pages of 4096 bytes".into());
+    }
+    let pages = match what.as_str() {
+        "tree" => tree::PAGES,
+        "evict" => 4 * FRAMES as u64,
+        _ => FRAMES as u64,
+    };
+    let mut config = SharedConfig::new(pages, size, FRAMES);
+    if let Some(parts) = words.get(4) {
+        config.parts = parts.parse()?;
+    }
+    let file = Pages::new(pages, size, if is_tree { tree::node } else { fill })?;
+    let bench = Bench {
+        pager: SharedPager::new(&config, file)?,
+        threads: threads.parse()?,
+        length: Duration::try_from_secs_f64(seconds.parse()?)?,
+    };
+    bench.use_all(is_tree)?;
+    match what.as_str() {
+        "nothing" => bench.measure(pages, |page| {
+            drop(bench.pager.pin(page)?);
+            Ok(0)
+        }),
+        "look" | "evict" => bench.measure(pages, |page| bench.look(page)),
+        "page" => bench.measure(pages, |page| Ok(sum_of(&bench.pager.read(page)?))),
+        "update" => bench.measure(pages, |page| bench.update(page)),
+        "tree" => bench.measure(tree::KEYS, |key| bench.look_up(2 * key)),
+        _ => Err("USE is nothing, look, page, update, tree or evict".into()),
+    }
+}

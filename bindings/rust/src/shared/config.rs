@@ -1,0 +1,109 @@
+use crate::{Config, Error, Result};
+use std::thread;
+use std::time::Duration;
+
+/// What a [`SharedPager`](crate::SharedPager) is made with.
+///
+/// [`SharedConfig::new`] fills in what a pager over a file needs, and each field may be set
+/// otherwise:
+///
+/// ```
+/// use hojzmated::SharedConfig;
+/// use std::time::Duration;
+///
+/// let config = SharedConfig {
+///     parts: 4,
+///     pin_wait: Duration::from_secs(1),
+///     ..SharedConfig::new(10_000, 4096, 1_000)
+/// };
+/// assert_eq!((config.pages, config.page_size, config.frames), (10_000, 4096, 1_000));
+/// ```
+#[derive(Clone, Debug, PartialEq, Eq)]
+pub struct SharedConfig {
+    /// How many pages the file has, whose numbers begin at 0: 1 to 1,048,576 for each part, so
+    /// 67,108,864 at most.
+    pub pages: u64,
+    /// 16 to 65,536 bytes, a multiple of 16.
+    pub page_size: usize,
+    /// How many pages are in memory at most: 1 to 65,536 for each part, so 4,194,304 at most.
+    pub frames: usize,
+    /// How many pools stand side by side, each with a lock of its own: 1 to 64, and no more than
+    /// pages or frames. Page p is in part p mod `parts`.
+    ///
+    /// More parts let more threads work at once. Fewer parts choose victims better: each part has
+    /// its share of the frames, and the page that leaves is the one of LRU-K among the pages of its
+    /// part.
+    pub parts: usize,
+    /// For so many fixes of the pager after its newest reference a page stays, and references to it
+    /// count as one: 0 to 2^62. Each part counts its own fixes, up to its share of these.
+    pub correlated: u64,
+    /// References are kept for so many fixes after their page has left its frame, until the next
+    /// [`purge`](crate::SharedPager::purge): 0 to 2^62. Each part counts as with `correlated`.
+    pub retained: u64,
+    /// The K of LRU-K: 1 to 16. 1 is LRU.
+    pub k: u8,
+    /// For how long a call waits for another thread to unpin a page, where all pages that could make
+    /// way are pinned. After that it is refused with [`Error::NoVictim`].
+    pub pin_wait: Duration,
+}
+
+/// The limits of one part.
+const MOST_PAGES: u64 = 1 << 20;
+const MOST_FRAMES: usize = 1 << 16;
+const MOST_PARTS: usize = 64;
+/// With fewer frames in a part, its victims are too often not those of the whole.
+const LEAST_FRAMES: usize = 64;
+/// With so many parts for each processor, two threads seldom want one part at a time.
+const PARTS_OF_PROCESSOR: usize = 16;
+
+/// The greatest power of two that is not above this number, or 1.
+fn power_below(number: usize) -> usize {
+    1 << number.max(1).ilog2()
+}
+
+impl SharedConfig {
+    /// K 2, a correlated period of an eighth of the frames, a retained period without end, and ten
+    /// seconds of waiting for a pin. The parts are 16 for each processor, but no more than 64 and one
+    /// for each 64 frames; and as many as the pages and frames want at least.
+    pub fn new(pages: u64, page_size: usize, frames: usize) -> SharedConfig {
+        let processors = thread::available_parallelism().map_or(1, usize::from);
+        let useful = (processors * PARTS_OF_PROCESSOR).min(frames / LEAST_FRAMES);
+        let wanted = (pages.div_ceil(MOST_PAGES) as usize).max(frames.div_ceil(MOST_FRAMES));
+        let possible = MOST_PARTS.min(frames).min(pages as usize);
+        // A power of two needs no division to find a page's part.
+        let parts = power_below(useful).max(wanted.min(MOST_PARTS).next_power_of_two());
+        SharedConfig {
+            pages,
+            page_size,
+            frames,
+            parts: parts.min(power_below(possible)),
+            correlated: frames as u64 / 8,
+            retained: 1 << 62,
+            k: 2,
+            pin_wait: Duration::from_secs(10),
+        }
+    }
+
+    /// What each part is made with. The first parts have a page and a frame more, where the numbers
+    /// do not divide.
+    pub(super) fn of_part(&self, part: usize) -> Result<Config> {
+        let parts = self.parts;
+        let is_good = (1..=MOST_PARTS).contains(&parts)
+            && parts <= self.frames
+            && parts as u64 <= self.pages.max(1);
+        if !is_good {
+            return Err(Error::BadSettings);
+        }
+        let of = parts as u64;
+        Ok(Config {
+            pages: self.pages / of + u64::from((part as u64) < self.pages % of),
+            page_size: self.page_size,
+            frames: self.frames / parts + usize::from(part < self.frames % parts),
+            room: 1 << 61,
+            correlated: self.correlated.div_ceil(of),
+            retained: self.retained.div_ceil(of),
+            k: self.k,
+            clients: 1,
+        })
+    }
+}

@@ -1,0 +1,259 @@
+use super::part::Part;
+use super::seats::Seat;
+use crate::{Pass, Result};
+use std::fmt;
+use std::ops::Deref;
+use std::sync::{RwLockReadGuard, RwLockWriteGuard};
+
+/// A page that is pinned, with no latch: it stays in its frame until this is dropped.
+///
+/// It may go to another thread. To look at the page or to change it, take its latch by
+/// [`read`](PagePin::read) or [`write`](PagePin::write), as often as is wanted.
+#[must_use = "the page is unpinned when its pin is dropped"]
+pub struct PagePin<'a> {
+    part: &'a Part,
+    pass: Pass,
+    seat: usize,
+    bytes: *const [u8],
+}
+
+// SAFETY: the pointer leads to the bytes of a page, which only a guard with the page's latch looks
+// at, and which change under the part's lock alone. All else is `Send` and `Sync`.
+unsafe impl Send for PagePin<'_> {}
+// SAFETY: as above.
+unsafe impl Sync for PagePin<'_> {}
+
+/// The bytes of a page under a shared latch: a `[u8]` of the page size, in place.
+///
+/// While it is there nobody writes to the page, and the page stays in its frame. Others may look at
+/// it too, and it may go out to the device. When it is dropped the latch is free again.
+#[must_use = "the latch is free again when this is dropped"]
+pub struct PageRef<'a> {
+    // In this order: the latch is let go before the pin.
+    _latch: RwLockReadGuard<'a, ()>,
+    pin: Held<'a>,
+}
+
+/// A page under an exclusive latch: nobody else looks at it or writes to it meanwhile, nor does it
+/// go out to the device.
+///
+/// When it is dropped the latch is free again: also where the engine panics, which leaves what was
+/// put so far.
+#[must_use = "the latch is free again when this is dropped"]
+pub struct PageMut<'a> {
+    // In this order: the latch is let go before the pin, and then the end of the writer is told.
+    _latch: RwLockWriteGuard<'a, ()>,
+    pin: Held<'a>,
+    _end: Option<WriterEnd<'a>>,
+}
+
+/// A guard's own pin, or that of which it was made.
+enum Held<'a> {
+    Own(PagePin<'a>),
+    Lent(&'a PagePin<'a>),
+}
+
+/// Tells those that wait to write the page out. A pin that goes back does so itself.
+struct WriterEnd<'a>(&'a Part);
+
+impl Drop for WriterEnd<'_> {
+    fn drop(&mut self) {
+        self.0.end_writer();
+    }
+}
+
+impl<'a> PagePin<'a> {
+    /// The pin of a pass that is out.
+    ///
+    /// # Safety
+    /// The bytes are those of the page of this pass, which stands at this seat.
+    #[inline]
+    pub(super) unsafe fn new(
+        part: &'a Part,
+        pass: Pass,
+        seat: usize,
+        bytes: *const [u8],
+    ) -> PagePin<'a> {
+        PagePin {
+            part,
+            pass,
+            seat,
+            bytes,
+        }
+    }
+
+    /// The number of the page.
+    pub fn page(&self) -> u64 {
+        self.part.in_file(self.pass.page())
+    }
+
+    /// Waits for the page's shared latch.
+    ///
+    /// A thread that has the page's exclusive latch waits for ever. So may one that has its shared
+    /// latch, where another waits for the exclusive one.
+    #[inline]
+    pub fn read(&self) -> PageRef<'_> {
+        PageRef {
+            _latch: self.seat().read(),
+            pin: Held::Lent(self),
+        }
+    }
+
+    /// The page's shared latch, if it can be had without waiting.
+    #[inline]
+    pub fn try_read(&self) -> Option<PageRef<'_>> {
+        Some(PageRef {
+            _latch: self.seat().try_read()?,
+            pin: Held::Lent(self),
+        })
+    }
+
+    /// Waits for the page's exclusive latch.
+    ///
+    /// A thread that has a latch of the page waits for ever.
+    #[inline]
+    pub fn write(&self) -> PageMut<'_> {
+        PageMut {
+            _latch: self.seat().write(),
+            pin: Held::Lent(self),
+            _end: Some(WriterEnd(self.part)),
+        }
+    }
+
+    /// The page's exclusive latch, if it can be had without waiting.
+    #[inline]
+    pub fn try_write(&self) -> Option<PageMut<'_>> {
+        Some(PageMut {
+            _latch: self.seat().try_write()?,
+            pin: Held::Lent(self),
+            _end: Some(WriterEnd(self.part)),
+        })
+    }
+
+    #[inline]
+    pub(super) fn into_read(self) -> PageRef<'a> {
+        PageRef {
+            _latch: self.seat().read(),
+            pin: Held::Own(self),
+        }
+    }
+
+    #[inline]
+    pub(super) fn try_into_read(self) -> Option<PageRef<'a>> {
+        Some(PageRef {
+            _latch: self.seat().try_read()?,
+            pin: Held::Own(self),
+        })
+    }
+
+    #[inline]
+    pub(super) fn into_write(self) -> PageMut<'a> {
+        PageMut {
+            _latch: self.seat().write(),
+            pin: Held::Own(self),
+            _end: None,
+        }
+    }
+
+    #[inline]
+    pub(super) fn try_into_write(self) -> Option<PageMut<'a>> {
+        Some(PageMut {
+            _latch: self.seat().try_write()?,
+            pin: Held::Own(self),
+            _end: None,
+        })
+    }
+
+    #[inline]
+    fn seat(&self) -> &'a Seat {
+        &self.part.seats[self.seat]
+    }
+}
+
+impl Drop for PagePin<'_> {
+    #[inline]
+    fn drop(&mut self) {
+        self.part.unpin(&self.pass, self.seat);
+    }
+}
+
+impl<'a> Deref for Held<'a> {
+    type Target = PagePin<'a>;
+
+    #[inline]
+    fn deref(&self) -> &PagePin<'a> {
+        match self {
+            Held::Own(pin) => pin,
+            Held::Lent(pin) => pin,
+        }
+    }
+}
+
+impl PageRef<'_> {
+    /// The number of the page.
+    pub fn page(&self) -> u64 {
+        self.pin.page()
+    }
+}
+
+impl Deref for PageRef<'_> {
+    type Target = [u8];
+
+    #[inline]
+    fn deref(&self) -> &[u8] {
+        // SAFETY: the bytes are there while the pin is, and only a `PageMut` of the page changes
+        // them, which the latch keeps away.
+        unsafe { &*self.pin.bytes }
+    }
+}
+
+impl AsRef<[u8]> for PageRef<'_> {
+    #[inline]
+    fn as_ref(&self) -> &[u8] {
+        self
+    }
+}
+
+impl PageMut<'_> {
+    /// The number of the page.
+    pub fn page(&self) -> u64 {
+        self.pin.page()
+    }
+
+    /// The bytes of the page, in place, with all that was put so far.
+    #[inline]
+    pub fn bytes(&self) -> &[u8] {
+        // SAFETY: the bytes are there while the pin is, and only a `PageMut` of the page changes
+        // them. That is this one, which `put` borrows as a whole.
+        unsafe { &*self.pin.bytes }
+    }
+
+    /// Puts bytes into the page from the offset on, under the log record with this LSN. The page
+    /// does not go out before the log is durable so far. LSN 0 is for a change that has no record.
+    ///
+    /// The bytes may be those of another page. It takes no memory.
+    ///
+    /// # Errors
+    /// [`OutOfPage`](crate::Error::OutOfPage) where the bytes are not within the page, which stays
+    /// as it was.
+    #[inline]
+    pub fn put(&mut self, offset: usize, bytes: &[u8], lsn: u64) -> Result<()> {
+        let pin = &*self.pin;
+        let mut state = pin.part.lock();
+        state.write(&pin.pass, pin.seat, offset, bytes, lsn)
+    }
+}
+
+macro_rules! debug_of {
+    ($($guard:ident)*) => {$(
+        impl fmt::Debug for $guard<'_> {
+            fn fmt(&self, f: &mut fmt::Formatter<'_>) -> fmt::Result {
+                f.debug_struct(stringify!($guard))
+                    .field("page", &self.page())
+                    .finish_non_exhaustive()
+            }
+        }
+    )*};
+}
+
+debug_of!(PagePin PageRef PageMut);

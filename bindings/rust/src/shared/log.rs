@@ -1,0 +1,73 @@
+use crate::{PageIo, PagerError};
+use std::sync::atomic::{AtomicU64, Ordering};
+use std::sync::{Condvar, Mutex, MutexGuard, PoisonError};
+
+/// How far the engine's log is durable, and who makes it so: one thread at a time, for all that
+/// wait.
+#[derive(Default)]
+pub(super) struct Log {
+    durable: AtomicU64,
+    turn: Mutex<Turn>,
+    ended: Condvar,
+}
+
+#[derive(Default)]
+struct Turn {
+    is_taken: bool,
+    /// The greatest LSN that somebody waited for so far.
+    wanted: u64,
+}
+
+impl Log {
+    /// How far the log is durable.
+    pub(super) fn durable(&self) -> u64 {
+        self.durable.load(Ordering::Acquire)
+    }
+
+    /// Notes that the log is durable as far as this LSN.
+    pub(super) fn mark(&self, lsn: u64) {
+        self.durable.fetch_max(lsn, Ordering::AcqRel);
+    }
+
+    /// Sees to it that the log is durable as far as this LSN. Whoever comes while a thread is at it
+    /// waits, and has the next turn if that was not far enough.
+    pub(super) fn reach<F: PageIo>(&self, io: &F, lsn: u64) -> Result<(), PagerError> {
+        let mut turn = self.turn();
+        while self.durable() < lsn {
+            turn.wanted = turn.wanted.max(lsn);
+            if turn.is_taken {
+                turn = self
+                    .ended
+                    .wait(turn)
+                    .unwrap_or_else(PoisonError::into_inner);
+                continue;
+            }
+            turn.is_taken = true;
+            let lsn = turn.wanted;
+            drop(turn);
+            let taken = Taken(self);
+            let made = io.make_log_durable(lsn);
+            if made.is_ok() {
+                self.mark(lsn);
+            }
+            drop(taken);
+            made.map_err(|source| PagerError::Log { lsn, source })?;
+            turn = self.turn();
+        }
+        Ok(())
+    }
+
+    fn turn(&self) -> MutexGuard<'_, Turn> {
+        self.turn.lock().unwrap_or_else(PoisonError::into_inner)
+    }
+}
+
+/// A thread's turn, which ends on every way out.
+struct Taken<'log>(&'log Log);
+
+impl Drop for Taken<'_> {
+    fn drop(&mut self) {
+        self.0.turn().is_taken = false;
+        self.0.ended.notify_all();
+    }
+}

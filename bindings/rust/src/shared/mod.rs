@@ -1,0 +1,14 @@
+//! A pager that many threads use at once: several pools side by side, with latches on their pages.
+mod config;
+mod guards;
+mod log;
+mod pager;
+mod part;
+mod seats;
+mod unsaved;
+mod upkeep;
+
+pub use config::SharedConfig;
+pub use guards::{PageMut, PagePin, PageRef};
+pub use pager::SharedPager;
+pub use upkeep::{Cleaner, Stats};

@@ -1,0 +1,378 @@
+use super::SharedConfig;
+use super::guards::{PageMut, PagePin, PageRef};
+use super::log::Log;
+use super::part::{Fix, Locked, Part, Reading, Writing};
+use super::seats::list_of;
+use crate::{Error, PageIo, PagerError, ReadFault, Result, Saved};
+use std::fmt;
+use std::time::{Duration, Instant};
+
+/// A pool for many threads, with its device and log. `docs/C.md` of the repository has an engine
+/// over it.
+///
+/// ```
+/// use hojzmated::{PageIo, ReadFault, SharedConfig, SharedPager};
+/// use std::{io, thread};
+///
+/// /// A device that has zeros, and keeps nothing.
+/// struct Zeros;
+///
+/// impl PageIo for Zeros {
+///     fn read_page(&self, _page: u64, image: &mut [u8]) -> Result<(), ReadFault> {
+///         image.fill(0);
+///         Ok(())
+///     }
+/// #   fn write_page(&self, _page: u64, _image: &mut [u8], _lsn: u64) -> io::Result<()> {
+/// #       Ok(())
+/// #   }
+/// #   fn make_log_durable(&self, _lsn: u64) -> io::Result<()> {
+/// #       Ok(())
+/// #   }
+/// #   fn sync(&self) -> io::Result<()> {
+/// #       Ok(())
+/// #   }
+///     // .. and three more, as for a `Pager`
+/// }
+///
+/// # fn main() -> Result<(), Box<dyn std::error::Error>> {
+/// // 1,000 pages of 4,096 bytes, of which 64 are in memory.
+/// let pager = SharedPager::new(&SharedConfig::new(1_000, 4096, 64), Zeros)?;
+/// thread::scope(|scope| {
+///     for number in 0..4 {
+///         let pager = &pager;
+///         scope.spawn(move || {
+///             // Nobody else looks at page 7 meanwhile.
+///             let mut page = pager.write(7)?;
+///             let count = page.bytes()[0];
+///             page.put(0, &[count + 1], 1 + number)?;
+///             Ok::<_, hojzmated::PagerError>(())
+///         });
+///     }
+/// });
+/// assert_eq!(pager.read(7)?[0], 4);
+/// // Each page that was written to goes out, its log record first.
+/// pager.checkpoint()?;
+/// assert_eq!(pager.stats().dirty, 0);
+/// # Ok(())
+/// # }
+/// ```
+///
+/// A call names a page. [`read`](SharedPager::read) gives its bytes under a shared *latch*, which is
+/// a lock on one page: several threads may look at it. [`write`](SharedPager::write) gives it under
+/// an exclusive latch. While such a guard is there the page stays in its frame.
+///
+/// The pages are dealt out to *parts*, which are proved pools, each with a lock of its own:
+/// [`SharedConfig::parts`] says what more of them change. What this pager does beside them is tested
+/// and not proved.
+///
+/// # What waits for what
+/// No lock is held while the device works: reads and write-outs of different pages overlap. Who
+/// wants a page that is being read sleeps until that ends. Where a page that has to make way is not
+/// covered by the log, one thread makes the log durable for all. Where all pages that could make way
+/// are pinned, a call waits for [`SharedConfig::pin_wait`].
+///
+/// Who waits for a latch sleeps until it is free. Threads that hold a latch and want another could
+/// wait for each other for ever. So an engine takes latches in one order, such as from the root of a
+/// tree down and from left to right. Against that order it takes them by
+/// [`try_read`](SharedPager::try_read) and [`try_write`](SharedPager::try_write), and lets go what
+/// it has where they give none. A thread that has a latch does not ask for the same page once more,
+/// nor has it written out.
+///
+/// # Where a call fails
+/// Nothing is lost where the device or the log fails or panics: the page that should be read is
+/// away, and the one that should go out is unsaved. Other pages can be used: a page that could not
+/// make way counts as used just then, so the next call looks for another. Where the pager is
+/// dropped, pages that were not written out are lost.
+pub struct SharedPager<F> {
+    pub(super) parts: Box<[Part]>,
+    /// Where the number of parts is a power of two, which one.
+    shift: Option<u32>,
+    pub(super) log: Log,
+    config: SharedConfig,
+    pub(super) io: F,
+}
+
+/// What a call wants of a page that is away, and whether it waits for a pin.
+#[derive(Clone, Copy)]
+struct Asked {
+    is_new: bool,
+    may_wait: bool,
+}
+
+const WAITING: Asked = Asked {
+    is_new: false,
+    may_wait: true,
+};
+const NOT_WAITING: Asked = Asked {
+    is_new: false,
+    may_wait: false,
+};
+const NEW: Asked = Asked {
+    is_new: true,
+    may_wait: true,
+};
+
+impl<F> SharedPager<F> {
+    /// Makes a pager with empty frames.
+    ///
+    /// # Errors
+    /// [`BadSettings`](Error::BadSettings) where the number of parts is out of its limits, or that
+    /// of another setting; [`BadGeometry`](Error::BadGeometry) where that of the pages or the page
+    /// size is; [`OutOfMemory`](Error::OutOfMemory).
+    pub fn new(config: &SharedConfig, io: F) -> Result<SharedPager<F>> {
+        config.of_part(0)?;
+        let mut parts = list_of(config.parts)?;
+        for number in 0..config.parts {
+            parts.push(Part::new(&config.of_part(number)?, number, config.parts)?);
+        }
+        let is_power = config.parts.is_power_of_two();
+        Ok(SharedPager {
+            parts: parts.into_boxed_slice(),
+            shift: is_power.then(|| config.parts.ilog2()),
+            log: Log::default(),
+            config: config.clone(),
+            io,
+        })
+    }
+
+    /// What it was made with.
+    pub fn config(&self) -> &SharedConfig {
+        &self.config
+    }
+
+    /// The device and log.
+    pub fn io(&self) -> &F {
+        &self.io
+    }
+
+    /// Gives the device and log back. Pages that were not written out are lost.
+    pub fn into_io(self) -> F {
+        self.io
+    }
+
+    /// Notes that the log is durable as far as this LSN, as after the engine made it so itself.
+    pub fn mark(&self, lsn: u64) {
+        self.log.mark(lsn);
+    }
+
+    /// The part of a page, and its number there.
+    #[inline]
+    pub(super) fn place(&self, page: u64) -> Result<(&Part, u64)> {
+        if page >= self.config.pages {
+            return Err(Error::OutOfPage);
+        }
+        let parts = self.parts.len() as u64;
+        let (part, own) = match self.shift {
+            Some(shift) => (page & (parts - 1), page >> shift),
+            None => (page % parts, page / parts),
+        };
+        Ok((&self.parts[part as usize], own))
+    }
+}
+
+impl<F: PageIo> SharedPager<F> {
+    /// Gives a page under its shared latch. It is read where it is in no frame. Another page may be
+    /// written out for that.
+    ///
+    /// # Errors
+    /// [`PagerError::Read`], [`PagerError::Write`] and [`PagerError::Log`] where the device or the
+    /// log failed. [`PagerError::Refused`] with [`OutOfPage`](Error::OutOfPage) where the file has
+    /// no such page; [`NoVictim`](Error::NoVictim) where all pages that could make way were pinned
+    /// for too long; [`WrongPage`](Error::WrongPage) where another was found in the page's place;
+    /// [`OutOfMemory`](Error::OutOfMemory).
+    #[inline]
+    pub fn read(&self, page: u64) -> Result<PageRef<'_>, PagerError> {
+        self.fix(page, WAITING).map(PagePin::into_read)
+    }
+
+    /// The same without waiting for a latch or a pin: none where the latch cannot be had at once. It
+    /// waits for the device and the log, also where other threads use them.
+    ///
+    /// # Errors
+    /// Those of [`SharedPager::read`]; [`NoVictim`](Error::NoVictim) comes at once.
+    #[inline]
+    pub fn try_read(&self, page: u64) -> Result<Option<PageRef<'_>>, PagerError> {
+        self.fix(page, NOT_WAITING).map(PagePin::try_into_read)
+    }
+
+    /// Gives a page under its exclusive latch.
+    ///
+    /// # Errors
+    /// Those of [`SharedPager::read`].
+    #[inline]
+    pub fn write(&self, page: u64) -> Result<PageMut<'_>, PagerError> {
+        self.fix(page, WAITING).map(PagePin::into_write)
+    }
+
+    /// The same without waiting for a latch or a pin: none where the latch cannot be had at once.
+    ///
+    /// # Errors
+    /// Those of [`SharedPager::try_read`].
+    #[inline]
+    pub fn try_write(&self, page: u64) -> Result<Option<PageMut<'_>>, PagerError> {
+        self.fix(page, NOT_WAITING).map(PagePin::try_into_write)
+    }
+
+    /// Pins a page, without a latch.
+    ///
+    /// # Errors
+    /// Those of [`SharedPager::read`].
+    #[inline]
+    pub fn pin(&self, page: u64) -> Result<PagePin<'_>, PagerError> {
+        self.fix(page, WAITING)
+    }
+
+    /// Gives a page that was never written under its exclusive latch: its bytes are zeros, and it is
+    /// not read. Where it is in a frame it is as it is there.
+    ///
+    /// Put something there: until then the pager takes the page for saved, and it may leave its
+    /// frame without going out.
+    ///
+    /// # Errors
+    /// Those of [`SharedPager::read`], but for [`PagerError::Read`].
+    pub fn new_page(&self, page: u64) -> Result<PageMut<'_>, PagerError> {
+        self.fix(page, NEW).map(PagePin::into_write)
+    }
+
+    #[inline]
+    fn fix(&self, page: u64, asked: Asked) -> Result<PagePin<'_>, PagerError> {
+        let (part, own) = self.place(page)?;
+        let mut state = part.with_image(part.lock())?;
+        state.pool.tick(0, 1)?;
+        match state.fix(own) {
+            Ok(Fix::Here(pass)) => Ok(part.pinned(state, pass)?),
+            fixed => self.go_on(part, own, state, asked, fixed),
+        }
+    }
+
+    /// Does what a fix wants done, and asks again, until the page is here.
+    #[inline(never)]
+    fn go_on<'a>(
+        &'a self,
+        part: &'a Part,
+        own: u64,
+        mut state: Locked<'a>,
+        asked: Asked,
+        mut fixed: Result<Fix>,
+    ) -> Result<PagePin<'a>, PagerError> {
+        let mut patience = Patience::new(asked.may_wait.then_some(self.config.pin_wait));
+        loop {
+            state = match fixed {
+                Ok(Fix::Here(pass)) => return Ok(part.pinned(state, pass)?),
+                Ok(Fix::Read(ticket)) => {
+                    return self.load(part, own, asked, Reading::new(part, state, ticket));
+                }
+                Ok(Fix::Write(ticket)) => {
+                    let (victim, lsn) = (ticket.page(), ticket.lsn());
+                    let writing = Writing::new(part, state, None, ticket);
+                    let written = self.write_out(part.in_file(victim), lsn, writing);
+                    let mut state = part.lock();
+                    if let Err(error) = written {
+                        state.refer_to(victim);
+                        return Err(error);
+                    }
+                    state
+                }
+                Err(Error::NeedLog { lsn }) => self.reach_log(part, state, lsn)?,
+                Err(Error::Busy) => part.wait_for_work(state),
+                Err(Error::NoVictim) => patience.wait(part, state)?,
+                Err(error) => return Err(error.into()),
+            };
+            state = part.with_image(state)?;
+            fixed = state.fix(own);
+        }
+    }
+
+    fn load<'a>(
+        &self,
+        part: &'a Part,
+        own: u64,
+        asked: Asked,
+        mut reading: Reading<'a>,
+    ) -> Result<PagePin<'a>, PagerError> {
+        let page = part.in_file(own);
+        let read = if asked.is_new {
+            reading.image.fill(0);
+            Ok(())
+        } else {
+            self.io.read_page(page, &mut reading.image)
+        };
+        match read {
+            Ok(()) => Ok(reading.end()?),
+            Err(ReadFault::Device(source)) => Err(PagerError::Read { page, source }),
+            Err(ReadFault::WrongPage) => {
+                reading.fail_with_wrong_page();
+                Err(Error::WrongPage.into())
+            }
+        }
+    }
+
+    pub(super) fn write_out(
+        &self,
+        page: u64,
+        lsn: u64,
+        mut writing: Writing<'_>,
+    ) -> Result<Saved, PagerError> {
+        match self.io.write_page(page, &mut writing.image, lsn) {
+            Ok(()) => Ok(writing.end()?),
+            Err(source) => Err(PagerError::Write { page, source }),
+        }
+    }
+
+    /// Opens the lock, makes the log durable, and marks it in the part.
+    pub(super) fn reach_log<'a>(
+        &self,
+        part: &'a Part,
+        state: Locked<'a>,
+        lsn: u64,
+    ) -> Result<Locked<'a>, PagerError> {
+        drop(state);
+        self.log.reach(&self.io, lsn)?;
+        let state = part.lock();
+        state.pool.mark(0, self.log.durable())?;
+        Ok(state)
+    }
+}
+
+/// How long a call waits for a page that may make way.
+struct Patience {
+    /// None where it does not wait.
+    most: Option<Duration>,
+    began: Option<Instant>,
+    has_aged: bool,
+}
+
+impl Patience {
+    fn new(most: Option<Duration>) -> Patience {
+        Patience {
+            most,
+            began: None,
+            has_aged: false,
+        }
+    }
+
+    /// Moves the clock, so that no page is too young; and where that was not enough, sleeps until a
+    /// page is let go.
+    fn wait<'a>(&mut self, part: &'a Part, state: Locked<'a>) -> Result<Locked<'a>> {
+        self.has_aged = !self.has_aged;
+        if self.has_aged {
+            let period = state.pool.config().correlated;
+            // At the end of its clock the part has no way but to wait.
+            let _ = state.pool.tick(0, period + 1);
+            return Ok(state);
+        }
+        let began = *self.began.get_or_insert_with(Instant::now);
+        match self.most.and_then(|most| most.checked_sub(began.elapsed())) {
+            Some(left) if !left.is_zero() => Ok(part.wait_for_pins(state, left)),
+            _ => Err(Error::NoVictim),
+        }
+    }
+}
+
+impl<F> fmt::Debug for SharedPager<F> {
+    fn fmt(&self, f: &mut fmt::Formatter<'_>) -> fmt::Result {
+        f.debug_struct("SharedPager")
+            .field("config", &self.config)
+            .finish_non_exhaustive()
+    }
+}

@@ -1,0 +1,427 @@
+use super::guards::PagePin;
+use super::seats::{Seat, Seating, filled, list_of};
+use super::unsaved::Unsaved;
+use crate::{
+    Config, Error, Fixed, Flushed, PageGuard, Pass, Pool, ReadFault, ReadTicket, Refused, Result,
+    Saved, WriteTicket,
+};
+use std::hint::spin_loop;
+use std::mem;
+use std::sync::{Condvar, Mutex, MutexGuard, PoisonError, RwLockReadGuard, TryLockError};
+use std::time::Duration;
+
+/// A proved pool under a lock, with the latches of the pages in its frames. It stands on cache lines
+/// of its own. No device works and nobody waits while the lock is held.
+#[repr(align(128))]
+pub(super) struct Part {
+    state: Mutex<State>,
+    pub(super) seats: Box<[Seat]>,
+    /// The number of this part and of all parts: its page p is page p * parts + part of the file.
+    number: u64,
+    parts: u64,
+    /// The device's work on a page has ended.
+    worked: Condvar,
+    /// A page was unpinned, or its writer has gone, or the device's work on it has ended.
+    let_go: Condvar,
+}
+
+pub(super) struct State {
+    pub(super) pool: Pool,
+    pub(super) seating: Seating,
+    pub(super) unsaved: Unsaved,
+    /// Images of the page size that no call uses.
+    images: Vec<Vec<u8>>,
+    /// Room for a page: see [`State::write`].
+    scratch: Vec<u8>,
+    /// How many threads sleep until something happens, by what they wait for.
+    for_work: usize,
+    for_pins: usize,
+    pub(super) pinned: usize,
+    /// How often a thread slept.
+    pub(super) waits: u64,
+    /// From where on in the list of unsaved pages the next ones are looked for that may go out.
+    pub(super) clean_from: usize,
+}
+
+pub(super) type Locked<'a> = MutexGuard<'a, State>;
+
+/// What a fix wants done with the lock open.
+pub(super) enum Fix {
+    Here(Pass),
+    Read(ReadTicket),
+    Write(WriteTicket),
+}
+
+/// Images that a part keeps for later calls. With more threads at the device the others are made
+/// anew.
+const KEPT_IMAGES: usize = 4;
+/// How often a thread looks whether the lock is free before it sleeps. A call holds it for some
+/// hundred nanoseconds.
+const LOOKS: u32 = 12;
+
+impl Part {
+    pub(super) fn new(config: &Config, number: usize, parts: usize) -> Result<Part> {
+        let mut images = list_of(KEPT_IMAGES)?;
+        images.push(filled(config.page_size)?);
+        // The limits are looked at before the lists take memory.
+        let pool = Pool::new(config)?;
+        let state = State {
+            pool,
+            seating: Seating::new(config.pages, config.frames)?,
+            unsaved: Unsaved::new(config.frames)?,
+            images,
+            scratch: filled(config.page_size)?,
+            for_work: 0,
+            for_pins: 0,
+            pinned: 0,
+            waits: 0,
+            clean_from: 0,
+        };
+        Ok(Part {
+            state: Mutex::new(state),
+            seats: filled(config.frames)?.into_boxed_slice(),
+            number: number as u64,
+            parts: parts as u64,
+            worked: Condvar::new(),
+            let_go: Condvar::new(),
+        })
+    }
+
+    /// The number in the file of a page of this part.
+    pub(super) fn in_file(&self, page: u64) -> u64 {
+        page * self.parts + self.number
+    }
+
+    #[inline]
+    pub(super) fn lock(&self) -> Locked<'_> {
+        match self.state.try_lock() {
+            Ok(state) => state,
+            Err(TryLockError::Poisoned(poisoned)) => poisoned.into_inner(),
+            Err(TryLockError::WouldBlock) => self.lock_soon(),
+        }
+    }
+
+    #[cold]
+    fn lock_soon(&self) -> Locked<'_> {
+        for look in 0..LOOKS {
+            for _ in 0..1 << look.min(6) {
+                spin_loop();
+            }
+            match self.state.try_lock() {
+                Ok(state) => return state,
+                Err(TryLockError::Poisoned(poisoned)) => return poisoned.into_inner(),
+                Err(TryLockError::WouldBlock) => {}
+            }
+        }
+        self.state.lock().unwrap_or_else(PoisonError::into_inner)
+    }
+
+    /// Sees to it that an image is kept, as each fix and flush wants one.
+    #[inline]
+    pub(super) fn with_image<'a>(&'a self, state: Locked<'a>) -> Result<Locked<'a>> {
+        if state.images.is_empty() {
+            return self.with_new_image(state);
+        }
+        Ok(state)
+    }
+
+    /// Memory is asked for with the lock open.
+    #[cold]
+    fn with_new_image<'a>(&'a self, mut state: Locked<'a>) -> Result<Locked<'a>> {
+        while state.images.is_empty() {
+            let size = state.pool.config().page_size;
+            drop(state);
+            let image = filled(size)?;
+            state = self.lock();
+            state.keep(image);
+        }
+        Ok(state)
+    }
+
+    /// Sleeps until the device's work on some page has ended.
+    pub(super) fn wait_for_work<'a>(&self, mut state: Locked<'a>) -> Locked<'a> {
+        state.for_work += 1;
+        state.waits += 1;
+        state = self
+            .worked
+            .wait(state)
+            .unwrap_or_else(PoisonError::into_inner);
+        state.for_work -= 1;
+        state
+    }
+
+    /// Sleeps until some page is let go, or for so long.
+    pub(super) fn wait_for_pins<'a>(&self, mut state: Locked<'a>, most: Duration) -> Locked<'a> {
+        state.for_pins += 1;
+        state.waits += 1;
+        (state, _) = self
+            .let_go
+            .wait_timeout(state, most)
+            .unwrap_or_else(PoisonError::into_inner);
+        state.for_pins -= 1;
+        state
+    }
+
+    /// Opens the lock and wakes who waits for what has happened.
+    fn wake(&self, state: Locked<'_>, has_worked: bool) {
+        let (for_work, for_pins) = (has_worked && state.for_work > 0, state.for_pins > 0);
+        drop(state);
+        if for_work {
+            self.worked.notify_all();
+        }
+        if for_pins {
+            self.let_go.notify_all();
+        }
+    }
+
+    /// Ends a write to a page, whose latch is free again, for those that wait to write it out.
+    pub(super) fn end_writer(&self) {
+        self.wake(self.lock(), false);
+    }
+
+    /// The page of a pass that was just given.
+    #[inline]
+    pub(super) fn pinned(&self, mut state: Locked<'_>, pass: Pass) -> Result<PagePin<'_>> {
+        let bytes = match state.pool.place(&pass) {
+            Ok(bytes) => bytes,
+            Err(error) => {
+                // A pass of this pool that is out is always known.
+                let _ = state.pool.give_back(&pass);
+                return Err(error);
+            }
+        };
+        let seat = state.seating.of(pass.page()).unwrap_or_default();
+        if self.seats[seat].pin() {
+            state.pinned += 1;
+        }
+        drop(state);
+        // SAFETY: these are the bytes of the page of the pass, which the pin has.
+        Ok(unsafe { PagePin::new(self, pass, seat, bytes) })
+    }
+
+    /// Gives the pass of a pin back.
+    #[inline]
+    pub(super) fn unpin(&self, pass: &Pass, seat: usize) {
+        let mut state = self.lock();
+        // A pass of this pool that is out is always taken.
+        let _ = state.pool.give_back(pass);
+        if self.seats[seat].unpin() {
+            state.pinned -= 1;
+        }
+        if state.for_pins > 0 {
+            self.wake(state, false);
+        }
+    }
+}
+
+impl State {
+    /// Keeps an image for later calls, or gives it back where there are enough.
+    fn keep(&mut self, image: Vec<u8>) -> Option<Vec<u8>> {
+        if self.images.len() == KEPT_IMAGES || image.is_empty() {
+            return Some(image);
+        }
+        self.images.push(image);
+        None
+    }
+
+    pub(super) fn image(&mut self) -> Vec<u8> {
+        self.images.pop().unwrap_or_default()
+    }
+
+    /// Asks once for a page.
+    #[inline]
+    pub(super) fn fix(&mut self, page: u64) -> Result<Fix> {
+        let image = self.images.last_mut().ok_or(Error::OutOfMemory)?;
+        let fix = match self.pool.fix(0, page, image)? {
+            Fixed::Hit(page) => Fix::Here(page.into_pass()),
+            Fixed::Load { ticket, evicted } => {
+                if let Some(evicted) = evicted {
+                    self.seating.take(evicted);
+                }
+                Fix::Read(ticket)
+            }
+            Fixed::WriteFirst(ticket) => Fix::Write(ticket),
+        };
+        if let Fix::Write(ticket) = &fix {
+            self.go_out(ticket.page());
+        }
+        Ok(fix)
+    }
+
+    /// Adds a reference to a page, if it is still here. It is not the next to make way then.
+    pub(super) fn refer_to(&mut self, page: u64) {
+        if self.seating.of(page).is_none() {
+            return;
+        }
+        if let Ok(Fix::Here(pass)) = self.fix(page) {
+            // A pass of this pool that is out is always taken.
+            let _ = self.pool.give_back(&pass);
+        }
+    }
+
+    /// The seat of a page that is unsaved.
+    pub(super) fn unsaved_seat(&self, page: u64) -> Option<usize> {
+        let seat = self.seating.of(page);
+        seat.filter(|seat| self.unsaved.has(*seat))
+    }
+
+    /// Asks once that a page be written out. None where it is clean, or away.
+    pub(super) fn flush(&mut self, page: u64) -> Result<Option<WriteTicket>> {
+        let image = self.images.last_mut().ok_or(Error::OutOfMemory)?;
+        match self.pool.flush(0, page, image)? {
+            Flushed::WriteFirst(ticket) => {
+                self.go_out(page);
+                Ok(Some(ticket))
+            }
+            Flushed::Clean | Flushed::Absent => Ok(None),
+        }
+    }
+
+    fn go_out(&mut self, page: u64) {
+        if let Some(seat) = self.seating.of(page) {
+            self.unsaved.go_out(seat);
+        }
+    }
+
+    /// Writes to a page. The bytes are copied first: they may be those of another page of this pool,
+    /// and the library wants none of its own memory.
+    pub(super) fn write(
+        &mut self,
+        pass: &Pass,
+        seat: usize,
+        offset: usize,
+        bytes: &[u8],
+        lsn: u64,
+    ) -> Result<()> {
+        let copy = self
+            .scratch
+            .get_mut(..bytes.len())
+            .ok_or(Error::OutOfPage)?;
+        copy.copy_from_slice(bytes);
+        self.pool.write(pass, offset, copy, lsn)?;
+        self.unsaved.write(pass.page(), seat, lsn);
+        Ok(())
+    }
+}
+
+/// A read that is under way. It is ended as failed where nothing else was said of it: also where
+/// the engine's code panicked, and where there was no memory for the page. So no frame waits for
+/// ever.
+pub(super) struct Reading<'a> {
+    part: &'a Part,
+    ticket: Option<ReadTicket>,
+    pub(super) image: Vec<u8>,
+    /// What is said of it then.
+    fault: ReadFault,
+}
+
+impl<'a> Reading<'a> {
+    pub(super) fn new(part: &'a Part, mut state: Locked<'a>, ticket: ReadTicket) -> Reading<'a> {
+        Reading {
+            part,
+            ticket: Some(ticket),
+            image: state.image(),
+            fault: ReadFault::Device(std::io::ErrorKind::Other.into()),
+        }
+    }
+
+    /// Ends it where it went well, and pins the page.
+    pub(super) fn end(mut self) -> Result<PagePin<'a>> {
+        let ticket = self.ticket.take().ok_or(Error::UnknownTicket)?;
+        let part = self.part;
+        let mut state = part.lock();
+        let ended = state.pool.end_read(ticket, &self.image);
+        let pass = match ended.map(PageGuard::into_pass) {
+            Ok(pass) => pass,
+            Err(Refused { error, token }) => {
+                drop(state);
+                self.ticket = Some(token);
+                return Err(error);
+            }
+        };
+        state.seating.give(pass.page());
+        self.image = state.keep(mem::take(&mut self.image)).unwrap_or_default();
+        let has_sleepers = state.for_work > 0;
+        let pin = part.pinned(state, pass);
+        if has_sleepers {
+            part.worked.notify_all();
+        }
+        pin
+    }
+
+    pub(super) fn fail_with_wrong_page(&mut self) {
+        self.fault = ReadFault::WrongPage;
+    }
+}
+
+impl Drop for Reading<'_> {
+    fn drop(&mut self) {
+        if let Some(ticket) = self.ticket.take() {
+            let mut state = self.part.lock();
+            // A ticket of this pool that is out is always taken.
+            let _ = state.pool.fail_read(ticket, &self.fault);
+            self.image = state.keep(mem::take(&mut self.image)).unwrap_or_default();
+            self.part.wake(state, true);
+        }
+    }
+}
+
+/// A write-out that is under way. It is ended as failed where nothing else was said of it.
+pub(super) struct Writing<'a> {
+    part: &'a Part,
+    ticket: Option<WriteTicket>,
+    pub(super) image: Vec<u8>,
+}
+
+impl<'a> Writing<'a> {
+    /// Begins a write-out, which opens the lock. The page's latch, if it is held so that nobody
+    /// writes to it meanwhile, is let go too: the image is a copy.
+    pub(super) fn new(
+        part: &'a Part,
+        mut state: Locked<'a>,
+        latch: Option<RwLockReadGuard<'_, ()>>,
+        ticket: WriteTicket,
+    ) -> Writing<'a> {
+        drop(latch);
+        Writing {
+            part,
+            ticket: Some(ticket),
+            image: state.image(),
+        }
+    }
+}
+
+impl Writing<'_> {
+    /// Ends it where it went well. Tells whether the page was written to meanwhile.
+    pub(super) fn end(&mut self) -> Result<Saved> {
+        let ticket = self.ticket.take().ok_or(Error::UnknownTicket)?;
+        let page = ticket.page();
+        let mut state = self.part.lock();
+        let saved = state.pool.end_write(ticket)?;
+        if let Some(seat) = state.seating.of(page) {
+            match saved {
+                Saved::Clean => state.unsaved.save(seat),
+                Saved::StillDirty => state.unsaved.stay(seat),
+            }
+        }
+        self.image = state.keep(mem::take(&mut self.image)).unwrap_or_default();
+        self.part.wake(state, true);
+        Ok(saved)
+    }
+}
+
+impl Drop for Writing<'_> {
+    fn drop(&mut self) {
+        if let Some(ticket) = self.ticket.take() {
+            let page = ticket.page();
+            let mut state = self.part.lock();
+            // A ticket of this pool that is out is always taken.
+            let _ = state.pool.fail_write(ticket);
+            if let Some(seat) = state.seating.of(page) {
+                state.unsaved.come_back(seat);
+            }
+            self.image = state.keep(mem::take(&mut self.image)).unwrap_or_default();
+            self.part.wake(state, true);
+        }
+    }
+}

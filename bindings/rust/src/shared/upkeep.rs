@@ -1,0 +1,266 @@
+use super::pager::SharedPager;
+use super::part::{Part, Writing};
+use super::seats::list_of;
+use super::unsaved::least;
+use crate::{Error, PageIo, PagerError, Result, Totals};
+use std::io;
+use std::panic::{AssertUnwindSafe, catch_unwind};
+use std::sync::Arc;
+use std::sync::atomic::{AtomicBool, Ordering};
+use std::thread::{self, JoinHandle};
+use std::time::Duration;
+
+/// What a [`SharedPager`] counts. While other threads use it, each part is counted at a moment of
+/// its own.
+#[derive(Clone, Copy, Debug, Default, PartialEq, Eq)]
+pub struct Stats {
+    /// What was counted since the pager was made.
+    pub totals: Totals,
+    /// Pages that are in frames.
+    pub resident: usize,
+    /// Pages that are pinned.
+    pub pinned: usize,
+    /// Pages that were written to since they were saved.
+    pub dirty: usize,
+    /// How often a thread slept until a page was read, written out or unpinned. Waits for latches
+    /// are not counted.
+    pub waits: u64,
+    /// About how many bytes of memory the pager has: images, frames, lists. What is kept of pages
+    /// that are away comes on top.
+    pub memory: usize,
+}
+
+/// Bytes of memory for a frame beside its image, and for a page of the file.
+const OF_FRAME: usize = 250;
+const OF_PAGE: usize = 8;
+
+impl<F> SharedPager<F> {
+    /// Whether a page is in a frame.
+    pub fn is_resident(&self, page: u64) -> bool {
+        let place = self.place(page);
+        place.is_ok_and(|(part, own)| part.lock().seating.of(own).is_some())
+    }
+
+    /// Counts.
+    pub fn stats(&self) -> Stats {
+        let mut stats = Stats::default();
+        for part in &self.parts {
+            let state = part.lock();
+            let config = state.pool.config();
+            stats.memory += config.pages as usize * OF_PAGE + config.frames * OF_FRAME;
+            stats.memory += state.seating.most() * config.page_size;
+            stats.resident += state.seating.taken();
+            stats.pinned += state.pinned;
+            stats.dirty += state.unsaved.len();
+            stats.waits += state.waits;
+            let totals = state.pool.totals();
+            drop(state);
+            stats.totals.add(&totals);
+        }
+        stats
+    }
+
+    /// Forgets the references of pages that are in no frame and whose newest is older than the
+    /// retained period. Gives how many pages these are.
+    ///
+    /// # Errors
+    /// None, so long as no pool answers 2^61 calls.
+    pub fn purge(&self) -> Result<u64> {
+        let forgotten = self.parts.iter().map(|part| part.lock().pool.purge(0));
+        forgotten.sum()
+    }
+
+    /// The least LSN among the writes that are in no image on the device. None where there is no
+    /// such write, or none with a log record.
+    pub fn redo_from(&self) -> Option<u64> {
+        let of_parts = self.parts.iter();
+        of_parts.fold(None, |found, part| {
+            least(found, part.lock().unsaved.redo_from())
+        })
+    }
+
+    /// The numbers of all pages that are unsaved, in the order of the file.
+    fn unsaved_pages(&self) -> Result<Vec<u64>> {
+        let mut pages = list_of(0)?;
+        for part in &self.parts {
+            let mut state = part.lock();
+            while pages.capacity() - pages.len() < state.unsaved.len() {
+                // Memory is asked for with the lock open.
+                let wanted = state.unsaved.len();
+                drop(state);
+                pages.try_reserve(wanted).map_err(|_| Error::OutOfMemory)?;
+                state = part.lock();
+            }
+            pages.extend(state.unsaved.pages().map(|page| part.in_file(page)));
+        }
+        pages.sort_unstable();
+        Ok(pages)
+    }
+}
+
+impl<F: PageIo> SharedPager<F> {
+    /// Writes a page out where it is unsaved. It waits for a thread that writes to the page, and for
+    /// one that writes it out. What is written to the page from then on may be unsaved again.
+    ///
+    /// # Errors
+    /// [`PagerError::Write`] and [`PagerError::Log`] where the device or the log failed, and the
+    /// page is unsaved. [`PagerError::Refused`] with [`OutOfPage`](Error::OutOfPage) where the file
+    /// has no such page, and with [`OutOfMemory`](Error::OutOfMemory).
+    pub fn flush(&self, page: u64) -> Result<(), PagerError> {
+        let (part, own) = self.place(page)?;
+        let mut state = part.lock();
+        loop {
+            state = part.with_image(state)?;
+            let Some(seat) = state.unsaved_seat(own) else {
+                return Ok(());
+            };
+            // A page goes out between the writes of its writers, and not within them.
+            let Some(latch) = part.seats[seat].try_read() else {
+                state = part.wait_for_pins(state, Duration::MAX);
+                continue;
+            };
+            match state.flush(own) {
+                Ok(None) => return Ok(()),
+                Ok(Some(ticket)) => {
+                    let lsn = ticket.lsn();
+                    let writing = Writing::new(part, state, Some(latch), ticket);
+                    return self.write_out(page, lsn, writing).map(drop);
+                }
+                Err(refusal) => {
+                    drop(latch);
+                    state = match refusal {
+                        Error::NeedLog { lsn } => self.reach_log(part, state, lsn)?,
+                        Error::Busy => part.wait_for_work(state),
+                        error => return Err(error.into()),
+                    };
+                }
+            }
+        }
+    }
+
+    /// Writes out each page that was unsaved when the call began, in the order of the file, and then
+    /// has the device keep them, by [`PageIo::sync`].
+    ///
+    /// It gives the LSN from which redo has to begin, which counts what was written meanwhile: the
+    /// least among the writes that may not be on the device. None where there is no such write. A
+    /// record that has no write yet is not known to the pager: so note the end of the log before
+    /// the call, while no thread is between a record and its write, and cut the log at the less of
+    /// both.
+    ///
+    /// # Errors
+    /// Those of [`SharedPager::flush`], after which pages before the one that failed are written
+    /// out; [`PagerError::Sync`] where the sync failed. What was written out since the last good one
+    /// may be lost then, and later checkpoints do not count it: end the pager, and redo from the log.
+    pub fn checkpoint(&self) -> Result<Option<u64>, PagerError> {
+        for page in self.unsaved_pages()? {
+            self.flush(page)?;
+        }
+        // Before the sync: what goes out during it may not be kept by it.
+        let redo = self.redo_from();
+        let synced = self.io.sync();
+        synced.map_err(|source| PagerError::Sync { source })?;
+        Ok(redo)
+    }
+
+    /// Writes out pages, so many at most, so that pages which have to make way later need not be.
+    /// These are pages that nobody has pinned, whose log records are durable by what
+    /// [`mark`](SharedPager::mark) or an earlier call told. It waits for no other thread. Gives how
+    /// many went out.
+    ///
+    /// # Errors
+    /// [`PagerError::Write`] where the device failed: the page is unsaved.
+    /// [`PagerError::Refused`] with [`OutOfMemory`](Error::OutOfMemory).
+    pub fn clean(&self, most: usize) -> Result<usize, PagerError> {
+        let durable = self.log.durable();
+        let mut cleaned = 0;
+        for (number, part) in self.parts.iter().enumerate() {
+            let share = (most - cleaned).div_ceil(self.parts.len() - number);
+            for page in self.ready(part, durable, share)? {
+                cleaned += usize::from(self.clean_page(part, page, durable)?);
+            }
+        }
+        Ok(cleaned)
+    }
+
+    /// Pages of a part that may go out, so many at most.
+    fn ready(&self, part: &Part, durable: u64, most: usize) -> Result<Vec<u64>> {
+        let mut pages = list_of(most.min(part.seats.len()))?;
+        let mut state = part.lock();
+        // Not all are looked at under the lock, where few may go out.
+        let looks = most.saturating_mul(4).saturating_add(64);
+        let ready = state.unsaved.ready(durable, state.clean_from, looks);
+        let loose = ready.filter(|(_, seat)| !part.seats[*seat].is_pinned());
+        pages.extend(loose.map(|(page, _)| page).take(pages.capacity()));
+        state.clean_from = match state.clean_from.saturating_add(looks) {
+            next if next < state.unsaved.len() => next,
+            _ => 0,
+        };
+        Ok(pages)
+    }
+
+    /// Writes a page out where nobody is in the way. Tells whether it went out.
+    fn clean_page(&self, part: &Part, own: u64, durable: u64) -> Result<bool, PagerError> {
+        let mut state = part.with_image(part.lock())?;
+        state.pool.mark(0, durable)?;
+        let seat = state.unsaved_seat(own);
+        let Some(latch) = seat.and_then(|seat| part.seats[seat].try_read()) else {
+            return Ok(false);
+        };
+        match state.flush(own) {
+            Ok(Some(ticket)) => {
+                let lsn = ticket.lsn();
+                let writing = Writing::new(part, state, Some(latch), ticket);
+                self.write_out(part.in_file(own), lsn, writing)?;
+                Ok(true)
+            }
+            Ok(None) | Err(Error::Busy | Error::NeedLog { .. }) => Ok(false),
+            Err(error) => Err(error.into()),
+        }
+    }
+}
+
+/// A thread that calls [`SharedPager::clean`] again and again. It ends when this is dropped.
+#[derive(Debug)]
+#[must_use = "the thread ends when this is dropped"]
+pub struct Cleaner {
+    is_ended: Arc<AtomicBool>,
+    thread: Option<JoinHandle<()>>,
+}
+
+impl<F: PageIo + Send + Sync + 'static> SharedPager<F> {
+    /// Starts a thread that writes out so many pages at most, rests for a while, and begins again,
+    /// as [`clean`](SharedPager::clean) does. A page that cannot be written out stays unsaved, and
+    /// comes again: who needs its frame is told why.
+    ///
+    /// # Errors
+    /// Where the system has no thread for it.
+    pub fn start_cleaner(self: &Arc<Self>, most: usize, rest: Duration) -> io::Result<Cleaner> {
+        let is_ended = Arc::new(AtomicBool::new(false));
+        let (pager, end) = (Arc::clone(self), Arc::clone(&is_ended));
+        let work = move || {
+            while !end.load(Ordering::Acquire) {
+                // The engine's code may panic, and is called again all the same.
+                let _ = catch_unwind(AssertUnwindSafe(|| pager.clean(most)));
+                thread::park_timeout(rest);
+            }
+        };
+        let thread = thread::Builder::new()
+            .name("hojzmated-cleaner".into())
+            .spawn(work)?;
+        Ok(Cleaner {
+            is_ended,
+            thread: Some(thread),
+        })
+    }
+}
+
+impl Drop for Cleaner {
+    fn drop(&mut self) {
+        self.is_ended.store(true, Ordering::Release);
+        if let Some(thread) = self.thread.take() {
+            thread.thread().unpark();
+            // Its panics were caught.
+            let _ = thread.join();
+        }
+    }
+}

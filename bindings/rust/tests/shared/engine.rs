@@ -1,0 +1,221 @@
+//! An engine of many threads over a device that is slow, fails and panics at random. Each word of a
+//! page has the LSN of the page's newest write.
+use crate::faulty::{Broken, Device, HALVES, Numbers, SIZE, number_in, pause};
+use hojzmated::{Error, PageMut, PagePin, PagerError, SharedConfig, SharedPager};
+use std::panic::{AssertUnwindSafe, catch_unwind, resume_unwind};
+use std::sync::atomic::{AtomicU64, Ordering};
+use std::sync::{Arc, Mutex, PoisonError, RwLock, TryLockError};
+use std::thread;
+use std::time::Duration;
+
+pub struct Settings {
+    pub pages: u64,
+    pub frames: usize,
+    pub parts: usize,
+    pub seed: u64,
+    /// Of so many requests to the device three do not go well.
+    pub faults_in: u64,
+}
+
+pub struct Engine {
+    pub pager: Arc<SharedPager<Device>>,
+    /// The LSN of each page's newest write, which changes under the page's exclusive latch.
+    newest: Vec<AtomicU64>,
+    /// How many pages were made. The others are made one after another.
+    made: AtomicU64,
+    making: Mutex<()>,
+    /// A thread has it shared from a log record to the end of its write.
+    records: RwLock<()>,
+    checkpoints: Mutex<()>,
+    /// Calls that did not go well, and panics.
+    pub faults: AtomicU64,
+    pub kept: AtomicU64,
+}
+
+/// Says of which seed a run was that fails.
+pub struct Told(pub u64);
+
+impl Drop for Told {
+    fn drop(&mut self) {
+        if thread::panicking() {
+            eprintln!("the seed is {}", self.0);
+        }
+    }
+}
+
+/// None where no page may make way, as for a call that waits for no other thread.
+fn unless_pinned<T>(told: Result<Option<T>, PagerError>) -> Result<Option<T>, PagerError> {
+    match told {
+        Err(PagerError::Refused(Error::NoVictim)) => Ok(None),
+        other => other,
+    }
+}
+
+/// Whether a call came to this by a fault of the device.
+fn is_of_device(error: &PagerError) -> bool {
+    match error {
+        PagerError::Refused(error) => *error == Error::WrongPage,
+        _ => std::error::Error::source(error).is_some_and(|it| it.to_string() == "no such luck"),
+    }
+}
+
+impl Engine {
+    pub fn new(settings: &Settings) -> Engine {
+        let config = SharedConfig {
+            parts: settings.parts,
+            correlated: settings.seed % 3 * settings.frames as u64 / 2,
+            retained: 1_000,
+            pin_wait: Duration::from_secs(60),
+            ..SharedConfig::new(settings.pages, SIZE, settings.frames)
+        };
+        let device = Device::new(settings.pages, settings.seed, settings.faults_in);
+        Engine {
+            pager: Arc::new(SharedPager::new(&config, device).unwrap()),
+            newest: (0..settings.pages).map(|_| AtomicU64::default()).collect(),
+            made: AtomicU64::new(settings.pages / 2),
+            making: Mutex::default(),
+            records: RwLock::default(),
+            checkpoints: Mutex::default(),
+            faults: AtomicU64::default(),
+            kept: AtomicU64::default(),
+        }
+    }
+
+    /// Makes calls at random as long as there is reason to. Each may fail by the device's faults.
+    pub fn work(&self, numbers: &mut Numbers, mut goes_on: impl FnMut() -> bool) {
+        while goes_on() {
+            match catch_unwind(AssertUnwindSafe(|| self.act(numbers))) {
+                Ok(Ok(())) => continue,
+                Ok(Err(error)) => assert!(is_of_device(&error), "{error}: {error:?}"),
+                Err(payload) if payload.is::<Broken>() => {}
+                Err(payload) => resume_unwind(payload),
+            }
+            self.faults.fetch_add(1, Ordering::Relaxed);
+        }
+    }
+
+    fn act(&self, numbers: &mut Numbers) -> Result<(), PagerError> {
+        let pages = self.made.load(Ordering::Acquire);
+        let page = numbers.below(pages);
+        match numbers.below(200) {
+            0..70 => self.look(page, &self.pager.read(page)?),
+            70..130 => self.change(self.pager.write(page)?),
+            130..140 => {
+                let found = unless_pinned(self.pager.try_read(page))?;
+                found.iter().for_each(|bytes| self.look(page, bytes));
+            }
+            140..150 => {
+                let found = unless_pinned(self.pager.try_write(page))?;
+                found.into_iter().for_each(|it| self.change(it));
+            }
+            150..160 => self.use_pin(&self.pager.pin(page)?),
+            160..170 => self.use_two(page, numbers.below(pages))?,
+            170..185 => self.pager.flush(page)?,
+            185..190 => drop(self.pager.clean(4)?),
+            190..192 => self.checkpoint()?,
+            192 => drop(self.pager.purge()?),
+            193 => assert!(self.pager.stats().resident <= self.pager.config().frames),
+            _ => self.make_page()?,
+        }
+        Ok(())
+    }
+
+    /// The bytes are those of the newest write, and stay so.
+    fn look(&self, page: u64, bytes: &[u8]) {
+        for _ in 0..2 {
+            let newest = self.newest[page as usize].load(Ordering::Acquire);
+            assert_eq!(number_in(bytes), newest, "page {page}");
+            pause(newest);
+        }
+    }
+
+    /// Fills a page by two writes under one log record.
+    fn change(&self, mut page: PageMut<'_>) {
+        self.look(page.page(), page.bytes());
+        let record = self.records.read().unwrap();
+        let lsn = self.pager.io().log_end.fetch_add(1, Ordering::AcqRel) + 1;
+        for half in HALVES {
+            let bytes = lsn.to_le_bytes().repeat(half.len() / 8);
+            page.put(half.start, &bytes, lsn).unwrap();
+            pause(lsn);
+        }
+        self.newest[page.page() as usize].store(lsn, Ordering::Release);
+        drop(record);
+        assert_eq!(number_in(page.bytes()), lsn);
+    }
+
+    fn use_pin(&self, pin: &PagePin<'_>) {
+        self.look(pin.page(), &pin.read());
+        self.change(pin.write());
+        assert!(self.pager.is_resident(pin.page()));
+        self.look(pin.page(), &pin.read());
+    }
+
+    /// Looks at one page and changes another, if that can be had without waiting.
+    fn use_two(&self, page: u64, other: u64) -> Result<(), PagerError> {
+        let look = self.pager.read(page)?;
+        if page != other {
+            let found = unless_pinned(self.pager.try_write(other))?;
+            found.into_iter().for_each(|it| self.change(it));
+        }
+        self.look(page, &look);
+        Ok(())
+    }
+
+    /// Makes a page that was never written.
+    fn make_page(&self) -> Result<(), PagerError> {
+        let _turn = self.making.lock().unwrap_or_else(PoisonError::into_inner);
+        let page = self.made.load(Ordering::Acquire);
+        if page < self.pager.config().pages {
+            self.change(self.pager.new_page(page)?);
+            self.made.store(page + 1, Ordering::Release);
+        }
+        Ok(())
+    }
+
+    /// What was written before a checkpoint began is kept by the device afterwards, as far as the log
+    /// may be cut.
+    fn checkpoint(&self) -> Result<(), PagerError> {
+        let _turn = match self.checkpoints.try_lock() {
+            Ok(turn) => turn,
+            Err(TryLockError::Poisoned(poisoned)) => poisoned.into_inner(),
+            Err(TryLockError::WouldBlock) => return Ok(()),
+        };
+        let device = self.pager.io();
+        let (end, newest) = {
+            let _no_record = self.records.write().unwrap();
+            let newest = self.newest.iter().map(|it| it.load(Ordering::Acquire));
+            (device.end_of_log() + 1, newest.collect::<Vec<_>>())
+        };
+        let redo = self.pager.checkpoint()?.unwrap_or(end);
+        for (page, lsn) in (0..).zip(newest) {
+            let is_cut = lsn < redo.min(end);
+            assert!(
+                !is_cut || device.kept(page) >= lsn,
+                "page {page} lost LSN {lsn}"
+            );
+        }
+        self.kept.fetch_add(1, Ordering::Relaxed);
+        Ok(())
+    }
+
+    /// At the end, with a device that has no faults: it has what was written last, and the pager has
+    /// counted what the device did.
+    pub fn end(self) {
+        let device = self.pager.io();
+        device.faults_in.store(0, Ordering::Relaxed);
+        let stats = self.pager.stats();
+        assert_eq!(stats.pinned, 0);
+        assert!(stats.totals.evictions > 0 && stats.totals.failed > 0);
+        assert_eq!(self.pager.checkpoint().unwrap(), None);
+        for (page, newest) in (0..).zip(&self.newest) {
+            let newest = newest.load(Ordering::Acquire);
+            assert_eq!(number_in(&device.bytes(page)), newest, "page {page}");
+            assert_eq!(device.kept(page), newest, "page {page}");
+        }
+        let stats = self.pager.stats();
+        assert_eq!((stats.dirty, self.pager.redo_from()), (0, None));
+        assert_eq!(stats.totals.writes, device.writes.load(Ordering::Relaxed));
+        assert!(stats.totals.faults >= device.reads.load(Ordering::Relaxed));
+    }
+}

@@ -1,0 +1,12 @@
+//! A pager that many threads share.
+mod calls;
+mod device;
+mod engine;
+mod faulty;
+mod latches;
+mod overlap;
+mod panics;
+mod refusals;
+mod rows;
+mod stress;
+mod upkeep;

@@ -1,0 +1,88 @@
+//! Many threads for as long as is wanted, over a device with faults. Memory stays as it is.
+//!
+//! `HOJZMATED_SOAK_SECONDS` says for how long, which is 2 seconds else.
+#[path = "shared/engine.rs"]
+mod engine;
+#[path = "shared/faulty.rs"]
+mod faulty;
+
+use engine::{Engine, Settings, Told};
+use faulty::Numbers;
+use std::sync::atomic::{AtomicBool, Ordering};
+use std::time::{Duration, Instant};
+use std::{env, fs, thread};
+
+const THREADS: u64 = 64;
+/// By so many bytes memory may grow after the first quarter.
+const MOST_GROWTH: usize = 4 << 20;
+
+/// Bytes of this program that are in memory. None where the system does not tell.
+fn resident() -> Option<usize> {
+    let told = fs::read_to_string("/proc/self/statm").ok()?;
+    let pages: usize = told.split(' ').nth(1)?.parse().ok()?;
+    Some(pages * 4096)
+}
+
+fn seconds() -> f64 {
+    let told = env::var("HOJZMATED_SOAK_SECONDS").ok();
+    told.map_or(2.0, |it| it.parse().expect("seconds"))
+}
+
+/// Memory after a quarter of the time and at its end, and how many calls were made.
+fn soak(engine: &Engine, seed: u64, time: Duration) -> ([Option<usize>; 2], u64) {
+    let has_ended = AtomicBool::new(false);
+    thread::scope(|threads| {
+        let work = |thread| {
+            let mut calls = 0;
+            engine.work(&mut Numbers(seed * 1_000 + thread), || {
+                calls += 1;
+                !has_ended.load(Ordering::Relaxed)
+            });
+            calls
+        };
+        let workers: Vec<_> = (0..THREADS)
+            .map(|thread| threads.spawn(move || work(thread)))
+            .collect();
+        thread::sleep(time / 4);
+        let first = resident();
+        let end = Instant::now() + time * 3 / 4;
+        while Instant::now() < end && workers.iter().all(|it| !it.is_finished()) {
+            thread::sleep(Duration::from_millis(10));
+        }
+        let last = resident();
+        has_ended.store(true, Ordering::Relaxed);
+        let calls = workers.into_iter().map(|it| it.join().unwrap()).sum();
+        ([first, last], calls)
+    })
+}
+
+#[test]
+fn soak_of_64_threads() {
+    let time = Duration::from_secs_f64(seconds());
+    let seed = 1 + u64::from(std::process::id());
+    let _told = Told(seed);
+    let engine = Engine::new(&Settings {
+        pages: 1_024,
+        frames: 128,
+        parts: 4,
+        seed,
+        faults_in: 300,
+    });
+    let cleaner = engine
+        .pager
+        .start_cleaner(8, Duration::from_millis(1))
+        .unwrap();
+    let ([first, last], calls) = soak(&engine, seed, time);
+    drop(cleaner);
+    let (faults, kept) = (
+        engine.faults.load(Ordering::Relaxed),
+        engine.kept.load(Ordering::Relaxed),
+    );
+    println!("{calls} calls, {faults} faults, {kept} checkpoints, memory {first:?} to {last:?}");
+    assert!(faults > 0 && kept > 0);
+    assert!(
+        last <= first.map(|it| it + MOST_GROWTH),
+        "{first:?} grew to {last:?}"
+    );
+    engine.end();
+}
