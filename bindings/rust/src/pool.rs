@@ -374,6 +374,18 @@ impl Pool {
         PageGuard { pool: self, pass }
     }
 
+    /// The pass of client 0 with this number, which is out for this page.
+    #[inline]
+    pub(crate) fn pass_of(&self, page: u64, serial: u64) -> Pass {
+        let raw = hz_grant {
+            page,
+            serial,
+            client: 0,
+        };
+        let grant = self.grant_of(&raw);
+        Pass { grant }
+    }
+
     #[inline]
     fn guard_of(&self, raw: &hz_grant) -> PageGuard<'_> {
         let grant = self.grant_of(raw);

@@ -1,8 +1,9 @@
 use super::part::Part;
 use super::seats::Seat;
-use crate::{Pass, Result};
+use crate::Result;
 use std::fmt;
 use std::ops::Deref;
+use std::slice;
 use std::sync::{RwLockReadGuard, RwLockWriteGuard};
 
 /// A page that is pinned, with no latch: it stays in its frame until this is dropped.
@@ -12,16 +13,10 @@ use std::sync::{RwLockReadGuard, RwLockWriteGuard};
 #[must_use = "the page is unpinned when its pin is dropped"]
 pub struct PagePin<'a> {
     part: &'a Part,
-    pass: Pass,
     seat: usize,
-    bytes: *const [u8],
+    /// Whether its end is told to those that wait to write the page out.
+    is_writers: bool,
 }
-
-// SAFETY: the pointer leads to the bytes of a page, which only a guard with the page's latch looks
-// at, and which change under the part's lock alone. All else is `Send` and `Sync`.
-unsafe impl Send for PagePin<'_> {}
-// SAFETY: as above.
-unsafe impl Sync for PagePin<'_> {}
 
 /// The bytes of a page under a shared latch: a `[u8]` of the page size, in place.
 ///
@@ -63,28 +58,34 @@ impl Drop for WriterEnd<'_> {
 }
 
 impl<'a> PagePin<'a> {
-    /// The pin of a pass that is out.
+    /// One of the pins of a seat that is pinned.
     ///
     /// # Safety
-    /// The bytes are those of the page of this pass, which stands at this seat.
+    /// It is counted there, and no other `PagePin` stands for it.
     #[inline]
-    pub(super) unsafe fn new(
-        part: &'a Part,
-        pass: Pass,
-        seat: usize,
-        bytes: *const [u8],
-    ) -> PagePin<'a> {
+    pub(super) unsafe fn new(part: &'a Part, seat: usize) -> PagePin<'a> {
         PagePin {
             part,
-            pass,
             seat,
-            bytes,
+            is_writers: false,
         }
     }
 
     /// The number of the page.
     pub fn page(&self) -> u64 {
-        self.part.in_file(self.pass.page())
+        self.part.in_file(self.seat().page())
+    }
+
+    /// The bytes of the page.
+    ///
+    /// # Safety
+    /// Nobody writes to the page while they are looked at.
+    #[inline]
+    unsafe fn bytes(&self) -> &[u8] {
+        let bytes = self.seat().pinned().bytes;
+        // SAFETY: the page has this size. Its bytes are there while its pass is out, and so while a
+        // pin is. They change by `Part::write` to this page alone, which does not come meanwhile.
+        unsafe { slice::from_raw_parts(bytes, self.part.page_size) }
     }
 
     /// Waits for the page's shared latch.
@@ -147,7 +148,8 @@ impl<'a> PagePin<'a> {
     }
 
     #[inline]
-    pub(super) fn into_write(self) -> PageMut<'a> {
+    pub(super) fn into_write(mut self) -> PageMut<'a> {
+        self.is_writers = true;
         PageMut {
             _latch: self.seat().write(),
             pin: Held::Own(self),
@@ -156,7 +158,8 @@ impl<'a> PagePin<'a> {
     }
 
     #[inline]
-    pub(super) fn try_into_write(self) -> Option<PageMut<'a>> {
+    pub(super) fn try_into_write(mut self) -> Option<PageMut<'a>> {
+        self.is_writers = true;
         Some(PageMut {
             _latch: self.seat().try_write()?,
             pin: Held::Own(self),
@@ -166,14 +169,17 @@ impl<'a> PagePin<'a> {
 
     #[inline]
     fn seat(&self) -> &'a Seat {
-        &self.part.seats[self.seat]
+        self.part.seats.seat(self.seat)
     }
 }
 
 impl Drop for PagePin<'_> {
     #[inline]
     fn drop(&mut self) {
-        self.part.unpin(&self.pass, self.seat);
+        let seat = self.seat();
+        if self.is_writers || !seat.leave() {
+            self.part.unpin(seat);
+        }
     }
 }
 
@@ -201,9 +207,8 @@ impl Deref for PageRef<'_> {
 
     #[inline]
     fn deref(&self) -> &[u8] {
-        // SAFETY: the bytes are there while the pin is, and only a `PageMut` of the page changes
-        // them, which the latch keeps away.
-        unsafe { &*self.pin.bytes }
+        // SAFETY: only a `PageMut` of the page writes to it, which the latch keeps away.
+        unsafe { self.pin.bytes() }
     }
 }
 
@@ -223,9 +228,9 @@ impl PageMut<'_> {
     /// The bytes of the page, in place, with all that was put so far.
     #[inline]
     pub fn bytes(&self) -> &[u8] {
-        // SAFETY: the bytes are there while the pin is, and only a `PageMut` of the page changes
-        // them. That is this one, which `put` borrows as a whole.
-        unsafe { &*self.pin.bytes }
+        // SAFETY: only a `PageMut` of the page writes to it. That is this one, which `put` borrows
+        // as a whole.
+        unsafe { self.pin.bytes() }
     }
 
     /// Puts bytes into the page from the offset on, under the log record with this LSN. The page
@@ -238,9 +243,7 @@ impl PageMut<'_> {
     /// as it was.
     #[inline]
     pub fn put(&mut self, offset: usize, bytes: &[u8], lsn: u64) -> Result<()> {
-        let pin = &*self.pin;
-        let mut state = pin.part.lock();
-        state.write(&pin.pass, pin.seat, offset, bytes, lsn)
+        self.pin.part.write(self.pin.seat, offset, bytes, lsn)
     }
 }
 

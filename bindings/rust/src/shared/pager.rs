@@ -78,6 +78,11 @@ use std::time::{Duration, Instant};
 /// it has where they give none. A thread that has a latch does not ask for the same page once more,
 /// nor has it written out.
 ///
+/// # What counts as a reference
+/// Each call that gives a page is a reference of it, by which LRU-K chooses the pages that make way,
+/// and moves the clock of its part on by one. But a page that is pinned already is pinned once more
+/// with no lock, and one in 16 of such pins is a reference.
+///
 /// # Where a call fails
 /// Nothing is lost where the device or the log fails or panics: the page that should be read is
 /// away, and the one that should go out is unsaved. Other pages can be used: a page that could not
@@ -237,9 +242,12 @@ impl<F: PageIo> SharedPager<F> {
     #[inline]
     fn fix(&self, page: u64, asked: Asked) -> Result<PagePin<'_>, PagerError> {
         let (part, own) = self.place(page)?;
+        if let Some(pin) = part.join(own) {
+            return Ok(pin);
+        }
         let mut state = part.with_image(part.lock())?;
         state.pool.tick(0, 1)?;
-        match state.fix(own) {
+        match part.ask(&mut state, own) {
             Ok(Fix::Here(pass)) => Ok(part.pinned(state, pass)?),
             fixed => self.go_on(part, own, state, asked, fixed),
         }
@@ -268,7 +276,7 @@ impl<F: PageIo> SharedPager<F> {
                     let written = self.write_out(part.in_file(victim), lsn, writing);
                     let mut state = part.lock();
                     if let Err(error) = written {
-                        state.refer_to(victim);
+                        part.refer_to(&mut state, victim);
                         return Err(error);
                     }
                     state
@@ -279,7 +287,7 @@ impl<F: PageIo> SharedPager<F> {
                 Err(error) => return Err(error.into()),
             };
             state = part.with_image(state)?;
-            fixed = state.fix(own);
+            fixed = part.ask(&mut state, own);
         }
     }
 

@@ -1,5 +1,5 @@
 use super::guards::PagePin;
-use super::seats::{Seat, Seating, filled, list_of};
+use super::seats::{FreeSeats, Pinned, Seat, Seats, filled, list_of};
 use super::unsaved::Unsaved;
 use crate::{
     Config, Error, Fixed, Flushed, PageGuard, Pass, Pool, ReadFault, ReadTicket, Refused, Result,
@@ -15,10 +15,11 @@ use std::time::Duration;
 #[repr(align(128))]
 pub(super) struct Part {
     state: Mutex<State>,
-    pub(super) seats: Box<[Seat]>,
+    pub(super) seats: Seats,
     /// The number of this part and of all parts: its page p is page p * parts + part of the file.
     number: u64,
     parts: u64,
+    pub(super) page_size: usize,
     /// The device's work on a page has ended.
     worked: Condvar,
     /// A page was unpinned, or its writer has gone, or the device's work on it has ended.
@@ -27,16 +28,19 @@ pub(super) struct Part {
 
 pub(super) struct State {
     pub(super) pool: Pool,
-    pub(super) seating: Seating,
+    pub(super) free: FreeSeats,
     pub(super) unsaved: Unsaved,
     /// Images of the page size that no call uses.
     images: Vec<Vec<u8>>,
-    /// Room for a page: see [`State::write`].
+    /// Room for a page: see [`Part::write`].
     scratch: Vec<u8>,
     /// How many threads sleep until something happens, by what they wait for.
     for_work: usize,
     for_pins: usize,
+    /// Pages that are pinned.
     pub(super) pinned: usize,
+    /// Pins that were made without asking the pool.
+    pub(super) joined: u64,
     /// How often a thread slept.
     pub(super) waits: u64,
     /// From where on in the list of unsaved pages the next ones are looked for that may go out.
@@ -67,21 +71,23 @@ impl Part {
         let pool = Pool::new(config)?;
         let state = State {
             pool,
-            seating: Seating::new(config.pages, config.frames)?,
+            free: FreeSeats::new(config.frames)?,
             unsaved: Unsaved::new(config.frames)?,
             images,
             scratch: filled(config.page_size)?,
             for_work: 0,
             for_pins: 0,
             pinned: 0,
+            joined: 0,
             waits: 0,
             clean_from: 0,
         };
         Ok(Part {
             state: Mutex::new(state),
-            seats: filled(config.frames)?.into_boxed_slice(),
+            seats: Seats::new(config.pages, config.frames)?,
             number: number as u64,
             parts: parts as u64,
+            page_size: config.page_size,
             worked: Condvar::new(),
             let_go: Condvar::new(),
         })
@@ -179,37 +185,132 @@ impl Part {
         self.wake(self.lock(), false);
     }
 
+    /// Pins a page that is pinned already, with no lock and without asking the pool.
+    #[inline]
+    pub(super) fn join(&self, page: u64) -> Option<PagePin<'_>> {
+        let number = self.seats.of(page)?;
+        let seat = self.seats.seat(number);
+        if !seat.join() {
+            return None;
+        }
+        // SAFETY: the seat is pinned.
+        let pin = unsafe { PagePin::new(self, number) };
+        // Another page may have the seat since it was looked up.
+        (seat.page() == page).then_some(pin)
+    }
+
     /// The page of a pass that was just given.
     #[inline]
     pub(super) fn pinned(&self, mut state: Locked<'_>, pass: Pass) -> Result<PagePin<'_>> {
-        let bytes = match state.pool.place(&pass) {
-            Ok(bytes) => bytes,
-            Err(error) => {
-                // A pass of this pool that is out is always known.
+        let page = pass.page();
+        let number = self.seats.of(page).unwrap_or_default();
+        let seat = self.seats.seat(number);
+        if seat.is_pinned() {
+            // All pins of a page share one pass.
+            let _ = state.pool.give_back(&pass);
+            state.joined += seat.add();
+        } else {
+            let place = state.pool.place(&pass);
+            let bytes = place.inspect_err(|_| {
+                // Not that it could be: the pass is one of this pool that is out.
                 let _ = state.pool.give_back(&pass);
-                return Err(error);
-            }
-        };
-        let seat = state.seating.of(pass.page()).unwrap_or_default();
-        if self.seats[seat].pin() {
+            })?;
+            let (bytes, serial) = (bytes.cast(), pass.serial());
+            seat.begin(page, &Pinned { bytes, serial });
             state.pinned += 1;
         }
         drop(state);
-        // SAFETY: these are the bytes of the page of the pass, which the pin has.
-        Ok(unsafe { PagePin::new(self, pass, seat, bytes) })
+        // SAFETY: the seat is pinned.
+        Ok(unsafe { PagePin::new(self, number) })
     }
 
-    /// Gives the pass of a pin back.
+    /// Takes a pin back. The last one gives back the pass.
     #[inline]
-    pub(super) fn unpin(&self, pass: &Pass, seat: usize) {
+    pub(super) fn unpin(&self, seat: &Seat) {
         let mut state = self.lock();
-        // A pass of this pool that is out is always taken.
-        let _ = state.pool.give_back(pass);
-        if self.seats[seat].unpin() {
+        if let Some(joined) = seat.end() {
+            let pass = state.pool.pass_of(seat.page(), seat.pinned().serial);
+            // A pass of this pool that is out is always taken.
+            let _ = state.pool.give_back(&pass);
             state.pinned -= 1;
+            state.joined += joined;
         }
         if state.for_pins > 0 {
             self.wake(state, false);
+        }
+    }
+
+    /// Writes to a page that is pinned. The bytes are copied first: they may be those of another
+    /// page of the pool, and the library wants none of its own memory.
+    pub(super) fn write(&self, number: usize, offset: usize, bytes: &[u8], lsn: u64) -> Result<()> {
+        let seat = self.seats.seat(number);
+        let mut state = self.lock();
+        let State {
+            pool,
+            unsaved,
+            scratch,
+            ..
+        } = &mut *state;
+        let copy = scratch.get_mut(..bytes.len()).ok_or(Error::OutOfPage)?;
+        copy.copy_from_slice(bytes);
+        let pass = pool.pass_of(seat.page(), seat.pinned().serial);
+        pool.write(&pass, offset, copy, lsn)?;
+        unsaved.write(seat.page(), number, lsn);
+        Ok(())
+    }
+
+    /// Asks once for a page.
+    #[inline]
+    pub(super) fn ask(&self, state: &mut State, page: u64) -> Result<Fix> {
+        let image = state.images.last_mut().ok_or(Error::OutOfMemory)?;
+        let fix = match state.pool.fix(0, page, image)? {
+            Fixed::Hit(page) => Fix::Here(page.into_pass()),
+            Fixed::Load { ticket, evicted } => {
+                if let Some(evicted) = evicted {
+                    state.free.take(&self.seats, evicted);
+                }
+                Fix::Read(ticket)
+            }
+            Fixed::WriteFirst(ticket) => Fix::Write(ticket),
+        };
+        if let Fix::Write(ticket) = &fix {
+            self.go_out(state, ticket.page());
+        }
+        Ok(fix)
+    }
+
+    /// Adds a reference to a page, if it is still here. It is not the next to make way then.
+    pub(super) fn refer_to(&self, state: &mut State, page: u64) {
+        if self.seats.of(page).is_none() {
+            return;
+        }
+        if let Ok(Fix::Here(pass)) = self.ask(state, page) {
+            // A pass of this pool that is out is always taken.
+            let _ = state.pool.give_back(&pass);
+        }
+    }
+
+    /// The seat of a page that is unsaved.
+    pub(super) fn unsaved_seat(&self, state: &State, page: u64) -> Option<&Seat> {
+        let seat = self.seats.of(page)?;
+        state.unsaved.has(seat).then(|| self.seats.seat(seat))
+    }
+
+    /// Asks once that a page be written out. None where it is clean, or away.
+    pub(super) fn ask_out(&self, state: &mut State, page: u64) -> Result<Option<WriteTicket>> {
+        let image = state.images.last_mut().ok_or(Error::OutOfMemory)?;
+        match state.pool.flush(0, page, image)? {
+            Flushed::WriteFirst(ticket) => {
+                self.go_out(state, page);
+                Ok(Some(ticket))
+            }
+            Flushed::Clean | Flushed::Absent => Ok(None),
+        }
+    }
+
+    fn go_out(&self, state: &mut State, page: u64) {
+        if let Some(seat) = self.seats.of(page) {
+            state.unsaved.go_out(seat);
         }
     }
 }
@@ -226,81 +327,6 @@ impl State {
 
     pub(super) fn image(&mut self) -> Vec<u8> {
         self.images.pop().unwrap_or_default()
-    }
-
-    /// Asks once for a page.
-    #[inline]
-    pub(super) fn fix(&mut self, page: u64) -> Result<Fix> {
-        let image = self.images.last_mut().ok_or(Error::OutOfMemory)?;
-        let fix = match self.pool.fix(0, page, image)? {
-            Fixed::Hit(page) => Fix::Here(page.into_pass()),
-            Fixed::Load { ticket, evicted } => {
-                if let Some(evicted) = evicted {
-                    self.seating.take(evicted);
-                }
-                Fix::Read(ticket)
-            }
-            Fixed::WriteFirst(ticket) => Fix::Write(ticket),
-        };
-        if let Fix::Write(ticket) = &fix {
-            self.go_out(ticket.page());
-        }
-        Ok(fix)
-    }
-
-    /// Adds a reference to a page, if it is still here. It is not the next to make way then.
-    pub(super) fn refer_to(&mut self, page: u64) {
-        if self.seating.of(page).is_none() {
-            return;
-        }
-        if let Ok(Fix::Here(pass)) = self.fix(page) {
-            // A pass of this pool that is out is always taken.
-            let _ = self.pool.give_back(&pass);
-        }
-    }
-
-    /// The seat of a page that is unsaved.
-    pub(super) fn unsaved_seat(&self, page: u64) -> Option<usize> {
-        let seat = self.seating.of(page);
-        seat.filter(|seat| self.unsaved.has(*seat))
-    }
-
-    /// Asks once that a page be written out. None where it is clean, or away.
-    pub(super) fn flush(&mut self, page: u64) -> Result<Option<WriteTicket>> {
-        let image = self.images.last_mut().ok_or(Error::OutOfMemory)?;
-        match self.pool.flush(0, page, image)? {
-            Flushed::WriteFirst(ticket) => {
-                self.go_out(page);
-                Ok(Some(ticket))
-            }
-            Flushed::Clean | Flushed::Absent => Ok(None),
-        }
-    }
-
-    fn go_out(&mut self, page: u64) {
-        if let Some(seat) = self.seating.of(page) {
-            self.unsaved.go_out(seat);
-        }
-    }
-
-    /// Writes to a page. The bytes are copied first: they may be those of another page of this pool,
-    /// and the library wants none of its own memory.
-    pub(super) fn write(
-        &mut self,
-        pass: &Pass,
-        seat: usize,
-        offset: usize,
-        bytes: &[u8],
-        lsn: u64,
-    ) -> Result<()> {
-        let copy = self
-            .scratch
-            .get_mut(..bytes.len())
-            .ok_or(Error::OutOfPage)?;
-        copy.copy_from_slice(bytes);
-        self.pool.write(pass, offset, copy, lsn)?;
-        self.unsaved.write(pass.page(), seat, lsn);
-        Ok(())
     }
 }
 
@@ -339,7 +365,7 @@ impl<'a> Reading<'a> {
                 return Err(error);
             }
         };
-        state.seating.give(pass.page());
+        state.free.give(&part.seats, pass.page());
         self.image = state.keep(mem::take(&mut self.image)).unwrap_or_default();
         let has_sleepers = state.for_work > 0;
         let pin = part.pinned(state, pass);
@@ -398,7 +424,7 @@ impl Writing<'_> {
         let page = ticket.page();
         let mut state = self.part.lock();
         let saved = state.pool.end_write(ticket)?;
-        if let Some(seat) = state.seating.of(page) {
+        if let Some(seat) = self.part.seats.of(page) {
             match saved {
                 Saved::Clean => state.unsaved.save(seat),
                 Saved::StillDirty => state.unsaved.stay(seat),
@@ -417,7 +443,7 @@ impl Drop for Writing<'_> {
             let mut state = self.part.lock();
             // A ticket of this pool that is out is always taken.
             let _ = state.pool.fail_write(ticket);
-            if let Some(seat) = state.seating.of(page) {
+            if let Some(seat) = self.part.seats.of(page) {
                 state.unsaved.come_back(seat);
             }
             self.image = state.keep(mem::take(&mut self.image)).unwrap_or_default();

@@ -1,15 +1,40 @@
 use crate::{Error, Result};
-use std::sync::atomic::{AtomicU32, Ordering};
+use std::sync::atomic::{AtomicPtr, AtomicU32, AtomicU64, Ordering};
 use std::sync::{
     PoisonError, RwLock, RwLockReadGuard, RwLockWriteGuard, TryLockError, TryLockResult,
 };
 
-/// What stands beside a frame: the latch of its page, and how often the page is pinned. The count
-/// changes under the part's lock alone, and stands here for the sake of the cache.
+/// What stands beside a frame, on a cache line of its own: the latch of its page, and who has the
+/// page pinned. All who do share one pass of the pool.
+///
+/// The first pin is made, and the last one taken back, under the part's lock. Those between need
+/// none: the page stays where it is meanwhile.
 #[derive(Default)]
+#[repr(align(64))]
 pub(super) struct Seat {
     latch: RwLock<()>,
-    pins: AtomicU32,
+    /// How many pins are out, and times [`JOIN`] how many of them were made with no lock since the
+    /// pool was last asked for the page.
+    users: AtomicU64,
+    /// The page, where its bytes are, and the number of its pass. They change while no pin is out.
+    page: AtomicU64,
+    bytes: AtomicPtr<u8>,
+    serial: AtomicU64,
+}
+
+const JOIN: u64 = 1 << 32;
+/// Of so many pins of a page that is pinned already, one asks the pool, for which it is a reference
+/// then.
+const JOINS: u64 = 16;
+
+/// What a seat has of a page that is pinned.
+pub(super) struct Pinned {
+    pub(super) bytes: *const u8,
+    pub(super) serial: u64,
+}
+
+fn pins(users: u64) -> u64 {
+    users % JOIN
 }
 
 /// A latch has no value, so one that a thread let go in a panic is as good as any.
@@ -43,32 +68,86 @@ impl Seat {
     }
 
     pub(super) fn is_pinned(&self) -> bool {
-        self.pins.load(Ordering::Relaxed) != 0
+        pins(self.users.load(Ordering::Relaxed)) != 0
     }
 
-    /// Counts a pin. Tells whether it is the only one.
-    pub(super) fn pin(&self) -> bool {
-        let pins = self.pins.load(Ordering::Relaxed);
-        self.pins.store(pins + 1, Ordering::Relaxed);
-        pins == 0
+    /// The page, while a pin is out or the part's lock is held.
+    #[inline]
+    pub(super) fn page(&self) -> u64 {
+        self.page.load(Ordering::Relaxed)
     }
 
-    /// Takes a pin back. Tells whether it was the last.
-    pub(super) fn unpin(&self) -> bool {
-        let pins = self.pins.load(Ordering::Relaxed);
-        self.pins.store(pins - 1, Ordering::Relaxed);
-        pins == 1
+    /// What a pin that is out needs.
+    #[inline]
+    pub(super) fn pinned(&self) -> Pinned {
+        Pinned {
+            bytes: self.bytes.load(Ordering::Relaxed),
+            serial: self.serial.load(Ordering::Relaxed),
+        }
+    }
+
+    /// Makes a pin with no lock, where one is out. The page may be another by then.
+    #[inline]
+    pub(super) fn join(&self) -> bool {
+        let joined = |users| {
+            let may_join = pins(users) != 0 && users / JOIN < JOINS - 1;
+            may_join.then_some(users + JOIN + 1)
+        };
+        // What was written before the first pin is seen.
+        let update = self
+            .users
+            .fetch_update(Ordering::Acquire, Ordering::Relaxed, joined);
+        update.is_ok()
+    }
+
+    /// Takes a pin back with no lock, where it is not the last one.
+    #[inline]
+    pub(super) fn leave(&self) -> bool {
+        let left = |users| (pins(users) > 1).then_some(users - 1);
+        // What was done with the page comes before what happens once no pin is out.
+        let update = self
+            .users
+            .fetch_update(Ordering::Release, Ordering::Relaxed, left);
+        update.is_ok()
+    }
+
+    /// Under the part's lock: makes the first pin, by a pass of the pool.
+    #[inline]
+    pub(super) fn begin(&self, page: u64, pinned: &Pinned) {
+        self.page.store(page, Ordering::Relaxed);
+        self.bytes.store(pinned.bytes.cast_mut(), Ordering::Relaxed);
+        self.serial.store(pinned.serial, Ordering::Relaxed);
+        self.users.store(1, Ordering::Release);
+    }
+
+    /// Under the part's lock, with a pin out: makes one more. Gives how many were made with no lock
+    /// before.
+    pub(super) fn add(&self) -> u64 {
+        let one_more = |users| Some(pins(users) + 1);
+        let before = self
+            .users
+            .fetch_update(Ordering::Acquire, Ordering::Relaxed, one_more);
+        before.map_or(0, |users| users / JOIN)
+    }
+
+    /// Under the part's lock: takes a pin back. Where it was the last, gives how many were made with
+    /// no lock before.
+    #[inline]
+    pub(super) fn end(&self) -> Option<u64> {
+        let before = self.users.fetch_sub(1, Ordering::AcqRel);
+        if pins(before) != 1 {
+            return None;
+        }
+        self.users.store(0, Ordering::Relaxed);
+        Some(before / JOIN)
     }
 }
 
-/// Which seat each page of a part has that is in a frame.
-pub(super) struct Seating {
-    /// Of each page of the file its seat and one, or 0.
-    of_page: Vec<u32>,
-    free: Vec<u32>,
-    seats: usize,
-    /// How many pages had a seat at once, at most.
-    most: usize,
+/// The seats of a part, and which of them each page has that is in a frame.
+pub(super) struct Seats {
+    seats: Box<[Seat]>,
+    /// Of each page of the file its seat and one, or 0. It changes under the part's lock.
+    of_page: Box<[AtomicU32]>,
 }
 
 /// An empty list with memory for so many.
@@ -85,45 +164,76 @@ pub(super) fn filled<T: Default>(count: usize) -> Result<Vec<T>> {
     Ok(list)
 }
 
-impl Seating {
-    pub(super) fn new(pages: u64, seats: usize) -> Result<Seating> {
-        let mut free = list_of(seats)?;
-        free.extend((0..seats as u32).rev());
-        Ok(Seating {
-            of_page: filled(pages as usize)?,
-            free,
-            seats,
-            most: 0,
+impl Seats {
+    pub(super) fn new(pages: u64, frames: usize) -> Result<Seats> {
+        Ok(Seats {
+            seats: filled(frames)?.into_boxed_slice(),
+            of_page: filled(pages as usize)?.into_boxed_slice(),
         })
     }
 
+    pub(super) fn len(&self) -> usize {
+        self.seats.len()
+    }
+
+    #[inline]
+    pub(super) fn seat(&self, seat: usize) -> &Seat {
+        &self.seats[seat]
+    }
+
+    /// The seat of a page. Where the part's lock is not held, it may be another page's by now.
+    #[inline]
     pub(super) fn of(&self, page: u64) -> Option<usize> {
-        let seat = *self.of_page.get(page as usize)?;
+        let seat = self.of_page.get(page as usize)?.load(Ordering::Relaxed);
         (seat as usize).checked_sub(1)
     }
 
+    fn set(&self, page: u64, seat: u32) {
+        self.of_page[page as usize].store(seat, Ordering::Relaxed);
+    }
+}
+
+/// The seats that no page has.
+pub(super) struct FreeSeats {
+    free: Vec<u32>,
+    /// How many seats pages had at once, at most.
+    most: usize,
+    seats: usize,
+}
+
+impl FreeSeats {
+    pub(super) fn new(seats: usize) -> Result<FreeSeats> {
+        let mut free = list_of(seats)?;
+        free.extend((0..seats as u32).rev());
+        Ok(FreeSeats {
+            free,
+            most: 0,
+            seats,
+        })
+    }
+
     /// Gives a page that came into a frame a seat. There are as many as frames.
-    pub(super) fn give(&mut self, page: u64) -> usize {
+    pub(super) fn give(&mut self, seats: &Seats, page: u64) -> usize {
         let seat = self.free.pop().unwrap_or_default();
-        self.of_page[page as usize] = seat + 1;
+        seats.set(page, seat + 1);
         self.most = self.most.max(self.taken());
         seat as usize
     }
 
     /// Takes the seat of a page that left its frame.
-    pub(super) fn take(&mut self, page: u64) {
-        if let Some(seat) = self.of(page) {
-            self.of_page[page as usize] = 0;
+    pub(super) fn take(&mut self, seats: &Seats, page: u64) {
+        if let Some(seat) = seats.of(page) {
+            seats.set(page, 0);
             self.free.push(seat as u32);
         }
     }
 
-    /// How many pages have a seat.
+    /// How many seats pages have.
     pub(super) fn taken(&self) -> usize {
         self.seats - self.free.len()
     }
 
-    /// How many pages had a seat at once, at most.
+    /// How many seats pages had at once, at most.
     pub(super) fn most(&self) -> usize {
         self.most
     }

@@ -1,6 +1,6 @@
 use super::pager::SharedPager;
 use super::part::{Part, Writing};
-use super::seats::list_of;
+use super::seats::{Seat, list_of};
 use super::unsaved::least;
 use crate::{Error, PageIo, PagerError, Result, Totals};
 use std::io;
@@ -14,7 +14,8 @@ use std::time::Duration;
 /// its own.
 #[derive(Clone, Copy, Debug, Default, PartialEq, Eq)]
 pub struct Stats {
-    /// What was counted since the pager was made.
+    /// What was counted since the pager was made. A pin of a page that was pinned already is a hit,
+    /// which may be counted only when the page is unpinned.
     pub totals: Totals,
     /// Pages that are in frames.
     pub resident: usize,
@@ -31,14 +32,14 @@ pub struct Stats {
 }
 
 /// Bytes of memory for a frame beside its image, and for a page of the file.
-const OF_FRAME: usize = 250;
+const OF_FRAME: usize = 300;
 const OF_PAGE: usize = 8;
 
 impl<F> SharedPager<F> {
     /// Whether a page is in a frame.
     pub fn is_resident(&self, page: u64) -> bool {
         let place = self.place(page);
-        place.is_ok_and(|(part, own)| part.lock().seating.of(own).is_some())
+        place.is_ok_and(|(part, own)| part.seats.of(own).is_some())
     }
 
     /// Counts.
@@ -48,14 +49,15 @@ impl<F> SharedPager<F> {
             let state = part.lock();
             let config = state.pool.config();
             stats.memory += config.pages as usize * OF_PAGE + config.frames * OF_FRAME;
-            stats.memory += state.seating.most() * config.page_size;
-            stats.resident += state.seating.taken();
+            stats.memory += state.free.most() * config.page_size;
+            stats.resident += state.free.taken();
             stats.pinned += state.pinned;
             stats.dirty += state.unsaved.len();
             stats.waits += state.waits;
-            let totals = state.pool.totals();
+            let (totals, joined) = (state.pool.totals(), state.joined);
             drop(state);
             stats.totals.add(&totals);
+            stats.totals.hits += joined;
         }
         stats
     }
@@ -111,15 +113,15 @@ impl<F: PageIo> SharedPager<F> {
         let mut state = part.lock();
         loop {
             state = part.with_image(state)?;
-            let Some(seat) = state.unsaved_seat(own) else {
+            let Some(seat) = part.unsaved_seat(&state, own) else {
                 return Ok(());
             };
             // A page goes out between the writes of its writers, and not within them.
-            let Some(latch) = part.seats[seat].try_read() else {
+            let Some(latch) = seat.try_read() else {
                 state = part.wait_for_pins(state, Duration::MAX);
                 continue;
             };
-            match state.flush(own) {
+            match part.ask_out(&mut state, own) {
                 Ok(None) => return Ok(()),
                 Ok(Some(ticket)) => {
                     let lsn = ticket.lsn();
@@ -189,7 +191,7 @@ impl<F: PageIo> SharedPager<F> {
         // Not all are looked at under the lock, where few may go out.
         let looks = most.saturating_mul(4).saturating_add(64);
         let ready = state.unsaved.ready(durable, state.clean_from, looks);
-        let loose = ready.filter(|(_, seat)| !part.seats[*seat].is_pinned());
+        let loose = ready.filter(|(_, seat)| !part.seats.seat(*seat).is_pinned());
         pages.extend(loose.map(|(page, _)| page).take(pages.capacity()));
         state.clean_from = match state.clean_from.saturating_add(looks) {
             next if next < state.unsaved.len() => next,
@@ -202,11 +204,11 @@ impl<F: PageIo> SharedPager<F> {
     fn clean_page(&self, part: &Part, own: u64, durable: u64) -> Result<bool, PagerError> {
         let mut state = part.with_image(part.lock())?;
         state.pool.mark(0, durable)?;
-        let seat = state.unsaved_seat(own);
-        let Some(latch) = seat.and_then(|seat| part.seats[seat].try_read()) else {
+        let seat = part.unsaved_seat(&state, own);
+        let Some(latch) = seat.and_then(Seat::try_read) else {
             return Ok(false);
         };
-        match state.flush(own) {
+        match part.ask_out(&mut state, own) {
             Ok(Some(ticket)) => {
                 let lsn = ticket.lsn();
                 let writing = Writing::new(part, state, Some(latch), ticket);

@@ -119,8 +119,9 @@ fn counts() {
     drop(pager.read(2).unwrap());
     drop(pager.read(3).unwrap());
     let stats = pager.stats();
+    // The second pin of page 1 is counted once the page is unpinned.
     let totals = Totals {
-        hits: 2,
+        hits: 1,
         faults: 3,
         evictions: 1,
         writes: 0,
@@ -134,6 +135,31 @@ fn counts() {
     pager.flush(1).unwrap();
     let stats = pager.stats();
     assert_eq!((stats.totals.writes, stats.pinned, stats.dirty), (1, 0, 0));
+    assert_eq!(stats.totals.hits, 2);
+}
+
+// All pins of a page share one pass. The page stays until the last of them is gone, whichever that
+// is, and each was a hit.
+#[test]
+fn forty_pins_of_a_page() {
+    let pager = pager(2);
+    put(&pager, 1, 7, 1);
+    let mut pins: Vec<_> = (0..40).map(|_| pager.pin(1).unwrap()).collect();
+    assert_eq!((pager.stats().pinned, pins[39].page()), (1, 1));
+    while let Some(pin) = pins.pop() {
+        let other = 2 + pins.len() as u64 % 3;
+        assert_eq!(pager.read(other).unwrap()[0], 0);
+        assert_eq!(pin.read()[0], 7);
+        assert!(pager.is_resident(1));
+        pins.reverse();
+    }
+    let stats = pager.stats();
+    assert_eq!((stats.pinned, stats.totals.hits), (0, 40));
+    for page in [2, 3, 4, 2, 3, 4] {
+        drop(pager.read(page).unwrap());
+    }
+    assert!(!pager.is_resident(1));
+    assert_eq!(pager.read(1).unwrap()[0], 7);
 }
 
 // Page p is in part p mod parts, by a shift or by a division, and each page is its own.
