@@ -9,7 +9,7 @@
  *     look       the 16 bytes at byte 64 are read in place
  *     page       all words of the page are added up in place
  *     update     8 bytes are written, under LSN 1
- *     tree       a look-up in a B+tree of three levels: three pages, each searched in place. SIZE is 4096
+ *     tree       a look-up in a B+tree of three levels: three pages, each searched in place
  *     evict      look, over four times as many pages as there are frames
  *
  * There are 4,096 frames, and but for evict all pages are resident. The clock of this pool moves once in 16 fixes.
@@ -178,12 +178,30 @@ static void counts(double *hits, double *misses)
 }
 #endif
 
-/* --- The tree: root 0, inner nodes 1 to 16 of 254 children, and leaves of 56 rows, by even keys. A node has its page
- * number, how many entries it has, and from byte 32 on its entries: a key and a child, or a key and a value of 64
- * bytes, which begins with the key and 7 --- */
+/* --- The tree: a root, full inner nodes, as many as there is room for, and full leaves, by even keys. A node has its
+ * page number, how many entries it has, and from byte 32 on its entries: a key and a child, or a key and a value of 64
+ * bytes, which begins with the key and 7. With 4,096 bytes these are 16 inner nodes of 254 children, with 56 rows in
+ * each leaf --- */
 
-enum { HEAD = 32, INNERS = 16, CHILDREN = 254, ROWS = 56, NODES = 1 + INNERS + INNERS * CHILDREN };
-enum { INNER_STEP = 16, LEAF_STEP = 72, KEYS = INNERS * CHILDREN * ROWS };
+enum { HEAD = 32, INNER_STEP = 16, LEAF_STEP = 72 };
+
+static unsigned inners, children, leaf_rows;
+
+static void shape_tree(void)
+{
+    children = (size - HEAD) / INNER_STEP, leaf_rows = (size - HEAD) / LEAF_STEP;
+    inners = (FRAMES - 1) / (children + 1) < children ? (FRAMES - 1) / (children + 1) : children;
+}
+
+static unsigned nodes(void)
+{
+    return 1 + inners + inners * children;
+}
+
+static unsigned keys(void)
+{
+    return inners * children * leaf_rows;
+}
 
 static void put(uint8_t *page, size_t at, uint64_t held)
 {
@@ -193,10 +211,10 @@ static void put(uint8_t *page, size_t at, uint64_t held)
 /* Fills a node. Each entry begins where the first row below it does. */
 static void fill_node(unsigned page, uint8_t *node)
 {
-    bool is_leaf = page > INNERS;
-    unsigned entries = page == 0 ? INNERS : is_leaf ? ROWS : CHILDREN;
-    unsigned rows = page == 0 ? CHILDREN * ROWS : is_leaf ? 1 : ROWS; /* below an entry */
-    unsigned place = page == 0 ? 0 : is_leaf ? page - 1 - INNERS : page - 1, child = page == 0 ? 1 : 1 + INNERS;
+    bool is_leaf = page > inners;
+    unsigned entries = page == 0 ? inners : is_leaf ? leaf_rows : children;
+    unsigned rows = page == 0 ? children * leaf_rows : is_leaf ? 1 : leaf_rows; /* below an entry */
+    unsigned place = page == 0 ? 0 : is_leaf ? page - 1 - inners : page - 1, child = page == 0 ? 1 : 1 + inners;
     memset(node, 0, size);
     put(node, 0, page);
     put(node, 8, entries);
@@ -289,7 +307,7 @@ static void use_all(void)
         if (use != TREE && total != page * (size / 8))
             fail("a wrong page");
     }
-    for (uint64_t key = 0; use == TREE && key < KEYS; key += ROWS / 2)
+    for (uint64_t key = 0; use == TREE && key < keys(); key += (leaf_rows + 1) / 2)
         operate(key);
     for (uint64_t page = 0; use != TREE && page < pages; page++) {
         uint64_t words = use == LOOK || use == EVICT ? 2 : use == PAGE ? size / 8 : 0;
@@ -304,17 +322,18 @@ int main(int argc, char **argv)
     for (use = NOTHING; use < USES && (!is_asked || strcmp(argv[1], names[use])); use++)
         ;
     size = is_asked ? (unsigned)atoi(argv[2]) : 0;
-    if (use == USES || size % 16 != 0 || size < 128 || size > 65536 || (use == TREE && size != 4096))
+    if (use == USES || size % 16 != 0 || size < 128 || size > 65536)
         fail("USE SIZE SECONDS [THREADS]");
     int threads = argc == 5 ? atoi(argv[4]) : 1;
     if (threads < 1 || threads > (is_shared ? MOST_THREADS : 1))
         fail("so many threads do not share the pool");
-    pages = use == TREE ? NODES : use == EVICT ? 4 * FRAMES : FRAMES;
+    shape_tree();
+    pages = use == TREE ? nodes() : use == EVICT ? 4 * FRAMES : FRAMES;
     start();
     use_all();
     double hits, misses, hits_before, misses_before;
     counts(&hits_before, &misses_before);
-    double rate = rate_of((unsigned)threads, use == TREE ? KEYS : pages, atof(argv[3]));
+    double rate = rate_of((unsigned)threads, use == TREE ? keys() : pages, atof(argv[3]));
     counts(&hits, &misses);
     hits -= hits_before, misses -= misses_before;
     printf("%.0f %.3f\n", rate, hits / (hits + misses));

@@ -39,8 +39,8 @@ MOST_FOR_OTHERS = 0.1  # of a processor
 class Owner:
     """With one thread. A cell is a use and a page size."""
     columns = "Use", "Page"
-    cells = [(use, size) for use in ("nothing", "look", "page", "update") for size in SIZES] + [("tree", 4096)]
-    cells += [("evict", size) for size in SIZES]
+    cells = [(use, size) for use in ("nothing", "look", "page", "update", "tree", "evict")
+             for size in SIZES]
 
     @staticmethod
     def benches(folder, prefix):

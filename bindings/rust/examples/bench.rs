@@ -5,8 +5,8 @@
 //!
 //! 4,096 pages of SIZE bytes, each with its number in each word, are all in frames, and are taken at
 //! random. USE is what is done with each: `nothing`; `look` at 16 bytes; the sum of the `page`; an
-//! `update` of 8 bytes. With `tree` it is a look-up in a B+tree of three levels, in 4,081 pages of
-//! 4,096 bytes. Pages are looked at in place. The clock moves once in 16 fixes.
+//! `update` of 8 bytes. With `tree` it is a look-up in a B+tree of three levels, which has nearly as
+//! many pages. Pages are looked at in place. The clock moves once in 16 fixes.
 //!
 //! Printed: operations a second of wall clock, and the sum of what was seen.
 use hojzmated::{Config, Fixed, PageGuard, Pool};
@@ -110,11 +110,9 @@ fn main() -> Outcome<()> {
     };
     let (size, seconds) = (size.parse()?, seconds.parse()?);
     if what == "tree" {
-        if size != tree::SIZE {
-            return Err("the tree has pages of 4096 bytes".into());
-        }
-        let mut bench = Bench::new(tree::PAGES, size, tree::node)?;
-        return measure(seconds, tree::KEYS, |key| bench.look_up(2 * key));
+        let tree = tree::Tree::new(size, PAGES);
+        let mut bench = Bench::new(tree.pages(), size, |page, image| tree.node(page, image))?;
+        return measure(seconds, tree.keys(), |key| bench.look_up(2 * key));
     }
     let mut bench = Bench::new(PAGES, size, fill)?;
     match what.as_str() {

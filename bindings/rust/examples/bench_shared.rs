@@ -6,7 +6,7 @@
 //! There are 4,096 frames for as many pages of SIZE bytes, each with its number in each word. They
 //! are taken at random. USE is what is done with each: `nothing`, so it is pinned and let go; `look`
 //! at 16 bytes; the sum of the `page`; an `update` of 8 bytes. With `tree` it is a look-up in a
-//! B+tree of three levels, in 4,081 pages of 4,096 bytes: each is let go before the next is asked
+//! B+tree of three levels, which has nearly as many pages: each is let go before the next is asked
 //! for. With `evict` it is `look` over four times as many pages as frames. The pages are in the file
 //! `bench.pages` of the folder, which is made anew, and each is used once before it counts.
 //!
@@ -34,7 +34,7 @@ const FRAMES: usize = 4096;
 struct Pages(File);
 
 impl Pages {
-    fn new(count: u64, size: usize, fill: fn(u64, &mut [u8])) -> io::Result<Pages> {
+    fn new(count: u64, size: usize, fill: impl Fn(u64, &mut [u8])) -> io::Result<Pages> {
         let mut options = File::options();
         let options = options.read(true).write(true).create(true).truncate(true);
         let pages = Pages(options.open("bench.pages")?);
@@ -149,11 +149,9 @@ fn main() -> Outcome<()> {
         return Err("bench_shared USE SIZE SECONDS THREADS [PARTS]".into());
     };
     let (size, is_tree) = (size.parse()?, what == "tree");
-    if is_tree && size != tree::SIZE {
-        return Err("the tree has pages of 4096 bytes".into());
-    }
+    let tree = tree::Tree::new(size, FRAMES as u64);
     let pages = match what.as_str() {
-        "tree" => tree::PAGES,
+        "tree" => tree.pages(),
         "evict" => 4 * FRAMES as u64,
         _ => FRAMES as u64,
     };
@@ -161,7 +159,10 @@ fn main() -> Outcome<()> {
     if let Some(parts) = words.get(4) {
         config.parts = parts.parse()?;
     }
-    let file = Pages::new(pages, size, if is_tree { tree::node } else { fill })?;
+    let file = Pages::new(pages, size, |page, image| match is_tree {
+        true => tree.node(page, image),
+        false => fill(page, image),
+    })?;
     let bench = Bench {
         pager: SharedPager::new(&config, file)?,
         threads: threads.parse()?,
@@ -176,7 +177,7 @@ fn main() -> Outcome<()> {
         "look" | "evict" => bench.measure(pages, |page| bench.look(page)),
         "page" => bench.measure(pages, |page| Ok(sum_of(&bench.pager.read(page)?))),
         "update" => bench.measure(pages, |page| bench.update(page)),
-        "tree" => bench.measure(tree::KEYS, |key| bench.look_up(2 * key)),
+        "tree" => bench.measure(tree.keys(), |key| bench.look_up(2 * key)),
         _ => Err("USE is nothing, look, page, update, tree or evict".into()),
     }
 }

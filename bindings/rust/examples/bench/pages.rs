@@ -44,47 +44,74 @@ impl Numbers {
     }
 }
 
-/// A B+tree: the root is page 0, the inner nodes are pages 1 to 16, and the leaves follow. A node
-/// has its number, how many entries it has, and from byte 32 on these: a key and a child, or in a
-/// leaf a key and 64 bytes of value, of which the first word is the key and 7. The keys are the
-/// even numbers.
+/// A B+tree of three levels: a root, full inner nodes, as many as there is room for, and full leaves.
+/// A node has its number, how many entries it has, and from byte 32 on these: a key and a child, or
+/// in a leaf a key and 64 bytes of value, of which the first word is the key and 7. The keys are the
+/// even numbers. With 4,096 bytes these are 16 inner nodes of 254 children, with 56 rows in each
+/// leaf.
 pub mod tree {
     use super::word;
 
-    const INNERS: u64 = 16;
-    const CHILDREN: u64 = 254;
-    const ROWS: u64 = 56;
-    pub const PAGES: u64 = 1 + INNERS + INNERS * CHILDREN;
-    pub const KEYS: u64 = INNERS * CHILDREN * ROWS;
     pub const LEVELS: u32 = 3;
-    pub const SIZE: usize = 4096;
     const HEAD: usize = 32;
+    const STEP: usize = 16;
+    const LEAF_STEP: usize = 72;
 
     /// How many bytes an entry has.
     fn step(level: u32) -> usize {
-        if level + 1 == LEVELS { 72 } else { 16 }
+        if level + 1 == LEVELS { LEAF_STEP } else { STEP }
     }
 
-    /// Fills in the node of a page.
-    pub fn node(page: u64, image: &mut [u8]) {
-        let (level, count, first, keys, child) = match page {
-            0 => (0, INNERS, 0, CHILDREN * ROWS, 1),
-            1..=INNERS => {
-                let leaf = (page - 1) * CHILDREN;
-                (1, CHILDREN, leaf * ROWS, ROWS, 1 + INNERS + leaf)
+    pub struct Tree {
+        inners: u64,
+        children: u64,
+        rows: u64,
+    }
+
+    impl Tree {
+        /// The tree for pages of this size, of which so many are there at most.
+        pub fn new(size: usize, most: u64) -> Tree {
+            let children = ((size - HEAD) / STEP) as u64;
+            Tree {
+                inners: children.min((most - 1) / (children + 1)),
+                children,
+                rows: ((size - HEAD) / LEAF_STEP) as u64,
             }
-            _ => (2, ROWS, (page - 1 - INNERS) * ROWS, 1, 0),
-        };
-        let mut put = |at: usize, word: u64| image[at..at + 8].copy_from_slice(&word.to_le_bytes());
-        put(0, page);
-        put(8, count);
-        for entry in 0..count {
-            let (at, key) = (
-                HEAD + entry as usize * step(level),
-                (first + entry * keys) * 2,
-            );
-            put(at, key);
-            put(at + 8, if level == 2 { key + 7 } else { child + entry });
+        }
+
+        pub fn pages(&self) -> u64 {
+            1 + self.inners + self.inners * self.children
+        }
+
+        pub fn keys(&self) -> u64 {
+            self.inners * self.children * self.rows
+        }
+
+        /// Fills in the node of a page.
+        pub fn node(&self, page: u64, image: &mut [u8]) {
+            let Tree {
+                inners,
+                children,
+                rows,
+            } = *self;
+            let (level, count, first, keys, child) = if page == 0 {
+                (0, inners, 0, children * rows, 1)
+            } else if page <= inners {
+                let leaf = (page - 1) * children;
+                (1, children, leaf * rows, rows, 1 + inners + leaf)
+            } else {
+                (2, rows, (page - 1 - inners) * rows, 1, 0)
+            };
+            let mut put =
+                |at: usize, word: u64| image[at..at + 8].copy_from_slice(&word.to_le_bytes());
+            put(0, page);
+            put(8, count);
+            for entry in 0..count {
+                let at = HEAD + entry as usize * step(level);
+                let key = (first + entry * keys) * 2;
+                put(at, key);
+                put(at + 8, if level == 2 { key + 7 } else { child + entry });
+            }
         }
     }
 
