@@ -21,7 +21,7 @@ use Rattle.bp_clients.specs.Jobs.{NoneIsStrange}
 
 -- ---- one more row
 
-no_fault : {A : Type 0} (b : Bool) → b ≡ false → IsTrue b ⊎ A → A
+pub no_fault : {A : Type 0} (b : Bool) → b ≡ false → IsTrue b ⊎ A → A
 no_fault b none (inl is) = absurd (let no = sym is ∙ none in cc)
 no_fault b none (inr a) = a
 

@@ -7,3 +7,4 @@ pub mod Holding
 pub mod Following
 pub mod Adding
 pub mod Making
+pub mod Working

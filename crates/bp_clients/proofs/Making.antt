@@ -73,11 +73,12 @@ next_session n m left sessions rest s are begins some =
     let same : s ∷ rest ≡ new_session n ∷ sessions_from (suc n) left = sym begins ∙ are ∙ ap (sessions_from n) some in
     record { is = cc; after = cc }
 
-pub made_more : (jobs jobs_after all : List JobValue) (n next : ℕ) (rows : List Row) (scripts rest : List (List Row)) (j : JobValue) → jobs ++ new_jobs n scripts ≡ all → scripts ≡ rows ∷ rest → jobs_after ≡ jobs ++ j ∷ []
-    → j ≡ new_job n rows → next ≡ suc n → jobs_after ++ new_jobs next rest ≡ all
-made_more jobs jobs_after all n next rows scripts rest j so_far begins adds is one =
-    ap (λ m. jobs_after ++ new_jobs m rest) one ∙ ap (λ js. js ++ new_jobs (suc n) rest) (adds ∙ ap (λ k. jobs ++ k ∷ []) is) ∙ append_assoc jobs (new_job n rows ∷ []) (new_jobs (suc n) rest)
-    ∙ ap (λ ss. jobs ++ new_jobs n ss) (sym begins) ∙ so_far
+pub made_more : {P : Type 0} (jobs jobs_after all : List (JobValue P)) (n next : ℕ) (rows : List Row) (scripts rest : List (List Row)) (port : P) (ports left : List P) (j : JobValue P) → jobs ++ new_jobs n scripts ports ≡ all
+    → scripts ≡ rows ∷ rest → ports ≡ port ∷ left → jobs_after ≡ jobs ++ j ∷ [] → j ≡ new_job n rows port → next ≡ suc n → jobs_after ++ new_jobs next rest left ≡ all
+made_more jobs jobs_after all n next rows scripts rest port ports left j so_far begins ports_begin adds is one =
+    ap (λ m. jobs_after ++ new_jobs m rest left) one ∙ ap (λ js. js ++ new_jobs (suc n) rest left) (adds ∙ ap (λ k. jobs ++ k ∷ []) is)
+    ∙ append_assoc jobs (new_job n rows port ∷ []) (new_jobs (suc n) rest left) ∙ ap (λ ps. jobs ++ new_jobs n (rows ∷ rest) ps) (sym ports_begin)
+    ∙ ap (λ ss. jobs ++ new_jobs n ss ports) (sym begins) ∙ so_far
 
 -- the script that comes next fits, and so do those after it
 pub next_fits : (p : Parameters) (n : ℕ) (rows : List Row) (scripts rest : List (List Row)) → ScriptsFit p n scripts → scripts ≡ rows ∷ rest → ScriptFits p n rows × ScriptsFit p (suc n) rest

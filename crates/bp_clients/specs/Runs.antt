@@ -1,6 +1,8 @@
 -- What holds after a run of client threads. A trail and a client's list are in the order of time
 -- here, and so are scripts and refused rows.
-use Rattle.std.specs.Prelude.{◌≡◌, ℕ, ◌<◌, false, List, [], ◌∷◌, ◌++◌, reverse, length, flat_map, Result, Ok, Err, IfOk}
+use Rattle.std.specs.Prelude.{◌≡◌, ℕ, ◌<◌, false, List, [], ◌∷◌, ◌++◌, reverse, length, slice_index_or, flat_map, Result, Ok, Err, IfOk}
+use Rattle.std.specs.declared.vec.Vec.{Vec}
+use Rattle.std.specs.declared.alloc.Global.{Global}
 use Rattle.std.specs.List.Sorted.{IsPermutation, IsNonDecreasingBy}
 use Rattle.bp_page.specs.declared.refusals.Refusal.{Refusal}
 use Rattle.bp_page.specs.declared.refusals.Refusal.TheVariants as refusal
@@ -13,6 +15,8 @@ use Rattle.bp_trail.specs.Pieces.Manner.{session}
 use Rattle.bp_trail.specs.Script.{Follows}
 use Rattle.bp_trail.specs.Legal.{Legal}
 use Rattle.bp_core.specs.Outcomes.{IsFit}
+use Rattle.bp_core.specs.Work.{Reads, Writes, WorksThrough}
+use Rattle.bp_shared.specs.Sessions.{WithSomeLsn}
 use Rattle.bp_audit.specs.Clients.{of_client}
 use Rattle.bp_audit.specs.Log.{IsWithinLog, is_unfix}
 use Rattle.bp_audit.specs.Cut.{BoundedByItsRow}
@@ -56,29 +60,49 @@ MarksByRows scripts trail said refused log =
     → BoundedByItsRow session (list_of 0 scripts) (reverse (list_of 0 said))
     (list_of 0 log.follows.refusals) (log.follows.each 0 log.some) past e
 
+-- each client's port did the work that its list tells, in that order, and nothing else: this led
+-- from the port that was given to the port that is left
+pub record PortsWork {P : Type 0} (reads : Reads P) (writes : Writes P) (said : List (List Entry))
+    (ports left : List P) : Type 0 where
+  pub counted : length left ≡ length ports
+  pub each : (c : ℕ) (d : P) → c < length ports
+      → WorksThrough reads (WithSomeLsn writes) [] (reverse (list_of c said))
+      (slice_index_or ports c d) (slice_index_or left c d)
+
 -- the trail is one legal history, by the rules of the pool; it holds each client's calls once and
--- in that client's order, as its script asks for them; and no mark is ahead of the log
-pub record IsRun (c : Parameters) (scripts : List (List Row)) (trail : List Entry)
-    (said : List (List Entry)) (refused : List Refused) : Type 0 where
+-- in that client's order, as its script asks for them, over the port at the script's place; and no
+-- mark is ahead of the log
+pub record IsRun {P : Type 0} (reads : Reads P) (writes : Writes P) (c : Parameters)
+    (scripts : List (List Row)) (ports : List P) (trail : List Entry) (said : List (List Entry))
+    (refused : List Refused) (left : List P) : Type 0 where
   pub legal : Legal c (reverse trail)
   pub rules : KeepsRules c trail
   pub theirs : SaidIsTheirs (length scripts) trail said
   pub follows : EachFollows scripts said refused
   pub known : NoneIsStrange refused
+  pub works : PortsWork reads writes said ports left
   pub within_log : MarksWithinLog scripts trail said refused
   pub by_rows : MarksByRows scripts trail said refused within_log
 
--- whichever scripts the new jobs are of, the answer is a run of those, where it is one
-abbrev pub RunsJobs : Parameters → List JobValue → Result Outcome Refusal → Type 0
-RunsJobs c jobs answer =
-    (scripts : List (List Row)) → jobs ≡ new_jobs 0 scripts
-    → IfOk answer (λ run. IsRun c scripts run.trail.items (lists run.said.items) run.refused.items)
+-- a run, by what it answered
+abbrev pub AnswersRun : {P : Type 0} → Reads P → Writes P → Parameters → List (List Row) → List P
+    → Outcome × Vec P Global → Type 0
+AnswersRun reads writes c scripts ports (run, left) =
+    IsRun reads writes c scripts ports run.trail.items (lists run.said.items) run.refused.items
+    left.items
+
+-- whichever scripts and ports the new jobs are of, the answer is a run of those, where it is one
+abbrev pub RunsJobs : {P : Type 0} → Reads P → Writes P → Parameters → List (JobValue P)
+    → Result (Outcome × Vec P Global) Refusal → Type 0
+RunsJobs {P} reads writes c jobs answer =
+    (scripts : List (List Row)) (ports : List P) → length ports ≡ length scripts
+    → jobs ≡ new_jobs 0 scripts ports → IfOk answer (AnswersRun reads writes c scripts ports)
 
 -- what the jobs left, with the refused rows of all put in the order of their numbers
-pub record Joined (trail : List Entry) (jobs : List JobValue) (said : List (List Entry))
-    (refused : List Refused) : Type 0 where
+pub record Joined {P : Type 0} (trail : List Entry) (jobs : List (JobValue P))
+    (said : List (List Entry)) (refused : List Refused) (ports : List P) : Type 0 where
   pub one_by_one : List Refused
-  pub collected : Collected trail jobs said one_by_one
+  pub collected : Collected trail jobs said one_by_one ports
   pub same : IsPermutation one_by_one refused
   pub in_order : IsNonDecreasingBy (λ r. r.row) refused
 

@@ -3,11 +3,14 @@ use Rattle.std.specs.Prelude.{◌≡◌, ◌⊎◌, ℕ, Bool, false, ◌||◌, 
 use Rattle.bp_page.specs.declared.refusals.Refusal.{Refusal}
 use Rattle.bp_page.specs.declared.refusals.Refusal.TheVariants as refusal
 use Rattle.bp_trail.specs.declared.scripts.Step.{Step}
+use Rattle.bp_trail.specs.declared.scripts.Step.TheVariants as step
 use Rattle.bp_trail.specs.Trail.{Trail}
 use Rattle.bp_trail.specs.Pieces.{Outcome}
 use Rattle.bp_trail.specs.Pieces.Manner.{session}
 use Rattle.bp_trail.specs.Pieces.Outcome.{accepted, refused}
 use Rattle.bp_trail.specs.Script.{RowPiece}
+use Rattle.bp_core.specs.Work.{Reads, Writes}
+use Rattle.bp_shared.specs.Sessions.{DoesWorkSaid}
 
 -- the pool does not know a ticket (16) or a pass (24) that it gave: the run is at fault, and no row
 abbrev pub is_fault : Outcome → Bool
@@ -29,3 +32,11 @@ pub record AddsStep (client : ℕ) (step : Step) (outcome : Outcome)
 abbrev pub StepSaid : ℕ → Step → Outcome → Trail → Trail → Type 0
 StepSaid client step outcome said after =
     IsTrue (is_fault outcome) ⊎ AddsStep client step outcome said after
+
+-- for a fix or a flush the port did the work of what the list got, and no other step asks the port
+abbrev pub StepWork : {P : Type 0} → Reads P → Writes P → Step → Trail → Trail → P → P → Type 0
+StepWork reads writes (step.Fix page) said after port kept =
+    DoesWorkSaid reads writes said after port kept
+StepWork reads writes (step.Flush page) said after port kept =
+    DoesWorkSaid reads writes said after port kept
+StepWork reads writes _ said after port kept = kept ≡ port

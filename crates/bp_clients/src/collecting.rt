@@ -14,10 +14,11 @@ use bp_shared::PoolName;
 
 /// What a job left, where its list is what the trail has of its client, and where the log of client
 /// 0 bounds the marks. It takes no memory.
-fn agreed<N: PoolName, P: Port>(trail: &[Entry], job: Job<N, P>) -> Option<Left>
+fn agreed<N: PoolName, P: Port>(trail: &[Entry], job: Job<N, P>) -> Option<Left<P>>
     ensures agrees { IfSome result (λ left. Agrees trail.now job) }
     ensures said { IfSome result (λ left. left.said.items ≡ reverse job.said) }
     ensures refused { IfSome result (λ left. left.refused.items ≡ job.refused) }
+    ensures port { IfSome result (λ left. left.port ≡ job.port) }
     ensures none { IfNone result (Disagrees trail.now job) }
 {
     let left = job.into_left()?;
@@ -45,17 +46,22 @@ fn add_left<N: PoolName, P: Port>(
     job: Job<N, P>,
     said: &mut Vec<Vec<Entry>>,
     refused: &mut Vec<Refused>,
+    ports: &mut Vec<P>,
 ) -> Result<(), Refusal>
     ensures agrees { OnOk result (Agrees trail.now job) }
     ensures said { OnOk result (lists said.new.items ≡ lists said.old.items ++ reverse job.said ∷
         []) }
     ensures refused { OnOk result (refused.new.items ≡ refused.old.items ++ job.refused) }
+    ensures ports { OnOk result (ports.new.items ≡ ports.old.items ++ job.port ∷ []) }
     ensures fault { IfErr result (NotAdded (Disagrees trail.now job)) }
 {
     let Some(left) = agreed(trail, job) else {
         return Err(Refusal::Disagree);
     };
     append(refused, &left.refused)?;
+    let Ok(()) = ports.push(left.port) else {
+        return Err(Refusal::OutOfMemory);
+    };
     match said.push(left.said) {
         Ok(()) => Ok(()),
         Err(_) => Err(Refusal::OutOfMemory),
@@ -70,14 +76,15 @@ pub(crate) fn collect<N: PoolName, P: Port>(
     jobs: Vec<Job<N, P>>,
     said: &mut Vec<Vec<Entry>>,
     refused: &mut Vec<Refused>,
+    ports: &mut Vec<P>,
 ) -> Result<(), Refusal>
-    requires empty { (said.old.items ≡ []) × (refused.old.items ≡ []) }
+    requires empty { (said.old.items ≡ []) × (refused.old.items ≡ []) × (ports.old.items ≡ []) }
     ensures collected { OnOk result (Collected trail.now jobs.items
-        (lists said.new.items) refused.new.items) }
+        (lists said.new.items) refused.new.items ports.new.items) }
     ensures fault { IfErr result (NotAdded (SomeDisagrees trail.now jobs.items)) }
 {
     for job in jobs {
-        add_left(trail, job, said, refused)?;
+        add_left(trail, job, said, refused, ports)?;
     }
     Ok(())
 }

@@ -3,6 +3,7 @@ ghost use Rattle.std.specs.Prelude.{◌≡◌, ◌≤◌, IsTrue, [], length, re
 ghost use Rattle.bp_trail.specs.Pieces.{outcome_of};
 ghost use Rattle.bp_trail.specs.Pieces.Manner.{session};
 ghost use Rattle.bp_trail.specs.Script.{FollowsBy};
+ghost use Rattle.bp_shared.specs.Sessions.{DoesWorkSaid};
 ghost use Rattle.bp_clients.specs.Steps.{is_fault};
 ghost use Rattle.bp_clients.specs.Jobs.{NoneIsStrange, ScriptFits};
 
@@ -34,7 +35,7 @@ impl<N: PoolName, P: Port> Model for Job<N, P> {
     ghost use Rattle.std.specs.Prelude.{vec_capacity};
     ghost use Rattle.bp_clients.specs.Jobs.{JobValue, IsJob, job_view};
 
-    ghost Value = { JobValue };
+    ghost Value = { JobValue P };
 
     ghost view = { λ j. job_view j.runner j.script j.ends j.refused j.is_done };
 
@@ -43,15 +44,16 @@ impl<N: PoolName, P: Port> Model for Job<N, P> {
         (vec_capacity j.ends) (vec_capacity j.refused) };
 }
 
-/// What a job left: the client's list in the order of time, where the pieces of its rows end, and
-/// the rows refused.
+/// What a job left: the client's list in the order of time, where the pieces of its rows end, the
+/// rows refused, and its port.
 #[derive(Drop)]
-pub(crate) struct Left {
+pub(crate) struct Left<P: Port> {
     pub(crate) client: u8,
     pub(crate) script: Vec<Row>,
     pub(crate) said: Vec<Entry>,
     pub(crate) ends: Vec<usize>,
     pub(crate) refused: Vec<Refused>,
+    pub(crate) port: P,
 }
 
 /// Whether an outcome is a fault of the run, and no row's.
@@ -81,6 +83,8 @@ fn run_rows<N: PoolName, P: Port, R: Wait>(
     ensures client { runner.new.client ≡ runner.old.client }
     ensures follows { IsTrue result → FollowsBy session (reverse script.now)
         (reverse ends.new.items) runner.new.said (reverse refused.new.items) }
+    ensures work { IsTrue result → DoesWorkSaid P.read_gives P.write_gives
+        runner.old.said runner.new.said runner.old.port runner.new.port }
     ensures known { NoneIsStrange refused.new.items }
     ensures ends_capacity { vec_capacity ends.new ≡ vec_capacity ends.old }
     ensures refused_capacity { vec_capacity refused.new ≡ vec_capacity refused.old }
@@ -98,9 +102,9 @@ fn run_rows<N: PoolName, P: Port, R: Wait>(
 }
 
 impl<N: PoolName, P: Port> Job<N, P> {
-    ghost use Rattle.std.specs.Prelude.{◌≡◌, false, IfNone, IfOk, IfSome, IsTrue, [], length};
+    ghost use Rattle.std.specs.Prelude.{◌≡◌, true, false, IfNone, IfOk, IfSome, IsTrue, [], length};
     ghost use Rattle.std.specs.Prelude.{reverse};
-    ghost use Rattle.bp_clients.specs.Jobs.{ScriptFits, FollowsCut, new_job};
+    ghost use Rattle.bp_clients.specs.Jobs.{ScriptFits, FollowsCut, Ran, new_job};
 
     /// The job of a script.
     pub(crate) fn new(
@@ -110,7 +114,7 @@ impl<N: PoolName, P: Port> Job<N, P> {
     ) -> Result<Job<N, P>, AllocError>
         requires fits { ScriptFits N.parameters runner.client script.items }
         requires new { runner.said ≡ [] }
-        ensures { IfOk result (λ job. job ≡ new_job runner.client script.items) }
+        ensures { IfOk result (λ job. job ≡ new_job runner.client script.items runner.port) }
     {
         let ends = Vec::with_capacity(alloc, script.len())?;
         let refused = Vec::with_capacity(alloc, script.len())?;
@@ -142,8 +146,7 @@ impl<N: PoolName, P: Port> Job<N, P> {
     /// Runs the script, and then gives back the passes that are still held. A job that was run
     /// before is not run again.
     pub(crate) fn run<R: Wait>(&mut self, rt: &R, pool: &SharedPool<N>)
-        ensures client { self.new.client ≡ self.old.client }
-        ensures script { self.new.script ≡ self.old.script }
+        ensures { Ran P.read_gives P.write_gives self.old self.new }
     {
         self.is_done = false;
         if !self.is_new() {
@@ -163,12 +166,14 @@ impl<N: PoolName, P: Port> Job<N, P> {
     }
 
     /// What the job left, if its script was run whole.
-    pub(crate) fn into_left(self) -> Option<Left>
+    pub(crate) fn into_left(self) -> Option<Left<P>>
+        ensures done { IfSome result (λ _. self.is_done ≡ true) }
         ensures client { IfSome result (λ left. left.client ≡ self.client) }
         ensures script { IfSome result (λ left. left.script.items ≡ self.script) }
         ensures said { IfSome result (λ left. reverse left.said.items ≡ self.said) }
         ensures ends { IfSome result (λ left. reverse left.ends.items ≡ self.ends) }
         ensures refused { IfSome result (λ left. left.refused.items ≡ self.refused) }
+        ensures port { IfSome result (λ left. left.port ≡ self.port) }
         ensures follows { IfSome result (λ left. FollowsCut self.client self.script self.ends
             self.said self.refused) }
         ensures undone { IfNone result (self.is_done ≡ false) }
@@ -184,12 +189,15 @@ impl<N: PoolName, P: Port> Job<N, P> {
         if !is_done {
             return None;
         }
+        let client = runner.client();
+        let (said, port) = runner.into_left();
         Some(Left {
-            client: runner.client(),
+            client,
             script,
-            said: runner.into_said(),
+            said,
             ends,
             refused,
+            port,
         })
     }
 }

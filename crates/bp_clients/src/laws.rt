@@ -9,7 +9,9 @@ ghost use Rattle.bp_trail.specs.Legal.{Legal};
 ghost use Rattle.bp_clients.specs.Jobs.{NoneIsStrange};
 ghost use Rattle.bp_clients.specs.Rules.{KeepsRules};
 ghost use Rattle.bp_clients.specs.Runs.{MarksByRows, MarksWithinLog, SaidIsTheirs, IsRun};
-ghost use Rattle.bp_clients.specs.Runs.{after_lists, joined_lists, PiecesAreTheirs};
+ghost use Rattle.bp_clients.specs.Runs.{after_lists, joined_lists, PiecesAreTheirs, PortsWork};
+
+use bp_ports::Port;
 
 /// In the trail of every run each reply is what the page map answers there from the calls before
 /// it, or that a read without an image found a wrong page; each page that leaves has no pins and is
@@ -34,19 +36,22 @@ pub fn marks_keep_to_the_log_rows()
 /// A trail that is taken in pieces, and lists that are cut in pieces, are a run's when they are
 /// joined: what each cut says of its piece adds up to the joined pieces; so these are legal where
 /// the whole is; and the lists are the trail's entries of each client where that is so piece by
-/// piece. Where by these lists the clients follow their scripts too, and no mark is ahead of the
-/// log rows, it is a run.
-pub fn pieces_are_a_run()
+/// piece. Where by these lists the clients follow their scripts too, each port did the work of its
+/// client's list, and no mark is ahead of the log rows, it is a run.
+pub fn pieces_are_a_run<P: Port>()
     ensures whole { (pieces : List (List AnEntry)) → after_lists [] pieces ≡ reverse
         (joined_lists pieces) }
     ensures legal { (c : Parameters) (pieces : List (List AnEntry)) →
         Legal c (after_lists [] pieces) → Legal c (reverse (joined_lists pieces)) }
-    ensures run { (c : Parameters) (scripts : List (List ARow)) (trail : List (List AnEntry))
-        (said : List (List (List AnEntry))) (refused : List ARefused) →
+    ensures run { (c : Parameters) (scripts : List (List ARow)) (ports left : List P)
+        (trail : List (List AnEntry)) (said : List (List (List AnEntry)))
+        (refused : List ARefused) →
         Legal c (after_lists [] trail) → PiecesAreTheirs (length scripts) trail said →
-        NoneIsStrange refused → MarksWithinLog scripts (joined_lists trail)
-        (map joined_lists said) refused → IsRun c scripts (joined_lists trail)
-        (map joined_lists said) refused }
+        NoneIsStrange refused →
+        PortsWork P.read_gives P.write_gives (map joined_lists said) ports left →
+        MarksWithinLog scripts (joined_lists trail) (map joined_lists said) refused →
+        IsRun P.read_gives P.write_gives c scripts ports (joined_lists trail)
+        (map joined_lists said) refused left }
     ensures theirs { (clients : ℕ) (trail : List (List AnEntry))
         (said : List (List (List AnEntry))) → PiecesAreTheirs clients trail said →
         SaidIsTheirs clients (joined_lists trail) (map joined_lists said) }

@@ -2,9 +2,10 @@
 ghost use Rattle.std.specs.Prelude.{◌≡◌, ◌⊎◌, ◌≤◌, ◌<◌, ℕ, IfErr, IfOk, OnErr, All, [], map};
 ghost use Rattle.std.specs.Prelude.{reverse, length, vec_len, slice_index_or};
 ghost use Rattle.bp_trail.specs.Legal.{Legal};
-ghost use Rattle.bp_clients.specs.Jobs.{EachScriptFits, NotAdded, SameJob, SomeDisagrees};
+ghost use Rattle.bp_clients.specs.Jobs.{EachScriptFits, NotAdded, Ran, SomeDisagrees};
 ghost use Rattle.bp_clients.specs.Jobs.{sessions_from, new_jobs, lists};
-ghost use Rattle.bp_clients.specs.Runs.{run_parameters, RunAnswers, Joined, IsRun, RunsJobs};
+ghost use Rattle.bp_clients.specs.Runs.{run_parameters, RunAnswers, Joined, IsRun};
+ghost use Rattle.bp_clients.specs.Runs.{AnswersRun, RunsJobs};
 
 use crate::collecting::collect;
 use crate::job::Job;
@@ -65,7 +66,8 @@ fn make_jobs<N: PoolName, P: Port>(
     requires ports { vec_len ports ≡ vec_len scripts }
     requires size { All (λ p. (P.geometry_of p).size ≡ N.parameters.size) ports.items }
     requires fits { EachScriptFits N.parameters (lists scripts.items) }
-    ensures jobs { IfOk result (λ jobs. jobs.items ≡ new_jobs 0 (lists scripts.items)) }
+    ensures jobs { IfOk result (λ jobs.
+        jobs.items ≡ new_jobs 0 (lists scripts.items) ports.items) }
     ensures refused { OnErr result (result ≡ Err Refusal.OutOfMemory) }
 {
     let mut jobs = Vec::new(alloc);
@@ -95,54 +97,59 @@ fn run_jobs<N: PoolName + Send + Sync, P: Port + Send, R: Threads + Wait + Sync>
     jobs: &mut [Job<N, P>],
 )
     requires some { 0 < length jobs.old }
-    ensures same { (k : ℕ) (d : _) → k < length jobs.old →
-        SameJob (slice_index_or jobs.old k d) (slice_index_or jobs.new k d) }
+    ensures ran { (k : ℕ) (d : _) → k < length jobs.old → Ran P.read_gives P.write_gives
+        (slice_index_or jobs.old k d) (slice_index_or jobs.new k d) }
 {
     let count = jobs.len();
     thread::for_each_mut(rt, jobs, count, &|_, job| job.run(rt, pool));
 }
 
 /// What the jobs left, joined: each client's list, and the refused rows of all in the order of
-/// their numbers.
+/// their numbers; and each client's port.
 fn joined<N: PoolName, P: Port>(
     core: Core,
     jobs: Vec<Job<N, P>>,
     said: Vec<Vec<Entry>>,
     refused: Vec<Refused>,
-) -> Result<Outcome, Refusal>
+    ports: Vec<P>,
+) -> Result<(Outcome, Vec<P>), Refusal>
     requires uncut { core.before ≡ [] }
-    requires empty { (said.items ≡ []) × (refused.items ≡ []) }
-    ensures own { IfOk result (λ run. reverse run.trail.items ≡ core.past) }
-    ensures legal { IfOk result (λ run. Legal core.parameters (reverse run.trail.items)) }
-    ensures room { IfOk result (λ run. vec_len run.trail ≤ core.parameters.room) }
-    ensures joined { IfOk result (λ run. Joined run.trail.items jobs.items
-        (lists run.said.items) run.refused.items) }
+    requires empty { (said.items ≡ []) × (refused.items ≡ []) × (ports.items ≡ []) }
+    ensures own { IfOk result (λ run. reverse run.0.trail.items ≡ core.past) }
+    ensures legal { IfOk result (λ run. Legal core.parameters (reverse run.0.trail.items)) }
+    ensures room { IfOk result (λ run. vec_len run.0.trail ≤ core.parameters.room) }
+    ensures joined { IfOk result (λ run. Joined run.0.trail.items jobs.items
+        (lists run.0.said.items) run.0.refused.items run.1.items) }
     ensures refused { IfErr result (NotAdded (SomeDisagrees (reverse core.past) jobs.items)) }
 {
     let mut said = said;
     let mut refused = refused;
-    collect(core.trail(), jobs, &mut said, &mut refused)?;
+    let mut ports = ports;
+    collect(core.trail(), jobs, &mut said, &mut refused, &mut ports)?;
     refused.sort_unstable_by_key(|refused| refused.row);
-    Ok(Outcome {
+    let outcome = Outcome {
         trail: core.into_trail(),
         said,
         refused,
-    })
+    };
+    Ok((outcome, ports))
 }
 
-/// Empty lists for what a run leaves, with room for so many scripts and rows: what each client
-/// said, and the rows refused.
-fn empty_lists(
+/// Empty lists for what a run leaves, with room for so many clients and rows: what each client
+/// said, the rows refused, and the ports.
+fn empty_lists<P: Port>(
     alloc: Global,
-    scripts: usize,
+    clients: usize,
     rows: usize,
-) -> Result<(Vec<Vec<Entry>>, Vec<Refused>), Refusal>
-    ensures empty { IfOk result (λ made. (made.0.items ≡ []) × (made.1.items ≡ [])) }
+) -> Result<(Vec<Vec<Entry>>, Vec<Refused>, Vec<P>), Refusal>
+    ensures empty { IfOk result (λ made. (made.0.items ≡ []) × (made.1.items ≡ []) ×
+        (made.2.items ≡ [])) }
     ensures refused { OnErr result (result ≡ Err Refusal.OutOfMemory) }
 {
-    let said = Vec::with_capacity(alloc, scripts)?;
+    let said = Vec::with_capacity(alloc, clients)?;
     let refused = Vec::with_capacity(alloc, rows)?;
-    Ok((said, refused))
+    let ports = Vec::with_capacity(alloc, clients)?;
+    Ok((said, refused, ports))
 }
 
 /// Runs the jobs, each in a thread of its own, ends the pool, and joins what they left. The memory
@@ -153,19 +160,19 @@ fn run_pool<N: PoolName + Send + Sync, P: Port + Send, R: Threads + Wait + Sync>
     pool: SharedPool<N>,
     taker: Taker<N>,
     jobs: Vec<Job<N, P>>,
-) -> Result<Outcome, Refusal>
+) -> Result<(Outcome, Vec<P>), Refusal>
     requires some { 0 < vec_len jobs }
     requires uncut { taker.past ≡ [] }
-    ensures run { RunsJobs N.parameters jobs.items result }
-    ensures room { IfOk result (λ run. vec_len run.trail ≤ N.parameters.room) }
+    ensures run { RunsJobs P.read_gives P.write_gives N.parameters jobs.items result }
+    ensures room { IfOk result (λ run. vec_len run.0.trail ≤ N.parameters.room) }
     ensures refused { OnErr result ((result ≡ Err Refusal.OutOfMemory) ⊎
         (result ≡ Err Refusal.Disagree)) }
 {
-    let (said, refused) = empty_lists(alloc, jobs.len(), count_rows(&jobs))?;
+    let (said, refused, ports) = empty_lists(alloc, jobs.len(), count_rows(&jobs))?;
     let mut jobs = jobs;
     run_jobs(rt, &pool, jobs.as_mut_slice());
     let (core, _, _) = pool.finish(taker);
-    joined(core, jobs, said, refused)
+    joined(core, jobs, said, refused, ports)
 }
 
 /// Runs the clients of a pool whose parts agree on N.
@@ -176,7 +183,7 @@ fn run_named<N: PoolName + Send + Sync, P: Port + Send, R: Threads + Wait + Sync
     parts: Parts,
     scripts: Vec<Vec<Row>>,
     ports: Vec<P>,
-) -> Result<Outcome, Refusal>
+) -> Result<(Outcome, Vec<P>), Refusal>
     requires mark { parts.mark ≡ N.mark }
     requires parameters { core.parameters ≡ N.parameters }
     requires before { (core.before ≡ N.before) × (core.before ≡ []) }
@@ -188,9 +195,9 @@ fn run_named<N: PoolName + Send + Sync, P: Port + Send, R: Threads + Wait + Sync
     requires ports { vec_len ports ≡ vec_len scripts }
     requires size { All (λ p. (P.geometry_of p).size ≡ N.parameters.size) ports.items }
     requires fits { EachScriptFits N.parameters (lists scripts.items) }
-    ensures run { IfOk result (λ run. IsRun N.parameters (lists scripts.items) run.trail.items
-        (lists run.said.items) run.refused.items) }
-    ensures room { IfOk result (λ run. vec_len run.trail ≤ N.parameters.room) }
+    ensures run { IfOk result (AnswersRun P.read_gives P.write_gives N.parameters
+        (lists scripts.items) ports.items) }
+    ensures room { IfOk result (λ run. vec_len run.0.trail ≤ N.parameters.room) }
     ensures refused { OnErr result ((result ≡ Err Refusal.OutOfMemory) ⊎
         (result ≡ Err Refusal.Disagree)) }
 {
@@ -214,8 +221,9 @@ fn run_named<N: PoolName + Send + Sync, P: Port + Send, R: Threads + Wait + Sync
 /// in script 0 alone.
 ///
 /// At `Ok` the trail is one legal history of at most `config.room` entries, by the rules of the
-/// pool; each client's list is the trail's entries of that client and follows its script; and no
-/// mark is ahead of the log rows of client 0. `BadSettings` where the frames are not 1 to 65,536 or
+/// pool; each client's list is the trail's entries of that client and follows its script; no mark
+/// is ahead of the log rows of client 0; and each port, which comes back, did the work that its
+/// client's list tells and nothing else. `BadSettings` where the frames are not 1 to 65,536 or
 /// the room not 1 to 16,777,216, before any thread starts. `OutOfMemory` where memory is wanted
 /// outside a row. `Disagree` where a client was given what the pool did not know, or what it saw is
 /// not what the trail has of it. Threads have ended at every return.
@@ -225,14 +233,15 @@ pub fn run_clients<P: Port + Send, R: Threads + Wait + Sync>(
     config: Config,
     scripts: Vec<Vec<Row>>,
     ports: Vec<P>,
-) -> Result<Outcome, Refusal>
+) -> Result<(Outcome, Vec<P>), Refusal>
     requires clients { (0 < vec_len scripts) × (vec_len scripts ≤ 64) }
     requires ports { vec_len ports ≡ vec_len scripts }
     requires geometry { All (λ p. P.geometry_of p ≡ config.geometry) ports.items }
     requires fits { EachScriptFits (run_parameters config (vec_len scripts)) (lists scripts.items) }
-    ensures run { IfOk result (λ run. IsRun (run_parameters config (vec_len scripts))
-        (lists scripts.items) run.trail.items (lists run.said.items) run.refused.items) }
-    ensures room { IfOk result (λ run. vec_len run.trail ≤ config.room) }
+    ensures run { IfOk result (λ run. IsRun P.read_gives P.write_gives
+        (run_parameters config (vec_len scripts)) (lists scripts.items) ports.items
+        run.0.trail.items (lists run.0.said.items) run.0.refused.items run.1.items) }
+    ensures room { IfOk result (λ run. vec_len run.0.trail ≤ config.room) }
     ensures answers { RunAnswers (run_parameters config (vec_len scripts)) result }
 {
     let clients = scripts.len() as u8;

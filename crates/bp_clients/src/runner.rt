@@ -1,5 +1,5 @@
 //! What one client's thread acts with, and what each step of a script does.
-ghost use Rattle.std.specs.Prelude.{◌≡◌, ◌+◌, ◌≤◌, ◌<◌, IfNone, OnOk, OnErr, IsTrue, []};
+ghost use Rattle.std.specs.Prelude.{◌≡◌, ◌≢◌, ◌+◌, ◌≤◌, ◌<◌, IfNone, OnOk, OnErr, IsTrue, []};
 ghost use Rattle.std.specs.Prelude.{◌∷◌, length};
 ghost use Rattle.bp_trail.specs.declared.entries.Call.TheVariants as Call;
 ghost use Rattle.bp_trail.specs.declared.entries.Reply.TheVariants as Reply;
@@ -29,11 +29,11 @@ pub(crate) struct Runner<N: PoolName, P: Port> {
 
 impl<N: PoolName, P: Port> Model for Runner<N, P> {
     ghost use Rattle.std.specs.Prelude.{◌≡◌, []};
-    ghost use Rattle.bp_shared.specs.Sessions.{SessionValue};
+    ghost use Rattle.bp_clients.specs.Jobs.{RunnerValue, runner_of};
 
-    ghost Value = { SessionValue };
+    ghost Value = { RunnerValue P };
 
-    ghost view = { λ r. r.session };
+    ghost view = { λ r. runner_of r.session r.port };
 
     // Nothing was cut from the list.
     ghost invariant = { λ r. ((P.geometry_of r.port).size ≡ N.parameters.size)
@@ -83,12 +83,17 @@ fn next_of<N: PoolName>(session: &Session<N>) -> Option<PassNote>
 }
 
 impl<N: PoolName, P: Port> Runner<N, P> {
-    ghost use Rattle.std.specs.Prelude.{◌≡◌, ◌+◌, ◌≤◌, ◌<◌, [], IsTrue, length, reverse};
+    ghost use Rattle.std.specs.Prelude.{◌≡◌, ◌≢◌, ◌+◌, ◌≤◌, ◌<◌, [], Err, IsTrue, length};
+    ghost use Rattle.std.specs.Prelude.{reverse};
+    ghost use Rattle.bp_page.specs.declared.refusals.Refusal.TheVariants as Refusal;
+    ghost use Rattle.bp_shared.specs.Sessions.{DoesWorkSaid};
+    ghost use Rattle.bp_clients.specs.Jobs.{runner_of};
+    ghost use Rattle.bp_clients.specs.Steps.{StepWork};
 
     pub(crate) fn new(session: Session<N>, port: P, log: Option<LogWriter<N>>) -> Runner<N, P>
         requires port { (P.geometry_of port).size ≡ N.parameters.size }
         requires whole { session.before ≡ [] }
-        ensures { result ≡ session }
+        ensures { result ≡ runner_of session port }
     {
         Runner { session, port, log }
     }
@@ -107,16 +112,17 @@ impl<N: PoolName, P: Port> Runner<N, P> {
         self.session.said().len()
     }
 
-    /// Gives the client's list, the oldest entry first.
-    pub(crate) fn into_said(self) -> Vec<Entry>
-        ensures { reverse result.items ≡ self.said }
+    /// Gives the client's list, the oldest entry first, and its port.
+    pub(crate) fn into_left(self) -> (Vec<Entry>, P)
+        ensures said { reverse result.0.items ≡ self.said }
+        ensures port { result.1 ≡ self.port }
     {
         let Runner {
             session,
-            port: _,
+            port,
             log: _,
         } = self;
-        session.into_said()
+        (session.into_said(), port)
     }
 
     fn fix<R: Wait>(
@@ -129,6 +135,8 @@ impl<N: PoolName, P: Port> Runner<N, P> {
         requires page_in { page < N.parameters.pages }
         requires held { held.old.passes ≡ held_passes self.old.said }
         ensures client { self.new.client ≡ self.old.client }
+        ensures work { result ≢ Err Refusal.UnknownTicket → DoesWorkSaid P.read_gives P.write_gives
+            self.old.said self.new.said self.old.port self.new.port }
         ensures outcome { StepSaid self.old.client (Step.Fix page)
             (outcome_of result) self.old.said self.new.said }
         ensures held { held.new.passes ≡ held_passes self.new.said }
@@ -142,6 +150,8 @@ impl<N: PoolName, P: Port> Runner<N, P> {
     fn flush<R: Wait>(&mut self, rt: &R, pool: &SharedPool<N>, page: PageNo) -> Result<(), Refusal>
         requires page_in { page < N.parameters.pages }
         ensures client { self.new.client ≡ self.old.client }
+        ensures work { result ≢ Err Refusal.UnknownTicket → DoesWorkSaid P.read_gives P.write_gives
+            self.old.said self.new.said self.old.port self.new.port }
         ensures outcome { StepSaid self.old.client (Step.Flush page)
             (outcome_of result) self.old.said self.new.said }
         ensures held { held_passes self.new.said ≡ held_passes self.old.said }
@@ -168,6 +178,7 @@ impl<N: PoolName, P: Port> Runner<N, P> {
     ) -> Result<(), Refusal>
         requires held { held.now.passes ≡ held_passes self.old.said }
         ensures client { self.new.client ≡ self.old.client }
+        ensures port { self.new.port ≡ self.old.port }
         ensures outcome { StepSaid self.old.client (Step.Read page)
             (outcome_of result) self.old.said self.new.said }
         ensures held { held_passes self.new.said ≡ held_passes self.old.said }
@@ -199,6 +210,7 @@ impl<N: PoolName, P: Port> Runner<N, P> {
         requires fits { offset + length bytes.now ≤ N.parameters.size }
         requires held { held.now.passes ≡ held_passes self.old.said }
         ensures client { self.new.client ≡ self.old.client }
+        ensures port { self.new.port ≡ self.old.port }
         ensures outcome { StepSaid self.old.client (Step.Write page offset bytes.now lsn)
             (outcome_of result) self.old.said self.new.said }
         ensures held { held_passes self.new.said ≡ held_passes self.old.said }
@@ -225,6 +237,7 @@ impl<N: PoolName, P: Port> Runner<N, P> {
     ) -> Result<(), Refusal>
         requires held { held.old.passes ≡ held_passes self.old.said }
         ensures client { self.new.client ≡ self.old.client }
+        ensures port { self.new.port ≡ self.old.port }
         ensures outcome { StepSaid self.old.client (Step.Unfix page)
             (outcome_of result) self.old.said self.new.said }
         ensures held { held.new.passes ≡ held_passes self.new.said }
@@ -242,6 +255,7 @@ impl<N: PoolName, P: Port> Runner<N, P> {
 
     fn tick<R: Wait>(&mut self, rt: &R, pool: &SharedPool<N>, n: u64) -> Result<(), Refusal>
         ensures client { self.new.client ≡ self.old.client }
+        ensures port { self.new.port ≡ self.old.port }
         ensures outcome { StepSaid self.old.client (Step.Tick n)
             (outcome_of result) self.old.said self.new.said }
         ensures held { held_passes self.new.said ≡ held_passes self.old.said }
@@ -251,6 +265,7 @@ impl<N: PoolName, P: Port> Runner<N, P> {
 
     fn purge<R: Wait>(&mut self, rt: &R, pool: &SharedPool<N>) -> Result<(), Refusal>
         ensures client { self.new.client ≡ self.old.client }
+        ensures port { self.new.port ≡ self.old.port }
         ensures outcome { StepSaid self.old.client Step.Purge
             (outcome_of result) self.old.said self.new.said }
         ensures held { held_passes self.new.said ≡ held_passes self.old.said }
@@ -262,6 +277,7 @@ impl<N: PoolName, P: Port> Runner<N, P> {
     /// Raises the mark. Only client 0 has the log.
     fn log(&mut self, pool: &SharedPool<N>, lsn: Lsn) -> Result<(), Refusal>
         ensures client { self.new.client ≡ self.old.client }
+        ensures port { self.new.port ≡ self.old.port }
         ensures outcome { StepSaid self.old.client (Step.Log lsn)
             (outcome_of result) self.old.said self.new.said }
         ensures held { held_passes self.new.said ≡ held_passes self.old.said }
@@ -285,6 +301,8 @@ impl<N: PoolName, P: Port> Runner<N, P> {
         requires fits { StepFits N.parameters step.now }
         requires held { held.old.passes ≡ held_passes self.old.said }
         ensures client { self.new.client ≡ self.old.client }
+        ensures work { result ≢ Err Refusal.UnknownTicket → StepWork P.read_gives P.write_gives
+            step.now self.old.said self.new.said self.old.port self.new.port }
         ensures outcome { StepSaid self.old.client step.now
             (outcome_of result) self.old.said self.new.said }
         ensures held { held.new.passes ≡ held_passes self.new.said }
@@ -309,6 +327,7 @@ impl<N: PoolName, P: Port> Runner<N, P> {
     /// Gives back all passes that are held, in the order taken. Whether it could.
     pub(crate) fn give_back_all<R: Wait>(&mut self, rt: &R, pool: &SharedPool<N>) -> bool
         ensures client { self.new.client ≡ self.old.client }
+        ensures port { self.new.port ≡ self.old.port }
         ensures back { IsTrue result → GivesBack self.old.said self.new.said }
     {
         while let Some(note) = next_of(&self.session) {

@@ -1,5 +1,5 @@
 -- What a run does over the page file that was opened for it.
-use Rattle.std.proofs.Common.{◌≡◌, ◌∙◌, ◌⊎◌, inl, inr, refl, sym, ap, subst, ℕ, ◌<◌, arith, Bool, List, [], ◌∷◌, length, get_or, All, Option, Result, Ok, Err}
+use Rattle.std.proofs.Common.{◌≡◌, ◌∙◌, ◌⊎◌, inl, inr, sym, ap, subst, ℕ, ◌<◌, arith, Bool, List, [], ◌∷◌, length, get_or, All, Option, Result, Ok, Err}
 use Rattle.std.proofs.lemmas.List.Elements.{All-get_or}
 use Rattle.std.specs.Prelude.{IfErr, IfOk, Vec}
 use Rattle.std.specs.declared.alloc.Global.{Global}
@@ -55,7 +55,7 @@ in_trace reads writes order.Free t g h ports port totals rows said old new resul
 
 -- and a run in free order over all of them
 pub in_free : {P : Type 0} (reads : Reads P) (writes : Writes P) (o : Order) (t : Told) (g : Geometry) (ports : List P) (totals : Bool) (rows : List Row) (old new : Option (List ℕ)) (result : Result Bool Ending) → o ≡ order.Free
-    → IfOk result (λ ok. ReportsFree totals (parameters_for order.Free t g rows) (scripts_of rows) ok old new) → IfOk result (λ ok. ReportsIn reads writes o totals (parameters_for o t g rows) ports rows ok old new)
+    → IfOk result (λ ok. ReportsFree reads writes totals (parameters_for order.Free t g rows) ports (scripts_of rows) ok old new) → IfOk result (λ ok. ReportsIn reads writes o totals (parameters_for o t g rows) ports rows ok old new)
 in_free reads writes order.Free t g ports totals rows old new result is reports = reports
 in_free reads writes order.Trace t g ports totals rows old new result is reports = cc
 

@@ -1,5 +1,5 @@
 -- The scripts of a trace are ones that its clients may run.
-use Rattle.std.proofs.Common.{◌≡◌, ◌∙◌, refl, sym, ap, subst, ℕ, ◌<◌, ◌≤◌, arith, ◌==◌, List, [], ◌∷◌, map, length, reverse, All, None, true}
+use Rattle.std.proofs.Common.{◌≡◌, ◌∙◌, refl, sym, ap, subst, ℕ, ◌<◌, ◌≤◌, arith, ◌==◌, List, [], ◌∷◌, map, length, All, None, true}
 use Rattle.std.proofs.lemmas.Bool.{eqb-true}
 use Rattle.std.proofs.lemmas.List.Elements.{All-filter, All-head, All-tail, All-nil, All-cons, filter_passes}
 use Rattle.std.proofs.lemmas.List.FromFn.{get_or-map-range_with_len, length-map-range_with_len}
@@ -15,6 +15,7 @@ use Rattle.bp_trail.specs.declared.entries.Entry.{Entry}
 use Rattle.bp_trail.specs.declared.scripts.Refused.{Refused}
 use Rattle.bp_clients.specs.declared.run.Config.{Config}
 use Rattle.bp_clients.specs.Jobs.{EachScriptFits, RowFitsClient, list_of}
+use Rattle.bp_core.specs.Work.{Reads, Writes}
 use Rattle.bp_clients.specs.Runs.{IsRun, run_parameters}
 use Rattle.bp_run.specs.Scripts.{clients_of, rows_of, scripts_for, scripts_of}
 
@@ -60,10 +61,12 @@ pub script_count : (rows : List Row) (scripts : List (List Row)) → scripts ≡
 script_count rows scripts are = ap length are ∙ length-map-range_with_len (λ client. rows_of client rows) 0 (clients_of rows)
 
 -- a run of some scripts is one of the scripts that they are
-pub run_of : (config : Config) (n : ℕ) (scripts : List (List Row)) (rows : List Row) (trail : List Entry) (said : List (List Entry)) (refused : List Refused) → n ≡ clients_of rows → scripts ≡ scripts_of rows
-    → IsRun (run_parameters config n) scripts trail said refused → IsRun (run_parameters config (clients_of rows)) (scripts_of rows) trail said refused
-run_of config n scripts rows trail said refused count are run =
-    subst (λ m. IsRun (run_parameters config m) (scripts_of rows) trail said refused) count (subst (λ s. IsRun (run_parameters config n) s trail said refused) are run)
+pub run_of : {P : Type 0} (reads : Reads P) (writes : Writes P) (config : Config) (n : ℕ) (scripts : List (List Row)) (ports : List P) (rows : List Row) (trail : List Entry) (said : List (List Entry)) (refused : List Refused) (after : List P)
+    → n ≡ clients_of rows → scripts ≡ scripts_of rows → IsRun reads writes (run_parameters config n) scripts ports trail said refused after
+    → IsRun reads writes (run_parameters config (clients_of rows)) (scripts_of rows) ports trail said refused after
+run_of reads writes config n scripts ports rows trail said refused after count are run =
+    subst (λ m. IsRun reads writes (run_parameters config m) (scripts_of rows) ports trail said refused after) count
+    (subst (λ s. IsRun reads writes (run_parameters config n) s ports trail said refused after) are run)
 
 -- the scripts that the rows were split into are those of their clients
 pub record AreScripts (rows : List Row) (n : ℕ) (scripts : List (List Row)) : Type 0 where

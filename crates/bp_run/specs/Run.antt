@@ -83,14 +83,16 @@ pub record Reports {P : Type 0} (reads : Reads P) (writes : Writes P) (totals : 
   pub accepted : all_accepted ≡ (length refused == 0)
   pub written : Appends old new (report_of totals trail ++ rows_text refused)
 
--- what was written is the report of the trail of a run of client threads, which ran these scripts,
--- and of its refused rows
-pub record ReportsFree (totals : Bool) (c : Parameters) (scripts : List (List Row))
-    (all_accepted : Bool) (old new : Option (List ℕ)) : Type 0 where
+-- what was written is the report of the trail of a run of client threads, which ran these scripts
+-- over these ports, each over the port at its place, and of its refused rows
+pub record ReportsFree {P : Type 0} (reads : Reads P) (writes : Writes P) (totals : Bool)
+    (c : Parameters) (ports : List P) (scripts : List (List Row)) (all_accepted : Bool)
+    (old new : Option (List ℕ)) : Type 0 where
   pub trail : List Entry
   pub said : List (List Entry)
   pub refused : List Refused
-  pub run : IsRun c scripts trail said refused
+  pub after : List P
+  pub run : IsRun reads writes c scripts ports trail said refused after
   pub accepted : all_accepted ≡ (length refused == 0)
   pub written : Appends old new (report_of totals trail ++ rows_text refused)
 
@@ -101,7 +103,7 @@ abbrev pub ReportsIn : {P : Type 0} → Reads P → Writes P → Order → Bool 
 ReportsIn {P} reads writes order.Trace totals c ports rows all_accepted old new =
     (port : P) × (ports ≡ port ∷ []) × Reports reads writes totals c port rows all_accepted old new
 ReportsIn reads writes order.Free totals c ports rows all_accepted old new =
-    ReportsFree totals c (scripts_of rows) all_accepted old new
+    ReportsFree reads writes totals c ports (scripts_of rows) all_accepted old new
 
 -- the rows are those that the bytes say, where these are known, and those of some records in any
 -- case

@@ -1,5 +1,5 @@
 //! A run in free order: one thread for each client.
-ghost use Rattle.std.specs.Prelude.{◌≡◌, ◌≢◌, All, IfErr, IfOk, vec_len};
+ghost use Rattle.std.specs.Prelude.{◌≡◌, ◌≢◌, All, List, IfErr, IfOk, vec_len};
 ghost use Rattle.bp_core.specs.Outcomes.{IsFit};
 ghost use Rattle.bp_clients.specs.Jobs.{lists};
 ghost use Rattle.bp_clients.specs.Runs.{IsRun, run_parameters};
@@ -52,8 +52,9 @@ fn run_threads<P: Port + Send, R: Threads + Wait + Sync>(
     requires alike { All (λ p. P.geometry_of p ≡ config.geometry) ports.items }
     requires fits { All (IsInRange config.geometry) rows.items }
     requires fit { IsFit (run_parameters config (clients_of rows.items)) }
-    ensures run { IfOk result (λ run. IsRun (run_parameters config (clients_of rows.items))
-        (scripts_of rows.items) run.trail.items (lists run.said.items) run.refused.items) }
+    ensures run { IfOk result (λ run. (after : List P) × IsRun P.read_gives P.write_gives
+        (run_parameters config (clients_of rows.items)) (scripts_of rows.items) ports.items
+        run.trail.items (lists run.said.items) run.refused.items after) }
     ensures fault { IfErr result (NotReported Order.Free) }
 {
     let clients = client_count(&rows);
@@ -62,7 +63,10 @@ fn run_threads<P: Port + Send, R: Threads + Wait + Sync>(
         Err(refusal) => return Err(Ending::RunRefused(refusal)),
     };
     match run_clients(rt, alloc, config, scripts, ports) {
-        Ok(outcome) => Ok(outcome),
+        Ok(ran) => {
+            let (outcome, _) = ran;
+            Ok(outcome)
+        }
         Err(refusal) => Err(Ending::RunRefused(refusal)),
     }
 }
@@ -82,9 +86,10 @@ pub(crate) fn run_free<P: Port + Send, R: Threads + Wait + Sync, W: Write>(
     requires ports { vec_len ports ≡ clients_of rows.items }
     requires alike { All (λ p. P.geometry_of p ≡ geometry) ports.items }
     requires fits { All (IsInRange geometry) rows.items }
-    ensures reported { IfOk result (λ all_accepted. ReportsFree run.now.totals
-        (parameters_for Order.Free (told_of run.now) geometry rows.items)
-        (scripts_of rows.items) all_accepted (W.contents out.old) (W.contents out.new)) }
+    ensures reported { IfOk result (λ all_accepted. ReportsFree P.read_gives P.write_gives
+        run.now.totals (parameters_for Order.Free (told_of run.now) geometry rows.items)
+        ports.items (scripts_of rows.items) all_accepted
+        (W.contents out.old) (W.contents out.new)) }
     ensures fault { IfErr result (NotReported Order.Free) }
     ensures kept { IfErr result (λ ended. ended ≢ Ending.OutputFailed → out.new ≡ out.old) }
 {

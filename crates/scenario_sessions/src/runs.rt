@@ -74,7 +74,8 @@ fn run_over<P: Port + Send, R: Threads + Wait + Sync>(
     requires geometry { All (λ p. P.geometry_of p ≡ config.geometry) ports.items }
 {
     if ports.len() == scripts.len() && scripts_fit(&config, &scripts) {
-        run_clients(rt, alloc, config, scripts, ports)
+        let (outcome, _) = run_clients(rt, alloc, config, scripts, ports)?;
+        Ok(outcome)
     } else {
         Err(Refusal::BadSettings)
     }

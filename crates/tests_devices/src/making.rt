@@ -117,7 +117,8 @@ pub(crate) fn run<R: Threads + Wait + Sync + Abort + AllocGlobal>(
     let scripts = scripts_of(rt.alloc(), &config.geometry, usize::from(clients), text);
     let scripts = scripts.expect(rt, "the scripts");
     assert!(rt; ports.len() == scripts.len() && scripts_fit(&config, &scripts));
-    let done = run_clients(rt, rt.alloc(), config, scripts, ports).expect(rt, "the run");
+    let ran = run_clients(rt, rt.alloc(), config, scripts, ports);
+    let (done, _) = ran.expect(rt, "the run");
     let place = unlawful(rt.alloc(), &setup_of_run(&config, clients), &done.trail);
     assert_eq!(rt; place, Ok(None), "the first entry that is not lawful");
     done

@@ -5,4 +5,4 @@ use Rattle.bp_clients.proofs.Adding.{SoFar}
 use Rattle.bp_clients.proofs.collecting.collect.Given as goal
 
 abbrev pub invariant-loop-job : goal.invariant-loop-job
-invariant-loop-job g l = SoFar l.trail l.fn.jobs.items (into_iter_items l.job-iterator) (lists l.said.items) l.refused.items
+invariant-loop-job g l = SoFar l.trail l.fn.jobs.items (into_iter_items l.job-iterator) (lists l.said.items) l.refused.items l.ports.items

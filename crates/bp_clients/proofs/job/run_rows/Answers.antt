@@ -8,6 +8,7 @@ use Rattle.bp_trail.specs.Script.{FollowsBy}
 use Rattle.bp_clients.specs.Steps.{is_fault}
 use Rattle.bp_clients.specs.Jobs.{RowFitsClient}
 use Rattle.bp_clients.proofs.Following.{follows-more, known-more}
+use Rattle.bp_clients.proofs.Working.{known_step, step-work, work-on}
 use Rattle.bp_clients.proofs.job.run_rows.Goals as goal
 
 pub loop-row-preserved : goal.loop-row-preserved
@@ -25,6 +26,8 @@ loop-row-preserved g c =
       follows = subst (λ rows. FollowsBy session (reverse rows) (reverse c.push_reserved.new.self.items) c.step-outcome.new.self.said (reverse c.note_refused.new.refused.items)) (sym more)
           (follows-more c.loop-row.runner.client (take at c.args.script.now) row c.loop-row.ends.items c.push_reserved.new.self.items _ _ c.loop-row.refused.items c.note_refused.new.refused.items (outcome_of c.step-outcome.result) (fits.own ∙ sym i.client) i.follows c.step-outcome.ensures.outcome none c.note_refused.ensures.refused
           (c.push_reserved.ensures.items ∙ ap (λ n. c.loop-row.ends.items ++ n ∷ []) c.count.ensures));
+      work = work-on _ _ _ _ _ _ _ _ i.work
+          (step-work _ _ c.loop-row.runner.client row.step (outcome_of c.step-outcome.result) _ _ _ _ c.step-outcome.ensures.outcome none (c.step-outcome.ensures.work (known_step c.step-outcome.result none)));
       known = known-more row.row c.loop-row.refused.items c.note_refused.new.refused.items (outcome_of c.step-outcome.result) i.known none c.note_refused.ensures.refused;
       held = c.step-outcome.ensures.held;
       few_ends = omega (arith, c.push_reserved.ensures.len, i.few_ends);

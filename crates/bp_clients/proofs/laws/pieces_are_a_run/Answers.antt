@@ -7,21 +7,22 @@ use Rattle.bp_clients.proofs.Ruling.{rules-kept, marks-by-rows}
 use Rattle.bp_clients.proofs.laws.pieces_are_a_run.Goals as goal
 
 pub returns-clause-whole : goal.returns-clause-whole
-returns-clause-whole a pieces = whole pieces
+returns-clause-whole g a pieces = whole pieces
 
 pub returns-clause-legal : goal.returns-clause-legal
-returns-clause-legal a c pieces legal = subst (Legal c) (whole pieces) legal
+returns-clause-legal g a c pieces legal = subst (Legal c) (whole pieces) legal
 
 pub returns-clause-theirs : goal.returns-clause-theirs
-returns-clause-theirs a clients trail said are = theirs clients trail said are
+returns-clause-theirs g a clients trail said are = theirs clients trail said are
 
 pub returns-clause-run : goal.returns-clause-run
-returns-clause-run a c scripts trail said refused legal are known log = record {
+returns-clause-run g a c scripts ports left trail said refused legal are known works log = record {
   legal = subst (Legal c) (whole trail) legal;
   rules = rules-kept c (joined_lists trail) (subst (Legal c) (whole trail) legal);
   theirs = theirs (length scripts) trail said are;
   follows = log.follows;
   known = known;
+  works = works;
   within_log = log;
   by_rows = marks-by-rows scripts (joined_lists trail) (map joined_lists said) refused log (theirs (length scripts) trail said are);
 }

@@ -39,7 +39,7 @@ returns-in_err-collect-clause-refused g c =
 pub returns-clause-joined : goal.returns-clause-joined
 returns-clause-joined g c = record {
   one_by_one = c.collect.new.refused.items;
-  collected = subst (λ trail. Collected trail c.args.jobs.items (lists c.collect.new.said.items) c.collect.new.refused.items)
+  collected = subst (λ trail. Collected trail c.args.jobs.items (lists c.collect.new.said.items) c.collect.new.refused.items c.collect.new.ports.items)
       (same_told c.trail.result.now c.into_trail.result.items _ _ c.trail.ensures.entries c.into_trail.ensures.entries) c.in_ok-collect.ensures.collected;
   same = c.sort_unstable_by_key.ensures.permutation;
   in_order = IsNonDecreasingBy-from_sort_by_key (λ r. r.row) _ c.sort_unstable_by_key.ensures.sorted (λ a r q k. search rules);

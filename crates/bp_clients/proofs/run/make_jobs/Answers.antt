@@ -26,7 +26,7 @@ new-requires-clause-fits g c =
     let i = c.loop-script.invariant in
     let next = c.in-Some.ensures.steps.0 in
     let s = next_session _ _ _ _ _ c.in-Some-next.session i.sessions c.in-Some-next.ensures.items (ap length next) in
-    subst (λ n. ScriptFits g.N.PoolName.parameters n c.in-Some.script.items) (sym (ap (λ v. v.client) (c.new-runner.ensures ∙ s.is)))
+    subst (λ n. ScriptFits g.N.PoolName.parameters n c.in-Some.script.items) (sym (ap (λ v. v.client) c.new-runner.ensures ∙ ap (λ v. v.client) s.is))
     (next_fits _ _ c.in-Some.script.items _ _ i.fits (ap lists next)).0
 
 pub loop-script-preserved : goal.loop-script-preserved
@@ -35,10 +35,12 @@ loop-script-preserved g c =
     let next = c.in-Some.ensures.steps.0 in
     let s = next_session _ _ _ _ _ c.in-Some-next.session i.sessions c.in-Some-next.ensures.items (ap length next) in
     let one : vec_len c.push.new.self ≡ suc (vec_len c.loop-script.jobs) = omega (arith, c.in-Ok.ensures.len) in
-    let client : c.new-runner.result.client ≡ vec_len c.loop-script.jobs = ap (λ v. v.client) (c.new-runner.ensures ∙ s.is) in
+    let client : c.new-runner.result.client ≡ vec_len c.loop-script.jobs = ap (λ v. v.client) c.new-runner.ensures ∙ ap (λ v. v.client) s.is in
+    let port : c.new-runner.result.port ≡ c.in-Some-next-2.port = ap (λ v. v.port) c.new-runner.ensures in
     let left = length (into_iter_items c.next.new.self) in
     record {
-      made = made_more c.loop-script.jobs.items _ _ _ _ c.in-Some.script.items _ _ c.in_ok-job.job i.made (ap lists next) c.in-Ok.ensures.items (c.in_ok-job.ensures ∙ ap (λ n. new_job n c.in-Some.script.items) client) one;
+      made = made_more c.loop-script.jobs.items _ _ _ _ c.in-Some.script.items _ _ c.in-Some-next-2.port _ (into_iter_items c.next-in-loop-script-2.new.self) c.in_ok-job.job i.made (ap lists next) c.in-Some-next-2.ensures.items c.in-Ok.ensures.items
+          (c.in_ok-job.ensures ∙ ap (λ n. new_job n c.in-Some.script.items c.new-runner.result.port) client ∙ ap (λ p. new_job (vec_len c.loop-script.jobs) c.in-Some.script.items p) port) one;
       sessions = s.after ∙ ap (λ n. sessions_from n left) (sym one);
       ports = omega (arith, i.ports, ap length next, ap length c.in-Some-next-2.ensures.items);
       size = All-tail (λ p. (g.P.Port.geometry_of p).size ≡ g.N.PoolName.parameters.size) c.in-Some-next-2.port (into_iter_items c.next-in-loop-script-2.new.self) (All-same (λ p. (g.P.Port.geometry_of p).size ≡ g.N.PoolName.parameters.size) _ _ (sym c.in-Some-next-2.ensures.items) i.size);

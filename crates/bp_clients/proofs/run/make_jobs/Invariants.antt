@@ -7,7 +7,7 @@ use Rattle.bp_clients.proofs.run.make_jobs.Given as goal
 
 abbrev pub invariant-loop-script : goal.invariant-loop-script
 invariant-loop-script g l = record {
-  made : l.jobs.items ++ new_jobs (vec_len l.jobs) (lists (into_iter_items l.script-iterator)) ≡ new_jobs 0 (lists l.fn.scripts.items);
+  made : l.jobs.items ++ new_jobs (vec_len l.jobs) (lists (into_iter_items l.script-iterator)) (into_iter_items l.ports) ≡ new_jobs 0 (lists l.fn.scripts.items) l.fn.ports.items;
   sessions : into_iter_items l.sessions ≡ sessions_from (vec_len l.jobs) (length (into_iter_items l.script-iterator));
   ports : length (into_iter_items l.ports) ≡ length (into_iter_items l.script-iterator);
   size : All (λ p. (g.P.Port.geometry_of p).size ≡ g.N.PoolName.parameters.size) (into_iter_items l.ports);

@@ -1,5 +1,5 @@
 -- There is a job for each script.
-use Rattle.std.proofs.Common.{◌∙◌, ap, arith, length}
+use Rattle.std.proofs.Common.{◌≡◌, ◌∙◌, ap, arith, length}
 use Rattle.std.proofs.lemmas.List.{length-map}
 use Rattle.bp_clients.specs.Jobs.{lists, sessions_from}
 use Rattle.bp_clients.proofs.Making.{in_order}
@@ -11,7 +11,11 @@ make_jobs-requires-clause-sessions g c = c.in_ok-pool.ensures.sessions ∙ in_or
 
 pub run_pool-requires-clause-some : goal.run_pool-requires-clause-some
 run_pool-requires-clause-some g c =
-    omega (arith, ap length c.in_ok-jobs.ensures.jobs, length-new_jobs 0 (lists c.args.scripts.items), length-map c.args.scripts.items (λ v. v.items), c.requires.some, c.args.scripts.ok, c.in_ok-jobs.jobs.ok)
+    let scripts = lists c.args.scripts.items in
+    let each : length scripts ≡ length c.args.scripts.items = length-map c.args.scripts.items (λ v. v.items) in
+    let counted : length c.args.ports.items ≡ length scripts = omega (arith, each, c.requires.ports, c.args.ports.ok, c.args.scripts.ok) in
+    omega (arith, ap length c.in_ok-jobs.ensures.jobs, length-new_jobs 0 scripts c.args.ports.items counted, each, c.requires.some, c.args.scripts.ok, c.in_ok-jobs.jobs.ok)
 
 pub returns-clause-run : goal.returns-clause-run
-returns-clause-run g c = c.run_pool.ensures.run (lists c.args.scripts.items) c.in_ok-jobs.ensures.jobs
+returns-clause-run g c =
+    c.run_pool.ensures.run (lists c.args.scripts.items) c.args.ports.items (omega (arith, length-map c.args.scripts.items (λ v. v.items), c.requires.ports, c.args.ports.ok, c.args.scripts.ok)) c.in_ok-jobs.ensures.jobs

@@ -36,8 +36,11 @@ pub returns-in-Ok-run_clients-clause-run : goal.returns-in-Ok-run_clients-clause
 returns-in-Ok-run_clients-clause-run g c =
     let is = scripts_are c.args.rows.items c.deref.result.now c.client_count-clients.result (lists c.in-Ok.scripts.items) c.client_count-clients.ensures c.deref.ensures.value c.in-Ok.ensures.scripts in
     let e = c.in-Ok-run_clients.ensures in
-    run_of c.args.config c.in-Ok.scripts.len (lists c.in-Ok.scripts.items) c.args.rows.items c.in-Ok-run_clients.outcome.trail.items (lists c.in-Ok-run_clients.outcome.said.items) c.in-Ok-run_clients.outcome.refused.items
-    (omega (arith, is.counted, length-map c.in-Ok.scripts.items (λ v. v.items), c.in-Ok.scripts.ok)) is.are e.run
+    let run = c.in-Ok-run_clients.ran in (
+      run.1.items,
+      run_of g.P.Port.read_gives g.P.Port.write_gives c.args.config c.in-Ok.scripts.len (lists c.in-Ok.scripts.items) c.args.ports.items c.args.rows.items run.0.trail.items (lists run.0.said.items) run.0.refused.items
+          run.1.items (omega (arith, is.counted, length-map c.in-Ok.scripts.items (λ v. v.items), c.in-Ok.scripts.ok)) is.are e.run,
+    )
 
 pub returns-in-Err-run_clients-clause-fault : goal.returns-in-Err-run_clients-clause-fault
 returns-in-Err-run_clients-clause-fault g c =

@@ -13,6 +13,7 @@ loop-note-preserved g c = record {
   client = c.post.ensures.client ∙ c.loop-note.invariant.client;
   size = c.loop-note.invariant.size;
   before = c.post.ensures.before ∙ c.loop-note.invariant.before;
+  port = c.loop-note.invariant.port;
   back = goes-on _ c.loop-note.self-inside.session.said c.post.new.session.said (held_passes c.loop-note.self-inside.session.said) c.in-Some.note c.loop-note.invariant.back refl (sym c.next_of.ensures.first ∙ c.in-Some.is) c.in-Ok.ensures.posted.1;
 }
 

@@ -9,6 +9,7 @@ invariant-loop-note g l = record {
   client : l.self-inside.session.client ≡ l.initial.self-inside.session.client;
   size : (g.P.Port.geometry_of l.self-inside.port).size ≡ g.N.PoolName.parameters.size;
   before : l.self-inside.session.before ≡ l.initial.self-inside.session.before;
+  port : l.self-inside.port ≡ l.initial.self-inside.port;
   back : GoesBack l.initial.self-inside.session.said l.self-inside.session.said;
 }
 

@@ -1,0 +1,107 @@
+-- How a port's work grows with its client's list, step by step.
+use Rattle.std.proofs.Common.{◌≡◌, ◌≢◌, refl, sym, ◌∙◌, ap, subst, ℕ, true, false, List, [], ◌∷◌, ◌++◌, append_assoc, Option, Some, None, Result, Err}
+use Rattle.std.proofs.lemmas.List.{append-nil}
+use Rattle.bp_page.specs.declared.refusals.Refusal.{Refusal}
+use Rattle.bp_page.specs.declared.refusals.Refusal.TheVariants as refusal
+use Rattle.bp_trail.specs.declared.entries.Call.{Call}
+use Rattle.bp_trail.specs.declared.entries.Call.TheVariants.{Tick, Read, Write, Unfix, Purge}
+use Rattle.bp_trail.specs.declared.entries.Reply.{Reply}
+use Rattle.bp_trail.specs.declared.scripts.Step.{Step}
+use Rattle.bp_trail.specs.declared.scripts.Step.TheVariants as step
+use Rattle.bp_trail.specs.Trail.{Trail}
+use Rattle.bp_trail.specs.Event.{Grant}
+use Rattle.bp_trail.specs.Pieces.{Outcome, OneCall, outcome_of}
+use Rattle.bp_trail.specs.Pieces.Manner.{session}
+use Rattle.bp_trail.specs.Pieces.Outcome.{accepted, refused}
+use Rattle.bp_trail.specs.Script.{latest_pass, WithPass, RowPiece, GivesBack, give_back}
+use Rattle.bp_trail.specs.Script.GivesBack.{none_held, next}
+use Rattle.bp_core.specs.Work.{Reads, Writes, Works, WorksThrough}
+use Rattle.bp_shared.specs.Sessions.{WithSomeLsn, DoesWorkSaid}
+use Rattle.bp_clients.specs.Steps.{is_fault, AddsStep, StepSaid, StepWork}
+use Rattle.bp_clients.proofs.Following.{no_fault}
+
+-- a step without device work
+abbrev IsQuiet : Step → Type 0
+IsQuiet (step.Fix page) = ⊥
+IsQuiet (step.Flush page) = ⊥
+IsQuiet _ = Unit {0}
+
+-- a step that is no fault of the run met no ticket that is unknown
+pub known_step : (r : Result (Unit {0}) Refusal) → is_fault (outcome_of r) ≡ false → r ≢ Err refusal.UnknownTicket
+known_step r none is = let no : true ≡ false = subst (λ o. is_fault (outcome_of o) ≡ false) is none in cc
+
+module _ {P : Type 0} (reads : Reads P) (writes : Writes P) where
+  -- one after the other
+  works-append : (past p q : Trail) (port now kept : P) → WorksThrough reads writes past p port now → WorksThrough reads writes (p ++ past) q now kept → WorksThrough reads writes past (q ++ p) port kept
+  works-append past p [] port now kept first then = subst (λ k. WorksThrough reads writes past p port k) (sym then) first
+  works-append past p (e ∷ q) port now kept first then =
+      (then.0, works-append past p q port now then.0 first then.1, subst (λ es. Works reads writes es e.call e.reply then.0 kept) (sym (append_assoc q p past)) then.2)
+
+  -- a call without device work
+  one-call-work : (past : Trail) (port : P) (numbers : List ℕ) (client : ℕ) (call : Call) (piece : Trail) (o : Outcome) → ((reply : Reply) → Works reads writes past call reply port port) → OneCall numbers client call piece o
+      → WorksThrough reads writes past piece port port
+  one-call-work past port numbers client call piece accepted none h = subst (λ es. WorksThrough reads writes past es port port) (sym h.1) (port, refl, none h.0)
+  one-call-work past port numbers client call piece (refused n) none h = subst (λ es. WorksThrough reads writes past es port port) (sym h.1) refl
+
+  with-pass-work : (past : Trail) (port : P) (numbers : List ℕ) (client : ℕ) (call : ℕ → Call) (piece : Trail) (o : Outcome) (pass : Option Grant) → ((n : ℕ) (reply : Reply) → Works reads writes past (call n) reply port port)
+      → WithPass numbers client call piece o pass → WorksThrough reads writes past piece port port
+  with-pass-work past port numbers client call piece o None none h = subst (λ es. WorksThrough reads writes past es port port) (sym h.0) refl
+  with-pass-work past port numbers client call piece o (Some g) none h = one-call-work past port numbers client (call g.serial) piece o (none g.serial) h
+
+  -- a row without device work
+  quiet-piece : (said piece : Trail) (port : P) (client : ℕ) (s : Step) (o : Outcome) → IsQuiet s → RowPiece session said client s piece o → WorksThrough reads writes said piece port port
+  quiet-piece said piece port client (step.Fix page) o quiet h = absurd quiet
+  quiet-piece said piece port client (step.Flush page) o quiet h = absurd quiet
+  quiet-piece said piece port client (step.Unfix page) o quiet h = with-pass-work said port [] client (λ n. Unfix n page) piece o (latest_pass said client page) (λ n reply. refl) h
+  quiet-piece said piece port client (step.Read page) o quiet h = with-pass-work said port (20 ∷ 22 ∷ []) client (λ n. Read n page) piece o (latest_pass said client page) (λ n reply. refl) h
+  quiet-piece said piece port client (step.Write page offset bytes lsn) o quiet h =
+      with-pass-work said port (20 ∷ 22 ∷ []) client (λ n. Write n page offset bytes lsn) piece o (latest_pass said client page) (λ n reply. refl) h
+  quiet-piece said piece port client (step.Tick n) o quiet h = one-call-work said port (20 ∷ 21 ∷ 22 ∷ []) client (Tick n) piece o (λ reply. refl) h
+  quiet-piece said piece port client step.Purge o quiet h = one-call-work said port (20 ∷ 22 ∷ []) client Purge piece o (λ reply. refl) h
+  quiet-piece said piece port client (step.Log lsn) o quiet h = subst (λ es. WorksThrough reads writes said es port port) (sym h.0) refl
+
+module _ {P : Type 0} (reads : Reads P) (writes : Writes P) where
+  pub work-on : (said mid after : Trail) (port now kept : P) → DoesWorkSaid reads writes said mid port now → DoesWorkSaid reads writes mid after now kept → DoesWorkSaid reads writes said after port kept
+  work-on said mid after port now kept w v = record {
+    piece = v.piece ++ w.piece;
+    grows = v.grows ∙ ap (λ es. v.piece ++ es) w.grows ∙ sym (append_assoc v.piece w.piece said);
+    through = works-append reads (WithSomeLsn writes) said w.piece v.piece port now kept w.through
+        (subst (λ es. WorksThrough reads (WithSomeLsn writes) es v.piece now kept) w.grows v.through);
+  }
+
+  quiet : (client : ℕ) (s : Step) (o : Outcome) (said after : Trail) (port kept : P) → IsQuiet s → StepSaid client s o said after → is_fault o ≡ false → kept ≡ port → DoesWorkSaid reads writes said after port kept
+  quiet client s o said after port kept is says none same =
+      let adds : AddsStep client s o said after = no_fault (is_fault o) none says in
+      record {
+        piece = adds.piece;
+        grows = adds.grows;
+        through = subst (λ k. WorksThrough reads (WithSomeLsn writes) said adds.piece port k) (sym same) (quiet-piece reads (WithSomeLsn writes) said adds.piece port client s o is adds.of_row);
+      }
+
+  -- what one step had the port do is the work of what it added
+  pub step-work : (client : ℕ) (s : Step) (o : Outcome) (said after : Trail) (port kept : P) → StepSaid client s o said after → is_fault o ≡ false → StepWork reads writes s said after port kept → DoesWorkSaid reads writes said after port kept
+  step-work client (step.Fix page) o said after port kept says none work = work
+  step-work client (step.Flush page) o said after port kept says none work = work
+  step-work client (step.Unfix page) o said after port kept says none same = quiet client (step.Unfix page) o said after port kept tt says none same
+  step-work client (step.Read page) o said after port kept says none same = quiet client (step.Read page) o said after port kept tt says none same
+  step-work client (step.Write page offset bytes lsn) o said after port kept says none same = quiet client (step.Write page offset bytes lsn) o said after port kept tt says none same
+  step-work client (step.Tick n) o said after port kept says none same = quiet client (step.Tick n) o said after port kept tt says none same
+  step-work client step.Purge o said after port kept says none same = quiet client step.Purge o said after port kept tt says none same
+  step-work client (step.Log lsn) o said after port kept says none same = quiet client (step.Log lsn) o said after port kept tt says none same
+
+  -- passes that go back have no work
+  went-back : (said mid after : Trail) (port now : P) → DoesWorkSaid reads writes said mid port now → GivesBack mid after → DoesWorkSaid reads writes said after port now
+  went-back said mid _ port now w (none_held none) = w
+  went-back said mid after port now w (next g first rest) =
+      went-back said (give_back g ∷ mid) after port now (record { piece = give_back g ∷ w.piece; grows = ap (λ es. give_back g ∷ es) w.grows; through = (now, w.through, refl) }) rest
+
+  -- of a list that was empty all is told
+  all-told : (said after : Trail) (port kept : P) → DoesWorkSaid reads writes said after port kept → said ≡ [] → WorksThrough reads (WithSomeLsn writes) [] after port kept
+  all-told said after port kept w none =
+      subst (λ es. WorksThrough reads (WithSomeLsn writes) [] es port kept) (sym (w.grows ∙ ap (λ es. w.piece ++ es) none ∙ append-nil w.piece))
+      (subst (λ es. WorksThrough reads (WithSomeLsn writes) es w.piece port kept) none w.through)
+
+  -- the work of rows, after which passes went back
+  pub whole-work : (said mid after : Trail) (port now kept : P) → said ≡ [] → DoesWorkSaid reads writes said mid port now → GivesBack mid after → kept ≡ now → WorksThrough reads (WithSomeLsn writes) [] after port kept
+  whole-work said mid after port now kept none w back same =
+      subst (λ p. WorksThrough reads (WithSomeLsn writes) [] after port p) (sym same) (all-told said after port now (went-back said mid after port now w back) none)
