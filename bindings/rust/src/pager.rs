@@ -9,7 +9,8 @@ use std::{error, fmt, io};
 /// The functions take `&self`: what they have to change goes into a `Cell` or a `RefCell`, or with
 /// several threads under a lock. A file can be read and written through `&File`. A `SharedPager`
 /// calls them from several threads at once. None of its locks is held meanwhile, but a thread that
-/// calls may have latches of pages.
+/// calls may have latches of pages. So [`make_log_durable`](PageIo::make_log_durable) wants no lock
+/// that a thread has while it waits for a page.
 pub trait PageIo {
     /// Fills the image, which has the page size, with the page.
     ///

@@ -44,8 +44,8 @@ use std::sync::atomic::{AtomicU64, Ordering};
 /// # }
 /// ```
 pub struct Pool {
-    /// The handle stays where it is, since no copy of it may be used. It always has a core.
-    core: Box<UnsafeCell<hz_core>>,
+    /// One handle, which stays where it is, since no copy of it may be used. It always has a core.
+    core: Box<[UnsafeCell<hz_core>]>,
     config: Config,
     /// A number that no other pool of this process has or had. Its passes and tickets have it too.
     number: u64,
@@ -155,11 +155,14 @@ impl Pool {
             },
             is_live: false,
         };
-        let core = Box::new(UnsafeCell::new(none));
+        // A list of one: a box by itself would end the program for want of memory.
+        let mut core = Vec::new();
+        core.try_reserve_exact(1).map_err(|_| Error::OutOfMemory)?;
+        core.push(UnsafeCell::new(none));
         // SAFETY: both pointers lead to structs of their types, and the handle has no core.
-        Error::check(unsafe { sys::hz_core_new(&asked, core.get()) })?;
+        Error::check(unsafe { sys::hz_core_new(&asked, core[0].get()) })?;
         let pool = Pool {
-            core,
+            core: core.into_boxed_slice(),
             config: config.clone(),
             number: NUMBERS.fetch_add(1, Ordering::Relaxed),
             lent: LentPages::default(),
@@ -179,7 +182,7 @@ impl Pool {
     /// other call on the handle is under way, and no reference leads into it.
     #[inline]
     fn core(&self) -> *mut hz_core {
-        self.core.get()
+        UnsafeCell::raw_get(self.core.as_ptr())
     }
 
     /// Does something with bytes, or with a copy where they are lent: the library wants none of its
@@ -542,7 +545,7 @@ impl Pool {
 impl Drop for Pool {
     fn drop(&mut self) {
         // SAFETY: the handle is free. It has a core, and is not used after this.
-        let _ = unsafe { sys::hz_core_free(self.core.get()) };
+        let _ = unsafe { sys::hz_core_free(self.core()) };
     }
 }
 

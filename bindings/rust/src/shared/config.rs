@@ -51,6 +51,8 @@ pub struct SharedConfig {
 const MOST_PAGES: u64 = 1 << 20;
 const MOST_FRAMES: usize = 1 << 16;
 const MOST_PARTS: usize = 64;
+/// The limit of the periods.
+const LONGEST: u64 = 1 << 62;
 /// With fewer frames in a part, its victims are too often not those of the whole.
 const LEAST_FRAMES: usize = 64;
 /// With so many parts for each processor, two threads seldom want one part at a time.
@@ -64,7 +66,7 @@ fn power_below(number: usize) -> usize {
 impl SharedConfig {
     /// K 2, a correlated period of an eighth of the frames, a retained period without end, and ten
     /// seconds of waiting for a pin. The parts are 16 for each processor, but no more than 64 and one
-    /// for each 64 frames; and as many as the pages and frames want at least.
+    /// for each 64 frames, a power of two; and as many as the pages and frames want at least.
     pub fn new(pages: u64, page_size: usize, frames: usize) -> SharedConfig {
         let processors = thread::available_parallelism().map_or(1, usize::from);
         let useful = (processors * PARTS_OF_PROCESSOR).min(frames / LEAST_FRAMES);
@@ -72,11 +74,13 @@ impl SharedConfig {
         let possible = MOST_PARTS.min(frames).min(pages as usize);
         // A power of two needs no division to find a page's part.
         let parts = power_below(useful).max(wanted.min(MOST_PARTS).next_power_of_two());
+        let even = power_below(possible);
+        let most = if wanted > even { possible } else { even };
         SharedConfig {
             pages,
             page_size,
             frames,
-            parts: parts.min(power_below(possible)),
+            parts: parts.min(most),
             correlated: frames as u64 / 8,
             retained: 1 << 62,
             k: 2,
@@ -90,7 +94,8 @@ impl SharedConfig {
         let parts = self.parts;
         let is_good = (1..=MOST_PARTS).contains(&parts)
             && parts <= self.frames
-            && parts as u64 <= self.pages.max(1);
+            && parts as u64 <= self.pages.max(1)
+            && self.correlated.max(self.retained) <= LONGEST;
         if !is_good {
             return Err(Error::BadSettings);
         }

@@ -9,7 +9,9 @@ use std::sync::{RwLockReadGuard, RwLockWriteGuard};
 /// A page that is pinned, with no latch: it stays in its frame until this is dropped.
 ///
 /// It may go to another thread. To look at the page or to change it, take its latch by
-/// [`read`](PagePin::read) or [`write`](PagePin::write), as often as is wanted.
+/// [`read`](PagePin::read) or [`write`](PagePin::write), as often as is wanted. Where such a guard
+/// is forgotten ([`std::mem::forget`]) and the pin is dropped, the latch stays taken, also for a page
+/// that has the frame later.
 #[must_use = "the page is unpinned when its pin is dropped"]
 pub struct PagePin<'a> {
     part: &'a Part,

@@ -1,4 +1,5 @@
 use crate::{PageIo, PagerError};
+use std::mem;
 use std::sync::atomic::{AtomicU64, Ordering};
 use std::sync::{Condvar, Mutex, MutexGuard, PoisonError};
 
@@ -14,7 +15,7 @@ pub(super) struct Log {
 #[derive(Default)]
 struct Turn {
     is_taken: bool,
-    /// The greatest LSN that somebody waited for so far.
+    /// The greatest LSN that somebody waits for.
     wanted: u64,
 }
 
@@ -43,7 +44,8 @@ impl Log {
                 continue;
             }
             turn.is_taken = true;
-            let lsn = turn.wanted;
+            // Who still waits after this turn wants its own LSN again.
+            let lsn = mem::take(&mut turn.wanted);
             drop(turn);
             let taken = Taken(self);
             let made = io.make_log_durable(lsn);

@@ -3,8 +3,9 @@ use super::guards::{PageMut, PagePin, PageRef};
 use super::log::Log;
 use super::part::{Fix, Locked, Part, Reading, Writing};
 use super::seats::list_of;
-use crate::{Error, PageIo, PagerError, ReadFault, Result, Saved};
+use crate::{Error, PageIo, PagerError, ReadFault, Result};
 use std::fmt;
+use std::sync::atomic::AtomicUsize;
 use std::time::{Duration, Instant};
 
 /// A pool for many threads, with its device and log. `docs/C.md` of the repository has an engine
@@ -93,6 +94,8 @@ pub struct SharedPager<F> {
     /// Where the number of parts is a power of two, which one.
     shift: Option<u32>,
     pub(super) log: Log,
+    /// How often pages were cleaned.
+    pub(super) cleaned: AtomicUsize,
     config: SharedConfig,
     pub(super) io: F,
 }
@@ -135,6 +138,7 @@ impl<F> SharedPager<F> {
             parts: parts.into_boxed_slice(),
             shift: is_power.then(|| config.parts.ilog2()),
             log: Log::default(),
+            cleaned: AtomicUsize::default(),
             config: config.clone(),
             io,
         })
@@ -271,17 +275,14 @@ impl<F: PageIo> SharedPager<F> {
                     return self.load(part, own, asked, Reading::new(part, state, ticket));
                 }
                 Ok(Fix::Write(ticket)) => {
-                    let (victim, lsn) = (ticket.page(), ticket.lsn());
-                    let writing = Writing::new(part, state, None, ticket);
-                    let written = self.write_out(part.in_file(victim), lsn, writing);
-                    let mut state = part.lock();
-                    if let Err(error) = written {
-                        part.refer_to(&mut state, victim);
-                        return Err(error);
-                    }
-                    state
+                    let (victim, lsn) = (part.in_file(ticket.page()), ticket.lsn());
+                    self.write_out(victim, lsn, Writing::victim(part, state, ticket))?;
+                    part.lock()
                 }
-                Err(Error::NeedLog { lsn }) => self.reach_log(part, state, lsn)?,
+                Err(Error::NeedLog { lsn }) => {
+                    let reached = self.reach_log(part, state, lsn);
+                    reached.inspect_err(|_| part.refer_to_page_of(lsn))?
+                }
                 Err(Error::Busy) => part.wait_for_work(state),
                 Err(Error::NoVictim) => patience.wait(part, state)?,
                 Err(error) => return Err(error.into()),
@@ -320,7 +321,7 @@ impl<F: PageIo> SharedPager<F> {
         page: u64,
         lsn: u64,
         mut writing: Writing<'_>,
-    ) -> Result<Saved, PagerError> {
+    ) -> Result<(), PagerError> {
         match self.io.write_page(page, &mut writing.image, lsn) {
             Ok(()) => Ok(writing.end()?),
             Err(source) => Err(PagerError::Write { page, source }),

@@ -65,10 +65,10 @@ const LOOKS: u32 = 12;
 
 impl Part {
     pub(super) fn new(config: &Config, number: usize, parts: usize) -> Result<Part> {
-        let mut images = list_of(KEPT_IMAGES)?;
-        images.push(filled(config.page_size)?);
         // The limits are looked at before the lists take memory.
         let pool = Pool::new(config)?;
+        let mut images = list_of(KEPT_IMAGES)?;
+        images.push(filled(config.page_size)?);
         let state = State {
             pool,
             free: FreeSeats::new(config.frames)?,
@@ -203,18 +203,17 @@ impl Part {
     #[inline]
     pub(super) fn pinned(&self, mut state: Locked<'_>, pass: Pass) -> Result<PagePin<'_>> {
         let page = pass.page();
-        let number = self.seats.of(page).unwrap_or_default();
+        let (Some(number), Ok(bytes)) = (self.seats.of(page), state.pool.place(&pass)) else {
+            // Not that it could be: the page is in a frame, and the pass out.
+            let _ = state.pool.give_back(&pass);
+            return Err(Error::UnknownPass);
+        };
         let seat = self.seats.seat(number);
         if seat.is_pinned() {
             // All pins of a page share one pass.
             let _ = state.pool.give_back(&pass);
             state.joined += seat.add();
         } else {
-            let place = state.pool.place(&pass);
-            let bytes = place.inspect_err(|_| {
-                // Not that it could be: the pass is one of this pool that is out.
-                let _ = state.pool.give_back(&pass);
-            })?;
             let (bytes, serial) = (bytes.cast(), pass.serial());
             seat.begin(page, &Pinned { bytes, serial });
             state.pinned += 1;
@@ -279,7 +278,8 @@ impl Part {
         Ok(fix)
     }
 
-    /// Adds a reference to a page, if it is still here. It is not the next to make way then.
+    /// Adds a reference to a page that could not make way, if it is still here. It is not the next
+    /// one then.
     pub(super) fn refer_to(&self, state: &mut State, page: u64) {
         if self.seats.of(page).is_none() {
             return;
@@ -290,10 +290,18 @@ impl Part {
         }
     }
 
+    /// The same of the unsaved page with this page LSN, as far as which the log is not durable.
+    pub(super) fn refer_to_page_of(&self, lsn: u64) {
+        let mut state = self.lock();
+        if let Some(page) = state.unsaved.page_of(lsn) {
+            self.refer_to(&mut state, page);
+        }
+    }
+
     /// The seat of a page that is unsaved.
-    pub(super) fn unsaved_seat(&self, state: &State, page: u64) -> Option<&Seat> {
-        let seat = self.seats.of(page)?;
-        state.unsaved.has(seat).then(|| self.seats.seat(seat))
+    pub(super) fn unsaved_seat(&self, state: &State, page: u64) -> Option<usize> {
+        let seat = self.seats.of(page);
+        seat.filter(|seat| state.unsaved.has(*seat))
     }
 
     /// Asks once that a page be written out. None where it is clean, or away.
@@ -397,15 +405,31 @@ pub(super) struct Writing<'a> {
     part: &'a Part,
     ticket: Option<WriteTicket>,
     pub(super) image: Vec<u8>,
+    /// Whether the page has to make way.
+    is_victim: bool,
 }
 
 impl<'a> Writing<'a> {
-    /// Begins a write-out, which opens the lock. The page's latch, if it is held so that nobody
-    /// writes to it meanwhile, is let go too: the image is a copy.
-    pub(super) fn new(
+    /// Begins to write out a page that has to make way, which nobody has pinned. The lock is opened.
+    pub(super) fn victim(
         part: &'a Part,
         mut state: Locked<'a>,
-        latch: Option<RwLockReadGuard<'_, ()>>,
+        ticket: WriteTicket,
+    ) -> Writing<'a> {
+        Writing {
+            part,
+            ticket: Some(ticket),
+            image: state.image(),
+            is_victim: true,
+        }
+    }
+
+    /// Begins to write a page out, between its writers: the image was taken under this latch, which
+    /// is let go then. The lock is opened.
+    pub(super) fn latched(
+        part: &'a Part,
+        mut state: Locked<'a>,
+        latch: RwLockReadGuard<'_, ()>,
         ticket: WriteTicket,
     ) -> Writing<'a> {
         drop(latch);
@@ -413,13 +437,12 @@ impl<'a> Writing<'a> {
             part,
             ticket: Some(ticket),
             image: state.image(),
+            is_victim: false,
         }
     }
-}
 
-impl Writing<'_> {
-    /// Ends it where it went well. Tells whether the page was written to meanwhile.
-    pub(super) fn end(&mut self) -> Result<Saved> {
+    /// Ends it where it went well.
+    pub(super) fn end(&mut self) -> Result<()> {
         let ticket = self.ticket.take().ok_or(Error::UnknownTicket)?;
         let page = ticket.page();
         let mut state = self.part.lock();
@@ -432,22 +455,26 @@ impl Writing<'_> {
         }
         self.image = state.keep(mem::take(&mut self.image)).unwrap_or_default();
         self.part.wake(state, true);
-        Ok(saved)
+        Ok(())
     }
 }
 
 impl Drop for Writing<'_> {
     fn drop(&mut self) {
-        if let Some(ticket) = self.ticket.take() {
-            let page = ticket.page();
-            let mut state = self.part.lock();
-            // A ticket of this pool that is out is always taken.
-            let _ = state.pool.fail_write(ticket);
-            if let Some(seat) = self.part.seats.of(page) {
-                state.unsaved.come_back(seat);
-            }
-            self.image = state.keep(mem::take(&mut self.image)).unwrap_or_default();
-            self.part.wake(state, true);
+        let Some(ticket) = self.ticket.take() else {
+            return;
+        };
+        let page = ticket.page();
+        let mut state = self.part.lock();
+        // A ticket of this pool that is out is always taken.
+        let _ = state.pool.fail_write(ticket);
+        if let Some(seat) = self.part.seats.of(page) {
+            state.unsaved.come_back(seat);
         }
+        self.image = state.keep(mem::take(&mut self.image)).unwrap_or_default();
+        if self.is_victim {
+            self.part.refer_to(&mut state, page);
+        }
+        self.part.wake(state, true);
     }
 }

@@ -114,6 +114,17 @@ impl Unsaved {
         firsts.flatten().min()
     }
 
+    /// A page whose newest write has this LSN.
+    pub(super) fn page_of(&self, lsn: u64) -> Option<u64> {
+        let found = self.list.iter().find(|it| it.last == lsn);
+        found.map(|it| it.page)
+    }
+
+    /// The greatest LSN of a write, or 0.
+    pub(super) fn greatest(&self) -> u64 {
+        self.list.iter().map(|it| it.last).max().unwrap_or(0)
+    }
+
     /// The pages.
     pub(super) fn pages(&self) -> impl Iterator<Item = u64> {
         self.list.iter().map(|it| it.page)

@@ -1,12 +1,12 @@
 use super::pager::SharedPager;
 use super::part::{Part, Writing};
-use super::seats::{Seat, list_of};
+use super::seats::list_of;
 use super::unsaved::least;
 use crate::{Error, PageIo, PagerError, Result, Totals};
 use std::io;
 use std::panic::{AssertUnwindSafe, catch_unwind};
-use std::sync::Arc;
-use std::sync::atomic::{AtomicBool, Ordering};
+use std::sync::atomic::Ordering;
+use std::sync::{Arc, Condvar, Mutex, PoisonError};
 use std::thread::{self, JoinHandle};
 use std::time::Duration;
 
@@ -14,8 +14,9 @@ use std::time::Duration;
 /// its own.
 #[derive(Clone, Copy, Debug, Default, PartialEq, Eq)]
 pub struct Stats {
-    /// What was counted since the pager was made. A pin of a page that was pinned already is a hit,
-    /// which may be counted only when the page is unpinned.
+    /// About what was counted since the pager was made. A pin of a page that was pinned already is a
+    /// hit, which may be counted only when the page is unpinned. A new page is counted as a read, and
+    /// a page that could not make way as hit.
     pub totals: Totals,
     /// Pages that are in frames.
     pub resident: usize,
@@ -34,6 +35,8 @@ pub struct Stats {
 /// Bytes of memory for a frame beside its image, and for a page of the file.
 const OF_FRAME: usize = 300;
 const OF_PAGE: usize = 8;
+/// Images that a part has beside those in its frames.
+const SPARE_IMAGES: usize = 3;
 
 impl<F> SharedPager<F> {
     /// Whether a page is in a frame.
@@ -49,7 +52,7 @@ impl<F> SharedPager<F> {
             let state = part.lock();
             let config = state.pool.config();
             stats.memory += config.pages as usize * OF_PAGE + config.frames * OF_FRAME;
-            stats.memory += state.free.most() * config.page_size;
+            stats.memory += (state.free.most() + SPARE_IMAGES) * config.page_size;
             stats.resident += state.free.taken();
             stats.pinned += state.pinned;
             stats.dirty += state.unsaved.len();
@@ -81,9 +84,10 @@ impl<F> SharedPager<F> {
         })
     }
 
-    /// The numbers of all pages that are unsaved, in the order of the file.
-    fn unsaved_pages(&self) -> Result<Vec<u64>> {
-        let mut pages = list_of(0)?;
+    /// The numbers of all pages that are unsaved, in the order of the file, and the greatest LSN of
+    /// a write to them.
+    fn unsaved_pages(&self) -> Result<(Vec<u64>, u64)> {
+        let (mut pages, mut greatest) = (list_of(0)?, 0);
         for part in &self.parts {
             let mut state = part.lock();
             while pages.capacity() - pages.len() < state.unsaved.len() {
@@ -94,9 +98,10 @@ impl<F> SharedPager<F> {
                 state = part.lock();
             }
             pages.extend(state.unsaved.pages().map(|page| part.in_file(page)));
+            greatest = greatest.max(state.unsaved.greatest());
         }
         pages.sort_unstable();
-        Ok(pages)
+        Ok((pages, greatest))
     }
 }
 
@@ -111,32 +116,41 @@ impl<F: PageIo> SharedPager<F> {
     pub fn flush(&self, page: u64) -> Result<(), PagerError> {
         let (part, own) = self.place(page)?;
         let mut state = part.lock();
+        let mut kept = None;
         loop {
             state = part.with_image(state)?;
-            let Some(seat) = part.unsaved_seat(&state, own) else {
+            let Some(number) = part.unsaved_seat(&state, own) else {
                 return Ok(());
             };
             // A page goes out between the writes of its writers, and not within them.
-            let Some(latch) = seat.try_read() else {
-                state = part.wait_for_pins(state, Duration::MAX);
-                continue;
+            let latch = match kept.take() {
+                Some((seat, latch)) if seat == number => latch,
+                _ => match part.seats.seat(number).try_read() {
+                    Some(latch) => latch,
+                    None => {
+                        state = part.wait_for_pins(state, Duration::MAX);
+                        continue;
+                    }
+                },
             };
-            match part.ask_out(&mut state, own) {
+            state = match part.ask_out(&mut state, own) {
                 Ok(None) => return Ok(()),
                 Ok(Some(ticket)) => {
                     let lsn = ticket.lsn();
-                    let writing = Writing::new(part, state, Some(latch), ticket);
-                    return self.write_out(page, lsn, writing).map(drop);
+                    let writing = Writing::latched(part, state, latch, ticket);
+                    return self.write_out(page, lsn, writing);
                 }
-                Err(refusal) => {
+                Err(Error::NeedLog { lsn }) => {
+                    // Nobody writes to the page meanwhile, so the log has to come no further.
+                    kept = Some((number, latch));
+                    self.reach_log(part, state, lsn)?
+                }
+                Err(Error::Busy) => {
                     drop(latch);
-                    state = match refusal {
-                        Error::NeedLog { lsn } => self.reach_log(part, state, lsn)?,
-                        Error::Busy => part.wait_for_work(state),
-                        error => return Err(error.into()),
-                    };
+                    part.wait_for_work(state)
                 }
-            }
+                Err(error) => return Err(error.into()),
+            };
         }
     }
 
@@ -147,16 +161,17 @@ impl<F: PageIo> SharedPager<F> {
     /// least among the writes that may not be on the device. None where there is no such write. A
     /// record that has no write yet is not known to the pager: so note the end of the log before
     /// the call, while no thread is between a record and its write, and cut the log at the less of
-    /// both.
+    /// both. A thread that has a page under its exclusive latch waits here for ever.
     ///
     /// # Errors
     /// Those of [`SharedPager::flush`], after which pages before the one that failed are written
     /// out; [`PagerError::Sync`] where the sync failed. What was written out since the last good one
     /// may be lost then, and later checkpoints do not count it: end the pager, and redo from the log.
     pub fn checkpoint(&self) -> Result<Option<u64>, PagerError> {
-        for page in self.unsaved_pages()? {
-            self.flush(page)?;
-        }
+        let (pages, greatest) = self.unsaved_pages()?;
+        // Once for all of them.
+        self.log.reach(&self.io, greatest)?;
+        pages.into_iter().try_for_each(|page| self.flush(page))?;
         // Before the sync: what goes out during it may not be kept by it.
         let redo = self.redo_from();
         let synced = self.io.sync();
@@ -170,18 +185,25 @@ impl<F: PageIo> SharedPager<F> {
     /// many went out.
     ///
     /// # Errors
-    /// [`PagerError::Write`] where the device failed: the page is unsaved.
-    /// [`PagerError::Refused`] with [`OutOfMemory`](Error::OutOfMemory).
+    /// [`PagerError::Write`] where the device failed: the page is unsaved, and the others went out.
+    /// [`PagerError::Refused`] with [`OutOfMemory`](Error::OutOfMemory). Of several the first is
+    /// given.
     pub fn clean(&self, most: usize) -> Result<usize, PagerError> {
         let durable = self.log.durable();
-        let mut cleaned = 0;
-        for (number, part) in self.parts.iter().enumerate() {
+        let (mut cleaned, mut fault) = (0, Ok(()));
+        // Each call begins with another part, so that a panic is not always in the way of the same.
+        let first = self.cleaned.fetch_add(1, Ordering::Relaxed) % self.parts.len();
+        let (before, after) = self.parts.split_at(first);
+        for (number, part) in after.iter().chain(before).enumerate() {
             let share = (most - cleaned).div_ceil(self.parts.len() - number);
             for page in self.ready(part, durable, share)? {
-                cleaned += usize::from(self.clean_page(part, page, durable)?);
+                match self.clean_page(part, page, durable) {
+                    Ok(is_clean) => cleaned += usize::from(is_clean),
+                    Err(error) => fault = fault.and(Err(error)),
+                }
             }
         }
-        Ok(cleaned)
+        fault.map(|()| cleaned)
     }
 
     /// Pages of a part that may go out, so many at most.
@@ -192,11 +214,14 @@ impl<F: PageIo> SharedPager<F> {
         let looks = most.saturating_mul(4).saturating_add(64);
         let ready = state.unsaved.ready(durable, state.clean_from, looks);
         let loose = ready.filter(|(_, seat)| !part.seats.seat(*seat).is_pinned());
-        pages.extend(loose.map(|(page, _)| page).take(pages.capacity()));
-        state.clean_from = match state.clean_from.saturating_add(looks) {
-            next if next < state.unsaved.len() => next,
-            _ => 0,
+        pages.extend(loose.map(|(page, _)| page).take(most));
+        // The next call begins with others: a page whose write-out panics is not always the first.
+        let looked = if looks < state.unsaved.len() {
+            looks
+        } else {
+            1
         };
+        state.clean_from = (state.clean_from + looked) % state.unsaved.len().max(1);
         Ok(pages)
     }
 
@@ -205,13 +230,13 @@ impl<F: PageIo> SharedPager<F> {
         let mut state = part.with_image(part.lock())?;
         state.pool.mark(0, durable)?;
         let seat = part.unsaved_seat(&state, own);
-        let Some(latch) = seat.and_then(Seat::try_read) else {
+        let Some(latch) = seat.and_then(|seat| part.seats.seat(seat).try_read()) else {
             return Ok(false);
         };
         match part.ask_out(&mut state, own) {
             Ok(Some(ticket)) => {
                 let lsn = ticket.lsn();
-                let writing = Writing::new(part, state, Some(latch), ticket);
+                let writing = Writing::latched(part, state, latch, ticket);
                 self.write_out(part.in_file(own), lsn, writing)?;
                 Ok(true)
             }
@@ -225,8 +250,31 @@ impl<F: PageIo> SharedPager<F> {
 #[derive(Debug)]
 #[must_use = "the thread ends when this is dropped"]
 pub struct Cleaner {
-    is_ended: Arc<AtomicBool>,
+    end: Arc<End>,
     thread: Option<JoinHandle<()>>,
+}
+
+/// Whether a cleaner is to end.
+#[derive(Debug, Default)]
+struct End {
+    has_come: Mutex<bool>,
+    comes: Condvar,
+}
+
+impl End {
+    /// Rests for a while, or until the end comes. Tells whether it has come.
+    fn rest(&self, most: Duration) -> bool {
+        let has_come = self.has_come.lock().unwrap_or_else(PoisonError::into_inner);
+        let rested = self
+            .comes
+            .wait_timeout_while(has_come, most, |has_come| !*has_come);
+        *rested.unwrap_or_else(PoisonError::into_inner).0
+    }
+
+    fn come(&self) {
+        *self.has_come.lock().unwrap_or_else(PoisonError::into_inner) = true;
+        self.comes.notify_all();
+    }
 }
 
 impl<F: PageIo + Send + Sync + 'static> SharedPager<F> {
@@ -237,20 +285,23 @@ impl<F: PageIo + Send + Sync + 'static> SharedPager<F> {
     /// # Errors
     /// Where the system has no thread for it.
     pub fn start_cleaner(self: &Arc<Self>, most: usize, rest: Duration) -> io::Result<Cleaner> {
-        let is_ended = Arc::new(AtomicBool::new(false));
-        let (pager, end) = (Arc::clone(self), Arc::clone(&is_ended));
+        let end = Arc::new(End::default());
+        let (pager, ends) = (Arc::clone(self), Arc::clone(&end));
+        let clean = move || {
+            // The engine's code may panic, and is called again all the same.
+            let _ = catch_unwind(AssertUnwindSafe(|| pager.clean(most)));
+        };
         let work = move || {
-            while !end.load(Ordering::Acquire) {
-                // The engine's code may panic, and is called again all the same.
-                let _ = catch_unwind(AssertUnwindSafe(|| pager.clean(most)));
-                thread::park_timeout(rest);
+            while !ends.rest(Duration::ZERO) {
+                clean();
+                ends.rest(rest);
             }
         };
         let thread = thread::Builder::new()
             .name("hojzmated-cleaner".into())
             .spawn(work)?;
         Ok(Cleaner {
-            is_ended,
+            end,
             thread: Some(thread),
         })
     }
@@ -258,9 +309,8 @@ impl<F: PageIo + Send + Sync + 'static> SharedPager<F> {
 
 impl Drop for Cleaner {
     fn drop(&mut self) {
-        self.is_ended.store(true, Ordering::Release);
+        self.end.come();
         if let Some(thread) = self.thread.take() {
-            thread.thread().unpark();
             // Its panics were caught.
             let _ = thread.join();
         }

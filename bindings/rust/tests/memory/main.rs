@@ -115,11 +115,10 @@ fn look_without_memory() {
     assert_eq!((byte, has_come), (7, false));
 }
 
-// The first request is this crate's own.
 #[test]
 fn pool_without_memory() {
     let config = Config::new(4, 16, 1);
-    for number in 2.. {
+    for number in 1.. {
         let (pool, has_come) = refusing(number, || Pool::new(&config).map(drop));
         if !has_come {
             assert_eq!(pool, Ok(()));

@@ -4,6 +4,7 @@ mod device;
 mod engine;
 mod faulty;
 mod latches;
+mod others;
 mod overlap;
 mod panics;
 mod refusals;

@@ -256,8 +256,8 @@ fn mark_never_falls() {
 }
 
 // Of two frames, with two stamps: as the reckoned trail of `tests/worked_rows`, but that page 1 is
-// flushed before it leaves. It leaves once more, since its second reference is older than that of
-// page 2.
+// flushed before it leaves, and that it counts as used where it could not make way. So the second
+// reference of page 2 is older in the end.
 #[test]
 fn reckoned_trail() {
     let rows = [
@@ -278,7 +278,7 @@ fn reckoned_trail() {
         (Do::Flush(1), asks([])),
         (Do::Purge, Gives::Number(0)),
         (Do::Look(4), asks([Asked::Read(4)])),
-        (Do::Frames, pages([2, 4])),
+        (Do::Frames, pages([1, 4])),
     ];
     usual(2, rows);
 }

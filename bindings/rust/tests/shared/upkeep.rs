@@ -69,12 +69,11 @@ fn checkpoint_counts_what_is_written_meanwhile() {
     let asked = pager.io().asked();
     assert_eq!(asked[asked.len() - 2..], [Asked::Read(3), Asked::Sync]);
     assert_eq!((pager.stats().dirty, pager.redo_from()), (3, Some(7)));
-    // At the next one all go out. The log is asked for once for each that goes further.
+    // At the next one all go out. The log is asked for once.
     assert_eq!(pager.checkpoint().unwrap(), None);
     let asked = [
-        Asked::Log(7),
-        Asked::Write(1, 10, 7),
         Asked::Log(8),
+        Asked::Write(1, 10, 7),
         Asked::Write(2, 20, 8),
         Asked::Write(3, 30, 0),
         Asked::Sync,
