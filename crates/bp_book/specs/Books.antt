@@ -1,5 +1,5 @@
 -- What a session keeps for itself, and the room in which it keeps what it owes.
-use Rattle.std.specs.Prelude.{◌≡◌, ◌⊎◌, ℕ, ◌+◌, ◌-◌, ◌*◌, ◌≤◌, Bool, true, false, List, [], ◌∷◌, length, reverse, filter_map, All, Option, Some, None}
+use Rattle.std.specs.Prelude.{◌≡◌, ◌⊎◌, ℕ, ◌+◌, ◌-◌, ◌*◌, ◌^◌, ◌≤◌, ◌<◌, Bool, true, false, List, [], ◌∷◌, length, reverse, filter_map, All, Option, Some, None}
 use Rattle.bp_core.specs.declared.passes.Pass.{Pass}
 use Rattle.bp_core.specs.declared.passes.ReadTicket.{ReadTicket}
 use Rattle.bp_core.specs.declared.passes.WriteTicket.{WriteTicket}
@@ -16,7 +16,8 @@ use Rattle.bp_trail.specs.Script.{held_passes}
 use Rattle.bp_core.specs.CoreView.{CoreView, with_entry}
 
 -- a client's own list, newest first, and what cuts handed out of it, the bytes of a page, and the
--- room beyond all that the list owes: for entries, for passes held, and for copies of images
+-- room beyond all that the list owes: for entries, for passes held, and for copies of images; for
+-- how many copies there is a place, and how many entries are kept
 pub record BookValue : Type 0 where
   pub client : ℕ
   pub size : ℕ
@@ -25,6 +26,8 @@ pub record BookValue : Type 0 where
   pub entries : ℕ
   pub passes : ℕ
   pub copies : ℕ
+  pub places : ℕ
+  pub kept : ℕ
 
 -- the pass is among those held
 abbrev pub is_held : Pass → List Grant → Bool
@@ -80,6 +83,12 @@ open_tickets (e ∷ before) = tickets_given e.reply + (open_tickets before - tic
 -- open ticket
 abbrev pub owed : Trail → ℕ
 owed said = length (held_passes said) + 2 * open_tickets said
+
+-- for one event more, a list that takes no memory for its entries need not grow: there is room for a
+-- pass and places for two copies, and the entries can be counted
+abbrev pub NeedNotGrow : (passes places kept : ℕ) → Trail → Type 0
+NeedNotGrow passes places kept said =
+    (1 ≤ passes) × (2 ≤ places) × (kept + (owed said + 4) < 2 ^ 64)
 
 -- the passes held are those that the list leaves out, and there is room for what is owed: an unfix
 -- for each of them; for each open ticket an end, an unfix and a copy of an image

@@ -1,6 +1,6 @@
 //! What a session keeps for itself: its own list of entries, with room for all that the list still owes.
-ghost use Rattle.std.specs.Prelude.{◌≡◌, ◌≤◌, ◌<◌, ◌+◌, ◌-◌, ◌*◌, ◌∷◌, ◌++◌, [], ◌==◌, true, not};
-ghost use Rattle.std.specs.Prelude.{filter, All, Some, None, length, reverse, slice_get, IsOk, IfOk, IfSome};
+ghost use Rattle.std.specs.Prelude.{◌≡◌, ◌≤◌, ◌<◌, ◌+◌, ◌-◌, ◌*◌, ◌^◌, ◌∷◌, ◌++◌, [], ◌==◌, true, false, not};
+ghost use Rattle.std.specs.Prelude.{filter, All, Some, None, length, reverse, slice_get, IsOk, IfOk, IsSome, IfSome};
 ghost use Rattle.std.specs.Prelude.{OnOk, OnErr, vec_len, vec_capacity};
 ghost use Rattle.bp_trail.specs.declared.entries.Call.TheVariants as Call;
 ghost use Rattle.bp_trail.specs.declared.entries.Reply.TheVariants as Reply;
@@ -8,7 +8,7 @@ ghost use Rattle.bp_trail.specs.Event.{grant, same_grant};
 ghost use Rattle.bp_trail.specs.Passes.{passes_out};
 ghost use Rattle.bp_trail.specs.Legal.{is_out};
 ghost use Rattle.bp_trail.specs.Script.{held_passes};
-ghost use Rattle.bp_book.specs.Books.{BookValue, SameBook, Tells, plain_call, plain_reply, OwesRead, OwesWrite, owed};
+ghost use Rattle.bp_book.specs.Books.{BookValue, SameBook, Tells, plain_call, plain_reply, OwesRead, OwesWrite, owed, NeedNotGrow};
 
 mod asking;
 mod ending;
@@ -27,7 +27,8 @@ use std::marker::Model;
 /// owes. The entries are with their keeper: in memory, or for the proofs alone.
 ///
 /// Contracts see the client, the bytes of a page, the list, newest first, with what cuts handed out of it, and how much
-/// more room there is than the list owes: for entries, for passes held, and for copies of images.
+/// more room there is than the list owes: for entries, for passes held, and for copies of images; and of a list that
+/// takes no memory for its entries, what else may want some.
 #[derive(Drop)]
 pub struct Book<K: ListKeeper> {
     alloc: Global,
@@ -45,7 +46,7 @@ pub struct Book<K: ListKeeper> {
 }
 
 impl<K: ListKeeper> Model for Book<K> {
-    ghost use Rattle.std.specs.Prelude.{◌+◌, ◌-◌, ◌*◌, All, length, vec_len};
+    ghost use Rattle.std.specs.Prelude.{◌+◌, ◌-◌, ◌*◌, All, length, vec_len, vec_capacity};
     ghost use Rattle.bp_book.specs.Books.{BookValue, KeepsRoom};
 
     ghost Value = { BookValue };
@@ -59,6 +60,8 @@ impl<K: ListKeeper> Model for Book<K> {
           - ((K.kept b.said).len + (length b.held.passes + 2 * b.tickets));
       passes = b.held.room - b.tickets;
       copies = vec_len b.blanks - b.tickets;
+      places = vec_capacity b.blanks - b.tickets;
+      kept = (K.kept b.said).len;
     } };
 
     ghost invariant = { λ b.
@@ -78,6 +81,8 @@ fn make_blanks<K: ListKeeper>(
     ensures sized { All (λ b. K.fits b geometry.now.size) blanks.new.items }
     ensures more { vec_len blanks.old ≤ vec_len blanks.new }
     ensures enough { OnOk result (vec_len blanks.old + count ≤ vec_len blanks.new) }
+    ensures memory { K.REFUSES ≡ false → vec_len blanks.old + count ≤ vec_capacity blanks.old →
+        IsOk result }
 {
     for _ in 0..count {
         let blank = K::blank(alloc, geometry)?;
@@ -104,7 +109,8 @@ fn copied<K: ListKeeper>(blanks: &mut Vec<K::Blank>, image: &Image) -> K::SpareI
 
 /// How many entries a list with these debts has to have room for before one more event with a mark.
 fn entries_wanted(held: usize, tickets: usize) -> Option<usize>
-    ensures { IfSome result (λ n. n ≡ held + 2 * tickets + 4) }
+    ensures wanted { IfSome result (λ n. n ≡ held + 2 * tickets + 4) }
+    ensures counted { held + 2 * tickets + 4 < 2 ^ 64 → IsSome result }
 {
     tickets.checked_mul(2)?.checked_add(held)?.checked_add(4)
 }
@@ -117,6 +123,9 @@ impl<K: ListKeeper> Book<K> {
         ensures before { result.before ≡ [] }
         ensures said { result.said ≡ [] }
         ensures room { result.entries ≡ 0 }
+        ensures passes { result.passes ≡ 0 }
+        ensures places { result.places ≡ 0 }
+        ensures kept { result.kept ≡ 0 }
     {
         Book {
             alloc,
@@ -165,13 +174,16 @@ impl<K: ListKeeper> Book<K> {
     }
 
     /// Takes the memory for a mark, for one event, and for all that is owed then. No entry is added. Where memory is
-    /// refused, which is `OutOfMemory`, the list is as before, and some of the room may be there.
+    /// refused, which is `OutOfMemory`, the list is as before, and some of the room may be there. A list that takes no
+    /// memory for its entries is refused none where nothing else of it has to grow.
     pub fn reserve_for_event(&mut self) -> Result<(), Refusal>
         ensures same { SameBook self.old self.new }
         ensures entries { OnOk result (4 ≤ self.new.entries) }
         ensures passes { OnOk result (1 ≤ self.new.passes) }
         ensures copies { OnOk result (2 ≤ self.new.copies) }
         ensures refused { OnErr result (result ≡ Err Refusal.OutOfMemory) }
+        ensures memory { K.REFUSES ≡ false →
+            NeedNotGrow self.old.passes self.old.places self.old.kept self.old.said → IsOk result }
     {
         let Some(entries) = entries_wanted(self.held.len(), self.tickets) else {
             return Err(Refusal::OutOfMemory);

@@ -1,7 +1,7 @@
 //! The passes that a list gave and that did not go back.
 ghost use Rattle.std.specs.Prelude.{◌≡◌, ◌≤◌, ◌<◌, ◌+◌, ◌^◌, ◌∷◌, ◌++◌, [], ◌==◌, ◌&&◌, ℕ, true, false, not};
 ghost use Rattle.std.specs.Prelude.{filter, length, reverse, slice_get, slice_index_or};
-ghost use Rattle.std.specs.Prelude.{OnOk, vec_len, vec_capacity};
+ghost use Rattle.std.specs.Prelude.{IsOk, OnOk, vec_len, vec_capacity};
 ghost use Rattle.bp_trail.specs.Event.{grant, same_grant};
 ghost use Rattle.bp_trail.specs.Lists.{some};
 ghost use Rattle.bp_frames.specs.Rising.{IsRisingBy, IsPlaceFor, IsPlaceOf};
@@ -164,7 +164,8 @@ fn first_from(slots: &[Slot], from: usize) -> usize
 impl Held {
     /// None. It takes no memory.
     pub(crate) fn new(alloc: Global) -> Held
-        ensures { result.passes ≡ [] }
+        ensures passes { result.passes ≡ [] }
+        ensures room { result.room ≡ 0 }
     {
         Held {
             slots: Vec::new(alloc),
@@ -198,6 +199,7 @@ impl Held {
         ensures passes { self.new.passes ≡ self.old.passes }
         ensures room { OnOk result (more ≤ self.new.room) }
         ensures no_less { self.old.room ≤ self.new.room }
+        ensures succeeds { more ≤ self.old.room → IsOk result }
     {
         if self.count < self.slots.len() / 2 {
             close_up(&mut self.slots);

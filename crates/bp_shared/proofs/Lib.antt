@@ -7,3 +7,4 @@ pub mod Making
 pub mod Flushing
 pub mod Telling
 pub mod Posting
+pub mod Holding

@@ -1,13 +1,16 @@
 -- The passes that clients post by their rings, and what of them the trail has.
-use Rattle.std.specs.Prelude.{◌≡◌, ℕ, suc, ◌==◌, Bool, true, List, [], ◌∷◌, ◌++◌, map, reverse, All, if◌then◌else◌}
+use Rattle.std.specs.Prelude.{◌≡◌, ℕ, suc, ◌==◌, Bool, true, not, List, [], ◌∷◌, ◌++◌, map, reverse, filter, filter_map, All, if◌then◌else◌}
 use Rattle.rtrb.specs.declared.producer.Producer.{Producer}
 use Rattle.rtrb.specs.declared.consumer.Consumer.{Consumer}
 use Rattle.rtrb.specs.Ring.{sent, received, known_free}
 use Rattle.bp_trail.specs.Event.{Grant}
+use Rattle.bp_trail.specs.Lists.{some}
 use Rattle.bp_trail.specs.Trail.{Trail}
+use Rattle.bp_trail.specs.Passes.{pass_of}
 use Rattle.bp_audit.specs.Clients.{of_client}
 use Rattle.bp_book.specs.Books.{unfixes}
 use Rattle.bp_book.specs.Rings.{RingName, RingView, ring_of, ring_at}
+use Rattle.bp_shared.specs.Telling.{told}
 
 -- the passes that a client gave back, newest first
 abbrev pub unfixed : ℕ → Trail → List Grant
@@ -55,3 +58,9 @@ pub record IsSettledBy (start past : Trail) (client : ℕ) (posted : List Grant)
   pub goes_on : past ≡ since ++ start
   pub within : IsWithin (unfixed client since) posted
   pub all : is_settled ≡ true → unfixed client since ≡ posted
+
+-- the passes that a client holds by its list: those that it was given and did not give back
+abbrev pub held_by : Trail → List Grant
+held_by said =
+    filter (λ g. not (some (λ back. back.serial == g.serial) (unfixes said)))
+    (filter_map pass_of (told said))

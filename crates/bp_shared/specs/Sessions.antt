@@ -14,23 +14,41 @@ use Rattle.bp_core.specs.Outcomes.{pass_is_out}
 use Rattle.bp_trail.specs.Pieces.{by, FixPiece, FlushPiece}
 use Rattle.bp_trail.specs.Pieces.Manner.{session}
 use Rattle.bp_trail.specs.Pieces.Outcome.{accepted, refused}
-use Rattle.bp_book.specs.Books.{owed}
+use Rattle.bp_book.specs.Books.{owed, NeedNotGrow}
 use Rattle.bp_trail.specs.declared.entries.Flushed.{Flushed}
 use Rattle.bp_core.specs.Added.{Gives, Ends, flushed_reply}
 use Rattle.bp_core.specs.Work.{Reads, Writes, WorksThrough}
 
 -- whose session it is, and its list: what cuts handed out, and all of it; in how many places of its
--- ring it knows no pass; and for how many entries the list has room beyond all that it owes
+-- ring it knows no pass; for how many entries the list has room beyond all that it owes, and for how
+-- many passes; for how many copies of images there is a place; and how many entries are kept
 pub record SessionValue : Type 0 where
   pub client : ℕ
   pub before : Trail
   pub said : Trail
   pub free : ℕ
   pub room : ℕ
+  pub passes : ℕ
+  pub places : ℕ
+  pub kept : ℕ
+
+-- for one event more, the list need not grow where it takes no memory for its entries
+abbrev pub IsRoomy : SessionValue → Type 0
+IsRoomy s = NeedNotGrow s.passes s.places s.kept s.said
 
 -- a session that said nothing, with 32 free places in its ring
 abbrev pub new_session : ℕ → SessionValue
-new_session client = record { client = client; before = []; said = []; free = 32; room = 0 }
+new_session client =
+    record {
+      client = client;
+      before = [];
+      said = [];
+      free = 32;
+      room = 0;
+      passes = 0;
+      places = 0;
+      kept = 0;
+    }
 
 -- a new session for each client, in order
 abbrev pub new_sessions : ℕ → List SessionValue
@@ -39,7 +57,7 @@ new_sessions (suc n) = new_sessions n ++ new_session n ∷ []
 
 -- what the list had was handed out, and all else goes on
 abbrev pub IsCut : SessionValue → SessionValue → Type 0
-IsCut old new = new ≡ record old { before = old.said; room = new.room }
+IsCut old new = new ≡ record old { before = old.said; room = new.room; kept = new.kept }
 
 -- a list that was handed out has the memory that it had
 abbrev pub KeepsMemory : {A : Type 0} → SessionValue → Vec Entry A → Type 0

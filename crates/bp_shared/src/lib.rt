@@ -11,6 +11,7 @@
 
 pub mod closed_pool;
 mod giving;
+pub mod laws;
 mod locked_pool;
 mod locking;
 mod log_writer;

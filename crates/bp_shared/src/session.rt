@@ -50,6 +50,9 @@ impl<N: PoolName, K: ListKeeper> Model for Session<N, K> {
       said = s.book.said;
       free = known_free s.producer;
       room = s.book.entries;
+      passes = s.book.passes;
+      places = s.book.places;
+      kept = s.book.kept;
     } };
 
     // The ring is the client's; the passes posted are those of the list's own unfixes, in order; the line has what else
@@ -89,6 +92,9 @@ impl<N: PoolName, K: ListKeeper> Session<N, K> {
         ensures said { result.said ≡ [] }
         ensures free { result.free ≡ 32 }
         ensures room { result.room ≡ 0 }
+        ensures passes { result.passes ≡ 0 }
+        ensures places { result.places ≡ 0 }
+        ensures kept { result.kept ≡ 0 }
     {
         Session {
             book: Book::new(alloc, geometry, client),

@@ -4,10 +4,8 @@ use Rattle.bp_page.specs.declared.refusals.Refusal.{Refusal}
 use Rattle.bp_page.specs.declared.refusals.Refusal.TheVariants as refusal
 use Rattle.bp_core.specs.declared.passes.Pass.{Pass}
 use Rattle.bp_trail.specs.Trail.{Trail}
-use Rattle.bp_shared.specs.Sessions.{FixSaid}
 use Rattle.bp_shared.proofs.Stepping.{err}
-use Rattle.bp_book.specs.Turns.{TickSaid}
-use Rattle.bp_workers.specs.Tries.{GivesUp, GoesOn, Tries}
+use Rattle.bp_workers.specs.Tries.{Fixes, Ticks, GivesUp, GoesOn, Tries}
 use Rattle.bp_workers.specs.Tries.Tries.{again, at_last, fixed, given_up}
 
 module _ (client steps : ℕ) where
@@ -18,35 +16,35 @@ module _ (client steps : ℕ) where
   goes-on-later raised later _ ticked now said after le h = absurd h
 
 -- what is tried from here on was tried from the start on
-abbrev pub LeadsTo : (client page steps rounds raised : ℕ) → Bool → ℕ → Trail → Trail → Type 0
-LeadsTo client page steps rounds raised ticked done said now =
+abbrev pub LeadsTo : Fixes → Ticks → (client page steps rounds raised : ℕ) → Bool → ℕ → Trail → Trail → Type 0
+LeadsTo fixes ticks client page steps rounds raised ticked done said now =
     (durable later left : ℕ) (answer : Result Pass Refusal) (after : Trail) → raised ≤ later → left + done ≡ rounds
-    → Tries client page steps durable later left ticked answer now after → Tries client page steps durable later rounds false answer said after
+    → Tries fixes ticks client page steps durable later left ticked answer now after → Tries fixes ticks client page steps durable later rounds false answer said after
 
-module _ (client page steps rounds : ℕ) where
-  pub leads-none : (raised : ℕ) (said : Trail) → LeadsTo client page steps rounds raised false 0 said said
+module _ (fixes : Fixes) (ticks : Ticks) (client page steps rounds : ℕ) where
+  pub leads-none : (raised : ℕ) (said : Trail) → LeadsTo fixes ticks client page steps rounds raised false 0 said said
   leads-none raised said durable later left answer after le is t =
       let e : left ≡ rounds = omega (arith, is) in
-      subst (λ n. Tries client page steps durable later n false answer said after) e t
+      subst (λ n. Tries fixes ticks client page steps durable later n false answer said after) e t
 
-  pub leads-more : (raised higher : ℕ) (ticked next : Bool) (done : ℕ) (said now tried mid : Trail) (why : Refusal) → LeadsTo client page steps rounds raised ticked done said now → raised ≤ higher
-      → FixSaid client page (Err why) now tried → GoesOn client steps higher why ticked next tried mid → LeadsTo client page steps rounds higher next (done + 1) said mid
+  pub leads-more : (raised higher : ℕ) (ticked next : Bool) (done : ℕ) (said now tried mid : Trail) (why : Refusal) → LeadsTo fixes ticks client page steps rounds raised ticked done said now → raised ≤ higher
+      → fixes client page (Err why) now tried → GoesOn client steps higher why ticked next tried mid → LeadsTo fixes ticks client page steps rounds higher next (done + 1) said mid
   leads-more raised higher ticked next done said now tried mid why leads rises refused goes durable later left answer after le is t =
       leads durable later (suc left) answer after (omega (arith, rises, le)) (omega (arith, is))
       (again why tried mid refused (goes-on-later client steps higher later why ticked next tried mid le goes) t)
 
-  pub leads-fixed : (durable raised : ℕ) (ticked : Bool) (done : ℕ) (said now after : Trail) (pass : Pass) → LeadsTo client page steps rounds raised ticked done said now → done ≤ rounds
-      → FixSaid client page (Ok pass) now after → Tries client page steps durable raised rounds false (Ok pass) said after
+  pub leads-fixed : (durable raised : ℕ) (ticked : Bool) (done : ℕ) (said now after : Trail) (pass : Pass) → LeadsTo fixes ticks client page steps rounds raised ticked done said now → done ≤ rounds
+      → fixes client page (Ok pass) now after → Tries fixes ticks client page steps durable raised rounds false (Ok pass) said after
   leads-fixed durable raised ticked done said now after pass leads few found =
       leads durable raised (rounds - done) (Ok pass) after (omega arith) (omega (arith, few)) (fixed found)
 
-  pub leads-given_up : (durable raised higher : ℕ) (ticked : Bool) (done : ℕ) (said now tried after : Trail) (why answer : Refusal) → LeadsTo client page steps rounds raised ticked done said now → done < rounds → raised ≤ higher
-      → FixSaid client page (Err why) now tried → GivesUp client steps durable why ticked answer tried after → Tries client page steps durable higher rounds false (Err answer) said after
+  pub leads-given_up : (durable raised higher : ℕ) (ticked : Bool) (done : ℕ) (said now tried after : Trail) (why answer : Refusal) → LeadsTo fixes ticks client page steps rounds raised ticked done said now → done < rounds → raised ≤ higher
+      → fixes client page (Err why) now tried → GivesUp ticks client steps durable why ticked answer tried after → Tries fixes ticks client page steps durable higher rounds false (Err answer) said after
   leads-given_up durable raised higher ticked done said now tried after why answer leads few rises refused ends =
       leads durable higher (suc (rounds - (done + 1))) (Err answer) after rises (omega (arith, few)) (given_up why tried refused ends)
 
-  pub leads-end : (durable raised : ℕ) (ticked : Bool) (done : ℕ) (said now after : Trail) (answer : Result Pass Refusal) → LeadsTo client page steps rounds raised ticked done said now → done ≡ rounds
-      → FixSaid client page answer now after → Tries client page steps durable raised rounds false answer said after
+  pub leads-end : (durable raised : ℕ) (ticked : Bool) (done : ℕ) (said now after : Trail) (answer : Result Pass Refusal) → LeadsTo fixes ticks client page steps rounds raised ticked done said now → done ≡ rounds
+      → fixes client page answer now after → Tries fixes ticks client page steps durable raised rounds false answer said after
   leads-end durable raised ticked done said now after answer leads all found =
       leads durable raised 0 answer after (omega arith) (omega (arith, all)) (at_last found)
 
@@ -61,21 +59,14 @@ goes-on-known client steps raised refusal.NoVictim ticked now said after h is = 
 goes-on-known client steps raised _ ticked now said after h is = absurd h
 
 -- nor is one for which another refusal is answered
-pub gives-up-known : (client steps durable : ℕ) (why : Refusal) (ticked : Bool) (answer : Refusal) (said after : Trail) → GivesUp client steps durable why ticked answer said after
+pub gives-up-known : (ticks : Ticks) (client steps durable : ℕ) (why : Refusal) (ticked : Bool) (answer : Refusal) (said after : Trail) → GivesUp ticks client steps durable why ticked answer said after
     → (err Pass answer ≡ err Pass refusal.UnknownTicket → ⊥) → err Pass why ≡ err Pass refusal.UnknownTicket → ⊥
-gives-up-known client steps durable (refusal.NeedLog lsn) ticked answer said after h known is = let no : refusal.NeedLog lsn ≡ refusal.UnknownTicket = ap why-of is in cc
-gives-up-known client steps durable refusal.NoVictim ticked answer said after h known is = let no : refusal.NoVictim ≡ refusal.UnknownTicket = ap why-of is in cc
-gives-up-known client steps durable why ticked answer said after h known is = known (ap (λ w. err Pass w) h.0 ∙ is)
-
--- a tick that was refused leaves the list
-tick-refused : (client n : ℕ) (why : Refusal) (said after : Trail) → TickSaid client n (err (Unit {0}) why) said after → after ≡ said
-tick-refused client n refusal.TrailFull said after h = h
-tick-refused client n refusal.ClockFull said after h = h
-tick-refused client n refusal.OutOfMemory said after h = h
-tick-refused client n _ said after h = absurd h
+gives-up-known ticks client steps durable (refusal.NeedLog lsn) ticked answer said after h known is = let no : refusal.NeedLog lsn ≡ refusal.UnknownTicket = ap why-of is in cc
+gives-up-known ticks client steps durable refusal.NoVictim ticked answer said after h known is = let no : refusal.NoVictim ≡ refusal.UnknownTicket = ap why-of is in cc
+gives-up-known ticks client steps durable why ticked answer said after h known is = known (ap (λ w. err Pass w) h.0 ∙ is)
 
 -- who gives up adds nothing
-pub gives-up-stays : (client steps durable : ℕ) (why : Refusal) (ticked : Bool) (answer : Refusal) (said after : Trail) → GivesUp client steps durable why ticked answer said after → after ≡ said
-gives-up-stays client steps durable (refusal.NeedLog lsn) ticked answer said after h = h.2
-gives-up-stays client steps durable refusal.NoVictim ticked answer said after h = tick-refused client steps answer said after h.1
-gives-up-stays client steps durable _ ticked answer said after h = h.1
+pub gives-up-stays : (ticks : Ticks) (client steps durable : ℕ) (why : Refusal) (ticked : Bool) (answer : Refusal) (said after : Trail) → GivesUp ticks client steps durable why ticked answer said after → after ≡ said
+gives-up-stays ticks client steps durable (refusal.NeedLog lsn) ticked answer said after h = h.2
+gives-up-stays ticks client steps durable refusal.NoVictim ticked answer said after h = h.2
+gives-up-stays ticks client steps durable _ ticked answer said after h = h.1

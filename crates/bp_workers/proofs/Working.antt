@@ -9,7 +9,7 @@ use Rattle.bp_trail.specs.Trail.{Trail}
 use Rattle.bp_trail.specs.Pieces.{by}
 use Rattle.bp_core.specs.Work.{Reads, Writes, Works, WorksThrough}
 use Rattle.bp_shared.specs.Sessions.{WithSomeLsn, DoesWorkSaid}
-use Rattle.bp_workers.specs.Tries.{GivesUp, GoesOn}
+use Rattle.bp_workers.specs.Tries.{Ticks, GivesUp, GoesOn}
 use Rattle.bp_workers.proofs.Trying.{gives-up-stays}
 
 module _ {A : Type 0} (reads : Reads A) (writes : Writes A) where
@@ -40,7 +40,7 @@ module _ {A : Type 0} (reads : Reads A) (writes : Writes A) where
   goes-on-work client steps raised _ ticked next said mid after port now w h = absurd h
 
   -- nor has one that gives up
-  pub gives-up-work : (client steps durable : ℕ) (why : Refusal) (ticked : Bool) (answer : Refusal) (said mid after : Trail) (port now : A) → DoesWorkSaid reads writes said mid port now → GivesUp client steps durable why ticked answer mid after
+  pub gives-up-work : (ticks : Ticks) (client steps durable : ℕ) (why : Refusal) (ticked : Bool) (answer : Refusal) (said mid after : Trail) (port now : A) → DoesWorkSaid reads writes said mid port now → GivesUp ticks client steps durable why ticked answer mid after
       → DoesWorkSaid reads writes said after port now
-  gives-up-work client steps durable why ticked answer said mid after port now w h =
-      record { piece = w.piece; grows = gives-up-stays client steps durable why ticked answer mid after h ∙ w.grows; through = w.through }
+  gives-up-work ticks client steps durable why ticked answer said mid after port now w h =
+      record { piece = w.piece; grows = gives-up-stays ticks client steps durable why ticked answer mid after h ∙ w.grows; through = w.through }

@@ -15,6 +15,84 @@ use std::sync::Wait;
 use std::thread::Parker;
 use std::time::Duration;
 
+/// Whom a waiting fix asks: a pool that many clients share.
+///
+/// It says by two relations of its own what a fix, and a tick, answers a client and adds to the client's list. What is
+/// promised by them of any pool can be kept only by these calls: so each answer of a waiting fix is one that was given.
+pub trait Asked<N: PoolName, K: ListKeeper> {
+    ghost use Rattle.std.specs.Prelude.{◌≡◌, ◌≢◌, ◌<◌};
+    ghost use Rattle.bp_page.specs.declared.refusals.Refusal.TheVariants as Refusal;
+    ghost use Rattle.bp_book.specs.Turns.{TickSaid};
+    ghost use Rattle.bp_shared.specs.Sessions.{DoesWorkSaid};
+    ghost use Rattle.bp_workers.specs.Tries.{Fixes, Ticks};
+
+    // A fix of a page gives a client an answer, and leads from its list, as it was, to it, as it is.
+    ghost fixes: { Fixes };
+    // A tick of so many steps does.
+    ghost ticks: { Ticks };
+
+    /// The pool itself, by which its mark is raised.
+    fn pool(&self) -> &SharedPool<N, K>;
+
+    /// Fixes a page, as [`SharedPool::fix`] does.
+    fn ask_fix<P: Port, R: Wait>(
+        &self,
+        rt: &R,
+        session: &mut Session<N, K>,
+        port: &mut P,
+        page: PageNo,
+    ) -> Result<Pass, Refusal>
+        requires page_in { page < N.parameters.pages }
+        requires port { (P.geometry_of port.old).size ≡ N.parameters.size }
+        ensures client { session.new.client ≡ session.old.client }
+        ensures before { session.new.before ≡ session.old.before }
+        ensures free { session.new.free ≡ session.old.free }
+        ensures port { P.geometry_of port.new ≡ P.geometry_of port.old }
+        ensures gives { fixes session.old.client page result session.old.said session.new.said }
+        ensures work { result ≢ Err Refusal.UnknownTicket → DoesWorkSaid P.read_gives P.write_gives
+            session.old.said session.new.said port.old port.new };
+
+    /// Moves the clock on, as [`SharedPool::tick`] does.
+    fn ask_tick<R: Wait>(&self, rt: &R, session: &mut Session<N, K>, n: u64) -> Result<(), Refusal>
+        ensures client { session.new.client ≡ session.old.client }
+        ensures before { session.new.before ≡ session.old.before }
+        ensures free { session.new.free ≡ session.old.free }
+        ensures gives { ticks session.old.client n result session.old.said session.new.said }
+        ensures outcome { TickSaid session.old.client n result session.old.said session.new.said };
+}
+
+impl<N: PoolName, K: ListKeeper> Asked<N, K> for SharedPool<N, K> {
+    ghost use Rattle.bp_book.specs.Turns.{TickSaid};
+    ghost use Rattle.bp_shared.specs.Sessions.{FixSaid};
+
+    ghost fixes = { FixSaid };
+
+    ghost ticks = { TickSaid };
+
+    fn pool(&self) -> &SharedPool<N, K> {
+        self
+    }
+
+    fn ask_fix<P: Port, R: Wait>(
+        &self,
+        rt: &R,
+        session: &mut Session<N, K>,
+        port: &mut P,
+        page: PageNo,
+    ) -> Result<Pass, Refusal> {
+        self.fix(rt, session, port, page)
+    }
+
+    fn ask_tick<R: Wait>(
+        &self,
+        rt: &R,
+        session: &mut Session<N, K>,
+        n: u64,
+    ) -> Result<(), Refusal> {
+        self.tick(rt, session, n)
+    }
+}
+
 /// An engine's log, which can be made durable.
 pub trait Log: Drop {
     ghost use Rattle.std.specs.Prelude.{◌≤◌, ◌↔◌, ℕ, IsTrue};
@@ -114,9 +192,9 @@ pub struct Patience {
 ///
 /// An error is what is to be answered for the fix: its own refusal, where that cannot be overcome or the log did not
 /// get durable so far, or the refusal of the tick.
-fn overcome<N: PoolName, K: ListKeeper, L: DurableLog<N>, R: Wait>(
+fn overcome<N: PoolName, K: ListKeeper, A: Asked<N, K>, L: DurableLog<N>, R: Wait>(
     rt: &R,
-    pool: &SharedPool<N, K>,
+    pool: &A,
     session: &mut Session<N, K>,
     log: &mut L,
     why: Refusal,
@@ -131,12 +209,12 @@ fn overcome<N: PoolName, K: ListKeeper, L: DurableLog<N>, R: Wait>(
         (L.durable_to log.new) (L.raised_to log.new) }
     ensures goes_on { OnOk result (GoesOn session.old.client patience.steps
         (L.raised_to log.new) why is_ticked.old is_ticked.new session.old.said session.new.said) }
-    ensures gives_up { IfErr result (λ last. GivesUp session.old.client patience.steps
+    ensures gives_up { IfErr result (λ last. GivesUp A.ticks session.old.client patience.steps
         (L.durable_to log.new) why is_ticked.old last session.old.said session.new.said) }
 {
     match why {
         Refusal::NeedLog(lsn) => {
-            if log.reach(rt, pool, lsn) {
+            if log.reach(rt, pool.pool(), lsn) {
                 Ok(())
             } else {
                 Err(why)
@@ -148,7 +226,7 @@ fn overcome<N: PoolName, K: ListKeeper, L: DurableLog<N>, R: Wait>(
                 return Ok(());
             }
             *is_ticked = true;
-            pool.tick(rt, session, patience.steps)
+            pool.ask_tick(rt, session, patience.steps)
         }
         _ => Err(why),
     }
@@ -163,12 +241,13 @@ fn overcome<N: PoolName, K: ListKeeper, L: DurableLog<N>, R: Wait>(
 /// one for each wait for another client's device work, and two for each victim that went out before. The clock's move
 /// adds one. The device does the work of the entries, and nothing else.
 ///
-/// Any other refusal is answered at once, as `fix` gives it. `NoVictim` is answered only where the rounds are over, and
+/// Any other refusal is answered at once, as the fix gave it. `NoVictim` is answered only where the rounds are over, and
 /// `NeedLog` only there or where the log did not get durable so far. Where the tick is refused its refusal is answered,
-/// `TrailFull`, `ClockFull` or `OutOfMemory`: then the clock stands, and no page may leave.
-pub fn fix_durably<N: PoolName, P: Port, K: ListKeeper, L: DurableLog<N>, R: Wait>(
+/// `TrailFull`, `ClockFull` or `OutOfMemory`: then the clock stands, and no page may leave. So each of these three is
+/// answered only as the pool's last call did.
+pub fn fix_durably<N: PoolName, P: Port, K: ListKeeper, A: Asked<N, K>, L: DurableLog<N>, R: Wait>(
     rt: &R,
-    pool: &SharedPool<N, K>,
+    pool: &A,
     client: &mut Client<N, P, K>,
     log: &mut L,
     page: PageNo,
@@ -182,15 +261,15 @@ pub fn fix_durably<N: PoolName, P: Port, K: ListKeeper, L: DurableLog<N>, R: Wai
     ensures lent { L.lent log.new ≡ L.lent log.old }
     ensures raises { RaisesWithin (L.durable_to log.old) (L.raised_to log.old)
         (L.durable_to log.new) (L.raised_to log.new) }
-    ensures outcome { Tries client.old.session.client page patience.steps (L.durable_to log.new)
-        (L.raised_to log.new) patience.rounds false result
+    ensures outcome { Tries A.fixes A.ticks client.old.session.client page patience.steps
+        (L.durable_to log.new) (L.raised_to log.new) patience.rounds false result
         client.old.session.said client.new.session.said }
     ensures work { result ≢ Err Refusal.UnknownTicket → DoesWorkSaid P.read_gives P.write_gives
         client.old.session.said client.new.session.said client.old.port client.new.port }
 {
     let mut is_ticked = false;
     for _round in 0..patience.rounds {
-        match pool.fix(rt, &mut client.session, &mut client.port, page) {
+        match pool.ask_fix(rt, &mut client.session, &mut client.port, page) {
             Ok(pass) => return Ok(pass),
             Err(why) => {
                 overcome(
@@ -205,5 +284,5 @@ pub fn fix_durably<N: PoolName, P: Port, K: ListKeeper, L: DurableLog<N>, R: Wai
             }
         }
     }
-    pool.fix(rt, &mut client.session, &mut client.port, page)
+    pool.ask_fix(rt, &mut client.session, &mut client.port, page)
 }

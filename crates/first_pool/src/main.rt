@@ -1,34 +1,38 @@
-//! A pool with one owner: a page is changed, goes out once the log is durable so far, and the trail of it is let go.
+//! A pool with one owner: a counter in a page goes up by one, the page goes out once the log is durable so far, and the
+//! trail of it is let go.
 #![tactic(auto)]
 
-ghost use Rattle.std.specs.Prelude.{◌≡◌, ◌<◌, ◌+◌, ◌≤◌, length};
+ghost use Rattle.std.specs.Prelude.{◌≡◌, ◌<◌};
 
 use bp_core::Core;
 use bp_device::{MemDevice, MemPort, Port, drive_fix, drive_flush};
-use bp_lruk::Settings;
-use bp_page::{Bytes, Geometry, Lsn, PageNo, Refusal};
+use bp_page::{Geometry, Lsn, PageNo, Refusal};
+use bp_replacer::Settings;
 use std::alloc::Global;
 use std::rt::Runtime;
 use std::sync::Wait;
 
-/// Changes a page under a log record, and gives its pass back. No flush comes before the log is durable as far as
-/// `lsn`.
+/// Adds one to the first byte of a page under a log record, and gives the pass back. No flush comes before the log is
+/// durable as far as `lsn`.
 fn change(
     rt: &impl Wait,
     core: &mut Core,
     port: &mut MemPort,
     page: PageNo,
-    bytes: &Bytes,
     lsn: Lsn,
 ) -> Result<(), Refusal>
     requires size { port.old.device.size ≡ core.old.parameters.size }
     requires client { 0 < core.old.parameters.clients }
     requires page_in { page < core.old.parameters.pages }
-    requires fits { 0 + length bytes.now ≤ core.old.parameters.size }
+    requires fits { 0 < core.old.parameters.size }
     ensures same { core.new.parameters ≡ core.old.parameters }
 {
     let pass = drive_fix(rt, core, port, 0, page)?;
-    let written = core.write(&pass, 0, bytes, lsn);
+    let count = match core.page(&pass) {
+        Some(bytes) => bytes[0],
+        None => 0,
+    };
+    let written = core.write_from(&pass, 0, &[count.wrapping_add(1)], lsn);
     match core.unfix(pass) {
         Ok(()) => written,
         Err(pass) => {
@@ -61,14 +65,13 @@ fn use_pool(
     core: &mut Core,
     port: &mut MemPort,
     page: PageNo,
-    bytes: &Bytes,
 ) -> Result<usize, Refusal>
     requires size { port.old.device.size ≡ core.old.parameters.size }
     requires client { 0 < core.old.parameters.clients }
     requires page_in { page < core.old.parameters.pages }
-    requires fits { 0 + length bytes.now ≤ core.old.parameters.size }
+    requires fits { 0 < core.old.parameters.size }
 {
-    change(rt, core, port, page, bytes, Lsn::new(1))?;
+    change(rt, core, port, page, Lsn::new(1))?;
     save(rt, core, port, page, Lsn::new(1))?;
     let trail = core.cut()?;
     Ok(trail.len())
@@ -78,12 +81,11 @@ fn use_pool(
 fn run(rt: &(impl Runtime<A = Global> + Wait)) -> Result<usize, Refusal> {
     let alloc = rt.alloc();
     let geometry = Geometry::new(16, 64)?;
-    let settings = Settings::new(2, 0, 1000)?;
-    let bytes = Bytes::of(alloc, b"hello".as_slice())?;
+    let settings = Settings::new(2, 1, 1000)?;
     let device = MemDevice::new(alloc, geometry)?;
     let mut port = device.port()?;
-    let mut core = Core::new(alloc, geometry, settings, 64, 1, 10_000)?;
-    use_pool(rt, &mut core, &mut port, PageNo::new(7), &bytes)
+    let mut core = Core::new(alloc, geometry, settings, 8, 1, 10_000)?;
+    use_pool(rt, &mut core, &mut port, PageNo::new(7))
 }
 
 fn main(rt: HostRuntime) {

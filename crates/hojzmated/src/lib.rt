@@ -31,7 +31,7 @@ pub use bp_device::{drive_fix, drive_flush};
 
 // Workers over one pool.
 pub use bp_workers::{
-    Client, DurableLog, Kind, Leading, Left, Log, Patience, PoolConfig, Run, Upkeep, Worker,
+    Asked, Client, DurableLog, Kind, Leading, Left, Log, Patience, PoolConfig, Run, Upkeep, Worker,
     fix_durably, run_workers, run_workers_over,
 };
 

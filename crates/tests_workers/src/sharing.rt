@@ -41,7 +41,8 @@ fn count_marks(trail: &[Entry]) -> usize {
     marks
 }
 
-/// Each list is what the trail has of its client, and the mark that the log writer raised was seen once.
+/// Each list is what the trail has of its client, each pass that it gave back went back, and the mark that the log
+/// writer raised was seen once.
 fn expect_shared<R: Abort + AllocGlobal + Threads + Wait + Sync>(
     rt: &R,
     frames: usize,
@@ -56,6 +57,7 @@ fn expect_shared<R: Abort + AllocGlobal + Threads + Wait + Sync>(
         assert_eq!(rt; left.worker.done, 12);
         assert_eq!(rt; left.worker.refused, 0);
         assert_eq!(rt; left.held, 0);
+        assert!(rt; left.all_went_back && left.is_settled);
     }
     assert_eq!(rt; count_marks(run.core.trail()), 1);
 }

@@ -1,5 +1,5 @@
 //! One event of the core, which the list gets too.
-ghost use Rattle.std.specs.Prelude.{◌≡◌, ◌≤◌, ◌<◌, ◌+◌, ◌∷◌, true, length, OnOk, IfOk};
+ghost use Rattle.std.specs.Prelude.{◌≡◌, ◌≢◌, ◌≤◌, ◌<◌, ◌+◌, ◌∷◌, true, false, length, OnOk, IfOk};
 ghost use Rattle.bp_mark.specs.Marks.{ReaderValue};
 ghost use Rattle.bp_trail.specs.declared.entries.Call.TheVariants as Call;
 ghost use Rattle.bp_trail.specs.declared.entries.Reply.TheVariants as Reply;
@@ -216,6 +216,7 @@ impl<K: ListKeeper> Book<K> {
         ensures asked { ReadIntoOutcome core.old pass.now offset into.old result into.new core.new }
         ensures outcome { ReadIntoSaid self.old.client pass.now offset into.old result into.new
             self.old.said self.new.said }
+        ensures memory { K.REFUSES ≡ false → result ≢ Err Refusal.OutOfMemory }
         ensures alike { Alike core.old self.old.said core.new self.new.said }
     {
         core.read_into(pass, offset, into)?;
@@ -247,6 +248,7 @@ impl<K: ListKeeper> Book<K> {
         ensures asked { WriteOutcome core.old pass.now offset bytes.now lsn result core.new }
         ensures outcome { WriteSaid self.old.client pass.now offset bytes.now lsn result
             self.old.said self.new.said }
+        ensures memory { K.REFUSES ≡ false → result ≢ Err Refusal.OutOfMemory }
         ensures alike { Alike core.old self.old.said core.new self.new.said }
     {
         core.write_from(pass, offset, bytes, lsn)?;

@@ -61,8 +61,9 @@ impl<K: ListKeeper> Book<K> {
                 Ok(note.pass())
             }
             Err(EndRefusal::Failed(_)) => unreachable!(),
-            Err(EndRefusal::Unknown(lost, _)) => {
+            Err(EndRefusal::Unknown(lost, back)) => {
                 lost.forfeit();
+                self.left = back.ok();
                 self.blanks.push_reserved(K::clear(copy));
                 Err(Refusal::UnknownTicket)
             }

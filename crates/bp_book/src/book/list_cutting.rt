@@ -35,6 +35,8 @@ impl Book<RecordingKeeper> {
         ensures client { self.new.client ≡ self.old.client }
         ensures size { self.new.size ≡ self.old.size }
         ensures said { self.new.said ≡ self.old.said }
+        ensures passes { self.new.passes ≡ self.old.passes }
+        ensures places { self.new.places ≡ self.old.places }
         ensures before { OnOk result (self.new.before ≡ self.old.said) }
         ensures unchanged { OnErr result (self.new ≡ self.old) }
         ensures refused { OnErr result (result ≡ Err Refusal.OutOfMemory) }

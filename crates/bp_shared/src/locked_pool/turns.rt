@@ -1,7 +1,7 @@
 //! The events of a session, each in a critical section whose rings are drained. The session's list gets the event too;
 //! a fix and a flush first look at the mark once. What the list then tells goes to the session's line of the board.
 //! None takes memory for the list: what an event wants there is taken before the lock.
-ghost use Rattle.std.specs.Prelude.{◌≡◌, ◌+◌, ◌<◌, ◌≤◌, length, IfOk};
+ghost use Rattle.std.specs.Prelude.{◌≡◌, ◌≢◌, ◌+◌, ◌<◌, ◌≤◌, false, length, IfOk};
 ghost use Rattle.bp_book.specs.Books.{SameOwner, OwesRead, OwesWrite};
 ghost use Rattle.bp_book.specs.Turns.{FixTurn, FlushTurn, EndReadOutcome, EndWriteOutcome};
 ghost use Rattle.bp_book.specs.Turns.{TickSaid, PurgeSaid, ReadSaid, ReadIntoSaid, WriteSaid};
@@ -156,6 +156,7 @@ impl<N: PoolName, K: ListKeeper> LockedPool<N, K> {
         ensures line { IsLineOf N.ring.board line.new book.new.client book.new.said }
         ensures ends { self.new.ends ≡ self.old.ends }
         ensures outcome { TickSaid book.old.client n result book.old.said book.new.said }
+        ensures memory { result ≢ Err Refusal.OutOfMemory }
         ensures in_step { InStep (λ core after. TickOutcome core book.old.client n result after)
             self.old book.old.said self.new book.new.said }
     {
@@ -174,6 +175,7 @@ impl<N: PoolName, K: ListKeeper> LockedPool<N, K> {
         ensures line { IsLineOf N.ring.board line.new book.new.client book.new.said }
         ensures ends { self.new.ends ≡ self.old.ends }
         ensures outcome { PurgeSaid book.old.client result book.old.said book.new.said }
+        ensures memory { result ≢ Err Refusal.OutOfMemory }
         ensures in_step { InStep (λ core after. PurgeOutcome core book.old.client result after)
             self.old book.old.said self.new book.new.said }
     {
@@ -229,6 +231,7 @@ impl<N: PoolName, K: ListKeeper> LockedPool<N, K> {
         ensures ends { self.new.ends ≡ self.old.ends }
         ensures outcome { ReadIntoSaid book.old.client pass.now offset into.old result into.new
             book.old.said book.new.said }
+        ensures memory { K.REFUSES ≡ false → result ≢ Err Refusal.OutOfMemory }
         ensures in_step { InStep
             (λ core after. ReadIntoOutcome core pass.now offset into.old result into.new after)
             self.old book.old.said self.new book.new.said }
@@ -260,6 +263,7 @@ impl<N: PoolName, K: ListKeeper> LockedPool<N, K> {
         ensures ends { self.new.ends ≡ self.old.ends }
         ensures outcome { WriteSaid book.old.client pass.now offset bytes.now lsn result
             book.old.said book.new.said }
+        ensures memory { K.REFUSES ≡ false → result ≢ Err Refusal.OutOfMemory }
         ensures in_step { InStep
             (λ core after. WriteOutcome core pass.now offset bytes.now lsn result after)
             self.old book.old.said self.new book.new.said }

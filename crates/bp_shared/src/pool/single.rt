@@ -10,27 +10,34 @@ use bp_page::{Bytes, Image, Lsn, Refusal};
 use std::sync::Wait;
 
 impl<N: PoolName, K: ListKeeper> SharedPool<N, K> {
-    ghost use Rattle.std.specs.Prelude.{◌≡◌, ◌≢◌, ◌+◌, ◌≤◌, length, IfOk};
+    ghost use Rattle.std.specs.Prelude.{◌≡◌, ◌≢◌, ◌+◌, ◌≤◌, false, length, IfOk};
     ghost use Rattle.bp_book.specs.Turns.{TickSaid, PurgeSaid, ReadSaid, ReadIntoSaid, WriteSaid};
+    ghost use Rattle.bp_shared.specs.Sessions.{IsRoomy};
 
-    /// Moves the clock on. `OutOfMemory`, `TrailFull` and `ClockFull` change nothing.
+    /// Moves the clock on. `OutOfMemory`, `TrailFull` and `ClockFull` change nothing. A silent session answers
+    /// `OutOfMemory` only where what it keeps for itself has to grow.
     pub fn tick<R: Wait>(&self, rt: &R, session: &mut Session<N, K>, n: u64) -> Result<(), Refusal>
         ensures client { session.new.client ≡ session.old.client }
         ensures before { session.new.before ≡ session.old.before }
         ensures free { session.new.free ≡ session.old.free }
         ensures outcome { TickSaid session.old.client n result session.old.said session.new.said }
+        ensures memory { K.REFUSES ≡ false → IsRoomy session.old
+            → result ≢ Err Refusal.OutOfMemory }
     {
         session.book.reserve_for_event()?;
         let mut state = self.enter(rt);
         state.tick(&mut session.book, &mut session.line, n)
     }
 
-    /// Forgets old references, and counts their pages. `OutOfMemory` and `TrailFull` change nothing.
+    /// Forgets old references, and counts their pages. `OutOfMemory` and `TrailFull` change nothing. A silent session
+    /// answers `OutOfMemory` as from `tick`.
     pub fn purge<R: Wait>(&self, rt: &R, session: &mut Session<N, K>) -> Result<u64, Refusal>
         ensures client { session.new.client ≡ session.old.client }
         ensures before { session.new.before ≡ session.old.before }
         ensures free { session.new.free ≡ session.old.free }
         ensures outcome { PurgeSaid session.old.client result session.old.said session.new.said }
+        ensures memory { K.REFUSES ≡ false → IsRoomy session.old
+            → result ≢ Err Refusal.OutOfMemory }
     {
         session.book.reserve_for_event()?;
         let mut state = self.enter(rt);
@@ -63,7 +70,8 @@ impl<N: PoolName, K: ListKeeper> SharedPool<N, K> {
     }
 
     /// Copies so many bytes of a pass's page, from the offset on. Refused as `read` is, which leaves the bytes that were
-    /// there. A silent pool copies them alone while it holds its lock, and takes no memory there.
+    /// there. A silent pool copies them alone while it holds its lock, and takes no memory there: it answers
+    /// `OutOfMemory` only where what the session keeps for itself has to grow.
     pub fn read_into<R: Wait>(
         &self,
         rt: &R,
@@ -79,6 +87,8 @@ impl<N: PoolName, K: ListKeeper> SharedPool<N, K> {
         ensures stranger { pass.now.client ≢ session.old.client → result ≡ Err Refusal.UnknownPass }
         ensures outcome { ReadIntoSaid session.old.client pass.now offset into.old result into.new
             session.old.said session.new.said }
+        ensures memory { K.REFUSES ≡ false → IsRoomy session.old
+            → result ≢ Err Refusal.OutOfMemory }
     {
         if pass.client() != session.client() {
             return Err(Refusal::UnknownPass);
@@ -89,7 +99,7 @@ impl<N: PoolName, K: ListKeeper> SharedPool<N, K> {
     }
 
     /// Puts bytes into a pass's page, from the offset on, and raises the page LSN to `lsn` if that is greater. Refusals
-    /// as from `read`.
+    /// as from `read`, and of a silent pool as from `read_into`.
     pub fn write<R: Wait>(
         &self,
         rt: &R,
@@ -106,6 +116,8 @@ impl<N: PoolName, K: ListKeeper> SharedPool<N, K> {
         ensures stranger { pass.now.client ≢ session.old.client → result ≡ Err Refusal.UnknownPass }
         ensures outcome { WriteSaid session.old.client pass.now offset bytes.now lsn result
             session.old.said session.new.said }
+        ensures memory { K.REFUSES ≡ false → IsRoomy session.old
+            → result ≢ Err Refusal.OutOfMemory }
     {
         self.write_from(rt, session, pass, offset, bytes.bytes(), lsn)
     }
@@ -128,6 +140,8 @@ impl<N: PoolName, K: ListKeeper> SharedPool<N, K> {
         ensures stranger { pass.now.client ≢ session.old.client → result ≡ Err Refusal.UnknownPass }
         ensures outcome { WriteSaid session.old.client pass.now offset bytes.now lsn result
             session.old.said session.new.said }
+        ensures memory { K.REFUSES ≡ false → IsRoomy session.old
+            → result ≢ Err Refusal.OutOfMemory }
     {
         if pass.client() != session.client() {
             return Err(Refusal::UnknownPass);

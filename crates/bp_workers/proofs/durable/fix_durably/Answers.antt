@@ -8,29 +8,29 @@ use Rattle.bp_workers.proofs.Working.{work-on, goes-on-work, gives-up-work}
 use Rattle.bp_workers.proofs.durable.fix_durably.Goals as goal
 
 pub loop-round-init : goal.loop-round-init
-loop-round-init g c = record { client = refl; before = refl; free = refl; port = refl; lent = refl; raises = raises-none _ _; leads = leads-none _ _ _ _ _ _; work = none-yet _ _ _ _ }
+loop-round-init g c = record { client = refl; before = refl; free = refl; port = refl; lent = refl; raises = raises-none _ _; leads = leads-none _ _ _ _ _ _ _ _; work = none-yet _ _ _ _ }
 
 pub loop-round-preserved : goal.loop-round-preserved
 loop-round-preserved g c =
     let i = c.loop-round.invariant in
-    let said = rw i.client at c.in-Err.ensures.outcome in
-    let goes = rw (c.fix.ensures.client ∙ i.client) at c.in_ok-overcome-in-Err.ensures.goes_on in
+    let said = rw i.client at c.in-Err.ensures.gives in
+    let goes = rw (c.ask_fix.ensures.client ∙ i.client) at c.in_ok-overcome-in-Err.ensures.goes_on in
     let known = goes-on-known _ _ _ _ _ _ _ _ goes in
     record {
-      client = c.overcome.ensures.client ∙ c.fix.ensures.client ∙ i.client;
-      before = c.overcome.ensures.before ∙ c.fix.ensures.before ∙ i.before;
-      free = c.overcome.ensures.free ∙ c.fix.ensures.free ∙ i.free;
-      port = c.fix.ensures.port ∙ i.port;
+      client = c.overcome.ensures.client ∙ c.ask_fix.ensures.client ∙ i.client;
+      before = c.overcome.ensures.before ∙ c.ask_fix.ensures.before ∙ i.before;
+      free = c.overcome.ensures.free ∙ c.ask_fix.ensures.free ∙ i.free;
+      port = c.ask_fix.ensures.port ∙ i.port;
       lent = c.overcome.ensures.lent ∙ i.lent;
       raises = raises-then _ _ _ _ _ _ i.raises c.overcome.ensures.raises;
-      leads = leads-more _ _ _ _ _ _ _ _ _ _ _ _ _ c.in-Err.why i.leads c.overcome.ensures.raises.rises said goes;
+      leads = leads-more _ _ _ _ _ _ _ _ _ _ _ _ _ _ _ c.in-Err.why i.leads c.overcome.ensures.raises.rises said goes;
       work = goes-on-work _ _ _ _ _ _ _ _ _ _ _ _ _ (work-on _ _ _ _ _ _ _ _ i.work (c.in-Err.ensures.work known)) goes;
     }
 
 pub returns-in-Ok-clause-outcome : goal.returns-in-Ok-clause-outcome
 returns-in-Ok-clause-outcome g c =
     let i = c.loop-round.invariant in
-    leads-fixed _ _ _ _ _ _ _ _ _ _ _ _ i.leads (omega (arith, c.loop-round-test.true)) (rw i.client at c.in-Ok.ensures.outcome)
+    leads-fixed _ _ _ _ _ _ _ _ _ _ _ _ _ _ i.leads (omega (arith, c.loop-round-test.true)) (rw i.client at c.in-Ok.ensures.gives)
 
 pub returns-in-Ok-clause-work : goal.returns-in-Ok-clause-work
 returns-in-Ok-clause-work g c =
@@ -40,26 +40,26 @@ returns-in-Ok-clause-work g c =
 pub returns-in_err-overcome-in-Err-clause-outcome : goal.returns-in_err-overcome-in-Err-clause-outcome
 returns-in_err-overcome-in-Err-clause-outcome g c =
     let i = c.loop-round.invariant in
-    let ends = rw (c.fix.ensures.client ∙ i.client) at c.in_err-overcome-in-Err.ensures.gives_up in
+    let ends = rw (c.ask_fix.ensures.client ∙ i.client) at c.in_err-overcome-in-Err.ensures.gives_up in
     let is = err_from_is_err_and c.from_residual.result c.from_residual.ensures.1 in
     rw (is.1 ∙ ap Err is.2)
-    (leads-given_up _ _ _ _ _ _ _ _ _ _ _ _ _ _ _ i.leads c.loop-round-test.true c.overcome.ensures.raises.rises (rw i.client at c.in-Err.ensures.outcome) ends)
+    (leads-given_up _ _ _ _ _ _ _ _ _ _ _ _ _ _ _ _ _ i.leads c.loop-round-test.true c.overcome.ensures.raises.rises (rw i.client at c.in-Err.ensures.gives) ends)
 
 pub returns-in_err-overcome-in-Err-clause-work : goal.returns-in_err-overcome-in-Err-clause-work
 returns-in_err-overcome-in-Err-clause-work g c =
     let i = c.loop-round.invariant in
-    let ends = rw (c.fix.ensures.client ∙ i.client) at c.in_err-overcome-in-Err.ensures.gives_up in
+    let ends = rw (c.ask_fix.ensures.client ∙ i.client) at c.in_err-overcome-in-Err.ensures.gives_up in
     let client = c.args.client.now.session.client in
     let steps = c.args.patience.steps in
     let is = err_from_is_err_and c.from_residual.result c.from_residual.ensures.1 in
-    λ known. gives-up-work _ _ client steps _ _ _ _ _ _ _ _ _ (work-on _ _ _ _ _ _ _ _ i.work (c.in-Err.ensures.work (gives-up-known client steps _ _ _ _ _ _ ends (λ unknown. known (is.1 ∙ ap Err is.2 ∙ unknown))))) ends
+    λ known. gives-up-work _ _ g.A.Asked.ticks client steps _ _ _ _ _ _ _ _ _ (work-on _ _ _ _ _ _ _ _ i.work (c.in-Err.ensures.work (gives-up-known g.A.Asked.ticks client steps _ _ _ _ _ _ ends (λ unknown. known (is.1 ∙ ap Err is.2 ∙ unknown))))) ends
 
 pub returns-clause-outcome : goal.returns-clause-outcome
 returns-clause-outcome g c =
     let i = c.loop-round.invariant in
-    leads-end _ _ _ _ _ _ _ _ _ _ _ _ i.leads (omega (arith, c.loop-round.auto._round-end, c.loop-round-test.false)) (rw i.client at c.fix-2.ensures.outcome)
+    leads-end _ _ _ _ _ _ _ _ _ _ _ _ _ _ i.leads (omega (arith, c.loop-round.auto._round-end, c.loop-round-test.false)) (rw i.client at c.ask_fix-2.ensures.gives)
 
 pub returns-clause-work : goal.returns-clause-work
 returns-clause-work g c =
     let i = c.loop-round.invariant in
-    λ known. work-on _ _ _ _ _ _ _ _ i.work (c.fix-2.ensures.work known)
+    λ known. work-on _ _ _ _ _ _ _ _ i.work (c.ask_fix-2.ensures.work known)
