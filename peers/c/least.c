@@ -10,7 +10,7 @@ enum { PAGES = 100, SIZE = 4096 };
 int main(void)
 {
     static uint8_t slot[HZ_FILE_HEAD + SIZE];
-    const hz_config config = {PAGES, SIZE, 8, (size_t)1 << 61, 0, 1000, 2, 1}; /* 8 frames, K 2, one client */
+    const hz_config config = {PAGES, SIZE, 8, (size_t)1 << 61, 1, 1000, 2, 1}; /* 8 frames, period 1, K 2 */
     static hz_core core; /* all zero: none yet */
     hz_fixed asked;
     const uint8_t *bytes;
@@ -28,7 +28,7 @@ int main(void)
             number = hz_write(&core, &asked.grant, 0, (uint8_t *)&count, sizeof count, 0);
         }
         hz_unfix(&core, &asked.grant);
-        hz_tick(&core, 0, 1); /* the page may now leave its frame */
+        hz_tick(&core, 0, 1); /* at each fix: pages leave only as the clock moves */
     }
     for (uint64_t page = 0; page < PAGES && !number; page++)
         number = hz_file_flush(&core, &file, 0, page, &asked);
