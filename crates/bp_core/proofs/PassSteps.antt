@@ -1,5 +1,5 @@
 -- A hit, an unfix, a write and the end of a read keep what the core holds in agreement with the trail.
-use Rattle.std.proofs.Common.{inl, ◌≡◌, ◌≢◌, ℕ, suc, ◌+◌, ◌-◌, ◌≤◌, nat_lt, max, Bool, true, false, not, if◌then◌else◌, ◌||◌, ◌==◌, List, ◌∷◌, length, filter, refl, sym, ◌∙◌, ap, subst, arith}
+use Rattle.std.proofs.Common.{inl, ◌≡◌, ◌≢◌, ℕ, suc, ◌+◌, ◌-◌, ◌≤◌, nat_lt, max, Bool, true, false, not, if◌then◌else◌, ◌||◌, ◌==◌, List, ◌∷◌, length, filter, Some, None, refl, sym, ◌∙◌, ap, subst, arith}
 use Rattle.std.proofs.lemmas.Bool.{le-leb, and_from, eqb-true, eqb-false, false_from_ne_true, true≢false}
 use Rattle.std.proofs.lemmas.Bool.Decides.{nat_tests}
 use Rattle.bp_page.specs.Patched.{patched}
@@ -9,19 +9,19 @@ use Rattle.bp_trail.specs.declared.entries.Call.TheVariants.{Fix, Write, Unfix}
 use Rattle.bp_trail.specs.declared.entries.Reply.TheVariants.{Done, Hit}
 use Rattle.bp_frames.specs.declared.frame.Frame.{Frame}
 use Rattle.bp_trail.specs.Parameters.{Parameters}
-use Rattle.bp_trail.specs.Lists.{some, count}
+use Rattle.bp_trail.specs.Lists.{some, count, or_less}
 use Rattle.bp_trail.specs.Event.{Grant, grant}
 use Rattle.bp_trail.specs.Trail.{Trail}
 use Rattle.bp_trail.specs.Clock.{clock}
 use Rattle.bp_trail.specs.Passes.{passes, passes_out, is_of, pins}
 use Rattle.bp_trail.specs.Places.{residents, resident, loading, writing}
-use Rattle.bp_trail.specs.Saved.{unsaved, top}
+use Rattle.bp_trail.specs.Saved.{unsaved, top, first_lsn}
 use Rattle.bp_trail.specs.Images.{held}
 use Rattle.bp_trail.specs.References.{references}
 use Rattle.bp_trail.specs.PageMap.{fix_reply}
 use Rattle.bp_trail.specs.Legal.{is_out}
 use Rattle.bp_frames.specs.Frames.{is_frame_of, pinned, unpinned, written_on, changed_at}
-use Rattle.bp_core.specs.Agreement.{Parts, Agrees, frame_of, rewritten}
+use Rattle.bp_core.specs.Agreement.{Parts, Agrees, frame_of, rewritten, rewritten_lsn}
 use Rattle.bp_trail.proofs.Counting.{count-agree, count-map, some-from_counts}
 use Rattle.bp_trail.proofs.Serials.{numbered, count-rest, rest, OneSerial}
 use Rattle.bp_trail.proofs.Residents.{reads-rest}
@@ -122,7 +122,7 @@ module _ (c : Parameters) (past : Trail) (x : Parts) (a : Agrees c past x) where
         later = by who (Write n p offset bytes lsn) Done ∷ past
 
         put : (q : ℕ) (b : Bool) (t : ℕ) → t ≡ (if b then max lsn (top past q) else top past q)
-            → (let f : Frame = record { page = q; block = x.places q; pins = pins past q; is_unsaved = b || unsaved past q; is_rewritten = b || rewritten past q; is_writing = writing past q; top = t; image = if b then patched offset bytes (held past q) else held past q } in f) ≡ (if b then written_on offset bytes lsn (frame_of past q (x.places q)) else frame_of past q (x.places q))
+            → (let f : Frame = record { page = q; block = x.places q; pins = pins past q; is_unsaved = b || unsaved past q; is_rewritten = b || rewritten past q; is_writing = writing past q; first_lsn = or_less (if b then Some lsn else None) (first_lsn past q); rewritten_lsn = or_less (if b then Some lsn else None) (rewritten_lsn past q); top = t; image = if b then patched offset bytes (held past q) else held past q } in f) ≡ (if b then written_on offset bytes lsn (frame_of past q (x.places q)) else frame_of past q (x.places q))
         put q true t e = ap (λ m. record (written_on offset bytes lsn (frame_of past q (x.places q))) { top = m }) e
         put q false t e = ap (λ m. record (frame_of past q (x.places q)) { top = m }) e
 

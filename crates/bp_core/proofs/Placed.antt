@@ -47,7 +47,7 @@ module _ (old new : Blocks) where
 
 -- ---- frames and the trail
 
-same-counts : (f g : ℕ → Bool) (xs : List ℕ) → ((q : ℕ) → member q xs ≡ true → f q ≡ g q) → count f xs ≡ count g xs
+pub same-counts : (f g : ℕ → Bool) (xs : List ℕ) → ((q : ℕ) → member q xs ≡ true → f q ≡ g q) → count f xs ≡ count g xs
 same-counts f g [] same = refl
 same-counts f g (x ∷ xs) same =
     omega (arith, count-cons f x xs, count-cons g x xs, ap {B = ℕ} (λ b. cond b 1 0) (same x (or_left (x == x) (member x xs) (eq-eqb x x refl))), same-counts f g xs (λ q m. same q (or_right (x == q) (member q xs) m)))

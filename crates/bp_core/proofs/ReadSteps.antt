@@ -10,19 +10,20 @@ use Rattle.bp_trail.specs.declared.entries.Reply.TheVariants.{Load, WriteFirst, 
 use Rattle.bp_frames.specs.declared.frame.Frame.{Frame}
 use Rattle.bp_trail.specs.Parameters.{Parameters}
 use Rattle.bp_trail.specs.Lists.{some, count}
-use Rattle.bp_trail.specs.Event.{grant, begins_of, writes}
+use Rattle.bp_trail.specs.Event.{grant, begins_of, writes, lsn_written}
 use Rattle.bp_trail.specs.Trail.{Trail}
 use Rattle.bp_trail.specs.Clock.{clock, durable}
 use Rattle.bp_trail.specs.Passes.{passes, tickets, passes_out, reads_out, is_of, pins}
 use Rattle.bp_trail.specs.Places.{residents, resident, loading, writing}
-use Rattle.bp_trail.specs.Saved.{unsaved, top, began_saving}
+use Rattle.bp_trail.specs.Saved.{unsaved, top, began_saving, first_lsn}
 use Rattle.bp_trail.specs.Images.{held}
 use Rattle.bp_trail.specs.References.{references}
 use Rattle.bp_trail.specs.PageMap.{fix_reply}
 use Rattle.bp_trail.specs.Legal.{is_out}
 use Rattle.bp_frames.specs.Frames.{is_frame_of, loaded_with, without_page}
-use Rattle.bp_core.specs.Agreement.{Parts, Agrees, frame_of, rewritten}
+use Rattle.bp_core.specs.Agreement.{Parts, Agrees, frame_of, rewritten, rewritten_lsn}
 use Rattle.bp_trail.proofs.Lists.{since-mono}
+use Rattle.bp_trail.proofs.Redo.{first-unsaved, least-some, lsn-some, none-of}
 use Rattle.bp_trail.proofs.Counting.{count-cons, none-count, count-agree_but, count-permutation, count-filter}
 use Rattle.bp_trail.proofs.Serials.{numbered, rest}
 use Rattle.bp_trail.proofs.Residents.{reads-rest, left-none, left-other}
@@ -201,6 +202,12 @@ module _ (c : Parameters) (past : Trail) (x : Parts) (a : Agrees c past x) (who 
         settled-now : rewritten past p ≡ false
         settled-now = false_from_ne_true (rewritten past p) (λ m. true≢false (sym (rewritten-unsaved past p m) ∙ saved-now))
 
+        first-now : first_lsn past p ≡ None
+        first-now = none-of (first_lsn past p) (first-unsaved past p ∙ saved-now)
+
+        since-now : rewritten_lsn past p ≡ None
+        since-now = none-of (rewritten_lsn past p) (least-some (writes p) (lsn_written p) (λ e. begins_of p e.reply) (lsn-some p) past ∙ settled-now)
+
         idle-now : writing past p ≡ false
         idle-now = false_from_ne_true (writing past p) (λ m. true≢false (sym (stays c past a.legal p m) ∙ absent))
 
@@ -214,7 +221,7 @@ module _ (c : Parameters) (past : Trail) (x : Parts) (a : Agrees c past x) (who 
         own-image = ap (λ b. if b then image else held past p) (eq-eqb p p refl)
 
         own : frame_of (by who (ReadEnd t p (Some image)) (Fixed x.given) ∷ past) p (x.places p) ≡ loaded_with p block image
-        own = λ i. record { page = p; block = place i; pins = own-pins i; is_unsaved = saved-now i; is_rewritten = settled-now i; is_writing = idle-now i; top = own-top i; image = own-image i }
+        own = λ i. record { page = p; block = place i; pins = own-pins i; is_unsaved = saved-now i; is_rewritten = settled-now i; is_writing = idle-now i; first_lsn = first-now i; rewritten_lsn = since-now i; top = own-top i; image = own-image i }
 
         others-frame : (q : ℕ) → (q == p) ≡ false → frame_of past q (x.places q) ≡ frame_of (by who (ReadEnd t p (Some image)) (Fixed x.given) ∷ past) q (x.places q)
         others-frame q e =
@@ -222,7 +229,7 @@ module _ (c : Parameters) (past : Trail) (x : Parts) (a : Agrees c past x) (who 
             let pins-same : pins past q ≡ pins (by who (ReadEnd t p (Some image)) (Fixed x.given) ∷ past) q = omega (arith, count-cons (is_of q) (grant who p x.given) (passes_out past), ap {B = ℕ} (λ b. cond b 1 0) n) in
             let top-same : top past q ≡ top (by who (ReadEnd t p (Some image)) (Fixed x.given) ∷ past) q = sym (top-load past who t p q x.given image ∙ ap (λ b. if b then 0 else top past q) n) in
             let image-same : held past q ≡ held (by who (ReadEnd t p (Some image)) (Fixed x.given) ∷ past) q = sym (ap (λ b. if b then image else held past q) n) in
-            λ i. record { page = q; block = x.places q; pins = pins-same i; is_unsaved = unsaved past q; is_rewritten = rewritten past q; is_writing = writing past q; top = top-same i; image = image-same i }
+            λ i. record { page = q; block = x.places q; pins = pins-same i; is_unsaved = unsaved past q; is_rewritten = rewritten past q; is_writing = writing past q; first_lsn = first_lsn past q; rewritten_lsn = rewritten_lsn past q; top = top-same i; image = image-same i }
 
         counts : (test : Frame → Bool) → count test fs ≡ count (λ q. test (frame_of (by who (ReadEnd t p (Some image)) (Fixed x.given) ∷ past) q (x.places q))) (p ∷ residents past)
         counts test =

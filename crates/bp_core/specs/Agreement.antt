@@ -11,13 +11,13 @@ use Rattle.bp_frames.specs.declared.frame.Frame.{Frame}
 use Rattle.bp_frames.specs.Frames.{is_unused}
 use Rattle.bp_core.specs.declared.state.State.{State}
 use Rattle.bp_trail.specs.Parameters.{Parameters}
-use Rattle.bp_trail.specs.Lists.{count, since}
-use Rattle.bp_trail.specs.Event.{Grant, writes, begins_of}
+use Rattle.bp_trail.specs.Lists.{count, since, least_since}
+use Rattle.bp_trail.specs.Event.{Grant, writes, begins_of, lsn_written}
 use Rattle.bp_trail.specs.Trail.{Trail}
 use Rattle.bp_trail.specs.Clock.{clock, durable}
 use Rattle.bp_trail.specs.Passes.{passes, tickets, passes_out, reads_out, writes_out, pins}
 use Rattle.bp_trail.specs.Places.{residents, resident, loading, writing}
-use Rattle.bp_trail.specs.Saved.{unsaved, top}
+use Rattle.bp_trail.specs.Saved.{unsaved, top, first_lsn}
 use Rattle.bp_trail.specs.Images.{held}
 use Rattle.bp_trail.specs.References.{references, hist, last}
 use Rattle.bp_trail.specs.Legal.{Legal}
@@ -41,6 +41,10 @@ parameters_of c = record {
 abbrev pub rewritten : Trail → ℕ → Bool
 rewritten past p = since (writes p) (λ e. begins_of p e.reply) past
 
+-- the least LSN of such writes
+abbrev pub rewritten_lsn : Trail → ℕ → Option ℕ
+rewritten_lsn past p = least_since (lsn_written p) (λ e. begins_of p e.reply) past
+
 -- what the frame of a page holds, whose references have this block
 abbrev pub frame_of : Trail → ℕ → Option ℕ → Frame
 frame_of past p block =
@@ -51,6 +55,8 @@ frame_of past p block =
       is_unsaved = unsaved past p;
       is_rewritten = rewritten past p;
       is_writing = writing past p;
+      first_lsn = first_lsn past p;
+      rewritten_lsn = rewritten_lsn past p;
       top = top past p;
       image = held past p;
     }

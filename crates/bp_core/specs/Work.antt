@@ -1,9 +1,10 @@
 -- Which work a driver had its device do, by the entries that it added. What a port says of its
 -- calls, `reads` and `writes`, leads from the port as it was to the port as it is.
-use Rattle.std.specs.Prelude.{◌≡◌, ℕ, Bool, List, [], ◌∷◌, ◌++◌, Option, Some, None, Result, Ok}
+use Rattle.std.specs.Prelude.{◌≡◌, ℕ, Bool, List, [], ◌∷◌, ◌++◌, replicate, Option, Some, None, Result, Ok}
 use Rattle.std.specs.Prelude.{Err}
 use Rattle.std.specs.Result.{is_ok}
 use Rattle.bp_page.specs.declared.refusals.PortFault.{PortFault}
+use Rattle.bp_page.specs.declared.refusals.PortFault.TheVariants.{Memory}
 use Rattle.bp_trail.specs.declared.entries.Call.{Call}
 use Rattle.bp_trail.specs.declared.entries.Call.TheVariants.{ReadEnd, WriteEnd}
 use Rattle.bp_trail.specs.declared.entries.Reply.{Reply}
@@ -20,6 +21,16 @@ Reads A = A → ℕ → Result (List ℕ) PortFault → A → Type 0
 
 abbrev pub Writes : Type 0 → Type 1
 Writes A = A → ℕ → List ℕ → ℕ → Result (Unit {0}) PortFault → A → Type 0
+
+-- an image of so many bytes 0, or no memory for it
+abbrev pub IsBlank : ℕ → Result (List ℕ) PortFault → Type 0
+IsBlank size (Ok image) = image ≡ replicate size 0
+IsBlank size (Err Memory) = Unit {0}
+IsBlank size (Err fault) = ⊥
+
+-- a page that is made in place of a read: the port is not asked
+abbrev pub MadeBlank : {A : Type 0} → ℕ → A → ℕ → Result (List ℕ) PortFault → A → Type 0
+MadeBlank size port page found after = IsBlank size found × (after ≡ port)
 
 -- the image that a read brought
 abbrev pub image_found : Result (List ℕ) PortFault → Option (List ℕ)

@@ -30,15 +30,19 @@
 
 pub mod config;
 pub mod faults;
+pub mod not_flushed;
 pub mod passes;
 pub mod pool;
 mod state;
+pub mod stats;
 
 pub use bp_keeper::{GhostTrail as Before, Keeper, RecordingKeeper, SilentKeeper};
 pub use bp_trail::{Call, Entry, Flushed, Refused, Reply, Row, Step};
 pub use faults::{refusal_of_read, reply_of_read};
+pub use not_flushed::NotFlushed;
 pub use passes::{EndRefusal, Ended, Fix, Flush, Pass, PassNote, ReadTicket, WriteTicket};
 pub use pool::PoolCore;
+pub use stats::Stats;
 
 /// A core that has its trail in memory, where it can be read, compared and cut.
 pub type Core = PoolCore<RecordingKeeper>;

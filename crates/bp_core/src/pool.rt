@@ -2,6 +2,7 @@
 ghost use Rattle.bp_core.specs.Agreement.{parameters_of};
 ghost use Rattle.bp_core.specs.Outcomes.{NewOutcome};
 
+mod checkpoint;
 mod cutting;
 mod fixing;
 mod loading;

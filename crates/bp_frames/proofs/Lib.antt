@@ -4,3 +4,8 @@ pub mod Places
 pub mod Tables
 pub mod TableSteps
 pub mod Seating
+pub mod Tally
+pub mod Oldest
+pub mod Bits
+pub mod PageRows
+pub mod NextUnsaved

@@ -96,6 +96,13 @@ unplaced n (suc slot ∷ ws) zero s is = refl
 unplaced n (zero ∷ ws) (suc k) s is = unplaced (suc n) ws k s is
 unplaced n (suc slot ∷ ws) (suc k) s is = ap (λ ps. place_at n slot ∷ ps) (unplaced (suc n) ws k s is)
 
+-- a place is of a page that has a frame
+pub place-known : (n : ℕ) (ws : List ℕ) (k : ℕ) (d : Place) → k < length (places_from n ws) → (j : ℕ) × ((get_or (places_from n ws) k d).page ≡ n + j) × (get_or ws j 0 ≡ (get_or (places_from n ws) k d).slot + 1)
+place-known n [] k d lt = absurd (omega arith)
+place-known n (zero ∷ ws) k d lt = let later = place-known (suc n) ws k d lt in (suc later.0, omega (arith, later.1), later.2)
+place-known n (suc slot ∷ ws) zero d lt = (0, omega arith, omega arith)
+place-known n (suc slot ∷ ws) (suc k) d lt = let later = place-known (suc n) ws k d (omega arith) in (suc later.0, omega (arith, later.1), later.2)
+
 pub own-place : (ws : List ℕ) (page : ℕ) → IsPlaceFor page_of (places_from 0 ws) page (rank ws page)
 own-place ws page = let own : 0 + page ≡ page = omega arith in subst (λ m. IsPlaceFor page_of (places_from 0 ws) m (rank ws page)) own (place-rank 0 ws page)
 

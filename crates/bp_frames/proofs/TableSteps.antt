@@ -93,3 +93,36 @@ module _ (size limit : ℕ) (slots : List Frame) (places : List Place) (spare : 
       whole = omega (arith, t.whole, grown, length-remove places at stands.in_range);
       few = t.few;
     }
+
+  -- ---- a slot more, which waits
+  module _ (less : length slots < limit) (next : Frame) (sized : length next.image ≡ size) where
+    one-more : length (slots ++ next ∷ []) ≡ length slots + 1
+    one-more = length-append slots (next ∷ [])
+
+    spare-more : length (spare ++ length slots ∷ []) ≡ length spare + 1
+    spare-more = length-append spare (length slots ∷ [])
+
+    pub table-provided : IsTable size limit (slots ++ next ∷ []) places (spare ++ length slots ∷ [])
+    table-provided = record {
+      rising = t.rising;
+      within = λ k d lt. omega (arith, t.within k d lt, one-more);
+      points = λ k d lt. ap (λ (f : Frame). f.page) (get-left slots (next ∷ []) (get_or places k d).slot no_frame (t.within k d lt)) ∙ t.points k d lt;
+      spare_within = All-push (λ s. s < length (slots ++ next ∷ [])) spare (length slots) (λ j d lt. omega (arith, t.spare_within j d lt, one-more)) (omega (arith, one-more));
+      spare_once = λ i j d less lt. elim (cases_lt j (length spare)) [
+        | inl old ↦ (λ same. t.spare_once i j d less old (sym (get-left spare (length slots ∷ []) i d (omega arith)) ∙ same ∙ get-left spare (length slots ∷ []) j d old))
+        | inr new ↦ (λ same. absurd (omega (
+          arith,
+          t.spare_within i d (omega (arith, spare-more)),
+          get-left spare (length slots ∷ []) i d (omega (arith, spare-more)),
+          same,
+          get_or_push spare (length slots) d j (omega (arith, spare-more)),
+        )))
+      ];
+      apart = λ k j d e k_lt j_lt. elim (cases_lt j (length spare)) [
+        | inl old ↦ (λ same. t.apart k j d e k_lt old (same ∙ get-left spare (length slots ∷ []) j e old))
+        | inr new ↦ (λ same. absurd (omega (arith, t.within k d k_lt, same, get_or_push spare (length slots) e j (omega (arith, spare-more, j_lt)))))
+      ];
+      sized = All-push (λ (f : Frame). length f.image ≡ size) slots next t.sized sized;
+      whole = omega (arith, t.whole, one-more, spare-more);
+      few = omega (arith, less, one-more);
+    }

@@ -41,10 +41,10 @@ map-both g f (x ∷ xs) = ap (λ ys. g (f x) ∷ ys) (map-both g f xs)
 
 module _ (size limit : ℕ) (slots : List Frame) (places : List Place) (spare : List ℕ) (t : IsTable size limit slots places spare) where
   -- the frame at a place is of the place's page
-  page-at : (k : ℕ) (d : Place) (page : ℕ) → k < length places → is_frame_of page (frame_at slots (get_or places k d)) ≡ ((get_or places k d).page == page)
+  pub page-at : (k : ℕ) (d : Place) (page : ℕ) → k < length places → is_frame_of page (frame_at slots (get_or places k d)) ≡ ((get_or places k d).page == page)
   page-at k d page lt = ap (λ n. n == page) (t.points k d lt)
 
-  frame-in : (k : ℕ) (e : Frame) (d : Place) → k < length places → get_or (frames_of slots places) k e ≡ frame_at slots (get_or places k d)
+  pub frame-in : (k : ℕ) (e : Frame) (d : Place) → k < length places → get_or (frames_of slots places) k e ≡ frame_at slots (get_or places k d)
   frame-in k e d lt = get_or-map (frame_at slots) places k d e lt
 
   pub no-frame : (page : ℕ) → StandsNowhere page_of places page → some (is_frame_of page) (frames_of slots places) ≡ false

@@ -3,5 +3,6 @@
 pub mod Frames
 pub mod GrantLists
 pub mod Tables
--- What a body keeps: numbers that rise along a list.
+-- What a body keeps: numbers that rise along a list, and sets of numbers in rows of bits.
 pub mod Rising
+pub mod PageSets

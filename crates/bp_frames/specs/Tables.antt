@@ -5,7 +5,10 @@ use Rattle.std.specs.Prelude.{length, slice_index, slice_index_or, false, Option
 use Rattle.bp_references.specs.Candidates.{Candidate, Entered}
 use Rattle.bp_frames.specs.declared.frame.Frame.{Frame}
 use Rattle.bp_frames.specs.declared.frame.FrameSlot.{FrameSlot}
-use Rattle.bp_frames.specs.Frames.{changed_at}
+use Rattle.bp_frames.specs.declared.unsaved.Unsaved.{Unsaved}
+use Rattle.bp_trail.specs.Lists.{count}
+use Rattle.bp_frames.specs.Frames.{changed_at, is_pinned, is_to_save, seat_for}
+use Rattle.bp_frames.specs.PageSets.{has}
 use Rattle.bp_frames.specs.Rising.{IsRisingBy}
 
 -- the frames of pages, in the order of page numbers; how many wait for a page; the bytes of an
@@ -50,6 +53,8 @@ no_frame =
       is_unsaved = false;
       is_rewritten = false;
       is_writing = false;
+      first_lsn = None;
+      rewritten_lsn = None;
       top = 0;
       image = [];
     }
@@ -100,3 +105,18 @@ pub record IsSeating (limit : ℕ) (whereabouts : List ℕ)
   pub seats_is : length seats ≡ limit
   pub own : (seat : ℕ) (e : Candidate) → slice_index_or seats seat None ≡ Some e
       → slice_index whereabouts e.2 ≡ seat + 1
+
+-- what is counted of the frames of pages: how many have a pass out, and which are unsaved
+pub record IsAccount (limit : ℕ) (slots : List Frame) (whereabouts : List ℕ) (pinned : ℕ)
+    (unsaved : Unsaved) : Type 0 where
+  pub pinned_is : pinned ≡ count is_pinned (frames_of slots (places_from 0 whereabouts))
+  pub unsaved_is : unsaved.count ≡ count is_to_save (frames_of slots (places_from 0 whereabouts))
+  pub at_once : unsaved.order.correlated ≡ 0
+  pub seating : IsSeating limit whereabouts unsaved.order.seats
+  pub seated : (page slot : ℕ) → slice_index whereabouts page ≡ slot + 1
+      → slice_index_or unsaved.order.seats slot None
+      ≡ seat_for page (slice_index_or slots slot no_frame).first_lsn
+  pub pages_is : unsaved.pages.limit ≡ length whereabouts
+  pub here : (page slot : ℕ) → slice_index whereabouts page ≡ slot + 1
+      → has unsaved.pages page ≡ is_to_save (slice_index_or slots slot no_frame)
+  pub away : (page : ℕ) → slice_index whereabouts page ≡ 0 → has unsaved.pages page ≡ false

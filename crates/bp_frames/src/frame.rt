@@ -1,5 +1,6 @@
 //! One frame: a page in memory, and how it is used.
-ghost use Rattle.std.specs.Prelude.{max, ◌≡◌, ◌+◌, ◌^◌, ◌<◌, ◌≤◌, length};
+ghost use Rattle.std.specs.Prelude.{max, ◌≡◌, ◌+◌, ◌^◌, ◌<◌, ◌≤◌, length, Some};
+ghost use Rattle.bp_trail.specs.Lists.{or_less};
 
 use bp_page::{Image, Lsn, PageNo};
 use bp_replacer::BlockNo;
@@ -20,6 +21,10 @@ pub struct Frame {
     pub is_rewritten: bool,
     /// Whether a write-out is under way.
     pub is_writing: bool,
+    /// The least LSN of the writes that are not yet saved. None where it is saved.
+    pub first_lsn: Option<Lsn>,
+    /// The least LSN of the writes since the newest write-out began.
+    pub rewritten_lsn: Option<Lsn>,
     /// The page LSN: the greatest LSN of its writes since it was loaded, or 0.
     pub top: Lsn,
     /// The page's bytes, with all writes so far.
@@ -49,6 +54,16 @@ pub fn later(a: Lsn, b: Lsn) -> Lsn
     if a < b { b } else { a }
 }
 
+/// The least of an LSN and those before it, if there are any.
+fn least(lsn: Lsn, before: Option<Lsn>) -> Option<Lsn>
+    ensures { result ≡ or_less (Some lsn) before }
+{
+    match before {
+        Some(least) if least < lsn => Some(least),
+        _ => Some(lsn),
+    }
+}
+
 impl Frame {
     ghost use Rattle.bp_frames.specs.Frames.{is_unused, loaded_with, pinned, unpinned, written_on};
     ghost use Rattle.bp_frames.specs.Frames.{saving, saved, not_saved};
@@ -64,6 +79,8 @@ impl Frame {
             is_unsaved: false,
             is_rewritten: false,
             is_writing: false,
+            first_lsn: None,
+            rewritten_lsn: None,
             top: Lsn::new(0),
             image,
         }
@@ -81,6 +98,8 @@ impl Frame {
         self.is_unsaved = false;
         self.is_rewritten = false;
         self.is_writing = false;
+        self.first_lsn = None;
+        self.rewritten_lsn = None;
         self.top = Lsn::new(0);
         mem::replace(&mut self.image, image)
     }
@@ -115,6 +134,8 @@ impl Frame {
     {
         self.is_unsaved = true;
         self.is_rewritten = true;
+        self.first_lsn = least(lsn, self.first_lsn);
+        self.rewritten_lsn = least(lsn, self.rewritten_lsn);
         self.top = later(lsn, self.top);
         self.image.patch(offset, bytes);
     }
@@ -124,6 +145,7 @@ impl Frame {
         ensures { self.new ≡ saving self.old }
     {
         self.is_rewritten = false;
+        self.rewritten_lsn = None;
         self.is_writing = true;
     }
 
@@ -132,6 +154,7 @@ impl Frame {
         ensures { self.new ≡ saved self.old }
     {
         self.is_unsaved = self.is_rewritten;
+        self.first_lsn = self.rewritten_lsn;
         self.is_writing = false;
     }
 

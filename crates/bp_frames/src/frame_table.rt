@@ -1,15 +1,18 @@
 //! The frames, where the frame of each page is, and which of their pages may be replaced.
 ghost use Rattle.std.specs.Prelude.{◌≡◌, ◌≢◌, ℕ, ◌+◌, ◌^◌, ◌<◌, ◌≤◌, ◌∷◌, [], All, Contains};
 ghost use Rattle.std.specs.Prelude.{IsFalse, Some, None, is_some, true, false, length, replicate};
-ghost use Rattle.std.specs.Prelude.{IfOk, OnOk, OnErr, IfSome, IfNone};
+ghost use Rattle.std.specs.Prelude.{IfOk, OnOk, OnErr, IfSome, IfNone, if◌then◌else◌};
 ghost use Rattle.std.specs.List.Sorted.{IsPermutation};
 ghost use Rattle.bp_references.specs.Candidates.{entry_of, is_eligible, IsVictim, NoPageTwice};
 ghost use Rattle.bp_references.specs.Candidates.{SameLimits};
-ghost use Rattle.bp_trail.specs.Lists.{some};
+ghost use Rattle.bp_trail.specs.Lists.{some, count};
+ghost use Rattle.bp_frames.specs.Frames.{is_pinned, is_to_save, IsLeastUnsaved, has_unsaved};
+ghost use Rattle.bp_frames.specs.PageSets.{IsNext, NoneFrom};
 ghost use Rattle.bp_frames.specs.Frames.{is_frame_of, loaded_with, pinned, unpinned, written_on};
 ghost use Rattle.bp_frames.specs.Frames.{saving, saved, not_saved, without_page};
 
 use crate::frame::{Frame, FrameSlot};
+use crate::unsaved::Unsaved;
 use bp_page::{Geometry, Image, Lsn, PageNo};
 use bp_replacer::seats::Candidates;
 use bp_replacer::{BlockNo, Settings};
@@ -30,13 +33,17 @@ pub struct FrameTable {
     spare: Vec<usize>,
     /// The pages that may be replaced, at the seats of their slots.
     candidates: Candidates,
+    /// How many frames of pages have a pass out.
+    pinned: usize,
+    /// The pages that are unsaved.
+    unsaved: Unsaved,
 }
 
 impl Model for FrameTable {
     ghost use Rattle.std.specs.Prelude.{vec_capacity};
     ghost use Rattle.bp_replacer.specs.Seats.{entered};
     ghost use Rattle.bp_frames.specs.Tables.{Table, table_of, places_from, IsTable, HasTableRoom};
-    ghost use Rattle.bp_frames.specs.Tables.{IsSeating};
+    ghost use Rattle.bp_frames.specs.Tables.{IsSeating, IsAccount};
 
     ghost Value = { Table };
 
@@ -47,14 +54,22 @@ impl Model for FrameTable {
     ghost invariant = { λ t. IsTable t.geometry.size t.limit t.slots.items
         (places_from 0 t.places.items) t.spare.items
         × HasTableRoom t.limit (vec_capacity t.slots) (vec_capacity t.spare)
-        × IsSeating t.limit t.places.items t.candidates.seats };
+        × IsSeating t.limit t.places.items t.candidates.seats
+        × IsAccount t.limit t.slots.items t.places.items t.pinned t.unsaved };
+}
+
+// What a count changes by where something holds.
+fn one_if(holds: bool) -> usize
+    ensures { result ≡ (if holds then 1 else 0) }
+{
+    if holds { 1 } else { 0 }
 }
 
 impl FrameTable {
     ghost use Rattle.bp_frames.specs.Tables.{IsSlotIn, with_changed};
 
-    /// Room for `limit` frames, at most 65,536, none of which is made yet, and 4 bytes for each page of the file. It
-    /// fails by want of memory alone.
+    /// Room for `limit` frames, at most 65,536, none of which is made yet, and for each page of the file 4 bytes and
+    /// little more than a bit. It fails by want of memory alone.
     pub fn with_capacity(
         alloc: Global,
         limit: usize,
@@ -82,6 +97,8 @@ impl FrameTable {
             places: vec![in alloc; 0; pages]?,
             spare: Vec::with_capacity(alloc, limit)?,
             candidates: Candidates::new(alloc, limit, settings)?,
+            pinned: 0,
+            unsaved: Unsaved::new(alloc, limit, pages, settings)?,
         })
     }
 
@@ -90,6 +107,20 @@ impl FrameTable {
         ensures { result ≡ length self.now.frames }
     {
         self.slots.len() - self.spare.len()
+    }
+
+    /// How many pages have passes out, in one step: the number is kept, and not counted anew.
+    pub fn pinned(&self) -> usize
+        ensures { result ≡ count is_pinned self.now.frames }
+    {
+        self.pinned
+    }
+
+    /// How many pages are unsaved, in one step: the number is kept, and not counted anew.
+    pub fn unsaved(&self) -> usize
+        ensures { result ≡ count is_to_save self.now.frames }
+    {
+        self.unsaved.len()
     }
 
     /// Where the frame of a page is, if it has one. Of a page beyond the file there is none.
@@ -124,7 +155,9 @@ impl FrameTable {
         requires few { All (λ f. f.pins < 2 ^ 63) self.old.frames }
         ensures { self.new ≡ with_changed self.old slot.now.page pinned }
     {
-        self.slots[slot.index].pin();
+        let frame = &mut self.slots[slot.index];
+        self.pinned += one_if(frame.pins == 0);
+        frame.pin();
     }
 
     /// Counts one pass fewer of the page. Its frame must have a pass out.
@@ -133,17 +166,24 @@ impl FrameTable {
         requires some { All (λ f. is_frame_of slot.now.page f ≡ true → 0 < f.pins) self.old.frames }
         ensures { self.new ≡ with_changed self.old slot.now.page unpinned }
     {
-        self.slots[slot.index].unpin();
+        let frame = &mut self.slots[slot.index];
+        self.pinned -= one_if(frame.pins == 1);
+        frame.unpin();
     }
 
     /// Puts bytes into the page's image from the offset on, and raises its page LSN to `lsn` if that is greater. The
-    /// bytes must end within the image.
+    /// bytes must end within the image. It takes its place among the unsaved pages in O(log frames), and where it was
+    /// unsaved, and from no greater LSN on, it keeps the one that it has.
     pub fn write(&mut self, slot: &FrameSlot, offset: usize, bytes: &[u8], lsn: Lsn)
         requires at { IsSlotIn self.old slot.now }
         requires fits { offset + length bytes.now ≤ self.old.size }
         ensures { self.new ≡ with_changed self.old slot.now.page (written_on offset bytes.now lsn) }
     {
-        self.slots[slot.index].write(offset, bytes, lsn);
+        let frame = &mut self.slots[slot.index];
+        let before = frame.first_lsn;
+        frame.write(offset, bytes, lsn);
+        let least = frame.first_lsn;
+        self.unsaved.note(slot, before, least);
     }
 
     /// Notes that a write-out of the page begins: writes from now on leave it unsaved.
@@ -159,7 +199,10 @@ impl FrameTable {
         requires { IsSlotIn self.old slot.now }
         ensures { self.new ≡ with_changed self.old slot.now.page saved }
     {
-        self.slots[slot.index].end_write_out();
+        let frame = &mut self.slots[slot.index];
+        let before = frame.first_lsn;
+        frame.end_write_out();
+        self.unsaved.note(slot, before, frame.first_lsn);
     }
 
     /// Notes that a write-out of the page failed: it stays as unsaved as it is.
@@ -216,6 +259,7 @@ impl FrameTable {
         let index = self.spare.pop().unwrap();
         let left = self.slots[index].load(page, block, image);
         self.places[page.number() as usize] = index as u32 + 1;
+        self.pinned += 1;
         (FrameSlot { page, index }, left)
     }
 
@@ -229,6 +273,9 @@ impl FrameTable {
           places = self.new.places;
         } }
     {
+        let frame = &self.slots[slot.index];
+        self.pinned -= one_if(frame.pins > 0);
+        self.unsaved.note(slot, frame.first_lsn, None);
         self.places[slot.page.number() as usize] = 0;
         self.spare.push_reserved(slot.index);
     }
@@ -271,5 +318,28 @@ impl FrameTable {
             (is_eligible self.old.candidates t page)) }
     {
         self.candidates.victim(t)
+    }
+
+    /// The least LSN of all writes that are not saved, None where all pages are saved. The unsaved pages stand in the
+    /// order of their least LSNs, in a tree that may lag behind 64 of them. So it takes O(log frames), and as much for
+    /// each page, of 64 at most, that was saved or taken out since the tree caught up with it. It changes nothing that
+    /// a caller sees.
+    pub fn least_unsaved(&mut self) -> Option<Lsn>
+        ensures same { self.new ≡ self.old }
+        ensures least { IsLeastUnsaved self.old.frames result }
+    {
+        let page = self.unsaved.first()?;
+        let place = self.places[page.number() as usize];
+        self.slots[place as usize - 1].first_lsn
+    }
+
+    /// The first page from this number on that is unsaved. It looks at one or two words of each of at most four rows
+    /// of bits, however many pages and frames there are.
+    pub fn next_unsaved(&self, from: u64) -> Option<PageNo>
+        ensures found { IfSome result (IsNext (has_unsaved self.now.frames) from) }
+        ensures none { IfNone result (NoneFrom (has_unsaved self.now.frames) from) }
+    {
+        let page = self.unsaved.next(from as usize)?;
+        Some(PageNo::new(page as u64))
     }
 }

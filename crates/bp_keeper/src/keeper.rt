@@ -1,7 +1,9 @@
 //! What a core asks of the keeper of its trail.
 ghost use Rattle.std.specs.Prelude.{◌≡◌, ℕ, ◌^◌, ◌<◌, ◌≤◌, Bool, false, List, length, IsOk, IfOk};
 ghost use Rattle.bp_trail.specs.declared.entries.Reply.TheVariants.{Done, Content, Fixed};
+ghost use Rattle.bp_audit.specs.Totals.{totals_of};
 
+use bp_audit::Totals;
 use bp_page::{Image, Lsn};
 use bp_trail::{Call, Grant, Reply};
 use std::alloc::{AllocError, Global};
@@ -56,6 +58,11 @@ pub trait Keeper: Drop {
     /// How many there are since the last cut.
     fn len(&self) -> usize
         ensures { result ≡ (kept self.now).len };
+
+    /// How many replies of each kind there were, since the trail was begun, cut or not. Right as long as these are
+    /// fewer than 2^64 entries.
+    fn totals(&self) -> Totals
+        ensures { length (kept self.now).past < 2 ^ 64 → result ≡ totals_of (kept self.now).past };
 
     /// Adds an entry, which takes no memory.
     fn record(&mut self, client: u8, call: Call, reply: Reply)

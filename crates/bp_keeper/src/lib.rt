@@ -2,7 +2,7 @@
 //!
 //! A core is generic over its [`Keeper`], and a client's list over its [`ListKeeper`]. [`RecordingKeeper`] has the
 //! entries in memory, and can hand them out. [`SilentKeeper`] counts them, and has no bytes of them; what is promised
-//! of its core or list is proved of the same entries, which stand in ghost data.
+//! of its core or list is proved of the same entries, which stand in ghost data. Both count the replies of each kind.
 #![tactic(auto)]
 
 pub mod ghost_trail;

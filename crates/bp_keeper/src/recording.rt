@@ -4,6 +4,7 @@ ghost use Rattle.std.specs.Prelude.{◌≡◌, ◌≤◌, ◌++◌, IsOk, IfOk, 
 use crate::ghost_trail::GhostTrail;
 use crate::keeper::Keeper;
 use crate::list_keeper::ListKeeper;
+use bp_audit::Totals;
 use bp_page::{Bytes, Geometry, Image, Lsn};
 use bp_trail::{Call, Entry, Grant, Reply};
 use std::alloc::{AllocError, Global};
@@ -15,15 +16,20 @@ use std::mem;
 pub struct RecordingKeeper {
     before: GhostTrail,
     entries: Vec<Entry>,
+    /// Of all entries, with those that cuts have handed out.
+    totals: Totals,
     /// Whether they begin where no entries lead.
     is_fresh: bool,
 }
 
 impl Model for RecordingKeeper {
     ghost use Rattle.std.specs.Prelude.{◌++◌, length, reverse, vec_capacity};
+    ghost use Rattle.bp_audit.specs.Totals.{CountsAll};
     ghost use Rattle.bp_keeper.specs.Kept.{Kept};
 
     ghost Value = { Kept };
+
+    ghost invariant = { λ t. CountsAll (reverse t.entries.items ++ t.before.past) t.totals };
 
     ghost view = { λ t. record {
       before = t.before.past;
@@ -60,6 +66,7 @@ impl Keeper for RecordingKeeper {
         Ok(RecordingKeeper {
             before: GhostTrail::nothing(),
             entries: Vec::with_capacity(alloc, room)?,
+            totals: Totals::none(),
             is_fresh: true,
         })
     }
@@ -76,7 +83,12 @@ impl Keeper for RecordingKeeper {
         self.entries.len()
     }
 
+    fn totals(&self) -> Totals {
+        self.totals
+    }
+
     fn record(&mut self, client: u8, call: Call, reply: Reply) {
+        self.totals.count(&reply);
         self.entries.push_reserved(Entry {
             client,
             call,
@@ -148,6 +160,7 @@ impl ListKeeper for RecordingKeeper {
         RecordingKeeper {
             before: GhostTrail::nothing(),
             entries: Vec::new(alloc),
+            totals: Totals::none(),
             is_fresh: true,
         }
     }
@@ -171,6 +184,8 @@ impl ListKeeper for RecordingKeeper {
     }
 
     fn record_load(&mut self, ticket: Grant, pass: u64, spare: Image) {
+        let reply = Reply::Fixed(pass);
+        self.totals.count(&reply);
         self.entries.push_reserved(Entry {
             client: ticket.client,
             call: Call::ReadEnd {
@@ -178,7 +193,7 @@ impl ListKeeper for RecordingKeeper {
                 page: ticket.page,
                 image: Some(spare),
             },
-            reply: Reply::Fixed(pass),
+            reply,
         });
     }
 }

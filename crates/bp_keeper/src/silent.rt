@@ -3,26 +3,30 @@
 use crate::ghost_trail::{Event, GhostImage, GhostTrail, Shown};
 use crate::keeper::Keeper;
 use crate::list_keeper::ListKeeper;
+use bp_audit::Totals;
 use bp_page::{Geometry, Image, Lsn};
 use bp_trail::{Call, Entry, Grant, Reply};
 use std::alloc::{AllocError, Global};
 use std::marker::Model;
 
-/// How many entries there are, and how many there may be. The list of them stands in the proofs alone.
+/// How many entries there are, how many there may be, and how many replies of each kind. The list of them stands in the
+/// proofs alone.
 #[derive(Drop)]
 pub struct SilentKeeper {
     count: usize,
     room: usize,
+    totals: Totals,
     trail: GhostTrail,
 }
 
 impl Model for SilentKeeper {
     ghost use Rattle.std.specs.Prelude.{◌<◌, ◌^◌, [], true};
+    ghost use Rattle.bp_audit.specs.Totals.{CountsAll};
     ghost use Rattle.bp_keeper.specs.Kept.{Kept};
 
     ghost Value = { Kept };
 
-    ghost invariant = { λ t. t.room < 2 ^ 64 };
+    ghost invariant = { λ t. (t.room < 2 ^ 64) × CountsAll t.trail.past t.totals };
 
     ghost view = { λ t. record {
       before = [];
@@ -59,6 +63,7 @@ impl Keeper for SilentKeeper {
         Ok(SilentKeeper {
             count: 0,
             room,
+            totals: Totals::none(),
             trail: GhostTrail::nothing(),
         })
     }
@@ -75,7 +80,13 @@ impl Keeper for SilentKeeper {
         self.count
     }
 
+    fn totals(&self) -> Totals {
+        self.totals
+    }
+
+    #[inline(always)]
     fn record(&mut self, client: u8, call: Call, reply: Reply) {
+        self.totals.count(&reply);
         let entry = Entry {
             client,
             call,
@@ -135,6 +146,7 @@ impl ListKeeper for SilentKeeper {
         SilentKeeper {
             count: 0,
             room: 0,
+            totals: Totals::none(),
             trail: GhostTrail::nothing(),
         }
     }
@@ -158,6 +170,7 @@ impl ListKeeper for SilentKeeper {
     fn clear(_spare: GhostImage) {}
 
     fn record_load(&mut self, ticket: Grant, pass: u64, spare: GhostImage) {
+        self.totals.count(&Reply::Fixed(pass));
         self.trail = self.trail.then_shown(&Shown {
             grant: ticket,
             event: Event::Load { pass, image: spare },

@@ -5,6 +5,7 @@ pub mod Serials
 pub mod Residents
 pub mod Timed
 pub mod Flights
+pub mod Redo
 pub mod Known
 pub mod Content
 pub mod Eviction

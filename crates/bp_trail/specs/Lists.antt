@@ -5,9 +5,10 @@
 --     EachEntry P xs      P of each element and what stands before it
 --     after_last p xs      the elements after the last that passes p, or all where none does
 --     since start stop xs      some element passes start, and no later one passes stop
+--     least_since value stop xs      the least value of such elements, if one has any
 --     outstanding key gives ends xs      what elements gave and no later one ended, newest first;
 --                                        one ends all that have its key
-use Rattle.std.specs.Prelude.{ℕ, ◌+◌, max, Bool, true, false, not, ◌&&◌, ◌||◌, ◌==◌, if◌then◌else◌, List, [], ◌∷◌, filter, length, Option, Some, None}
+use Rattle.std.specs.Prelude.{ℕ, ◌+◌, min, max, Bool, true, false, not, ◌&&◌, ◌||◌, ◌==◌, if◌then◌else◌, List, [], ◌∷◌, filter, length, Option, Some, None}
 use Rattle.std.specs.List.{list_any}
 
 abbrev pub total : List ℕ → ℕ
@@ -35,6 +36,17 @@ after_last p (x ∷ xs) = if p x then [] else x ∷ after_last p xs
 abbrev pub since : {X : Type 0} → (X → Bool) → (X → Bool) → List X → Bool
 since start stop [] = false
 since start stop (x ∷ xs) = start x || (not (stop x) && since start stop xs)
+
+-- one number more, of which the least is asked
+abbrev pub or_less : Option ℕ → Option ℕ → Option ℕ
+or_less None least = least
+or_less (Some n) None = Some n
+or_less (Some n) (Some least) = Some (min n least)
+
+abbrev pub least_since : {X : Type 0} → (X → Option ℕ) → (X → Bool) → List X → Option ℕ
+least_since value stop [] = None
+least_since value stop (x ∷ xs) =
+    or_less (value x) (if stop x then None else least_since value stop xs)
 
 -- one more, if there is one; and those without the key that is ended, if one is
 abbrev pub and_given : {Y : Type 0} → Option Y → List Y → List Y

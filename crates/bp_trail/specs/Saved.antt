@@ -1,10 +1,10 @@
--- Which writes of a page have not reached the device, and how far the log must be durable for them:
--- the page LSN.
-use Rattle.std.specs.Prelude.{false, ℕ, Bool, ◌&&◌, ◌==◌, filter_map}
+-- Which writes of a page have not reached the device, how far the log must be durable for them (the
+-- page LSN), and from where on the log is needed to make them again.
+use Rattle.std.specs.Prelude.{◌≡◌, false, ℕ, ◌≤◌, Bool, ◌&&◌, ◌==◌, Option, Some, None, filter_map}
 use Rattle.bp_trail.specs.declared.entries.Reply.{Reply}
 use Rattle.bp_trail.specs.declared.entries.Reply.TheVariants.{WriteFirst}
 use Rattle.bp_trail.specs.Trail.{Trail}
-use Rattle.bp_trail.specs.Lists.{greatest, some, after_last, since}
+use Rattle.bp_trail.specs.Lists.{greatest, some, after_last, since, least_since}
 use Rattle.bp_trail.specs.Event.{ends_well, begins, loads, writes, lsn_written}
 
 -- a write-out of p begins, and has ended well in past
@@ -23,3 +23,15 @@ written_since past ticket p = some (writes p) (after_last (λ e. begins ticket e
 -- the greatest LSN of the writes of p since it was loaded
 abbrev pub top : Trail → ℕ → ℕ
 top past p = greatest (filter_map (lsn_written p) (after_last (loads p) past))
+
+-- the least LSN of the writes of p that have no good write-out of p that began after them; none
+-- where p is saved
+abbrev pub first_lsn : Trail → ℕ → Option ℕ
+first_lsn past p = least_since (lsn_written p) (λ e. began_saving past p e.reply) past
+
+-- the least of these of all pages: where redo has to begin; none where each page is saved
+abbrev pub IsRedoFrom : Trail → Option ℕ → Type 0
+IsRedoFrom past (Some lsn) =
+    ((p : ℕ) × (first_lsn past p ≡ Some lsn))
+    × ((p later : ℕ) → first_lsn past p ≡ Some later → lsn ≤ later)
+IsRedoFrom past None = (p : ℕ) → first_lsn past p ≡ None

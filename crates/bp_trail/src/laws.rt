@@ -1,5 +1,5 @@
 //! Laws of the definitions in `specs/`. Each function does nothing: its contract is the law.
-ghost use Rattle.std.specs.Prelude.{◌≡◌, ◌≢◌, ℕ, suc, ◌+◌, ◌<◌, ◌≤◌, ◌==◌, nat_lt, Bool, true, false, IsTrue, IsFalse, Decides, List, [], ◌∷◌, ◌++◌, length, filter_map, Contains, Option, Some, None, if◌then◌else◌};
+ghost use Rattle.std.specs.Prelude.{◌≡◌, ◌≢◌, ℕ, suc, ◌+◌, ◌<◌, ◌≤◌, ◌==◌, nat_lt, Bool, true, false, IsTrue, IsFalse, Decides, List, [], ◌∷◌, ◌++◌, length, filter_map, Contains, Option, Some, None, is_some, if◌then◌else◌};
 ghost use Rattle.bp_references.specs.Burst.{Burst, last_time};
 ghost use Rattle.bp_references.specs.Cut.{IsCut};
 ghost use Rattle.bp_references.specs.Distance.{is_farther};
@@ -14,7 +14,7 @@ ghost use Rattle.bp_trail.specs.Trail.{Trail};
 ghost use Rattle.bp_trail.specs.Clock.{clock, durable};
 ghost use Rattle.bp_trail.specs.Passes.{pass_of, read_ticket_of, write_ticket_of, passes, tickets, passes_out, reads_out, writes_out, is_of, pins};
 ghost use Rattle.bp_trail.specs.Places.{residents, resident, loading, writing};
-ghost use Rattle.bp_trail.specs.Saved.{unsaved, written_since, top};
+ghost use Rattle.bp_trail.specs.Saved.{began_saving, unsaved, written_since, top, first_lsn, IsRedoFrom};
 ghost use Rattle.bp_trail.specs.Images.{held, plain_map};
 ghost use Rattle.bp_trail.specs.References.{references, forgets, last, hist};
 ghost use Rattle.bp_trail.specs.Victim.{backward_distance, candidate, victim};
@@ -179,6 +179,20 @@ pub fn unsaved_since_the_last_good_write_out()
         written_since past t p ≡ some (writes p) newest }
     ensures durable { (past : Trail) → IsGreatest (filter_map (λ e. marked e.call) past)
         (durable past) }
+{}
+
+/// Redo has to begin where the least LSN of the unsaved writes is: no page has one where each is saved, no unsaved write
+/// has a lesser one, and the good end of a write-out never lowers it.
+pub fn redo_begins_at_the_least_unsaved_lsn()
+    ensures unsaved { (past : Trail) (p : ℕ) → is_some (first_lsn past p) ≡ unsaved past p }
+    ensures none { (past : Trail) → ((p : ℕ) → IsFalse (unsaved past p)) → IsRedoFrom past None }
+    ensures covers { (past later earlier : Trail) (e : Entry) (p n lsn : ℕ) →
+        past ≡ later ++ e ∷ earlier → lsn_written p e ≡ Some n →
+        IsFalse (some (λ d. began_saving past p d.reply) later) → IsRedoFrom past (Some lsn) →
+        lsn ≤ n }
+    ensures rises { (c : Parameters) (past : Trail) (e : Entry) (t p a b : ℕ) →
+        Legal c (e ∷ past) → e.call ≡ WriteEnd t p true → IsRedoFrom past (Some a) →
+        IsRedoFrom (e ∷ past) (Some b) → a ≤ b }
 {}
 
 /// A page's held image is that of its last good read end, with the page's later writes applied in order. A resident

@@ -1,17 +1,18 @@
 //! What a core tells.
 ghost use Rattle.std.specs.Prelude.{◌≡◌, ◌++◌, reverse, ◌≤◌, length};
 ghost use Rattle.bp_trail.specs.Clock.{clock, durable};
+ghost use Rattle.bp_trail.specs.Places.{resident};
 ghost use Rattle.bp_trail.specs.References.{last, hist};
 ghost use Rattle.bp_trail.specs.Legal.{Legal};
 ghost use Rattle.bp_trail.specs.Safety.{Safe};
 ghost use Rattle.bp_trail.specs.Claims.{HeldIsPlain, ReadsAreKnown};
 ghost use Rattle.bp_trail.specs.Cuts.{LeadsOn, ReadsSince};
 ghost use Rattle.bp_trail.specs.Standing.{standing};
-ghost use Rattle.bp_trail.specs.Saved.{unsaved};
 ghost use Rattle.bp_core.specs.CoreView.{EachPast, opening};
-ghost use Rattle.bp_core.specs.Unsaved.{FindsUnsaved};
+ghost use Rattle.bp_core.specs.Counts.{AreCounts};
 
 use crate::pool::PoolCore;
+use crate::stats::Stats;
 use bp_keeper::{Keeper, RecordingKeeper};
 use bp_page::{Geometry, Lsn, PageNo};
 use bp_replacer::Settings;
@@ -95,31 +96,25 @@ impl<K: Keeper> PoolCore<K> {
         self.state.histories.stamp(page, i)
     }
 
-    /// Whether some write of the page has not gone out.
-    pub fn is_unsaved(&self, page: PageNo) -> bool
-        ensures { EachPast self.now (λ past. result ≡ unsaved past page) }
+    /// Whether the page is in a frame.
+    pub fn is_resident(&self, page: PageNo) -> bool
+        ensures { EachPast self.now (λ past. result ≡ resident past page) }
     {
-        // An unsaved page is in a frame.
-        self.keeps_the_rules();
-        match self.frame(page) {
-            Some(frame) => frame.is_unsaved,
-            None => false,
-        }
+        self.frame(page).is_some()
     }
 
-    /// The first page from this number on that is unsaved, if there is one. It looks at each page of the file up to
-    /// that one, and adds no entry.
-    pub fn next_unsaved(&self, from: u64) -> Option<PageNo>
-        ensures { EachPast self.now (λ past.
-            FindsUnsaved self.now.parameters.pages from past result) }
+    /// What it counts. It costs the same however many pages there are.
+    pub fn stats(&self) -> Stats
+        ensures { EachPast self.now (λ past. AreCounts past result) }
     {
-        for number in from..self.config.geometry.pages {
-            let page = PageNo::new(number);
-            if self.is_unsaved(page) {
-                return Some(page);
-            }
+        Stats {
+            totals: self.trail.totals(),
+            resident: self.state.frames.len(),
+            pinned: self.state.frames.pinned(),
+            unsaved: self.state.frames.unsaved(),
+            loading: self.state.reads.len(),
+            writing: self.state.writes.len(),
         }
-        None
     }
 }
 

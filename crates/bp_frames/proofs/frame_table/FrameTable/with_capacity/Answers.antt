@@ -1,7 +1,9 @@
-use Rattle.std.proofs.Common.{ap, ◌∙◌, ◌≡◌, subst, sym, arith, [], ℕ, List, length, replicate, refl, rules, None, Option}
+use Rattle.std.proofs.Common.{ap, ◌∙◌, ◌≡◌, subst, sym, arith, [], ℕ, List, length, replicate, zero, suc, get_or, refl, rules, None, Option}
 use Rattle.bp_references.specs.Candidates.{Candidate}
 use Rattle.bp_replacer.specs.Seats.{Seated, entered}
 use Rattle.bp_frames.specs.declared.frame.Frame.{Frame}
+use Rattle.bp_trail.specs.Lists.{count}
+use Rattle.bp_frames.specs.Frames.{is_pinned, is_to_save}
 use Rattle.bp_frames.specs.Tables.{Place, places_from, IsTable, IsSeating, frames_of}
 use Rattle.bp_frames.proofs.Places.{no-places}
 use Rattle.bp_frames.proofs.Seating.{no-seats, nobody-seated, length-replicated}
@@ -20,6 +22,11 @@ empty size limit = record {
   few = omega arith;
 }
 
+no-slots : (n page : ℕ) → get_or {A = ℕ} (replicate n 0) page 0 ≡ 0
+no-slots zero page = refl
+no-slots (suc n) zero = refl
+no-slots (suc n) (suc page) = no-slots n page
+
 pub invariant_of-result : goal.invariant_of-result
 invariant_of-result c =
     let ws : c.in_ok-vec.field-0.items ≡ replicate c.args.geometry.pages 0 = c.in_ok-vec.ensures.items_if_clones_equal (λ y is. search rules) in
@@ -29,6 +36,7 @@ invariant_of-result c =
           (subst (λ (ps : List Place). IsTable c.args.geometry.size c.args.limit [] ps []) (sym places) (empty c.args.geometry.size c.args.limit))),
       record { small = c.requires; for_slots = omega (arith, c.in_ok-with_capacity.ensures.capacity); for_spare = omega (arith, c.in_ok-with_capacity-2.ensures.capacity) },
       subst (λ (s : Seated). IsSeating c.args.limit c.in_ok-vec.field-0.items s.seats) (sym c.in_ok-new.ensures) (no-seats c.args.limit c.in_ok-vec.field-0.items),
+      let frames = ap (frames_of c.in_ok-with_capacity.field-0.items) places in record { pinned_is = sym (ap (count is_pinned) frames); unsaved_is = c.in_ok-new-2.ensures.count ∙ sym (ap (count is_to_save) frames); at_once = ap (λ (o : Seated). o.correlated) c.in_ok-new-2.ensures.order; seating = subst (λ (o : Seated). IsSeating c.args.limit c.in_ok-vec.field-0.items o.seats) (sym c.in_ok-new-2.ensures.order) (no-seats c.args.limit c.in_ok-vec.field-0.items); seated = λ page slot here. absurd (omega (arith, here, ap (λ xs. get_or xs page 0) ws, no-slots c.args.geometry.pages page)); pages_is = c.in_ok-new-2.ensures.pages ∙ sym (ap length ws ∙ length-replicated c.args.geometry.pages 0); here = λ page slot here. absurd (omega (arith, here, ap (λ xs. get_or xs page 0) ws, no-slots c.args.geometry.pages page)); away = λ page none. c.in_ok-new-2.ensures.none page },
     )
 
 pub returns : goal.returns

@@ -1,15 +1,77 @@
-use Rattle.std.proofs.Common.{ap, arith}
+use Rattle.std.proofs.Common.{◌≡◌, ℕ, ◌+◌, ◌≤◌, ◌++◌, List, take, drop, length-append, length-drop, ◌∙◌, length, ap, arith}
 use Rattle.bp_frames.specs.Tables.{Table}
-use Rattle.bp_frames.specs.Frames.{written_on}
-use Rattle.bp_frames.proofs.Tables.{frame-size, slot-shown, changed-shown}
+use Rattle.std.proofs.lemmas.List.{length-take}
+use Rattle.bp_page.specs.Patched.{patched}
+use Rattle.bp_frames.specs.declared.frame.Frame.{Frame}
+use Rattle.bp_frames.specs.Frames.{written_on, is_pinned, is_to_save}
+use Rattle.bp_frames.proofs.Tables.{slot-here, frame-size, slot-shown, changed-shown}
+use Rattle.bp_frames.proofs.Tally.{count-few, some-counted, unsaved-least, seat-in_range, seat-was, page-in_range, page-was, table-changed, account-changed}
 use Rattle.bp_frames.proofs.frame_table.FrameTable.write.Goals as goal
 
-pub index_mut-requires : goal.index_mut-requires
-index_mut-requires c = let lt = slot-shown _ _ _ _ _ c.self.invariant.0 _ _ c.self.view_is c.args.slot.now c.requires.at in omega (arith, lt)
+pub index_mut-frame-requires : goal.index_mut-frame-requires
+index_mut-frame-requires c = let lt = slot-shown _ _ _ _ _ c.self.invariant.0 _ _ c.self.view_is c.args.slot.now c.requires.at in omega (arith, lt)
+
+length-patched : (offset : ℕ) (bytes image : List ℕ) → offset + length bytes ≤ length image → length (patched offset bytes image) ≡ length image
+length-patched offset bytes image fits =
+    let rest = drop (offset + length bytes) image in
+    let whole : length (patched offset bytes image) ≡ length (take offset image ++ bytes) + length rest = length-append (take offset image ++ bytes) rest in
+    omega (arith, fits, whole, length-append (take offset image) bytes, length-take offset image, length-drop (offset + length bytes) image)
+
+fits : (c : goal.After-note) → c.args.offset + length c.args.bytes.now ≤ length c.index_mut-frame.result.now.image
+fits c =
+    omega (arith, c.requires.fits, ap (λ (t : Table). t.size) c.self.view_is, frame-size _ _ _ _ _ c.self.invariant.0 _ _ c.self.view_is c.args.slot.now c.requires.at c.index_mut-frame.result.now c.index_mut-frame.ensures.value)
 
 pub write-requires : goal.write-requires
 write-requires c =
-    omega (arith, c.requires.fits, ap (λ (t : Table). t.size) c.self.view_is, frame-size _ _ _ _ _ c.self.invariant.0 _ _ c.self.view_is c.args.slot.now c.requires.at c.index_mut.result.now c.index_mut.ensures.value)
+    omega (arith, c.requires.fits, ap (λ (t : Table). t.size) c.self.view_is, frame-size _ _ _ _ _ c.self.invariant.0 _ _ c.self.view_is c.args.slot.now c.requires.at c.index_mut-frame.result.now c.index_mut-frame.ensures.value)
 
 pub returns : goal.returns
-returns c = changed-shown _ _ _ _ _ c.self.invariant.0 _ _ c.self.view_is c.args.slot.now c.requires.at c.index_mut.result.now c.index_mut.ensures.value (written_on c.args.offset c.args.bytes.now c.args.lsn) c.write.new.self c.write.ensures
+returns c = changed-shown _ _ _ _ _ c.self.invariant.0 _ _ c.self.view_is c.args.slot.now c.requires.at c.index_mut-frame.result.now c.index_mut-frame.ensures.value (written_on c.args.offset c.args.bytes.now c.args.lsn) c.write.new.self c.write.ensures
+
+pub note-requires-clause-seat : goal.note-requires-clause-seat
+note-requires-clause-seat c =
+    let v = c.self.invariant in
+    let here = slot-here _ _ _ _ _ v.0 _ _ c.self.view_is c.args.slot.now c.requires.at in
+    seat-in_range _ _ _ _ _ v.0 c.args.slot.now here c.index_mut-frame.result.now c.index_mut-frame.ensures.value _ _ v.3
+
+pub note-requires-clause-was : goal.note-requires-clause-was
+note-requires-clause-was c =
+    let v = c.self.invariant in
+    let here = slot-here _ _ _ _ _ v.0 _ _ c.self.view_is c.args.slot.now c.requires.at in
+    seat-was _ _ _ _ _ v.0 c.args.slot.now here c.index_mut-frame.result.now c.index_mut-frame.ensures.value _ _ v.3
+
+pub note-requires-clause-page : goal.note-requires-clause-page
+note-requires-clause-page c =
+    let v = c.self.invariant in
+    let here = slot-here _ _ _ _ _ v.0 _ _ c.self.view_is c.args.slot.now c.requires.at in
+    page-in_range _ _ _ _ _ v.0 c.args.slot.now here c.index_mut-frame.result.now c.index_mut-frame.ensures.value _ _ v.3
+
+pub note-requires-clause-noted : goal.note-requires-clause-noted
+note-requires-clause-noted c =
+    let v = c.self.invariant in
+    let here = slot-here _ _ _ _ _ v.0 _ _ c.self.view_is c.args.slot.now c.requires.at in
+    page-was _ _ _ _ _ v.0 c.args.slot.now here c.index_mut-frame.result.now c.index_mut-frame.ensures.value _ _ v.3
+
+pub note-requires-clause-counted : goal.note-requires-clause-counted
+note-requires-clause-counted c =
+    let v = c.self.invariant in
+    let f = c.index_mut-frame.result.now in
+    let here = slot-here _ _ _ _ _ v.0 _ _ c.self.view_is c.args.slot.now c.requires.at in
+    some-counted f.first_lsn c.self.inside.unsaved.count (unsaved-least _ _ _ _ _ v.0 c.args.slot.now here f c.index_mut-frame.ensures.value _ _ v.3)
+
+pub note-requires-clause-few : goal.note-requires-clause-few
+note-requires-clause-few c = let v = c.self.invariant in let few = count-few _ _ _ c.self.inside.places.items _ v.0 is_to_save in omega (arith, v.3.unsaved_is, few, v.1.small)
+
+pub invariant_of-self : goal.invariant_of-self
+invariant_of-self c =
+    let v = c.self.invariant in
+    let f = c.index_mut-frame.result.now in
+    let f_is = c.index_mut-frame.ensures.value in
+    let here = slot-here _ _ _ _ _ v.0 _ _ c.self.view_is c.args.slot.now c.requires.at in
+    let next = c.write.new.self in
+    let is = c.write.ensures in (
+      table-changed _ _ _ _ _ v.0 c.args.slot.now here f f_is next (ap (λ (g : Frame). g.page) is) (ap (λ (g : Frame). length g.image) is ∙ length-patched c.args.offset c.args.bytes.now f.image (fits c)),
+      v.1,
+      v.2,
+      account-changed _ _ _ _ _ v.0 c.args.slot.now here f f_is next _ _ v.3 c.note.new.self (ap is_pinned is) c.note.ensures.count c.note.ensures.order c.note.ensures.limit c.note.ensures.pages,
+    )

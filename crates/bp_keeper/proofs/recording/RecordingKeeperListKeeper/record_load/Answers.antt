@@ -1,0 +1,6 @@
+use Rattle.bp_audit.proofs.Counting.{counts_next}
+use Rattle.bp_keeper.proofs.Newest.{newest}
+use Rattle.bp_keeper.proofs.recording.RecordingKeeperListKeeper.record_load.Goals as goal
+
+pub invariant_of-self : goal.invariant_of-self
+invariant_of-self c = counts_next _ _ _ _ _ (newest _ _ _ _ c.push_reserved.ensures.items) c.self.invariant c.count.ensures

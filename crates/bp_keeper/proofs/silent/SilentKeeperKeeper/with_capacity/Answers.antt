@@ -1,0 +1,5 @@
+use Rattle.bp_audit.proofs.Counting.{counts_none}
+use Rattle.bp_keeper.proofs.silent.SilentKeeperKeeper.with_capacity.Goals as goal
+
+pub invariant_of-result : goal.invariant_of-result
+invariant_of-result c = (c.ranges.room.fits, counts_none _ _ c.nothing.ensures c.none.ensures)
