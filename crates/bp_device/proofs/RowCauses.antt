@@ -3,7 +3,6 @@ use Rattle.std.proofs.Common.{List, ◌≡◌, sym, subst, ℕ, ◌++◌, ◌∷
 use Rattle.std.specs.Prelude.{IfErr, reverse}
 use Rattle.bp_page.specs.declared.refusals.Refusal.{Refusal}
 use Rattle.bp_page.specs.declared.refusals.Refusal.TheVariants as refusal
-use Rattle.bp_core.specs.declared.passes.Pass.{Pass}
 use Rattle.bp_trail.specs.declared.entries.Call.TheVariants.{Fix, Flush, Mark}
 use Rattle.bp_trail.specs.declared.scripts.Row.{Row}
 use Rattle.bp_trail.specs.declared.scripts.Refused.{Refused}
@@ -12,8 +11,8 @@ use Rattle.bp_trail.specs.Event.{Grant}
 use Rattle.bp_trail.specs.Pieces.{outcome_of}
 use Rattle.bp_trail.specs.Script.{refused_row}
 use Rattle.bp_trail.proofs.Counting.{reverse-push}
-use Rattle.bp_core.specs.CoreView.{CoreView, HasRoomFor, LacksRoomFor}
-use Rattle.bp_core.specs.Outcomes.{ReadOutcome, WriteOutcome, TickOutcome, StepOutcome, PurgeOutcome}
+use Rattle.bp_core.specs.CoreView.{CoreView, LacksRoomFor}
+use Rattle.bp_core.specs.Outcomes.{TickOutcome, StepOutcome}
 use Rattle.bp_device.specs.Drivers.{IsCaused}
 use Rattle.bp_device.specs.Rows.{DrivesRow, GaveBack, RowCaused, IsLate, CausedRows, DrivesRowsCaused, ScriptCaused}
 use Rattle.bp_device.specs.Rows.CausedRows.{none, accepted, refused}

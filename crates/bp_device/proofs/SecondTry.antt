@@ -23,11 +23,11 @@ lawful : (old new : CoreView) (client : ℕ) (call : _) (reply : Reply) → Adds
 lawful old new client call reply a = subst (λ core. Legal core.parameters core.past) a.is a.legal
 
 -- any call but the end of a read has the one reply of the table
-abbrev is_read_end : Call → Bool
+abbrev pub is_read_end : Call → Bool
 is_read_end (ReadEnd t p image) = true
 is_read_end _ = false
 
-reply-is : {A : Type 0} (call : Call) (reply : Reply) → is_read_end call ≡ false → A ⊎ FindsWrongPage call reply → A
+pub reply-is : {A : Type 0} (call : Call) (reply : Reply) → is_read_end call ≡ false → A ⊎ FindsWrongPage call reply → A
 reply-is _ _ other (inl is) = is
 reply-is _ _ other (inr (another_page t p)) = absurd (let no : true ≡ false = other in cc)
 

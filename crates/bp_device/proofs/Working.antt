@@ -1,5 +1,5 @@
 -- How the device's work grows, entry by entry.
-use Rattle.std.proofs.Common.{List, ◌≡◌, refl, sym, ◌∙◌, ap, subst, ℕ, true, false, [], ◌∷◌, Some, None, Result, Ok, Err}
+use Rattle.std.proofs.Common.{List, ◌≡◌, refl, sym, ◌∙◌, ap, subst, ℕ, true, false, [], ◌∷◌, ◌++◌, Some, None, Result, Ok, Err}
 use Rattle.std.specs.Result.{is_ok}
 use Rattle.bp_page.specs.declared.refusals.Refusal.{Refusal}
 use Rattle.bp_page.specs.declared.refusals.Refusal.TheVariants as refusal
@@ -20,9 +20,10 @@ use Rattle.bp_trail.specs.Pieces.{by}
 use Rattle.bp_core.specs.ReadFaults.{read_failure}
 use Rattle.bp_core.specs.CoreView.{CoreView, with_entry}
 use Rattle.bp_core.specs.Outcomes.{FixOutcome, FlushOutcome}
-use Rattle.bp_device.specs.Drivers.{LoadOutcome, SaveOutcome}
+use Rattle.bp_device.specs.Drivers.{LoadOutcome, SaveOutcome, NoRead}
 use Rattle.bp_core.specs.Added.{Ends, ended_reply}
-use Rattle.bp_core.specs.Work.{Reads, Writes, Works, DoesWork}
+use Rattle.bp_trail.specs.Trail.{Trail}
+use Rattle.bp_core.specs.Work.{Reads, Writes, Works, WorksThrough, DoesWork}
 
 module _ {A : Type 0} (reads : Reads A) (writes : Writes A) where
   pub none-yet : (core : CoreView) (port : A) → DoesWork reads writes core port core port
@@ -37,7 +38,7 @@ module _ {A : Type 0} (reads : Reads A) (writes : Writes A) where
     through = (now, d.through, subst (λ (core : CoreView). Works reads writes core.past call reply now after) d.is w);
   }
 
-  same-as : (old mid new : CoreView) (port now : A) → DoesWork reads writes old port mid now → new ≡ mid → DoesWork reads writes old port new now
+  pub same-as : (old mid new : CoreView) (port now : A) → DoesWork reads writes old port mid now → new ≡ mid → DoesWork reads writes old port new now
   same-as old mid new port now d is = record { piece = d.piece; is = is ∙ d.is; through = d.through }
 
   -- a fix, whatever it answers
@@ -112,3 +113,22 @@ module _ {A : Type 0} (reads : Reads A) (writes : Writes A) where
       (one-more old old begun port port port client (Flush page) (WriteFirst ticket.serial ticket.page ticket.image) (none-yet old port) h.4.is refl)
       (subst (λ (core : CoreView). Ends (WriteFirst ticket.serial ticket.page ticket.image) core.past) (sym h.4.is) refl)
       (h.3 ∙ ap (λ (core : CoreView). top core.past ticket.page) (sym h.4.is)) s good (gave-ticket port after ticket written gave)
+
+-- the same work, where each read is one of these others too
+module _ {A : Type 0} (reads others : Reads A) (writes : Writes A) (as_read : (port : A) (page : ℕ) (found : Result (List ℕ) PortFault) (after : A) → reads port page found after → others port page found after) where
+  works-as : (past : Trail) (call : Call) (reply : Reply) (port after : A) → Works reads writes past call reply port after → Works others writes past call reply port after
+  works-as past (ReadEnd ticket page image) reply port after w =
+      record { found = w.found; gave = as_read port page w.found after w.gave; image_is = w.image_is; answered = w.answered }
+  works-as past (WriteEnd ticket page good) reply port after w = w
+  works-as past _ reply port after w = w
+
+  through-as : (past piece : Trail) (port after : A) → WorksThrough reads writes past piece port after → WorksThrough others writes past piece port after
+  through-as past [] port after w = w
+  through-as past (e ∷ older) port after w = (w.0, through-as past older port w.0 w.1, works-as (older ++ past) e.call e.reply w.0 after w.2)
+
+  pub work-as : (old new : CoreView) (port after : A) → DoesWork reads writes old port new after → DoesWork others writes old port new after
+  work-as old new port after d = record { piece = d.piece; is = d.is; through = through-as old.past d.piece port after d.through }
+
+-- of what reads nothing, whatever reads are
+pub no-read-work : {A : Type 0} (others : Reads A) (writes : Writes A) (old new : CoreView) (port after : A) → DoesWork NoRead writes old port new after → DoesWork others writes old port new after
+no-read-work others writes old new port after d = work-as NoRead others writes (λ p page found q none. absurd none) old new port after d

@@ -1,5 +1,6 @@
 -- What a fix and a flush by a driver add to its core.
-use Rattle.std.specs.Prelude.{◌≡◌, ℕ, List, true, false, Option, Some, None, Result, Ok, Err}
+use Rattle.std.specs.Prelude.{◌≡◌, ℕ, List, true, false, Option, Some, None, Result, Ok}
+use Rattle.std.specs.Prelude.{Err}
 use Rattle.bp_page.specs.declared.refusals.Refusal.{Refusal}
 use Rattle.bp_page.specs.declared.refusals.Refusal.TheVariants as refusal
 use Rattle.bp_page.specs.declared.refusals.Refusal.TheVariants.{WriteFailed as WriteRefused}
@@ -58,6 +59,10 @@ IsCaused n call refusal.TrailFull core = LacksRoomFor n core
 IsCaused n call refusal.OutOfMemory core = HasRoomFor n core × TakesMemory call core
 IsCaused n call (refusal.NeedLog lsn) core = Ends (NeedLog lsn) core.past
 IsCaused n call _ core = Unit {0}
+
+-- of what has its device read nothing
+abbrev pub NoRead : {A : Type 0} → A → ℕ → Result (List ℕ) PortFault → A → Type 0
+NoRead port page found after = ⊥
 
 -- the end of a read or of a write-out whose ticket is known
 abbrev pub LoadOutcome : CoreView → ReadTicket → Result (List ℕ) PortFault → Result Pass Refusal

@@ -1,17 +1,19 @@
-//! A fix and a flush over a core that has one owner, with the reads and writes of its device.
+//! A fix, also of a new page, and a flush over a core that has one owner, with the reads and writes of its device.
 ghost use Rattle.std.specs.Prelude.{◌≡◌, ◌<◌, IfErr, IfOk, length};
 ghost use Rattle.std.specs.Result.{is_ok};
 ghost use Rattle.bp_trail.specs.declared.entries.Call.TheVariants as call;
 ghost use Rattle.bp_core.specs.Outcomes.{KnowsRead, KnowsWrite};
 ghost use Rattle.bp_device.specs.Drivers.{DrivesFix, DrivesFlush, IsCaused, LoadOutcome};
-ghost use Rattle.bp_device.specs.Drivers.{SaveOutcome, SavingOutcome};
+ghost use Rattle.bp_device.specs.Drivers.{SaveOutcome, SavingOutcome, NoRead};
+ghost use Rattle.bp_core.specs.Work.{IsBlank, MadeBlank};
 ghost use Rattle.bp_core.specs.Work.{DoesWork};
 
 use bp_core::{
     EndRefusal, Ended, Fix, Flush, Flushed, Keeper, Pass, PoolCore, ReadTicket, WriteTicket,
 };
-use bp_page::{Image, PageNo, PortFault, Refusal};
+use bp_page::{Geometry, Image, PageNo, PortFault, Refusal};
 use bp_ports::Port;
+use std::alloc::Global;
 use std::sync::Wait;
 
 /// Ends a read whose ticket the core knows.
@@ -49,7 +51,7 @@ fn save<K: Keeper>(
 }
 
 /// Fixes a page, and where its victim is unsaved writes that out and fixes again. Nobody else acts meanwhile: the
-/// victim is then saved and still the victim, so that the second fix finds its frame.
+/// victim is then saved and still the victim, so that the second fix finds its frame. Nothing is read.
 fn fix_saving_victim<K: Keeper, P: Port, R: Wait>(
     rt: &R,
     core: &mut PoolCore<K>,
@@ -61,7 +63,7 @@ fn fix_saving_victim<K: Keeper, P: Port, R: Wait>(
     requires page_in { page < core.old.parameters.pages }
     ensures outcome { SavingOutcome core.old client page result core.new }
     ensures cause { IfErr result (λ why. IsCaused 3 (call.Fix page) why core.new) }
-    ensures work { DoesWork P.read_gives P.write_gives core.old port.old core.new port.new }
+    ensures work { DoesWork NoRead P.write_gives core.old port.old core.new port.new }
     ensures geometry { P.geometry_of port.new ≡ P.geometry_of port.old }
 {
     let victim = match core.fix(client, page)? {
@@ -100,6 +102,52 @@ pub fn drive_fix<K: Keeper, P: Port, R: Wait>(
         Fix::Load(ticket, _) => {
             let read = port.read(rt, page);
             load(core, ticket, read)
+        }
+        Fix::WriteFirst(_ticket) => unreachable!(),
+    }
+}
+
+/// An image of zeros, of the page size. `Memory` where it can't be had.
+fn blank_image(alloc: Global, geometry: &Geometry) -> Result<Image, PortFault>
+    ensures blank { IsBlank geometry.now.size result }
+    ensures size { IfOk result (λ image. length image ≡ geometry.now.size) }
+{
+    match Image::blank(alloc, geometry) {
+        Ok(image) => Ok(image),
+        Err(_) => Err(PortFault::Memory),
+    }
+}
+
+/// Fixes a page that is new, over a core that nobody else uses: as `drive_fix`, but where the page is away its image is
+/// zeros, and the device is not asked to read it. So it is for a page that was never written, or whose bytes on the
+/// device are to be lost, which nobody but the caller knows. A page that is in a frame keeps its bytes there. The zeros
+/// are not unsaved: they reach the device only with a write of the page.
+///
+/// Refused as `drive_fix` is, but never with `WrongPage`; with `ReadFailed` where the memory for the image can't be
+/// had, and the page is then not resident.
+pub fn drive_new<K: Keeper, P: Port, R: Wait>(
+    rt: &R,
+    alloc: Global,
+    core: &mut PoolCore<K>,
+    port: &mut P,
+    client: u8,
+    page: PageNo,
+) -> Result<Pass, Refusal>
+    requires client_in { client < core.old.parameters.clients }
+    requires page_in { page < core.old.parameters.pages }
+    ensures outcome { DrivesFix core.old client page result core.new }
+    ensures cause { IfErr result (λ why. IsCaused 3 (call.Fix page) why core.new) }
+    ensures work { DoesWork (MadeBlank core.old.parameters.size) P.write_gives
+        core.old port.old core.new port.new }
+    ensures geometry { P.geometry_of port.new ≡ P.geometry_of port.old }
+{
+    let geometry = core.geometry();
+    let answer = fix_saving_victim(rt, core, port, client, page)?;
+    match answer {
+        Fix::Hit(pass) => Ok(pass),
+        Fix::Load(ticket, _) => {
+            let blank = blank_image(alloc, &geometry);
+            load(core, ticket, blank)
         }
         Fix::WriteFirst(_ticket) => unreachable!(),
     }

@@ -1,5 +1,6 @@
 -- Files that are page files, and what a port to one reads and writes.
 use Rattle.std.specs.Prelude.{◌≡◌, ◌≢◌, ◌⊎◌, ℕ, Bool, true, false, ◌+◌, ◌*◌, ◌<◌, ◌≤◌, ◌/◌, ◌%◌, List, length, Result, Ok, Err}
+use Rattle.std.specs.Result.{is_ok}
 use Rattle.bp_page.specs.Slots.{raw_slot, headed_slot, page_in}
 use Rattle.bp_page.specs.declared.refusals.PortFault.{PortFault}
 use Rattle.bp_page.specs.declared.slots.Format.{Format}
@@ -8,7 +9,7 @@ use Rattle.bp_page.specs.declared.refusals.PortFault.TheVariants.{Device, Memory
 use Rattle.bp_page.specs.declared.refusals.Refusal.TheVariants.{BadLength}
 use Rattle.bp_ports.specs.declared.files.OpenFault.{OpenFault}
 use Rattle.bp_ports.specs.declared.files.OpenFault.TheVariants as open_fault
-use Rattle.bp_ports.specs.Ports.{PortView, ReadsPage, WritesPage}
+use Rattle.bp_ports.specs.Ports.{PortView, ReadsPage, WritesPage, Syncs}
 
 -- a length of whole pages of this size: one at least, and no more than a file may have
 pub record IsFileLength (size bytes : ℕ) : Type 0 where
@@ -99,9 +100,22 @@ WritesStore writes port page image lsn written after =
     × (page < port.device.pages → length image ≡ port.device.size →
     WritesSlot writes port page image lsn written after)
 
+-- a sync of a store: as it was, whether the sync was good, and the store as it is
+abbrev pub StoreSync : Type 0 → Type 1
+StoreSync S = S → Bool → S → Type 0
+
+-- a sync by such a port: one of the store, which is as good as that one
+abbrev pub SyncsStore : {S : Type 0} → StoreSync S → PortView S → Result (Unit {0}) PortFault
+    → PortView S → Type 0
+SyncsStore syncs port synced after =
+    Syncs port synced after × syncs port.store (is_ok synced) after.store
+
 -- of a file, std does not say what stands in it
 abbrev pub any_transfer : {S : Type 0} → Transfer S
 any_transfer store start bytes done after = Unit {0}
+
+abbrev pub any_sync : {S : Type 0} → StoreSync S
+any_sync store done after = Unit {0}
 
 abbrev pub ReadsFile : {S : Type 0} → PortView S → ℕ → Result (List ℕ) PortFault → PortView S
     → Type 0
@@ -111,3 +125,7 @@ abbrev pub WritesFile : {S : Type 0} → PortView S → ℕ → List ℕ → ℕ
     → PortView S → Type 0
 WritesFile port page image lsn written after =
     WritesStore any_transfer port page image lsn written after
+
+abbrev pub SyncsFile : {S : Type 0} → PortView S → Result (Unit {0}) PortFault → PortView S
+    → Type 0
+SyncsFile port synced after = SyncsStore any_sync port synced after

@@ -56,6 +56,12 @@ WritesPage port page image written after =
     × (port.device.pages ≤ page → IsFailure written)
     × (length image ≢ port.device.size → IsFailure written)
 
+-- a sync by such a port: a failure is counted, and nothing else of the port changes
+abbrev pub Syncs : {S : Type 0} → PortView S → Result (Unit {0}) PortFault → PortView S → Type 0
+Syncs port synced after =
+    Counts synced port.failures after.failures × (after.device ≡ port.device)
+    × (after.headed ≡ port.headed)
+
 -- whether pages stand with their numbers in a file of this version
 abbrev pub has_headers : Format → Bool
 has_headers Plain = false

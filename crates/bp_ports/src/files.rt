@@ -3,7 +3,7 @@ ghost use Rattle.std.specs.Prelude.{◌≡◌, ◌≢◌, ◌<◌, ◌≤◌, �
 ghost use Rattle.bp_page.specs.Limits.{IsGeometry};
 ghost use Rattle.bp_page.specs.Slots.{slot_size};
 ghost use Rattle.bp_ports.specs.Ports.{PortView, has_headers};
-ghost use Rattle.bp_ports.specs.Files.{FoundIn, IsFileLength, IsOpenFault, ReadsStore, WritesStore, place_of, room_of};
+ghost use Rattle.bp_ports.specs.Files.{FoundIn, IsFileLength, IsOpenFault, ReadsStore, WritesStore, SyncsStore, place_of, room_of};
 
 use crate::failures::Failures;
 use crate::places::start_of;
@@ -200,6 +200,8 @@ impl<S: Store> Port for FilePort<S> {
 
     ghost write_gives = { WritesStore S.writes };
 
+    ghost sync_gives = { SyncsStore S.syncs };
+
     fn geometry(&self) -> Geometry {
         self.device
     }
@@ -245,6 +247,13 @@ impl<S: Store> Port for FilePort<S> {
             }
         };
         match written {
+            Ok(()) => Ok(()),
+            Err(_) => Err(self.count.add()),
+        }
+    }
+
+    fn sync<R: Wait>(&mut self, _rt: &R) -> Result<(), PortFault> {
+        match self.store.sync_slots() {
             Ok(()) => Ok(()),
             Err(_) => Err(self.count.add()),
         }

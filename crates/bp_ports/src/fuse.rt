@@ -21,8 +21,8 @@ pub struct FusePort<P: Port> {
 }
 
 impl<P: Port> FusePort<P> {
-    /// A port whose n-th call of `read` or `write`, from 1, fails. With `spoil`, a write that fails first puts a page
-    /// of bytes 255 on the device. `OutOfMemory` where that page can't be had.
+    /// A port whose n-th call of `read`, `write` or `sync`, from 1, fails. With `spoil`, a write that fails first puts a
+    /// page of bytes 255 on the device. `OutOfMemory` where that page can't be had.
     pub fn new(alloc: Global, inner: P, n: u64, spoil: bool) -> Result<FusePort<P>, Refusal>
         ensures inner { IfOk result (λ port. port.inner ≡ inner) }
         ensures left { IfOk result (λ port. port.left ≡ n) }
@@ -85,6 +85,11 @@ impl<P: Port> Port for FusePort<P> {
         port.spoiled written port.inner after.inner)
         (P.write_gives port.inner page image lsn written after.inner) };
 
+    ghost sync_gives = { λ port synced after.
+        IsNext port.left port.spoiled after.left after.spoiled ×
+        FailsOrPasses port.left (IsUnasked synced port.inner after.inner)
+        (P.sync_gives port.inner synced after.inner) };
+
     fn geometry(&self) -> Geometry {
         self.inner.geometry()
     }
@@ -137,5 +142,21 @@ impl<P: Port> Port for FusePort<P> {
         }
         let written = self.inner.write(rt, page, image, lsn);
         self.count.count_failure(written)
+    }
+
+    fn sync<R: Wait>(&mut self, rt: &R) -> Result<(), PortFault>
+        ensures fault { OnErr result (result ≡ Err PortFault.Device) }
+        ensures same { P.geometry_of self.new.inner ≡ P.geometry_of self.old.inner }
+        ensures alike { P.is_headed self.new.inner ≡ P.is_headed self.old.inner }
+        ensures counts { Counts result self.old.count self.new.count }
+        ensures next { IsNext self.old.left self.old.spoiled self.new.left self.new.spoiled }
+        ensures fails { self.old.left ≡ 1 → IsUnasked result self.old.inner self.new.inner }
+        ensures passes { self.old.left ≢ 1 → P.sync_gives self.old.inner result self.new.inner }
+    {
+        if self.blows() {
+            return Err(self.count.add());
+        }
+        let synced = self.inner.sync(rt);
+        self.count.count_failure(synced)
     }
 }

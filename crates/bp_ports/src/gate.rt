@@ -66,7 +66,7 @@ impl Gate {
 
 /// One port of a pair, each over another port. A read goes to the port below once some read of the pair's other port
 /// has begun, and a write once some write has. So where two clients read once each, and both reads are good, neither
-/// ended before the other began.
+/// ended before the other began. A sync goes to the port below at once.
 #[derive(Drop)]
 pub struct GatePort<P: Port> {
     inner: P,
@@ -132,6 +132,8 @@ impl<P: Port> Port for GatePort<P> {
         IsUnasked written port.inner after.inner ⊎
         P.write_gives port.inner page image lsn written after.inner };
 
+    ghost sync_gives = { λ port synced after. P.sync_gives port.inner synced after.inner };
+
     fn geometry(&self) -> Geometry {
         self.inner.geometry()
     }
@@ -179,5 +181,17 @@ impl<P: Port> Port for GatePort<P> {
         }
         let written = self.inner.write(rt, page, image, lsn);
         self.count.count_failure(written)
+    }
+
+    fn sync<R: Wait>(&mut self, rt: &R) -> Result<(), PortFault>
+        ensures fault { OnErr result (result ≡ Err PortFault.Device) }
+        ensures same { P.geometry_of self.new.inner ≡ P.geometry_of self.old.inner }
+        ensures alike { P.is_headed self.new.inner ≡ P.is_headed self.old.inner }
+        ensures counts { Counts result self.old.count self.new.count }
+        ensures turns { self.new.turns ≡ self.old.turns }
+        ensures gives { P.sync_gives self.old.inner result self.new.inner }
+    {
+        let synced = self.inner.sync(rt);
+        self.count.count_failure(synced)
     }
 }

@@ -1,5 +1,5 @@
 //! A device in memory, and the ports on it.
-ghost use Rattle.std.specs.Prelude.{◌≡◌, ◌*◌, false, IfOk, OnErr, replicate};
+ghost use Rattle.std.specs.Prelude.{◌≡◌, ◌*◌, false, Ok, IfOk, OnErr, replicate};
 ghost use Rattle.bp_page.specs.declared.limits.Geometry.{Geometry};
 ghost use Rattle.bp_ports.specs.Ports.{PortView, ReadsPage, WritesPage, new_port};
 
@@ -96,6 +96,8 @@ impl Port for MemPort {
     ghost write_gives = { λ port page image lsn written after.
         WritesPage port page image written after };
 
+    ghost sync_gives = { λ port synced after. (synced ≡ Ok tt) × (after ≡ port) };
+
     fn geometry(&self) -> Geometry {
         self.device
     }
@@ -148,5 +150,10 @@ impl Port for MemPort {
             }
             None => Err(self.count.add()),
         }
+    }
+
+    // Pages in memory are where they are kept as soon as they are written.
+    fn sync<R: Wait>(&mut self, _rt: &R) -> Result<(), PortFault> {
+        Ok(())
     }
 }

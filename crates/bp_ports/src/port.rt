@@ -10,10 +10,10 @@ use std::sync::Wait;
 /// another size than its pages, is a failure of the device. `WrongPage` is none: a read alone answers it, and only of a
 /// device whose pages stand with their numbers, where another page's number stands in the page's place.
 ///
-/// A port says by two relations of its own which calls led from it, as it was, to it, as it is. What is promised by
+/// A port says by three relations of its own which calls led from it, as it was, to it, as it is. What is promised by
 /// them of any port, as of the drivers, can be kept only by these calls.
 pub trait Port: Drop {
-    ghost use Rattle.std.specs.Prelude.{◌≡◌, ◌≢◌, ℕ, Bool, true, List, Result, length, IfOk};
+    ghost use Rattle.std.specs.Prelude.{◌≡◌, ◌≢◌, ℕ, Bool, true, List, Result, length, IfOk, OnErr};
     ghost use Rattle.bp_page.specs.declared.limits.Geometry.{Geometry};
     ghost use Rattle.bp_page.specs.declared.refusals.PortFault.{PortFault as Fault};
     ghost use Rattle.bp_ports.specs.Ports.{Counts};
@@ -28,6 +28,8 @@ pub trait Port: Drop {
     ghost read_gives: { Self → ℕ → Result (List ℕ) Fault → Self → Type 0 };
     // A write of a page, with an image and a page LSN, gives a result, and leaves the port so.
     ghost write_gives: { Self → ℕ → List ℕ → ℕ → Result (Unit {0}) Fault → Self → Type 0 };
+    // A sync gives a result, and leaves the port so.
+    ghost sync_gives: { Self → Result (Unit {0}) Fault → Self → Type 0 };
 
     /// How many pages the device has, and of what size.
     fn geometry(&self) -> Geometry
@@ -59,4 +61,13 @@ pub trait Port: Drop {
         ensures alike { is_headed self.new ≡ is_headed self.old }
         ensures counts { Counts result (failures_of self.old) (failures_of self.new) }
         ensures gives { write_gives self.old page image.now lsn result self.new };
+
+    /// Makes durable all that was written. It fails as the device does, which is counted: what was written since the
+    /// sync before may then be on the device or not.
+    fn sync<R: Wait>(&mut self, rt: &R) -> Result<(), PortFault>
+        ensures fault { OnErr result (result ≡ Err PortFault.Device) }
+        ensures same { geometry_of self.new ≡ geometry_of self.old }
+        ensures alike { is_headed self.new ≡ is_headed self.old }
+        ensures counts { Counts result (failures_of self.old) (failures_of self.new) }
+        ensures gives { sync_gives self.old result self.new };
 }

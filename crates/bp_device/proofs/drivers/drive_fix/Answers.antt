@@ -2,7 +2,7 @@
 use Rattle.std.proofs.Common.{sym, subst, Ok}
 use Rattle.bp_device.specs.Drivers.{SavingOutcome}
 use Rattle.bp_device.proofs.Driving.{load-drives}
-use Rattle.bp_device.proofs.Working.{loaded-work}
+use Rattle.bp_device.proofs.Working.{loaded-work, no-read-work}
 use Rattle.bp_device.proofs.drivers.drive_fix.Goals as goal
 
 pub returns-in-Load-clause-outcome : goal.returns-in-Load-clause-outcome
@@ -14,5 +14,11 @@ pub returns-in-Load-clause-work : goal.returns-in-Load-clause-work
 returns-in-Load-clause-work g c =
     let f = subst (λ f. SavingOutcome c.args.core.now c.args.client c.args.page (Ok f) c.fix_saving_victim.new.core) c.in-Load.is c.in_ok-pass.ensures.outcome in
     loaded-work _ _ c.args.core.now c.fix_saving_victim.new.core c.load.new.core c.args.port.now c.fix_saving_victim.new.port c.read-read.new.self c.in-Load.ticket c.read-read.result c.load.result
-    c.fix_saving_victim.ensures.work c.load.ensures.outcome
+    (no-read-work _ _ _ _ _ _ c.fix_saving_victim.ensures.work) c.load.ensures.outcome
     (subst (λ p. g.P.Port.read_gives c.fix_saving_victim.new.port p c.read-read.result c.read-read.new.self) (sym f.2.2) c.read-read.ensures.gives)
+
+pub returns-in_err-pass-clause-work : goal.returns-in_err-pass-clause-work
+returns-in_err-pass-clause-work g c = no-read-work _ _ _ _ _ _ c.fix_saving_victim.ensures.work
+
+pub returns-in-Hit-clause-work : goal.returns-in-Hit-clause-work
+returns-in-Hit-clause-work g c = no-read-work _ _ _ _ _ _ c.fix_saving_victim.ensures.work
