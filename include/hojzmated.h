@@ -30,7 +30,7 @@ extern "C" {
 
 /* The version of this header; hz_version tells that of the library. */
 #define HZ_VERSION_MAJOR 0
-#define HZ_VERSION_MINOR 9
+#define HZ_VERSION_MINOR 10
 #define HZ_VERSION_PATCH 0
 #define HZ_VERSION (HZ_VERSION_MAJOR * 10000 + HZ_VERSION_MINOR * 100 + HZ_VERSION_PATCH)
 
@@ -104,14 +104,28 @@ typedef struct hz_fixed {
     uint8_t has_evicted; /* 0 or 1 */
 } hz_fixed;
 
-/* What was counted since the core was made. A count that reaches 2^64 - 1 stays there. */
-typedef struct hz_totals {
+/* An unsaved page: one with a write that is in no image on the device. Where has_page is 0 the others are too. */
+typedef struct hz_unsaved {
+    uint64_t page;
+    uint64_t lsn;       /* its page LSN */
+    uint64_t first_lsn; /* the least LSN of such writes */
+    uint8_t has_page;   /* 0 or 1 */
+} hz_unsaved;
+
+/* What was counted since the core was made, and how many pages there are of each kind now. */
+typedef struct hz_stats {
     uint64_t hits;      /* fixes that found their page in a frame */
     uint64_t faults;    /* reads that went well */
     uint64_t evictions; /* pages that left a frame for another */
     uint64_t writes;    /* write-outs that went well */
     uint64_t failed;    /* reads and write-outs that failed */
-} hz_totals;
+    uint64_t refused;   /* calls that were refused with 11, 12 or 13 */
+    size_t resident;    /* pages in frames */
+    size_t pinned;      /* of these, pages of which a pass is out */
+    size_t unsaved;     /* of these, pages that are unsaved */
+    size_t loading;     /* pages that are being read */
+    size_t writing;     /* pages that are being written out */
+} hz_stats;
 
 /* Makes a core in a handle that has none. Refused: 51; 1 for pages and page_size, 2 for the rest; 22. */
 uint16_t hz_core_new(const hz_config *config, hz_core *core);
@@ -166,8 +180,24 @@ uint16_t hz_flush(hz_core *core, uint8_t client, uint64_t page, uint8_t *buffer,
  * Refused: 41, 20. */
 uint16_t hz_purge(hz_core *core, uint8_t client, uint64_t *count);
 
-/* Tells what was counted. Refused: 50. */
-uint16_t hz_totals_of(hz_core *core, hz_totals *out);
+/* The calls from here to hz_is_resident only tell, and are no calls that the room counts.
+ *
+ * Tells the page LSN of a pass's page: the greatest LSN of its writes since it was read, or 0. Refused: 14. */
+uint16_t hz_page_lsn(hz_core *core, const hz_grant *pass, uint64_t *lsn);
+
+/* Tells the first unsaved page from this number on, in the order of the file, if there is one. */
+uint16_t hz_next_unsaved(hz_core *core, uint64_t from, hz_unsaved *out);
+
+/* Tells from where redo has to begin: the least LSN of all writes that are in no image on the device, one of LSN 0 too.
+ * has_lsn gets 1, or 0 where there is no such write; lsn gets 0 then. Ask before the device is synced: what goes out
+ * meanwhile may not be kept by that. */
+uint16_t hz_redo_from(hz_core *core, uint64_t *lsn, uint8_t *has_lsn);
+
+/* Tells what was counted. */
+uint16_t hz_stats_of(hz_core *core, hz_stats *out);
+
+/* Tells whether a page is in a frame: is_resident gets 1 or 0. Refused: 45 where the page is not of the file. */
+uint16_t hz_is_resident(hz_core *core, uint64_t page, uint8_t *is_resident);
 
 /* Writes the text of a number, as much as fits and with no zero at its end, and returns its whole length. Where `into`
  * is null nothing is written. */

@@ -1,5 +1,5 @@
 -- How many replies of each kind a list of entries has. The order of the entries does not matter.
-use Rattle.std.specs.Prelude.{ℕ, ◌+◌, ◌^◌, ◌<◌, Bool, true, false, if◌then◌else◌, List, Some, count_by}
+use Rattle.std.specs.Prelude.{◌≡◌, ℕ, ◌+◌, ◌^◌, ◌<◌, Bool, true, false, if◌then◌else◌, List, length, Some, count_by}
 use Rattle.bp_trail.specs.declared.entries.Entry.{Entry}
 use Rattle.bp_trail.specs.declared.entries.Reply.{Reply}
 use Rattle.bp_trail.specs.declared.entries.Reply.TheVariants.{Hit, Load, NoVictim, NeedLog, Busy, Fixed, ReadFailed, WrongPage, Cleaned, StillDirty, WriteFailed}
@@ -74,6 +74,10 @@ pub record HasRoom (t : Totals) : Type 0 where
   pub writes : t.writes + 1 < 2 ^ 64
   pub failed : t.failed + 1 < 2 ^ 64
   pub refused : t.refused + 1 < 2 ^ 64
+
+-- totals that are counted reply by reply are right as long as there are fewer than 2^64 entries
+abbrev pub CountsAll : List Entry → Totals → Type 0
+CountsAll entries t = length entries < 2 ^ 64 → t ≡ totals_of entries
 
 -- two totals together
 abbrev pub both : Totals → Totals → Totals

@@ -1,5 +1,5 @@
 //! How many replies of each kind there are.
-ghost use Rattle.std.specs.Prelude.{◌≡◌, ◌↔◌, IfSome, IsSome};
+ghost use Rattle.std.specs.Prelude.{◌≡◌, ◌↔◌, ◌+◌, ◌^◌, ◌<◌, IfSome, IsSome};
 ghost use Rattle.bp_audit.specs.Totals.{HasRoom, FitTogether, both, counted, no_totals, totals_of};
 
 use bp_trail::{Entry, Reply};
@@ -48,21 +48,25 @@ impl Totals {
         totals
     }
 
-    /// Counts one more reply.
+    /// Counts one more reply. A total that stands at 2^64 − 1 goes on from 0, and is wrong from then on.
+    #[inline(always)]
     pub fn count(&mut self, reply: &Reply)
-        requires { HasRoom self.old }
-        ensures { self.new ≡ counted reply.now self.old }
+        ensures { HasRoom self.old → self.new ≡ counted reply.now self.old }
     {
         match reply {
-            Reply::Hit(_) => self.hits += 1,
-            Reply::Fixed(_) => self.faults += 1,
+            Reply::Hit(_) => self.hits = one_more(self.hits),
+            Reply::Fixed(_) => self.faults = one_more(self.faults),
             Reply::Load {
                 evicted: Some(_),
                 ..
-            } => self.evictions += 1,
-            Reply::Cleaned | Reply::StillDirty => self.writes += 1,
-            Reply::ReadFailed | Reply::WrongPage | Reply::WriteFailed => self.failed += 1,
-            Reply::NoVictim | Reply::NeedLog(_) | Reply::Busy => self.refused += 1,
+            } => self.evictions = one_more(self.evictions),
+            Reply::Cleaned | Reply::StillDirty => self.writes = one_more(self.writes),
+            Reply::ReadFailed | Reply::WrongPage | Reply::WriteFailed => {
+                self.failed = one_more(self.failed)
+            }
+            Reply::NoVictim | Reply::NeedLog(_) | Reply::Busy => {
+                self.refused = one_more(self.refused)
+            }
             _ => {}
         }
     }
@@ -82,4 +86,12 @@ impl Totals {
             refused: self.refused.checked_add(more.refused)?,
         })
     }
+}
+
+/// The next number, or 0 after 2^64 − 1.
+#[inline(always)]
+fn one_more(n: u64) -> u64
+    ensures { n + 1 < 2 ^ 64 → result ≡ n + 1 }
+{
+    n.wrapping_add(1)
 }

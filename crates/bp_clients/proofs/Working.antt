@@ -31,12 +31,6 @@ pub known_step : (r : Result (Unit {0}) Refusal) → is_fault (outcome_of r) ≡
 known_step r none is = let no : true ≡ false = subst (λ o. is_fault (outcome_of o) ≡ false) is none in cc
 
 module _ {P : Type 0} (reads : Reads P) (writes : Writes P) where
-  -- one after the other
-  works-append : (past p q : Trail) (port now kept : P) → WorksThrough reads writes past p port now → WorksThrough reads writes (p ++ past) q now kept → WorksThrough reads writes past (q ++ p) port kept
-  works-append past p [] port now kept first then = subst (λ k. WorksThrough reads writes past p port k) (sym then) first
-  works-append past p (e ∷ q) port now kept first then =
-      (then.0, works-append past p q port now then.0 first then.1, subst (λ es. Works reads writes es e.call e.reply then.0 kept) (sym (append_assoc q p past)) then.2)
-
   -- a call without device work
   one-call-work : (past : Trail) (port : P) (numbers : List ℕ) (client : ℕ) (call : Call) (piece : Trail) (o : Outcome) → ((reply : Reply) → Works reads writes past call reply port port) → OneCall numbers client call piece o
       → WorksThrough reads writes past piece port port
@@ -61,14 +55,6 @@ module _ {P : Type 0} (reads : Reads P) (writes : Writes P) where
   quiet-piece said piece port client (step.Log lsn) o quiet h = subst (λ es. WorksThrough reads writes said es port port) (sym h.0) refl
 
 module _ {P : Type 0} (reads : Reads P) (writes : Writes P) where
-  pub work-on : (said mid after : Trail) (port now kept : P) → DoesWorkSaid reads writes said mid port now → DoesWorkSaid reads writes mid after now kept → DoesWorkSaid reads writes said after port kept
-  work-on said mid after port now kept w v = record {
-    piece = v.piece ++ w.piece;
-    grows = v.grows ∙ ap (λ es. v.piece ++ es) w.grows ∙ sym (append_assoc v.piece w.piece said);
-    through = works-append reads (WithSomeLsn writes) said w.piece v.piece port now kept w.through
-        (subst (λ es. WorksThrough reads (WithSomeLsn writes) es v.piece now kept) w.grows v.through);
-  }
-
   quiet : (client : ℕ) (s : Step) (o : Outcome) (said after : Trail) (port kept : P) → IsQuiet s → StepSaid client s o said after → is_fault o ≡ false → kept ≡ port → DoesWorkSaid reads writes said after port kept
   quiet client s o said after port kept is says none same =
       let adds : AddsStep client s o said after = no_fault (is_fault o) none says in

@@ -1,5 +1,5 @@
 -- How the device's work grows with a session's list, entry by entry.
-use Rattle.std.proofs.Common.{◌≡◌, refl, sym, ap, subst, ◌∙◌, ℕ, true, false, List, [], ◌∷◌, Option, Some, None, Result, Ok, Err, inl, inr}
+use Rattle.std.proofs.Common.{◌≡◌, refl, sym, ap, subst, ◌∙◌, ℕ, true, false, List, [], ◌∷◌, ◌++◌, append_assoc, Option, Some, None, Result, Ok, Err, inl, inr}
 use Rattle.bp_page.specs.declared.refusals.Refusal.{Refusal}
 use Rattle.bp_page.specs.declared.refusals.Refusal.TheVariants as refusal
 use Rattle.bp_page.specs.declared.refusals.PortFault.{PortFault}
@@ -21,7 +21,7 @@ use Rattle.bp_book.specs.declared.pending.Flush.{Flush as Flushing}
 use Rattle.bp_book.specs.declared.pending.Flush.TheVariants as flushing
 use Rattle.bp_book.specs.Turns.{FixTurn, FlushTurn, MarksOnce, refusal_reply, and_told, EndReadOutcome, EndWriteOutcome, LoadOutcome, WriteOutOutcome}
 use Rattle.bp_core.specs.Added.{Ends, ended_reply}
-use Rattle.bp_core.specs.Work.{Reads, Writes, Works}
+use Rattle.bp_core.specs.Work.{Reads, Writes, Works, WorksThrough}
 use Rattle.bp_shared.proofs.Stepping.{err}
 use Rattle.bp_shared.specs.Sessions.{WithSomeLsn, DoesWorkSaid}
 
@@ -120,6 +120,22 @@ module _ {A : Type 0} (reads : Reads A) (writes : Writes A) where
       go (Err why) (Err refusal.UnknownTicket) gave h not = absurd (not refl)
       go _ _ gave h not = absurd h
 
+-- one after the other
+module _ {A : Type 0} (reads : Reads A) (writes : Writes A) where
+  works-append : (past p q : Trail) (port now kept : A) → WorksThrough reads writes past p port now → WorksThrough reads writes (p ++ past) q now kept → WorksThrough reads writes past (q ++ p) port kept
+  works-append past p [] port now kept first then = subst (λ k. WorksThrough reads writes past p port k) (sym then) first
+  works-append past p (e ∷ q) port now kept first then =
+      (then.0, works-append past p q port now then.0 first then.1, subst (λ es. Works reads writes es e.call e.reply then.0 kept) (sym (append_assoc q p past)) then.2)
+
+module _ {A : Type 0} (reads : Reads A) (writes : Writes A) where
+  pub work-on : (said mid after : Trail) (port now kept : A) → DoesWorkSaid reads writes said mid port now → DoesWorkSaid reads writes mid after now kept → DoesWorkSaid reads writes said after port kept
+  work-on said mid after port now kept w v = record {
+    piece = v.piece ++ w.piece;
+    grows = v.grows ∙ ap (λ es. v.piece ++ es) w.grows ∙ sym (append_assoc v.piece w.piece said);
+    through = works-append reads (WithSomeLsn writes) said w.piece v.piece port now kept w.through
+        (subst (λ es. WorksThrough reads (WithSomeLsn writes) es v.piece now kept) w.grows v.through);
+  }
+
 -- a turn that has begun a write-out ends with that
 pub began-by-fix : (client page : ℕ) (ticket : WriteTicket) (mid after : Trail) → FixTurn client page (Ok (fixing.WriteFirst ticket)) mid after → Ends (WriteFirst ticket.serial ticket.page ticket.image) after
 began-by-fix client page ticket mid after t = subst (λ es. Ends (WriteFirst ticket.serial ticket.page ticket.image) es) (sym t.asks.1) refl
@@ -127,7 +143,7 @@ began-by-fix client page ticket mid after t = subst (λ es. Ends (WriteFirst tic
 pub began-by-flush : (client page : ℕ) (ticket : WriteTicket) (mid after : Trail) → FlushTurn client page (Ok (flushing.WriteFirst ticket)) mid after → Ends (WriteFirst ticket.serial ticket.page ticket.image) after
 began-by-flush client page ticket mid after t = subst (λ es. Ends (WriteFirst ticket.serial ticket.page ticket.image) es) (sym t.asks.2) refl
 
-abbrev why-of : {A : Type 0} → Result A Refusal → Refusal
+abbrev pub why-of : {A : Type 0} → Result A Refusal → Refusal
 why-of (Ok done) = refusal.NoVictim
 why-of (Err why) = why
 

@@ -4,3 +4,4 @@ pub mod Locked
 pub mod Taking
 pub mod Telling
 pub mod Posting
+pub mod FlushAll

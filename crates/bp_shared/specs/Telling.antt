@@ -2,6 +2,8 @@
 use Rattle.std.specs.Prelude.{◌≡◌, ℕ, ◌++◌, Bool, true, false, List, [], filter, slice_index_or}
 use Rattle.bp_trail.specs.declared.entries.Call.{Call}
 use Rattle.bp_trail.specs.declared.entries.Call.TheVariants.{Unfix}
+use Rattle.bp_trail.specs.Legal.{Legal}
+use Rattle.bp_trail.specs.Parameters.{Parameters}
 use Rattle.bp_trail.specs.Trail.{Trail}
 use Rattle.bp_audit.specs.Clients.{of_client}
 use Rattle.bp_board.specs.declared.boards.Board.{Board}
@@ -45,3 +47,12 @@ pub record IsToldBy (start past : Trail) (client : ℕ) (said : Trail) : Type 0 
   pub since : Trail
   pub goes_on : past ≡ since ++ start
   pub theirs : of_client client (told since) ≡ told said
+
+-- some legal list of entries, which goes on from the pool's first ones, tells of the client what its
+-- list tells, and is as P says
+pub record AtAMoment (parameters : Parameters) (start : Trail) (client : ℕ) (said : Trail)
+    (P : Trail → Type 0) : Type 0 where
+  pub past : Trail
+  pub legal : Legal parameters past
+  pub told_is : IsToldBy start past client said
+  pub is : P past

@@ -12,6 +12,7 @@ use rtrb::{Consumer, Producer};
 use std::marker::{Model, PhantomData};
 
 mod cut_section;
+mod observing;
 mod turns;
 
 /// What lies under the lock. Its trail is legal, by the core's own type; the reader is the mark's, and has seen every

@@ -25,10 +25,13 @@ use std::alloc::Global;
 use std::marker::Model;
 use std::sync::{Condvar, Mutex, MutexGuard, Wait};
 
+mod checkpoint;
 mod fixing;
+mod flush_all;
 mod flushing;
 mod pieces;
 mod single;
+mod source;
 
 /// A session for each client, with the next line of the board and the posting end of its ring, in order.
 fn new_clients<N: PoolName, K: ListKeeper>(

@@ -13,20 +13,6 @@ use Rattle.bp_workers.specs.Tries.{Ticks, GivesUp, GoesOn}
 use Rattle.bp_workers.proofs.Trying.{gives-up-stays}
 
 module _ {A : Type 0} (reads : Reads A) (writes : Writes A) where
-  works-append : (past p q : Trail) (port now kept : A) → WorksThrough reads writes past p port now → WorksThrough reads writes (p ++ past) q now kept → WorksThrough reads writes past (q ++ p) port kept
-  works-append past p [] port now kept first then = subst (λ k. WorksThrough reads writes past p port k) (sym then) first
-  works-append past p (e ∷ q) port now kept first then =
-      (then.0, works-append past p q port now then.0 first then.1, subst (λ es. Works reads writes es e.call e.reply then.0 kept) (sym (append_assoc q p past)) then.2)
-
-module _ {A : Type 0} (reads : Reads A) (writes : Writes A) where
-  pub work-on : (said mid after : Trail) (port now kept : A) → DoesWorkSaid reads writes said mid port now → DoesWorkSaid reads writes mid after now kept → DoesWorkSaid reads writes said after port kept
-  work-on said mid after port now kept w v = record {
-    piece = v.piece ++ w.piece;
-    grows = v.grows ∙ ap (λ es. v.piece ++ es) w.grows ∙ sym (append_assoc v.piece w.piece said);
-    through = works-append reads (WithSomeLsn writes) said w.piece v.piece port now kept w.through
-        (subst (λ es. WorksThrough reads (WithSomeLsn writes) es v.piece now kept) w.grows v.through);
-  }
-
   -- a client that goes on has no work done
   pub goes-on-work : (client steps raised : ℕ) (why : Refusal) (ticked next : Bool) (said mid after : Trail) (port now : A) → DoesWorkSaid reads writes said mid port now → GoesOn client steps raised why ticked next mid after
       → DoesWorkSaid reads writes said after port now

@@ -2,6 +2,7 @@
 ghost use Rattle.std.specs.Prelude.{◌≡◌, ◌<◌};
 
 use super::SharedPool;
+use super::source::{FromPort, Source, Zeros};
 use crate::names::PoolName;
 use crate::session::Session;
 use bp_book::{Fix, PendingRead, PendingWrite};
@@ -15,14 +16,16 @@ impl<N: PoolName, K: ListKeeper> SharedPool<N, K> {
     ghost use Rattle.std.specs.Prelude.{◌≡◌, ◌≢◌, ◌<◌};
     ghost use Rattle.bp_book.specs.Books.{OwesRead, OwesWrite};
     ghost use Rattle.bp_book.specs.Turns.{FixTurn, LoadOutcome, WriteOutOutcome};
+    ghost use Rattle.bp_core.specs.Work.{MadeBlank};
     ghost use Rattle.bp_shared.specs.Sessions.{DoesWorkSaid, FixSaid};
 
-    /// Reads a page with no lock held, ends the read, and wakes all that wait.
-    fn load<P: Port, R: Wait>(
+    /// Brings a page's image with no lock held, ends the read, and wakes all that wait.
+    fn load<P: Port, S: Source<P>, R: Wait>(
         &self,
         rt: &R,
         session: &mut Session<N, K>,
         port: &mut P,
+        source: &S,
         ticket: PendingRead,
     ) -> Result<Pass, Refusal>
         requires owes { OwesRead session.old.client ticket session.old.said }
@@ -31,10 +34,10 @@ impl<N: PoolName, K: ListKeeper> SharedPool<N, K> {
         ensures before { session.new.before ≡ session.old.before }
         ensures free { session.new.free ≡ session.old.free }
         ensures port { P.geometry_of port.new ≡ P.geometry_of port.old }
-        ensures outcome { LoadOutcome P.read_gives ticket result session.old.said session.new.said
+        ensures outcome { LoadOutcome S.gives ticket result session.old.said session.new.said
             port.old port.new }
     {
-        let read = port.read(rt, ticket.page());
+        let read = source.bring(rt, port, ticket.page());
         let mut state = self.enter(rt);
         let ended = state.end_read(session, ticket, read);
         drop(state);
@@ -116,10 +119,62 @@ impl<N: PoolName, K: ListKeeper> SharedPool<N, K> {
         ensures work { result ≢ Err Refusal.UnknownTicket → DoesWorkSaid P.read_gives P.write_gives
             session.old.said session.new.said port.old port.new }
     {
+        self.fix_from(rt, session, port, &FromPort, page)
+    }
+
+    /// Fixes a page that is new, as `fix` does, but where it is away its image is zeros, and the port is not asked to
+    /// read it: no read is made. So it is for a page that was never written, or whose bytes on the device are to be
+    /// lost, which nobody but the caller knows. A page that is in a frame keeps its bytes. The zeros are not unsaved:
+    /// they reach the device only with a write of the page.
+    ///
+    /// Refused as `fix` is, but never with `WrongPage`; with `ReadFailed` where the memory for the image can't be had.
+    pub fn fix_new<P: Port, R: Wait>(
+        &self,
+        rt: &R,
+        session: &mut Session<N, K>,
+        port: &mut P,
+        page: PageNo,
+    ) -> Result<Pass, Refusal>
+        requires page_in { page < N.parameters.pages }
+        requires port { (P.geometry_of port.old).size ≡ N.parameters.size }
+        ensures client { session.new.client ≡ session.old.client }
+        ensures before { session.new.before ≡ session.old.before }
+        ensures free { session.new.free ≡ session.old.free }
+        ensures port { P.geometry_of port.new ≡ P.geometry_of port.old }
+        ensures outcome { FixSaid session.old.client page result session.old.said session.new.said }
+        ensures work { result ≢ Err Refusal.UnknownTicket → DoesWorkSaid
+            (λ at. MadeBlank (P.geometry_of at).size at) P.write_gives
+            session.old.said session.new.said port.old port.new }
+    {
+        let zeros = Zeros { alloc: self.alloc };
+        self.fix_from(rt, session, port, &zeros, page)
+    }
+
+    /// Fixes a page as `fix` does, whose image comes from this source where it is away.
+    fn fix_from<P: Port, S: Source<P>, R: Wait>(
+        &self,
+        rt: &R,
+        session: &mut Session<N, K>,
+        port: &mut P,
+        source: &S,
+        page: PageNo,
+    ) -> Result<Pass, Refusal>
+        requires page_in { page < N.parameters.pages }
+        requires port { (P.geometry_of port.old).size ≡ N.parameters.size }
+        ensures client { session.new.client ≡ session.old.client }
+        ensures before { session.new.before ≡ session.old.before }
+        ensures free { session.new.free ≡ session.old.free }
+        ensures port { P.geometry_of port.new ≡ P.geometry_of port.old }
+        ensures outcome { FixSaid session.old.client page result session.old.said session.new.said }
+        ensures work { result ≢ Err Refusal.UnknownTicket → DoesWorkSaid S.gives P.write_gives
+            session.old.said session.new.said port.old port.new }
+    {
         for _ in rt.forever() {
             match self.ask_fix(rt, session, page) {
                 Ok(Fix::Hit(pass)) => return Ok(pass),
-                Ok(Fix::Load(ticket, _)) => return self.load(rt, session, port, ticket),
+                Ok(Fix::Load(ticket, _)) => {
+                    return self.load(rt, session, port, source, ticket);
+                }
                 Ok(Fix::WriteFirst(ticket)) => {
                     self.write_out(rt, session, port, ticket)?;
                 }

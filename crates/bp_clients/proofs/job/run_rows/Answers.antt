@@ -8,7 +8,8 @@ use Rattle.bp_trail.specs.Script.{FollowsBy}
 use Rattle.bp_clients.specs.Steps.{is_fault}
 use Rattle.bp_clients.specs.Jobs.{RowFitsClient}
 use Rattle.bp_clients.proofs.Following.{follows-more, known-more}
-use Rattle.bp_clients.proofs.Working.{known_step, step-work, work-on}
+use Rattle.bp_shared.proofs.Working.{work-on}
+use Rattle.bp_clients.proofs.Working.{known_step, step-work}
 use Rattle.bp_clients.proofs.job.run_rows.Goals as goal
 
 pub loop-row-preserved : goal.loop-row-preserved

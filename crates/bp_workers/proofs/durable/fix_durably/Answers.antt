@@ -4,7 +4,8 @@ use Rattle.std.proofs.lemmas.Result.{err_from_is_err_and}
 use Rattle.bp_shared.proofs.Working.{none-yet}
 use Rattle.bp_workers.proofs.Raising.{raises-none, raises-then}
 use Rattle.bp_workers.proofs.Trying.{leads-none, leads-more, leads-fixed, leads-given_up, leads-end, goes-on-known, gives-up-known}
-use Rattle.bp_workers.proofs.Working.{work-on, goes-on-work, gives-up-work}
+use Rattle.bp_shared.proofs.Working.{work-on}
+use Rattle.bp_workers.proofs.Working.{goes-on-work, gives-up-work}
 use Rattle.bp_workers.proofs.durable.fix_durably.Goals as goal
 
 pub loop-round-init : goal.loop-round-init

@@ -2,7 +2,7 @@
 use Rattle.std.proofs.Common.{◌≡◌}
 use Rattle.bp_shared.proofs.Turning.{FixWaits}
 use Rattle.bp_shared.specs.Sessions.{DoesWorkSaid}
-use Rattle.bp_shared.proofs.pool.SharedPool.fix.Given as goal
+use Rattle.bp_shared.proofs.pool.SharedPool.fix_from.Given as goal
 
 abbrev pub invariant-loop : goal.invariant-loop
 invariant-loop g l =
@@ -12,5 +12,5 @@ invariant-loop g l =
       free : l.session.free ≡ l.initial.session.free;
       port : g.P.Port.geometry_of l.port ≡ g.P.Port.geometry_of l.initial.port;
       waits : FixWaits l.initial.session.client l.page l.initial.session.said l.session.said;
-      work : DoesWorkSaid g.P.Port.read_gives g.P.Port.write_gives l.initial.session.said l.session.said l.initial.port l.port;
+      work : DoesWorkSaid g.S.Source.gives g.P.Port.write_gives l.initial.session.said l.session.said l.initial.port l.port;
     }

@@ -4,7 +4,7 @@ use Rattle.std.proofs.lemmas.Result.{err_from_is_err_and}
 use Rattle.bp_shared.specs.Sessions.{FixSaid}
 use Rattle.bp_shared.proofs.Fixing.{waits_none, turn_more, hit_said, busy_waits, refused_said, load_said, written_waits, unwritten_said}
 use Rattle.bp_shared.proofs.Working.{none-yet, fix-turn-work, load-work, write-work, began-by-fix, unerr}
-use Rattle.bp_shared.proofs.pool.SharedPool.fix.Goals as goal
+use Rattle.bp_shared.proofs.pool.SharedPool.fix_from.Goals as goal
 
 pub loop-init : goal.loop-init
 loop-init g c = record { client = refl; before = refl; free = refl; port = refl; waits = waits_none _ _ _; work = none-yet _ _ _ _ }

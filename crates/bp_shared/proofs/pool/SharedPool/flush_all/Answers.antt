@@ -1,0 +1,32 @@
+-- Each flush is one page more.
+use Rattle.std.proofs.Common.{◌≡◌, refl, sym, ◌∙◌, ap, subst, ℕ, ◌+◌, arith}
+use Rattle.bp_shared.specs.FlushAll.{FlushesEach}
+use Rattle.bp_shared.specs.FlushAll.FlushesEach.{none, page}
+use Rattle.bp_shared.proofs.Working.{none-yet, work-on, why-of}
+use Rattle.bp_shared.proofs.pool.SharedPool.flush_all.Goals as goal
+
+pub loop-page-init : goal.loop-page-init
+loop-page-init g c = record { client = refl; before = refl; free = refl; port = refl; flushed = none; work = none-yet _ _ _ _ }
+
+pub overflow_add-from : goal.overflow_add-from
+overflow_add-from g c = let few = c.in-Some.ensures.few in omega (arith, few, c.number-from.ensures)
+
+pub loop-page-preserved : goal.loop-page-preserved
+loop-page-preserved g c =
+    let i = c.loop-page.invariant in
+    let f = rw (c.in-Some.ensures.session, i.client) at c.in-Ok.ensures in
+    let found = rw i.client at c.in-Some.ensures.found in
+    record {
+      client = f.client;
+      before = f.before ∙ i.before;
+      free = f.free ∙ i.free;
+      port = f.port ∙ i.port;
+      flushed = rw c.number-from.ensures (page c.in-Some.page c.in-Ok.field-0 i.flushed found f.outcome);
+      work = work-on _ _ _ _ _ _ _ _ i.work (f.work (λ unknown. absurd (let no = unknown in cc)));
+    }
+
+pub returns-in-Err-clause-work : goal.returns-in-Err-clause-work
+returns-in-Err-clause-work g c = λ known.
+    let i = c.loop-page.invariant in
+    let f = rw c.in-Some.ensures.session at c.in-Err.ensures in
+    work-on _ _ _ _ _ _ _ _ i.work (f.work (λ unknown. known _ refl (ap why-of unknown)))

@@ -1,0 +1,19 @@
+-- The pages flushed so far.
+use Rattle.std.proofs.Common.{◌≡◌, ◌-◌}
+use Rattle.bp_shared.specs.FlushAll.{FlushesEach}
+use Rattle.bp_shared.specs.Sessions.{DoesWorkSaid}
+use Rattle.bp_shared.proofs.pool.SharedPool.flush_all.Given as goal
+
+abbrev pub invariant-loop-page : goal.invariant-loop-page
+invariant-loop-page g l =
+    record {
+      client : l.session.client ≡ l.initial.session.client;
+      before : l.session.before ≡ l.initial.session.before;
+      free : l.session.free ≡ l.initial.session.free;
+      port : g.P.Port.geometry_of l.port ≡ g.P.Port.geometry_of l.initial.port;
+      flushed : FlushesEach (record { parameters = g.N.PoolName.parameters; start = g.N.PoolName.past; client = l.initial.session.client }) l.initial.session.said l.from l.session.said;
+      work : DoesWorkSaid g.P.Port.read_gives g.P.Port.write_gives l.initial.session.said l.session.said l.initial.port l.port;
+    }
+
+abbrev pub decreases-loop-page : goal.decreases-loop-page
+decreases-loop-page g l = g.N.PoolName.parameters.pages - l.from

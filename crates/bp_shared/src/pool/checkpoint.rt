@@ -1,0 +1,60 @@
+//! What a checkpoint asks, and what a pool counts. Each call takes the lock once, drains the rings, and adds no entry of
+//! its own. Its clause is of some legal list that tells of the client what the client's list tells; that this is the
+//! pool's list at a moment of the call is seen under the lock, where the call has the same clause of that list itself.
+ghost use Rattle.std.specs.Prelude.{◌≡◌, ◌+◌, ◌^◌, ◌<◌, IfSome};
+ghost use Rattle.bp_trail.specs.Saved.{IsRedoFrom};
+ghost use Rattle.bp_core.specs.Counts.{AreCounts};
+ghost use Rattle.bp_core.specs.Unsaved.{FindsUnsaved};
+ghost use Rattle.bp_shared.specs.Telling.{AtAMoment};
+
+use super::SharedPool;
+use crate::names::PoolName;
+use crate::session::Session;
+use bp_core::Stats;
+use bp_keeper::ListKeeper;
+use bp_page::{Lsn, PageNo};
+use std::sync::Wait;
+
+impl<N: PoolName, K: ListKeeper> SharedPool<N, K> {
+    /// The first page from this number on that is unsaved, if there is one. It costs O(log pages) at most. Other clients
+    /// may write the page, or another, before the call returns.
+    pub fn next_unsaved<R: Wait>(
+        &self,
+        rt: &R,
+        session: &mut Session<N, K>,
+        from: u64,
+    ) -> Option<PageNo>
+        ensures session { session.new ≡ session.old }
+        ensures found { AtAMoment N.parameters N.past session.old.client session.old.said
+            (λ past. FindsUnsaved N.parameters.pages from past result) }
+        ensures few { IfSome result (λ page. page + 1 < 2 ^ 64) }
+    {
+        let mut state = self.enter(rt);
+        state.next_unsaved(session, from)
+    }
+
+    /// From where redo has to begin: the least LSN of the writes that are not saved. None where each page is saved. It
+    /// costs O(log frames) at most.
+    ///
+    /// A page is saved once it was written out, which a sync makes durable: so ask first, sync then, and note the LSN
+    /// last. A record that is in the log but not yet in its page is not seen: where another thread may be between the
+    /// two, take the log's end before the call, and note the lesser.
+    pub fn redo_from<R: Wait>(&self, rt: &R, session: &mut Session<N, K>) -> Option<Lsn>
+        ensures session { session.new ≡ session.old }
+        ensures least { AtAMoment N.parameters N.past session.old.client session.old.said
+            (λ past. IsRedoFrom past result) }
+    {
+        let mut state = self.enter(rt);
+        state.redo_from(session)
+    }
+
+    /// What the pool counts. It costs the same however many pages there are.
+    pub fn stats<R: Wait>(&self, rt: &R, session: &mut Session<N, K>) -> Stats
+        ensures session { session.new ≡ session.old }
+        ensures counts { AtAMoment N.parameters N.past session.old.client session.old.said
+            (λ past. AreCounts past result) }
+    {
+        let mut state = self.enter(rt);
+        state.stats(session)
+    }
+}
