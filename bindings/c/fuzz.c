@@ -1,7 +1,8 @@
 /* Random calls of the library, each held against a simple model of the pool, model.h: its number, what it writes, and
  * what it leaves. One call in four has input that is not of the core: another client, page, length or offset, a pass
  * or ticket that was made up or is back, a null pointer, a handle with no core. Each struct and buffer that is passed
- * ends where no memory is. What hz_page lent is held against the model's page after every call, until its pass is back.
+ * ends where no memory is. What hz_page lent is held against the model's page after every call, until its pass is back;
+ * and after every sixteenth, which pages are unsaved and what is counted.
  *
  *     fuzz CALLS [SEED]     prints how often each number came; status 0 where the model was right each time
  *
@@ -61,10 +62,11 @@ static hz_core *live, *none; /* the handle of the core, and one of no core */
 static hz_config *config;
 static hz_fixed *out;
 static hz_grant *held, *pass;
-static hz_totals *totals;
+static hz_unsaved *unsaved;
+static hz_stats *stats;
 static uint64_t *count;
 static const uint8_t **bytes_at;
-static uint8_t *dirty;
+static uint8_t *flag;
 
 static uint64_t came[NUMBERS], kinds[HZ_ABSENT + 1], calls; /* how often each number and kind came */
 static hz_grant stale;                                      /* the newest grant that went back */
@@ -90,10 +92,11 @@ static void prepare(void)
     out = before_the_end(sizeof *out);
     held = before_the_end(sizeof *held);
     pass = before_the_end(sizeof *pass);
-    totals = before_the_end(sizeof *totals);
+    unsaved = before_the_end(sizeof *unsaved);
+    stats = before_the_end(sizeof *stats);
     count = before_the_end(sizeof *count);
     bytes_at = before_the_end(sizeof *bytes_at);
-    dirty = before_the_end(1);
+    flag = before_the_end(1);
 }
 
 /* Which handle a call takes, and which of its pointers is null. */
@@ -232,10 +235,11 @@ static void model_read_end(const hz_grant *ticket, const uint8_t *image)
     page->is_reading = false;
     page->is_here = true;
     page->lsn = 0;
+    page->first_out = page->first = UINT64_MAX;
     page->pins = 1;
     refer(page, false);
     m.entries++;
-    m.totals.faults++;
+    m.counted.faults++;
     stale = *ticket;
     take_back(&m.reads, ticket);
 }
@@ -272,7 +276,7 @@ static void try_read_failed(void)
         wanted = is_wrong_page ? HZ_WRONG_PAGE : HZ_READ_FAILED;
         m.pages[ticket.page].is_reading = false;
         m.entries++;
-        m.totals.failed++;
+        m.counted.failed++;
         stale = ticket;
         take_back(&m.reads, &ticket);
     }
@@ -286,8 +290,11 @@ static uint8_t model_write_end(const hz_grant *ticket, bool is_good)
     page->is_writing = false;
     if (is_good)
         page->is_dirty = page->is_written_since;
+    else
+        page->first = least(page->first_out, page->first);
+    page->first_out = UINT64_MAX;
     m.entries++;
-    ++*(is_good ? &m.totals.writes : &m.totals.failed);
+    ++*(is_good ? &m.counted.writes : &m.counted.failed);
     stale = *ticket;
     take_back(&m.writes, ticket);
     return is_good ? page->is_dirty : ODD;
@@ -298,8 +305,8 @@ static void try_write_end(void)
     how h = picked(3);
     hz_grant ticket = *held = a_grant(&m.writes);
     bool is_good = !one_in(4);
-    *dirty = ODD;
-    uint16_t number = noted(hz_write_end(h.core, UNLESS(1, held), is_good, UNLESS(2, dirty)));
+    *flag = ODD;
+    uint16_t number = noted(hz_write_end(h.core, UNLESS(1, held), is_good, UNLESS(2, flag)));
     uint16_t wanted = early(h, false);
     uint8_t wanted_dirty = ODD;
     if (!wanted)
@@ -307,7 +314,7 @@ static void try_write_end(void)
     if (wanted == 0 || wanted == HZ_WRITE_FAILED)
         wanted_dirty = model_write_end(&ticket, is_good);
     SAME(wanted, number);
-    SAME(wanted_dirty, *dirty);
+    SAME(wanted_dirty, *flag);
 }
 
 static void try_unfix(void)
@@ -410,6 +417,7 @@ static void try_write(void)
     memcpy(page->image + offset, bytes, len);
     page->is_dirty = page->is_written_since = true;
     page->lsn = lsn > page->lsn ? lsn : page->lsn;
+    page->first = least(page->first, lsn);
     m.entries++;
     if (len > 0)
         note_write(&grant);
@@ -472,13 +480,92 @@ static void try_purge(void)
     m.entries += !wanted;
 }
 
-static void try_totals(void)
+static void try_page_lsn(void)
+{
+    how h = picked(3);
+    hz_grant grant = *held = a_grant(&m.passes);
+    *count = ODD;
+    uint16_t number = noted(hz_page_lsn(h.core, UNLESS(1, held), UNLESS(2, count))), wanted = early(h, false);
+    if (!wanted)
+        wanted = is_out(&m.passes, &grant) ? 0 : HZ_UNKNOWN_PASS;
+    SAME(wanted, number);
+    SAME(wanted ? ODD : m.pages[grant.page].lsn, *count);
+}
+
+static void same_unsaved(const hz_unsaved *wanted)
+{
+    SAME(wanted->page, unsaved->page);
+    SAME(wanted->lsn, unsaved->lsn);
+    SAME(wanted->first_lsn, unsaved->first_lsn);
+    SAME(wanted->has_page, unsaved->has_page);
+}
+
+static void try_next_unsaved(void)
 {
     how h = picked(2);
-    memset(totals, ODD, sizeof *totals);
-    uint16_t number = noted(hz_totals_of(h.core, UNLESS(1, totals))), wanted = early(h, false);
+    uint64_t from = a_page();
+    memset(unsaved, ODD, sizeof *unsaved);
+    uint16_t number = noted(hz_next_unsaved(h.core, from, UNLESS(1, unsaved))), wanted = early(h, false);
     SAME(wanted, number);
-    SAME(true, wanted ? is_odd(totals, sizeof *totals) : !memcmp(totals, &m.totals, sizeof *totals));
+    hz_unsaved next = model_next_unsaved(from);
+    if (wanted)
+        SAME(true, is_odd(unsaved, sizeof *unsaved));
+    else
+        same_unsaved(&next);
+}
+
+static void try_redo_from(void)
+{
+    how h = picked(3);
+    *count = *flag = ODD;
+    uint16_t number = noted(hz_redo_from(h.core, UNLESS(1, count), UNLESS(2, flag))), wanted = early(h, false);
+    bool has_lsn = model_next_unsaved(0).has_page;
+    SAME(wanted, number);
+    SAME(wanted ? ODD : has_lsn, *flag);
+    SAME(wanted ? ODD : has_lsn ? model_redo_from() : 0, *count);
+}
+
+static void try_stats(void)
+{
+    how h = picked(2);
+    memset(stats, ODD, sizeof *stats);
+    uint16_t number = noted(hz_stats_of(h.core, UNLESS(1, stats))), wanted = early(h, false);
+    hz_stats counts = model_stats();
+    SAME(wanted, number);
+    SAME(true, wanted ? is_odd(stats, sizeof *stats) : !memcmp(stats, &counts, sizeof counts));
+}
+
+static void try_is_resident(void)
+{
+    how h = picked(2);
+    uint64_t page = a_page();
+    *flag = ODD;
+    uint16_t number = noted(hz_is_resident(h.core, page, UNLESS(1, flag))), wanted = early(h, false);
+    if (!wanted && page >= m.config.pages)
+        wanted = HZ_OUT_OF_PAGE;
+    SAME(wanted, number);
+    SAME(wanted ? ODD : m.pages[page].is_here, *flag);
+}
+
+/* All that the core tells of its pages without a pass. */
+static void look_at_all_that_is_told(void)
+{
+    hz_stats counts = model_stats();
+    SAME(HZ_DONE, hz_stats_of(live, stats));
+    SAME(0, memcmp(stats, &counts, sizeof counts));
+    hz_unsaved next = model_next_unsaved(0);
+    SAME(HZ_DONE, hz_redo_from(live, count, flag));
+    SAME(next.has_page, *flag);
+    SAME(next.has_page ? model_redo_from() : 0, *count);
+    SAME(HZ_DONE, hz_next_unsaved(live, 0, unsaved));
+    for (same_unsaved(&next); next.has_page; same_unsaved(&next)) {
+        SAME(HZ_DONE, hz_next_unsaved(live, next.page + 1, unsaved));
+        next = model_next_unsaved(next.page + 1);
+    }
+    for (uint64_t page = 0; page < m.config.pages; page++) {
+        SAME(HZ_DONE, hz_is_resident(live, page, flag));
+        SAME(m.pages[page].is_here, *flag);
+    }
 }
 
 /* The text of a number: as much as there is room for, and no more. */
@@ -568,6 +655,15 @@ static bool is_worth(const grants *list)
     return list->count > 0 || one_in(8);
 }
 
+typedef void trial(void);
+
+/* One of the calls that only tell. */
+static trial *a_teller(void)
+{
+    static trial *const tellers[] = {try_page_lsn, try_next_unsaved, try_redo_from, try_stats, try_is_resident};
+    return tellers[below(sizeof tellers / sizeof *tellers)];
+}
+
 static void call(void)
 {
     uint64_t which = below(100);
@@ -594,22 +690,24 @@ static void call(void)
     else if (which >= 75 && which < 77)
         try_purge();
     else if (which >= 77 && which < 80)
-        (which < 78 ? try_totals : which < 79 ? try_text : try_new)();
+        (which < 78 ? a_teller() : which < 79 ? try_text : try_new)();
     else if (m.passes.count < OUT - 1)
         try_fix(false);
     else
         try_unfix();
 }
 
-/* A call, and then a look at all that is lent. */
+/* A call, and then a look at all that is lent, and now and then at what is told. */
 static void step(void)
 {
-    hz_totals before = m.totals;
+    hz_stats before = m.counted;
     call();
+    if (calls % 16 == 0)
+        look_at_all_that_is_told();
     if (look_at_what_is_lent() > 0) {
-        meanwhile[LOAD] += m.totals.faults - before.faults;
-        meanwhile[EVICTION] += m.totals.evictions - before.evictions;
-        meanwhile[WRITE_OUT] += m.totals.writes - before.writes;
+        meanwhile[LOAD] += m.counted.faults - before.faults;
+        meanwhile[EVICTION] += m.counted.evictions - before.evictions;
+        meanwhile[WRITE_OUT] += m.counted.writes - before.writes;
     }
 }
 

@@ -15,7 +15,8 @@ typedef struct burst {
 typedef struct model_page {
     bool is_here, is_reading, is_writing, is_dirty, is_written_since;
     unsigned pins, bursts;
-    uint64_t lsn;
+    uint64_t lsn;                /* the page LSN */
+    uint64_t first_out, first;   /* the least LSN of the writes in the image on its way out, and of those in no image */
     burst newest[MOST_K]; /* the newest bursts, the newest one first */
     uint8_t image[SIZE];
 } model_page;
@@ -32,7 +33,7 @@ static struct {
     model_page pages[PAGES];
     grants passes, reads, writes; /* `reads.ever` counts the tickets of both kinds */
     uint64_t clock, durable, entries;
-    hz_totals totals;
+    hz_stats counted; /* without the pages of each kind */
 } m;
 
 static bool is_same(const hz_grant *a, const hz_grant *b)
@@ -140,6 +141,7 @@ typedef struct answer {
 
 static answer refused(uint16_t number, uint8_t client, uint64_t page, uint64_t lsn)
 {
+    m.counted.refused += number == HZ_NO_VICTIM || number == HZ_NEED_LOG || number == HZ_BUSY;
     return (answer){.number = number, .out = {.grant = {.page = page, .client = client}, .lsn = lsn}};
 }
 
@@ -151,6 +153,8 @@ static answer model_write_out(uint8_t client, uint64_t asked, uint64_t number)
         return refused(HZ_NEED_LOG, client, asked, page->lsn);
     page->is_writing = true;
     page->is_written_since = false;
+    page->first_out = page->first;
+    page->first = UINT64_MAX;
     hz_grant ticket = give(&m.writes, &m.reads, client, number);
     return (answer){.out = {.grant = ticket, .lsn = page->lsn, .kind = HZ_WRITE_FIRST}, .image = page->image};
 }
@@ -161,7 +165,7 @@ static answer model_load(uint8_t client, uint64_t number, unsigned gone)
     m.entries++;
     if (gone < PAGES) {
         m.pages[gone].is_here = false;
-        m.totals.evictions++;
+        m.counted.evictions++;
         a.out.evicted = gone;
         a.out.has_evicted = 1;
     }
@@ -192,7 +196,7 @@ static answer model_fix(uint8_t client, uint64_t number, size_t len)
     }
     if (page->is_here) {
         m.entries++;
-        m.totals.hits++;
+        m.counted.hits++;
         refer(page, true);
         page->pins++;
         return (answer){.out = {.grant = give(&m.passes, &m.passes, client, number), .kind = HZ_HIT}};
@@ -226,4 +230,44 @@ static answer model_flush(uint8_t client, uint64_t number, size_t len)
 static bool is_old(const model_page *page)
 {
     return page->bursts && !page->is_here && !page->is_reading && m.config.retained < m.clock - last_of(page);
+}
+
+static uint64_t least(uint64_t one, uint64_t other)
+{
+    return one < other ? one : other;
+}
+
+/* The first page from this number on that is unsaved. */
+static hz_unsaved model_next_unsaved(uint64_t from)
+{
+    for (uint64_t i = from; i < PAGES; i++) {
+        const model_page *page = &m.pages[i];
+        if (page->is_dirty)
+            return (hz_unsaved){.page = i, .lsn = page->lsn, .first_lsn = least(page->first_out, page->first),
+                                .has_page = 1};
+    }
+    return (hz_unsaved){.has_page = 0};
+}
+
+/* The least LSN of all that is not saved; UINT64_MAX also where all is saved. */
+static uint64_t model_redo_from(void)
+{
+    uint64_t from = UINT64_MAX;
+    for (hz_unsaved next = model_next_unsaved(0); next.has_page; next = model_next_unsaved(next.page + 1))
+        from = least(from, next.first_lsn);
+    return from;
+}
+
+static hz_stats model_stats(void)
+{
+    hz_stats stats = m.counted;
+    for (unsigned i = 0; i < PAGES; i++) {
+        const model_page *page = &m.pages[i];
+        stats.resident += page->is_here;
+        stats.pinned += page->pins > 0;
+        stats.unsaved += page->is_dirty;
+        stats.loading += page->is_reading;
+        stats.writing += page->is_writing;
+    }
+    return stats;
 }

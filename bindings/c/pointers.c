@@ -22,7 +22,11 @@ PROVED(hz_tick);
 PROVED(hz_mark);
 PROVED(hz_flush);
 PROVED(hz_purge);
-PROVED(hz_totals_of);
+PROVED(hz_page_lsn);
+PROVED(hz_next_unsaved);
+PROVED(hz_redo_from);
+PROVED(hz_stats_of);
+PROVED(hz_is_resident);
 PROVED(hz_text);
 PROVED(hz_version);
 
@@ -149,14 +153,41 @@ uint16_t hz_purge(hz_core *core, uint8_t client, uint64_t *count)
     return number;
 }
 
-uint16_t hz_totals_of(hz_core *core, hz_totals *out)
+uint16_t hz_page_lsn(hz_core *core, const hz_grant *pass, uint64_t *lsn)
 {
-    if (!core || !out)
+    if (!core || !pass || !lsn)
         return HZ_NULL;
-    hz_totals counted = *out;
-    uint16_t number = proved_hz_totals_of(core, &counted);
-    *out = counted;
+    uint64_t told = *lsn;
+    uint16_t number = proved_hz_page_lsn(core, pass, &told);
+    *lsn = told;
     return number;
+}
+
+uint16_t hz_next_unsaved(hz_core *core, uint64_t from, hz_unsaved *out)
+{
+    return core && out ? proved_hz_next_unsaved(core, from, out) : HZ_NULL;
+}
+
+uint16_t hz_redo_from(hz_core *core, uint64_t *lsn, uint8_t *has_lsn)
+{
+    if (!core || !lsn || !has_lsn)
+        return HZ_NULL;
+    uint64_t least = *lsn;
+    uint8_t has_least = *has_lsn;
+    uint16_t number = proved_hz_redo_from(core, &least, &has_least);
+    *lsn = least;
+    *has_lsn = has_least;
+    return number;
+}
+
+uint16_t hz_stats_of(hz_core *core, hz_stats *out)
+{
+    return core && out ? proved_hz_stats_of(core, out) : HZ_NULL;
+}
+
+uint16_t hz_is_resident(hz_core *core, uint64_t page, uint8_t *is_resident)
+{
+    return core && is_resident ? proved_hz_is_resident(core, page, is_resident) : HZ_NULL;
 }
 
 size_t hz_text(uint16_t number, uint8_t *into, size_t len)

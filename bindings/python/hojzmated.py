@@ -20,7 +20,7 @@ What this module's own code does is tested, not proved. Below it is the library 
     ...     pool.stats()
     False None
     False 7
-    Stats(hits=0, faults=2, evictions=1, writes=0, failed=0)
+    Stats(hits=0, faults=2, evictions=1, writes=0, failed=0, refused=0, resident=1, pinned=0)
 
 The pool moves no bytes here: each page is taken for read as soon as it is asked for, and none is written to. An engine
 calls the library itself.
@@ -67,9 +67,9 @@ class _Fixed(ctypes.Structure):
                 ("has_evicted", ctypes.c_uint8)]
 
 
-class _Totals(ctypes.Structure):
-    _fields_ = [("hits", ctypes.c_uint64), ("faults", ctypes.c_uint64), ("evictions", ctypes.c_uint64),
-                ("writes", ctypes.c_uint64), ("failed", ctypes.c_uint64)]
+class _Stats(ctypes.Structure):
+    _fields_ = [*((name, ctypes.c_uint64) for name in ("hits", "faults", "evictions", "writes", "failed", "refused")),
+                *((name, ctypes.c_size_t) for name in ("resident", "pinned", "unsaved", "loading", "writing"))]
 
 
 _CORE, _GRANT, _BYTES = ctypes.POINTER(_Core), ctypes.POINTER(_Grant), ctypes.POINTER(ctypes.c_uint8)
@@ -83,7 +83,8 @@ _FUNCTIONS = {
     "hz_unfix": (_NUMBER, _CORE, _GRANT),
     "hz_tick": (_NUMBER, _CORE, _U8, _U64),
     "hz_purge": (_NUMBER, _CORE, _U8, ctypes.POINTER(_U64)),
-    "hz_totals_of": (_NUMBER, _CORE, ctypes.POINTER(_Totals)),
+    "hz_stats_of": (_NUMBER, _CORE, ctypes.POINTER(_Stats)),
+    "hz_is_resident": (_NUMBER, _CORE, _U64, ctypes.POINTER(_U8)),
     "hz_text": (_SIZE, _NUMBER, _BYTES, _SIZE),
     "hz_version": (ctypes.c_uint32,),
 }
@@ -153,8 +154,8 @@ def _number(name, value, end=1 << 64):
 
 # ---- A pool
 
-Stats = collections.namedtuple("Stats", "hits faults evictions writes failed")
-Stats.__doc__ = """What was counted since the pool was made."""
+Stats = collections.namedtuple("Stats", "hits faults evictions writes failed refused resident pinned")
+Stats.__doc__ = """What was counted since the pool was made, and how many pages are in frames and pinned now."""
 Stats.hit_ratio = property(lambda it: _ratio(it.hits, it.hits + it.faults), doc="Hits over hits and faults.")
 
 
@@ -250,12 +251,19 @@ class Pool:
             _check(_hz.hz_purge(self._core, client, forgotten))
         return forgotten.value
 
-    def stats(self):
-        """What was counted since the pool was made."""
-        totals = _Totals()
+    def is_resident(self, page):
+        """Whether a page is in a frame. Refused: 45 for a page that is not one."""
+        page, is_resident = _number("page", page), ctypes.c_uint8()
         with self._lock:
-            _check(_hz.hz_totals_of(self._core, totals))
-        return Stats(*(getattr(totals, name) for name in Stats._fields))
+            _check(_hz.hz_is_resident(self._core, page, is_resident))
+        return bool(is_resident.value)
+
+    def stats(self):
+        """What was counted since the pool was made, and how many pages are in frames and pinned."""
+        stats = _Stats()
+        with self._lock:
+            _check(_hz.hz_stats_of(self._core, stats))
+        return Stats(*(getattr(stats, name) for name in Stats._fields))
 
     def close(self):
         """Frees the pool. Each call after that is refused with 50; closing it again does nothing."""

@@ -178,7 +178,7 @@ class Pools(unittest.TestCase):
             pool.tick()
             first.unfix()
             self.assertEqual(repr(pool.fix(5)), "<page 5, fault, evicted 1>")
-            self.assertEqual(pool.stats(), (0, 5, 2, 0, 0))
+            self.assertEqual(pool.stats(), (0, 5, 2, 0, 0, 0, 3, 1))
 
     # At time 7 page 1 has one reference, and page 2 has two, so that page 1 leaves, though page 2 is older.
     def test_page_that_came_twice_stays(self):
@@ -203,6 +203,7 @@ class Pools(unittest.TestCase):
             pool.fix(0).unfix()
             pool.tick()
             self.refused(11, pool.fix, 1)
+            self.assertEqual((pool.stats().refused, pool.is_resident(0), pool.is_resident(1)), (2, True, False))
             pool.tick()
             self.assertEqual(pool.fix(1).evicted, 0)
 
@@ -213,6 +214,7 @@ class Pools(unittest.TestCase):
         self.refused(2, hojzmated.Pool, 1, 1, clients=65)
         with hojzmated.Pool(pages=8, frames=2, clients=2) as pool, hojzmated.Pool(pages=8, frames=2) as other:
             self.refused(45, pool.fix, 8)
+            self.refused(45, pool.is_resident, 8)
             self.refused(41, pool.fix, 7, client=2)
             self.refused(41, pool.tick, client=2)
             self.refused(41, pool.purge, client=2)
@@ -222,20 +224,21 @@ class Pools(unittest.TestCase):
             self.refused(14, page.unfix)
             pool.tick((1 << 62) - 1)
             self.refused(21, pool.tick)
-            self.assertEqual(pool.stats(), (0, 1, 0, 0, 0))
+            self.assertEqual(pool.stats(), (0, 1, 0, 0, 0, 0, 1, 0))
 
     # ctypes would take the last byte of 256, and the last eight of 2^64.
     def test_numbers_that_do_not_fit(self):
         with hojzmated.Pool(pages=8, frames=2) as pool:
-            for call, named in [(pool.fix, {"page": 1 << 64}), (pool.fix, {"page": -1}), (pool.tick, {"n": 1 << 64}),
-                                (pool.fix, {"page": 1, "client": 256}), (pool.tick, {"client": 256}),
+            for call, named in [(pool.fix, {"page": 1 << 64}), (pool.is_resident, {"page": -1}),
+                                (pool.tick, {"n": 1 << 64}), (pool.fix, {"page": 1, "client": 256}),
+                                (pool.tick, {"client": 256}),
                                 (hojzmated.Pool, {"pages": 1, "frames": 1, "k": 257}),
                                 (hojzmated.Pool, {"pages": 1, "frames": (1 << 64) + 1})]:
                 with self.assertRaises(ValueError):
                     call(**named)
             with self.assertRaises(TypeError):
                 pool.fix(1.0)
-            self.assertEqual(pool.stats(), (0, 0, 0, 0, 0))
+            self.assertEqual(pool.stats(), (0,) * 8)
 
     # Page 0 was last referenced at time 1, and is forgotten one tick past the retained period.
     def test_purge(self):
@@ -253,7 +256,8 @@ class Pools(unittest.TestCase):
         page = pool.fix(1)
         pool.close()
         pool.close()
-        for call in (page.unfix, pool.tick, pool.purge, pool.stats, lambda: pool.fix(1)):
+        for call in (page.unfix, pool.tick, pool.purge, pool.stats, lambda: pool.is_resident(1),
+                     lambda: pool.fix(1)):
             self.refused(50, call)
 
     def test_threads_share_a_pool(self):
@@ -286,14 +290,14 @@ class Library(unittest.TestCase):
         with mock.patch.object(hojzmated._hz, "hz_version", return_value=20_304):
             self.assertEqual(hojzmated.version(), (2, 3, 4))
 
-    # Each struct and field lies where peers/c/layout.c says that the header has it.
+    # Each struct and field lies where peers/c/layout.c says that the header has it. No page is unsaved here.
     def test_layout(self):
         text = text_of("peers", "c", "layout.c")
         types = {"hz_core": hojzmated._Core, "hz_config": hojzmated._Config, "hz_grant": hojzmated._Grant,
-                 "hz_fixed": hojzmated._Fixed, "hz_totals": hojzmated._Totals}
-        sizes = dict(re.findall(r"^HOLDS\(sizeof\((hz_\w+)\) == (\d+)\);", text, re.MULTILINE))
+                 "hz_fixed": hojzmated._Fixed, "hz_stats": hojzmated._Stats}
+        sizes = dict(re.findall(r"^HOLDS\(sizeof\((hz_(?!unsaved)\w+)\) == (\d+)\);", text, re.MULTILINE))
         self.assertEqual({name: str(ctypes.sizeof(it)) for name, it in types.items()}, sizes)
-        wanted = re.findall(r"^LIES\((hz_\w+), (\w+), (\d+), (\d+)\);", text, re.MULTILINE)
+        wanted = re.findall(r"^LIES\((hz_(?!unsaved)\w+), (\w+), (\d+), (\d+)\);", text, re.MULTILINE)
         found = [
             (name, field, str(getattr(it, field).offset), str(getattr(it, field).size))
             for name, it in types.items() for field, _ in it._fields_

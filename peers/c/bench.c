@@ -170,11 +170,11 @@ static void start(void)
 
 static void counts(double *hits, double *misses)
 {
-    hz_totals totals;
-    if (hz_totals_of(&core, &totals))
-        fail("totals");
-    *hits = (double)totals.hits;
-    *misses = (double)totals.faults;
+    hz_stats stats;
+    if (hz_stats_of(&core, &stats))
+        fail("stats");
+    *hits = (double)stats.hits;
+    *misses = (double)stats.faults;
 }
 #endif
 

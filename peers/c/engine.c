@@ -170,7 +170,7 @@ static void start(void)
 }
 
 /* Writes the pages of a part out, frees its core, and returns the sum of the counters in the file. */
-static uint64_t end(struct part *part, hz_totals *totals)
+static uint64_t end(struct part *part, hz_stats *stats)
 {
     uint64_t sum = 0, image[WORDS] = {0};
     pthread_mutex_lock(&part->lock);
@@ -179,7 +179,7 @@ static uint64_t end(struct part *part, hz_totals *totals)
         want(true, device(part, false, page, image), "the device");
         sum += image[1];
     }
-    want(0, hz_totals_of(&part->core, totals), "totals");
+    want(0, hz_stats_of(&part->core, stats), "stats");
     want(0, hz_core_free(&part->core), "core_free");
     pthread_mutex_unlock(&part->lock);
     return sum;
@@ -195,11 +195,11 @@ int main(void)
     for (int i = 0; i < THREADS; i++)
         want(0, (uint64_t)pthread_join(threads[i], NULL), "the end of a thread");
     for (int i = 0; i < PARTS; i++) {
-        hz_totals totals;
-        counts += end(&parts[i], &totals);
-        fixes += totals.hits + totals.faults;
-        printf("part %d: hits %lu, faults %lu, evictions %lu, writes %lu\n", i, totals.hits, totals.faults,
-               totals.evictions, totals.writes);
+        hz_stats stats;
+        counts += end(&parts[i], &stats);
+        fixes += stats.hits + stats.faults;
+        printf("part %d: hits %lu, faults %lu, evictions %lu, writes %lu\n", i, stats.hits, stats.faults,
+               stats.evictions, stats.writes);
     }
     want(THREADS * ROUNDS, counts, "the counts");
     want(THREADS * ROUNDS, fixes, "hits and faults");

@@ -181,7 +181,7 @@ static void slots_that_are_not_there(void)
 /* A device that fails: nothing is lost, and what failed can be asked for again. */
 static void failures(void)
 {
-    hz_totals totals;
+    hz_stats stats;
     start(2, PAGES);
     put(1, "unsaved so far.", 0);
     error = ENOSPC;
@@ -200,9 +200,9 @@ static void failures(void)
     error = 0;
     holds(2, "\0\0\0\0\0\0\0\0\0\0\0\0\0\0\0");
     holds(1, "unsaved so far.");
-    SAME(0, hz_totals_of(&core, &totals));
-    SAME(3, totals.failed);
-    SAME(1, totals.writes);
+    SAME(0, hz_stats_of(&core, &stats));
+    SAME(3, stats.failed);
+    SAME(1, stats.writes);
     stop();
 }
 

@@ -39,9 +39,21 @@ LIES(hz_fixed, evicted, 32, 8);
 LIES(hz_fixed, kind, 40, 1);
 LIES(hz_fixed, has_evicted, 41, 1);
 
-HOLDS(sizeof(hz_totals) == 40);
-LIES(hz_totals, hits, 0, 8);
-LIES(hz_totals, faults, 8, 8);
-LIES(hz_totals, evictions, 16, 8);
-LIES(hz_totals, writes, 24, 8);
-LIES(hz_totals, failed, 32, 8);
+HOLDS(sizeof(hz_unsaved) == 32);
+LIES(hz_unsaved, page, 0, 8);
+LIES(hz_unsaved, lsn, 8, 8);
+LIES(hz_unsaved, first_lsn, 16, 8);
+LIES(hz_unsaved, has_page, 24, 1);
+
+HOLDS(sizeof(hz_stats) == 88);
+LIES(hz_stats, hits, 0, 8);
+LIES(hz_stats, faults, 8, 8);
+LIES(hz_stats, evictions, 16, 8);
+LIES(hz_stats, writes, 24, 8);
+LIES(hz_stats, failed, 32, 8);
+LIES(hz_stats, refused, 40, 8);
+LIES(hz_stats, resident, 48, 8);
+LIES(hz_stats, pinned, 56, 8);
+LIES(hz_stats, unsaved, 64, 8);
+LIES(hz_stats, loading, 72, 8);
+LIES(hz_stats, writing, 80, 8);

@@ -114,14 +114,16 @@ static hz_config usual(size_t room)
 static void no_core(void)
 {
     hz_grant grant = {.page = 1}, pass;
-    hz_totals totals;
+    hz_unsaved page;
+    hz_stats stats;
     uint8_t image[SIZE], dirty = ODD;
     const uint8_t *bytes = image;
     uint64_t count = ODD;
     memset(image, ODD, sizeof image);
     memset(&out, ODD, sizeof out);
     memset(&pass, ODD, sizeof pass);
-    memset(&totals, ODD, sizeof totals);
+    memset(&page, ODD, sizeof page);
+    memset(&stats, ODD, sizeof stats);
     CALL(HZ_NO_CORE, hz_fix(&core, 0, 0, image, SIZE, &out));
     CALL(HZ_NO_CORE, hz_flush(&core, 0, 0, image, SIZE, &out));
     CALL(HZ_NO_CORE, hz_read_end(&core, &grant, image, SIZE, &pass));
@@ -134,10 +136,15 @@ static void no_core(void)
     CALL(HZ_NO_CORE, hz_tick(&core, 0, 1));
     CALL(HZ_NO_CORE, hz_mark(&core, 0, 1));
     CALL(HZ_NO_CORE, hz_purge(&core, 0, &count));
-    CALL(HZ_NO_CORE, hz_totals_of(&core, &totals));
+    CALL(HZ_NO_CORE, hz_page_lsn(&core, &grant, &count));
+    CALL(HZ_NO_CORE, hz_next_unsaved(&core, 0, &page));
+    CALL(HZ_NO_CORE, hz_redo_from(&core, &count, &dirty));
+    CALL(HZ_NO_CORE, hz_stats_of(&core, &stats));
+    CALL(HZ_NO_CORE, hz_is_resident(&core, 0, &dirty));
     CALL(HZ_NO_CORE, hz_core_free(&core));
     SAME(true, is_filled(image, sizeof image, ODD) && is_filled(&out, sizeof out, ODD));
-    SAME(true, is_filled(&pass, sizeof pass, ODD) && is_filled(&totals, sizeof totals, ODD));
+    SAME(true, is_filled(&pass, sizeof pass, ODD) && is_filled(&stats, sizeof stats, ODD));
+    SAME(true, is_filled(&page, sizeof page, ODD));
     SAME(ODD, dirty);
     SAME(ODD, count);
     SAME(true, bytes == image);
@@ -149,14 +156,16 @@ static void nulls(void)
 {
     const hz_config config = usual(1);
     hz_grant grant = {.page = 1}, pass;
-    hz_totals totals;
+    hz_unsaved page;
+    hz_stats stats;
     uint8_t image[SIZE], dirty = ODD;
     const uint8_t *bytes = image;
     uint64_t count = ODD;
     memset(image, ODD, sizeof image);
     memset(&out, ODD, sizeof out);
     memset(&pass, ODD, sizeof pass);
-    memset(&totals, ODD, sizeof totals);
+    memset(&page, ODD, sizeof page);
+    memset(&stats, ODD, sizeof stats);
     CALL(HZ_NULL, hz_core_new(NULL, &core));
     CALL(HZ_NULL, hz_core_new(&config, NULL));
     CALL(HZ_NULL, hz_core_free(NULL));
@@ -190,10 +199,21 @@ static void nulls(void)
     CALL(HZ_NULL, hz_mark(NULL, 0, 1));
     CALL(HZ_NULL, hz_purge(NULL, 0, &count));
     CALL(HZ_NULL, hz_purge(&core, 255, NULL));
-    CALL(HZ_NULL, hz_totals_of(NULL, &totals));
-    CALL(HZ_NULL, hz_totals_of(&core, NULL));
+    CALL(HZ_NULL, hz_page_lsn(NULL, &grant, &count));
+    CALL(HZ_NULL, hz_page_lsn(&core, NULL, &count));
+    CALL(HZ_NULL, hz_page_lsn(&core, &grant, NULL));
+    CALL(HZ_NULL, hz_next_unsaved(NULL, 0, &page));
+    CALL(HZ_NULL, hz_next_unsaved(&core, 0, NULL));
+    CALL(HZ_NULL, hz_redo_from(NULL, &count, &dirty));
+    CALL(HZ_NULL, hz_redo_from(&core, NULL, &dirty));
+    CALL(HZ_NULL, hz_redo_from(&core, &count, NULL));
+    CALL(HZ_NULL, hz_stats_of(NULL, &stats));
+    CALL(HZ_NULL, hz_stats_of(&core, NULL));
+    CALL(HZ_NULL, hz_is_resident(NULL, 0, &dirty));
+    CALL(HZ_NULL, hz_is_resident(&core, UINT64_MAX, NULL));
     SAME(true, is_filled(image, sizeof image, ODD) && is_filled(&out, sizeof out, ODD));
-    SAME(true, is_filled(&pass, sizeof pass, ODD) && is_filled(&totals, sizeof totals, ODD));
+    SAME(true, is_filled(&pass, sizeof pass, ODD) && is_filled(&stats, sizeof stats, ODD));
+    SAME(true, is_filled(&page, sizeof page, ODD));
     SAME(ODD, dirty);
     SAME(ODD, count);
     SAME(true, bytes == image);
@@ -292,6 +312,9 @@ static void strangers(void)
     CALL(HZ_BAD_CLIENT, hz_tick(&core, 255, 1));
     CALL(HZ_UNKNOWN_PASS, hz_read(&core, &stranger, 0, image, SIZE));
     CALL(HZ_UNKNOWN_PASS, hz_page(&core, &stranger, &bytes));
+    CALL(HZ_UNKNOWN_PASS, hz_page_lsn(&core, &stranger, &count));
+    CALL(HZ_OUT_OF_PAGE, hz_is_resident(&core, 8, &dirty));
+    CALL(HZ_OUT_OF_PAGE, hz_is_resident(&core, UINT64_MAX, &dirty));
     CALL(HZ_UNKNOWN_PASS, hz_write(&core, &stranger, 0, image, SIZE, 1));
     CALL(HZ_UNKNOWN_PASS, hz_unfix(&core, &stranger));
     CALL(HZ_UNKNOWN_TICKET, hz_read_end(&core, &stranger, image, SIZE, &pass));
@@ -316,6 +339,7 @@ static void nearly(const hz_grant *own)
     };
     uint8_t image[SIZE] = {0}, dirty;
     const uint8_t *bytes = image;
+    uint64_t lsn;
     hz_grant pass;
     for (size_t i = 0; i < sizeof others / sizeof *others; i++) {
         CALL(HZ_UNKNOWN_TICKET, hz_read_end(&core, &others[i], image, SIZE, &pass));
@@ -324,9 +348,47 @@ static void nearly(const hz_grant *own)
         CALL(HZ_UNKNOWN_PASS, hz_unfix(&core, &others[i]));
         CALL(HZ_UNKNOWN_PASS, hz_read(&core, &others[i], 0, image, SIZE));
         CALL(HZ_UNKNOWN_PASS, hz_page(&core, &others[i], &bytes));
+        CALL(HZ_UNKNOWN_PASS, hz_page_lsn(&core, &others[i], &lsn));
         CALL(HZ_UNKNOWN_PASS, hz_write(&core, &others[i], 0, image, SIZE, 1));
     }
     SAME(true, bytes == image);
+}
+
+/* The one page that is unsaved, with its page LSN and the least LSN of what is not saved; or none, which is page 8. */
+static void is_unsaved(uint64_t page, uint64_t lsn, uint64_t first_lsn)
+{
+    hz_unsaved next;
+    uint64_t least = ODD;
+    uint8_t has_page = page < 8, has_lsn = ODD;
+    memset(&next, ODD, sizeof next);
+    CALL(HZ_DONE, hz_next_unsaved(&core, 0, &next));
+    SAME(has_page, next.has_page);
+    SAME(has_page ? page : 0, next.page);
+    SAME(lsn, next.lsn);
+    SAME(first_lsn, next.first_lsn);
+    CALL(HZ_DONE, hz_redo_from(&core, &least, &has_lsn));
+    SAME(has_page, has_lsn);
+    SAME(first_lsn, least);
+    CALL(HZ_DONE, hz_next_unsaved(&core, page, &next));
+    SAME(has_page, next.has_page);
+    CALL(HZ_DONE, hz_next_unsaved(&core, page + 1, &next));
+    SAME(0, next.has_page);
+    CALL(HZ_DONE, hz_next_unsaved(&core, UINT64_MAX, &next));
+    SAME(true, !next.page && !next.lsn && !next.first_lsn && !next.has_page);
+}
+
+static bool is_resident(uint64_t page)
+{
+    uint8_t is_resident = ODD;
+    CALL(HZ_DONE, hz_is_resident(&core, page, &is_resident));
+    return is_resident;
+}
+
+static uint64_t lsn_of(const hz_grant *pass)
+{
+    uint64_t lsn = ODD;
+    CALL(HZ_DONE, hz_page_lsn(&core, pass, &lsn));
+    return lsn;
 }
 
 /* Where the page of a pass is. */
@@ -348,6 +410,7 @@ static hz_grant loads(void)
     GAVE(HZ_LOAD, 0, 3, 0, 0, 0, 0);
     hz_grant ticket = out.grant;
     nearly(&ticket);
+    SAME(false, is_resident(3));
     CALL(HZ_UNKNOWN_PASS, hz_page(&core, &ticket, &bytes));
     SAME(true, bytes == image);
     CALL(HZ_UNKNOWN_TICKET, hz_write_end(&core, &ticket, true, &dirty));
@@ -367,6 +430,9 @@ static hz_grant loads(void)
     hz_grant again = pass;
     CALL(HZ_UNKNOWN_TICKET, hz_read_end(&core, &ticket, image, SIZE, &again));
     IS_GRANT(again, 0, 3, 0);
+    SAME(true, is_resident(3));
+    SAME(0, lsn_of(&pass));
+    is_unsaved(8, 0, 0);
     return pass;
 }
 
@@ -392,6 +458,9 @@ static void parts(const hz_grant *pass)
     SAME(true, image[0] == 0x33 && !memcmp(image + 1, part, sizeof part) && is_filled(image + 5, SIZE - 5, ODD));
     CALL(HZ_DONE, hz_read(&core, &other, SIZE, NULL, 0));
     CALL(HZ_DONE, hz_write(&core, &other, SIZE, NULL, 0, 7));
+    SAME(7, lsn_of(pass));
+    SAME(7, lsn_of(&other));
+    is_unsaved(3, 7, 7);
     CALL(HZ_DONE, hz_unfix(&core, &other));
     CALL(HZ_UNKNOWN_PASS, hz_unfix(&core, &other));
     CALL(HZ_UNKNOWN_PASS, hz_read(&core, &other, 0, image, SIZE));
@@ -419,6 +488,7 @@ static void flushes(const hz_grant *pass)
     SAME(0, memcmp(image, last, SIZE));
     hz_grant ticket = out.grant, none;
     nearly(&ticket);
+    is_unsaved(3, 7, 7);
     CALL(HZ_UNKNOWN_TICKET, hz_read_end(&core, &ticket, image, SIZE, &none));
     CALL(HZ_BUSY, hz_flush(&core, 0, 3, image, SIZE, &out));
     CALL(HZ_WRITE_FAILED, hz_write_end(&core, &ticket, false, &dirty));
@@ -427,8 +497,10 @@ static void flushes(const hz_grant *pass)
     CALL(HZ_DONE, hz_flush(&core, 1, 3, image, SIZE, &out));
     GAVE(HZ_WRITE_FIRST, 1, 3, 4, 7, 0, 0);
     CALL(HZ_DONE, hz_write(&core, pass, 0, &byte, 1, 9));
+    is_unsaved(3, 9, 7);
     CALL(HZ_DONE, hz_write_end(&core, &out.grant, true, &dirty));
     SAME(1, dirty);
+    is_unsaved(3, 9, 9);
     CALL(HZ_DONE, hz_mark(&core, 1, 9));
     CALL(HZ_DONE, hz_flush(&core, 0, 3, image, SIZE, &out));
     GAVE(HZ_WRITE_FIRST, 0, 3, 5, 9, 0, 0);
@@ -436,6 +508,8 @@ static void flushes(const hz_grant *pass)
     SAME(0, memcmp(image, last, SIZE));
     CALL(HZ_DONE, hz_write_end(&core, &out.grant, true, &dirty));
     SAME(0, dirty);
+    SAME(9, lsn_of(pass));
+    is_unsaved(8, 0, 0);
     filled(image, ODD);
     CALL(HZ_DONE, hz_flush(&core, 1, 3, image, SIZE, &out));
     GAVE(HZ_CLEAN, 1, 3, 0, 0, 0, 0);
@@ -498,17 +572,24 @@ static void times(void)
     CALL(HZ_CLOCK_FULL, hz_tick(&core, 0, 1));
 }
 
-/* One fix found its page; four reads, three write-outs and two replacements went well; three operations failed. */
+/* One fix found its page; four reads, three write-outs and two replacements went well; three operations failed, and
+ * nine calls were refused. Pages 3 and 6 are here, the first of them pinned. */
 static void counts(void)
 {
-    hz_totals totals;
-    memset(&totals, ODD, sizeof totals);
-    CALL(HZ_DONE, hz_totals_of(&core, &totals));
-    SAME(1, totals.hits);
-    SAME(4, totals.faults);
-    SAME(2, totals.evictions);
-    SAME(3, totals.writes);
-    SAME(3, totals.failed);
+    hz_stats stats;
+    memset(&stats, ODD, sizeof stats);
+    CALL(HZ_DONE, hz_stats_of(&core, &stats));
+    SAME(1, stats.hits);
+    SAME(4, stats.faults);
+    SAME(2, stats.evictions);
+    SAME(3, stats.writes);
+    SAME(3, stats.failed);
+    SAME(9, stats.refused);
+    SAME(2, stats.resident);
+    SAME(1, stats.pinned);
+    SAME(0, stats.unsaved);
+    SAME(0, stats.loading);
+    SAME(0, stats.writing);
 }
 
 /* A core that may answer six calls: what passes and tickets that are out need for their ends is kept for them. Where no

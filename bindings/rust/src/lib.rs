@@ -114,7 +114,7 @@ pub use error::{Error, Refused, Result};
 pub use lent::PageBytes;
 pub use page::{PageGuard, Pass, ReadTicket, WriteTicket};
 pub use pager::{PageIo, Pager, PagerError, ReadFault};
-pub use pool::{Fixed, Flushed, Pool, Saved, Totals};
+pub use pool::{Fixed, Flushed, Pool, PoolStats, Saved, Totals, UnsavedPage};
 pub use shared::{Cleaner, PageMut, PagePin, PageRef, SharedConfig, SharedPager, Stats};
 
 /// The version of the library below, as major * 10,000 + minor * 100 + patch.

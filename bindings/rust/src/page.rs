@@ -196,6 +196,14 @@ impl PageGuard<'_> {
         self.pool.write(&self.pass, offset, bytes, lsn)
     }
 
+    /// The page LSN: the greatest LSN of the page's writes since it was read, or 0.
+    ///
+    /// # Errors
+    /// Those of [`Pool::page_lsn`].
+    pub fn lsn(&self) -> Result<u64> {
+        self.pool.page_lsn(&self.pass)
+    }
+
     /// The pass, with which the page stays pinned. [`Pool::guard`] makes a guard of it again, and
     /// [`Pool::unfix`] gives it back.
     pub fn into_pass(self) -> Pass {

@@ -1,5 +1,6 @@
 use crate::{
-    Config, Error, Fixed, Flushed, PageGuard, Pool, ReadTicket, Refused, Result, WriteTicket,
+    Config, Error, Fixed, Flushed, PageGuard, Pool, PoolStats, ReadTicket, Refused, Result,
+    UnsavedPage, WriteTicket,
 };
 use std::cell::Cell;
 use std::{error, fmt, io};
@@ -67,6 +68,13 @@ impl From<io::Error> for ReadFault {
 pub enum PagerError {
     /// The pool refused it.
     Refused(Error),
+    /// The pool refused to write a page out, where all that are unsaved should go out.
+    RefusedPage {
+        /// The page.
+        page: u64,
+        /// Why.
+        error: Error,
+    },
     /// A page could not be read.
     Read {
         /// The page.
@@ -100,7 +108,7 @@ impl PagerError {
     /// 12 for the log.
     pub fn refusal(&self) -> Error {
         match *self {
-            PagerError::Refused(error) => error,
+            PagerError::Refused(error) | PagerError::RefusedPage { error, .. } => error,
             PagerError::Read { .. } => Error::ReadFailed,
             PagerError::Write { .. } | PagerError::Sync { .. } => Error::WriteFailed,
             PagerError::Log { lsn, .. } => Error::NeedLog { lsn },
@@ -125,6 +133,7 @@ impl fmt::Display for PagerError {
     fn fmt(&self, f: &mut fmt::Formatter<'_>) -> fmt::Result {
         match self {
             PagerError::Refused(error) => error.fmt(f),
+            PagerError::RefusedPage { page, error } => write!(f, "page {page}: {error}"),
             PagerError::Read { page, .. } => write!(f, "page {page} could not be read"),
             PagerError::Write { page, .. } => write!(f, "page {page} could not be written"),
             PagerError::Log { lsn, .. } => {
@@ -138,7 +147,7 @@ impl fmt::Display for PagerError {
 impl error::Error for PagerError {
     fn source(&self) -> Option<&(dyn error::Error + 'static)> {
         match self {
-            PagerError::Refused(_) => None,
+            PagerError::Refused(_) | PagerError::RefusedPage { .. } => None,
             PagerError::Read { source, .. }
             | PagerError::Write { source, .. }
             | PagerError::Log { source, .. }
@@ -176,7 +185,7 @@ impl<F: PageIo> Pager<F> {
         })
     }
 
-    /// The pool, for what needs no device: totals, purges, ticks.
+    /// The pool, for what needs no device: purges, ticks, unsaved pages.
     pub fn pool(&self) -> &Pool {
         &self.pool
     }
@@ -201,7 +210,20 @@ impl<F: PageIo> Pager<F> {
     /// that were written out before that are saved.
     pub fn fix(&self, client: u8, page: u64) -> Result<PageGuard<'_>, PagerError> {
         self.pool.tick(client, 1)?;
-        self.with_image(|image| self.fix_by(client, page, image))
+        self.with_image(|image| self.fix_by(client, page, image, false))
+    }
+
+    /// Fixes a page that was never written: its bytes are zeros, and it is not read. Where it is in
+    /// a frame it is as it is there.
+    ///
+    /// Write something there: until then the page counts as saved, and it may leave its frame
+    /// without going out.
+    ///
+    /// # Errors
+    /// Those of [`Pager::fix`], but for [`PagerError::Read`].
+    pub fn new_page(&self, client: u8, page: u64) -> Result<PageGuard<'_>, PagerError> {
+        self.pool.tick(client, 1)?;
+        self.with_image(|image| self.fix_by(client, page, image, true))
     }
 
     /// Writes a page out where it is unsaved.
@@ -210,16 +232,58 @@ impl<F: PageIo> Pager<F> {
     /// [`PagerError::Write`] and [`PagerError::Log`] where the device or the log failed.
     /// [`PagerError::Refused`] for the other refusals of [`Pool::flush`] and [`Pool::mark`].
     pub fn flush(&self, client: u8, page: u64) -> Result<(), PagerError> {
-        self.with_image(|image| self.flush_by(client, page, image))
+        self.with_image(|image| self.flush_by(client, page, image, 0))
     }
 
-    /// Writes out each page that is unsaved, in the order of their numbers. All pages of the file
-    /// are asked for.
+    /// Writes out each page that is unsaved, in the order of the file. It makes the log durable once
+    /// for all of them, and asks for no other page.
     ///
     /// # Errors
-    /// Those of [`Pager::flush`]. Pages before the one that failed are saved.
+    /// [`PagerError::Write`] and [`PagerError::Log`] where the device or the log failed.
+    /// [`PagerError::RefusedPage`] for the other refusals of [`Pool::flush`] and [`Pool::mark`].
+    /// Pages before the one that failed are saved.
     pub fn flush_all(&self, client: u8) -> Result<(), PagerError> {
-        (0..self.pool.config().pages).try_for_each(|page| self.flush(client, page))
+        let log_to = self.pool.unsaved(0).map(|it| it.lsn).max().unwrap_or(0);
+        self.pool
+            .unsaved(0)
+            .try_for_each(|UnsavedPage { page, .. }| {
+                let flushed = self.with_image(|image| self.flush_by(client, page, image, log_to));
+                flushed.map_err(|error| match error {
+                    PagerError::Refused(error) => PagerError::RefusedPage { page, error },
+                    other => other,
+                })
+            })
+    }
+
+    /// Writes out each page that is unsaved, as [`flush_all`](Pager::flush_all) does, and then has
+    /// the device keep them, by [`PageIo::sync`].
+    ///
+    /// It gives the LSN from which redo has to begin. None where all is saved, as it is unless the
+    /// engine's own functions write to a page meanwhile. A record that has no write yet is not
+    /// known to the pager: cut the log at the less of both.
+    ///
+    /// # Errors
+    /// Those of [`flush_all`](Pager::flush_all); [`PagerError::Sync`] where the sync failed. What
+    /// was written out since the last good one may be lost then, and later checkpoints do not count
+    /// it: end the pager, and redo from the log.
+    pub fn checkpoint(&self, client: u8) -> Result<Option<u64>, PagerError> {
+        self.flush_all(client)?;
+        // Before the sync: what goes out during it may not be kept by it.
+        let redo = self.redo_from();
+        let synced = self.io.sync();
+        synced.map_err(|source| PagerError::Sync { source })?;
+        Ok(redo)
+    }
+
+    /// From where redo has to begin: the least LSN of all writes that are in no image on the device,
+    /// one of LSN 0 too. None where there is no such write.
+    pub fn redo_from(&self) -> Option<u64> {
+        self.pool.redo_from()
+    }
+
+    /// What the pool counts. A new page counts as read.
+    pub fn stats(&self) -> PoolStats {
+        self.pool.stats()
     }
 
     /// Does something with an image of the page size.
@@ -231,11 +295,17 @@ impl<F: PageIo> Pager<F> {
         done
     }
 
-    fn fix_by(&self, client: u8, page: u64, image: &mut [u8]) -> Result<PageGuard<'_>, PagerError> {
+    fn fix_by(
+        &self,
+        client: u8,
+        page: u64,
+        image: &mut [u8],
+        is_new: bool,
+    ) -> Result<PageGuard<'_>, PagerError> {
         loop {
             match self.pool.fix(client, page, image) {
                 Ok(Fixed::Hit(guard)) => return Ok(guard),
-                Ok(Fixed::Load { ticket, .. }) => return self.load(ticket, image),
+                Ok(Fixed::Load { ticket, .. }) => return self.load(ticket, image, is_new),
                 Ok(Fixed::WriteFirst(ticket)) => self.write_out(ticket, image)?,
                 Err(Error::NeedLog { lsn }) => self.make_log_durable(client, lsn)?,
                 Err(error) => return Err(error.into()),
@@ -243,21 +313,39 @@ impl<F: PageIo> Pager<F> {
         }
     }
 
-    fn flush_by(&self, client: u8, page: u64, image: &mut [u8]) -> Result<(), PagerError> {
+    /// Writes a page out. Where its log is not durable, that is made so as far as `log_to` at least.
+    fn flush_by(
+        &self,
+        client: u8,
+        page: u64,
+        image: &mut [u8],
+        log_to: u64,
+    ) -> Result<(), PagerError> {
         loop {
             match self.pool.flush(client, page, image) {
                 Ok(Flushed::Clean | Flushed::Absent) => return Ok(()),
                 Ok(Flushed::WriteFirst(ticket)) => self.write_out(ticket, image)?,
-                Err(Error::NeedLog { lsn }) => self.make_log_durable(client, lsn)?,
+                Err(Error::NeedLog { lsn }) => self.make_log_durable(client, lsn.max(log_to))?,
                 Err(error) => return Err(error.into()),
             }
         }
     }
 
-    fn load(&self, ticket: ReadTicket, image: &mut [u8]) -> Result<PageGuard<'_>, PagerError> {
+    fn load(
+        &self,
+        ticket: ReadTicket,
+        image: &mut [u8],
+        is_new: bool,
+    ) -> Result<PageGuard<'_>, PagerError> {
         let page = ticket.page();
         let mut reading = Reading::new(&self.pool, ticket);
-        match self.io.read_page(page, image) {
+        let read = if is_new {
+            image.fill(0);
+            Ok(())
+        } else {
+            self.io.read_page(page, image)
+        };
+        match read {
             Ok(()) => Ok(reading.end(image)?),
             Err(fault) => {
                 reading.fail(&fault);

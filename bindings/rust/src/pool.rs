@@ -1,11 +1,12 @@
 use crate::lent::LentPages;
 use crate::page::Grant;
-use crate::sys::{self, hz_config, hz_core, hz_fixed, hz_grant, hz_totals};
+use crate::sys::{self, hz_config, hz_core, hz_fixed, hz_grant, hz_stats, hz_unsaved};
 use crate::{
     Config, Error, PageBytes, PageGuard, Pass, ReadFault, ReadTicket, Refused, Result, WriteTicket,
 };
 use std::cell::{RefCell, UnsafeCell};
 use std::fmt;
+use std::iter;
 use std::ptr;
 use std::sync::atomic::{AtomicU64, Ordering};
 
@@ -100,7 +101,7 @@ pub enum Saved {
     StillDirty,
 }
 
-/// What was counted since the pool was made. A count that reaches 2^64 - 1 stays there.
+/// What was counted since the pool was made.
 #[derive(Clone, Copy, Debug, Default, PartialEq, Eq)]
 pub struct Totals {
     /// Fixes that found their page in a frame.
@@ -113,6 +114,38 @@ pub struct Totals {
     pub writes: u64,
     /// Reads and write-outs that failed.
     pub failed: u64,
+    /// Calls that were refused with [`NoVictim`](Error::NoVictim), [`NeedLog`](Error::NeedLog) or
+    /// [`Busy`](Error::Busy).
+    pub refused: u64,
+}
+
+/// What a [`Pool`] counts: what was counted since it was made, and how many pages there are of each
+/// kind now.
+#[derive(Clone, Copy, Debug, Default, PartialEq, Eq)]
+pub struct PoolStats {
+    /// What was counted.
+    pub totals: Totals,
+    /// Pages that are in frames.
+    pub resident: usize,
+    /// Of these, pages of which a pass is out.
+    pub pinned: usize,
+    /// Of these, pages with a write that is in no image on the device.
+    pub unsaved: usize,
+    /// Pages that are being read.
+    pub loading: usize,
+    /// Pages that are being written out.
+    pub writing: usize,
+}
+
+/// A page with writes that are in no image on the device.
+#[derive(Clone, Copy, Debug, PartialEq, Eq)]
+pub struct UnsavedPage {
+    /// Its number.
+    pub page: u64,
+    /// Its page LSN: the greatest LSN of its writes since it was read.
+    pub lsn: u64,
+    /// The least LSN of those writes.
+    pub first_lsn: u64,
 }
 
 impl Totals {
@@ -124,6 +157,7 @@ impl Totals {
             (&mut self.evictions, others.evictions),
             (&mut self.writes, others.writes),
             (&mut self.failed, others.failed),
+            (&mut self.refused, others.refused),
         ];
         for (sum, count) in of_others {
             *sum = sum.saturating_add(count);
@@ -526,19 +560,88 @@ impl Pool {
         Ok(count)
     }
 
-    /// Tells what was counted.
-    pub fn totals(&self) -> Totals {
-        let mut out = hz_totals::default();
+    /// The page LSN of a pass's page: the greatest LSN of its writes since it was read, or 0.
+    ///
+    /// # Errors
+    /// [`UnknownPass`](Error::UnknownPass) for a pass of another pool.
+    pub fn page_lsn(&self, pass: &Pass) -> Result<u64> {
+        let (grant, mut lsn) = (self.own_pass(pass)?, 0);
+        // SAFETY: the handle is free, the pass a grant, and the LSN may be written to.
+        Error::check(unsafe { sys::hz_page_lsn(self.core(), &grant, &mut lsn) })?;
+        Ok(lsn)
+    }
+
+    /// The first page from this number on, in the order of the file, that has writes which are in
+    /// no image on the device.
+    pub fn next_unsaved(&self, from: u64) -> Option<UnsavedPage> {
+        let mut out = hz_unsaved::default();
         // SAFETY: the handle is free, and `out` may be written to. It is refused only where the
         // handle has no core.
-        let _ = unsafe { sys::hz_totals_of(self.core(), &mut out) };
-        Totals {
-            hits: out.hits,
-            faults: out.faults,
-            evictions: out.evictions,
-            writes: out.writes,
-            failed: out.failed,
+        let _ = unsafe { sys::hz_next_unsaved(self.core(), from, &mut out) };
+        (out.has_page != 0).then_some(UnsavedPage {
+            page: out.page,
+            lsn: out.lsn,
+            first_lsn: out.first_lsn,
+        })
+    }
+
+    /// All such pages from this number on. Each is looked for when it is asked for, so the pool may
+    /// be used between.
+    pub fn unsaved(&self, mut from: u64) -> impl Iterator<Item = UnsavedPage> {
+        iter::from_fn(move || {
+            let next = self.next_unsaved(from)?;
+            from = next.page + 1;
+            Some(next)
+        })
+    }
+
+    /// From where redo has to begin: the least LSN of all writes that are in no image on the device,
+    /// one of LSN 0 too. None where there is no such write.
+    pub fn redo_from(&self) -> Option<u64> {
+        let (mut lsn, mut has_lsn) = (0, 0);
+        // SAFETY: the handle is free, and both may be written to. It is refused only where the
+        // handle has no core.
+        let _ = unsafe { sys::hz_redo_from(self.core(), &mut lsn, &mut has_lsn) };
+        (has_lsn != 0).then_some(lsn)
+    }
+
+    /// Whether a page is in a frame.
+    ///
+    /// # Errors
+    /// [`OutOfPage`](Error::OutOfPage) where the file has no such page.
+    pub fn is_resident(&self, page: u64) -> Result<bool> {
+        let mut is_resident = 0;
+        // SAFETY: the handle is free, and the answer may be written to.
+        Error::check(unsafe { sys::hz_is_resident(self.core(), page, &mut is_resident) })?;
+        Ok(is_resident != 0)
+    }
+
+    /// What it counts.
+    pub fn stats(&self) -> PoolStats {
+        let mut out = hz_stats::default();
+        // SAFETY: the handle is free, and `out` may be written to. It is refused only where the
+        // handle has no core.
+        let _ = unsafe { sys::hz_stats_of(self.core(), &mut out) };
+        PoolStats {
+            totals: Totals {
+                hits: out.hits,
+                faults: out.faults,
+                evictions: out.evictions,
+                writes: out.writes,
+                failed: out.failed,
+                refused: out.refused,
+            },
+            resident: out.resident,
+            pinned: out.pinned,
+            unsaved: out.unsaved,
+            loading: out.loading,
+            writing: out.writing,
         }
+    }
+
+    /// What was counted.
+    pub fn totals(&self) -> Totals {
+        self.stats().totals
     }
 }
 
@@ -553,7 +656,7 @@ impl fmt::Debug for Pool {
     fn fmt(&self, f: &mut fmt::Formatter<'_>) -> fmt::Result {
         f.debug_struct("Pool")
             .field("config", &self.config)
-            .field("totals", &self.totals())
+            .field("stats", &self.stats())
             .finish_non_exhaustive()
     }
 }

@@ -57,12 +57,27 @@ pub(crate) struct hz_fixed {
 
 #[repr(C)]
 #[derive(Default)]
-pub(crate) struct hz_totals {
+pub(crate) struct hz_unsaved {
+    pub(crate) page: u64,
+    pub(crate) lsn: u64,
+    pub(crate) first_lsn: u64,
+    pub(crate) has_page: u8,
+}
+
+#[repr(C)]
+#[derive(Default)]
+pub(crate) struct hz_stats {
     pub(crate) hits: u64,
     pub(crate) faults: u64,
     pub(crate) evictions: u64,
     pub(crate) writes: u64,
     pub(crate) failed: u64,
+    pub(crate) refused: u64,
+    pub(crate) resident: usize,
+    pub(crate) pinned: usize,
+    pub(crate) unsaved: usize,
+    pub(crate) loading: usize,
+    pub(crate) writing: usize,
 }
 
 // Each call but `hz_text` and `hz_version` requires: `core` is zero, or as these calls left it, and
@@ -125,7 +140,11 @@ unsafe extern "C" {
         out: *mut hz_fixed,
     ) -> u16;
     pub(crate) fn hz_purge(core: *mut hz_core, client: u8, count: *mut u64) -> u16;
-    pub(crate) fn hz_totals_of(core: *mut hz_core, out: *mut hz_totals) -> u16;
+    pub(crate) fn hz_page_lsn(core: *mut hz_core, pass: *const hz_grant, lsn: *mut u64) -> u16;
+    pub(crate) fn hz_next_unsaved(core: *mut hz_core, from: u64, out: *mut hz_unsaved) -> u16;
+    pub(crate) fn hz_redo_from(core: *mut hz_core, lsn: *mut u64, has_lsn: *mut u8) -> u16;
+    pub(crate) fn hz_stats_of(core: *mut hz_core, out: *mut hz_stats) -> u16;
+    pub(crate) fn hz_is_resident(core: *mut hz_core, page: u64, is_resident: *mut u8) -> u16;
     pub(crate) fn hz_text(number: u16, into: *mut u8, len: usize) -> usize;
     pub(crate) safe fn hz_version() -> u32;
 }
@@ -166,7 +185,11 @@ pub(crate) mod tests {
             .chain(lines_of!(hz_config: pages page_size frames room correlated retained k clients))
             .chain(lines_of!(hz_grant: page serial client))
             .chain(lines_of!(hz_fixed: grant lsn evicted kind has_evicted))
-            .chain(lines_of!(hz_totals: hits faults evictions writes failed))
+            .chain(lines_of!(hz_unsaved: page lsn first_lsn has_page))
+            .chain(lines_of!(
+                hz_stats: hits faults evictions writes failed refused
+                          resident pinned unsaved loading writing
+            ))
             .collect();
         let there: Vec<&str> = LAYOUT
             .lines()

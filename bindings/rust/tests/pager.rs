@@ -1,5 +1,8 @@
 //! What a pager does with its device and log, step by step, and what it leaves where they fail.
-use hojzmated::{Config, Error, PageGuard, PageIo, Pager, PagerError, ReadFault, Totals};
+use hojzmated::{
+    Config, Error, Flushed, PageGuard, PageIo, Pager, PagerError, ReadFault, Saved, Totals,
+    UnsavedPage,
+};
 use std::cell::{Cell, RefCell};
 use std::error::Error as _;
 use std::io;
@@ -13,6 +16,7 @@ enum Asked {
     /// A page, the first byte of its image, and its page LSN.
     Write(u64, u8, u64),
     Log(u64),
+    Sync,
 }
 
 /// How the next request ends.
@@ -86,7 +90,7 @@ impl PageIo for Memory {
     }
 
     fn sync(&self) -> io::Result<()> {
-        Ok(())
+        self.note(Asked::Sync).map_err(device_fault)
     }
 }
 
@@ -124,6 +128,7 @@ fn log_goes_before_the_page_that_makes_way() {
         evictions: 2,
         writes: 1,
         failed: 0,
+        refused: 1,
     };
     assert_eq!(pager.pool().totals(), totals);
     assert_eq!(pager.into_io().pages.borrow()[1][0], 9);
@@ -159,6 +164,119 @@ fn flush_of_all_pages() {
         Asked::Write(7, 70, 1),
     ];
     assert_eq!(pager.io().asked(), asked);
+}
+
+// The log is made durable once, the pages go out in the order of the file, and then the device keeps
+// them.
+#[test]
+fn checkpoint() {
+    let pager = pager(3);
+    for (page, byte, lsn) in [(7, 70, 4), (2, 20, 3), (5, 50, 6)] {
+        pager.fix(0, page).unwrap().write(0, &[byte], lsn).unwrap();
+    }
+    pager.io().asked();
+    assert_eq!(pager.redo_from(), Some(3));
+    assert_eq!(pager.checkpoint(0).unwrap(), None);
+    let asked = [
+        Asked::Log(6),
+        Asked::Write(2, 20, 3),
+        Asked::Write(5, 50, 6),
+        Asked::Write(7, 70, 4),
+        Asked::Sync,
+    ];
+    assert_eq!(pager.io().asked(), asked);
+    assert_eq!((pager.redo_from(), pager.stats().unsaved), (None, 0));
+    pager.io().is_next(Fate::Fails);
+    let error = pager.checkpoint(0).unwrap_err();
+    assert!(matches!(error, PagerError::Sync { .. }));
+    assert_eq!(pager.io().asked(), [Asked::Sync]);
+}
+
+// The engine has page 5 on its way out by a call of the pool.
+#[test]
+fn checkpoint_tells_which_page_is_refused() {
+    let pager = pager(3);
+    for page in [2, 5, 7] {
+        pager.fix(0, page).unwrap().write(0, &[1], 0).unwrap();
+    }
+    pager.io().asked();
+    let Flushed::WriteFirst(ticket) = pager.pool().flush(0, 5, &mut [0; 16]).unwrap() else {
+        panic!("nothing to write");
+    };
+    let error = pager.checkpoint(0).unwrap_err();
+    let is_refused = PagerError::RefusedPage {
+        page: 5,
+        error: Error::Busy,
+    };
+    assert_eq!(format!("{error:?}"), format!("{is_refused:?}"));
+    let text = "page 5: a device operation on the page is under way";
+    assert_eq!(
+        (error.refusal(), error.to_string()),
+        (Error::Busy, text.into())
+    );
+    assert!(error.source().is_none());
+    assert_eq!(pager.io().asked(), [Asked::Write(2, 1, 0)]);
+    let stats = pager.stats();
+    assert_eq!(
+        (stats.unsaved, stats.writing, stats.totals.refused),
+        (2, 1, 1)
+    );
+    assert_eq!(pager.pool().end_write(ticket), Ok(Saved::Clean));
+    assert_eq!(pager.checkpoint(0).unwrap(), None);
+    assert_eq!(pager.io().asked(), [Asked::Write(7, 1, 0), Asked::Sync]);
+}
+
+#[test]
+fn new_page_is_not_read() {
+    let pager = pager(2);
+    let page = pager.new_page(0, 3).unwrap();
+    assert_eq!((first_byte(&page), page.lsn()), (0, Ok(0)));
+    page.write(0, &[7], 4).unwrap();
+    drop(page);
+    let page = pager.new_page(0, 3).unwrap();
+    assert_eq!((first_byte(&page), page.lsn()), (7, Ok(4)));
+    assert_eq!(pager.io().asked(), []);
+    assert_eq!(pager.stats().resident, 1);
+}
+
+// Page 4 is written to while it goes out. A page LSN is of all writes, and what is unsaved is of some.
+#[test]
+fn what_a_pool_tells() {
+    let (pager, other) = (pager(3), pager(1));
+    let pool = pager.pool();
+    let page = pager.fix(0, 4).unwrap();
+    page.write(0, &[1], 9).unwrap();
+    pager.fix(0, 6).unwrap().write(0, &[1], 3).unwrap();
+    pool.mark(0, 9).unwrap();
+    let Flushed::WriteFirst(ticket) = pool.flush(0, 4, &mut [0; 16]).unwrap() else {
+        panic!("nothing to write");
+    };
+    page.write(0, &[2], 5).unwrap();
+    let told = |page, lsn, first_lsn| UnsavedPage {
+        page,
+        lsn,
+        first_lsn,
+    };
+    let found: Vec<_> = pool.unsaved(0).collect();
+    assert_eq!(found, [told(4, 9, 5), told(6, 3, 3)]);
+    assert_eq!(pool.end_write(ticket), Ok(Saved::StillDirty));
+    let found = [0, 4, 5, 7, u64::MAX].map(|from| pool.next_unsaved(from));
+    let (four, six) = (Some(told(4, 9, 5)), Some(told(6, 3, 3)));
+    assert_eq!(found, [four, four, six, None, None]);
+    assert_eq!((pool.redo_from(), page.lsn()), (Some(3), Ok(9)));
+    let found = [4, 5, 16].map(|page| pool.is_resident(page));
+    assert_eq!(found, [Ok(true), Ok(false), Err(Error::OutOfPage)]);
+    let stats = pool.stats();
+    let few = (
+        stats.resident,
+        stats.pinned,
+        stats.unsaved,
+        stats.loading,
+        stats.writing,
+    );
+    assert_eq!(few, (2, 1, 2, 0, 0));
+    let pass = other.fix(0, 4).unwrap().into_pass();
+    assert_eq!(pool.page_lsn(&pass), Err(Error::UnknownPass));
 }
 
 // Two guards of one page and one of another are out. Each sees what was written by another, and a
@@ -433,7 +551,7 @@ fn random_walk() {
                 assert!(lsn <= durable, "page {page} ahead of the log");
                 writes += 1;
             }
-            Asked::Read(_) => {}
+            Asked::Read(_) | Asked::Sync => {}
         }
     }
     let totals = pager.pool().totals();

@@ -5,7 +5,7 @@ use Rattle.std.specs.declared.fs.File.{File as StdFile}
 use Rattle.clap.specs.Words.{Text}
 use Rattle.bp_page.specs.declared.refusals.PortFault.{PortFault}
 use Rattle.bp_ports.specs.Ports.{ReadsPage, WritesPage}
-use Rattle.bp_ports.specs.Files.{ReadsFile, WritesFile}
+use Rattle.bp_ports.specs.Files.{ReadsFile, WritesFile, SyncsFile}
 use Rattle.bp_page.specs.declared.limits.Geometry.{Geometry}
 use Rattle.bp_page.specs.declared.slots.Format.{Format}
 use Rattle.bp_ports.specs.declared.files.OpenFault.{OpenFault}
@@ -27,7 +27,7 @@ abbrev pub is_headed_any : AnyPort → Bool
 is_headed_any (Mem port) = port.headed
 is_headed_any (File port) = port.headed
 
--- a read, and a write, as the port that it is does them
+-- a read, a write and a sync, as the port that it is does them
 abbrev pub ReadsAny : AnyPort → ℕ → Result (List ℕ) PortFault → AnyPort → Type 0
 ReadsAny (Mem port) page found (Mem after) = ReadsPage port page found after
 ReadsAny (File port) page found (File after) = ReadsFile port page found after
@@ -38,6 +38,11 @@ WritesAny (Mem port) page image lsn written (Mem after) = WritesPage port page i
 WritesAny (File port) page image lsn written (File after) =
     WritesFile port page image lsn written after
 WritesAny port page image lsn written after = ⊥
+
+abbrev pub SyncsAny : AnyPort → Result (Unit {0}) PortFault → AnyPort → Type 0
+SyncsAny (Mem port) synced (Mem after) = (synced ≡ Ok tt) × (after ≡ port)
+SyncsAny (File port) synced (File after) = SyncsFile port synced after
+SyncsAny port synced after = ⊥
 
 -- a port to this device, whose pages stand with their numbers or not
 abbrev pub IsPortTo : Geometry → Bool → AnyPort → Type 0

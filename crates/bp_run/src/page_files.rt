@@ -27,7 +27,7 @@ pub enum AnyPort {
 }
 
 impl Port for AnyPort {
-    ghost use Rattle.bp_run.specs.AnyPort.{ReadsAny, WritesAny, device_of, failures_of_any, is_headed_any};
+    ghost use Rattle.bp_run.specs.AnyPort.{ReadsAny, WritesAny, SyncsAny, device_of, failures_of_any, is_headed_any};
 
     ghost geometry_of = { device_of };
 
@@ -38,6 +38,8 @@ impl Port for AnyPort {
     ghost read_gives = { ReadsAny };
 
     ghost write_gives = { WritesAny };
+
+    ghost sync_gives = { SyncsAny };
 
     fn geometry(&self) -> Geometry {
         match self {
@@ -70,6 +72,13 @@ impl Port for AnyPort {
         match self {
             AnyPort::Mem(port) => port.write(rt, page, image, lsn),
             AnyPort::File(port) => port.write(rt, page, image, lsn),
+        }
+    }
+
+    fn sync<R: Wait>(&mut self, rt: &R) -> Result<(), PortFault> {
+        match self {
+            AnyPort::Mem(port) => port.sync(rt),
+            AnyPort::File(port) => port.sync(rt),
         }
     }
 }

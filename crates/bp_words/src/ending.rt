@@ -11,7 +11,7 @@ use std::io::Write;
 use std::{fmt, io};
 
 /// The version of the program.
-pub const VERSION: &str = "0.9.0";
+pub const VERSION: &str = "0.10.0";
 
 /// How the program ends where it makes no report. Its `Display` is what is said.
 #[derive(Drop)]

@@ -9,25 +9,29 @@ pub use Rattle.bp_trail.specs.Event
 pub use Rattle.bp_trail.specs.Trail
 pub use Rattle.bp_trail.specs.Clock
 pub use Rattle.bp_trail.specs.Passes
+pub use Rattle.bp_trail.specs.Saved
 pub use Rattle.bp_trail.specs.Legal
 pub use Rattle.bp_trail.specs.Pieces
 pub use Rattle.bp_trail.specs.Script
--- What the calls of a core answer and leave, and which pages are unsaved.
+-- What the calls of a core answer and leave, which pages are unsaved, and what is counted.
 pub use Rattle.bp_core.specs.CoreView
 pub use Rattle.bp_core.specs.Outcomes
 pub use Rattle.bp_core.specs.EndRefusals
 pub use Rattle.bp_core.specs.Unsaved
+pub use Rattle.bp_core.specs.Counts
 pub use Rattle.bp_core.specs.Added
 pub use Rattle.bp_core.specs.Work
--- Ports, page files, and drivers.
+-- Ports, page files, drivers, and a pool for one owner.
 pub use Rattle.bp_ports.specs.Ports
 pub use Rattle.bp_ports.specs.Files
 pub use Rattle.bp_device.specs.Drivers
+pub use Rattle.bp_device.specs.Owned
 -- Shared pools, and runs of workers.
 pub use Rattle.bp_book.specs.Turns
 pub use Rattle.bp_shared.specs.Sessions
 pub use Rattle.bp_shared.specs.Taking
 pub use Rattle.bp_shared.specs.Telling
+pub use Rattle.bp_shared.specs.FlushAll
 pub use Rattle.bp_workers.specs.Workers
 pub use Rattle.bp_workers.specs.Runs
 pub use Rattle.bp_workers.specs.Logs

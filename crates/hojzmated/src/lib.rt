@@ -14,8 +14,8 @@ pub use bp_replacer::Settings;
 
 // Cores, their entries, and what their calls hand out.
 pub use bp_core::{
-    Core, EndRefusal, Ended, Fix, Flush, Pass, PassNote, PoolCore, ReadTicket, SilentCore,
-    WriteTicket,
+    Core, EndRefusal, Ended, Fix, Flush, NotFlushed, Pass, PassNote, PoolCore, ReadTicket,
+    SilentCore, Stats, WriteTicket,
 };
 pub use bp_keeper::{Keeper, ListKeeper, RecordingKeeper, SilentKeeper};
 pub use bp_trail::{Call, Entry, Flushed, Grant, Reply};
@@ -26,8 +26,8 @@ pub use bp_ports::{
     create_page_file, geometry_of_file, migrate_told, migrate_with,
 };
 
-// A whole fix or flush of a core with one owner.
-pub use bp_device::{drive_fix, drive_flush};
+// A pool for one owner; and a whole fix or flush of a core that has one.
+pub use bp_device::{OwnedPool, drive_fix, drive_flush, drive_flush_all, drive_new};
 
 // Workers over one pool.
 pub use bp_workers::{

@@ -1,25 +1,27 @@
 -- What the exported functions answer and leave in a handle, and in the memory that C passes.
-use Rattle.std.specs.Prelude.{◌≡◌, ◌⊎◌, ℕ, Bool, List, Option, Some, None, Result, Ok, Err}
+use Rattle.std.specs.Prelude.{◌≡◌, ◌⊎◌, ℕ, Bool, true, false, List, Option, Some, None, Result, Ok, Err}
 use denote.RawPtr.{Ptr}
 use Rattle.bp_page.specs.declared.refusals.Refusal.{Refusal}
 use Rattle.bp_page.specs.declared.refusals.PortFault.{PortFault}
 use Rattle.bp_page.specs.Refusals.{number_of}
 use Rattle.bp_trail.specs.Event.{Grant}
+use Rattle.bp_trail.specs.Saved.{top}
 use Rattle.bp_core.specs.declared.passes.Pass.{Pass}
 use Rattle.bp_core.specs.declared.passes.Ended.{Ended}
 use Rattle.bp_core.specs.declared.passes.Ended.TheVariants as ended
 use Rattle.bp_core.specs.declared.passes.EndRefusal.{EndRefusal}
 use Rattle.bp_core.specs.EndRefusals.{number_of_end}
-use Rattle.bp_core.specs.CoreView.{CoreView}
+use Rattle.bp_core.specs.CoreView.{CoreView, EachPast}
 use Rattle.bp_core.specs.Outcomes.{KnowsPass, LacksPass, UnfixOutcome}
 use Rattle.hojzmated_c.specs.declared.forms.HzConfig.{HzConfig}
 use Rattle.hojzmated_c.specs.declared.forms.HzFixed.{HzFixed}
 use Rattle.hojzmated_c.specs.declared.forms.HzGrant.{HzGrant}
-use Rattle.hojzmated_c.specs.declared.forms.HzTotals.{HzTotals}
+use Rattle.hojzmated_c.specs.declared.forms.HzStats.{HzStats}
+use Rattle.hojzmated_c.specs.declared.forms.HzUnsaved.{HzUnsaved}
 use Rattle.hojzmated_c.specs.Forms.{pass_of, shown_refusal, fault_of}
-use Rattle.hojzmated_c.specs.Totals.{totals_of}
 use Rattle.hojzmated_c.specs.Outcomes.{Opens, Ticks, Marks, Purges, Fixes, Flushes, EndsRead, EndsWrite}
 use Rattle.hojzmated_c.specs.Outcomes.{FailsRead, ReadsPart, WritesPart}
+use Rattle.hojzmated_c.specs.Tellers.{TellsUnsaved, TellsRedo, TellsStats, TellsResident}
 
 -- 0, or the number of the refusal
 abbrev pub code_of : {A : Type 0} → Result A Refusal → ℕ
@@ -148,7 +150,38 @@ Unfixed old new pass number =
     (r : Result (Unit {0}) Pass) × (number ≡ code_of_unfix r)
     × UnfixOutcome old (pass_of pass) r new)
 
-abbrev pub Counted : Option CoreView → Option CoreView → HzTotals → HzTotals → ℕ → Type 0
-Counted old new out out' number =
-    OnCore old new number (out' ≡ out)
-    (λ old new. (number ≡ 0) × (new ≡ old) × (out' ≡ totals_of old.past))
+-- what a call tells that leaves the core as it is
+abbrev pub OnSame : Option CoreView → Option CoreView → ℕ → Type 0 → (CoreView → Type 0) → Type 0
+OnSame old new number Kept P = OnCore old new number Kept (λ old new. (new ≡ old) × P old)
+
+-- the pass is out, which is 0; or it is not, which is 14. Only in the first case is the page LSN told
+abbrev pub LsnTold : Option CoreView → Option CoreView → HzGrant → ℕ → ℕ → ℕ → Type 0
+LsnTold old new pass lsn lsn' number =
+    OnSame old new number (lsn' ≡ lsn)
+    (λ core.
+    ((number ≡ 0) × KnowsPass core (pass_of pass) × EachPast core (λ past. lsn' ≡ top past pass.page))
+    ⊎ ((number ≡ 14) × LacksPass core (pass_of pass) × (lsn' ≡ lsn)))
+
+abbrev pub NextTold : Option CoreView → Option CoreView → ℕ → HzUnsaved → HzUnsaved → ℕ → Type 0
+NextTold old new from out out' number =
+    OnSame old new number (out' ≡ out) (λ core. (number ≡ 0) × TellsUnsaved core from out')
+
+abbrev pub RedoTold : Option CoreView → Option CoreView → ℕ → ℕ → ℕ → ℕ → ℕ → Type 0
+RedoTold old new lsn lsn' has has' number =
+    OnSame old new number ((lsn' ≡ lsn) × (has' ≡ has))
+    (λ core. (number ≡ 0) × TellsRedo core lsn' has')
+
+abbrev pub StatsTold : Option CoreView → Option CoreView → HzStats → HzStats → ℕ → Type 0
+StatsTold old new out out' number =
+    OnSame old new number (out' ≡ out) (λ core. (number ≡ 0) × TellsStats core out')
+
+-- 1 or 0, which is written only where the page is of the file
+abbrev pub resident_or_else : Result Bool Refusal → ℕ → ℕ
+resident_or_else (Ok true) old = 1
+resident_or_else (Ok false) old = 0
+resident_or_else (Err why) old = old
+
+abbrev pub ResidentTold : Option CoreView → Option CoreView → ℕ → ℕ → ℕ → ℕ → Type 0
+ResidentTold old new page is is' number =
+    OnSame old new number (is' ≡ is)
+    (λ core. Told number (λ r. TellsResident core page r × (is' ≡ resident_or_else r is)))

@@ -7,9 +7,11 @@ use Rattle.bp_page.specs.declared.refusals.PortFault.TheVariants as fault
 use Rattle.bp_trail.specs.Parameters.{Parameters}
 use Rattle.bp_trail.specs.Event.{Grant, grant}
 use Rattle.bp_core.specs.declared.passes.Pass.{Pass}
+use Rattle.bp_core.specs.declared.stats.Stats.{Stats}
 use Rattle.hojzmated_c.specs.declared.forms.HzConfig.{HzConfig}
 use Rattle.hojzmated_c.specs.declared.forms.HzGrant.{HzGrant}
 use Rattle.hojzmated_c.specs.declared.forms.HzFixed.{HzFixed}
+use Rattle.hojzmated_c.specs.declared.forms.HzStats.{HzStats}
 
 -- a pass or a ticket is named by what it was given as
 abbrev pub grant_of : HzGrant → Grant
@@ -51,4 +53,20 @@ parameters_asked asked = record {
   size = asked.page_size;
   clients = asked.clients;
   room = asked.room;
+}
+
+-- what a core counts
+abbrev pub shown_stats : Stats → HzStats
+shown_stats s = record {
+  hits = s.totals.hits;
+  faults = s.totals.faults;
+  evictions = s.totals.evictions;
+  writes = s.totals.writes;
+  failed = s.totals.failed;
+  refused = s.totals.refused;
+  resident = s.resident;
+  pinned = s.pinned;
+  unsaved = s.unsaved;
+  loading = s.loading;
+  writing = s.writing;
 }

@@ -1,6 +1,6 @@
 pub mod Owned
 pub mod Forms
-pub mod Totals
 pub mod Outcomes
+pub mod Tellers
 pub mod Exports
 pub mod Texts

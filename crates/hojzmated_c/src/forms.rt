@@ -1,10 +1,9 @@
 //! The plain structs that cross to C. The header has the same ones, field by field.
 ghost use Rattle.std.specs.Prelude.{◌≡◌};
 ghost use Rattle.bp_trail.specs.Event.{grant};
-ghost use Rattle.hojzmated_c.specs.Forms.{grant_of, pass_of, shown, shown_grant, shown_refusal};
-ghost use Rattle.hojzmated_c.specs.Totals.{no_counts, one_more};
+ghost use Rattle.hojzmated_c.specs.Forms.{grant_of, pass_of, shown, shown_grant, shown_refusal, shown_stats};
 
-use bp_core::{Pass, PassNote};
+use bp_core::{Pass, PassNote, Stats};
 use bp_page::{PageNo, Refusal};
 use bp_trail::Grant;
 
@@ -43,15 +42,31 @@ pub struct HzFixed {
     pub has_evicted: u8,
 }
 
-/// What was counted since the core was made. A count that reaches its end stays there.
+/// An unsaved page: its page LSN, and the least LSN of its unsaved writes. Where there is none, all fields are 0.
 #[repr(C)]
 #[derive(Clone, Copy, Drop)]
-pub struct HzTotals {
+pub struct HzUnsaved {
+    pub page: u64,
+    pub lsn: u64,
+    pub first_lsn: u64,
+    pub has_page: u8,
+}
+
+/// What was counted since the core was made, and how many pages there are of each kind now.
+#[repr(C)]
+#[derive(Clone, Copy, Drop)]
+pub struct HzStats {
     pub hits: u64,
     pub faults: u64,
     pub evictions: u64,
     pub writes: u64,
     pub failed: u64,
+    pub refused: u64,
+    pub resident: usize,
+    pub pinned: usize,
+    pub unsaved: usize,
+    pub loading: usize,
+    pub writing: usize,
 }
 
 /// The page is resident: the grant is a pass.
@@ -76,7 +91,9 @@ const _: () = prove!(size_of::<HzGrant>() == 24);
 
 const _: () = prove!(size_of::<HzFixed>() == 48);
 
-const _: () = prove!(size_of::<HzTotals>() == 40);
+const _: () = prove!(size_of::<HzUnsaved>() == 32);
+
+const _: () = prove!(size_of::<HzStats>() == 88);
 
 impl HzGrant {
     /// What the pass or the ticket was given as.
@@ -142,24 +159,23 @@ impl HzFixed {
     }
 }
 
-impl HzTotals {
-    /// Nothing was counted.
-    pub(crate) fn new() -> HzTotals
-        ensures { result ≡ no_counts }
+impl HzStats {
+    /// What C sees of what a core counts.
+    pub(crate) fn of(stats: &Stats) -> HzStats
+        ensures { result ≡ shown_stats stats.now }
     {
-        HzTotals {
-            hits: 0,
-            faults: 0,
-            evictions: 0,
-            writes: 0,
-            failed: 0,
+        HzStats {
+            hits: stats.totals.hits,
+            faults: stats.totals.faults,
+            evictions: stats.totals.evictions,
+            writes: stats.totals.writes,
+            failed: stats.totals.failed,
+            refused: stats.totals.refused,
+            resident: stats.resident,
+            pinned: stats.pinned,
+            unsaved: stats.unsaved,
+            loading: stats.loading,
+            writing: stats.writing,
         }
     }
-}
-
-/// Counts one more, up to the end.
-pub(crate) fn count(total: &mut u64)
-    ensures { total.new ≡ one_more total.old }
-{
-    *total = total.saturating_add(1);
 }

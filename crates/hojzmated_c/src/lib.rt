@@ -8,7 +8,7 @@
 ghost use Rattle.std.specs.Prelude.{◌≡◌, None, is_some, if◌then◌else◌, Ok, Err, IfOk, IfErr, length};
 ghost use Rattle.hojzmated_c.specs.Texts.{begun_with, text_of};
 ghost use Rattle.hojzmated_c.specs.Outcomes.{Opens, told};
-ghost use Rattle.hojzmated_c.specs.Exports.{code_of, Made, Ticked, Marked, Purged, Asked, Flushed, ReadEnded, ReadFailed, WriteEnded, PageLent, PartRead, PartWrote, Unfixed, Counted, shown_fix};
+ghost use Rattle.hojzmated_c.specs.Exports.{code_of, Made, Ticked, Marked, Purged, Asked, Flushed, ReadEnded, ReadFailed, WriteEnded, PageLent, LsnTold, PartRead, PartWrote, Unfixed, NextTold, RedoTold, StatsTold, ResidentTold, shown_fix};
 
 mod forms;
 mod handle;
@@ -16,7 +16,7 @@ mod pool;
 mod seal;
 mod texts;
 
-use crate::forms::{HzConfig, HzFixed, HzGrant, HzTotals};
+use crate::forms::{HzConfig, HzFixed, HzGrant, HzStats, HzUnsaved};
 pub use crate::handle::HzCore;
 use crate::pool::Pool;
 use bp_core::{EndRefusal, Ended};
@@ -30,8 +30,8 @@ const NO_CORE: u16 = 50;
 /// The handle has a core already.
 const HAS_CORE: u16 = 51;
 
-/// Version 0.9.0.
-const VERSION: u32 = 900;
+/// Version 0.10.0.
+const VERSION: u32 = 1000;
 
 /// 0, or the number of the refusal.
 fn code<T>(answer: &Result<T, Refusal>) -> u16
@@ -67,7 +67,7 @@ fn boxed(alloc: Global, config: &HzConfig) -> Result<Box<Pool, Global>, Refusal>
 /// The version of the library: its first number ten thousand times, its second a hundred times, and its third.
 #[unsafe(no_mangle)]
 pub extern "C" fn hz_version() -> u32
-    ensures { result ≡ 900 }
+    ensures { result ≡ 1000 }
 {
     VERSION
 }
@@ -346,17 +346,108 @@ pub extern "C" fn hz_unfix(alloc: Global, core: &mut HzCore, pass: &HzGrant) -> 
     }
 }
 
-/// What was counted.
+/// Tells the page LSN of the page of a pass. No entry is added.
 #[unsafe(no_mangle)]
-pub extern "C" fn hz_totals_of(alloc: Global, core: &mut HzCore, out: &mut HzTotals) -> u16
-    ensures { Counted core.old.seal.pool core.new.seal.pool out.old out.new result }
+pub extern "C" fn hz_page_lsn(
+    alloc: Global,
+    core: &mut HzCore,
+    pass: &HzGrant,
+    lsn: &mut u64,
+) -> u16
+    ensures { LsnTold core.old.seal.pool core.new.seal.pool pass.now lsn.old lsn.new result }
 {
     let Some(pool) = core.take(alloc) else {
         return NO_CORE;
     };
-    *out = pool.totals();
+    let told = pool.page_lsn(pass);
+    *core = HzCore::of(pool);
+    let Some(top) = told else {
+        return Refusal::UnknownPass.number();
+    };
+    *lsn = top.number();
+    0
+}
+
+/// Tells the first unsaved page from this number on. No entry is added.
+#[unsafe(no_mangle)]
+pub extern "C" fn hz_next_unsaved(
+    alloc: Global,
+    core: &mut HzCore,
+    from: u64,
+    out: &mut HzUnsaved,
+) -> u16
+    ensures { NextTold core.old.seal.pool core.new.seal.pool from out.old out.new result }
+{
+    let Some(pool) = core.take(alloc) else {
+        return NO_CORE;
+    };
+    *out = pool.next_unsaved(from);
     *core = HzCore::of(pool);
     0
+}
+
+/// Tells from where redo has to begin. No entry is added.
+#[unsafe(no_mangle)]
+pub extern "C" fn hz_redo_from(
+    alloc: Global,
+    core: &mut HzCore,
+    lsn: &mut u64,
+    has_lsn: &mut u8,
+) -> u16
+    ensures { RedoTold core.old.seal.pool core.new.seal.pool lsn.old lsn.new has_lsn.old has_lsn.new
+        result }
+{
+    let Some(mut pool) = core.take(alloc) else {
+        return NO_CORE;
+    };
+    let from = pool.redo_from();
+    *core = HzCore::of(pool);
+    match from {
+        Some(least) => {
+            *lsn = least.number();
+            *has_lsn = 1;
+        }
+        None => {
+            *lsn = 0;
+            *has_lsn = 0;
+        }
+    }
+    0
+}
+
+/// What was counted, and how many pages there are of each kind. No entry is added.
+#[unsafe(no_mangle)]
+pub extern "C" fn hz_stats_of(alloc: Global, core: &mut HzCore, out: &mut HzStats) -> u16
+    ensures { StatsTold core.old.seal.pool core.new.seal.pool out.old out.new result }
+{
+    let Some(pool) = core.take(alloc) else {
+        return NO_CORE;
+    };
+    *out = pool.stats();
+    *core = HzCore::of(pool);
+    0
+}
+
+/// Tells whether a page is in a frame. No entry is added.
+#[unsafe(no_mangle)]
+pub extern "C" fn hz_is_resident(
+    alloc: Global,
+    core: &mut HzCore,
+    page: u64,
+    is_resident: &mut u8,
+) -> u16
+    ensures { ResidentTold core.old.seal.pool core.new.seal.pool page
+        is_resident.old is_resident.new result }
+{
+    let Some(pool) = core.take(alloc) else {
+        return NO_CORE;
+    };
+    let told = pool.is_resident(page);
+    *core = HzCore::of(pool);
+    if let Ok(is_here) = told {
+        *is_resident = if is_here { 1 } else { 0 };
+    }
+    code(&told)
 }
 
 /// Writes the text of a refusal's number, as much of it as there is room for, and returns its whole length.

@@ -4,40 +4,33 @@ ghost use Rattle.hojzmated_c.specs.Outcomes.{Opens, Ticks, Marks, Purges};
 mod device;
 mod fixing;
 mod page_use;
+mod tellers;
 
-use crate::forms::{HzConfig, HzTotals};
+use crate::forms::HzConfig;
 use bp_core::SilentCore;
 use bp_page::{Geometry, Image, Lsn, Refusal};
 use bp_replacer::Settings;
 use std::alloc::Global;
 use std::marker::Model;
 
-/// A core, with the counts of what it answered.
+/// A core, with memory for the next image.
 #[derive(Drop)]
 pub struct Pool {
     alloc: Global,
     core: SilentCore,
-    totals: HzTotals,
     /// What the newest load left of its frame: memory for the image of the next one.
     spare: Option<Image>,
 }
 
 impl Model for Pool {
-    ghost use Rattle.std.specs.Prelude.{◌≡◌};
     ghost use Rattle.bp_core.specs.CoreView.{CoreView};
-    ghost use Rattle.hojzmated_c.specs.Totals.{totals_of};
 
     ghost Value = { CoreView };
 
     ghost view = { λ p. p.core };
-
-    ghost invariant = { λ p. p.totals ≡ totals_of p.core.past };
 }
 
 impl Pool {
-    ghost use Rattle.std.specs.Prelude.{◌≡◌};
-    ghost use Rattle.hojzmated_c.specs.Totals.{totals_of};
-
     /// A core as the settings say. `BadGeometry`, then `BadSettings` where they are out of their limits, then
     /// `OutOfMemory`.
     pub(crate) fn new(alloc: Global, config: &HzConfig) -> Result<Pool, Refusal>
@@ -56,16 +49,8 @@ impl Pool {
         Ok(Pool {
             alloc,
             core,
-            totals: HzTotals::new(),
             spare: None,
         })
-    }
-
-    /// What was counted.
-    pub(crate) fn totals(&self) -> HzTotals
-        ensures { result ≡ totals_of self.now.past }
-    {
-        self.totals
     }
 
     /// Moves the clock on. `BadClient`, and what the core refuses.

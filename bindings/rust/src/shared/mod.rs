@@ -1,11 +1,11 @@
 //! A pager that many threads use at once: several pools side by side, with latches on their pages.
 mod config;
+mod firsts;
 mod guards;
 mod log;
 mod pager;
 mod part;
 mod seats;
-mod unsaved;
 mod upkeep;
 
 pub use config::SharedConfig;

@@ -1,9 +1,9 @@
+use super::firsts::Firsts;
 use super::guards::PagePin;
 use super::seats::{FreeSeats, Pinned, Seat, Seats, filled, list_of};
-use super::unsaved::Unsaved;
 use crate::{
     Config, Error, Fixed, Flushed, PageGuard, Pass, Pool, ReadFault, ReadTicket, Refused, Result,
-    Saved, WriteTicket,
+    WriteTicket,
 };
 use std::hint::spin_loop;
 use std::mem;
@@ -29,7 +29,7 @@ pub(super) struct Part {
 pub(super) struct State {
     pub(super) pool: Pool,
     pub(super) free: FreeSeats,
-    pub(super) unsaved: Unsaved,
+    firsts: Firsts,
     /// Images of the page size that no call uses.
     images: Vec<Vec<u8>>,
     /// Room for a page: see [`Part::write`].
@@ -37,14 +37,12 @@ pub(super) struct State {
     /// How many threads sleep until something happens, by what they wait for.
     for_work: usize,
     for_pins: usize,
-    /// Pages that are pinned.
-    pub(super) pinned: usize,
     /// Pins that were made without asking the pool.
     pub(super) joined: u64,
     /// How often a thread slept.
     pub(super) waits: u64,
-    /// From where on in the list of unsaved pages the next ones are looked for that may go out.
-    pub(super) clean_from: usize,
+    /// From which page on the next unsaved ones are looked for that may go out.
+    pub(super) clean_from: u64,
 }
 
 pub(super) type Locked<'a> = MutexGuard<'a, State>;
@@ -72,12 +70,11 @@ impl Part {
         let state = State {
             pool,
             free: FreeSeats::new(config.frames)?,
-            unsaved: Unsaved::new(config.frames)?,
+            firsts: Firsts::new(config.frames)?,
             images,
             scratch: filled(config.page_size)?,
             for_work: 0,
             for_pins: 0,
-            pinned: 0,
             joined: 0,
             waits: 0,
             clean_from: 0,
@@ -216,7 +213,6 @@ impl Part {
         } else {
             let (bytes, serial) = (bytes.cast(), pass.serial());
             seat.begin(page, &Pinned { bytes, serial });
-            state.pinned += 1;
         }
         drop(state);
         // SAFETY: the seat is pinned.
@@ -231,7 +227,6 @@ impl Part {
             let pass = state.pool.pass_of(seat.page(), seat.pinned().serial);
             // A pass of this pool that is out is always taken.
             let _ = state.pool.give_back(&pass);
-            state.pinned -= 1;
             state.joined += joined;
         }
         if state.for_pins > 0 {
@@ -246,7 +241,7 @@ impl Part {
         let mut state = self.lock();
         let State {
             pool,
-            unsaved,
+            firsts,
             scratch,
             ..
         } = &mut *state;
@@ -254,7 +249,7 @@ impl Part {
         copy.copy_from_slice(bytes);
         let pass = pool.pass_of(seat.page(), seat.pinned().serial);
         pool.write(&pass, offset, copy, lsn)?;
-        unsaved.write(seat.page(), number, lsn);
+        firsts.write(number, lsn);
         Ok(())
     }
 
@@ -293,15 +288,32 @@ impl Part {
     /// The same of the unsaved page with this page LSN, as far as which the log is not durable.
     pub(super) fn refer_to_page_of(&self, lsn: u64) {
         let mut state = self.lock();
-        if let Some(page) = state.unsaved.page_of(lsn) {
-            self.refer_to(&mut state, page);
+        let found = state.pool.unsaved(0).find(|it| it.lsn == lsn);
+        if let Some(found) = found {
+            self.refer_to(&mut state, found.page);
         }
     }
 
     /// The seat of a page that is unsaved.
     pub(super) fn unsaved_seat(&self, state: &State, page: u64) -> Option<usize> {
-        let seat = self.seats.of(page);
-        seat.filter(|seat| state.unsaved.has(*seat))
+        let next = state.pool.next_unsaved(page)?;
+        self.seats.of(page).filter(|_| next.page == page)
+    }
+
+    /// The least LSN of a write that has a log record and is in no image on the device.
+    pub(super) fn redo_from(&self) -> Option<u64> {
+        let state = self.lock();
+        match state.pool.redo_from() {
+            // A write that has no record hides the others.
+            Some(0) => {
+                let seats = state
+                    .pool
+                    .unsaved(0)
+                    .filter_map(|it| self.seats.of(it.page));
+                seats.filter_map(|seat| state.firsts.of(seat)).min()
+            }
+            least => least,
+        }
     }
 
     /// Asks once that a page be written out. None where it is clean, or away.
@@ -318,7 +330,7 @@ impl Part {
 
     fn go_out(&self, state: &mut State, page: u64) {
         if let Some(seat) = self.seats.of(page) {
-            state.unsaved.go_out(seat);
+            state.firsts.go_out(seat);
         }
     }
 }
@@ -446,12 +458,9 @@ impl<'a> Writing<'a> {
         let ticket = self.ticket.take().ok_or(Error::UnknownTicket)?;
         let page = ticket.page();
         let mut state = self.part.lock();
-        let saved = state.pool.end_write(ticket)?;
+        state.pool.end_write(ticket)?;
         if let Some(seat) = self.part.seats.of(page) {
-            match saved {
-                Saved::Clean => state.unsaved.save(seat),
-                Saved::StillDirty => state.unsaved.stay(seat),
-            }
+            state.firsts.arrive(seat);
         }
         self.image = state.keep(mem::take(&mut self.image)).unwrap_or_default();
         self.part.wake(state, true);
@@ -469,7 +478,7 @@ impl Drop for Writing<'_> {
         // A ticket of this pool that is out is always taken.
         let _ = state.pool.fail_write(ticket);
         if let Some(seat) = self.part.seats.of(page) {
-            state.unsaved.come_back(seat);
+            state.firsts.come_back(seat);
         }
         self.image = state.keep(mem::take(&mut self.image)).unwrap_or_default();
         if self.is_victim {

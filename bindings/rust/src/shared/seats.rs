@@ -172,10 +172,6 @@ impl Seats {
         })
     }
 
-    pub(super) fn len(&self) -> usize {
-        self.seats.len()
-    }
-
     #[inline]
     pub(super) fn seat(&self, seat: usize) -> &Seat {
         &self.seats[seat]

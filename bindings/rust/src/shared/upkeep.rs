@@ -1,7 +1,6 @@
 use super::pager::SharedPager;
-use super::part::{Part, Writing};
+use super::part::{Locked, Part, Writing};
 use super::seats::list_of;
-use super::unsaved::least;
 use crate::{Error, PageIo, PagerError, Result, Totals};
 use std::io;
 use std::panic::{AssertUnwindSafe, catch_unwind};
@@ -35,6 +34,8 @@ pub struct Stats {
 /// Bytes of memory for a frame beside its image, and for a page of the file.
 const OF_FRAME: usize = 300;
 const OF_PAGE: usize = 8;
+/// So many unsaved pages are looked at under the lock of a part at once.
+const LOOKS: usize = 64;
 /// Images that a part has beside those in its frames.
 const SPARE_IMAGES: usize = 3;
 
@@ -50,17 +51,15 @@ impl<F> SharedPager<F> {
         let mut stats = Stats::default();
         for part in &self.parts {
             let state = part.lock();
-            let config = state.pool.config();
+            let (config, counts) = (state.pool.config(), state.pool.stats());
             stats.memory += config.pages as usize * OF_PAGE + config.frames * OF_FRAME;
             stats.memory += (state.free.most() + SPARE_IMAGES) * config.page_size;
-            stats.resident += state.free.taken();
-            stats.pinned += state.pinned;
-            stats.dirty += state.unsaved.len();
+            stats.resident += counts.resident;
+            stats.pinned += counts.pinned;
+            stats.dirty += counts.unsaved;
             stats.waits += state.waits;
-            let (totals, joined) = (state.pool.totals(), state.joined);
-            drop(state);
-            stats.totals.add(&totals);
-            stats.totals.hits += joined;
+            stats.totals.add(&counts.totals);
+            stats.totals.hits += state.joined;
         }
         stats
     }
@@ -78,10 +77,7 @@ impl<F> SharedPager<F> {
     /// The least LSN among the writes that are in no image on the device. None where there is no
     /// such write, or none with a log record.
     pub fn redo_from(&self) -> Option<u64> {
-        let of_parts = self.parts.iter();
-        of_parts.fold(None, |found, part| {
-            least(found, part.lock().unsaved.redo_from())
-        })
+        self.parts.iter().filter_map(Part::redo_from).min()
     }
 
     /// The numbers of all pages that are unsaved, in the order of the file, and the greatest LSN of
@@ -89,16 +85,19 @@ impl<F> SharedPager<F> {
     fn unsaved_pages(&self) -> Result<(Vec<u64>, u64)> {
         let (mut pages, mut greatest) = (list_of(0)?, 0);
         for part in &self.parts {
-            let mut state = part.lock();
-            while pages.capacity() - pages.len() < state.unsaved.len() {
+            let mut from = Some(0);
+            while let Some(first) = from {
                 // Memory is asked for with the lock open.
-                let wanted = state.unsaved.len();
-                drop(state);
-                pages.try_reserve(wanted).map_err(|_| Error::OutOfMemory)?;
-                state = part.lock();
+                pages.try_reserve(LOOKS).map_err(|_| Error::OutOfMemory)?;
+                let state = part.lock();
+                let (before, mut last) = (pages.len(), first);
+                for found in state.pool.unsaved(first).take(LOOKS) {
+                    pages.push(part.in_file(found.page));
+                    greatest = greatest.max(found.lsn);
+                    last = found.page;
+                }
+                from = (pages.len() - before == LOOKS).then_some(last + 1);
             }
-            pages.extend(state.unsaved.pages().map(|page| part.in_file(page)));
-            greatest = greatest.max(state.unsaved.greatest());
         }
         pages.sort_unstable();
         Ok((pages, greatest))
@@ -196,8 +195,12 @@ impl<F: PageIo> SharedPager<F> {
         let (before, after) = self.parts.split_at(first);
         for (number, part) in after.iter().chain(before).enumerate() {
             let share = (most - cleaned).div_ceil(self.parts.len() - number);
-            for page in self.ready(part, durable, share)? {
-                match self.clean_page(part, page, durable) {
+            let end = cleaned + share;
+            // Each unsaved page is looked at once, and not all of them where few may go out.
+            let unsaved = part.lock().pool.stats().unsaved;
+            let mut looks = unsaved.min(share.saturating_mul(4).saturating_add(LOOKS));
+            while looks > 0 && cleaned < end {
+                match self.clean_next(part, durable, &mut looks) {
                     Ok(is_clean) => cleaned += usize::from(is_clean),
                     Err(error) => fault = fault.and(Err(error)),
                 }
@@ -206,31 +209,14 @@ impl<F: PageIo> SharedPager<F> {
         fault.map(|()| cleaned)
     }
 
-    /// Pages of a part that may go out, so many at most.
-    fn ready(&self, part: &Part, durable: u64, most: usize) -> Result<Vec<u64>> {
-        let mut pages = list_of(most.min(part.seats.len()))?;
-        let mut state = part.lock();
-        // Not all are looked at under the lock, where few may go out.
-        let looks = most.saturating_mul(4).saturating_add(64);
-        let ready = state.unsaved.ready(durable, state.clean_from, looks);
-        let loose = ready.filter(|(_, seat)| !part.seats.seat(*seat).is_pinned());
-        pages.extend(loose.map(|(page, _)| page).take(most));
-        // The next call begins with others: a page whose write-out panics is not always the first.
-        let looked = if looks < state.unsaved.len() {
-            looks
-        } else {
-            1
+    /// Writes out the next page of a part that may go, where nobody is in the way. Tells whether one
+    /// went out.
+    fn clean_next(&self, part: &Part, durable: u64, looks: &mut usize) -> Result<bool, PagerError> {
+        let Some((mut state, own, seat)) = next_ready(part, durable, looks)? else {
+            return Ok(false);
         };
-        state.clean_from = (state.clean_from + looked) % state.unsaved.len().max(1);
-        Ok(pages)
-    }
-
-    /// Writes a page out where nobody is in the way. Tells whether it went out.
-    fn clean_page(&self, part: &Part, own: u64, durable: u64) -> Result<bool, PagerError> {
-        let mut state = part.with_image(part.lock())?;
         state.pool.mark(0, durable)?;
-        let seat = part.unsaved_seat(&state, own);
-        let Some(latch) = seat.and_then(|seat| part.seats.seat(seat).try_read()) else {
+        let Some(latch) = part.seats.seat(seat).try_read() else {
             return Ok(false);
         };
         match part.ask_out(&mut state, own) {
@@ -244,6 +230,37 @@ impl<F: PageIo> SharedPager<F> {
             Err(error) => Err(error.into()),
         }
     }
+}
+
+/// The next page of a part that may go out, if one is found at once, and its seat. It stands behind
+/// the one that was found before: so a page whose write-out panics is not always the first.
+fn next_ready<'a>(
+    part: &'a Part,
+    durable: u64,
+    looks: &mut usize,
+) -> Result<Option<(Locked<'a>, u64, usize)>> {
+    let locked = part.with_image(part.lock());
+    if locked.is_err() {
+        // The next page would want memory too.
+        *looks = 0;
+    }
+    let mut state = locked?;
+    for _ in 0..LOOKS.min(*looks) {
+        *looks -= 1;
+        let from = state.clean_from;
+        let next = state.pool.next_unsaved(from);
+        let Some(next) = next.or_else(|| state.pool.next_unsaved(0)) else {
+            *looks = 0;
+            break;
+        };
+        state.clean_from = next.page + 1;
+        let loose = |seat: &usize| !part.seats.seat(*seat).is_pinned();
+        let seat = part.seats.of(next.page).filter(loose);
+        if let Some(seat) = seat.filter(|_| next.lsn <= durable) {
+            return Ok(Some((state, next.page, seat)));
+        }
+    }
+    Ok(None)
 }
 
 /// A thread that calls [`SharedPager::clean`] again and again. It ends when this is dropped.

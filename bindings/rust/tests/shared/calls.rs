@@ -126,6 +126,7 @@ fn counts() {
         evictions: 1,
         writes: 0,
         failed: 0,
+        refused: 0,
     };
     assert_eq!(stats.totals, totals);
     let few = (stats.resident, stats.pinned, stats.dirty, stats.waits);

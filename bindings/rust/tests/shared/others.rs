@@ -17,6 +17,8 @@ struct Device {
     log_takes: Duration,
     /// As far as which the log was wanted, call by call.
     wanted: Mutex<Vec<u64>>,
+    /// The pages that went out.
+    written: Mutex<Vec<u64>>,
     writes_slowly: bool,
     has_begun: AtomicBool,
 }
@@ -43,6 +45,7 @@ impl PageIo for Device {
             is_so(is_done.recv().is_ok())?;
         }
         assert_ne!(self.panicking_page, Some(page), "no such luck");
+        self.written.lock().unwrap().push(page);
         is_so(self.bad_page != Some(page))
     }
 
@@ -173,6 +176,24 @@ fn clean_goes_on_after_a_page() {
         }
         assert_eq!(pager.stats().dirty, 1);
     }
+}
+
+// Not all pages are looked at where few may go out, and the next call begins behind those.
+#[test]
+fn clean_and_checkpoint_of_many_pages() {
+    let pager = pager(1, 100, Device::default());
+    (0..100).for_each(|page| put(&pager, page, u64::from(page < 90) * 9));
+    assert_eq!(pager.clean(1).unwrap(), 0);
+    assert_eq!(pager.clean(1).unwrap(), 1);
+    assert_eq!(*pager.io().written.lock().unwrap(), [90]);
+    assert_eq!(pager.clean(300).unwrap(), 9);
+    pager.mark(9);
+    assert_eq!(pager.clean(300).unwrap(), 90);
+    (0..100).for_each(|page| put(&pager, page, 9));
+    pager.io().written.lock().unwrap().clear();
+    assert_eq!(pager.checkpoint().unwrap(), None);
+    assert!((0..100).eq(pager.io().written.lock().unwrap().drain(..)));
+    assert_eq!(pager.stats().dirty, 0);
 }
 
 #[test]

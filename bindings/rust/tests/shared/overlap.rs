@@ -77,6 +77,7 @@ fn page_that_is_being_read() {
     let totals = Totals {
         hits: 3,
         faults: 1,
+        refused: 3,
         ..Totals::default()
     };
     assert_eq!((pager.stats().totals, pager.stats().waits), (totals, 3));

@@ -175,6 +175,24 @@ fn flush_beside_a_look() {
     assert_eq!((page[0], pager.stats().dirty), (9, 0));
 }
 
+// A change without a record is none that redo needs, on a page of its own and on one that has others.
+#[test]
+fn redo_beside_changes_without_a_record() {
+    let pager = pager(4);
+    put(&pager, 3, 30, 0);
+    assert_eq!((pager.stats().dirty, pager.redo_from()), (1, None));
+    for (page, lsn) in [(1, 0), (1, 8), (2, 9), (1, 0)] {
+        put(&pager, page, 10, lsn);
+    }
+    assert_eq!((pager.stats().dirty, pager.redo_from()), (3, Some(8)));
+    pager.flush(1).unwrap();
+    assert_eq!(pager.redo_from(), Some(9));
+    put(&pager, 1, 10, 0);
+    pager.flush(2).unwrap();
+    assert_eq!((pager.stats().dirty, pager.redo_from()), (2, None));
+    assert_eq!(pager.checkpoint().unwrap(), None);
+}
+
 // ---- Pages that are cleaned
 
 // Page 1 has a record that is not durable, page 2 is pinned, page 3 is being written to.

@@ -3,7 +3,7 @@ ghost use Rattle.std.specs.Prelude.{◌≡◌};
 ghost use Rattle.hojzmated_c.specs.Forms.{fault_of, write_of};
 ghost use Rattle.hojzmated_c.specs.Outcomes.{EndsRead, EndsWrite, FailsRead};
 
-use crate::forms::{HzGrant, count};
+use crate::forms::HzGrant;
 use crate::pool::Pool;
 use bp_core::{EndRefusal, Ended};
 use bp_page::{Image, PortFault, Refusal};
@@ -48,10 +48,7 @@ impl Pool {
             .core
             .read_end_by(held.grant(), Ok(own), &mut self.spare)
         {
-            Ok(pass) => {
-                count(&mut self.totals.faults);
-                Ok(HzGrant::of(pass.note()))
-            }
+            Ok(pass) => Ok(HzGrant::of(pass.note())),
             Err(EndRefusal::Unknown(_, _)) => Err(Refusal::UnknownTicket),
             Err(EndRefusal::Failed(why)) => Err(why),
         }
@@ -64,10 +61,7 @@ impl Pool {
     {
         let found = Err(fault(is_wrong_page));
         match self.core.read_end_by(held.grant(), found, &mut None) {
-            Err(EndRefusal::Failed(why)) => {
-                count(&mut self.totals.failed);
-                why.number()
-            }
+            Err(EndRefusal::Failed(why)) => why.number(),
             Err(EndRefusal::Unknown(_, _)) => Refusal::UnknownTicket.number(),
             Ok(_pass) => unreachable!(),
         }
@@ -81,16 +75,6 @@ impl Pool {
     ) -> Result<Ended, EndRefusal<Grant, Result<(), PortFault>>>
         ensures { EndsWrite self.old held.now is_good result self.new }
     {
-        match self.core.write_end_by(held.grant(), written(is_good)) {
-            Ok(how) => {
-                count(&mut self.totals.writes);
-                Ok(how)
-            }
-            Err(EndRefusal::Failed(why)) => {
-                count(&mut self.totals.failed);
-                Err(EndRefusal::Failed(why))
-            }
-            Err(EndRefusal::Unknown(ticket, write)) => Err(EndRefusal::Unknown(ticket, write)),
-        }
+        self.core.write_end_by(held.grant(), written(is_good))
     }
 }

@@ -4,7 +4,7 @@ ghost use Rattle.bp_trail.specs.Event.{grant};
 ghost use Rattle.hojzmated_c.specs.Forms.{shown};
 ghost use Rattle.hojzmated_c.specs.Outcomes.{Fixes, Flushes, Sends, ShowsLoad, told};
 
-use crate::forms::{ABSENT, CLEAN, HIT, HzFixed, LOAD, WRITE_FIRST, count};
+use crate::forms::{ABSENT, CLEAN, HIT, HzFixed, LOAD, WRITE_FIRST};
 use crate::pool::Pool;
 use bp_core::{Fix, Flush, Pass, ReadTicket, WriteTicket};
 use bp_page::{PageNo, Refusal};
@@ -67,16 +67,8 @@ impl Pool {
             return Err(Refusal::OutOfPage);
         }
         match self.core.fix(client, page)? {
-            Fix::Hit(pass) => {
-                count(&mut self.totals.hits);
-                *out = hit(pass);
-            }
-            Fix::Load(ticket, gone) => {
-                if gone.is_some() {
-                    count(&mut self.totals.evictions);
-                }
-                *out = load(ticket, gone);
-            }
+            Fix::Hit(pass) => *out = hit(pass),
+            Fix::Load(ticket, gone) => *out = load(ticket, gone),
             Fix::WriteFirst(ticket) => *out = send(ticket, image),
         }
         Ok(())

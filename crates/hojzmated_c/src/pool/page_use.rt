@@ -1,6 +1,7 @@
 //! Reading, writing and giving back a page by what its pass was given as.
 ghost use Rattle.std.specs.Prelude.{◌≡◌, IfSome, IfNone};
 ghost use Rattle.bp_trail.specs.Images.{held as held_by};
+ghost use Rattle.bp_trail.specs.Saved.{top};
 ghost use Rattle.bp_core.specs.CoreView.{EachPast};
 ghost use Rattle.bp_core.specs.Outcomes.{KnowsPass, LacksPass, UnfixOutcome};
 ghost use Rattle.hojzmated_c.specs.Forms.{pass_of};
@@ -41,6 +42,19 @@ impl Pool {
         let page = self.core.page(&pass);
         pass.note();
         page
+    }
+
+    /// The page LSN of the page of a pass. None where the pass is not out here.
+    pub(crate) fn page_lsn(&self, held: &HzGrant) -> Option<Lsn>
+        ensures known { IfSome result (λ lsn. KnowsPass self.now (pass_of held.now)) }
+        ensures lsn { IfSome result (λ lsn. EachPast self.now
+            (λ past. lsn ≡ top past held.now.page)) }
+        ensures unknown { IfNone result (LacksPass self.now (pass_of held.now)) }
+    {
+        let pass = held.pass();
+        let lsn = self.core.page_lsn(&pass);
+        pass.note();
+        lsn
     }
 
     /// Puts bytes into the page of a pass. `OutOfPage` where they are not within the page, and what the core refuses.

@@ -1,8 +1,13 @@
 -- A new core, and what its entries come to at the end.
-use Rattle.std.proofs.Common.{ap, ◌∙◌, arith}
+use Rattle.std.proofs.Common.{ℕ, ap, sym, subst, ◌∙◌, Err, arith}
+use Rattle.std.specs.Prelude.{IfErr}
+use Rattle.std.proofs.lemmas.Result.{err_from_is_err_and}
+use Rattle.bp_page.specs.declared.refusals.Refusal.{Refusal}
+use Rattle.bp_page.specs.declared.refusals.Refusal.TheVariants as refusal
 use Rattle.bp_page.specs.declared.limits.Geometry.{Geometry}
 use Rattle.bp_core.specs.CoreView.{CoreView}
 use Rattle.bp_sweep.specs.Cells.{cell_parameters}
+use Rattle.bp_sweep.specs.Referring.{EndsCell, CellRefused}
 use Rattle.bp_sweep.proofs.Steps.{run-counted}
 use Rattle.bp_sweep.proofs.Fixing.{tally-new}
 use Rattle.bp_sweep.proofs.cell.count_cell.Goals as goal
@@ -16,3 +21,12 @@ returns-clause-counted g c =
     (ap (λ (core : CoreView). core.parameters) c.in_ok-core.ensures.outcome.1 ∙ ap (λ (geometry : Geometry). cell_parameters geometry c.args.settings c.args.frames) c.geometry.ensures)
     (ap (λ (core : CoreView). core.past) c.in_ok-core.ensures.outcome.1)
     c.in_ok-refer_all.ensures.run c.in_ok-refer_all.ensures.tallied c.keeps_the_rules.ensures.legal
+
+ends-refused : (frames : ℕ) (why : Refusal) → EndsCell why → CellRefused frames why
+ends-refused frames refusal.BadSettings h = absurd h
+ends-refused frames _ h = h
+
+pub returns-in_err-refer_all-clause-fault : goal.returns-in_err-refer_all-clause-fault
+returns-in_err-refer_all-clause-fault g c =
+    let is = err_from_is_err_and c.from_residual-in_err-refer_all.result c.from_residual-in_err-refer_all.ensures.1 in
+    subst (λ r. IfErr r (CellRefused c.args.frames)) (sym (is.1 ∙ ap Err is.2)) (ends-refused c.args.frames c.in_err-refer_all.field-0.0 c.in_err-refer_all.ensures.fault)

@@ -4,16 +4,11 @@ use Rattle.bp_core.specs.Outcomes.{FixOutcome}
 use Rattle.bp_sweep.proofs.Fixing.{fix-room, refused-room, tally-hit, tally-load, hit-fixes, end-fixes, write-fixes, refused-fixes, tally-refused}
 use Rattle.bp_sweep.proofs.cell.fix_page.Goals as goal
 
-pub count-requires : goal.count-requires
-count-requires g c = fix-room c.args.core.now c.fix.new.self c.args.totals.now c.args.page c.in-Ok-Hit.field-0 c.requires.tallied c.in-Ok-Hit.ensures.outcome
-
-pub count-requires-in-Ok-Load : goal.count-requires-in-Ok-Load
-count-requires-in-Ok-Load g c = fix-room c.args.core.now c.fix.new.self c.args.totals.now c.args.page c.in-Ok-Load.field-0 c.requires.tallied c.in-Ok-Load.ensures.outcome
-
 pub end_load-requires-clause-tallied : goal.end_load-requires-clause-tallied
 end_load-requires-clause-tallied g c =
     tally-load c.args.core.now c.fix.new.self c.args.totals.now c.count-in-Ok-Load.new.self c.args.page c.serial-in-Ok-Load.result c.in-Ok-Load.ticket c.in-Ok-Load.evicted c.requires.tallied
-    (subst (λ f. FixOutcome c.args.core.now 0 c.args.page (Ok f) c.fix.new.self) c.in-Ok-Load.field-0-is c.in-Ok-Load.ensures.outcome) c.serial-in-Ok-Load.ensures c.count-in-Ok-Load.ensures
+    (subst (λ f. FixOutcome c.args.core.now 0 c.args.page (Ok f) c.fix.new.self) c.in-Ok-Load.field-0-is c.in-Ok-Load.ensures.outcome) c.serial-in-Ok-Load.ensures
+    (c.count-in-Ok-Load.ensures (fix-room c.args.core.now c.fix.new.self c.args.totals.now c.args.page c.in-Ok-Load.field-0 c.requires.tallied c.in-Ok-Load.ensures.outcome))
 
 pub unreachable-requires : goal.unreachable-requires
 unreachable-requires g c =
@@ -29,7 +24,8 @@ returns-in-Ok-Hit-clause-outcome g c = hit-fixes c.args.core.now c.fix.new.self 
 pub returns-in-Ok-Hit-clause-tallied : goal.returns-in-Ok-Hit-clause-tallied
 returns-in-Ok-Hit-clause-tallied g c =
     tally-hit c.args.core.now c.fix.new.self c.args.totals.now c.count.new.self c.args.page c.serial.result c.in-Ok-Hit.pass c.requires.tallied
-    (subst (λ f. FixOutcome c.args.core.now 0 c.args.page (Ok f) c.fix.new.self) c.in-Ok-Hit.field-0-is c.in-Ok-Hit.ensures.outcome) c.serial.ensures c.count.ensures
+    (subst (λ f. FixOutcome c.args.core.now 0 c.args.page (Ok f) c.fix.new.self) c.in-Ok-Hit.field-0-is c.in-Ok-Hit.ensures.outcome) c.serial.ensures
+    (c.count.ensures (fix-room c.args.core.now c.fix.new.self c.args.totals.now c.args.page c.in-Ok-Hit.field-0 c.requires.tallied c.in-Ok-Hit.ensures.outcome))
 
 pub returns-in-Ok-Load-clause-outcome : goal.returns-in-Ok-Load-clause-outcome
 returns-in-Ok-Load-clause-outcome g c =

@@ -1,4 +1,4 @@
-use Rattle.std.proofs.Common.{◌∙◌, ◌++◌, ◌+◌, ◌<◌, ◌^◌, [], ◌∷◌, ℕ, List, length, drop, sym, ap, append_assoc, arith, refl}
+use Rattle.std.proofs.Common.{◌∙◌, ◌++◌, ◌+◌, ◌<◌, ◌^◌, [], ◌∷◌, ℕ, List, length, length-take, take, drop, sym, ap, append_assoc, arith, refl}
 use Rattle.std.proofs.KnownBytes.{Appends-nil, Appends-trans}
 use Rattle.std.proofs.lemmas.List.{append-nil, drop_all}
 use Rattle.bp_trail.specs.Clock.{clock}
@@ -21,11 +21,6 @@ loop-entry-init g c = record {
   left = refl;
 }
 
-pub count-requires : goal.count-requires
-count-requires g c =
-    let few : length c.args.entries.now < 2 ^ 64 = omega arith in
-    rw c.loop-entry.invariant.totals (totals_of-room c.args.entries.now c.loop-entry.entry-index c.loop-entry-test.true few)
-
 pub loop-entry-preserved : goal.loop-entry-preserved
 loop-entry-preserved g c =
     let inv = c.loop-entry.invariant in
@@ -33,6 +28,7 @@ loop-entry-preserved g c =
     let i = c.loop-entry.entry-index in
     let e = c.entry-item.result in
     let w = g.W.Write.contents in
+    let few : length (take i entries) + 1 < 2 ^ 64 = omega (arith, length-take i entries, c.loop-entry-test.true) in
     let line = event_line (clock inv.past) e in
     let shown = rw inv.time at c.in_ok-write_event.ensures in
     let steps = c.from-time.ensures ∙ c.steps_of.ensures in
@@ -41,7 +37,7 @@ loop-entry-preserved g c =
       past = e ∷ inv.past;
       time = rw (inv.time, steps) (sym (clock-next inv.past e.client e.call e.reply));
       bound = omega arith;
-      totals = c.count.ensures ∙ rw inv.totals (sym (totals_of-take entries i e c.loop-entry-test.true c.entry-item.is));
+      totals = c.count.ensures (rw inv.totals (totals_of-room (take i entries) few)) ∙ rw inv.totals (sym (totals_of-take entries i e c.loop-entry-test.true c.entry-item.is));
       written = inv.written ++ line;
       appended = Appends-trans (w c.args.writer.now) (w c.loop-entry.writer) (w c.write_event.new.writer) inv.written line inv.appended shown;
       left = append_assoc inv.written line (lines_after (e ∷ inv.past) (drop (i + 1) entries)) ∙ ap (λ (t : List ℕ). inv.written ++ t) (sym lines) ∙ inv.left;

@@ -1,0 +1,49 @@
+-- What the calls tell that add no entry and need no pass.
+use Rattle.std.specs.Prelude.{◌≡◌, ℕ, ◌<◌, ◌≤◌, Bool, Result, Ok, Err, Option, Some, None}
+use Rattle.bp_page.specs.declared.refusals.Refusal.{Refusal}
+use Rattle.bp_page.specs.declared.refusals.Refusal.TheVariants as refusal
+use Rattle.bp_trail.specs.Trail.{Trail}
+use Rattle.bp_trail.specs.Places.{resident}
+use Rattle.bp_trail.specs.Saved.{top, first_lsn, IsRedoFrom}
+use Rattle.bp_core.specs.declared.stats.Stats.{Stats}
+use Rattle.bp_core.specs.CoreView.{CoreView, EachPast}
+use Rattle.bp_core.specs.Counts.{AreCounts}
+use Rattle.bp_core.specs.Unsaved.{FindsUnsaved}
+use Rattle.hojzmated_c.specs.declared.forms.HzStats.{HzStats}
+use Rattle.hojzmated_c.specs.declared.forms.HzUnsaved.{HzUnsaved}
+use Rattle.hojzmated_c.specs.Forms.{shown_stats}
+
+-- an unsaved page: its page LSN, and the least LSN of its writes that are not saved
+abbrev pub ShowsUnsaved : Trail → Option ℕ → HzUnsaved → Type 0
+ShowsUnsaved past (Some page) out =
+    (out.page ≡ page) × (out.lsn ≡ top past page) × (first_lsn past page ≡ Some out.first_lsn)
+    × (out.has_page ≡ 1)
+ShowsUnsaved past None out = out ≡ record { page = 0; lsn = 0; first_lsn = 0; has_page = 0 }
+
+-- the first unsaved page from this number on, or none
+abbrev pub TellsUnsaved : CoreView → ℕ → HzUnsaved → Type 0
+TellsUnsaved core from out =
+    EachPast core
+    (λ past.
+    (found : Option ℕ) × FindsUnsaved core.parameters.pages from past found
+    × ShowsUnsaved past found out)
+
+-- from where redo has to begin: an LSN, and whether there is one
+abbrev pub ShowsLsn : Option ℕ → ℕ → ℕ → Type 0
+ShowsLsn (Some lsn) out has = (out ≡ lsn) × (has ≡ 1)
+ShowsLsn None out has = (out ≡ 0) × (has ≡ 0)
+
+abbrev pub TellsRedo : CoreView → ℕ → ℕ → Type 0
+TellsRedo core out has =
+    EachPast core (λ past. (found : Option ℕ) × IsRedoFrom past found × ShowsLsn found out has)
+
+-- what the core counts
+abbrev pub TellsStats : CoreView → HzStats → Type 0
+TellsStats core out =
+    (s : Stats) × EachPast core (λ past. AreCounts past s) × (out ≡ shown_stats s)
+
+-- whether a page of the file is in a frame; of any other page nothing
+abbrev pub TellsResident : CoreView → ℕ → Result Bool Refusal → Type 0
+TellsResident core page result =
+    (page < core.parameters.pages → EachPast core (λ past. result ≡ Ok (resident past page)))
+    × (core.parameters.pages ≤ page → result ≡ Err refusal.OutOfPage)
