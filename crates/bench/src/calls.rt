@@ -26,6 +26,9 @@ enum Call {
     Page,
     Write,
     WriteFrom,
+    NextUnsaved,
+    RedoFrom,
+    Stats,
     Flush,
     Mark,
     Purge,
@@ -33,7 +36,7 @@ enum Call {
 }
 
 /// What is timed in a round, in this order.
-const CALLS: [(Call, &str); 14] = [
+const CALLS: [(Call, &str); 17] = [
     (Call::Fix, "fix that loads, and read_end"),
     (Call::Unfix, "unfix"),
     (Call::Tick, "tick"),
@@ -43,6 +46,9 @@ const CALLS: [(Call, &str); 14] = [
     (Call::Page, "page"),
     (Call::Write, "write"),
     (Call::WriteFrom, "write_from"),
+    (Call::NextUnsaved, "next_unsaved"),
+    (Call::RedoFrom, "redo_from"),
+    (Call::Stats, "stats"),
     (Call::Unfix, "unfix"),
     (Call::Flush, "flush that writes out, and write_end"),
     (Call::Mark, "mark"),
@@ -182,7 +188,7 @@ impl Bench {
         }
     }
 
-    /// Makes one call of many.
+    /// Makes one call of many, and keeps what it tells.
     fn make(&mut self, call: Call, page: u64, place: u64) {
         match call {
             Call::Fix => self.fix(page),
@@ -190,6 +196,17 @@ impl Bench {
             Call::Tick => {
                 let _ = self.core.tick(0, 1);
             }
+            Call::NextUnsaved => {
+                if let Some(found) = self.core.next_unsaved(page) {
+                    self.into[0] = found.number().to_le_bytes()[0];
+                }
+            }
+            Call::RedoFrom => {
+                if let Some(lsn) = self.core.redo_from() {
+                    self.into[0] = lsn.number().to_le_bytes()[0];
+                }
+            }
+            Call::Stats => self.into[0] = self.core.stats().totals.hits.to_le_bytes()[0],
             Call::Mark => {
                 let _ = self.core.mark(0, Lsn::new(place));
             }

@@ -1,6 +1,7 @@
 //! The device of a core whose pages come and go by drivers, or of sessions.
 ghost use Rattle.std.specs.Prelude.{◌≡◌, IfOk};
 
+use crate::outcomes::went;
 use bp_device::{FusePort, MemDevice, MemPort, Port};
 use bp_page::{Bytes, Geometry, Lsn, PageNo, PortFault, Refusal};
 use bp_trail::Reply;
@@ -62,10 +63,7 @@ impl Device {
         };
         let size = port.geometry().size.max(front.bytes().len());
         match filled(self.alloc, size, front) {
-            Some(image) => match port.write(rt, PageNo::new(page), &image, Lsn::new(0)) {
-                Ok(()) => Answer::Reply(Reply::Done),
-                Err(_) => Answer::Word("failed"),
-            },
+            Some(image) => went(port.write(rt, PageNo::new(page), &image, Lsn::new(0))),
             None => Answer::BadLine,
         }
     }

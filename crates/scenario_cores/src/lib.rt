@@ -3,6 +3,7 @@
 #![tactic(auto)]
 
 pub mod buffers;
+mod checkpoints;
 pub mod devices;
 pub mod histories;
 pub mod judged;
@@ -18,6 +19,8 @@ pub use devices::{Device, new_device};
 pub use histories::{Timed, new_timed};
 pub use judged::{Judged, new_judged};
 pub use lists::{LOST, Lists, grant_of, join, new_lists, pass_of};
-pub use outcomes::{content, done, flushed, forgot};
+pub use outcomes::{
+    content, done, flushed, flushed_all, forgot, lsn_or_none, page_or_none, stats_of, went,
+};
 pub use pools::{Pool, new_pool, pool_of};
 pub use ranks::{Ranked, new_ranked};

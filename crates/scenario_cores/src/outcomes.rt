@@ -1,9 +1,11 @@
 //! What calls answer, by their results.
 
-use bp_device::Flushed;
-use bp_page::{Image, Refusal};
+use bp_core::Stats;
+use bp_device::{Flushed, NotFlushed};
+use bp_page::{Image, Lsn, PageNo, PortFault, Refusal};
 use bp_trail::Reply;
 use scenario_words::Answer;
+use std::alloc::Global;
 
 /// What a call answers that gives nothing.
 pub fn done(outcome: Result<(), Refusal>) -> Answer {
@@ -29,6 +31,63 @@ pub fn flushed(outcome: Result<Flushed, Refusal>) -> Answer {
         Ok(Flushed::Cleaned) => Answer::Reply(Reply::Cleaned),
         Ok(Flushed::StillDirty) => Answer::Reply(Reply::StillDirty),
         Err(refusal) => Answer::Refused(refusal),
+    }
+}
+
+/// What a flush of all answers.
+pub fn flushed_all(outcome: Result<(), NotFlushed>) -> Answer {
+    match outcome {
+        Ok(()) => Answer::Reply(Reply::Done),
+        Err(stop) => Answer::Stopped(stop.page, stop.why),
+    }
+}
+
+/// What a write of a device answers, or its sync.
+pub fn went(outcome: Result<(), PortFault>) -> Answer {
+    match outcome {
+        Ok(()) => Answer::Reply(Reply::Done),
+        Err(_) => Answer::Word("failed"),
+    }
+}
+
+/// The number of a page, if there is one.
+pub fn page_or_none(page: Option<PageNo>) -> Answer {
+    match page {
+        Some(page) => Answer::Number(page.number()),
+        None => Answer::Word("none"),
+    }
+}
+
+/// An LSN, if there is one.
+pub fn lsn_or_none(lsn: Option<Lsn>) -> Answer {
+    match lsn {
+        Some(lsn) => Answer::Number(lsn.number()),
+        None => Answer::Word("none"),
+    }
+}
+
+/// What is counted, but for so many of the reads that failed.
+pub fn stats_of(alloc: Global, stats: &Stats, unread: u64) -> Answer {
+    let totals = &stats.totals;
+    let text = format!(in alloc;
+        "hits {hits} faults {faults} evictions {evictions} writes {writes} failed {failed} \
+        refused {refused} resident {resident} pinned {pinned} unsaved {unsaved} \
+        loading {loading} writing {writing}",
+        hits = totals.hits,
+        faults = totals.faults,
+        evictions = totals.evictions,
+        writes = totals.writes,
+        failed = totals.failed.saturating_sub(unread),
+        refused = totals.refused,
+        resident = stats.resident,
+        pinned = stats.pinned,
+        unsaved = stats.unsaved,
+        loading = stats.loading,
+        writing = stats.writing
+    );
+    match text {
+        Ok(text) => Answer::Text(text),
+        Err(_) => Answer::BadLine,
     }
 }
 

@@ -181,6 +181,8 @@ impl<K: Keeper> Pool<K> {
             Verb::Purge => forgot(self.core.purge(client)),
             Verb::Fix if self.has_page(page) => self.fix(rt, client, page),
             Verb::Flush if self.has_page(page) => self.flush(rt, client, page),
+            Verb::New if self.has_page(page) => self.fix_new(rt, client, page),
+            Verb::FlushAll => self.flush_all(rt, client),
             _ => Answer::BadLine,
         }
     }
@@ -208,11 +210,16 @@ impl<K: Keeper> Pool<K> {
     /// Makes a call. A core that has a device fixes and flushes by drivers.
     pub fn call(&mut self, rt: &impl Wait, call: &Said) -> Answer {
         match call.verb {
-            Verb::Fix | Verb::Flush | Verb::Tick | Verb::Mark | Verb::Purge => {
-                self.by_client(rt, call)
-            }
+            Verb::Fix
+            | Verb::New
+            | Verb::Flush
+            | Verb::FlushAll
+            | Verb::Tick
+            | Verb::Mark
+            | Verb::Purge => self.by_client(rt, call),
             Verb::Read
             | Verb::Page
+            | Verb::PageLsn
             | Verb::ReadInto
             | Verb::Write
             | Verb::WriteFrom
@@ -220,6 +227,9 @@ impl<K: Keeper> Pool<K> {
             Verb::ReadEnd | Verb::ReadFails(_) | Verb::WriteEnd | Verb::WriteFails(_) => {
                 self.by_ticket(call)
             }
+            Verb::Next | Verb::Redo | Verb::First | Verb::TopLsn | Verb::Resident | Verb::Stats =>
+                self.observe(call),
+            Verb::Sync => self.sync(rt),
             _ => self.tell(rt, call),
         }
     }

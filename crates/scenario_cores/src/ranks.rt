@@ -1,6 +1,6 @@
 //! Candidates of LRU-K by themselves: a plain list and one in the order of replacement, side by side.
 
-use crate::outcomes::done;
+use crate::outcomes::{done, page_or_none};
 use bp_lruk::{Candidates, Settings, scan};
 use bp_page::{PageNo, Refusal};
 use scenario_words::{Answer, Said, Shape, Verb};
@@ -69,10 +69,7 @@ impl Ranked {
         if self.list.victim(t) != victim {
             return DIFFER;
         }
-        match victim {
-            Some(page) => Answer::Number(page.number()),
-            None => Answer::Word("none"),
-        }
+        page_or_none(victim)
     }
 
     fn nth(&self, n: u64) -> Answer {

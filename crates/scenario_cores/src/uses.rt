@@ -3,7 +3,7 @@ ghost use Rattle.std.specs.Prelude.{◌≡◌, IfOk, length};
 
 use crate::buffers::{bytes_read, span_of};
 use crate::lists::{grant_of, pass_of};
-use crate::outcomes::{content, done};
+use crate::outcomes::{content, done, lsn_or_none};
 use crate::pools::Pool;
 use bp_core::{EndRefusal, Ended as WriteEnded, Keeper};
 use bp_page::{Bytes, Image, Lsn, PortFault, Refusal};
@@ -79,6 +79,13 @@ impl<K: Keeper> Pool<K> {
         answer
     }
 
+    fn page_lsn(&self, grant: Grant) -> Answer {
+        let pass = pass_of(grant);
+        let lsn = self.core.page_lsn(&pass);
+        pass.note();
+        lsn_or_none(lsn)
+    }
+
     fn read_into(&mut self, grant: Grant, offset: u64, count: u64) -> Answer {
         let geometry = self.core.geometry();
         let Some(mut span) = span_of(self.alloc, &geometry, offset, count) else {
@@ -126,6 +133,7 @@ impl<K: Keeper> Pool<K> {
         match (call.verb, &call.bytes) {
             (Verb::Read, _) => self.read(pass),
             (Verb::Page, _) => self.page(pass),
+            (Verb::PageLsn, _) => self.page_lsn(pass),
             (Verb::ReadInto, _) => self.read_into(pass, offset, second),
             (Verb::Unfix, _) => self.unfix(pass),
             (Verb::Write | Verb::WriteFrom, Some(bytes)) => {

@@ -2,7 +2,7 @@
 ghost use Rattle.std.specs.Prelude.{◌≡◌};
 
 use crate::kinds::Kind;
-use crate::making::Fused;
+use crate::making::Noting;
 use bp_audit::agrees;
 use bp_core::{Call, Entry, Reply};
 use bp_device::Port;
@@ -10,7 +10,8 @@ use bp_page::Lsn;
 use bp_shared::{PoolName, Session, SharedPool};
 use bp_trail::Grant;
 use scenario_cores::{
-    Lists, bytes_read, content, done, flushed, forgot, grant_of, pass_of, span_of,
+    Lists, bytes_read, content, done, flushed, flushed_all, forgot, grant_of, lsn_or_none,
+    page_or_none, pass_of, span_of, stats_of, went,
 };
 use scenario_words::{Answer, Said, Verb, named};
 use std::alloc::Global;
@@ -94,6 +95,7 @@ pub(crate) fn tell<N: PoolName, K: Kind>(
     session: &mut Session<N, K>,
     note: &mut Note,
     failures: u64,
+    lsn: u64,
     verb: Verb,
 ) -> Option<Answer> {
     let entries = K::list(session).len() as u64;
@@ -102,26 +104,32 @@ pub(crate) fn tell<N: PoolName, K: Kind>(
         Verb::Held => Some(Answer::Number(session.held_count() as u64)),
         Verb::CutList => Some(K::cut_list(session, &mut note.cut)),
         Verb::Failures => Some(Answer::Number(failures)),
+        Verb::NewestLsn => Some(Answer::Number(lsn)),
         _ => None,
     }
 }
 
+/// Fixes a page, or one that is new.
 fn fix<N: PoolName, K: Kind, R: Wait>(
     rt: &R,
     pool: &SharedPool<N, K>,
     session: &mut Session<N, K>,
-    port: &mut Fused,
+    port: &mut Noting,
     lists: &mut Lists,
-    number: u64,
+    call: &Said,
 ) -> Answer
-    requires pages { port.old.inner.device.pages ≡ N.parameters.pages }
-    requires size { port.old.inner.device.size ≡ N.parameters.size }
-    ensures port { port.new.inner.device ≡ port.old.inner.device }
+    requires pages { port.old.inner.inner.device.pages ≡ N.parameters.pages }
+    requires size { port.old.inner.inner.device.size ≡ N.parameters.size }
+    ensures port { port.new.inner.inner.device ≡ port.old.inner.inner.device }
 {
-    let Some(page) = port.geometry().page(number) else {
+    let Some(page) = port.geometry().page(call.numbers.list[1]) else {
         return Answer::BadLine;
     };
-    match pool.fix(rt, session, port, page) {
+    let fixed = match call.verb {
+        Verb::New => pool.fix_new(rt, session, port, page),
+        _ => pool.fix(rt, session, port, page),
+    };
+    match fixed {
         Ok(pass) => lists.give(pass),
         Err(refusal) => Answer::Refused(refusal),
     }
@@ -131,12 +139,12 @@ fn flush<N: PoolName, K: Kind, R: Wait>(
     rt: &R,
     pool: &SharedPool<N, K>,
     session: &mut Session<N, K>,
-    port: &mut Fused,
+    port: &mut Noting,
     number: u64,
 ) -> Answer
-    requires pages { port.old.inner.device.pages ≡ N.parameters.pages }
-    requires size { port.old.inner.device.size ≡ N.parameters.size }
-    ensures port { port.new.inner.device ≡ port.old.inner.device }
+    requires pages { port.old.inner.inner.device.pages ≡ N.parameters.pages }
+    requires size { port.old.inner.inner.device.size ≡ N.parameters.size }
+    ensures port { port.new.inner.inner.device ≡ port.old.inner.inner.device }
 {
     let Some(page) = port.geometry().page(number) else {
         return Answer::BadLine;
@@ -161,12 +169,12 @@ fn read_into<N: PoolName, K: Kind, R: Wait>(
     rt: &R,
     pool: &SharedPool<N, K>,
     session: &mut Session<N, K>,
-    port: &Fused,
+    port: &Noting,
     alloc: Global,
     grant: Grant,
     call: &Said,
 ) -> Answer
-    requires size { port.now.inner.device.size ≡ N.parameters.size }
+    requires size { port.now.inner.inner.device.size ≡ N.parameters.size }
 {
     let [_, offset, count] = call.numbers.list;
     let Some(mut span) = span_of(alloc, &port.geometry(), offset, count) else {
@@ -183,11 +191,11 @@ fn write<N: PoolName, K: Kind, R: Wait>(
     rt: &R,
     pool: &SharedPool<N, K>,
     session: &mut Session<N, K>,
-    port: &Fused,
+    port: &Noting,
     grant: Grant,
     call: &Said,
 ) -> Answer
-    requires size { port.now.inner.device.size ≡ N.parameters.size }
+    requires size { port.now.inner.inner.device.size ≡ N.parameters.size }
 {
     let [_, offset, lsn] = call.numbers.list;
     let Some(bytes) = &call.bytes else {
@@ -225,11 +233,11 @@ fn by_pass<N: PoolName, K: Kind, R: Wait>(
     rt: &R,
     pool: &SharedPool<N, K>,
     session: &mut Session<N, K>,
-    port: &Fused,
+    port: &Noting,
     lists: &Lists,
     call: &Said,
 ) -> Answer
-    requires size { port.now.inner.device.size ≡ N.parameters.size }
+    requires size { port.now.inner.inner.device.size ≡ N.parameters.size }
 {
     let Some(pass) = named(&lists.passes, &call.name) else {
         return Answer::BadLine;
@@ -243,23 +251,30 @@ fn by_pass<N: PoolName, K: Kind, R: Wait>(
     }
 }
 
-/// Makes a call by a client. A pass that it gives is added to those that were given.
+/// Makes a call by a client. A pass that it gives is added to those that were given. So many reads of the pool failed
+/// for want of memory alone.
 pub(crate) fn call<N: PoolName, K: Kind, R: Wait>(
     rt: &R,
     pool: &SharedPool<N, K>,
     session: &mut Session<N, K>,
-    port: &mut Fused,
+    port: &mut Noting,
     lists: &mut Lists,
+    unread: u64,
     call: &Said,
 ) -> Answer
-    requires pages { port.old.inner.device.pages ≡ N.parameters.pages }
-    requires size { port.old.inner.device.size ≡ N.parameters.size }
-    ensures port { port.new.inner.device ≡ port.old.inner.device }
+    requires pages { port.old.inner.inner.device.pages ≡ N.parameters.pages }
+    requires size { port.old.inner.inner.device.size ≡ N.parameters.size }
+    ensures port { port.new.inner.inner.device ≡ port.old.inner.inner.device }
 {
     let [_, second, _] = call.numbers.list;
     match call.verb {
-        Verb::Fix => fix(rt, pool, session, port, lists, second),
+        Verb::Fix | Verb::New => fix(rt, pool, session, port, lists, call),
         Verb::Flush => flush(rt, pool, session, port, second),
+        Verb::FlushAll => flushed_all(pool.flush_all(rt, session, port)),
+        Verb::Sync => went(port.sync(rt)),
+        Verb::Next => page_or_none(pool.next_unsaved(rt, session, second)),
+        Verb::Redo => lsn_or_none(pool.redo_from(rt, session)),
+        Verb::Stats => stats_of(lists.alloc, &pool.stats(rt, session), unread),
         Verb::Tick => done(pool.tick(rt, session, second)),
         Verb::Purge => forgot(pool.purge(rt, session)),
         Verb::Settle => {

@@ -8,6 +8,7 @@ mod clients;
 pub mod kinds;
 mod making;
 pub mod playing;
+mod ports;
 pub mod ran;
 mod rows;
 pub mod runs;

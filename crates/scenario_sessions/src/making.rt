@@ -5,6 +5,7 @@ ghost use Rattle.bp_page.specs.declared.limits.Geometry.{Geometry as AGeometry};
 
 use crate::clients::Note;
 use crate::kinds::Kind;
+use crate::ports::NotingPort;
 use bp_core::PoolCore;
 use bp_device::{FusePort, MemDevice, MemPort, Port};
 use bp_lruk::Settings;
@@ -17,14 +18,17 @@ use std::alloc::Global;
 /// A port of which one call may fail.
 pub(crate) type Fused = FusePort<MemPort>;
 
+/// The same, which tells the page LSN of its newest write.
+pub(crate) type Noting = NotingPort<Fused>;
+
 /// What is beside a pool: its device of zeros, the ports of its clients, and what they were told.
 #[derive(Drop)]
 pub(crate) struct Beside {
     pub(crate) device: Device,
     /// The port of client 0, which may fail once.
-    pub(crate) first: Fused,
+    pub(crate) first: Noting,
     /// The port of the other clients, which fails only where memory is refused.
-    pub(crate) others: Fused,
+    pub(crate) others: Noting,
     /// A note for each client.
     pub(crate) notes: Vec<Note>,
     pub(crate) lists: Lists,
@@ -36,10 +40,10 @@ pub(crate) struct Made<K: Kind> {
     pub(crate) parts: Parts,
     pub(crate) beside: Beside,
     pub(crate) ghost empty: { core.past ≡ [] },
-    pub(crate) ghost first_pages: { beside.first.inner.device.pages ≡ core.parameters.pages },
-    pub(crate) ghost first_size: { beside.first.inner.device.size ≡ core.parameters.size },
-    pub(crate) ghost others_pages: { beside.others.inner.device.pages ≡ core.parameters.pages },
-    pub(crate) ghost others_size: { beside.others.inner.device.size ≡ core.parameters.size },
+    pub(crate) ghost first_pages: { beside.first.inner.inner.device.pages ≡ core.parameters.pages },
+    pub(crate) ghost first_size: { beside.first.inner.inner.device.size ≡ core.parameters.size },
+    pub(crate) ghost others_pages: { beside.others.inner.inner.device.pages ≡ core.parameters.pages },
+    pub(crate) ghost others_size: { beside.others.inner.inner.device.size ≡ core.parameters.size },
 }
 
 /// The parts of a pool of this shape. The core comes last, so that what fails has no core to let go.
@@ -59,16 +63,16 @@ pub(crate) fn make<K: Kind>(alloc: Global, shape: &Shape) -> Result<Made<K>, Ref
 
 /// What is beside a pool of this shape, with a device of this geometry.
 fn new_beside(alloc: Global, geometry: Geometry, shape: &Shape) -> Result<Beside, Refusal>
-    ensures first { IfOk result (λ beside. beside.first.inner.device ≡ geometry) }
-    ensures others { IfOk result (λ beside. beside.others.inner.device ≡ geometry) }
+    ensures first { IfOk result (λ beside. beside.first.inner.inner.device ≡ geometry) }
+    ensures others { IfOk result (λ beside. beside.others.inner.inner.device ≡ geometry) }
 {
     let Some(lists) = new_lists(alloc) else {
         return Err(Refusal::OutOfMemory);
     };
     let notes = new_notes(alloc, shape.clients)?;
     let device = new_device(alloc, geometry, 0, false)?;
-    let first = new_port(alloc, &device.memory, shape.fuse, shape.spoils)?;
-    let others = new_port(alloc, &device.memory, 0, false)?;
+    let first = NotingPort::new(new_port(alloc, &device.memory, shape.fuse, shape.spoils)?);
+    let others = NotingPort::new(new_port(alloc, &device.memory, 0, false)?);
     Ok(Beside {
         device,
         first,

@@ -5,11 +5,10 @@ use crate::answers::Answers;
 use crate::clients::{Note, Told, call, is_part, tell, told_of};
 use crate::kinds::Kind;
 use crate::making::{Beside, Made};
-use bp_core::Entry;
 use bp_device::Port;
 use bp_mark::LogEnd;
 use bp_page::{Lsn, Refusal};
-use bp_shared::{Parts, PoolName, Session, SharedPool, Taker};
+use bp_shared::{ClosedPool, Parts, PoolName, Session, SharedPool, Taker};
 use bp_trail::Reply;
 use scenario_cores::{Pool, done, pool_of};
 use scenario_words::{Answer, Said, Verb, Way, session_call_of};
@@ -26,10 +25,10 @@ pub(crate) struct Table<N: PoolName, K: Kind> {
     sessions: Vec<Session<N, K>>,
     beside: Beside,
     ghost end_is: { end.mark ≡ N.mark },
-    ghost first_pages: { beside.first.inner.device.pages ≡ N.parameters.pages },
-    ghost first_size: { beside.first.inner.device.size ≡ N.parameters.size },
-    ghost others_pages: { beside.others.inner.device.pages ≡ N.parameters.pages },
-    ghost others_size: { beside.others.inner.device.size ≡ N.parameters.size },
+    ghost first_pages: { beside.first.inner.inner.device.pages ≡ N.parameters.pages },
+    ghost first_size: { beside.first.inner.inner.device.size ≡ N.parameters.size },
+    ghost others_pages: { beside.others.inner.inner.device.pages ≡ N.parameters.pages },
+    ghost others_size: { beside.others.inner.inner.device.size ≡ N.parameters.size },
 }
 
 /// A pool over what was made.
@@ -78,8 +77,8 @@ enum Lack {
     Change,
 }
 
-/// What a call lacked that answers so, with what was told before it and after it. A fix may leave entries, where memory
-/// was wanted after its first event; no call leaves a pass or a ticket.
+/// What a call lacked that answers so, with what was told before it and after it. A fix and a flush may leave entries,
+/// where memory was wanted after their first event; no call leaves a pass or a ticket.
 fn lack_of(verb: Verb, answer: &Answer, before: Told, after: Told) -> Lack {
     let is_image = matches!(answer, Answer::Refused(Refusal::ReadFailed))
         && before.failures == after.failures;
@@ -87,7 +86,8 @@ fn lack_of(verb: Verb, answer: &Answer, before: Told, after: Told) -> Lack {
         return Lack::Nothing;
     }
     let is_same = before.held == after.held && before.out == after.out;
-    if !is_same || (before.entries != after.entries && !matches!(verb, Verb::Fix)) {
+    let may_add = matches!(verb, Verb::Fix | Verb::New | Verb::Flush | Verb::FlushAll);
+    if !is_same || (before.entries != after.entries && !may_add) {
         return Lack::Change;
     }
     if is_image { Lack::Image } else { Lack::Memory }
@@ -98,7 +98,12 @@ fn drains(verb: Verb) -> bool {
     matches!(
         verb,
         Verb::Fix
+            | Verb::New
             | Verb::Flush
+            | Verb::FlushAll
+            | Verb::Next
+            | Verb::Redo
+            | Verb::Stats
             | Verb::Tick
             | Verb::Purge
             | Verb::Read
@@ -148,16 +153,35 @@ impl<N: PoolName, K: Kind> Table<N, K> {
         }
     }
 
+    /// The page LSN of the newest write of a client's port, or 0.
+    fn newest_lsn(&self, client: u64) -> u64 {
+        if client == 0 {
+            self.beside.first.lsn()
+        } else {
+            self.beside.others.lsn()
+        }
+    }
+
+    /// How many reads of all clients failed for want of memory alone.
+    fn unread(&self) -> u64 {
+        let mut unread = 0u64;
+        for note in self.beside.notes.iter() {
+            unread = unread.saturating_add(note.unread);
+        }
+        unread
+    }
+
     /// Does what a line asks of a client.
     fn ask_client<R: Wait>(&mut self, rt: &R, line: &Said) -> Answer {
         let [client, _, _] = line.numbers.list;
-        let failures = self.failures(client);
+        let (failures, lsn) = (self.failures(client), self.newest_lsn(client));
+        let unread = self.unread();
         let at = client as usize;
         let (Some(session), Some(note)) = (self.sessions.get_mut(at), self.beside.notes.get_mut(at))
         else {
             return Answer::BadLine;
         };
-        if let Some(answer) = tell(session, note, failures, line.verb) {
+        if let Some(answer) = tell(session, note, failures, lsn, line.verb) {
             return answer;
         }
         if client == 0 {
@@ -167,6 +191,7 @@ impl<N: PoolName, K: Kind> Table<N, K> {
                 session,
                 &mut self.beside.first,
                 &mut self.beside.lists,
+                unread,
                 line,
             )
         } else {
@@ -176,6 +201,7 @@ impl<N: PoolName, K: Kind> Table<N, K> {
                 session,
                 &mut self.beside.others,
                 &mut self.beside.lists,
+                unread,
                 line,
             )
         }
@@ -261,7 +287,8 @@ impl<N: PoolName, K: Kind> Table<N, K> {
         }
     }
 
-    /// Ends the pool, and answers whether each list is its client's part of the trail. The core is left.
+    /// Ends the pool, and answers whether each list is its client's part of the trail, and each pass that was given back
+    /// went back. The core is left.
     pub(crate) fn finish(self, answers: &mut Answers) -> Pool<K> {
         let Table {
             alloc,
@@ -269,7 +296,7 @@ impl<N: PoolName, K: Kind> Table<N, K> {
             pool,
             taker,
             end: _,
-            mut sessions,
+            sessions,
             beside,
         } = self;
         let Beside {
@@ -279,32 +306,39 @@ impl<N: PoolName, K: Kind> Table<N, K> {
             mut notes,
             lists,
         } = beside;
-        let (core, _, _) = pool.finish(taker);
-        let rest = K::trail(&core);
-        let (mut agree, mut unread) = (true, 0u64);
-        for (session, note) in sessions.iter_mut().zip(notes.iter_mut()) {
-            agree = is_told(session, note, &lists.entries, rest) && agree;
-            unread = unread.saturating_add(note.unread);
+        let mut pool = pool.close();
+        let mut settled = true;
+        for (session, note) in sessions.into_iter().zip(notes.iter_mut()) {
+            settled = end_session(&mut pool, session, note) && settled;
         }
-        answers.add(Some(if agree {
-            Answer::Reply(Reply::Done)
-        } else {
-            Answer::Word("a list is not its client's part of the trail")
+        let (core, _, _) = pool.into_core(taker);
+        let rest = K::trail(&core);
+        let (mut agree, mut unread, mut client) = (true, 0u64, 0u8);
+        for note in notes.iter() {
+            agree = is_part(&lists.entries, rest, &note.cut, client) && agree;
+            unread = unread.saturating_add(note.unread);
+            client = client.saturating_add(1);
+        }
+        answers.add(Some(match (agree, settled) {
+            (true, true) => Answer::Reply(Reply::Done),
+            (true, false) => Answer::Word("a pass that was given back did not go back"),
+            (false, _) => Answer::Word("a list is not its client's part of the trail"),
         }));
         pool_of(alloc, core, device, lists, unread)
     }
 }
 
-/// Whether a client's list, which is cut to its end, is its part of a trail of two pieces. A cut that is refused memory
-/// is made once more.
-fn is_told<N: PoolName, K: Kind>(
-    session: &mut Session<N, K>,
+/// Ends a session, whose list is cut to its end, and answers whether all its passes went back that it gave back. A cut
+/// that is refused memory is made once more.
+fn end_session<N: PoolName, K: Kind>(
+    pool: &mut ClosedPool<N, K>,
+    session: Session<N, K>,
     note: &mut Note,
-    first: &[Entry],
-    rest: &[Entry],
 ) -> bool {
-    if let Answer::Refused(_) = K::cut_list(session, &mut note.cut) {
-        K::cut_list(session, &mut note.cut);
+    let mut session = session;
+    if let Answer::Refused(_) = K::cut_list(&mut session, &mut note.cut) {
+        K::cut_list(&mut session, &mut note.cut);
     }
-    is_part(first, rest, &note.cut, session.client())
+    let (_, is_settled) = pool.end_session(session);
+    is_settled
 }

@@ -2,7 +2,7 @@
 
 use crate::entries::write_reply;
 use crate::images::{write_bytes, write_image};
-use bp_page::{Image, Lsn, Refusal};
+use bp_page::{Image, Lsn, PageNo, Refusal};
 use bp_trail::{Grant, Reply};
 use std::fmt;
 
@@ -14,6 +14,8 @@ pub enum Answer {
     /// A ticket to write out, with the page LSN.
     Out(Reply, Lsn),
     Refused(Refusal),
+    /// The page at which a flush of all ended, and why.
+    Stopped(PageNo, Refusal),
     /// A pass or a ticket that comes back, and what came with the end of a read.
     Back(Refusal, Grant, Option<Image>),
     /// Bytes of a page, all of them.
@@ -34,7 +36,9 @@ impl Answer {
     pub fn lacks_memory(&self) -> bool {
         matches!(
             self,
-            Answer::Refused(Refusal::OutOfMemory) | Answer::BadLine
+            Answer::Refused(Refusal::OutOfMemory)
+                | Answer::Stopped(_, Refusal::OutOfMemory)
+                | Answer::BadLine
         )
     }
 }
@@ -72,6 +76,10 @@ impl fmt::Display for Answer {
                 write!(f, " lsn {}", lsn.number())
             }
             Answer::Refused(refusal) => write_refusal(*refusal, f),
+            Answer::Stopped(page, refusal) => {
+                write_refusal(*refusal, f)?;
+                write!(f, " page {}", page.number())
+            }
             Answer::Back(refusal, back, came) => write_back(*refusal, back, came, f),
             Answer::Bytes(bytes) if bytes.is_empty() => write!(f, "no bytes"),
             Answer::Bytes(bytes) => write_bytes(bytes, bytes.len(), f),

@@ -29,6 +29,19 @@ pub enum Verb {
     Last,
     Stamp,
     Unsaved,
+    /// What a checkpoint asks: the next unsaved page, where redo begins, and of a page its least unsaved LSN.
+    Next,
+    Redo,
+    First,
+    /// The page LSN of a page that is here, and that of the page of a pass.
+    TopLsn,
+    PageLsn,
+    Resident,
+    Stats,
+    FlushAll,
+    /// Fixes a page that is new.
+    New,
+    Sync,
     Clock,
     Durable,
     Free,
@@ -54,6 +67,8 @@ pub enum Verb {
     Put,
     Device,
     Failures,
+    /// The page LSN of the newest write of a session's port.
+    NewestLsn,
     /// The histories of LRU-K.
     Prepare,
     Unprepare,

@@ -4,7 +4,7 @@ use crate::calls::Verb;
 use bp_page::PortFault;
 
 /// Each call.
-pub(crate) const CALLS: [(&str, Verb); 48] = [
+pub(crate) const CALLS: [(&str, Verb); 58] = [
     ("fix N N", Verb::Fix),
     ("flush N N", Verb::Flush),
     ("tick N N", Verb::Tick),
@@ -33,6 +33,16 @@ pub(crate) const CALLS: [(&str, Verb); 48] = [
     ("last N", Verb::Last),
     ("stamp N N", Verb::Stamp),
     ("unsaved N", Verb::Unsaved),
+    ("next N", Verb::Next),
+    ("redo", Verb::Redo),
+    ("first N", Verb::First),
+    ("lsn N", Verb::TopLsn),
+    ("page_lsn G", Verb::PageLsn),
+    ("resident N", Verb::Resident),
+    ("stats", Verb::Stats),
+    ("flush_all N", Verb::FlushAll),
+    ("new N N", Verb::New),
+    ("sync", Verb::Sync),
     ("clock", Verb::Clock),
     ("durable", Verb::Durable),
     ("free", Verb::Free),
@@ -62,9 +72,15 @@ pub(crate) const CALLS: [(&str, Verb); 48] = [
 ];
 
 /// Each call while sessions use a pool. That of a session has its client first.
-pub(crate) const SESSION_CALLS: [(&str, Verb); 18] = [
+pub(crate) const SESSION_CALLS: [(&str, Verb); 25] = [
     ("N fix N", Verb::Fix),
+    ("N new N", Verb::New),
     ("N flush N", Verb::Flush),
+    ("N flush_all", Verb::FlushAll),
+    ("N sync", Verb::Sync),
+    ("N next N", Verb::Next),
+    ("N redo", Verb::Redo),
+    ("N stats", Verb::Stats),
     ("N tick N", Verb::Tick),
     ("N purge", Verb::Purge),
     ("N read G", Verb::Read),
@@ -77,6 +93,7 @@ pub(crate) const SESSION_CALLS: [(&str, Verb); 18] = [
     ("N held", Verb::Held),
     ("N cut", Verb::CutList),
     ("N failures", Verb::Failures),
+    ("N lsn", Verb::NewestLsn),
     ("raise N", Verb::Raise),
     ("cut", Verb::Cut),
     ("put N I", Verb::Put),

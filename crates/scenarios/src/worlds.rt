@@ -266,7 +266,7 @@ impl World {
     }
 
     /// Does what a line asks for. None where this way passes it over. What was refused memory is to have changed
-    /// nothing that is told, and is asked for once more.
+    /// nothing that is told, but for a flush of all, and is asked for once more.
     pub fn take(&mut self, rt: &impl Wait, line: &str) -> Option<Answer> {
         if self.is_out {
             return None;
@@ -274,7 +274,7 @@ impl World {
         let before = self.told();
         match self.obey(rt, line) {
             Some(answer) if answer.lacks_memory() => {
-                if self.told() == before {
+                if self.told() == before || matches!(answer, Answer::Stopped(_, _)) {
                     self.once_more(rt, line)
                 } else {
                     Some(Answer::Word("22, and something has changed"))

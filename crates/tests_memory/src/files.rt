@@ -85,7 +85,7 @@ fn cannot_be_made<R: Files<File = File> + AllocGlobal + Wait + Abort>(rt: &R, pa
 }
 
 /// A file of two pages of zeros, of which each is read once more where memory was refused. That is no failure of the
-/// device.
+/// device. Then the file is synced.
 fn expect_zeros<R: Wait + Abort>(rt: &R, mut port: FilePort) {
     assert_eq!(rt; (port.geometry().pages, port.geometry().size), (2, 16));
     for number in 0..2 {
@@ -99,6 +99,7 @@ fn expect_zeros<R: Wait + Abort>(rt: &R, mut port: FilePort) {
             Err(fault) => panic!(rt; "{fault}"),
         }
     }
+    assert_eq!(rt; port.sync(rt), Ok(()));
     assert!(rt; port.failures() == 0);
 }
 

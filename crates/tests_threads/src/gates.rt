@@ -83,6 +83,8 @@ impl<P: Port> Port for HeldPort<P> {
     ghost write_gives = { λ port page image lsn written after.
         P.write_gives port.inner page image lsn written after.inner };
 
+    ghost sync_gives = { λ port synced after. P.sync_gives port.inner synced after.inner };
+
     fn geometry(&self) -> Geometry {
         self.inner.geometry()
     }
@@ -105,5 +107,10 @@ impl<P: Port> Port for HeldPort<P> {
     ) -> Result<(), PortFault> {
         self.gate.pass(rt);
         self.inner.write(rt, page, image, lsn)
+    }
+
+    fn sync<R: Wait>(&mut self, rt: &R) -> Result<(), PortFault> {
+        self.gate.pass(rt);
+        self.inner.sync(rt)
     }
 }

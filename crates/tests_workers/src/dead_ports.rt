@@ -28,6 +28,8 @@ impl Port for DeadPort {
 
     ghost write_gives = { λ _ _ _ _ _ _. Unit {0} };
 
+    ghost sync_gives = { λ _ _ _. Unit {0} };
+
     fn geometry(&self) -> Geometry {
         self.geometry
     }
@@ -48,6 +50,11 @@ impl Port for DeadPort {
         _image: &Image,
         _lsn: Lsn,
     ) -> Result<(), PortFault> {
+        self.failures = self.failures.saturating_add(1);
+        Err(PortFault::Device)
+    }
+
+    fn sync<R: Wait>(&mut self, _rt: &R) -> Result<(), PortFault> {
         self.failures = self.failures.saturating_add(1);
         Err(PortFault::Device)
     }

@@ -1,0 +1,67 @@
+//! What a checkpoint asks of a core, what a core counts, and the device work of more than one page.
+ghost use Rattle.std.specs.Prelude.{◌<◌};
+
+use crate::outcomes::{flushed_all, lsn_or_none, page_or_none, stats_of, went};
+use crate::pools::Pool;
+use bp_core::Keeper;
+use bp_device::{Port, drive_flush_all, drive_new};
+use bp_page::{PageNo, Refusal};
+use scenario_words::{Answer, Said, Verb};
+use std::sync::Wait;
+
+impl<K: Keeper> Pool<K> {
+    /// Tells what adds no entry.
+    pub(crate) fn observe(&mut self, call: &Said) -> Answer {
+        let [number, _, _] = call.numbers.list;
+        let page = PageNo::new(number);
+        match call.verb {
+            Verb::Next => page_or_none(self.core.next_unsaved(number)),
+            Verb::Redo => lsn_or_none(self.core.redo_from()),
+            Verb::First => lsn_or_none(self.core.first_lsn(page)),
+            Verb::TopLsn => lsn_or_none(self.core.resident_lsn(page)),
+            Verb::Resident => Answer::yes_or_no(self.core.is_resident(page)),
+            _ => stats_of(self.alloc, &self.core.stats(), self.unread),
+        }
+    }
+
+    /// Flushes all unsaved pages of a core that has a device.
+    pub(crate) fn flush_all(&mut self, rt: &impl Wait, client: u8) -> Answer
+        requires { client < self.old.core.parameters.clients }
+    {
+        match &mut self.device {
+            Some(device) => {
+                flushed_all(drive_flush_all(rt, &mut self.core, &mut device.port, client))
+            }
+            None => Answer::BadLine,
+        }
+    }
+
+    /// Fixes a new page of a core that has a device.
+    pub(crate) fn fix_new(&mut self, rt: &impl Wait, client: u8, page: PageNo) -> Answer
+        requires client { client < self.old.core.parameters.clients }
+        requires page { page < self.old.core.parameters.pages }
+    {
+        let Some(device) = &mut self.device else {
+            return Answer::BadLine;
+        };
+        match drive_new(
+            rt,
+            self.alloc,
+            &mut self.core,
+            &mut device.port,
+            client,
+            page,
+        ) {
+            Ok(pass) => self.lists.give(pass),
+            Err(refusal) => Answer::Refused(refusal),
+        }
+    }
+
+    /// Syncs the device, if there is one.
+    pub(crate) fn sync(&mut self, rt: &impl Wait) -> Answer {
+        match &mut self.device {
+            Some(device) => went(device.port.sync(rt)),
+            None => Answer::BadLine,
+        }
+    }
+}
