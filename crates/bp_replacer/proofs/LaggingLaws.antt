@@ -118,12 +118,25 @@ settling (e ∷ known) [] k len lt differ = absurd (omega arith)
 settling (e ∷ known) (s ∷ seats) zero len lt differ = rw (differ, itself s) (omega arith)
 settling (e ∷ known) (s ∷ seats) (suc k) len lt differ = (let less = settling known seats k (omega arith) (omega arith) differ in omega (arith, less))
 
--- one seat that another stood at than was known, and no more
-pub behind_less : (known seats new : List (Option Candidate)) (seat : ℕ) (a b : Option Candidate) → LagsBehind known seats → seat < length known → a ≡ seat_at known seat → b ≡ seat_at seats seat → same_seat a b ≡ false → new ≡ set known seat b → unsettled new seats < unsettled known seats
-behind_less known seats new seat a b l lt is_a is_b differ is_new =
-    let other : same_seat (seat_at known seat) (seat_at seats seat) ≡ false = (λ i. same_seat (sym is_a i) (sym is_b i)) ∙ differ in
-    subst (λ (n : List (Option Candidate)). unsettled n seats < unsettled known seats) (sym (is_new ∙ ap (set known seat) is_b))
-    (settling known seats seat l.length_is (omega (arith, lt, l.length_is)) other)
+all_settled : (seats : List (Option Candidate)) → unsettled seats seats ≡ 0
+all_settled [] = refl
+all_settled (s ∷ seats) = rw (itself s) (omega (arith, all_settled seats))
+
+-- ---- one seat is settled, or each
+
+module _ (known seats : List (Option Candidate)) (seat : ℕ) (lt : seat < length seats) (l : LagsBehind known seats) where
+  pub settled_behind : (new : List (Option Candidate)) → (new ≡ set known seat (seat_at seats seat)) ⊎ (new ≡ seats) → LagsBehind new seats
+  settled_behind new (inl one) = subst (λ (n : List (Option Candidate)). LagsBehind n seats) (sym one) (settled_seat known seats seat lt l)
+  settled_behind new (inr all) = subst (λ (n : List (Option Candidate)). LagsBehind n seats) (sym all) (record { length_is = refl; lags = λ k. settled_lags (seat_at seats k) })
+
+  pub settled_less : (new : List (Option Candidate)) (a b : Option Candidate) → a ≡ seat_at known seat → b ≡ seat_at seats seat → same_seat a b ≡ false → (new ≡ set known seat (seat_at seats seat)) ⊎ (new ≡ seats) → unsettled new seats < unsettled known seats
+  settled_less new a b is_a is_b differ how =
+      let other : same_seat (seat_at known seat) (seat_at seats seat) ≡ false = (λ i. same_seat (sym is_a i) (sym is_b i)) ∙ differ in
+      let less = settling known seats seat l.length_is lt other in
+      elim how [
+        | inl one ↦ subst (λ (n : List (Option Candidate)). unsettled n seats < unsettled known seats) (sym one) less
+        | inr all ↦ subst (λ (n : List (Option Candidate)). unsettled n seats < unsettled known seats) (sym all) (omega (arith, less, all_settled seats))
+      ]
 
 -- who is known to come first, and stands there
 pub first_stands : (known seats : List (Option Candidate)) (time seat : ℕ) (a b : Option Candidate) → LagsBehind known seats → IsFirstAt known (λ x. x.1 < time) seat → a ≡ seat_at known seat → b ≡ seat_at seats seat → same_seat a b ≡ true → IsFirst seats (λ x. x.1 < time) b

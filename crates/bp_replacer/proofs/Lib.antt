@@ -3,6 +3,7 @@ pub mod KeptLaws
 pub mod LaggingLaws
 pub mod QueueLaws
 pub mod BlockSteps
+pub mod PassLaws
 pub mod PurgeLaws
 pub mod PurgeWalk
 pub mod SeatListLaws

@@ -155,7 +155,7 @@ node_seat nodes i le = (let past : nat_lt i (length nodes) ≡ false = grind (ar
 pub node_changed : (nodes : List Winners) (at : ℕ) (w : Winners) → at < length nodes → node (set nodes at w) at ≡ w
 node_changed nodes at w lt = node_inner (set nodes at w) at (omega (arith, length-set nodes at w)) ∙ get_or-set_same nodes at w nowhere lt
 
-node_kept : (nodes : List Winners) (at : ℕ) (w : Winners) (i : ℕ) → i ≢ at → node (set nodes at w) i ≡ node nodes i
+pub node_kept : (nodes : List Winners) (at : ℕ) (w : Winners) (i : ℕ) → i ≢ at → node (set nodes at w) i ≡ node nodes i
 node_kept nodes at w i other = elim (cases_lt i (length nodes)) [
   | inl lt ↦ node_inner (set nodes at w) i (omega (arith, length-set nodes at w)) ∙ get_or-set_other nodes at i w nowhere other ∙ sym (node_inner nodes i lt)
   | inr ge ↦

@@ -1,7 +1,7 @@
--- A tree of winners while a change of one seat goes up.
+-- A tree of winners while a change of one seat goes up, and while a pass goes over it.
 use Rattle.std.specs.Prelude.{◌≡◌, ◌≢◌, ◌⊎◌, ℕ, ◌*◌, ◌+◌, ◌/◌, ◌<◌, ◌≤◌, List, length, Option}
 use Rattle.bp_references.specs.Candidates.{Candidate}
-use Rattle.bp_replacer.specs.Seats.{node, Has, IsTaken, IsFromBelow, IsWon, IsBelow}
+use Rattle.bp_replacer.specs.Seats.{node, Has, IsTaken, AreTaken, IsFromBelow, IsWon, IsBelow}
 use Rattle.bp_replacer.specs.declared.tournament.Winners.{Winners}
 
 -- neither of the two nodes below this one has the number of the seat
@@ -20,3 +20,10 @@ pub record IsWonUpTo (nodes : List Winners) (seats : List (Option Candidate))
   pub from_below : (i : ℕ) → 1 ≤ i → i < length nodes → i ≢ at / 2 → IsFromBelow nodes i
   pub won : (i : ℕ) → 1 ≤ i → i < length nodes → i ≢ at / 2 → (at ≤ i) ⊎ IsUntold nodes seat i
       → IsWon nodes seats i
+
+-- while a pass goes from the last node to the root: this node and those after it are right
+pub record IsWonFrom (nodes : List Winners) (seats : List (Option Candidate)) (at : ℕ) : Type 0 where
+  pub length_is : length nodes ≡ length seats
+  pub taken : (i : ℕ) → 1 ≤ i → at ≤ i → i < length nodes → AreTaken seats (node nodes i)
+  pub from_below : (i : ℕ) → 1 ≤ i → at ≤ i → i < length nodes → IsFromBelow nodes i
+  pub won : (i : ℕ) → 1 ≤ i → at ≤ i → i < length nodes → IsWon nodes seats i

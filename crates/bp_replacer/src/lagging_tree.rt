@@ -1,23 +1,35 @@
 //! Who stands at each seat, and who comes first of them, by a tree that may lag behind.
 ghost use Rattle.std.specs.Prelude.{◌≡◌, ◌⊎◌, ◌<◌, IsTrue, Some, None, IfOk, length, replicate, set};
-ghost use Rattle.std.specs.Option.{is_some};
 ghost use Rattle.bp_replacer.specs.Seats.{seat_at, same_seat, Lags, LagsBehind, IsFirst};
 
+use crate::marks::Marks;
 use crate::seat_list::SeatList;
 use crate::tournament::{Seat, Tournament, precedes};
 use std::alloc::{AllocError, Global};
 use std::marker::Model;
 
+/// How many walks one look takes at most where a pass is less.
+const FEW_WALKS: usize = 8;
+
+/// A pass is less where the tree lags behind one of so many seats.
+const SEATS_A_WALK: usize = 16;
+
 /// Who stands at each seat, and a tree of winners over them.
 ///
 /// The tree may lag behind a seat: it may know somebody there who has left, or who comes before whoever stands there
 /// now and was last referenced before. So who comes first in the tree does so of all, or the tree lags behind that
-/// seat. A page that is referenced again only falls in the order: it stays where it was in the tree until it would
-/// come first there, and is put in its place then.
+/// seat. A page that is referenced again only falls in the order: it stays where it was in the tree until it would come
+/// first there, and is put in its place then, by a walk up the tree from its seat.
+///
+/// Where one look took 8 walks already, and the tree may lag behind one in 16 of the seats, there is a pass in place of
+/// the next walk: the tree gets who stands at each seat, and each node is found out anew once. So a pass comes to less
+/// than 32 nodes for each seat that was changed since the pass before.
 #[derive(Drop)]
 pub struct LaggingTree {
     seats: SeatList,
     tree: Tournament,
+    /// At which seats the tree may know another: it lags behind no other seat.
+    behind: Marks,
 }
 
 impl Model for LaggingTree {
@@ -54,6 +66,21 @@ fn same_seat(a: &Seat, b: &Seat) -> bool
     }
 }
 
+// Has the tree know who stands at a seat, by a walk, or at all seats, by a pass.
+fn settle(tree: &mut Tournament, seats: &SeatList, behind: &mut Marks, seat: usize, all: bool)
+    requires as_many { length tree.old ≡ length seats.now }
+    requires seat { seat < length seats.now }
+    ensures { (tree.new ≡ set tree.old seat (seat_at seats.now seat)) ⊎ (tree.new ≡ seats.now) }
+{
+    if all {
+        tree.put_all(seats);
+        behind.unset_all();
+    } else {
+        tree.put(seat, seats.find(seat));
+        behind.unset(seat);
+    }
+}
+
 impl LaggingTree {
     /// So many seats, and nobody on them.
     pub fn new(alloc: Global, size: usize) -> Result<LaggingTree, AllocError>
@@ -61,27 +88,12 @@ impl LaggingTree {
     {
         let seats = SeatList::new(alloc, size)?;
         let tree = Tournament::new(alloc, size)?;
-        Ok(LaggingTree { seats, tree })
-    }
-
-    /// Whether somebody stands at a seat.
-    pub fn is_taken(&self, seat: usize) -> bool
-        requires { seat < length self.now }
-        ensures { result ≡ is_some (seat_at self.now seat) }
-    {
-        self.seats.is_taken(seat)
-    }
-
-    /// Has the tree know who stands at a seat, if it is one.
-    pub fn catch_up(&mut self, seat: usize)
-        ensures { self.new ≡ self.old }
-    {
-        if seat < self.seats.len() {
-            let here = self.seats.find(seat);
-            if !same_seat(&self.tree.find(seat), &here) {
-                self.tree.put(seat, here);
-            }
-        }
+        let behind = Marks::new(alloc, size)?;
+        Ok(LaggingTree {
+            seats,
+            tree,
+            behind,
+        })
     }
 
     /// Changes who stands at a seat. The tree lags behind it where it may.
@@ -92,15 +104,19 @@ impl LaggingTree {
         self.seats.put(seat, entry);
         if !may_lag(&self.tree.find(seat), &entry) {
             self.tree.put(seat, entry);
+            self.behind.unset(seat);
+        } else {
+            self.behind.set(seat);
         }
     }
 
     /// Who comes first of those that were last referenced before a time. The tree catches up with each seat that comes
-    /// first in it wrongly, until one does so rightly.
+    /// first in it wrongly, until one does so rightly. After a pass the next look finds the one.
     pub fn first_before(&mut self, time: u64) -> Seat
         ensures same { self.new ≡ self.old }
         ensures first { IsFirst self.new (λ e. e.1 < time) result }
     {
+        let mut walks = 0usize;
         loop {
             let Some(seat) = self.tree.first_before(time) else {
                 return None;
@@ -109,7 +125,10 @@ impl LaggingTree {
             if same_seat(&self.tree.find(seat), &entry) {
                 return entry;
             }
-            self.tree.put(seat, entry);
+            let many = self.seats.len() / SEATS_A_WALK;
+            let all = walks >= FEW_WALKS && self.behind.count() >= many;
+            settle(&mut self.tree, &self.seats, &mut self.behind, seat, all);
+            walks = walks.saturating_add(1);
         }
     }
 }

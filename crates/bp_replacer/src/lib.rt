@@ -3,6 +3,7 @@
 
 pub mod histories;
 mod lagging_tree;
+mod marks;
 mod queue;
 mod seat_list;
 pub mod seats;

@@ -26,7 +26,8 @@ struct Winners {
 /// `put` goes up from its seat as far as it changes what a node knows, at most to the root: O(log seats). It ends at
 /// the first node that has the numbers it had, none of them that of the seat: nothing above knows who stood there or
 /// stands there now. So it takes one step where the seat, before and after the change, comes after its neighbour and
-/// was not last referenced before that one.
+/// was not last referenced before that one. `put_all` changes all seats at once, and finds out anew what each node
+/// knows, from the last one to the root: O(seats), and no walk.
 ///
 /// `first_before` asks the root, and then looks below those nodes that do not know. Below each of them stand two who
 /// were not last referenced before the time that is asked for, nor at the same time. So the root knows where nobody was
@@ -178,6 +179,20 @@ fn replay(nodes: &mut [Winners], seats: &SeatList, seat: usize)
     }
 }
 
+// Finds out anew whom each node knows, from the last one to the root: so each comes after the two below it.
+fn replay_all(nodes: &mut [Winners], seats: &SeatList)
+    requires { length nodes.old ≡ length seats.now }
+    ensures won { IsTournament nodes.new seats.now }
+{
+    let mut at = nodes.len();
+    while at > 1 {
+        at -= 1;
+        let left = node(nodes, seats, 2 * at);
+        let right = node(nodes, seats, 2 * at + 1);
+        nodes[at] = play(seats, &left, &right);
+    }
+}
+
 // Who comes first of those below a node that were last referenced before a time; it looks below nodes that do not know.
 fn first_below(nodes: &[Winners], seats: &SeatList, at: usize, time: u64) -> usize
     requires won { IsTournament nodes.now seats.now }
@@ -240,6 +255,15 @@ impl Tournament {
     {
         self.seats.put(seat, entry);
         replay(&mut self.nodes, &self.seats, seat);
+    }
+
+    /// Changes who stands at each seat, to who stands there in a list of as many.
+    pub fn put_all(&mut self, seats: &SeatList)
+        requires { length seats.now ≡ length self.old }
+        ensures { self.new ≡ seats.now }
+    {
+        self.seats.copy_from(seats);
+        replay_all(&mut self.nodes, &self.seats);
     }
 }
 
