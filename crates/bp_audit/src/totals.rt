@@ -9,7 +9,7 @@ use bp_trail::{Entry, Reply};
 pub struct Totals {
     /// Fixes that found their page in a frame.
     pub hits: u64,
-    /// Pages that were read from the device.
+    /// Pages that came into a frame: read from the device, or new.
     pub faults: u64,
     /// Pages that left a frame.
     pub evictions: u64,

@@ -135,10 +135,10 @@ impl<'a> Past<'a> {
     }
 
     /// The greatest LSN of the writes of the page since it was loaded.
-    fn top(&self, page: PageNo) -> Lsn
-        ensures { result ≡ saved.top self.now.past page }
+    fn page_lsn(&self, page: PageNo) -> Lsn
+        ensures { result ≡ saved.page_lsn self.now.past page }
     {
-        scans::top(self.entries, page)
+        scans::page_lsn(self.entries, page)
     }
 
     /// The image of the page that was loaded, with the writes since.

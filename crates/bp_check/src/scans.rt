@@ -71,18 +71,18 @@ pub(crate) fn at_least(lsn: Option<Lsn>, reached: Lsn) -> Lsn
 }
 
 /// The greatest LSN of the writes of the page since it was loaded, or 0.
-pub(crate) fn top(past: &[Entry], page: PageNo) -> Lsn
-    ensures { result ≡ saved.top (reverse past.now) page }
+pub(crate) fn page_lsn(past: &[Entry], page: PageNo) -> Lsn
+    ensures { result ≡ saved.page_lsn (reverse past.now) page }
 {
-    let mut top = Lsn::new(0);
+    let mut page_lsn = Lsn::new(0);
     for e in past {
-        top = if loads(page, e) {
+        page_lsn = if loads(page, e) {
             Lsn::new(0)
         } else {
-            at_least(lsn_written(page, e), top)
+            at_least(lsn_written(page, e), page_lsn)
         };
     }
-    top
+    page_lsn
 }
 
 /// Puts the image that a read brought in, or none, in place of this one.

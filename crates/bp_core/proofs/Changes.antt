@@ -13,7 +13,7 @@ use Rattle.bp_trail.specs.Trail.{Trail}
 use Rattle.bp_trail.specs.Clock.{clock, durable}
 use Rattle.bp_trail.specs.Passes.{passes, tickets, passes_out, is_of, pins}
 use Rattle.bp_trail.specs.Places.{residents, resident, loading, writing}
-use Rattle.bp_trail.specs.Saved.{unsaved, top}
+use Rattle.bp_trail.specs.Saved.{unsaved, page_lsn}
 use Rattle.bp_trail.specs.Images.{held}
 use Rattle.bp_trail.specs.References.{references, forgets}
 use Rattle.bp_trail.specs.Legal.{is_out, Legal}
@@ -78,17 +78,17 @@ module _ (past : Trail) (who : ℕ) where
   pub unsaved-failed : (t p q : ℕ) → unsaved (by who (WriteEnd t p false) WriteFailed ∷ past) q ≡ unsaved past q
   unsaved-failed t p q = refl
 
-  pub top-write : (n p q offset : ℕ) (bytes : List ℕ) (lsn : ℕ) → top (by who (Write n p offset bytes lsn) Done ∷ past) q ≡ (if p == q then max lsn (top past q) else top past q)
-  top-write n p q offset bytes lsn = go (p == q) refl
+  pub page_lsn-write : (n p q offset : ℕ) (bytes : List ℕ) (lsn : ℕ) → page_lsn (by who (Write n p offset bytes lsn) Done ∷ past) q ≡ (if p == q then max lsn (page_lsn past q) else page_lsn past q)
+  page_lsn-write n p q offset bytes lsn = go (p == q) refl
     where
-      go : (b : Bool) → (p == q) ≡ b → top (by who (Write n p offset bytes lsn) Done ∷ past) q ≡ (if b then max lsn (top past q) else top past q)
+      go : (b : Bool) → (p == q) ≡ b → page_lsn (by who (Write n p offset bytes lsn) Done ∷ past) q ≡ (if b then max lsn (page_lsn past q) else page_lsn past q)
       go true e = rw e refl
       go false e = rw e refl
 
-  pub top-load : (t p q n : ℕ) (image : List ℕ) → top (by who (ReadEnd t p (Some image)) (Fixed n) ∷ past) q ≡ (if p == q then 0 else top past q)
-  top-load t p q n image = go (p == q) refl
+  pub page_lsn-load : (t p q n : ℕ) (image : List ℕ) → page_lsn (by who (ReadEnd t p (Some image)) (Fixed n) ∷ past) q ≡ (if p == q then 0 else page_lsn past q)
+  page_lsn-load t p q n image = go (p == q) refl
     where
-      go : (b : Bool) → (p == q) ≡ b → top (by who (ReadEnd t p (Some image)) (Fixed n) ∷ past) q ≡ (if b then 0 else top past q)
+      go : (b : Bool) → (p == q) ≡ b → page_lsn (by who (ReadEnd t p (Some image)) (Fixed n) ∷ past) q ≡ (if b then 0 else page_lsn past q)
       go true e = rw e refl
       go false e = rw e refl
 

@@ -1,11 +1,10 @@
 -- The unsaved pages among the frames are those of the entries.
-use Rattle.std.proofs.Common.{◌≡◌, ℕ, ◌≤◌, ◌<◌, ◌&&◌, ◌==◌, Bool, true, false, Option, Some, None, get_or, refl, sym, ap, ◌∙◌, subst}
+use Rattle.std.proofs.Common.{◌≡◌, ℕ, ◌≤◌, ◌<◌, ◌&&◌, ◌==◌, Bool, true, false, Option, Some, None, refl, sym, ap, ◌∙◌, subst}
 use Rattle.std.specs.Prelude.{Contains, All, IfSome, IfNone}
 use Rattle.std.specs.Option.{is_some, option_map_or}
 use Rattle.std.proofs.lemmas.Bool.{and_parts, and_from, eqb-true, eq-eqb, ltb-true, true≢false, false_from_ne_true}
 use Rattle.bp_trail.specs.Parameters.{Parameters}
 use Rattle.bp_trail.specs.Lists.{some}
-use Rattle.bp_trail.specs.Places.{resident}
 use Rattle.bp_trail.specs.Saved.{unsaved, first_lsn, IsRedoFrom}
 use Rattle.bp_trail.specs.Trail.{Trail}
 use Rattle.bp_trail.proofs.Elements.{passing, some-contained}
@@ -17,9 +16,9 @@ use Rattle.bp_frames.specs.Frames.{is_frame_of, is_to_save, has_first, has_unsav
 use Rattle.bp_frames.specs.PageSets.{IsNext, NoneFrom}
 use Rattle.bp_keeper.specs.Kept.{Kept}
 use Rattle.bp_core.specs.declared.state.State.{State}
-use Rattle.bp_core.specs.Agreement.{Parts, Agrees, frame_of, parts_of, IsCore, view_of}
+use Rattle.bp_core.specs.Agreement.{Parts, Agrees, parts_of, IsCore, view_of}
 use Rattle.bp_core.specs.CoreView.{CoreView, EachPast}
-use Rattle.bp_core.specs.Unsaved.{AreSaved, FindsUnsaved}
+use Rattle.bp_core.specs.Unsaved.{FindsUnsaved}
 use Rattle.bp_core.proofs.Seen.{frame_in, resident_seen}
 
 module _ (c : Parameters) (past : Trail) (x : Parts) (a : Agrees c past x) where

@@ -1,5 +1,5 @@
 -- Of the pages that are away, those are held that are being read, and none is unsaved.
-use Rattle.std.proofs.Common.{◌≡◌, ℕ, true, false, Option, None, sym, ap, ◌∙◌}
+use Rattle.std.proofs.Common.{◌≡◌, ℕ, true, false, None, sym, ap, ◌∙◌}
 use Rattle.std.specs.Prelude.{◌||◌}
 use Rattle.std.proofs.lemmas.Bool.{true≢false, false_from_ne_true}
 use Rattle.bp_replacer.specs.Histories.{is_held}

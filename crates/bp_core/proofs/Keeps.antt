@@ -1,5 +1,5 @@
 -- A core stays one with each entry: here those that touch no page. What a caller sees of each entry.
-use Rattle.std.proofs.Common.{◌≡◌, ℕ, suc, ◌+◌, ◌*◌, ◌^◌, ◌<◌, ◌≤◌, max, true, false, [], ◌∷◌, length, sym, ◌∙◌, ap, subst, arith, refl}
+use Rattle.std.proofs.Common.{◌≡◌, ℕ, Bool, suc, ◌+◌, ◌*◌, ◌^◌, ◌<◌, ◌≤◌, max, true, false, [], ◌∷◌, length, sym, ◌∙◌, ap, subst, arith, refl}
 use Rattle.std.proofs.lemmas.Bool.{lt-ltb}
 use Rattle.bp_references.specs.Numbers.{count_below}
 use Rattle.bp_replacer.specs.Histories.{Blocks, is_held, place_of, last_of, HasStampsOf, SameAt, SameSettings, KeepsPlaces, forgets}
@@ -14,7 +14,8 @@ use Rattle.bp_trail.specs.Trail.{Trail}
 use Rattle.bp_trail.specs.Passes.{passes, tickets, passes_out, reads_out, writes_out}
 use Rattle.bp_trail.specs.Room.{free_keeping}
 use Rattle.bp_trail.specs.PageMap.{reply_of}
-use Rattle.bp_trail.specs.Legal.{allowed}
+use Rattle.bp_trail.specs.Event.{Grant}
+use Rattle.bp_trail.specs.Legal.{allowed, is_out}
 use Rattle.bp_core.specs.CoreView.{CoreView, EachPast, with_entry, HasRoomFor}
 use Rattle.bp_keeper.specs.Kept.{Kept, with_next}
 use Rattle.bp_core.specs.Outcomes.{IsQuiet, Adds}
@@ -47,6 +48,16 @@ module _ (c : Parameters) (trail : Kept) (x : State) (core : IsCore c trail x) (
 
   pub at-room : (n : ℕ) → HasRoomFor n v → n ≤ free_keeping c trail.len trail.past
   at-room n room = let seen : HasRoomFor n (view_of c trail) = subst (HasRoomFor n) (sym is) room in omega (arith, seen, core.trail_room.counted)
+
+  -- a caller sees which passes and tickets are out
+  pub pass-seen : (g : Grant) (b : Bool) → is_out g x.passes.out ≡ b → EachPast v (λ past. is_out g (passes_out past) ≡ b)
+  pass-seen g b was = subst (λ u. EachPast u (λ past. is_out g (passes_out past) ≡ b)) is (ap (is_out g) (sym core.agrees.observed.out_is) ∙ was)
+
+  pub read-seen : (g : Grant) (b : Bool) → is_out g x.reads.out ≡ b → EachPast v (λ past. is_out g (reads_out past) ≡ b)
+  read-seen g b was = subst (λ u. EachPast u (λ past. is_out g (reads_out past) ≡ b)) is (ap (is_out g) (sym core.agrees.observed.reads_is) ∙ was)
+
+  pub write-seen : (g : Grant) (b : Bool) → is_out g x.writes.out ≡ b → EachPast v (λ past. is_out g (writes_out past) ≡ b)
+  write-seen g b was = subst (λ u. EachPast u (λ past. is_out g (writes_out past) ≡ b)) is (ap (is_out g) (sym core.agrees.observed.writes_is) ∙ was)
 
   -- a caller sees the entry that was added
   pub adds : (who : ℕ) (call : Call) (reply : Reply) (later : Kept) (state : State) → later ≡ with_next trail who call reply → IsCore c later state → Adds v who call reply (view_of c later)

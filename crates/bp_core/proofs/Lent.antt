@@ -7,7 +7,7 @@ use Rattle.bp_trail.specs.Images.{held}
 use Rattle.bp_trail.specs.Legal.{is_out}
 use Rattle.bp_trail.specs.Parameters.{Parameters}
 use Rattle.bp_trail.specs.Passes.{passes_out}
-use Rattle.bp_trail.specs.Saved.{top}
+use Rattle.bp_trail.specs.Saved.{page_lsn}
 use Rattle.bp_trail.proofs.Ranges.{sized}
 use Rattle.bp_keeper.specs.Kept.{Kept}
 use Rattle.bp_core.specs.declared.state.State.{State}
@@ -28,5 +28,5 @@ module _ (c : Parameters) (trail : Kept) (x : State) (core : IsCore c trail x) (
   pub image-sized : length f.image ≡ v.parameters.size
   image-sized = subst (λ (u : CoreView). length f.image ≡ u.parameters.size) is (ap length as-held ∙ sized c trail.past core.agrees.legal p (pinned-page c trail x core v is who p n known))
 
-  pub lsn-held : EachPast v (λ past. f.top ≡ top past p)
-  lsn-held = subst (λ u. EachPast u (λ past. f.top ≡ top past p)) is (ap (λ (g : Frame). g.top) (frame_in c trail.past (parts_of x) core.agrees p f here page))
+  pub lsn-held : EachPast v (λ past. f.page_lsn ≡ page_lsn past p)
+  lsn-held = subst (λ u. EachPast u (λ past. f.page_lsn ≡ page_lsn past p)) is (ap (λ (g : Frame). g.page_lsn) (frame_in c trail.past (parts_of x) core.agrees p f here page))

@@ -15,7 +15,7 @@ use Rattle.bp_trail.specs.Trail.{Trail}
 use Rattle.bp_trail.specs.Clock.{clock}
 use Rattle.bp_trail.specs.Passes.{passes, passes_out, is_of, pins}
 use Rattle.bp_trail.specs.Places.{residents, resident, loading, writing}
-use Rattle.bp_trail.specs.Saved.{unsaved, top, first_lsn}
+use Rattle.bp_trail.specs.Saved.{unsaved, page_lsn, first_lsn}
 use Rattle.bp_trail.specs.Images.{held}
 use Rattle.bp_trail.specs.References.{references}
 use Rattle.bp_trail.specs.PageMap.{fix_reply}
@@ -25,7 +25,7 @@ use Rattle.bp_core.specs.Agreement.{Parts, Agrees, frame_of, rewritten, rewritte
 use Rattle.bp_trail.proofs.Counting.{count-agree, count-map, some-from_counts}
 use Rattle.bp_trail.proofs.Serials.{numbered, count-rest, rest, OneSerial}
 use Rattle.bp_trail.proofs.Residents.{reads-rest}
-use Rattle.bp_core.proofs.Changes.{passes-hit, pins-hit, pins-unfix, top-write}
+use Rattle.bp_core.proofs.Changes.{passes-hit, pins-hit, pins-unfix, page_lsn-write}
 use Rattle.bp_trail.proofs.Ranges.{owned, owner}
 use Rattle.bp_core.proofs.StampsKept.{stamps-kept, told-alike}
 use Rattle.bp_trail.proofs.Places.{places}
@@ -121,13 +121,13 @@ module _ (c : Parameters) (past : Trail) (x : Parts) (a : Agrees c past x) where
         later : Trail
         later = by who (Write n p offset bytes lsn) Done ∷ past
 
-        put : (q : ℕ) (b : Bool) (t : ℕ) → t ≡ (if b then max lsn (top past q) else top past q)
-            → (let f : Frame = record { page = q; block = x.places q; pins = pins past q; is_unsaved = b || unsaved past q; is_rewritten = b || rewritten past q; is_writing = writing past q; first_lsn = or_less (if b then Some lsn else None) (first_lsn past q); rewritten_lsn = or_less (if b then Some lsn else None) (rewritten_lsn past q); top = t; image = if b then patched offset bytes (held past q) else held past q } in f) ≡ (if b then written_on offset bytes lsn (frame_of past q (x.places q)) else frame_of past q (x.places q))
-        put q true t e = ap (λ m. record (written_on offset bytes lsn (frame_of past q (x.places q))) { top = m }) e
-        put q false t e = ap (λ m. record (frame_of past q (x.places q)) { top = m }) e
+        put : (q : ℕ) (b : Bool) (t : ℕ) → t ≡ (if b then max lsn (page_lsn past q) else page_lsn past q)
+            → (let f : Frame = record { page = q; block = x.places q; pins = pins past q; is_unsaved = b || unsaved past q; is_rewritten = b || rewritten past q; is_writing = writing past q; first_lsn = or_less (if b then Some lsn else None) (first_lsn past q); rewritten_lsn = or_less (if b then Some lsn else None) (rewritten_lsn past q); page_lsn = t; image = if b then patched offset bytes (held past q) else held past q } in f) ≡ (if b then written_on offset bytes lsn (frame_of past q (x.places q)) else frame_of past q (x.places q))
+        put q true t e = ap (λ m. record (written_on offset bytes lsn (frame_of past q (x.places q))) { page_lsn = m }) e
+        put q false t e = ap (λ m. record (frame_of past q (x.places q)) { page_lsn = m }) e
 
         at : (q : ℕ) → frame_of (by who (Write n p offset bytes lsn) Done ∷ past) q (x.places q) ≡ (if q == p then written_on offset bytes lsn (frame_of past q (x.places q)) else frame_of past q (x.places q))
-        at q = put q (p == q) (top (by who (Write n p offset bytes lsn) Done ∷ past) q) (top-write past who n p q offset bytes lsn) ∙ ap (λ b. if b then written_on offset bytes lsn (frame_of past q (x.places q)) else frame_of past q (x.places q)) (eqb-sym p q)
+        at q = put q (p == q) (page_lsn (by who (Write n p offset bytes lsn) Done ∷ past) q) (page_lsn-write past who n p q offset bytes lsn) ∙ ap (λ b. if b then written_on offset bytes lsn (frame_of past q (x.places q)) else frame_of past q (x.places q)) (eqb-sym p q)
 
     -- ---- a hit
     pub reply-hit : loading past p ≡ false → resident past p ≡ true → fix_reply c past p ≡ Hit (passes past)

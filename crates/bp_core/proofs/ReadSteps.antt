@@ -15,7 +15,7 @@ use Rattle.bp_trail.specs.Trail.{Trail}
 use Rattle.bp_trail.specs.Clock.{clock, durable}
 use Rattle.bp_trail.specs.Passes.{passes, tickets, passes_out, reads_out, is_of, pins}
 use Rattle.bp_trail.specs.Places.{residents, resident, loading, writing}
-use Rattle.bp_trail.specs.Saved.{unsaved, top, began_saving, first_lsn}
+use Rattle.bp_trail.specs.Saved.{unsaved, page_lsn, began_saving, first_lsn}
 use Rattle.bp_trail.specs.Images.{held}
 use Rattle.bp_trail.specs.References.{references}
 use Rattle.bp_trail.specs.PageMap.{fix_reply}
@@ -28,7 +28,7 @@ use Rattle.bp_trail.proofs.Counting.{count-cons, none-count, count-agree_but, co
 use Rattle.bp_trail.proofs.Serials.{numbered, rest}
 use Rattle.bp_trail.proofs.Residents.{reads-rest, left-none, left-other}
 use Rattle.bp_trail.proofs.Places.{places, out-of_page, one-gone}
-use Rattle.bp_core.proofs.Changes.{tickets-load, top-load}
+use Rattle.bp_core.proofs.Changes.{tickets-load, page_lsn-load}
 use Rattle.bp_trail.proofs.Ranges.{owned, owner, stays}
 use Rattle.bp_core.proofs.StampsKept.{stamps-kept, told-alike}
 use Rattle.bp_core.proofs.Steps.{by}
@@ -105,7 +105,7 @@ module _ (c : Parameters) (past : Trail) (x : Parts) (a : Agrees c past x) (who 
     }
       where
         replaces : replace_reply past (victim c past) ≡ Load (tickets past) (Some v)
-        replaces = ap (replace_reply past) chosen ∙ ap (λ b. if b then (if nat_lt (durable past) (top past v) then NeedLog (top past v) else WriteFirst (tickets past) v (held past v)) else Load (tickets past) (Some v)) saved
+        replaces = ap (replace_reply past) chosen ∙ ap (λ b. if b then (if nat_lt (durable past) (page_lsn past v) then NeedLog (page_lsn past v) else WriteFirst (tickets past) v (held past v)) else Load (tickets past) (Some v)) saved
 
         here : resident past v ≡ true
         here = candidate-resident c past v (victim-is c past v chosen).eligible
@@ -214,22 +214,22 @@ module _ (c : Parameters) (past : Trail) (x : Parts) (a : Agrees c past x) (who 
         own-pins : pins (by who (ReadEnd t p (Some image)) (Fixed x.given) ∷ past) p ≡ 1
         own-pins = omega (arith, count-cons (is_of p) (grant who p x.given) (passes_out past), ap {B = ℕ} (λ b. cond b 1 0) (eq-eqb p p refl), unpinned-now)
 
-        own-top : top (by who (ReadEnd t p (Some image)) (Fixed x.given) ∷ past) p ≡ 0
-        own-top = top-load past who t p p x.given image ∙ ap (λ b. if b then 0 else top past p) (eq-eqb p p refl)
+        own-page_lsn : page_lsn (by who (ReadEnd t p (Some image)) (Fixed x.given) ∷ past) p ≡ 0
+        own-page_lsn = page_lsn-load past who t p p x.given image ∙ ap (λ b. if b then 0 else page_lsn past p) (eq-eqb p p refl)
 
         own-image : held (by who (ReadEnd t p (Some image)) (Fixed x.given) ∷ past) p ≡ image
         own-image = ap (λ b. if b then image else held past p) (eq-eqb p p refl)
 
         own : frame_of (by who (ReadEnd t p (Some image)) (Fixed x.given) ∷ past) p (x.places p) ≡ loaded_with p block image
-        own = λ i. record { page = p; block = place i; pins = own-pins i; is_unsaved = saved-now i; is_rewritten = settled-now i; is_writing = idle-now i; first_lsn = first-now i; rewritten_lsn = since-now i; top = own-top i; image = own-image i }
+        own = λ i. record { page = p; block = place i; pins = own-pins i; is_unsaved = saved-now i; is_rewritten = settled-now i; is_writing = idle-now i; first_lsn = first-now i; rewritten_lsn = since-now i; page_lsn = own-page_lsn i; image = own-image i }
 
         others-frame : (q : ℕ) → (q == p) ≡ false → frame_of past q (x.places q) ≡ frame_of (by who (ReadEnd t p (Some image)) (Fixed x.given) ∷ past) q (x.places q)
         others-frame q e =
             let n : (p == q) ≡ false = eqb-sym p q ∙ e in
             let pins-same : pins past q ≡ pins (by who (ReadEnd t p (Some image)) (Fixed x.given) ∷ past) q = omega (arith, count-cons (is_of q) (grant who p x.given) (passes_out past), ap {B = ℕ} (λ b. cond b 1 0) n) in
-            let top-same : top past q ≡ top (by who (ReadEnd t p (Some image)) (Fixed x.given) ∷ past) q = sym (top-load past who t p q x.given image ∙ ap (λ b. if b then 0 else top past q) n) in
+            let page_lsn-same : page_lsn past q ≡ page_lsn (by who (ReadEnd t p (Some image)) (Fixed x.given) ∷ past) q = sym (page_lsn-load past who t p q x.given image ∙ ap (λ b. if b then 0 else page_lsn past q) n) in
             let image-same : held past q ≡ held (by who (ReadEnd t p (Some image)) (Fixed x.given) ∷ past) q = sym (ap (λ b. if b then image else held past q) n) in
-            λ i. record { page = q; block = x.places q; pins = pins-same i; is_unsaved = unsaved past q; is_rewritten = rewritten past q; is_writing = writing past q; first_lsn = first_lsn past q; rewritten_lsn = rewritten_lsn past q; top = top-same i; image = image-same i }
+            λ i. record { page = q; block = x.places q; pins = pins-same i; is_unsaved = unsaved past q; is_rewritten = rewritten past q; is_writing = writing past q; first_lsn = first_lsn past q; rewritten_lsn = rewritten_lsn past q; page_lsn = page_lsn-same i; image = image-same i }
 
         counts : (test : Frame → Bool) → count test fs ≡ count (λ q. test (frame_of (by who (ReadEnd t p (Some image)) (Fixed x.given) ∷ past) q (x.places q))) (p ∷ residents past)
         counts test =

@@ -39,7 +39,7 @@ same_number (Some m) None = false
 same_number (Some m) (Some n) = m == n
 
 abbrev pub same_frame : Frame → Frame → Bool
-same_frame f g = (f.page == g.page) && (same_number f.block g.block && ((f.pins == g.pins) && (same_bool f.is_unsaved g.is_unsaved && (same_bool f.is_rewritten g.is_rewritten && (same_bool f.is_writing g.is_writing && (same_number f.first_lsn g.first_lsn && (same_number f.rewritten_lsn g.rewritten_lsn && ((f.top == g.top) && bytes_eq f.image g.image))))))))
+same_frame f g = (f.page == g.page) && (same_number f.block g.block && ((f.pins == g.pins) && (same_bool f.is_unsaved g.is_unsaved && (same_bool f.is_rewritten g.is_rewritten && (same_bool f.is_writing g.is_writing && (same_number f.first_lsn g.first_lsn && (same_number f.rewritten_lsn g.rewritten_lsn && ((f.page_lsn == g.page_lsn) && bytes_eq f.image g.image))))))))
 
 same_bool-is : (a b : Bool) → same_bool a b ≡ true → a ≡ b
 same_bool-is true true e = refl
@@ -71,7 +71,7 @@ same-is f g e =
     let writing = and_parts (same_bool f.is_writing g.is_writing) _ rewritten.1 in
     let first = and_parts (same_number f.first_lsn g.first_lsn) _ writing.1 in
     let since = and_parts (same_number f.rewritten_lsn g.rewritten_lsn) _ first.1 in
-    let top = and_parts (f.top == g.top) _ since.1 in
+    let page_lsn = and_parts (f.page_lsn == g.page_lsn) _ since.1 in
     let at_page = eqb-true f.page g.page page.0 in
     let at_block = same_number-is f.block g.block block.0 in
     let at_pins = eqb-true f.pins g.pins pins.0 in
@@ -80,14 +80,14 @@ same-is f g e =
     let at_writing = same_bool-is f.is_writing g.is_writing writing.0 in
     let at_first = same_number-is f.first_lsn g.first_lsn first.0 in
     let at_since = same_number-is f.rewritten_lsn g.rewritten_lsn since.0 in
-    let at_top = eqb-true f.top g.top top.0 in
-    let at_image = (bytes_eq-Decides f.image g.image).0 top.1 in
-    λ i. record { page = at_page i; block = at_block i; pins = at_pins i; is_unsaved = at_unsaved i; is_rewritten = at_rewritten i; is_writing = at_writing i; first_lsn = at_first i; rewritten_lsn = at_since i; top = at_top i; image = at_image i }
+    let at_top = eqb-true f.page_lsn g.page_lsn page_lsn.0 in
+    let at_image = (bytes_eq-Decides f.image g.image).0 page_lsn.1 in
+    λ i. record { page = at_page i; block = at_block i; pins = at_pins i; is_unsaved = at_unsaved i; is_rewritten = at_rewritten i; is_writing = at_writing i; first_lsn = at_first i; rewritten_lsn = at_since i; page_lsn = at_top i; image = at_image i }
 
 same-itself : (f : Frame) → same_frame f f ≡ true
 same-itself f =
     and_from _ _ (eq-eqb f.page f.page refl) (and_from _ _ (same_number-itself f.block) (and_from _ _ (eq-eqb f.pins f.pins refl) (and_from _ _ (same_bool-itself f.is_unsaved) (and_from _ _ (same_bool-itself f.is_rewritten)
-    (and_from _ _ (same_bool-itself f.is_writing) (and_from _ _ (same_number-itself f.first_lsn) (and_from _ _ (same_number-itself f.rewritten_lsn) (and_from _ _ (eq-eqb f.top f.top refl) ((bytes_eq-Decides f.image f.image).1 refl)))))))))
+    (and_from _ _ (same_bool-itself f.is_writing) (and_from _ _ (same_number-itself f.first_lsn) (and_from _ _ (same_number-itself f.rewritten_lsn) (and_from _ _ (eq-eqb f.page_lsn f.page_lsn refl) ((bytes_eq-Decides f.image f.image).1 refl)))))))))
 
 -- ---- counts of none
 

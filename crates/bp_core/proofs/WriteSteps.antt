@@ -10,7 +10,7 @@ use Rattle.bp_trail.specs.Event.{grant, begins_of, writes}
 use Rattle.bp_trail.specs.Trail.{Trail}
 use Rattle.bp_trail.specs.Passes.{tickets, writes_out, pins, is_of}
 use Rattle.bp_trail.specs.Places.{writing}
-use Rattle.bp_trail.specs.Saved.{unsaved, top, first_lsn}
+use Rattle.bp_trail.specs.Saved.{unsaved, page_lsn, first_lsn}
 use Rattle.bp_trail.specs.Images.{held}
 use Rattle.bp_trail.specs.PageMap.{reply_of}
 use Rattle.bp_trail.specs.Legal.{is_out, allowed, Legal}
@@ -93,14 +93,14 @@ module _ (c : Parameters) (past : Trail) (x : Parts) (a : Agrees c past x) (who 
           let f = first-same q in
           let r : rewritten_lsn (by who (Fix p) (WriteFirst x.begun v (held past v)) ∷ past) q ≡ None = ap (λ (b : Bool). if b then None else rewritten_lsn past q) (eqb-sym v q ∙ e) in
           let o : writing (by who (Fix p) (WriteFirst x.begun v (held past v)) ∷ past) q ≡ true = ap (λ b. b || writing past q) (eqb-sym v q ∙ e) in
-          λ i. record { page = q; block = x.places q; pins = pins past q; is_unsaved = u i; is_rewritten = w i; is_writing = o i; first_lsn = f i; rewritten_lsn = r i; top = top past q; image = held past q }
+          λ i. record { page = q; block = x.places q; pins = pins past q; is_unsaved = u i; is_rewritten = w i; is_writing = o i; first_lsn = f i; rewritten_lsn = r i; page_lsn = page_lsn past q; image = held past q }
       one q false e =
           let w : rewritten (by who (Fix p) (WriteFirst x.begun v (held past v)) ∷ past) q ≡ rewritten past q = ap (λ b. not b && rewritten past q) (eqb-sym v q ∙ e) in
           let u = unsaved-same q in
           let f = first-same q in
           let r : rewritten_lsn (by who (Fix p) (WriteFirst x.begun v (held past v)) ∷ past) q ≡ rewritten_lsn past q = ap (λ (b : Bool). if b then None else rewritten_lsn past q) (eqb-sym v q ∙ e) in
           let o : writing (by who (Fix p) (WriteFirst x.begun v (held past v)) ∷ past) q ≡ writing past q = ap (λ b. b || writing past q) (eqb-sym v q ∙ e) in
-          λ i. record { page = q; block = x.places q; pins = pins past q; is_unsaved = u i; is_rewritten = w i; is_writing = o i; first_lsn = f i; rewritten_lsn = r i; top = top past q; image = held past q }
+          λ i. record { page = q; block = x.places q; pins = pins past q; is_unsaved = u i; is_rewritten = w i; is_writing = o i; first_lsn = f i; rewritten_lsn = r i; page_lsn = page_lsn past q; image = held past q }
 
   pub agrees-begin-flush : (p v : ℕ) → nat_lt who c.clients ≡ true → allowed c past who (Flush p) ≡ true → WriteFirst (tickets past) v (held past v) ≡ reply_of c past (Flush p)
       → Agrees c (by who (Flush p) (WriteFirst x.begun v (held past v)) ∷ past) (record x { begun = x.begun + 1; writes = grant who v x.begun ∷ x.writes; frames = changed_at v saving x.frames })
@@ -143,14 +143,14 @@ module _ (c : Parameters) (past : Trail) (x : Parts) (a : Agrees c past x) (who 
           let f = first-same q in
           let r : rewritten_lsn (by who (Flush p) (WriteFirst x.begun v (held past v)) ∷ past) q ≡ None = ap (λ (b : Bool). if b then None else rewritten_lsn past q) (eqb-sym v q ∙ e) in
           let o : writing (by who (Flush p) (WriteFirst x.begun v (held past v)) ∷ past) q ≡ true = ap (λ b. b || writing past q) (eqb-sym v q ∙ e) in
-          λ i. record { page = q; block = x.places q; pins = pins past q; is_unsaved = u i; is_rewritten = w i; is_writing = o i; first_lsn = f i; rewritten_lsn = r i; top = top past q; image = held past q }
+          λ i. record { page = q; block = x.places q; pins = pins past q; is_unsaved = u i; is_rewritten = w i; is_writing = o i; first_lsn = f i; rewritten_lsn = r i; page_lsn = page_lsn past q; image = held past q }
       one q false e =
           let w : rewritten (by who (Flush p) (WriteFirst x.begun v (held past v)) ∷ past) q ≡ rewritten past q = ap (λ b. not b && rewritten past q) (eqb-sym v q ∙ e) in
           let u = unsaved-same q in
           let f = first-same q in
           let r : rewritten_lsn (by who (Flush p) (WriteFirst x.begun v (held past v)) ∷ past) q ≡ rewritten_lsn past q = ap (λ (b : Bool). if b then None else rewritten_lsn past q) (eqb-sym v q ∙ e) in
           let o : writing (by who (Flush p) (WriteFirst x.begun v (held past v)) ∷ past) q ≡ writing past q = ap (λ b. b || writing past q) (eqb-sym v q ∙ e) in
-          λ i. record { page = q; block = x.places q; pins = pins past q; is_unsaved = u i; is_rewritten = w i; is_writing = o i; first_lsn = f i; rewritten_lsn = r i; top = top past q; image = held past q }
+          λ i. record { page = q; block = x.places q; pins = pins past q; is_unsaved = u i; is_rewritten = w i; is_writing = o i; first_lsn = f i; rewritten_lsn = r i; page_lsn = page_lsn past q; image = held past q }
 
   module _ (t p : ℕ) (out : is_out (grant who p t) (writes_out past) ≡ true) where
     flies : in_flight t p past ≡ true
@@ -229,12 +229,12 @@ module _ (c : Parameters) (past : Trail) (x : Parts) (a : Agrees c past x) (who 
             let u : unsaved (by who (WriteEnd t p true) Cleaned ∷ past) q ≡ rewritten past q = subst (λ y. unsaved (by who (WriteEnd t p true) Cleaned ∷ past) y ≡ rewritten past y) (sym (eqb-true q p e)) own in
             let f : first_lsn (by who (WriteEnd t p true) Cleaned ∷ past) q ≡ rewritten_lsn past q = subst (λ y. first_lsn (by who (WriteEnd t p true) Cleaned ∷ past) y ≡ rewritten_lsn past y) (sym (eqb-true q p e)) own-first in
             let o = landed q e in
-            λ i. record { page = q; block = x.places q; pins = pins past q; is_unsaved = u i; is_rewritten = rewritten past q; is_writing = o i; first_lsn = f i; rewritten_lsn = rewritten_lsn past q; top = top past q; image = held past q }
+            λ i. record { page = q; block = x.places q; pins = pins past q; is_unsaved = u i; is_rewritten = rewritten past q; is_writing = o i; first_lsn = f i; rewritten_lsn = rewritten_lsn past q; page_lsn = page_lsn past q; image = held past q }
         one q false e =
             let u : unsaved (by who (WriteEnd t p true) Cleaned ∷ past) q ≡ unsaved past q = since-other c t p q past (eqb-sym p q ∙ e) past who Cleaned flies in
             let f : first_lsn (by who (WriteEnd t p true) Cleaned ∷ past) q ≡ first_lsn past q = first-other t p q past (eqb-sym p q ∙ e) who Cleaned past flies in
             let o = still q e in
-            λ i. record { page = q; block = x.places q; pins = pins past q; is_unsaved = u i; is_rewritten = rewritten past q; is_writing = o i; first_lsn = f i; rewritten_lsn = rewritten_lsn past q; top = top past q; image = held past q }
+            λ i. record { page = q; block = x.places q; pins = pins past q; is_unsaved = u i; is_rewritten = rewritten past q; is_writing = o i; first_lsn = f i; rewritten_lsn = rewritten_lsn past q; page_lsn = page_lsn past q; image = held past q }
 
     pub agrees-still_dirty : written_since past t p ≡ true → Agrees c (by who (WriteEnd t p true) StillDirty ∷ past) (record x { writes = filter (λ g. not (g.serial == t)) x.writes; frames = changed_at p saved x.frames })
     agrees-still_dirty since = record {
@@ -268,12 +268,12 @@ module _ (c : Parameters) (past : Trail) (x : Parts) (a : Agrees c past x) (who 
             let u : unsaved (by who (WriteEnd t p true) StillDirty ∷ past) q ≡ rewritten past q = subst (λ y. unsaved (by who (WriteEnd t p true) StillDirty ∷ past) y ≡ rewritten past y) (sym (eqb-true q p e)) own in
             let f : first_lsn (by who (WriteEnd t p true) StillDirty ∷ past) q ≡ rewritten_lsn past q = subst (λ y. first_lsn (by who (WriteEnd t p true) StillDirty ∷ past) y ≡ rewritten_lsn past y) (sym (eqb-true q p e)) own-first in
             let o = landed q e in
-            λ i. record { page = q; block = x.places q; pins = pins past q; is_unsaved = u i; is_rewritten = rewritten past q; is_writing = o i; first_lsn = f i; rewritten_lsn = rewritten_lsn past q; top = top past q; image = held past q }
+            λ i. record { page = q; block = x.places q; pins = pins past q; is_unsaved = u i; is_rewritten = rewritten past q; is_writing = o i; first_lsn = f i; rewritten_lsn = rewritten_lsn past q; page_lsn = page_lsn past q; image = held past q }
         one q false e =
             let u : unsaved (by who (WriteEnd t p true) StillDirty ∷ past) q ≡ unsaved past q = since-other c t p q past (eqb-sym p q ∙ e) past who StillDirty flies in
             let f : first_lsn (by who (WriteEnd t p true) StillDirty ∷ past) q ≡ first_lsn past q = first-other t p q past (eqb-sym p q ∙ e) who StillDirty past flies in
             let o = still q e in
-            λ i. record { page = q; block = x.places q; pins = pins past q; is_unsaved = u i; is_rewritten = rewritten past q; is_writing = o i; first_lsn = f i; rewritten_lsn = rewritten_lsn past q; top = top past q; image = held past q }
+            λ i. record { page = q; block = x.places q; pins = pins past q; is_unsaved = u i; is_rewritten = rewritten past q; is_writing = o i; first_lsn = f i; rewritten_lsn = rewritten_lsn past q; page_lsn = page_lsn past q; image = held past q }
 
 module _ (c : Parameters) (past : Trail) (x : Parts) (a : Agrees c past x) (who v : ℕ) (client : nat_lt who c.clients ≡ true) where
   pub agrees-begin : (call : Call) → IsBegin call → allowed c past who call ≡ true → WriteFirst (tickets past) v (held past v) ≡ reply_of c past call

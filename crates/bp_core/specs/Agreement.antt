@@ -6,6 +6,7 @@ use Rattle.std.specs.Prelude.{IsSome}
 use Rattle.std.specs.Prelude.{if◌then◌else◌}
 use Rattle.bp_replacer.specs.Histories.{Blocks, HasStampsOf, is_held, place_of, stamp_of, last_of}
 use Rattle.bp_references.specs.Candidates.{Entered, entry_of, NoPageTwice}
+use Rattle.bp_core.specs.declared.config.Config.{Config}
 use Rattle.bp_core.specs.declared.config.CoreConfig.{CoreConfig}
 use Rattle.bp_frames.specs.declared.frame.Frame.{Frame}
 use Rattle.bp_frames.specs.Frames.{is_unused}
@@ -17,7 +18,7 @@ use Rattle.bp_trail.specs.Trail.{Trail}
 use Rattle.bp_trail.specs.Clock.{clock, durable}
 use Rattle.bp_trail.specs.Passes.{passes, tickets, passes_out, reads_out, writes_out, pins}
 use Rattle.bp_trail.specs.Places.{residents, resident, loading, writing}
-use Rattle.bp_trail.specs.Saved.{unsaved, top, first_lsn}
+use Rattle.bp_trail.specs.Saved.{unsaved, page_lsn, first_lsn}
 use Rattle.bp_trail.specs.Images.{held}
 use Rattle.bp_trail.specs.References.{references, hist, last}
 use Rattle.bp_trail.specs.Legal.{Legal}
@@ -35,6 +36,19 @@ parameters_of c = record {
   size = c.geometry.size;
   clients = c.clients;
   room = c.room;
+}
+
+-- what a core for so many clients is made with
+abbrev pub parameters_with : Config → ℕ → Parameters
+parameters_with config clients = record {
+  frames = config.frames;
+  k = config.settings.k;
+  correlated = config.settings.correlated;
+  retained = config.settings.retained;
+  pages = config.geometry.pages;
+  size = config.geometry.size;
+  clients = clients;
+  room = config.room;
 }
 
 -- a write of p stands after the newest begin of a write-out of p
@@ -57,7 +71,7 @@ frame_of past p block =
       is_writing = writing past p;
       first_lsn = first_lsn past p;
       rewritten_lsn = rewritten_lsn past p;
-      top = top past p;
+      page_lsn = page_lsn past p;
       image = held past p;
     }
 

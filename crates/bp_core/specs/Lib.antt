@@ -1,3 +1,5 @@
+-- What a pool is made with where nothing else is said.
+pub mod Defaults
 -- What is promised: what a caller sees of a core, what each of its calls answers and leaves, and
 -- which pages it finds unsaved, and what it counts.
 pub mod CoreView

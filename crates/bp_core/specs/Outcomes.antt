@@ -9,7 +9,7 @@ use Rattle.bp_trail.specs.Event.{Grant, grant}
 use Rattle.bp_trail.specs.Clock.{clock}
 use Rattle.bp_trail.specs.Images.{held}
 use Rattle.bp_trail.specs.Passes.{passes, tickets, passes_out, reads_out, writes_out}
-use Rattle.bp_trail.specs.Saved.{top}
+use Rattle.bp_trail.specs.Saved.{page_lsn}
 use Rattle.bp_trail.specs.Legal.{is_out, Legal}
 use Rattle.bp_trail.specs.PageMap.{has_free_frame, reply_of}
 use Rattle.bp_trail.specs.Trail.{Trail}
@@ -115,21 +115,10 @@ pub data IsBegin : Call → Type 0 where
 abbrev pub BeginOutcome : CoreView → ℕ → Call → ℕ → Result WriteTicket Refusal → CoreView → Type 0
 BeginOutcome old client call page (Ok ticket) new =
     (ticket.client ≡ client) × (ticket.page ≡ page)
-    × EachPast old (λ past. ticket.lsn ≡ top past page)
+    × EachPast old (λ past. ticket.lsn ≡ page_lsn past page)
     × Adds old client call (WriteFirst ticket.serial ticket.page ticket.image) new
 BeginOutcome old client call page (Err refusal.OutOfMemory) new = new ≡ old
 BeginOutcome old client call page (Err _) new = ⊥
-
--- a write-out failed
-abbrev pub AddsFailure : CoreView → ℕ → ℕ → ℕ → CoreView → Type 0
-AddsFailure old client page serial new =
-    Adds old client (WriteEnd serial page false) WriteFailed new
-
-abbrev pub EndedOutcome : CoreView → ℕ → ℕ → ℕ → Ended → CoreView → Type 0
-EndedOutcome old client page serial ended.Cleaned new =
-    Adds old client (WriteEnd serial page true) Cleaned new
-EndedOutcome old client page serial ended.StillDirty new =
-    Adds old client (WriteEnd serial page true) StillDirty new
 
 -- what a core may be made with, whose keeper has room for so many entries at most
 pub record IsFitUpTo (most_room : ℕ) (c : Parameters) : Type 0 where
@@ -192,7 +181,7 @@ FixOutcome old client page (Ok (fixing.Load ticket evicted)) new =
     × Adds old client (Fix page) (Load ticket.serial evicted) new
 FixOutcome old client page (Ok (fixing.WriteFirst ticket)) new =
     HasRoomFor 3 old × (ticket.client ≡ client)
-    × EachPast old (λ past. ticket.lsn ≡ top past ticket.page)
+    × EachPast old (λ past. ticket.lsn ≡ page_lsn past ticket.page)
     × Adds old client (Fix page) (WriteFirst ticket.serial ticket.page ticket.image) new
 FixOutcome old client page (Err refusal.NoVictim) new =
     HasRoomFor 3 old × Adds old client (Fix page) NoVictim new
@@ -211,7 +200,7 @@ FlushOutcome old client page (Ok flushing.Absent) new =
     HasRoomFor 2 old × Adds old client (Flush page) Absent new
 FlushOutcome old client page (Ok (flushing.WriteFirst ticket)) new =
     HasRoomFor 2 old × (ticket.client ≡ client) × (ticket.page ≡ page)
-    × EachPast old (λ past. ticket.lsn ≡ top past ticket.page)
+    × EachPast old (λ past. ticket.lsn ≡ page_lsn past ticket.page)
     × Adds old client (Flush page) (WriteFirst ticket.serial ticket.page ticket.image) new
 FlushOutcome old client page (Err (refusal.NeedLog lsn)) new =
     HasRoomFor 2 old × Adds old client (Flush page) (NeedLog lsn) new

@@ -9,7 +9,7 @@ use Rattle.bp_trail.specs.declared.entries.Call.{Call}
 use Rattle.bp_trail.specs.declared.entries.Call.TheVariants.{ReadEnd, WriteEnd}
 use Rattle.bp_trail.specs.declared.entries.Reply.{Reply}
 use Rattle.bp_trail.specs.declared.entries.Reply.TheVariants.{WriteFirst}
-use Rattle.bp_trail.specs.Saved.{top}
+use Rattle.bp_trail.specs.Saved.{page_lsn}
 use Rattle.bp_trail.specs.Trail.{Trail}
 use Rattle.bp_core.specs.ReadFaults.{read_failure}
 use Rattle.bp_core.specs.CoreView.{CoreView}
@@ -57,7 +57,7 @@ pub record IsWritten {A : Type 0} (writes : Writes A) (past : Trail) (ticket pag
   pub image : List ℕ
   pub began : Ends (WriteFirst ticket page image) past
   pub written : Result (Unit {0}) PortFault
-  pub gave : writes port page image (top past page) written after
+  pub gave : writes port page image (page_lsn past page) written after
   pub good_is : good ≡ is_ok written
 
 -- the work of one entry after these: the read or the write that it ends, and none for any other

@@ -37,7 +37,9 @@ mod state;
 pub mod stats;
 
 pub use bp_keeper::{GhostTrail as Before, Keeper, RecordingKeeper, SilentKeeper};
+pub use bp_replacer::Settings;
 pub use bp_trail::{Call, Entry, Flushed, Refused, Reply, Row, Step};
+pub use config::Config;
 pub use faults::{refusal_of_read, reply_of_read};
 pub use not_flushed::NotFlushed;
 pub use passes::{EndRefusal, Ended, Fix, Flush, Pass, PassNote, ReadTicket, WriteTicket};

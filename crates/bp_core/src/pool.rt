@@ -1,5 +1,5 @@
 //! The core itself: its trail, and what the trail's entries come to.
-ghost use Rattle.bp_core.specs.Agreement.{parameters_of};
+ghost use Rattle.bp_core.specs.Agreement.{parameters_of, parameters_with};
 ghost use Rattle.bp_core.specs.Outcomes.{NewOutcome};
 
 mod checkpoint;
@@ -12,7 +12,7 @@ mod tellers;
 mod upkeep;
 mod write_outs;
 
-use crate::config::CoreConfig;
+use crate::config::{Config, CoreConfig};
 use crate::state::State;
 use bp_keeper::Keeper;
 use bp_page::{Geometry, Refusal};
@@ -71,5 +71,18 @@ impl<K: Keeper> PoolCore<K> {
             state,
             trail,
         })
+    }
+    /// A core of this configuration for so many clients, as `new` makes it.
+    pub fn with_config(alloc: Global, config: &Config, clients: u8) -> Result<PoolCore<K>, Refusal>
+        ensures outcome { NewOutcome K.MOST_ROOM (parameters_with config.now clients) result }
+    {
+        PoolCore::new(
+            alloc,
+            config.geometry,
+            config.settings,
+            config.frames,
+            clients,
+            config.room,
+        )
     }
 }

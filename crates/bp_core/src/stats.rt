@@ -8,11 +8,11 @@ pub struct Stats {
     pub totals: Totals,
     /// Pages in frames.
     pub resident: usize,
-    /// Pages of which a pass is out.
+    /// Pages of which a pass is out. Of a shared pool also those whose pass still waits in a ring.
     pub pinned: usize,
     /// Pages that are unsaved.
     pub unsaved: usize,
-    /// Pages that are being read.
+    /// Pages that are being read, or made anew.
     pub loading: usize,
     /// Pages that are being written out.
     pub writing: usize,

@@ -15,7 +15,7 @@ use Rattle.bp_trail.specs.Trail.{Trail}
 use Rattle.bp_trail.specs.Clock.{durable}
 use Rattle.bp_trail.specs.Passes.{tickets}
 use Rattle.bp_trail.specs.Places.{resident, loading, writing}
-use Rattle.bp_trail.specs.Saved.{began_saving, unsaved, top}
+use Rattle.bp_trail.specs.Saved.{began_saving, unsaved, page_lsn}
 use Rattle.bp_trail.specs.Images.{held}
 use Rattle.std.specs.Prelude.{nat_lt}
 use Rattle.bp_trail.specs.PageMap.{flush_reply}
@@ -111,12 +111,12 @@ module _ (c : Parameters) (past : Trail) (client page : ℕ) where
   lawful-reply reply legal = reply-is (Flush page) reply refl legal.here.reply
 
   clean-is : Legal c (by client (Flush page) Clean ∷ past) → unsaved past page ≡ false
-  clean-is legal = says-clean (loading past page) (resident past page) (writing past page) (unsaved past page) (nat_lt (durable past) (top past page)) (top past page) (tickets past) page (held past page) (lawful-reply Clean legal)
+  clean-is legal = says-clean (loading past page) (resident past page) (writing past page) (unsaved past page) (nat_lt (durable past) (page_lsn past page)) (page_lsn past page) (tickets past) page (held past page) (lawful-reply Clean legal)
 
   absent-is : Legal c (by client (Flush page) Absent ∷ past) → unsaved past page ≡ false
   absent-is legal =
       sym (away-saved c past legal.before page
-      (says-absent (loading past page) (resident past page) (writing past page) (unsaved past page) (nat_lt (durable past) (top past page)) (top past page) (tickets past) page (held past page) (lawful-reply Absent legal)))
+      (says-absent (loading past page) (resident past page) (writing past page) (unsaved past page) (nat_lt (durable past) (page_lsn past page)) (page_lsn past page) (tickets past) page (held past page) (lawful-reply Absent legal)))
 
   -- a write-out that began and ended well, with no entry between
   ended-is : (t : ℕ) (image : List ℕ) (reply : Reply) → began_saving (by client (WriteEnd t page true) reply ∷ by client (Flush page) (WriteFirst t page image) ∷ past) page reply ≡ false

@@ -15,7 +15,7 @@ use Rattle.bp_trail.specs.declared.entries.Call.{Call}
 use Rattle.bp_trail.specs.declared.entries.Call.TheVariants.{Fix, ReadEnd, WriteEnd, Flush}
 use Rattle.bp_trail.specs.declared.entries.Reply.{Reply}
 use Rattle.bp_trail.specs.declared.entries.Reply.TheVariants.{Hit, Load, WriteFirst, NoVictim, NeedLog, Busy, Fixed, WriteFailed}
-use Rattle.bp_trail.specs.Saved.{top}
+use Rattle.bp_trail.specs.Saved.{page_lsn}
 use Rattle.bp_trail.specs.Pieces.{by}
 use Rattle.bp_core.specs.ReadFaults.{read_failure}
 use Rattle.bp_core.specs.CoreView.{CoreView, with_entry}
@@ -85,7 +85,7 @@ module _ {A : Type 0} (reads : Reads A) (writes : Writes A) where
 
   -- the write of a write-out that has just begun, and its end
   written-work : (old begun new : CoreView) (port now after : A) (ticket : WriteTicket) (written : Result (Unit {0}) PortFault) (result : Result Ended Refusal)
-      → DoesWork reads writes old port begun now → Ends (WriteFirst ticket.serial ticket.page ticket.image) begun.past → ticket.lsn ≡ top begun.past ticket.page
+      → DoesWork reads writes old port begun now → Ends (WriteFirst ticket.serial ticket.page ticket.image) begun.past → ticket.lsn ≡ page_lsn begun.past ticket.page
       → SaveOutcome begun ticket result new → is_ok result ≡ is_ok written → writes now ticket.page ticket.image ticket.lsn written after → DoesWork reads writes old port new after
   written-work old begun new port now after ticket written (Ok how) d began lsn s good gave =
       one-more old begun new port now after ticket.client (WriteEnd ticket.serial ticket.page true) (ended_reply how) d s.is
@@ -102,7 +102,7 @@ module _ {A : Type 0} (reads : Reads A) (writes : Writes A) where
       written-work old begun new port now after ticket written result
       (fixed-work old mid begun port now client page (Ok (fixing.WriteFirst ticket)) d h)
       (subst (λ (core : CoreView). Ends (WriteFirst ticket.serial ticket.page ticket.image) core.past) (sym h.3.is) refl)
-      (h.2 ∙ ap (λ (core : CoreView). top core.past ticket.page) (sym h.3.is)) s good (gave-ticket now after ticket written gave)
+      (h.2 ∙ ap (λ (core : CoreView). page_lsn core.past ticket.page) (sym h.3.is)) s good (gave-ticket now after ticket written gave)
 
   -- and that of a flush
   pub flushed-work : (old begun new : CoreView) (port after : A) (client page : ℕ) (ticket : WriteTicket) (written : Result (Unit {0}) PortFault) (result : Result Ended Refusal)
@@ -112,7 +112,7 @@ module _ {A : Type 0} (reads : Reads A) (writes : Writes A) where
       written-work old begun new port port after ticket written result
       (one-more old old begun port port port client (Flush page) (WriteFirst ticket.serial ticket.page ticket.image) (none-yet old port) h.4.is refl)
       (subst (λ (core : CoreView). Ends (WriteFirst ticket.serial ticket.page ticket.image) core.past) (sym h.4.is) refl)
-      (h.3 ∙ ap (λ (core : CoreView). top core.past ticket.page) (sym h.4.is)) s good (gave-ticket port after ticket written gave)
+      (h.3 ∙ ap (λ (core : CoreView). page_lsn core.past ticket.page) (sym h.4.is)) s good (gave-ticket port after ticket written gave)
 
 -- the same work, where each read is one of these others too
 module _ {A : Type 0} (reads others : Reads A) (writes : Writes A) (as_read : (port : A) (page : ℕ) (found : Result (List ℕ) PortFault) (after : A) → reads port page found after → others port page found after) where

@@ -3,7 +3,6 @@ use Rattle.std.proofs.Common.{◌≡◌, ◌≢◌, ℕ, zero, suc, ◌+◌, ◌
 use Rattle.std.specs.Prelude.{All, if◌then◌else◌}
 use Rattle.std.specs.Option.{option_to_list}
 use Rattle.std.proofs.lemmas.Bool.{ne_eqb, eq-eqb}
-use Rattle.std.proofs.lemmas.List.{set-get_or}
 use Rattle.std.proofs.lemmas.List.Sorted.{IsPermutation-reverse, list_any-IsPermutation}
 use Rattle.bp_trail.specs.Event.{Grant, grant, same_grant}
 use Rattle.bp_trail.specs.Lists.{some}
@@ -82,13 +81,17 @@ module _ (client page n : ℕ) (ss : List Slot) where
   in-slots = some-reverse (same_grant (grant client page n)) (grants_out ss) ∙ some-out (same_grant (grant client page n)) ss
 
   -- the grant with the number is the one that is meant where it is out, and client and page are
-  pub out-at : (at : ℕ) (d : Slot) → StandsAt (λ (s : Slot). s.grant.serial) ss n at → is_out (grant client page n) (reverse (grants_out ss)) ≡ ((get_or ss at d).is_out && ((client == (get_or ss at d).grant.client) && (page == (get_or ss at d).grant.page)))
+  out-at : (at : ℕ) (d : Slot) → StandsAt (λ (s : Slot). s.grant.serial) ss n at → is_out (grant client page n) (reverse (grants_out ss)) ≡ ((get_or ss at d).is_out && ((client == (get_or ss at d).grant.client) && (page == (get_or ss at d).grant.page)))
   out-at at d stands =
       let s = get_or ss at d in
       in-slots
       ∙ some-alone (λ (s : Slot). s.is_out && same_grant (grant client page n) s.grant) ss at d stands.in_range (λ k e lt apart. other (get_or ss k e) (stands.alone k e lt apart))
       ∙ ap (λ b. s.is_out && ((client == s.grant.client) && ((page == s.grant.page) && b))) (eq-eqb n s.grant.serial (sym (stands.here d)))
       ∙ ap (λ b. s.is_out && b) (and-true (client == s.grant.client) (page == s.grant.page))
+
+  -- as it is told by the slot that was read there
+  pub out-read : (at : ℕ) (s : Slot) → StandsAt (λ (s : Slot). s.grant.serial) ss n at → s ≡ get_or ss at s → (told : Bool) → told ≡ (s.is_out && ((client == s.grant.client) && (page == s.grant.page))) → told ≡ is_out (grant client page n) (reverse (grants_out ss))
+  out-read at s stands read told is = is ∙ ap (λ (s : Slot). s.is_out && ((client == s.grant.client) && (page == s.grant.page))) read ∙ sym (out-at at s stands)
 
   pub out-nowhere : StandsNowhere (λ (s : Slot). s.grant.serial) ss n → is_out (grant client page n) (reverse (grants_out ss)) ≡ false
   out-nowhere nowhere = in-slots ∙ some-none (λ (s : Slot). s.is_out && same_grant (grant client page n) s.grant) ss (λ k e lt. other (get_or ss k e) (nowhere k e lt))
@@ -132,15 +135,6 @@ module _ (n : ℕ) where
 
   pub rest-marked : (ss : List Slot) (at : ℕ) (s : Slot) → s.is_out ≡ false → StandsAt (λ (s : Slot). s.grant.serial) ss n at → reverse (grants_out (set ss at s)) ≡ filter (λ g. not (g.serial == n)) (reverse (grants_out ss))
   rest-marked ss at s left stands = ap reverse (marked ss at s left stands.in_range stands.here stands.alone) ∙ filter-reverse (λ (g : Grant). not (g.serial == n)) (grants_out ss)
-
-  -- it was marked before
-  pub rest-left : (ss : List Slot) (at : ℕ) (d : Slot) → StandsAt (λ (s : Slot). s.grant.serial) ss n at → (get_or ss at d).is_out ≡ false → reverse (grants_out ss) ≡ filter (λ g. not (g.serial == n)) (reverse (grants_out ss))
-  rest-left ss at d stands left =
-      ap (λ ts. reverse (grants_out ts)) (sym (set-get_or ss at d))
-      ∙ rest-marked ss at (get_or ss at d) left stands
-
-  pub rest-nowhere : (ss : List Slot) → StandsNowhere (λ (s : Slot). s.grant.serial) ss n → reverse (grants_out ss) ≡ filter (λ g. not (g.serial == n)) (reverse (grants_out ss))
-  rest-nowhere ss nowhere = ap reverse (sym (without ss (λ k e lt out. nowhere k e lt))) ∙ filter-reverse (λ (g : Grant). not (g.serial == n)) (grants_out ss)
 
 -- one fewer is out
 pub fewer-marked : (ss : List Slot) (at : ℕ) (s d : Slot) → s.is_out ≡ false → at < length ss → (get_or ss at d).is_out ≡ true → suc (length (grants_out (set ss at s))) ≡ length (grants_out ss)

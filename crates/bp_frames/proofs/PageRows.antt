@@ -19,13 +19,13 @@ module _ (rows : List (List ℕ)) (level : ℕ) (shaped : AreShaped rows) (summe
   none-word : (word : ℕ) → 1 ≤ word → holds above word ≡ false → holds_any row word ≡ false
   none-word word positive none = elim (cases_lt (level + 1) (length rows)) [
     | inl more ↦ sym (summed level word (omega arith) more) ∙ none
-    | inr top ↦ past-any row word (let one = shaped.top level (omega (arith, lt, top)) in omega (arith, one, positive))
+    | inr page_lsn ↦ past-any row word (let one = shaped.page_lsn level (omega (arith, lt, page_lsn)) in omega (arith, one, positive))
   ]
 
   some-word : (word : ℕ) → holds above word ≡ true → holds_any row word ≡ true
   some-word word some = elim (cases_lt (level + 1) (length rows)) [
     | inl more ↦ sym (summed level word (omega arith) more) ∙ some
-    | inr top ↦ absurd (true≢false (sym some ∙ ap (λ r. holds r word) (get_or_past rows (level + 1) [] top) ∙ no-bits [] (word / 64) word refl refl))
+    | inr page_lsn ↦ absurd (true≢false (sym some ∙ ap (λ r. holds r word) (get_or_past rows (level + 1) [] page_lsn) ∙ no-bits [] (word / 64) word refl refl))
   ]
 
   pub word-in_range : (word : ℕ) → holds above word ≡ true → word < length row
@@ -91,7 +91,7 @@ module _ (rows : List (List ℕ)) (level at : ℕ) (shaped : AreShaped rows) (su
   still-shaped = record {
     some = omega (arith, shaped.some, rows-count);
     wide = λ k more. (let was = shaped.wide k (omega (arith, more, rows-count)) in omega (arith, was, row-lengths k, row-lengths (k + 1)));
-    top = λ k last. (let was = shaped.top k (omega (arith, last, rows-count)) in omega (arith, was, row-lengths k));
+    page_lsn = λ k last. (let was = shaped.page_lsn k (omega (arith, last, rows-count)) in omega (arith, was, row-lengths k));
     few = λ k. omega (arith, shaped.few k, row-lengths k);
   }
 
@@ -223,7 +223,7 @@ module _ (limit : ℕ) (rows : List (List ℕ)) (words : ℕ) (b : AreBuilt limi
 
   pub built-whole : words ≤ 1 → ArePageRows limit rows
   built-whole one = record {
-    shaped = record { some = b.some; wide = b.wide; top = λ level is. omega (arith, b.last level is, one); few = b.few };
+    shaped = record { some = b.some; wide = b.wide; page_lsn = λ level is. omega (arith, b.last level is, one); few = b.few };
     summed = λ level word le more. built-clear (level + 1) word ∙ sym (ap (λ n. not (n == 0)) (b.none level word));
     within = b.within;
   }

@@ -55,7 +55,7 @@ loaded_with page block image =
       is_writing = false;
       first_lsn = None;
       rewritten_lsn = None;
-      top = 0;
+      page_lsn = 0;
       image = image;
     }
 
@@ -73,7 +73,7 @@ written_on offset bytes lsn f =
       is_rewritten = true;
       first_lsn = or_less (Some lsn) f.first_lsn;
       rewritten_lsn = or_less (Some lsn) f.rewritten_lsn;
-      top = max lsn f.top;
+      page_lsn = max lsn f.page_lsn;
       image = patched offset bytes f.image;
     }
 

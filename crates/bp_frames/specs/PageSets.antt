@@ -48,7 +48,7 @@ pub record AreShaped (rows : List (List ℕ)) : Type 0 where
   pub some : 0 < length rows
   pub wide : (level : ℕ) → level + 1 < length rows
       → length (row_at rows level) ≤ 64 * length (row_at rows (level + 1))
-  pub top : (level : ℕ) → level + 1 ≡ length rows → length (row_at rows level) ≤ 1
+  pub page_lsn : (level : ℕ) → level + 1 ≡ length rows → length (row_at rows level) ≤ 1
   pub few : (level : ℕ) → length (row_at rows level) < 2 ^ 48
 
 pub record ArePageRows (limit : ℕ) (rows : List (List ℕ)) : Type 0 where

@@ -55,7 +55,7 @@ no_frame =
       is_writing = false;
       first_lsn = None;
       rewritten_lsn = None;
-      top = 0;
+      page_lsn = 0;
       image = [];
     }
 

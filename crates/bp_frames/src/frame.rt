@@ -1,5 +1,5 @@
 //! One frame: a page in memory, and how it is used.
-ghost use Rattle.std.specs.Prelude.{max, ◌≡◌, ◌+◌, ◌^◌, ◌<◌, ◌≤◌, length, Some};
+ghost use Rattle.std.specs.Prelude.{◌≡◌, ◌+◌, ◌^◌, ◌<◌, ◌≤◌, length, Some};
 ghost use Rattle.bp_trail.specs.Lists.{or_less};
 
 use bp_page::{Image, Lsn, PageNo};
@@ -26,7 +26,7 @@ pub struct Frame {
     /// The least LSN of the writes since the newest write-out began.
     pub rewritten_lsn: Option<Lsn>,
     /// The page LSN: the greatest LSN of its writes since it was loaded, or 0.
-    pub top: Lsn,
+    pub page_lsn: Lsn,
     /// The page's bytes, with all writes so far.
     pub image: Image,
 }
@@ -45,13 +45,6 @@ impl FrameSlot {
     {
         self.page
     }
-}
-
-/// The greater of two LSNs.
-pub fn later(a: Lsn, b: Lsn) -> Lsn
-    ensures { result ≡ max a b }
-{
-    if a < b { b } else { a }
 }
 
 /// The least of an LSN and those before it, if there are any.
@@ -81,7 +74,7 @@ impl Frame {
             is_writing: false,
             first_lsn: None,
             rewritten_lsn: None,
-            top: Lsn::new(0),
+            page_lsn: Lsn::new(0),
             image,
         }
     }
@@ -100,7 +93,7 @@ impl Frame {
         self.is_writing = false;
         self.first_lsn = None;
         self.rewritten_lsn = None;
-        self.top = Lsn::new(0);
+        self.page_lsn = Lsn::new(0);
         mem::replace(&mut self.image, image)
     }
 
@@ -136,7 +129,7 @@ impl Frame {
         self.is_rewritten = true;
         self.first_lsn = least(lsn, self.first_lsn);
         self.rewritten_lsn = least(lsn, self.rewritten_lsn);
-        self.top = later(lsn, self.top);
+        self.page_lsn = lsn.max(self.page_lsn);
         self.image.patch(offset, bytes);
     }
 

@@ -321,9 +321,8 @@ impl FrameTable {
     }
 
     /// The least LSN of all writes that are not saved, None where all pages are saved. The unsaved pages stand in the
-    /// order of their least LSNs, in a tree that may lag behind 64 of them. So it takes O(log frames), and as much for
-    /// each page, of 64 at most, that was saved or taken out since the tree caught up with it. It changes nothing that
-    /// a caller sees.
+    /// order of their least LSNs, in a tree that may lag behind any of them: it takes what a look for a victim takes
+    /// with no correlated period. It changes nothing that a caller sees.
     pub fn least_unsaved(&mut self) -> Option<Lsn>
         ensures same { self.new ≡ self.old }
         ensures least { IsLeastUnsaved self.old.frames result }

@@ -1,5 +1,6 @@
 //! The passes or tickets that are out.
-ghost use Rattle.std.specs.Prelude.{◌≡◌, ◌<◌, ◌≤◌, ◌==◌, [], not, All, filter, length, IfOk, OnOk};
+ghost use Rattle.std.specs.Prelude.{◌≡◌, ◌<◌, ◌≤◌, ◌==◌, ◌&&◌, [], not, All, filter, length, IfOk, OnOk};
+ghost use Rattle.std.specs.Prelude.{IsTrue, IsFalse};
 ghost use Rattle.bp_trail.specs.Event.{Grant, grant};
 ghost use Rattle.bp_trail.specs.Legal.{is_out};
 ghost use Rattle.bp_frames.specs.Rising.{IsRisingBy, IsPlaceFor, IsPlaceOf};
@@ -67,6 +68,14 @@ fn find(slots: &VecDeque<Slot>, serial: u64) -> Option<usize>
     }
 }
 
+/// Whether the grant of a slot is out, and was given to this client for this page.
+fn is_out_as(slot: &Slot, client: u8, page: PageNo) -> bool
+    ensures { result ≡ (slot.now.is_out
+        && ((client == slot.now.grant.client) && (page == slot.now.grant.page))) }
+{
+    slot.is_out && client == slot.grant.client && page == slot.grant.page
+}
+
 impl GrantList {
     ghost use Rattle.bp_frames.specs.GrantLists.{with_grant, GivesAsMuch};
 
@@ -104,15 +113,10 @@ impl GrantList {
     pub fn has(&self, client: u8, page: PageNo, serial: u64) -> bool
         ensures { result ≡ is_out (grant client page serial) self.now.out }
     {
-        let Some(place) = find(&self.slots, serial) else {
-            return false;
-        };
-        let slot = &self.slots[place];
-        if !slot.is_out {
-            return false;
+        match find(&self.slots, serial) {
+            Some(place) => is_out_as(&self.slots[place], client, page),
+            None => false,
         }
-        let given = slot.grant;
-        client == given.client && page.number() == given.page.number()
     }
 
     /// Takes memory for so many more. Where that is refused the grants stay as they are.
@@ -165,28 +169,40 @@ impl GrantList {
         self.count += 1;
     }
 
-    /// Takes the grant of this number out, if it is there, which leaves no less room. It is found by halving.
-    pub fn take_back(&mut self, serial: u64)
-        ensures out { self.new.out ≡ filter (λ g. not (g.serial == serial)) self.old.out }
+    /// Takes this grant, of all three numbers, out, and tells whether it was. That leaves no less room; where it was not
+    /// out nothing changes. It is found by halving.
+    pub fn take_back(&mut self, client: u8, page: PageNo, serial: u64) -> bool
+        ensures was { result ≡ is_out (grant client page serial) self.old.out }
+        ensures out { IsTrue result → self.new.out
+            ≡ filter (λ g. not (g.serial == serial)) self.old.out }
         ensures more { GivesAsMuch self.old self.new }
+        ensures same { IsFalse result → self.new ≡ self.old }
     {
-        self.mark(serial);
+        if !self.mark(client, page, serial) {
+            return false;
+        }
         self.trim();
         self.trim();
+        true
     }
 
-    /// Marks the grant of this number as taken back, if it is out.
-    fn mark(&mut self, serial: u64)
-        ensures out { self.new.out ≡ filter (λ g. not (g.serial == serial)) self.old.out }
+    /// Marks this grant as taken back, and tells whether it was out.
+    fn mark(&mut self, client: u8, page: PageNo, serial: u64) -> bool
+        ensures was { result ≡ is_out (grant client page serial) self.old.out }
+        ensures out { IsTrue result → self.new.out
+            ≡ filter (λ g. not (g.serial == serial)) self.old.out }
         ensures more { GivesAsMuch self.old self.new }
+        ensures same { IsFalse result → self.new ≡ self.old }
     {
         let Some(place) = find(&self.slots, serial) else {
-            return;
+            return false;
         };
-        if self.slots[place].is_out {
-            self.slots[place].is_out = false;
-            self.count -= 1;
+        if !is_out_as(&self.slots[place], client, page) {
+            return false;
         }
+        self.slots[place].is_out = false;
+        self.count -= 1;
+        true
     }
 
     /// Drops the oldest slot and the newest, if their grants were taken back.

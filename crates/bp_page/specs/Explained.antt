@@ -1,4 +1,4 @@
--- What the refusal with each number says.
+-- What the refusal, or the fault of a trace or of a list, with each number says.
 use Rattle.std.specs.Prelude.{ℕ, ◌==◌, List, [], ◌∷◌, codes, find, Option, option_map}
 
 abbrev pub explanations : List (ℕ × List ℕ)
@@ -36,6 +36,6 @@ explanations = (
     ∷ (47, codes "the trace or the list of references could not be read")
     ∷ []
 
--- the text of this number, if it is that of a refusal
+-- the text of this number, if it is one of these
 abbrev pub explanation_of : ℕ → Option (List ℕ)
 explanation_of number = option_map (λ p. p.1) (find (λ p. number == p.0) explanations)

@@ -1,7 +1,7 @@
 -- The number of each refusal, and how far one wants the log.
 use Rattle.std.specs.Prelude.{ℕ, Option, Some, None}
 use Rattle.bp_page.specs.declared.refusals.Refusal.{Refusal}
-use Rattle.bp_page.specs.declared.refusals.Refusal.TheVariants.{BadGeometry, BadSettings, BadLength, NoVictim, NeedLog, Busy, UnknownPass, UnknownTicket, ReadFailed, WriteFailed, WrongPage, TrailFull, ClockFull, OutOfMemory, RingFull, Disagree, BadShape, BadClient, BadOp, BadNumber, BadHex, OutOfPage, TooLong, ReadFault}
+use Rattle.bp_page.specs.declared.refusals.Refusal.TheVariants.{BadGeometry, BadSettings, BadLength, NoVictim, NeedLog, Busy, UnknownPass, UnknownTicket, ReadFailed, WriteFailed, WrongPage, TrailFull, ClockFull, OutOfMemory, RingFull, Disagree, BadClient, OutOfPage}
 
 abbrev pub number_of : Refusal → ℕ
 number_of BadGeometry = 1
@@ -20,14 +20,8 @@ number_of ClockFull = 21
 number_of OutOfMemory = 22
 number_of RingFull = 23
 number_of Disagree = 24
-number_of BadShape = 40
 number_of BadClient = 41
-number_of BadOp = 42
-number_of BadNumber = 43
-number_of BadHex = 44
 number_of OutOfPage = 45
-number_of TooLong = 46
-number_of ReadFault = 47
 
 -- the LSN up to which the log must be durable before the call is made again
 abbrev pub needed_by : Refusal → Option ℕ

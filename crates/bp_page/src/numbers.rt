@@ -1,5 +1,5 @@
 //! The numbers of pages and of log records.
-ghost use Rattle.std.specs.Prelude.{◌≡◌, ℕ};
+ghost use Rattle.std.specs.Prelude.{◌≡◌, ℕ, max};
 
 use std::fmt;
 use std::marker::Model;
@@ -69,6 +69,13 @@ impl Lsn {
         ensures { result ≡ self }
     {
         self.number
+    }
+
+    /// The greater of the two.
+    pub fn max(self, other: Lsn) -> Lsn
+        ensures { result ≡ max self other }
+    {
+        if self < other { other } else { self }
     }
 }
 

@@ -9,8 +9,7 @@ use thiserror::Error;
 /// Why a call of this workspace was refused. What holds afterwards, the call itself says.
 #[derive(Clone, Copy, PartialEq, Eq, Debug, Error)]
 pub enum Refusal {
-    /// The file has no page or more than 1,048,576, or the bytes of a page are no multiple of 16 from 16 to 65,536. Of
-    /// references: they are of more different pages.
+    /// The file has no page or more than 1,048,576, or the bytes of a page are no multiple of 16 from 16 to 65,536.
     #[error("the number of pages or the page size is out of its limits")]
     BadGeometry,
     /// K, a period, the frames, the clients or the room of the trail are out of their limits.
@@ -60,31 +59,12 @@ pub enum Refusal {
     /// client's list is not its part of the trail, or the log was marked ahead of client 0's rows.
     #[error("the clients' lists and the trail do not agree")]
     Disagree,
-    /// The record has not six fields, or one that its operation has no use for is not empty. Of references: it has no
-    /// such field.
-    #[error("a record does not have the fields of its operation")]
-    BadShape,
-    /// The client is no number from 0 to 63, none of the pool's, or in a `log` row not 0.
+    /// The core has no client with this number, or the pool's rings are for another number of clients.
     #[error("no client has this number here")]
     BadClient,
-    /// The word of the operation is none of the eight.
-    #[error("no operation has this name")]
-    BadOp,
-    /// A page, offset, LSN, number of ticks or reference is no decimal number within its limits.
-    #[error("a field is not a number within the limits")]
-    BadNumber,
-    /// The digits of the bytes are odd in number, or one of them is none of 0 to 9, a to f, A to F.
-    #[error("the bytes are not pairs of hexadecimal digits")]
-    BadHex,
     /// The file has no such page, or the last byte would stand past the end of the page.
     #[error("the page is not of the file, or the bytes are not within the page")]
     OutOfPage,
-    /// The trace has more than 262,144 rows or 67,108,864 bytes, or the list more than 268,435,456 references.
-    #[error("the trace is too long")]
-    TooLong,
-    /// A read of the trace or of the list failed.
-    #[error("the trace could not be read")]
-    ReadFault,
 }
 
 impl From<AllocError> for Refusal {
@@ -119,14 +99,8 @@ impl Refusal {
             Refusal::OutOfMemory => 22,
             Refusal::RingFull => 23,
             Refusal::Disagree => 24,
-            Refusal::BadShape => 40,
             Refusal::BadClient => 41,
-            Refusal::BadOp => 42,
-            Refusal::BadNumber => 43,
-            Refusal::BadHex => 44,
             Refusal::OutOfPage => 45,
-            Refusal::TooLong => 46,
-            Refusal::ReadFault => 47,
         }
     }
 

@@ -12,7 +12,7 @@ use Rattle.bp_trail.specs.Trail.{Trail}
 use Rattle.bp_trail.specs.Clock.{durable}
 use Rattle.bp_trail.specs.Passes.{passes, tickets, reads_out, writes_out, passes_out}
 use Rattle.bp_trail.specs.Places.{resident, loading, writing}
-use Rattle.bp_trail.specs.Saved.{unsaved, written_since, top}
+use Rattle.bp_trail.specs.Saved.{unsaved, written_since, page_lsn}
 use Rattle.bp_trail.specs.Images.{held}
 use Rattle.bp_trail.specs.References.{forgotten}
 use Rattle.bp_trail.specs.Victim.{victim}
@@ -28,7 +28,7 @@ pub record Misses (past : Trail) (p : ℕ) : Type 0 where
 -- a write-out of p begins: it is unsaved, and the log is durable as far as its writes
 pub record MayGo (past : Trail) (p : ℕ) : Type 0 where
   pub unsaved_page : unsaved past p ≡ true
-  pub logged : top past p ≤ durable past
+  pub logged : page_lsn past p ≤ durable past
 
 pub data Event (c : Parameters) (past : Trail) (who : ℕ) : Call → Reply → Type 0 where
   ticked : (n : ℕ) → Event c past who (Tick n) Done
@@ -39,11 +39,11 @@ pub data Event (c : Parameters) (past : Trail) (who : ℕ) : Call → Reply → 
   fix_write : (p v : ℕ) → Misses past p → victim c past ≡ Some v → MayGo past v → Event c past who (Fix p) (WriteFirst (tickets past) v (held past v))
   fix_busy : (p : ℕ) → loading past p ≡ true → Event c past who (Fix p) Busy
   fix_none : (p : ℕ) → Misses past p → victim c past ≡ None → Event c past who (Fix p) NoVictim
-  fix_log : (p v : ℕ) → Misses past p → victim c past ≡ Some v → Event c past who (Fix p) (NeedLog (top past v))
+  fix_log : (p v : ℕ) → Misses past p → victim c past ≡ Some v → Event c past who (Fix p) (NeedLog (page_lsn past v))
   flush_busy : (p : ℕ) → Event c past who (Flush p) Busy
   flush_absent : (p : ℕ) → resident past p ≡ false → Event c past who (Flush p) Absent
   flush_clean : (p : ℕ) → resident past p ≡ true → unsaved past p ≡ false → Event c past who (Flush p) Clean
-  flush_log : (p : ℕ) → Event c past who (Flush p) (NeedLog (top past p))
+  flush_log : (p : ℕ) → Event c past who (Flush p) (NeedLog (page_lsn past p))
   flush_write : (p : ℕ) → resident past p ≡ true → writing past p ≡ false → MayGo past p → Event c past who (Flush p) (WriteFirst (tickets past) p (held past p))
   read_good : (t p : ℕ) (image : List ℕ) → is_out (grant who p t) (reads_out past) ≡ true → Event c past who (ReadEnd t p (Some image)) (Fixed (passes past))
   read_bad : (t p : ℕ) → is_out (grant who p t) (reads_out past) ≡ true → Event c past who (ReadEnd t p None) ReadFailed
@@ -59,13 +59,13 @@ pub data Event (c : Parameters) (past : Trail) (who : ℕ) : Call → Reply → 
 module _ (c : Parameters) (past : Trail) (who : ℕ) where
   replaced : (p : ℕ) → Misses past p → (o : Option ℕ) → victim c past ≡ o → Event c past who (Fix p) (replace_reply past o)
   replaced p m None e = fix_none p m e
-  replaced p m (Some v) e = go (unsaved past v) refl (nat_lt (durable past) (top past v)) refl
+  replaced p m (Some v) e = go (unsaved past v) refl (nat_lt (durable past) (page_lsn past v)) refl
     where
-      go : (u : Bool) → unsaved past v ≡ u → (d : Bool) → nat_lt (durable past) (top past v) ≡ d
-          → Event c past who (Fix p) (if u then (if d then NeedLog (top past v) else WriteFirst (tickets past) v (held past v)) else Load (tickets past) (Some v))
+      go : (u : Bool) → unsaved past v ≡ u → (d : Bool) → nat_lt (durable past) (page_lsn past v) ≡ d
+          → Event c past who (Fix p) (if u then (if d then NeedLog (page_lsn past v) else WriteFirst (tickets past) v (held past v)) else Load (tickets past) (Some v))
       go false h d k = fix_replace p v m e h
       go true h true k = fix_log p v m e
-      go true h false k = fix_write p v m e (record { unsaved_page = h; logged = ltb-false (durable past) (top past v) k })
+      go true h false k = fix_write p v m e (record { unsaved_page = h; logged = ltb-false (durable past) (page_lsn past v) k })
 
   fixed : (p : ℕ) → Event c past who (Fix p) (fix_reply c past p)
   fixed p = go (loading past p) refl (resident past p) refl (has_free_frame c past) refl
@@ -78,16 +78,16 @@ module _ (c : Parameters) (past : Trail) (who : ℕ) where
       go false i false j false k = replaced p (record { not_loading = i; not_resident = j }) (victim c past) refl
 
   flushed : (p : ℕ) → Event c past who (Flush p) (flush_reply past p)
-  flushed p = go (loading past p) (resident past p) refl (writing past p) refl (unsaved past p) refl (nat_lt (durable past) (top past p)) refl
+  flushed p = go (loading past p) (resident past p) refl (writing past p) refl (unsaved past p) refl (nat_lt (durable past) (page_lsn past p)) refl
     where
-      go : (l r : Bool) → resident past p ≡ r → (w : Bool) → writing past p ≡ w → (u : Bool) → unsaved past p ≡ u → (d : Bool) → nat_lt (durable past) (top past p) ≡ d
-          → Event c past who (Flush p) (if l then Busy else if not r then Absent else if w then Busy else if u then (if d then NeedLog (top past p) else WriteFirst (tickets past) p (held past p)) else Clean)
+      go : (l r : Bool) → resident past p ≡ r → (w : Bool) → writing past p ≡ w → (u : Bool) → unsaved past p ≡ u → (d : Bool) → nat_lt (durable past) (page_lsn past p) ≡ d
+          → Event c past who (Flush p) (if l then Busy else if not r then Absent else if w then Busy else if u then (if d then NeedLog (page_lsn past p) else WriteFirst (tickets past) p (held past p)) else Clean)
       go true r i w j u k d h = flush_busy p
       go false false i w j u k d h = flush_absent p i
       go false true i true j u k d h = flush_busy p
       go false true i false j false k d h = flush_clean p i k
       go false true i false j true k true h = flush_log p
-      go false true i false j true k false h = flush_write p i j (record { unsaved_page = k; logged = ltb-false (durable past) (top past p) h })
+      go false true i false j true k false h = flush_write p i j (record { unsaved_page = k; logged = ltb-false (durable past) (page_lsn past p) h })
 
   write_ended : (t p : ℕ) → is_out (grant who p t) (writes_out past) ≡ true → Event c past who (WriteEnd t p true) (write_end_reply past t p true)
   write_ended t p o = go (written_since past t p) refl

@@ -6,7 +6,7 @@ use Rattle.bp_trail.specs.Trail.{Trail}
 use Rattle.bp_trail.specs.Clock.{clock, durable}
 use Rattle.bp_trail.specs.Passes.{passes, tickets, passes_out, reads_out, writes_out}
 use Rattle.bp_trail.specs.Places.{resident}
-use Rattle.bp_trail.specs.Saved.{unsaved, written_since, top}
+use Rattle.bp_trail.specs.Saved.{unsaved, written_since, page_lsn}
 use Rattle.bp_trail.specs.Images.{held}
 use Rattle.bp_trail.specs.References.{last, hist}
 use Rattle.bp_trail.specs.Legal.{is_out}
@@ -24,7 +24,7 @@ pub record SameStanding (c : Parameters) (s t : Trail) : Type 0 where
   -- each page
   pub places : (p : ℕ) → resident s p ≡ resident t p
   pub images : (p : ℕ) → resident s p ≡ true → held s p ≡ held t p
-  pub tops : (p : ℕ) → resident s p ≡ true → top s p ≡ top t p
+  pub tops : (p : ℕ) → resident s p ≡ true → page_lsn s p ≡ page_lsn t p
   pub changed : (p : ℕ) → unsaved s p ≡ unsaved t p
   pub lasts : (p : ℕ) → last c s p ≡ last c t p
   pub stamps : (p i : ℕ) → hist c s p i ≡ hist c t p i

@@ -11,7 +11,7 @@ use Rattle.bp_trail.specs.Trail.{Trail}
 use Rattle.bp_trail.specs.Clock.{clock, durable}
 use Rattle.bp_trail.specs.Passes.{is_of, passes, tickets, writes_out, pins}
 use Rattle.bp_trail.specs.Places.{residents, resident, loading}
-use Rattle.bp_trail.specs.Saved.{unsaved, top}
+use Rattle.bp_trail.specs.Saved.{unsaved, page_lsn}
 use Rattle.bp_trail.specs.Images.{held}
 use Rattle.bp_trail.specs.References.{last}
 use Rattle.bp_trail.specs.Victim.{rank, before, victim}
@@ -56,14 +56,14 @@ module _ (c : Parameters) (past : Trail) (who p t v : ℕ) (image : List ℕ) wh
   pub cleaned-loads : Legal c past → WriteFirst t v image ≡ reply_of c past (Fix p) → reply_of c cleaned (Fix p) ≡ Load (tickets cleaned) (Some v)
   cleaned-loads legal is = go (loading past p) (resident past p) (has_free_frame c past) (victim c past) refl is
     where
-      chosen : (w : ℕ) → victim c past ≡ Some w → (u d : Bool) → WriteFirst t v image ≡ (if u then (if d then NeedLog (top past w) else WriteFirst (tickets past) w (held past w)) else Load (tickets past) (Some w))
+      chosen : (w : ℕ) → victim c past ≡ Some w → (u d : Bool) → WriteFirst t v image ≡ (if u then (if d then NeedLog (page_lsn past w) else WriteFirst (tickets past) w (held past w)) else Load (tickets past) (Some w))
           → replace_reply cleaned (victim c cleaned) ≡ Load (tickets cleaned) (Some v)
       chosen w e false d is = cc
       chosen w e true true is = cc
       chosen w e true false is =
           let next : t ≡ tickets past = cc in
           let same : v ≡ w = cc in
-          ap (replace_reply cleaned) (victim-stays legal next ∙ e ∙ ap Some (sym same)) ∙ ap (λ b. if b then (if nat_lt (durable cleaned) (top cleaned v) then NeedLog (top cleaned v) else WriteFirst (tickets cleaned) v (held cleaned v)) else Load (tickets cleaned) (Some v)) saved
+          ap (replace_reply cleaned) (victim-stays legal next ∙ e ∙ ap Some (sym same)) ∙ ap (λ b. if b then (if nat_lt (durable cleaned) (page_lsn cleaned v) then NeedLog (page_lsn cleaned v) else WriteFirst (tickets cleaned) v (held cleaned v)) else Load (tickets cleaned) (Some v)) saved
 
       go : (l r f : Bool) (o : Option ℕ) → victim c past ≡ o → WriteFirst t v image ≡ (if l then Busy else if r then Hit (passes past) else if f then Load (tickets past) None else replace_reply past o)
           → (if l then Busy else if r then Hit (passes cleaned) else if f then Load (tickets cleaned) None else replace_reply cleaned (victim c cleaned)) ≡ Load (tickets cleaned) (Some v)
@@ -71,4 +71,4 @@ module _ (c : Parameters) (past : Trail) (who p t v : ℕ) (image : List ℕ) wh
       go false true f o e is = cc
       go false false true o e is = cc
       go false false false None e is = cc
-      go false false false (Some w) e is = chosen w e (unsaved past w) (nat_lt (durable past) (top past w)) is
+      go false false false (Some w) e is = chosen w e (unsaved past w) (nat_lt (durable past) (page_lsn past w)) is

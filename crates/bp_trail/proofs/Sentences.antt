@@ -23,7 +23,7 @@ use Rattle.bp_trail.specs.Trail.{Trail}
 use Rattle.bp_trail.specs.Clock.{clock}
 use Rattle.bp_trail.specs.Passes.{pass_of, passes, tickets, pins}
 use Rattle.bp_trail.specs.Places.{residents, resident, loading, writing}
-use Rattle.bp_trail.specs.Saved.{began_saving, unsaved, top}
+use Rattle.bp_trail.specs.Saved.{began_saving, unsaved, page_lsn}
 use Rattle.bp_trail.specs.Images.{held, plain_map}
 use Rattle.bp_trail.specs.References.{is_empty, references, forgets, last, hist}
 use Rattle.bp_trail.specs.Victim.{rank, before, candidate, victim, Rank}
@@ -294,8 +294,8 @@ unsaved-decides past p =
       }),
     )
 
-pub top-greatest : (past newest : Trail) (p : ℕ) → AreAfterLast (loads p) past newest → IsGreatest (filter_map (lsn_written p) newest) (top past p)
-top-greatest past newest p a = subst (λ s. IsGreatest (filter_map (lsn_written p) s) (top past p)) (sym (after-last-only (loads p) past newest a)) (greatest-is (filter_map (lsn_written p) (after_last (loads p) past)))
+pub page_lsn-greatest : (past newest : Trail) (p : ℕ) → AreAfterLast (loads p) past newest → IsGreatest (filter_map (lsn_written p) newest) (page_lsn past p)
+page_lsn-greatest past newest p a = subst (λ s. IsGreatest (filter_map (lsn_written p) s) (page_lsn past p)) (sym (after-last-only (loads p) past newest a)) (greatest-is (filter_map (lsn_written p) (after_last (loads p) past)))
 
 -- ---- images
 

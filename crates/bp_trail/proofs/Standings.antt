@@ -8,7 +8,7 @@ use Rattle.bp_trail.specs.Event.{Grant, grant, same_grant}
 use Rattle.bp_trail.specs.Trail.{Trail}
 use Rattle.bp_trail.specs.Passes.{writes_out}
 use Rattle.bp_trail.specs.Places.{resident}
-use Rattle.bp_trail.specs.Saved.{unsaved, written_since, top}
+use Rattle.bp_trail.specs.Saved.{unsaved, written_since, page_lsn}
 use Rattle.bp_trail.specs.Images.{held}
 use Rattle.bp_trail.specs.References.{references, last, hist}
 use Rattle.bp_trail.specs.Legal.{is_out, Legal}
@@ -84,13 +84,13 @@ module _ (c : Parameters) (s t : Trail) (l : Legal c s) (m : Legal c t) (e : sta
       go true false h = cc
       go false true h = cc
 
-  same-held : (p : ℕ) → resident s p ≡ true → (held s p ≡ held t p) × (top s p ≡ top t p)
+  same-held : (p : ℕ) → resident s p ≡ true → (held s p ≡ held t p) × (page_lsn s p ≡ page_lsn t p)
   same-held p r = go (resident s p) (resident t p) r (sym (same-resident p) ∙ r) (same-content p)
     where
-      go : (a b : Bool) → a ≡ true → b ≡ true → content_if a (content s p) ≡ content_if b (content t p) → (held s p ≡ held t p) × (top s p ≡ top t p)
+      go : (a b : Bool) → a ≡ true → b ≡ true → content_if a (content s p) ≡ content_if b (content t p) → (held s p ≡ held t p) × (page_lsn s p ≡ page_lsn t p)
       go true true x y h =
           let k : content s p ≡ content t p = cc in
-          (ap (λ x. x.image) k, ap (λ x. x.top) k)
+          (ap (λ x. x.image) k, ap (λ x. x.page_lsn) k)
       go false b x y h = cc
       go true false x y h = cc
 
@@ -140,7 +140,7 @@ module _ (c : Parameters) (s t : Trail) (same : SameStanding c s t) where
   contents p = go (resident s p) refl (resident t p) (same.places p)
     where
       go : (a : Bool) → resident s p ≡ a → (b : Bool) → a ≡ b → content_if a (content s p) ≡ content_if b (content t p)
-      go true r true x = λ n. Some (record { image = same.images p r n; top = same.tops p r n })
+      go true r true x = λ n. Some (record { image = same.images p r n; page_lsn = same.tops p r n })
       go false r false x = refl
       go true r false x = cc
       go false r true x = cc

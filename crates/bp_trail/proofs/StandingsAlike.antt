@@ -16,7 +16,7 @@ use Rattle.bp_trail.specs.Trail.{Trail}
 use Rattle.bp_trail.specs.Clock.{clock}
 use Rattle.bp_trail.specs.Passes.{tickets, pass_of, read_ticket_of, write_ticket_of, writes_out}
 use Rattle.bp_trail.specs.Places.{residents, resident}
-use Rattle.bp_trail.specs.Saved.{unsaved, written_since, top}
+use Rattle.bp_trail.specs.Saved.{unsaved, written_since, page_lsn}
 use Rattle.bp_trail.specs.Images.{held}
 use Rattle.bp_trail.specs.References.{references, forgets}
 use Rattle.bp_trail.specs.Legal.{is_out, allowed, IsLawful, Legal}
@@ -150,7 +150,7 @@ module _ (c : Parameters) (s t : Trail) (l : Legal c s) (m : Legal c t) (same : 
       go true h = refl
       go false h = ap (written p e) (same.images p (was-resident s p e h r))
 
-  tops-after : (p : ℕ) → resident (e ∷ s) p ≡ true → top (e ∷ s) p ≡ top (e ∷ t) p
+  tops-after : (p : ℕ) → resident (e ∷ s) p ≡ true → page_lsn (e ∷ s) p ≡ page_lsn (e ∷ t) p
   tops-after p r = go (loads p e) refl
     where
       go : (b : Bool) → loads p e ≡ b

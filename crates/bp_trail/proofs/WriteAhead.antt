@@ -12,7 +12,7 @@ use Rattle.bp_trail.specs.Trail.{Trail}
 use Rattle.bp_trail.specs.Clock.{durable}
 use Rattle.bp_trail.specs.Passes.{reads_out}
 use Rattle.bp_trail.specs.Places.{resident}
-use Rattle.bp_trail.specs.Saved.{unsaved, top, began_saving}
+use Rattle.bp_trail.specs.Saved.{unsaved, page_lsn, began_saving}
 use Rattle.bp_trail.specs.Legal.{IsLawful, Legal}
 use Rattle.bp_trail.proofs.Events.{Event, event-of}
 use Rattle.bp_trail.proofs.Events.Event.{fix_write, flush_write, read_good}
@@ -22,10 +22,10 @@ use Rattle.bp_trail.proofs.Places.{Places, places, out-of_page}
 abbrev pub written_lsn : ℕ → Trail → ℕ
 written_lsn p past = greatest (filter_map (lsn_written p) past)
 
--- each write of p is counted by its top or durable, and so is each that no write-out has begun after
+-- each write of p is counted by its page_lsn or durable, and so is each that no write-out has begun after
 abbrev pub Logged : Trail → Type 0
 Logged past = record {
-  by_top : (p : ℕ) → written_lsn p past ≤ max (top past p) (durable past);
+  by_top : (p : ℕ) → written_lsn p past ≤ max (page_lsn past p) (durable past);
   by_begin : (p : ℕ) → written_lsn p past ≤ max (written_lsn p (after_last (λ e. begins_of p e.reply) past)) (durable past);
 }
 
@@ -63,7 +63,7 @@ pub record Arrives (past : Trail) (p : ℕ) (e : Entry) : Type 0 where
 
 pub record Goes (past : Trail) (p : ℕ) (e : Entry) : Type 0 where
   pub no_write : writes p e ≡ false
-  pub logged : top past p ≤ durable past
+  pub logged : page_lsn past p ≤ durable past
 
 abbrev entry : ℕ → Call → Reply → Entry
 entry who call reply = record { client = who; call = call; reply = reply }
@@ -74,8 +74,8 @@ module _ (c : Parameters) (past : Trail) (who : ℕ) (h : Places past) where
   arrives _ _ _ p m = cc
 
   goes : (call : Call) (reply : Reply) → Event c past who call reply → (p : ℕ) → begins_of p reply ≡ true → Goes past p (entry who call reply)
-  goes _ _ (fix_write q v m w g) p k = record { no_write = refl; logged = subst (λ x. top past x ≤ durable past) (eqb-true v p k) g.logged }
-  goes _ _ (flush_write v r w g) p k = record { no_write = refl; logged = subst (λ x. top past x ≤ durable past) (eqb-true v p k) g.logged }
+  goes _ _ (fix_write q v m w g) p k = record { no_write = refl; logged = subst (λ x. page_lsn past x ≤ durable past) (eqb-true v p k) g.logged }
+  goes _ _ (flush_write v r w g) p k = record { no_write = refl; logged = subst (λ x. page_lsn past x ≤ durable past) (eqb-true v p k) g.logged }
   goes _ _ _ p k = cc
 
 away-saved : (past : Trail) (p : ℕ) → Places past → resident past p ≡ false → unsaved past p ≡ false
@@ -83,7 +83,7 @@ away-saved past p h r = false_from_ne_true (unsaved past p) (λ u. let k = h.dir
 
 logged-with : (c : Parameters) (past : Trail) (e : Entry) → Places past → IsLawful c past e → Logged past → Logged (e ∷ past)
 logged-with c past e h l g = record {
-  by_top = λ p. top-at p (loads p e) refl;
+  by_top = λ p. page_lsn-at p (loads p e) refl;
   by_begin = λ p. begin-at p (begins_of p e.reply) refl;
 }
   where
@@ -96,19 +96,19 @@ logged-with c past e h l g = record {
     writes-lsn : (p : ℕ) → written_lsn p (e ∷ past) ≡ max (unwrap_or (lsn_written p e) 0) (written_lsn p past)
     writes-lsn p = greatest-with (lsn_written p) e past
 
-    top-at : (p : ℕ) (b : Bool) → loads p e ≡ b → written_lsn p (e ∷ past) ≤ max (greatest (filter_map (lsn_written p) (if b then [] else e ∷ after_last (loads p) past))) (durable (e ∷ past))
-    top-at p true m =
+    page_lsn-at : (p : ℕ) (b : Bool) → loads p e ≡ b → written_lsn p (e ∷ past) ≤ max (greatest (filter_map (lsn_written p) (if b then [] else e ∷ after_last (loads p) past))) (durable (e ∷ past))
+    page_lsn-at p true m =
         let a = arrives c past e.client h e.call e.reply event p m in
         let z = no-lsn p e a.no_write in
         let d = saved-durable past p g (away-saved past p h a.was_away) in
         let m = marks in
         let w : written_lsn p (e ∷ past) ≡ written_lsn p past = rw z refl in
         omega arith
-    top-at p false m =
-        let t : written_lsn p past ≤ max (top past p) (durable past) = g.by_top p in
+    page_lsn-at p false m =
+        let t : written_lsn p past ≤ max (page_lsn past p) (durable past) = g.by_top p in
         let m = marks in
         let w = writes-lsn p in
-        let x : written_lsn p (e ∷ after_last (loads p) past) ≡ max (unwrap_or (lsn_written p e) 0) (top past p) = greatest-with (lsn_written p) e (after_last (loads p) past) in
+        let x : written_lsn p (e ∷ after_last (loads p) past) ≡ max (unwrap_or (lsn_written p e) 0) (page_lsn past p) = greatest-with (lsn_written p) e (after_last (loads p) past) in
         let goal : written_lsn p (e ∷ past) ≤ max (written_lsn p (e ∷ after_last (loads p) past)) (durable (e ∷ past)) = omega arith in
         goal
 
@@ -117,7 +117,7 @@ logged-with c past e h l g = record {
         let a = goes c past e.client h e.call e.reply event p m in
         let z = no-lsn p e a.no_write in
         let d = a.logged in
-        let t : written_lsn p past ≤ max (top past p) (durable past) = g.by_top p in
+        let t : written_lsn p past ≤ max (page_lsn past p) (durable past) = g.by_top p in
         let m = marks in
         let w : written_lsn p (e ∷ past) ≡ written_lsn p past = rw z refl in
         omega arith
@@ -138,6 +138,6 @@ pub write_ahead : (c : Parameters) (past : Trail) (e : Entry) (t p : ℕ) (image
 write_ahead c past e t p image l r =
     let m : begins_of p e.reply ≡ true = rw r (eq-eqb p p refl) in
     let a = goes c past e.client (places c past l.before) e.call e.reply (event-of c past e l.here) p m in
-    let g : written_lsn p past ≤ max (top past p) (durable past) = (logged c past l.before).by_top p in
+    let g : written_lsn p past ≤ max (page_lsn past p) (durable past) = (logged c past l.before).by_top p in
     let d = a.logged in
     omega arith

@@ -9,7 +9,7 @@ use Rattle.bp_trail.specs.Trail.{Trail}
 use Rattle.bp_trail.specs.Clock.{durable}
 use Rattle.bp_trail.specs.Passes.{passes, tickets, reads_out}
 use Rattle.bp_trail.specs.Places.{residents, resident, loading, writing}
-use Rattle.bp_trail.specs.Saved.{unsaved, written_since, top}
+use Rattle.bp_trail.specs.Saved.{unsaved, written_since, page_lsn}
 use Rattle.bp_trail.specs.Images.{held}
 use Rattle.bp_trail.specs.References.{forgotten}
 use Rattle.bp_trail.specs.Victim.{victim}
@@ -20,7 +20,7 @@ has_free_frame c past = nat_lt (length (residents past) + length (reads_out past
 -- a write-out of p, once the log is durable as far as p's writes
 abbrev pub write_out_reply : Trail → ℕ → Reply
 write_out_reply past p =
-    if nat_lt (durable past) (top past p) then NeedLog (top past p)
+    if nat_lt (durable past) (page_lsn past p) then NeedLog (page_lsn past p)
     else WriteFirst (tickets past) p (held past p)
 
 abbrev pub replace_reply : Trail → Option ℕ → Reply

@@ -21,8 +21,8 @@ abbrev pub written_since : Trail → ℕ → ℕ → Bool
 written_since past ticket p = some (writes p) (after_last (λ e. begins ticket e.reply) past)
 
 -- the greatest LSN of the writes of p since it was loaded
-abbrev pub top : Trail → ℕ → ℕ
-top past p = greatest (filter_map (lsn_written p) (after_last (loads p) past))
+abbrev pub page_lsn : Trail → ℕ → ℕ
+page_lsn past p = greatest (filter_map (lsn_written p) (after_last (loads p) past))
 
 -- the least LSN of the writes of p that have no good write-out of p that began after them; none
 -- where p is saved

@@ -6,7 +6,7 @@ use Rattle.bp_trail.specs.Trail.{Trail}
 use Rattle.bp_trail.specs.Clock.{clock, durable}
 use Rattle.bp_trail.specs.Passes.{passes, tickets, passes_out, reads_out, writes_out}
 use Rattle.bp_trail.specs.Places.{resident}
-use Rattle.bp_trail.specs.Saved.{unsaved, written_since, top}
+use Rattle.bp_trail.specs.Saved.{unsaved, written_since, page_lsn}
 use Rattle.bp_trail.specs.Images.{held}
 use Rattle.bp_trail.specs.References.{last, hist}
 
@@ -18,7 +18,7 @@ each_from f a (suc n) = f a ∷ each_from f (suc a) n
 -- what a resident page holds
 pub record Content : Type 0 where
   pub image : List ℕ
-  pub top : ℕ
+  pub page_lsn : ℕ
 
 pub record PageStanding : Type 0 where
   pub stamps : List ℕ
@@ -49,7 +49,7 @@ content_if true content = Some content
 content_if false content = None
 
 abbrev pub content : Trail → ℕ → Content
-content s p = record { image = held s p; top = top s p }
+content s p = record { image = held s p; page_lsn = page_lsn s p }
 
 abbrev pub content_of : Trail → ℕ → Option Content
 content_of s p = content_if (resident s p) (content s p)

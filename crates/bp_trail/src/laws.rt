@@ -14,7 +14,7 @@ ghost use Rattle.bp_trail.specs.Trail.{Trail};
 ghost use Rattle.bp_trail.specs.Clock.{clock, durable};
 ghost use Rattle.bp_trail.specs.Passes.{pass_of, read_ticket_of, write_ticket_of, passes, tickets, passes_out, reads_out, writes_out, is_of, pins};
 ghost use Rattle.bp_trail.specs.Places.{residents, resident, loading, writing};
-ghost use Rattle.bp_trail.specs.Saved.{began_saving, unsaved, written_since, top, first_lsn, IsRedoFrom};
+ghost use Rattle.bp_trail.specs.Saved.{began_saving, unsaved, written_since, page_lsn, first_lsn, IsRedoFrom};
 ghost use Rattle.bp_trail.specs.Images.{held, plain_map};
 ghost use Rattle.bp_trail.specs.References.{references, forgets, last, hist};
 ghost use Rattle.bp_trail.specs.Victim.{backward_distance, candidate, victim};
@@ -172,8 +172,8 @@ pub fn saved_victim_leaves_at_the_next_fix()
 /// It was written since a write-out began where some write of it came after that.
 pub fn unsaved_since_the_last_good_write_out()
     ensures unsaved { (past : Trail) (p : ℕ) → Decides (unsaved past p) (IsUnsaved past p) }
-    ensures top { (past newest : Trail) (p : ℕ) → AreAfterLast (loads p) past newest →
-        IsGreatest (filter_map (lsn_written p) newest) (top past p) }
+    ensures page_lsn { (past newest : Trail) (p : ℕ) → AreAfterLast (loads p) past newest →
+        IsGreatest (filter_map (lsn_written p) newest) (page_lsn past p) }
     ensures written_since { (past newest : Trail) (t p : ℕ) →
         AreAfterLast (λ e. begins t e.reply) past newest →
         written_since past t p ≡ some (writes p) newest }

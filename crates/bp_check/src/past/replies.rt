@@ -20,9 +20,9 @@ impl<'a> Past<'a> {
     fn write_out_reply(&self, alloc: Global, page: PageNo) -> Result<Reply, AllocError>
         ensures { IfOk result (λ reply. reply ≡ of.write_out_reply self.now.past page) }
     {
-        let top = self.top(page);
-        if self.durable < top {
-            return Ok(Reply::NeedLog(top));
+        let page_lsn = self.page_lsn(page);
+        if self.durable < page_lsn {
+            return Ok(Reply::NeedLog(page_lsn));
         }
         Ok(Reply::WriteFirst {
             ticket: self.tickets(),

@@ -1,7 +1,7 @@
 //! What a checkpoint asks: which pages are unsaved, and from where on the log is needed.
 ghost use Rattle.std.specs.Prelude.{◌≡◌, true, false, IfSome, IfNone};
 ghost use Rattle.bp_trail.specs.Places.{resident};
-ghost use Rattle.bp_trail.specs.Saved.{unsaved, top, first_lsn, IsRedoFrom};
+ghost use Rattle.bp_trail.specs.Saved.{unsaved, page_lsn, first_lsn, IsRedoFrom};
 ghost use Rattle.bp_core.specs.CoreView.{EachPast};
 ghost use Rattle.bp_core.specs.Outcomes.{KnowsPass, LacksPass};
 ghost use Rattle.bp_core.specs.Unsaved.{FindsUnsaved};
@@ -58,11 +58,11 @@ impl<K: Keeper> PoolCore<K> {
     /// The page LSN of a page that is resident. None of any other.
     pub fn resident_lsn(&self, page: PageNo) -> Option<Lsn>
         ensures here { IfSome result (λ lsn. EachPast self.now
-            (λ past. (resident past page ≡ true) × (lsn ≡ top past page))) }
+            (λ past. (resident past page ≡ true) × (lsn ≡ page_lsn past page))) }
         ensures away { IfNone result (EachPast self.now (λ past. resident past page ≡ false)) }
     {
         match self.frame(page) {
-            Some(frame) => Some(frame.top),
+            Some(frame) => Some(frame.page_lsn),
             None => None,
         }
     }
@@ -72,13 +72,13 @@ impl<K: Keeper> PoolCore<K> {
     pub fn page_lsn(&self, pass: &Pass) -> Option<Lsn>
         ensures known { IfSome result (λ lsn. KnowsPass self.now pass.now) }
         ensures lsn { IfSome result (λ lsn. EachPast self.now
-            (λ past. lsn ≡ top past pass.now.page)) }
+            (λ past. lsn ≡ page_lsn past pass.now.page)) }
         ensures unknown { IfNone result (LacksPass self.now pass.now) }
     {
         if !self.knows(pass) {
             return None;
         }
         let slot = self.state.frames.find(pass.page).unwrap();
-        Some(self.state.frames.frame(&slot).top)
+        Some(self.state.frames.frame(&slot).page_lsn)
     }
 }

@@ -5,6 +5,7 @@ ghost use Rattle.bp_trail.specs.Victim.{victim};
 ghost use Rattle.bp_core.specs.CoreView.{EachPast, HasRoomFor};
 ghost use Rattle.bp_core.specs.Outcomes.{FixOutcome, IsFull, TakesMemory};
 
+use crate::config::FIX_OWES;
 use crate::passes::Fix;
 use crate::pool::PoolCore;
 use bp_keeper::Keeper;
@@ -26,7 +27,7 @@ impl<K: Keeper> PoolCore<K> {
         ensures outcome { FixOutcome self.old client page result self.new }
         ensures memory { result ≡ Err Refusal.OutOfMemory → TakesMemory (Call.Fix page) self.old }
     {
-        if self.free() < 3 {
+        if self.free() < FIX_OWES {
             return Err(Refusal::TrailFull);
         }
         let Some(slot) = self.state.frames.find(page) else {
@@ -82,12 +83,12 @@ impl<K: Keeper> PoolCore<K> {
         if !frame.is_unsaved {
             return self.replace(client, page, victim);
         }
-        let top = frame.top;
-        if self.durable() < top {
-            self.answer(client, Call::Fix(page), Reply::NeedLog(top));
-            return Err(Refusal::NeedLog(top));
+        let page_lsn = frame.page_lsn;
+        if self.durable() < page_lsn {
+            self.answer(client, Call::Fix(page), Reply::NeedLog(page_lsn));
+            return Err(Refusal::NeedLog(page_lsn));
         }
-        let ticket = self.begin(client, Call::Fix(page), victim)?;
+        let ticket = self.begin_write_out(client, Call::Fix(page), victim)?;
         Ok(Fix::WriteFirst(ticket))
     }
 

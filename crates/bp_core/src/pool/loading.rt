@@ -1,5 +1,5 @@
 //! Bringing a page into a frame.
-ghost use Rattle.std.specs.Prelude.{◌≡◌, ℕ, ◌+◌, ◌^◌, ◌<◌, ◌≤◌, true, false, Some, None, Ok, IsSome};
+ghost use Rattle.std.specs.Prelude.{◌≡◌, ℕ, ◌+◌, ◌^◌, ◌<◌, ◌≤◌, true, false, Some, None, Ok, Err, IsSome};
 ghost use Rattle.std.specs.Prelude.{length, IfOk, OnOk, OnErr, ◌≢◌};
 ghost use Rattle.bp_replacer.specs.Histories.{is_held, place_of, SameStampsAt, SameAt};
 ghost use Rattle.bp_replacer.specs.Histories.{SameSettings, KeepsPlaces};
@@ -137,51 +137,57 @@ impl<K: Keeper> PoolCore<K> {
         requires size { IfOk read (λ image. length image ≡ self.old.parameters.size) }
         ensures outcome { ReadEndByOutcome self.old ticket read result self.new }
     {
+        match read {
+            Ok(image) => self.end_load(ticket, image, left),
+            Err(fault) => Err(self.fail_load(ticket, fault)),
+        }
+    }
+
+    /// A read went well: its page is resident, with one pass out, where its ticket was.
+    fn end_load(
+        &mut self,
+        ticket: Grant,
+        image: Image,
+        left: &mut Option<Image>,
+    ) -> Result<Pass, EndRefusal<Grant, Result<Image, PortFault>>>
+        requires { length image ≡ self.old.parameters.size }
+        ensures { ReadEndByOutcome self.old ticket (Ok image) result self.new }
+    {
         let Grant {
             client,
             page,
             serial,
         } = ticket;
-        if !self.state.reads.has(client, page, serial) {
-            return Err(EndRefusal::Unknown(ticket, read));
+        if !self.state.reads.take_back(client, page, serial) {
+            return Err(EndRefusal::Unknown(ticket, Ok(image)));
         }
-        match read {
-            Ok(image) => Ok(self.end_load(ticket, image, left)),
-            Err(fault) => {
-                self.fail_load(client, page, serial, fault);
-                Err(EndRefusal::Failed(refusal_of_read(fault)))
-            }
-        }
-    }
-
-    /// A read went well: its page is resident, with one pass out.
-    fn end_load(&mut self, ticket: Grant, image: Image, left: &mut Option<Image>) -> Pass
-        requires out { EachPast self.old (λ past. is_out ticket (reads_out past) ≡ true) }
-        requires size { length image ≡ self.old.parameters.size }
-        ensures outcome { ReadEndByOutcome self.old ticket (Ok image) (Ok result) self.new }
-    {
-        self.state.reads.take_back(ticket.serial);
-        let block = self.state.histories.place(ticket.page).unwrap();
-        let (slot, before) = self.state.frames.fill(ticket.page, block, image);
-        self.state
-            .histories
-            .fault_at(ticket.page, block, self.state.clock);
-        let pass = self.state.give_pass(ticket.client, ticket.page);
+        let block = self.state.histories.place(page).unwrap();
+        let (slot, before) = self.state.frames.fill(page, block, image);
+        self.state.histories.fault_at(page, block, self.state.clock);
+        let pass = self.state.give_pass(client, page);
         let image = &self.state.frames.frame(&slot).image;
         *left = self
             .trail
             .record_read_end(ticket, pass.serial, image, before);
-        pass
+        Ok(pass)
     }
 
-    /// A read failed: nothing is remembered of it.
-    fn fail_load(&mut self, client: u8, page: PageNo, serial: u64, fault: PortFault)
-        requires { EachPast self.old (λ past. is_out (grant client page serial)
-            (reads_out past) ≡ true) }
-        ensures { Adds self.old client (Call.ReadEnd serial page None)
-            (read_failure fault) self.new }
+    /// A read failed: nothing is remembered of it, where its ticket was out.
+    fn fail_load(
+        &mut self,
+        ticket: Grant,
+        fault: PortFault,
+    ) -> EndRefusal<Grant, Result<Image, PortFault>>
+        ensures { ReadEndByOutcome self.old ticket (Err fault) (Err result) self.new }
     {
-        self.state.reads.take_back(serial);
+        let Grant {
+            client,
+            page,
+            serial,
+        } = ticket;
+        if !self.state.reads.take_back(client, page, serial) {
+            return EndRefusal::Unknown(ticket, Err(fault));
+        }
         self.state.histories.unprepare(page);
         let call = Call::ReadEnd {
             ticket: serial,
@@ -189,6 +195,7 @@ impl<K: Keeper> PoolCore<K> {
             image: None,
         };
         self.trail.record(client, call, reply_of_read(fault));
+        EndRefusal::Failed(refusal_of_read(fault))
     }
 }
 

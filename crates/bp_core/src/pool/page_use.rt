@@ -5,6 +5,7 @@ ghost use Rattle.bp_core.specs.CoreView.{EachPast};
 ghost use Rattle.bp_core.specs.Outcomes.{KnowsPass, LacksPass, ReadOutcome, ReadIntoOutcome};
 ghost use Rattle.bp_core.specs.Outcomes.{WriteOutcome, UnfixOutcome};
 
+use crate::config::STEP_OWES;
 use crate::passes::Pass;
 use crate::pool::PoolCore;
 use bp_keeper::Keeper;
@@ -50,7 +51,7 @@ impl<K: Keeper> PoolCore<K> {
             self.new }
         ensures memory { K.REFUSES ≡ false → result ≢ Err Refusal.OutOfMemory }
     {
-        if self.free() < 1 {
+        if self.free() < STEP_OWES {
             return Err(Refusal::TrailFull);
         }
         if !self.knows(pass) {
@@ -70,7 +71,7 @@ impl<K: Keeper> PoolCore<K> {
         ensures outcome { ReadOutcome self.old pass.now result self.new }
         ensures size { IfOk result (λ image. length image ≡ self.old.parameters.size) }
     {
-        if self.free() < 1 {
+        if self.free() < STEP_OWES {
             return Err(Refusal::TrailFull);
         }
         if !self.knows(pass) {
@@ -112,7 +113,7 @@ impl<K: Keeper> PoolCore<K> {
         ensures outcome { WriteOutcome self.old pass.now offset bytes.now lsn result self.new }
         ensures memory { K.REFUSES ≡ false → result ≢ Err Refusal.OutOfMemory }
     {
-        if self.free() < 1 {
+        if self.free() < STEP_OWES {
             return Err(Refusal::TrailFull);
         }
         if !self.knows(pass) {
@@ -130,7 +131,11 @@ impl<K: Keeper> PoolCore<K> {
     pub fn unfix(&mut self, pass: Pass) -> Result<(), Pass>
         ensures outcome { UnfixOutcome self.old pass result self.new }
     {
-        if !self.knows(&pass) {
+        if !self
+            .state
+            .passes
+            .take_back(pass.client, pass.page, pass.serial)
+        {
             return Err(pass);
         }
         let Pass {
@@ -140,7 +145,6 @@ impl<K: Keeper> PoolCore<K> {
         } = pass;
         let slot = self.state.frames.find(page).unwrap();
         self.state.frames.unpin(&slot);
-        self.state.passes.take_back(serial);
         self.state.end_use(&slot, self.config.settings.k);
         let call = Call::Unfix { pass: serial, page };
         self.trail.record(client, call, Reply::Done);

@@ -2,8 +2,8 @@
 ghost use Rattle.std.specs.Prelude.{◌<◌};
 ghost use Rattle.bp_core.specs.Outcomes.{StepOutcome, TickOutcome, PurgeOutcome};
 
+use crate::config::STEP_OWES;
 use crate::pool::PoolCore;
-use bp_frames::frame::later;
 use bp_keeper::Keeper;
 use bp_page::{Lsn, Refusal};
 use bp_trail::{Call, Reply};
@@ -18,7 +18,7 @@ impl<K: Keeper> PoolCore<K> {
         requires client_in { client < self.old.parameters.clients }
         ensures outcome { TickOutcome self.old client n result self.new }
     {
-        if self.free() < 1 {
+        if self.free() < STEP_OWES {
             return Err(Refusal::TrailFull);
         }
         if n > CLOCK_END - self.state.clock {
@@ -35,10 +35,10 @@ impl<K: Keeper> PoolCore<K> {
         requires client_in { client < self.old.parameters.clients }
         ensures outcome { StepOutcome self.old client (Call.Mark lsn) result self.new }
     {
-        if self.free() < 1 {
+        if self.free() < STEP_OWES {
             return Err(Refusal::TrailFull);
         }
-        self.state.durable = later(lsn, self.state.durable);
+        self.state.durable = lsn.max(self.state.durable);
         self.trail.record(client, Call::Mark(lsn), Reply::Done);
         Ok(())
     }
@@ -50,7 +50,7 @@ impl<K: Keeper> PoolCore<K> {
         requires client_in { client < self.old.parameters.clients }
         ensures outcome { PurgeOutcome self.old client result self.new }
     {
-        if self.free() < 1 {
+        if self.free() < STEP_OWES {
             return Err(Refusal::TrailFull);
         }
         let count = self.state.histories.purge(self.state.clock);

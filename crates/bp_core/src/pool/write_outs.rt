@@ -1,5 +1,5 @@
 //! Writing pages out.
-ghost use Rattle.std.specs.Prelude.{◌≡◌, ◌<◌, true, false};
+ghost use Rattle.std.specs.Prelude.{◌≡◌, ◌<◌, true, false, Ok, Err};
 ghost use Rattle.bp_trail.specs.declared.entries.Reply.TheVariants.{WriteFirst};
 ghost use Rattle.bp_trail.specs.Event.{grant};
 ghost use Rattle.bp_trail.specs.Images.{held};
@@ -8,10 +8,10 @@ ghost use Rattle.bp_trail.specs.Passes.{tickets, writes_out};
 ghost use Rattle.bp_trail.specs.PageMap.{reply_of};
 ghost use Rattle.bp_trail.specs.Places.{resident};
 ghost use Rattle.bp_core.specs.CoreView.{EachPast, HasRoomFor};
-ghost use Rattle.bp_core.specs.Outcomes.{IsBegin, BeginOutcome, EndedOutcome, FlushOutcome};
-ghost use Rattle.bp_core.specs.Outcomes.{WriteEndOutcome, WriteEndByOutcome, Adds, AddsFailure};
-ghost use Rattle.bp_core.specs.Outcomes.{TakesMemory};
+ghost use Rattle.bp_core.specs.Outcomes.{IsBegin, BeginOutcome, FlushOutcome, TakesMemory};
+ghost use Rattle.bp_core.specs.Outcomes.{WriteEndOutcome, WriteEndByOutcome};
 
+use crate::config::FLUSH_OWES;
 use crate::passes::{EndRefusal, Ended, Flush, WriteTicket};
 use crate::pool::PoolCore;
 use bp_keeper::Keeper;
@@ -31,7 +31,7 @@ impl<K: Keeper> PoolCore<K> {
         ensures outcome { FlushOutcome self.old client page result self.new }
         ensures memory { result ≡ Err Refusal.OutOfMemory → TakesMemory (Call.Flush page) self.old }
     {
-        if self.free() < 2 {
+        if self.free() < FLUSH_OWES {
             return Err(Refusal::TrailFull);
         }
         let Some(frame) = self.frame(page) else {
@@ -43,7 +43,7 @@ impl<K: Keeper> PoolCore<K> {
             return Ok(Flush::Absent);
         };
         let is_unsaved = frame.is_unsaved;
-        let top = frame.top;
+        let page_lsn = frame.page_lsn;
         if frame.is_writing {
             self.answer(client, Call::Flush(page), Reply::Busy);
             return Err(Refusal::Busy);
@@ -52,16 +52,16 @@ impl<K: Keeper> PoolCore<K> {
             self.answer(client, Call::Flush(page), Reply::Clean);
             return Ok(Flush::Clean);
         }
-        if self.durable() < top {
-            self.answer(client, Call::Flush(page), Reply::NeedLog(top));
-            return Err(Refusal::NeedLog(top));
+        if self.durable() < page_lsn {
+            self.answer(client, Call::Flush(page), Reply::NeedLog(page_lsn));
+            return Err(Refusal::NeedLog(page_lsn));
         }
-        let ticket = self.begin(client, Call::Flush(page), page)?;
+        let ticket = self.begin_write_out(client, Call::Flush(page), page)?;
         Ok(Flush::WriteFirst(ticket))
     }
 
     /// Begins a write-out of a page, by a fix of another page or by a flush.
-    pub(super) fn begin(
+    pub(super) fn begin_write_out(
         &mut self,
         client: u8,
         call: Call,
@@ -80,7 +80,7 @@ impl<K: Keeper> PoolCore<K> {
     {
         let slot = self.state.frames.find(page).unwrap();
         let frame = self.state.frames.frame(&slot);
-        let lsn = frame.top;
+        let lsn = frame.page_lsn;
         let image = Image::of(self.alloc, frame.image.bytes())?;
         let spare = K::spare_image(self.alloc, &image)?;
         self.state.writes.reserve(1)?;
@@ -146,32 +146,29 @@ impl<K: Keeper> PoolCore<K> {
     ) -> Result<Ended, EndRefusal<Grant, Result<(), PortFault>>>
         ensures outcome { WriteEndByOutcome self.old ticket write result self.new }
     {
+        match write {
+            Ok(()) => self.end_write_out(ticket),
+            Err(fault) => Err(self.fail_write_out(ticket, fault)),
+        }
+    }
+
+    /// A write-out went well: what was written before it began is saved, where its ticket was out.
+    fn end_write_out(
+        &mut self,
+        ticket: Grant,
+    ) -> Result<Ended, EndRefusal<Grant, Result<(), PortFault>>>
+        ensures { WriteEndByOutcome self.old ticket (Ok tt) result self.new }
+    {
         let Grant {
             client,
             page,
             serial,
         } = ticket;
-        if !self.state.writes.has(client, page, serial) {
-            return Err(EndRefusal::Unknown(ticket, write));
+        if !self.state.writes.take_back(client, page, serial) {
+            return Err(EndRefusal::Unknown(ticket, Ok(())));
         }
-        match write {
-            Ok(()) => Ok(self.end_write_out(client, page, serial)),
-            Err(_) => {
-                self.fail_write_out(client, page, serial);
-                Err(EndRefusal::Failed(Refusal::WriteFailed))
-            }
-        }
-    }
-
-    /// A write-out went well: what was written before it began is saved.
-    fn end_write_out(&mut self, client: u8, page: PageNo, serial: u64) -> Ended
-        requires { EachPast self.old (λ past. is_out (grant client page serial)
-            (writes_out past) ≡ true) }
-        ensures { EndedOutcome self.old client page serial result self.new }
-    {
         let slot = self.state.frames.find(page).unwrap();
         let is_rewritten = self.state.frames.frame(&slot).is_rewritten;
-        self.state.writes.take_back(serial);
         self.state.frames.end_write_out(&slot);
         self.state.end_use(&slot, self.config.settings.k);
         let call = Call::WriteEnd {
@@ -181,20 +178,29 @@ impl<K: Keeper> PoolCore<K> {
         };
         if is_rewritten {
             self.trail.record(client, call, Reply::StillDirty);
-            return Ended::StillDirty;
+            return Ok(Ended::StillDirty);
         }
         self.trail.record(client, call, Reply::Cleaned);
-        Ended::Cleaned
+        Ok(Ended::Cleaned)
     }
 
     /// A write-out failed: the page stays as unsaved as it is.
-    fn fail_write_out(&mut self, client: u8, page: PageNo, serial: u64)
-        requires { EachPast self.old (λ past. is_out (grant client page serial)
-            (writes_out past) ≡ true) }
-        ensures { AddsFailure self.old client page serial self.new }
+    fn fail_write_out(
+        &mut self,
+        ticket: Grant,
+        fault: PortFault,
+    ) -> EndRefusal<Grant, Result<(), PortFault>>
+        ensures { WriteEndByOutcome self.old ticket (Err fault) (Err result) self.new }
     {
+        let Grant {
+            client,
+            page,
+            serial,
+        } = ticket;
+        if !self.state.writes.take_back(client, page, serial) {
+            return EndRefusal::Unknown(ticket, Err(fault));
+        }
         let slot = self.state.frames.find(page).unwrap();
-        self.state.writes.take_back(serial);
         self.state.frames.fail_write_out(&slot);
         self.state.end_use(&slot, self.config.settings.k);
         let call = Call::WriteEnd {
@@ -203,5 +209,6 @@ impl<K: Keeper> PoolCore<K> {
             good: false,
         };
         self.trail.record(client, call, Reply::WriteFailed);
+        EndRefusal::Failed(Refusal::WriteFailed)
     }
 }

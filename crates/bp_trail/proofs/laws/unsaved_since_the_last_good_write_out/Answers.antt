@@ -1,5 +1,5 @@
 use Rattle.bp_trail.proofs.Elements.{greatest-is}
-use Rattle.bp_trail.proofs.Sentences.{unsaved-decides, top-greatest}
+use Rattle.bp_trail.proofs.Sentences.{unsaved-decides, page_lsn-greatest}
 use Rattle.std.proofs.Common.{ap, sym}
 use Rattle.bp_trail.specs.Lists.{some}
 use Rattle.bp_trail.specs.Event.{begins, writes}
@@ -9,8 +9,8 @@ use Rattle.bp_trail.proofs.laws.unsaved_since_the_last_good_write_out.Goals as g
 pub returns-clause-unsaved : goal.returns-clause-unsaved
 returns-clause-unsaved c = unsaved-decides
 
-pub returns-clause-top : goal.returns-clause-top
-returns-clause-top c = top-greatest
+pub returns-clause-page_lsn : goal.returns-clause-page_lsn
+returns-clause-page_lsn c = page_lsn-greatest
 
 pub returns-clause-durable : goal.returns-clause-durable
 returns-clause-durable c = λ past. greatest-is _

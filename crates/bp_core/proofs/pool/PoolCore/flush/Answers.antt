@@ -15,7 +15,7 @@ pub answer-requires-then-not-is_unsaved-clause-quiet : goal.answer-requires-then
 answer-requires-then-not-is_unsaved-clause-quiet g c = flush_clean c.args.page
 
 pub answer-requires-then-lt-clause-quiet : goal.answer-requires-then-lt-clause-quiet
-answer-requires-then-lt-clause-quiet g c = flush_log c.args.page c.in-Some.frame.now.top
+answer-requires-then-lt-clause-quiet g c = flush_log c.args.page c.in-Some.frame.now.page_lsn
 
-pub begin-requires-clause-begins : goal.begin-requires-clause-begins
-begin-requires-clause-begins g c = by_flush c.args.page
+pub begin_write_out-requires-clause-begins : goal.begin_write_out-requires-clause-begins
+begin_write_out-requires-clause-begins g c = by_flush c.args.page

@@ -20,7 +20,7 @@ unwrap-frame-requires g c =
     true≢false (sym (candidate-resident v.parameters v.past c.in-Some.victim (victim-is v.parameters v.past c.in-Some.victim chosen).eligible) ∙ subst (λ (v : CoreView). EachPast v (λ past. resident past c.in-Some.victim ≡ false)) c.victim.ensures.same gone))
 
 pub answer-requires-then-lt-clause-quiet : goal.answer-requires-then-lt-clause-quiet
-answer-requires-then-lt-clause-quiet g c = fix_log c.args.page c.unwrap-frame.result.now.top
+answer-requires-then-lt-clause-quiet g c = fix_log c.args.page c.unwrap-frame.result.now.page_lsn
 
-pub begin-requires-clause-begins : goal.begin-requires-clause-begins
-begin-requires-clause-begins g c = by_fix c.args.page
+pub begin_write_out-requires-clause-begins : goal.begin_write_out-requires-clause-begins
+begin_write_out-requires-clause-begins g c = by_fix c.args.page

@@ -1,14 +1,14 @@
 use Rattle.std.proofs.Common.{◌≡◌, true, refl, ◌∙◌, ap, subst}
 use Rattle.bp_trail.specs.declared.entries.Reply.TheVariants.{WriteFirst}
 use Rattle.bp_trail.specs.Images.{held}
-use Rattle.bp_trail.specs.Saved.{top}
+use Rattle.bp_trail.specs.Saved.{page_lsn}
 use Rattle.bp_trail.specs.Places.{resident}
 use Rattle.bp_core.specs.CoreView.{EachPast}
 use Rattle.bp_core.proofs.Seen.{frame_in, resident_seen}
 use Rattle.bp_core.proofs.Keeps.{at-past, adds}
 use Rattle.bp_core.proofs.Uses.{found}
 use Rattle.bp_core.proofs.KeepsWriteOuts.{keeps-begin}
-use Rattle.bp_core.proofs.pool.PoolCore.begin.Goals as goal
+use Rattle.bp_core.proofs.pool.PoolCore.begin_write_out.Goals as goal
 
 pub unwrap-slot-requires : goal.unwrap-slot-requires
 unwrap-slot-requires g c =
@@ -37,5 +37,5 @@ returns-clause-outcome g c =
     let at = found c.self.inside.state.frames c.args.page c.find.result c.unwrap-slot.result c.find.ensures.found c.unwrap-slot.ensures in
     let f = c.frame-frame.result.now in
     let is = frame_in _ _ _ c.self.invariant.agrees c.args.page f c.frame-frame.ensures.here (c.frame-frame.ensures.page ∙ at.1) in
-    let lsn = subst (λ v. EachPast v (λ past. f.top ≡ top past c.args.page)) c.self.view_is (ap (λ f. f.top) is) in
+    let lsn = subst (λ v. EachPast v (λ past. f.page_lsn ≡ page_lsn past c.args.page)) c.self.view_is (ap (λ f. f.page_lsn) is) in
     (refl, refl, lsn, adds _ _ _ c.self.invariant _ c.self.view_is c.args.client c.args.call (WriteFirst c.give_write-serial.result c.args.page c.in_ok-image.image) _ _ c.record_begin.ensures (invariant_of-self-2 g c))
