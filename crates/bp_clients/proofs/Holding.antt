@@ -11,7 +11,7 @@ use Rattle.bp_trail.specs.Trail.{Trail}
 use Rattle.bp_trail.specs.Passes.{passes_out}
 use Rattle.bp_trail.specs.Script.{held_passes, give_back}
 use Rattle.bp_trail.proofs.Counting.{filter-reverse}
-use Rattle.bp_book.specs.Turns.{ReadSaid, WriteSaid, TickSaid, PurgeSaid}
+use Rattle.bp_session_log.specs.Turns.{ReadSaid, WriteSaid, TickSaid, PurgeSaid}
 use Rattle.bp_shared.specs.Sessions.{FixSaid, FlushSaid}
 
 -- a fix adds its pass, and no other call adds or takes any

@@ -21,7 +21,7 @@ use Rattle.bp_trail.specs.Pieces.Outcome.{accepted, refused}
 use Rattle.bp_trail.specs.Script.{is_pass_of, held_passes, latest_pass, WithPass, RowPiece, give_back}
 use Rattle.bp_trail.specs.declared.entries.Flushed.{Flushed}
 use Rattle.bp_device.proofs.PieceSteps.{find-there, at-first, at-second}
-use Rattle.bp_book.specs.Turns.{ReadSaid, WriteSaid, TickSaid, PurgeSaid}
+use Rattle.bp_session_log.specs.Turns.{ReadSaid, WriteSaid, TickSaid, PurgeSaid}
 use Rattle.bp_shared.specs.Sessions.{FixSaid, FlushSaid}
 use Rattle.bp_clients.specs.Steps.{is_fault, as_fault, StepSaid}
 

@@ -20,7 +20,7 @@ use Rattle.bp_shared.specs.Sessions.{WithSomeLsn}
 use Rattle.bp_audit.specs.Clients.{of_client}
 use Rattle.bp_audit.specs.Log.{IsWithinLog, is_unfix}
 use Rattle.bp_audit.specs.Cut.{BoundedByItsRow}
-use Rattle.bp_clients.specs.declared.run.Config.{Config}
+use Rattle.bp_core.specs.declared.config.Config.{Config}
 use Rattle.bp_clients.specs.declared.run.Outcome.{Outcome}
 use Rattle.bp_clients.specs.Rules.{KeepsRules}
 use Rattle.bp_clients.specs.Jobs.{list_of, lists, new_jobs, NoneIsStrange, JobValue, Collected}
@@ -105,19 +105,6 @@ pub record Joined {P : Type 0} (trail : List Entry) (jobs : List (JobValue P))
   pub collected : Collected trail jobs said one_by_one ports
   pub same : IsPermutation one_by_one refused
   pub in_order : IsNonDecreasingBy (λ r. r.row) refused
-
--- what the core of a run is made with
-abbrev pub run_parameters : Config → ℕ → Parameters
-run_parameters config clients = record {
-  frames = config.frames;
-  k = config.settings.k;
-  correlated = config.settings.correlated;
-  retained = config.settings.retained;
-  pages = config.geometry.pages;
-  size = config.geometry.size;
-  clients = clients;
-  room = config.room;
-}
 
 -- why a run is refused, and that a run that is not had fit parameters
 abbrev pub RunAnswers : {A : Type 0} → Parameters → Result A Refusal → Type 0

@@ -4,11 +4,10 @@ ghost use Rattle.bp_trail.specs.Parameters.{Parameters};
 ghost use Rattle.bp_trail.specs.Fits.{StepFits};
 ghost use Rattle.bp_audit.specs.Log.{log_of};
 ghost use Rattle.bp_clients.specs.Jobs.{lists, EachScriptFits, RowFitsClient, ScriptFits};
-ghost use Rattle.bp_clients.specs.Runs.{run_parameters};
+ghost use Rattle.bp_core.specs.Agreement.{parameters_with};
 
-use crate::run::Config;
 use bp_core::config::MAX_CLIENTS;
-use bp_core::{Row, Step};
+use bp_core::{Config, Row, Step};
 use bp_page::{Geometry, PageNo};
 
 /// Whether the file has the page.
@@ -76,7 +75,7 @@ fn script_fits(script: &[Row], client: u8, geometry: &Geometry) -> bool
 /// takes no memory.
 pub fn scripts_fit(config: &Config, scripts: &[Vec<Row>]) -> bool
     ensures { IsTrue result ↔ ((0 < length scripts.now) × (length scripts.now ≤ 64) ×
-        EachScriptFits (run_parameters config.now (length scripts.now)) (lists scripts.now)) }
+        EachScriptFits (parameters_with config.now (length scripts.now)) (lists scripts.now)) }
 {
     if scripts.is_empty() || scripts.len() > MAX_CLIENTS as usize {
         return false;

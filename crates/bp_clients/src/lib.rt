@@ -13,5 +13,6 @@ pub mod laws;
 pub mod run;
 mod runner;
 
+pub use bp_core::Config;
 pub use fitting::scripts_fit;
-pub use run::{Config, Outcome, run_clients};
+pub use run::{Outcome, run_clients};

@@ -2,37 +2,24 @@
 ghost use Rattle.std.specs.Prelude.{◌≡◌, ◌⊎◌, ◌≤◌, ◌<◌, ℕ, IfErr, IfOk, OnErr, All, [], map};
 ghost use Rattle.std.specs.Prelude.{reverse, length, vec_len, slice_index_or};
 ghost use Rattle.bp_trail.specs.Legal.{Legal};
+ghost use Rattle.bp_core.specs.Agreement.{parameters_with};
 ghost use Rattle.bp_clients.specs.Jobs.{EachScriptFits, NotAdded, Ran, SomeDisagrees};
 ghost use Rattle.bp_clients.specs.Jobs.{sessions_from, new_jobs, lists};
-ghost use Rattle.bp_clients.specs.Runs.{run_parameters, RunAnswers, Joined, IsRun};
+ghost use Rattle.bp_clients.specs.Runs.{RunAnswers, Joined, IsRun};
 ghost use Rattle.bp_clients.specs.Runs.{AnswersRun, RunsJobs};
 
 use crate::collecting::collect;
 use crate::job::Job;
 use crate::runner::Runner;
-use bp_core::{Core, Entry, Refused, Row};
-use bp_page::{Geometry, Refusal};
+use bp_core::{Config, Core, Entry, Refused, Row};
+use bp_page::Refusal;
 use bp_ports::Port;
-use bp_replacer::Settings;
 use bp_shared::{LogWriter, Parts, PoolName, Session, SharedPool, Taker};
 use std::alloc::Global;
 use std::marker::{Brand, Send, Sync};
 use std::sync::Wait;
 use std::thread;
 use std::thread::Threads;
-
-/// What a pool of client threads is made with.
-#[derive(Clone, Copy)]
-pub struct Config {
-    /// How many pages the file has, and the bytes of each.
-    pub geometry: Geometry,
-    /// K of LRU-K and its two periods.
-    pub settings: Settings,
-    /// How many frames there are, 1 to 65,536.
-    pub frames: usize,
-    /// The entries that the trail may have.
-    pub room: usize,
-}
 
 /// How a run went.
 #[derive(Drop)]
@@ -237,12 +224,12 @@ pub fn run_clients<P: Port + Send, R: Threads + Wait + Sync>(
     requires clients { (0 < vec_len scripts) × (vec_len scripts ≤ 64) }
     requires ports { vec_len ports ≡ vec_len scripts }
     requires geometry { All (λ p. P.geometry_of p ≡ config.geometry) ports.items }
-    requires fits { EachScriptFits (run_parameters config (vec_len scripts)) (lists scripts.items) }
+    requires fits { EachScriptFits (parameters_with config (vec_len scripts)) (lists scripts.items) }
     ensures run { IfOk result (λ run. IsRun P.read_gives P.write_gives
-        (run_parameters config (vec_len scripts)) (lists scripts.items) ports.items
+        (parameters_with config (vec_len scripts)) (lists scripts.items) ports.items
         run.0.trail.items (lists run.0.said.items) run.0.refused.items run.1.items) }
     ensures room { IfOk result (λ run. vec_len run.0.trail ≤ config.room) }
-    ensures answers { RunAnswers (run_parameters config (vec_len scripts)) result }
+    ensures answers { RunAnswers (parameters_with config (vec_len scripts)) result }
 {
     let clients = scripts.len() as u8;
     let core = Core::new(

@@ -9,8 +9,8 @@ use Rattle.bp_trail.specs.declared.entries.Reply.TheVariants.{Hit, Load, WriteFi
 use Rattle.bp_core.specs.declared.passes.Pass.{Pass}
 use Rattle.bp_core.specs.declared.passes.ReadTicket.{ReadTicket}
 use Rattle.bp_core.specs.declared.passes.WriteTicket.{WriteTicket}
-use Rattle.bp_book.specs.declared.pending.Fix.{Fix as Fixing}
-use Rattle.bp_book.specs.declared.pending.Fix.TheVariants as fixing
+use Rattle.bp_session_log.specs.declared.pending.Fix.{Fix as Fixing}
+use Rattle.bp_session_log.specs.declared.pending.Fix.TheVariants as fixing
 use Rattle.bp_core.specs.declared.passes.Ended.{Ended}
 use Rattle.bp_core.specs.declared.passes.Ended.TheVariants as ended
 use Rattle.bp_trail.specs.Event.{grant}
@@ -19,8 +19,8 @@ use Rattle.bp_trail.specs.Pieces.{by, FixGoesOn}
 use Rattle.bp_trail.specs.Pieces.Manner.{session}
 use Rattle.bp_trail.specs.Pieces.FixGoesOn.{begins, marked, waited, cleaned, still_dirty}
 use Rattle.bp_trail.specs.Pieces.FixPiece.{hit, fixed, no_victim, need_log, read_failed, wrong_page, write_failed, lost_read, lost_write, no_room, no_memory}
-use Rattle.bp_book.specs.Books.{OwesRead, OwesWrite}
-use Rattle.bp_book.specs.Turns.{FixTurn, EndReadOutcome, EndWriteOutcome, LoadOutcome, WriteOutOutcome}
+use Rattle.bp_session_log.specs.Books.{OwesRead, OwesWrite}
+use Rattle.bp_session_log.specs.Turns.{FixTurn, EndReadOutcome, EndWriteOutcome, LoadOutcome, WriteOutOutcome}
 use Rattle.bp_shared.proofs.Turning.{FixWaits, FixTurns, fix_marked}
 use Rattle.bp_shared.specs.Sessions.{FixSaid}
 use Rattle.bp_core.specs.Added.{Gives}

@@ -7,8 +7,8 @@ use Rattle.bp_trail.specs.declared.entries.Entry.{Entry}
 use Rattle.bp_trail.specs.declared.entries.Call.TheVariants.{Flush, WriteEnd}
 use Rattle.bp_trail.specs.declared.entries.Reply.TheVariants.{WriteFirst, NeedLog, Busy, Cleaned, StillDirty, WriteFailed, Clean, Absent}
 use Rattle.bp_core.specs.declared.passes.WriteTicket.{WriteTicket}
-use Rattle.bp_book.specs.declared.pending.Flush.{Flush as Flushing}
-use Rattle.bp_book.specs.declared.pending.Flush.TheVariants as flushing
+use Rattle.bp_session_log.specs.declared.pending.Flush.{Flush as Flushing}
+use Rattle.bp_session_log.specs.declared.pending.Flush.TheVariants as flushing
 use Rattle.bp_core.specs.declared.passes.Ended.{Ended}
 use Rattle.bp_core.specs.declared.passes.Ended.TheVariants as ended
 use Rattle.bp_trail.specs.Trail.{Trail}
@@ -18,7 +18,7 @@ use Rattle.bp_trail.specs.Pieces.FlushGoesOn.{begins, marked, waited}
 use Rattle.bp_trail.specs.Pieces.FlushPiece.{clean, absent, cleaned, still_dirty, need_log, write_failed, lost_write, no_room, no_memory}
 use Rattle.bp_trail.specs.declared.entries.Flushed.{Flushed}
 use Rattle.bp_trail.specs.declared.entries.Flushed.TheVariants as flushed
-use Rattle.bp_book.specs.Turns.{FlushTurn, EndWriteOutcome, WriteOutOutcome}
+use Rattle.bp_session_log.specs.Turns.{FlushTurn, EndWriteOutcome, WriteOutOutcome}
 use Rattle.bp_shared.proofs.Turning.{FlushWaits, FlushTurns, flush_marked}
 use Rattle.bp_shared.specs.Sessions.{FlushSaid}
 use Rattle.bp_core.specs.Added.{Gives, ended_reply, flushed_reply}

@@ -20,17 +20,16 @@ use Rattle.bp_trail.proofs.Serials.{OneSerial, has_serial, numbered, out-serial,
 use Rattle.bp_trail.proofs.Places.{out-of_page}
 use Rattle.bp_audit.specs.Clients.{of_client}
 use Rattle.bp_audit.proofs.Comparing.{of_client-hit, of_client-miss}
-use Rattle.bp_book.specs.Books.{pass_unfixed, unfixes}
+use Rattle.bp_session_log.specs.Books.{pass_unfixed, unfixes}
 use Rattle.bp_shared.specs.Telling.{is_told, told, IsToldBy}
-use Rattle.bp_shared.specs.Posting.{unfixed, held_by, IsWithin, IsSettledBy}
-use Rattle.bp_shared.specs.Posting.IsWithin.{no_more, kept, left_out}
+use Rattle.bp_shared.specs.Posting.{unfixed, held_by, IsUnfixedBy}
 
 -- ---- lists of passes
-is-it : (g x : Grant) → same_grant g x ≡ true → x ≡ g
+pub is-it : (g x : Grant) → same_grant g x ≡ true → x ≡ g
 is-it g x m = same-grant-is g.client g.page g.serial x m
 
 -- the test of a filter holds of what it leaves
-left-passes : (q : Grant → Bool) (g : Grant) (xs : List Grant) → is_out g (filter q xs) ≡ true → q g ≡ true
+pub left-passes : (q : Grant → Bool) (g : Grant) (xs : List Grant) → is_out g (filter q xs) ≡ true → q g ≡ true
 left-passes q g [] m = absurd (true≢false (sym m))
 left-passes q g (x ∷ xs) m = go (q x) refl (same_grant g x) refl (left-passes q g xs) m
   where
@@ -38,11 +37,6 @@ left-passes q g (x ∷ xs) m = go (q x) refl (same_grant g x) refl (left-passes 
     go true i true j ih m = ap q (sym (is-it g x j)) ∙ i
     go true i false j ih m = ih (sym (ap (λ d. d || is_out g (filter q xs)) j) ∙ m)
     go false i d j ih m = ih m
-
-none-within : (q : Grant → Bool) (few all : List Grant) → IsWithin few all → some q all ≡ false → some q few ≡ false
-none-within q _ _ no_more h = h
-none-within q _ _ (kept {few} {all} g w) h = let parts = or_parts (q g) (some q all) h in ap (λ b. b || some q few) parts.0 ∙ none-within q few all w parts.1
-none-within q _ _ (left_out {few} {all} g w) h = none-within q few all w (or_parts (q g) (some q all) h).1
 
 -- two passes that are out are of one client, if they have one number
 of-one : (gs : List Grant) → OneSerial gs → (a b : Grant) → is_out a gs ≡ true → is_out b gs ≡ true → a.serial ≡ b.serial → a.client ≡ b.client
@@ -198,14 +192,21 @@ module _ (c : Parameters) (start : Trail) (client : ℕ) (g : Grant) where
   stays-out [] legal own has none = absurd (true≢false (sym has))
   stays-out (e ∷ since) legal own has none = one-more e since legal own has none (stays-out since legal.before own)
 
-pub held-is-out : (c : Parameters) (start past : Trail) (client : ℕ) (said : Trail) (settled : Bool) (g : Grant) → Legal c past → IsToldBy start past client said → IsSettledBy start past client (unfixes said) settled → is_out g (held_by said) ≡ true → is_out g (passes_out past) ≡ true
-held-is-out c start past client said settled g legal t s held =
+-- since the pool was made, what its list was given, and did not give back so far, is out, and the client's
+pub given-is-out : (c : Parameters) (start past : Trail) (client : ℕ) (said : Trail) (g : Grant) (gone : List Grant) → Legal c past → IsToldBy start past client said → IsUnfixedBy start past client gone
+    → is_out g (filter_map pass_of (told said)) ≡ true → some (has_serial g.serial) gone ≡ false → (g.client ≡ client) × (is_out g (passes_out past) ≡ true)
+given-is-out c start past client said g gone legal t s listed kept-back =
     let same : s.since ≡ t.since = append_cancel_right s.since t.since start (sym s.goes_on ∙ t.goes_on) in
-    let listed = some-filter (same_grant g) _ (filter_map pass_of (told said)) held in
     let has : is_out g (filter_map pass_of (of_client client (told t.since))) ≡ true = ap (λ es. is_out g (filter_map pass_of es)) t.theirs ∙ listed in
+    let none : some (λ back. back.serial == g.serial) (unfixed client t.since) ≡ false = ap (λ es. some (has_serial g.serial) (unfixed client es)) (sym same) ∙ ap (some (has_serial g.serial)) s.all ∙ kept-back in
+    let own = gives-own client g (told t.since) has in
+    (own, ap (λ p. is_out g (passes_out p)) t.goes_on ∙ stays-out c start client g t.since (subst (Legal c) t.goes_on legal) own has none)
+
+pub held-is-out : (c : Parameters) (start past : Trail) (client : ℕ) (said : Trail) (g : Grant) → Legal c past → IsToldBy start past client said → IsUnfixedBy start past client (unfixes said) → is_out g (held_by said) ≡ true → is_out g (passes_out past) ≡ true
+held-is-out c start past client said g legal t s held =
+    let listed = some-filter (same_grant g) _ (filter_map pass_of (told said)) held in
     let kept-back : some (λ back. back.serial == g.serial) (unfixes said) ≡ false = not-true _ (left-passes (λ x. not (some (λ back. back.serial == x.serial) (unfixes said))) g (filter_map pass_of (told said)) held) in
-    let none : some (λ back. back.serial == g.serial) (unfixed client t.since) ≡ false = none-within (λ back. back.serial == g.serial) (unfixed client t.since) (unfixes said) (subst (λ es. IsWithin (unfixed client es) (unfixes said)) same s.within) kept-back in
-    ap (λ p. is_out g (passes_out p)) t.goes_on ∙ stays-out c start client g t.since (subst (Legal c) t.goes_on legal) (gives-own client g (told t.since) has) has none
+    (given-is-out c start past client said g (unfixes said) legal t s listed kept-back).1
 
 pins-some : (past : Trail) (p : ℕ) → some (is_of p) (passes_out past) ≡ true → 0 < pins past p
 pins-some past p m = go (pins past p) refl
@@ -214,6 +215,6 @@ pins-some past p m = go (pins past p) refl
     go zero e = absurd (true≢false (sym m ∙ count-none (is_of p) (passes_out past) e))
     go (suc n) e = omega arith
 
-pub held-is-pinned : (c : Parameters) (start past : Trail) (client : ℕ) (said : Trail) (settled : Bool) (g : Grant) → Legal c past → IsToldBy start past client said → IsSettledBy start past client (unfixes said) settled → is_out g (held_by said) ≡ true → 0 < pins past g.page
-held-is-pinned c start past client said settled g legal t s held =
-    pins-some past g.page (out-of_page g.client g.page g.serial (passes_out past) (held-is-out c start past client said settled g legal t s held))
+pub held-is-pinned : (c : Parameters) (start past : Trail) (client : ℕ) (said : Trail) (g : Grant) → Legal c past → IsToldBy start past client said → IsUnfixedBy start past client (unfixes said) → is_out g (held_by said) ≡ true → 0 < pins past g.page
+held-is-pinned c start past client said g legal t s held =
+    pins-some past g.page (out-of_page g.client g.page g.serial (passes_out past) (held-is-out c start past client said g legal t s held))

@@ -8,3 +8,4 @@ pub mod Flushing
 pub mod Telling
 pub mod Posting
 pub mod Holding
+pub mod Waiting

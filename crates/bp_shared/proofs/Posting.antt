@@ -1,7 +1,8 @@
 -- What clients gave back is what came out of their rings.
-use Rattle.std.proofs.Common.{◌≡◌, ◌≢◌, ◌<◌, refl, sym, ap, subst, ◌∙◌, ℕ, zero, suc, ◌+◌, Bool, true, cond, ◌==◌, List, [], ◌∷◌, ◌++◌, length, map, reverse, get_or, set, drop, All, append_assoc, arith, Option, Some, None, inl, inr}
+use Rattle.std.proofs.Common.{◌≡◌, ◌≢◌, ◌<◌, refl, sym, ap, subst, ◌∙◌, ℕ, zero, suc, ◌+◌, cond, ◌==◌, List, [], ◌∷◌, ◌++◌, length, map, reverse, get_or, set, drop, All, append_assoc, arith, Option, Some, None}
+use Rattle.std.specs.List.{cons_option}
 use Rattle.std.proofs.Math.ListN.{get_or-map}
-use Rattle.std.proofs.lemmas.List.{drop_more, get_or_default, length-map, append-nil, reverse-append, reverse-reverse, nil_from_length, length-append}
+use Rattle.std.proofs.lemmas.List.{drop_more, get_or-set_same, length-set, get_or_default, length-map, append-nil, reverse-append, reverse-reverse, nil_from_length, length-append}
 use Rattle.std.proofs.lemmas.List.Elements.{filter_map-append, All-nil, All-cons, All-head, All-tail}
 use Rattle.std.proofs.lemmas.Bool.{eq-eqb, eqb-true, false_from_ne_true}
 use native.Mathlib.Decide.{ℕ_discrete}
@@ -16,48 +17,26 @@ use Rattle.bp_audit.specs.Clients.{of_client}
 use Rattle.bp_audit.proofs.Comparing.{of_client-append, of_client-hit, of_client-miss}
 use Rattle.bp_core.specs.CoreView.{CoreView}
 use Rattle.bp_core.specs.Outcomes.{Cuts}
-use Rattle.bp_book.specs.Books.{pass_unfixed, unfixes}
-use Rattle.bp_book.specs.Rings.{ring_of, ring_at, ring_view, RingName, RingView, one_more, OneBack, GoBack, DrainsRings}
-use Rattle.bp_book.specs.Rings.GoBack.{none_taken, next_taken}
-use Rattle.bp_book.specs.Rings.DrainsRings.{none_left, next_ring}
-use Rattle.bp_shared.specs.Posting.{unfixed, came_out, IsWithin, IsPosted, IsSettledBy}
+use Rattle.bp_session_log.specs.Books.{pass_unfixed, unfixes}
+use Rattle.bp_session_log.specs.Rings.{ring_of, ring_at, ring_view, RingName, RingView, GoBack, DrainsRings}
+use Rattle.bp_session_log.specs.Rings.GoBack.{none_taken, next_taken}
+use Rattle.bp_session_log.specs.Rings.DrainsRings.{none_left, next_ring}
+use Rattle.bp_shared.specs.Posting.{unfixed, came_out, IsPosted, IsUnfixedBy, TakesBack}
 use Rattle.bp_shared.proofs.Telling.{Adds}
-use Rattle.bp_shared.specs.Posting.IsWithin.{no_more, kept, left_out}
-
--- ---- lists within others
-within_nothing : (xs : List Grant) → IsWithin xs [] → xs ≡ []
-within_nothing _ no_more = refl
-
-within_itself : (xs : List Grant) → IsWithin xs xs
-within_itself [] = no_more
-within_itself (g ∷ gs) = kept g (within_itself gs)
-
-within_longer : (more xs ys : List Grant) → IsWithin xs ys → IsWithin xs (more ++ ys)
-within_longer [] xs ys w = w
-within_longer (g ∷ more) xs ys w = left_out g (within_longer more xs ys w)
-
-within_both : (xs ys us vs : List Grant) → IsWithin xs ys → IsWithin us vs → IsWithin (xs ++ us) (ys ++ vs)
-within_both _ _ us vs no_more v = v
-within_both _ _ us vs (kept {few} {all} g w) v = kept g (within_both few all us vs w v)
-within_both _ _ us vs (left_out {few} {all} g w) v = left_out g (within_both few all us vs w v)
 
 -- ---- what a client gave back, part by part
 unfixed-append : (c : ℕ) (xs ys : Trail) → unfixed c (xs ++ ys) ≡ unfixed c xs ++ unfixed c ys
 unfixed-append c xs ys = ap unfixes (of_client-append c xs ys) ∙ filter_map-append (λ e. pass_unfixed e.client e.call) (of_client c xs) (of_client c ys)
 
 -- entries by which no pass goes back
-unfixed_within : (c : ℕ) (es : Trail) → IsWithin (unfixed c es) (unfixes es)
-unfixed_within c [] = no_more
-unfixed_within c (e ∷ es) = go (unfixed_within c es) (ℕ_discrete e.client c) (pass_unfixed e.client e.call) refl
-  where
-    go : IsWithin (unfixed c es) (unfixes es) → Dec (e.client ≡ c) → (o : Option Grant) → pass_unfixed e.client e.call ≡ o → IsWithin (unfixed c (e ∷ es)) (unfixes (e ∷ es))
-    go rest (yes is) None gave = rw (of_client-hit c e es is, gave) rest
-    go rest (yes is) (Some g) gave = rw (of_client-hit c e es is, gave) (kept g rest)
-    go rest (no apart) None gave = rw (of_client-miss c e es apart, gave) rest
-    go rest (no apart) (Some g) gave = rw (of_client-miss c e es apart, gave) (left_out g rest)
-
 pub none_unfixed : (c : ℕ) (es : Trail) → unfixes es ≡ [] → unfixed c es ≡ []
-none_unfixed c es none = within_nothing (unfixed c es) (subst (IsWithin (unfixed c es)) none (unfixed_within c es))
+none_unfixed c [] none = refl
+none_unfixed c (e ∷ es) none = go (none_unfixed c es) (ℕ_discrete e.client c) (pass_unfixed e.client e.call) refl
+  where
+    go : (unfixes es ≡ [] → unfixed c es ≡ []) → Dec (e.client ≡ c) → (o : Option Grant) → pass_unfixed e.client e.call ≡ o → unfixed c (e ∷ es) ≡ []
+    go rest whose (Some g) gave = absurd (let long = ap length (sym (ap (λ o. cons_option o (unfixes es)) gave) ∙ none) in omega (arith, long))
+    go rest (yes is) None gave = ap unfixes (of_client-hit c e es is) ∙ ap (λ o. cons_option o (unfixed c es)) gave ∙ rest (sym (ap (λ o. cons_option o (unfixes es)) gave) ∙ none)
+    go rest (no apart) None gave = ap unfixes (of_client-miss c e es apart) ∙ rest (sym (ap (λ o. cons_option o (unfixes es)) gave) ∙ none)
 
 -- a list that grew by them
 pub grew_by_none : (piece said after : Trail) → after ≡ piece ++ said → unfixes after ≡ unfixes said → unfixes piece ≡ []
@@ -66,53 +45,40 @@ grew_by_none piece said after grows same =
     nil_from_length (unfixes piece) (omega (arith, long, length-append (unfixes piece) (unfixes said)))
 
 -- ---- a ring was drained
-record Backs (k : ℕ) (taken : List Grant) (start past : Trail) (strays strayed : ℕ) : Type 0 where
-  pub back : Trail
-  pub goes_on : past ≡ back ++ start
-  pub within : IsWithin (unfixed k back) taken
-  pub all : strayed ≡ 0 → unfixed k back ≡ taken
-  pub others : (c : ℕ) → c ≢ k → unfixed c back ≡ []
-  pub fewer : strayed ≡ 0 → strays ≡ 0
+went : (k : ℕ) (start : Trail) (taken : List Grant) (past : Trail) → GoBack k start taken past → past ≡ map give_back taken ++ start
+went k start _ _ none_taken = refl
+went k start _ _ (next_taken {taken} {past} g before own out) = ap (λ es. give_back g ∷ es) (went k start taken past before)
 
-some_strays : (n : ℕ) → one_more n ≡ 0 → ⊥
-some_strays n e = absurd (omega (arith, e))
+owned : (k : ℕ) (start : Trail) (taken : List Grant) (past : Trail) → GoBack k start taken past → All (λ (g : Grant). g.client ≡ k) taken
+owned k start _ _ none_taken = All-nil (λ (g : Grant). g.client ≡ k)
+owned k start _ _ (next_taken {taken} {past} g before own out) = All-cons (λ (g : Grant). g.client ≡ k) g taken own (owned k start taken past before)
 
-one_back : (k : ℕ) (taken : List Grant) (start past after : Trail) (strays strayed now : ℕ) (g : Grant) → Backs k taken start past strays strayed → OneBack k past strayed g after now → Backs k (g ∷ taken) start after strays now
-one_back k taken start past after strays strayed now g b (inl h) = record {
-  back = give_back g ∷ b.back;
-  goes_on = h.2 ∙ ap (λ es. give_back g ∷ es) b.goes_on;
-  within = subst (λ gs. IsWithin gs (g ∷ taken)) (sym hit) (kept g b.within);
-  all = λ none. hit ∙ ap (λ gs. g ∷ gs) (b.all (sym h.3 ∙ none));
-  others = λ c apart. ap unfixes (of_client-miss c (give_back g) b.back (λ is. apart (sym is ∙ h.0))) ∙ b.others c apart;
-  fewer = λ none. b.fewer (sym h.3 ∙ none);
-}
-  where
-    hit : unfixed k (give_back g ∷ b.back) ≡ g ∷ unfixed k b.back
-    hit = ap unfixes (of_client-hit k (give_back g) b.back h.0)
-one_back k taken start past after strays strayed now g b (inr h) = record {
-  back = b.back;
-  goes_on = h.1 ∙ b.goes_on;
-  within = left_out g b.within;
-  all = λ none. absurd (some_strays strayed (sym h.2 ∙ none));
-  others = b.others;
-  fewer = λ none. absurd (some_strays strayed (sym h.2 ∙ none));
-}
+own_unfixed : (k : ℕ) (gs : List Grant) → All (λ (g : Grant). g.client ≡ k) gs → unfixed k (map give_back gs) ≡ gs
+own_unfixed k [] own = refl
+own_unfixed k (g ∷ gs) own =
+    ap unfixes (of_client-hit k (give_back g) (map give_back gs) (All-head (λ (g : Grant). g.client ≡ k) g gs own))
+    ∙ ap (λ xs. g ∷ xs) (own_unfixed k gs (All-tail (λ (g : Grant). g.client ≡ k) g gs own))
 
-backs : (k : ℕ) (start : Trail) (strays : ℕ) (taken : List Grant) (past : Trail) (strayed : ℕ) → GoBack k start strays taken past strayed → Backs k taken start past strays strayed
-backs k start strays _ _ _ none_taken = record { back = []; goes_on = refl; within = no_more; all = λ none. refl; others = λ c apart. refl; fewer = λ none. none }
-backs k start strays _ _ _ (next_taken {taken} {past} {after} {strayed} {now_strayed} g before one) =
-    one_back k taken start past after strays strayed now_strayed g (backs k start strays taken past strayed before) one
+others_unfixed : (k c : ℕ) (gs : List Grant) → c ≢ k → All (λ (g : Grant). g.client ≡ k) gs → unfixed c (map give_back gs) ≡ []
+others_unfixed k c [] apart own = refl
+others_unfixed k c (g ∷ gs) apart own =
+    ap unfixes (of_client-miss c (give_back g) (map give_back gs) (λ is. apart (sym is ∙ All-head (λ (g : Grant). g.client ≡ k) g gs own)))
+    ∙ others_unfixed k c gs apart (All-tail (λ (g : Grant). g.client ≡ k) g gs own)
+
+same_view : (old new : CoreView) (past : Trail) → new.parameters ≡ old.parameters → new.before ≡ old.before → new.past ≡ past → new ≡ record old { past = past }
+same_view old new past parameters before is = λ k. record { parameters = parameters k; before = before k; past = is k }
+
+pub takes_back : (k : ℕ) (old new : CoreView) (taken : List Grant) → new.parameters ≡ old.parameters → new.before ≡ old.before → GoBack k old.past taken new.past → TakesBack k old new
+takes_back k old new taken parameters before b = record { passes = taken; own = owned k old.past taken new.past b; is = same_view old new (map give_back taken ++ old.past) parameters before (went k old.past taken new.past b) }
 
 -- ---- all rings were drained
-record Drew (first : ℕ) (rings rings_after : List RingView) (start past : Trail) (strays strayed : ℕ) : Type 0 where
+record Drew (first : ℕ) (rings rings_after : List RingView) (start past : Trail) : Type 0 where
   pub names : map (λ (r : RingView). r.name) rings_after ≡ map (λ (r : RingView). r.name) rings
   pub back : Trail
   pub goes_on : past ≡ back ++ start
   pub out : ℕ → List Grant
   pub came : (c : ℕ) → came_out first rings_after c ≡ out c ++ came_out first rings c
-  pub within : (c : ℕ) → IsWithin (unfixed c back) (out c)
-  pub all : strayed ≡ 0 → (c : ℕ) → unfixed c back ≡ out c
-  pub fewer : strayed ≡ 0 → strays ≡ 0
+  pub all : (c : ℕ) → unfixed c back ≡ out c
 
 at : {A : Type 0} (c first : ℕ) (x y : A) → c ≡ first → cond (c == first) x y ≡ x
 at c first x y is = rw (eq-eqb c first is) refl
@@ -130,21 +96,22 @@ nil_front : (xs ys : List Grant) → xs ++ ys ≡ [] → xs ≡ []
 nil_front [] ys e = refl
 nil_front (x ∷ xs) ys e = let long = ap length e in absurd (omega (arith, long))
 
-one_drew : (most first : ℕ) (ring ring_after : RingView) (rings rings_after : List RingView) (taken : List Grant) (start mid past : Trail) (strays so_far strayed : ℕ) → ring_after.name ≡ ring.name → ring_after.received ≡ ring.received ++ reverse taken
-    → Backs first taken start mid strays so_far → Drew (suc first) rings rings_after mid past so_far strayed → Drew first (ring ∷ rings) (ring_after ∷ rings_after) start past strays strayed
-one_drew most first ring ring_after rings rings_after taken start mid past strays so_far strayed same gave a b = record {
+one_drew : (first : ℕ) (ring ring_after : RingView) (rings rings_after : List RingView) (taken : List Grant) (start mid past : Trail) → ring_after.name ≡ ring.name → ring_after.received ≡ ring.received ++ reverse taken
+    → GoBack first start taken mid → Drew (suc first) rings rings_after mid past → Drew first (ring ∷ rings) (ring_after ∷ rings_after) start past
+one_drew first ring ring_after rings rings_after taken start mid past same gave a b = record {
   names = ap (λ n. n ∷ map (λ (r : RingView). r.name) rings_after) same ∙ ap (λ ns. ring.name ∷ ns) b.names;
-  back = b.back ++ a.back;
-  goes_on = b.goes_on ∙ ap (λ es. b.back ++ es) a.goes_on ∙ sym (append_assoc b.back a.back start);
+  back = b.back ++ map give_back taken;
+  goes_on = b.goes_on ∙ ap (λ es. b.back ++ es) (went first start taken mid a) ∙ sym (append_assoc b.back (map give_back taken) start);
   out = out;
   came = λ c. came c (ℕ_discrete c first);
-  within = λ c. within c (ℕ_discrete c first);
-  all = λ none c. all none c (ℕ_discrete c first);
-  fewer = λ none. a.fewer (b.fewer none);
+  all = λ c. all c (ℕ_discrete c first);
 }
   where
     out : ℕ → List Grant
     out c = cond (c == first) taken (b.out c)
+
+    own : All (λ (g : Grant). g.client ≡ first) taken
+    own = owned first start taken mid a
 
     came : (c : ℕ) → Dec (c ≡ first) → came_out first (ring_after ∷ rings_after) c ≡ out c ++ came_out first (ring ∷ rings) c
     came c (yes is) =
@@ -158,55 +125,42 @@ one_drew most first ring ring_after rings rings_after taken start mid past stray
 
     -- the later rings gave nothing of the first client
     mine : (c : ℕ) → c ≡ first → unfixed c b.back ≡ []
-    mine c is =
-        let none = nil_front (b.out c) (came_out (suc first) rings c) (sym (b.came c) ∙ came_out_below rings_after (suc first) c (omega (arith, is))) in
-        within_nothing (unfixed c b.back) (subst (IsWithin (unfixed c b.back)) none (b.within c))
+    mine c is = b.all c ∙ nil_front (b.out c) (came_out (suc first) rings c) (sym (b.came c) ∙ came_out_below rings_after (suc first) c (omega (arith, is)))
 
     -- so what it gave back it gave back by its own ring, and each other one by a later ring
-    by_first : (c : ℕ) → c ≡ first → unfixed c (b.back ++ a.back) ≡ unfixed first a.back
-    by_first c is = unfixed-append c b.back a.back ∙ ap (λ gs. gs ++ unfixed c a.back) (mine c is) ∙ ap (λ d. unfixed d a.back) is
+    all : (c : ℕ) → Dec (c ≡ first) → unfixed c (b.back ++ map give_back taken) ≡ out c
+    all c (yes is) =
+        unfixed-append c b.back (map give_back taken) ∙ ap (λ gs. gs ++ unfixed c (map give_back taken)) (mine c is)
+        ∙ ap (λ d. unfixed d (map give_back taken)) is ∙ own_unfixed first taken own ∙ sym (at c first taken (b.out c) is)
+    all c (no apart) =
+        unfixed-append c b.back (map give_back taken) ∙ ap (λ gs. unfixed c b.back ++ gs) (others_unfixed first c taken apart own) ∙ append-nil (unfixed c b.back)
+        ∙ b.all c ∙ sym (not_at c first taken (b.out c) apart)
 
-    by_others : (c : ℕ) → c ≢ first → unfixed c (b.back ++ a.back) ≡ unfixed c b.back
-    by_others c apart = unfixed-append c b.back a.back ∙ ap (λ gs. unfixed c b.back ++ gs) (a.others c apart) ∙ append-nil (unfixed c b.back)
-
-    within : (c : ℕ) → Dec (c ≡ first) → IsWithin (unfixed c (b.back ++ a.back)) (out c)
-    within c (yes is) = subst (IsWithin (unfixed c (b.back ++ a.back))) (sym (at c first taken (b.out c) is)) (subst (λ gs. IsWithin gs taken) (sym (by_first c is)) a.within)
-    within c (no apart) = subst (IsWithin (unfixed c (b.back ++ a.back))) (sym (not_at c first taken (b.out c) apart)) (subst (λ gs. IsWithin gs (b.out c)) (sym (by_others c apart)) (b.within c))
-
-    all : strayed ≡ 0 → (c : ℕ) → Dec (c ≡ first) → unfixed c (b.back ++ a.back) ≡ out c
-    all none c (yes is) = by_first c is ∙ a.all (b.fewer none) ∙ sym (at c first taken (b.out c) is)
-    all none c (no apart) = by_others c apart ∙ b.all none c ∙ sym (not_at c first taken (b.out c) apart)
-
-drew : (most first : ℕ) (rings rings_after : List RingView) (start : Trail) (strays : ℕ) (past : Trail) (strayed : ℕ) → DrainsRings most first rings rings_after start strays past strayed → Drew first rings rings_after start past strays strayed
-drew most first _ _ start strays _ _ none_left = record { names = refl; back = []; goes_on = refl; out = λ c. []; came = λ c. refl; within = λ c. no_more; all = λ none c. refl; fewer = λ none. none }
-drew most first _ _ start strays past strayed (next_ring {ring} {ring_after} {rings} {rings_after} {mid} {so_far} d rest) =
-    one_drew most first ring ring_after rings rings_after d.taken start mid past strays so_far strayed d.same d.gave (backs first start strays d.taken mid so_far d.go_back) (drew most (suc first) rings rings_after mid so_far past strayed rest)
+drew : (most first : ℕ) (rings rings_after : List RingView) (start past : Trail) → DrainsRings most first rings rings_after start past → Drew first rings rings_after start past
+drew most first _ _ start _ none_left = record { names = refl; back = []; goes_on = refl; out = λ c. []; came = λ c. refl; all = λ c. refl }
+drew most first _ _ start past (next_ring {ring} {ring_after} {rings} {rings_after} {mid} d rest) =
+    one_drew first ring ring_after rings rings_after d.taken start mid past d.same d.gave d.go_back (drew most (suc first) rings rings_after mid past rest)
 
 -- ---- what lies under the lock
-pub posted_drained : (names : List RingName) (start : Trail) (most : ℕ) (rings rings_after : List RingView) (past : Trail) (strays : ℕ) (after : Trail) (strayed : ℕ) → IsPosted names start rings strays past → DrainsRings most 0 rings rings_after past strays after strayed → IsPosted names start rings_after strayed after
-posted_drained names start most rings rings_after past strays after strayed p d = go (drew most 0 rings rings_after past strays after strayed d)
+pub posted_drained : (names : List RingName) (start : Trail) (most : ℕ) (rings rings_after : List RingView) (past after : Trail) → IsPosted names start rings past → DrainsRings most 0 rings rings_after past after → IsPosted names start rings_after after
+posted_drained names start most rings rings_after past after p d = go (drew most 0 rings rings_after past after d)
   where
-    go : Drew 0 rings rings_after past after strays strayed → IsPosted names start rings_after strayed after
+    go : Drew 0 rings rings_after past after → IsPosted names start rings_after after
     go w = record {
       names_are = w.names ∙ p.names_are;
       since = w.back ++ p.since;
       goes_on = w.goes_on ∙ ap (λ es. w.back ++ es) p.goes_on ∙ sym (append_assoc w.back p.since start);
-      within = λ c. subst (IsWithin (unfixed c (w.back ++ p.since))) (sym (w.came c)) (subst (λ gs. IsWithin gs (w.out c ++ came_out 0 rings c)) (sym (unfixed-append c w.back p.since)) (within_both (unfixed c w.back) (w.out c) (unfixed c p.since) (came_out 0 rings c) (w.within c) (p.within c)));
-      all = λ none c. unfixed-append c w.back p.since ∙ ap (λ gs. gs ++ unfixed c p.since) (w.all none c) ∙ ap (λ gs. w.out c ++ gs) (p.all (w.fewer none) c) ∙ sym (w.came c);
+      all = λ c. unfixed-append c w.back p.since ∙ ap (λ gs. gs ++ unfixed c p.since) (w.all c) ∙ ap (λ gs. w.out c ++ gs) (p.all c) ∙ sym (w.came c);
     }
 
 -- entries came by which no pass goes back
-pub posted_more : (names : List RingName) (start : Trail) (rings : List RingView) (strays : ℕ) (past after piece : Trail) → IsPosted names start rings strays past → after ≡ piece ++ past → unfixes piece ≡ [] → IsPosted names start rings strays after
-posted_more names start rings strays past after piece p grows none = record {
+pub posted_more : (names : List RingName) (start : Trail) (rings : List RingView) (past after piece : Trail) → IsPosted names start rings past → after ≡ piece ++ past → unfixes piece ≡ [] → IsPosted names start rings after
+posted_more names start rings past after piece p grows none = record {
   names_are = p.names_are;
   since = piece ++ p.since;
   goes_on = grows ∙ ap (λ es. piece ++ es) p.goes_on ∙ sym (append_assoc piece p.since start);
-  within = λ c. subst (λ gs. IsWithin gs (came_out 0 rings c)) (sym (same c)) (p.within c);
-  all = λ settled c. same c ∙ p.all settled c;
+  all = λ c. unfixed-append c piece p.since ∙ ap (λ gs. gs ++ unfixed c p.since) (none_unfixed c piece none) ∙ p.all c;
 }
-  where
-    same : (c : ℕ) → unfixed c (piece ++ p.since) ≡ unfixed c p.since
-    same c = unfixed-append c piece p.since ∙ ap (λ gs. gs ++ unfixed c p.since) (none_unfixed c piece none)
 
 -- nothing came out of rings of a pool that was just made
 nothing : (rings : List RingView) (first c : ℕ) → All (λ (r : RingView). r.received ≡ []) rings → came_out first rings c ≡ []
@@ -217,12 +171,10 @@ nothing (r ∷ rings) first c empty = go (nothing rings (suc first) c (All-tail 
     go rest (yes is) = at c first (reverse r.received) (came_out (suc first) rings c) is ∙ ap reverse (All-head (λ (r : RingView). r.received ≡ []) r rings empty)
     go rest (no apart) = not_at c first (reverse r.received) (came_out (suc first) rings c) apart ∙ rest
 
-pub posted_none : (names : List RingName) (start : Trail) (rings : List RingView) (past : Trail) → map (λ (r : RingView). r.name) rings ≡ names → All (λ (r : RingView). r.received ≡ []) rings → past ≡ start → IsPosted names start rings 0 past
-posted_none names start rings past are empty is = record { names_are = are; since = []; goes_on = is; within = λ c. subst (IsWithin []) (sym (nothing rings 0 c empty)) no_more; all = λ none c. sym (nothing rings 0 c empty) }
+pub posted_none : (names : List RingName) (start : Trail) (rings : List RingView) (past : Trail) → map (λ (r : RingView). r.name) rings ≡ names → All (λ (r : RingView). r.received ≡ []) rings → past ≡ start → IsPosted names start rings past
+posted_none names start rings past are empty is = record { names_are = are; since = []; goes_on = is; all = λ c. sym (nothing rings 0 c empty) }
 
 -- ---- a session's ring, with both ends in hand
-abbrev no_view : RingName → RingView
-no_view name = record { name = name; received = []; waiting = [] }
 
 pub came_out_at : (rings : List RingView) (first c : ℕ) (d : RingView) → c < length rings → came_out first rings (c + first) ≡ reverse (get_or rings c d).received
 came_out_at [] first c d below = absurd (omega (arith, below))
@@ -232,29 +184,21 @@ came_out_at (r ∷ rings) first (suc c) d below =
     ∙ (let next : suc c + first ≡ c + suc first = omega arith in ap (came_out (suc first) rings) next)
     ∙ came_out_at rings (suc first) c d (omega (arith, below))
 
--- what was posted came out, or still waits
-pub settled : (names : List RingName) (start : Trail) (rings : List RingView) (strays : ℕ) (past : Trail) (client : ℕ) (d : RingView) (posted waiting : List Grant) (is_settled : Bool) → IsPosted names start rings strays past → client < length rings
-    → (get_or rings client d).received ++ waiting ≡ posted → (is_settled ≡ true → (length waiting ≡ 0) × (strays ≡ 0)) → IsSettledBy start past client (reverse posted) is_settled
-settled names start rings strays past client d posted waiting is_settled p below fifo when = record {
+-- what came out of a client's ring is what the client gave back
+pub came_back : (names : List RingName) (start : Trail) (rings : List RingView) (past : Trail) (client : ℕ) (d : RingView) → IsPosted names start rings past → client < length rings → IsUnfixedBy start past client (reverse (get_or rings client d).received)
+came_back names start rings past client d p below = record {
   since = p.since;
   goes_on = p.goes_on;
-  within = subst (IsWithin (unfixed client p.since)) (sym whole) (within_longer (reverse waiting) (unfixed client p.since) (came_out 0 rings client) (p.within client));
-  all = λ is. p.all (when is).1 client ∙ ap (λ gs. reverse gs ++ came_out 0 rings client) (sym (nil_from_length waiting (when is).0)) ∙ sym whole;
+  all = p.all client ∙ (let same : client ≡ client + 0 = omega arith in ap (came_out 0 rings) same) ∙ came_out_at rings 0 client d below;
 }
-  where
-    here : came_out 0 rings client ≡ reverse (get_or rings client d).received
-    here = (let same : client ≡ client + 0 = omega arith in ap (came_out 0 rings) same) ∙ came_out_at rings 0 client d below
-
-    whole : reverse posted ≡ reverse waiting ++ came_out 0 rings client
-    whole = ap reverse (sym fifo) ∙ reverse-append (get_or rings client d).received waiting ∙ ap (λ gs. reverse waiting ++ gs) (sym here)
 
 -- the trail and a client's list got the same entries, by which no pass goes back
-pub posted_adds : (names : List RingName) (start : Trail) (rings : List RingView) (strays client : ℕ) (past said after told_after : Trail) → IsPosted names start rings strays past → Adds client past said after told_after → unfixes told_after ≡ unfixes said → IsPosted names start rings strays after
-posted_adds names start rings strays client past said after told_after p a same = posted_more names start rings strays past after a.piece p a.goes_on (grew_by_none a.piece said told_after a.grows same)
+pub posted_adds : (names : List RingName) (start : Trail) (rings : List RingView) (client : ℕ) (past said after told_after : Trail) → IsPosted names start rings past → Adds client past said after told_after → unfixes told_after ≡ unfixes said → IsPosted names start rings after
+posted_adds names start rings client past said after told_after p a same = posted_more names start rings past after a.piece p a.goes_on (grew_by_none a.piece said told_after a.grows same)
 
 -- the core was cut
-pub posted_cut : (names : List RingName) (start : Trail) (rings : List RingView) (strays : ℕ) (old new : CoreView) (entries : List Entry) → IsPosted names start rings strays old.past → Cuts old entries new → IsPosted names start rings strays new.past
-posted_cut names start rings strays old new entries p cut = subst (λ past. IsPosted names start rings strays past) (sym (ap (λ (core : CoreView). core.past) cut.is)) p
+pub posted_cut : (names : List RingName) (start : Trail) (rings : List RingView) (old new : CoreView) (entries : List Entry) → IsPosted names start rings old.past → Cuts old entries new → IsPosted names start rings new.past
+posted_cut names start rings old new entries p cut = subst (λ past. IsPosted names start rings past) (sym (ap (λ (core : CoreView). core.past) cut.is)) p
 
 -- ---- the names of rings
 -- the ring of the next client
@@ -277,11 +221,16 @@ pub names_count : {A P : Type 0} (consumers : List (Consumer Grant A P)) (names 
 names_count consumers names are = ap length (sym are) ∙ length-map (map ring_view consumers) (λ (r : RingView). r.name) ∙ length-map consumers ring_view
 
 -- since a pool was made over a core that had said nothing, in the words of the whole trail
-pub posted_whole : (past : Trail) (client : ℕ) (posted : List Grant) (is_settled : Bool) → IsSettledBy [] past client posted is_settled → IsWithin (unfixed client past) posted
-posted_whole past client posted is_settled s = subst (λ es. IsWithin (unfixed client es) posted) (sym (s.goes_on ∙ append-nil s.since)) s.within
+pub unfixed_whole : (past : Trail) (client : ℕ) (posted : List Grant) → IsUnfixedBy [] past client posted → unfixed client past ≡ posted
+unfixed_whole past client posted u = ap (unfixed client) (u.goes_on ∙ append-nil u.since) ∙ u.all
 
-pub settled_whole : (past : Trail) (client : ℕ) (posted : List Grant) (is_settled : Bool) → IsSettledBy [] past client posted is_settled → is_settled ≡ true → unfixed client past ≡ posted
-settled_whole past client posted is_settled s all = ap (unfixed client) (s.goes_on ∙ append-nil s.since) ∙ s.all all
+-- what another client gives back
+pub unfixed_still : (start : Trail) (c client : ℕ) (old new : CoreView) (posted : List Grant) → client ≢ c → IsUnfixedBy start old.past client posted → TakesBack c old new → IsUnfixedBy start new.past client posted
+unfixed_still start c client old new posted apart u b = record {
+  since = map give_back b.passes ++ u.since;
+  goes_on = ap (λ (core : CoreView). core.past) b.is ∙ ap (λ es. map give_back b.passes ++ es) u.goes_on ∙ sym (append_assoc (map give_back b.passes) u.since start);
+  all = unfixed-append client (map give_back b.passes) u.since ∙ ap (λ gs. gs ++ unfixed client u.since) (others_unfixed c client b.passes apart b.own) ∙ u.all;
+}
 
 -- rings as their taking ends see them
 pub views_name : {A P : Type 0} (consumers : List (Consumer Grant A P)) → map (λ (r : RingView). r.name) (map ring_view consumers) ≡ map ring_at consumers
@@ -298,19 +247,39 @@ same_name_at [] i v d below same = absurd (omega (arith, below))
 same_name_at (r ∷ rings) zero v d below same = ap (λ n. n ∷ map (λ (r : RingView). r.name) rings) same
 same_name_at (r ∷ rings) (suc i) v d below same = ap (λ ns. r.name ∷ ns) (same_name_at rings i v d (omega (arith, below)) same)
 
-same_came_out : (rings : List RingView) (i first c : ℕ) (v d : RingView) → i < length rings → v.received ≡ (get_or rings i d).received → came_out first (set rings i v) c ≡ came_out first rings c
-same_came_out [] i first c v d below same = absurd (omega (arith, below))
-same_came_out (r ∷ rings) zero first c v d below same = ap (λ gs. cond (c == first) (reverse gs) (came_out (suc first) rings c)) same
-same_came_out (r ∷ rings) (suc i) first c v d below same = ap (λ gs. cond (c == first) (reverse r.received) gs) (same_came_out rings i (suc first) c v d (omega (arith, below)) same)
+other_came_out : (rings : List RingView) (i first c : ℕ) (v : RingView) → c ≢ i + first → came_out first (set rings i v) c ≡ came_out first rings c
+other_came_out [] i first c v apart = refl
+other_came_out (r ∷ rings) zero first c v apart =
+    not_at c first (reverse v.received) (came_out (suc first) rings c) (λ is. apart (omega (arith, is)))
+    ∙ sym (not_at c first (reverse r.received) (came_out (suc first) rings c) (λ is. apart (omega (arith, is))))
+other_came_out (r ∷ rings) (suc i) first c v apart = ap (λ gs. cond (c == first) (reverse r.received) gs) (other_came_out rings i (suc first) c v (λ is. apart (omega (arith, is))))
 
-pub posted_looked : (names : List RingName) (start : Trail) (rings : List RingView) (strays : ℕ) (past : Trail) (i : ℕ) (v d : RingView) → IsPosted names start rings strays past → i < length rings → v.name ≡ (get_or rings i d).name → v.received ≡ (get_or rings i d).received → IsPosted names start (set rings i v) strays past
-posted_looked names start rings strays past i v d p below name received = record {
+-- one ring was drained
+pub posted_one : (names : List RingName) (start : Trail) (rings : List RingView) (past after : Trail) (i : ℕ) (v d : RingView) (taken : List Grant) → IsPosted names start rings past → i < length rings → v.name ≡ (get_or rings i d).name
+    → v.received ≡ (get_or rings i d).received ++ reverse taken → GoBack i past taken after → IsPosted names start (set rings i v) after
+posted_one names start rings past after i v d taken p below name received b = record {
   names_are = same_name_at rings i v d below name ∙ p.names_are;
-  since = p.since;
-  goes_on = p.goes_on;
-  within = λ c. subst (IsWithin (unfixed c p.since)) (sym (same_came_out rings i 0 c v d below received)) (p.within c);
-  all = λ none c. p.all none c ∙ sym (same_came_out rings i 0 c v d below received);
+  since = map give_back taken ++ p.since;
+  goes_on = went i past taken after b ∙ ap (λ es. map give_back taken ++ es) p.goes_on ∙ sym (append_assoc (map give_back taken) p.since start);
+  all = λ c. unfixed-append c (map give_back taken) p.since ∙ ap (λ gs. unfixed c (map give_back taken) ++ gs) (p.all c) ∙ each c (ℕ_discrete c i);
 }
+  where
+    own : All (λ (g : Grant). g.client ≡ i) taken
+    own = owned i past taken after b
+
+    out_at : (rs : List RingView) → i < length rs → came_out 0 rs i ≡ reverse (get_or rs i d).received
+    out_at rs inside = (let same : i ≡ i + 0 = omega arith in ap (came_out 0 rs) same) ∙ came_out_at rs 0 i d inside
+
+    mine : taken ++ came_out 0 rings i ≡ came_out 0 (set rings i v) i
+    mine =
+        ap (λ gs. taken ++ gs) (out_at rings below)
+        ∙ sym (ap (λ gs. gs ++ reverse (get_or rings i d).received) (reverse-reverse taken)) ∙ sym (reverse-append (get_or rings i d).received (reverse taken)) ∙ ap reverse (sym received)
+        ∙ ap (λ (r : RingView). reverse r.received) (sym (get_or-set_same rings i v d below))
+        ∙ sym (out_at (set rings i v) (subst (λ n. i < n) (sym (length-set rings i v)) below))
+
+    each : (c : ℕ) → Dec (c ≡ i) → unfixed c (map give_back taken) ++ came_out 0 rings c ≡ came_out 0 (set rings i v) c
+    each c (yes is) = subst (λ n. unfixed n (map give_back taken) ++ came_out 0 rings n ≡ came_out 0 (set rings i v) n) (sym is) (ap (λ gs. gs ++ came_out 0 rings i) (own_unfixed i taken own) ∙ mine)
+    each c (no apart) = ap (λ gs. gs ++ came_out 0 rings c) (others_unfixed i c taken apart own) ∙ sym (other_came_out rings i 0 c v (λ is. apart (omega (arith, is))))
 
 -- a client's ring, by the number of the client
 pub record Meets {A B P Q : Type 0} (consumers : List (Consumer Grant A P)) (at : ℕ) (consumer : Consumer Grant A P) (producer : Producer Grant B Q) : Type 0 where

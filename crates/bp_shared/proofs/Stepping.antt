@@ -7,9 +7,9 @@ use Rattle.bp_trail.specs.Trail.{Trail}
 use Rattle.bp_trail.specs.Clock.{durable}
 use Rattle.bp_core.specs.CoreView.{CoreView, with_entry}
 use Rattle.bp_core.specs.Outcomes.{StepOutcome}
-use Rattle.bp_book.specs.Books.{Alike}
-use Rattle.bp_book.specs.Turns.{LookOutcome, Marked, MarksOnce}
-use Rattle.bp_book.specs.Causes.{Looks}
+use Rattle.bp_session_log.specs.Books.{Alike}
+use Rattle.bp_session_log.specs.Turns.{LookOutcome, Marked, MarksOnce}
+use Rattle.bp_session_log.specs.Causes.{Looks}
 use Rattle.bp_shared.specs.Locked.{LockedValue, InStep, not_refused}
 
 -- the trail and the list got the same entries since
@@ -33,16 +33,16 @@ grows_more start mid core said told after s (inr a) =
     }
 
 -- an event, by which the rings stay
-step : (Event : CoreView → CoreView → Type 0) (old new : LockedValue) (said after : Trail) → new.rings ≡ old.rings → new.strays ≡ old.strays → Event old.core new.core → Grows old.core said new.core after → InStep Event old said new after
-step Event old new said after rings strays event g = record { event = event; rings_stay = (rings, strays); piece = g.piece; is = g.is; grows = g.grows }
+step : (Event : CoreView → CoreView → Type 0) (old new : LockedValue) (said after : Trail) → new.rings ≡ old.rings → Event old.core new.core → Grows old.core said new.core after → InStep Event old said new after
+step Event old new said after rings event g = record { event = event; rings_stay = rings; piece = g.piece; is = g.is; grows = g.grows }
 
-pub step_one : (Event : CoreView → CoreView → Type 0) (old new : LockedValue) (said after : Trail) → new.rings ≡ old.rings → new.strays ≡ old.strays → Event old.core new.core → Alike old.core said new.core after → InStep Event old said new after
-step_one Event old new said after rings strays event a = step Event old new said after rings strays event (grows_more old.core old.core new.core said said after (grows_none old.core said) a)
+pub step_one : (Event : CoreView → CoreView → Type 0) (old new : LockedValue) (said after : Trail) → new.rings ≡ old.rings → Event old.core new.core → Alike old.core said new.core after → InStep Event old said new after
+step_one Event old new said after rings event a = step Event old new said after rings event (grows_more old.core old.core new.core said said after (grows_none old.core said) a)
 
-pub step_two : (Event : CoreView → CoreView → Type 0) (old : LockedValue) (marked : CoreView) (new : LockedValue) (said told after : Trail) → new.rings ≡ old.rings → new.strays ≡ old.strays → Event old.core new.core
+pub step_two : (Event : CoreView → CoreView → Type 0) (old : LockedValue) (marked : CoreView) (new : LockedValue) (said told after : Trail) → new.rings ≡ old.rings → Event old.core new.core
     → Alike old.core said marked told → Alike marked told new.core after → InStep Event old said new after
-step_two Event old marked new said told after rings strays event a b =
-    step Event old new said after rings strays event (grows_more old.core marked new.core said told after (grows_more old.core old.core marked said said told (grows_none old.core said) a) b)
+step_two Event old marked new said told after rings event a b =
+    step Event old new said after rings event (grows_more old.core marked new.core said told after (grows_more old.core old.core marked said said told (grows_none old.core said) a) b)
 
 -- ---- looks
 

@@ -14,7 +14,7 @@ use Rattle.bp_core.specs.CoreView.{CoreView}
 use Rattle.bp_core.specs.Outcomes.{Cuts}
 use Rattle.bp_mark.specs.Marks.{MarkName, ReaderValue}
 use Rattle.bp_shared.specs.Locked.{IsLocked}
-use Rattle.bp_book.specs.Rings.{RingName, ring_of}
+use Rattle.bp_session_log.specs.Rings.{RingName, ring_of}
 use Rattle.bp_shared.specs.Taking.{IsEmptied, TakerValue, after_pieces, IsHandedOut, ComesNext}
 
 pub one_more : {A : Type 0} (before : Trail) (sent : List (Vec Entry A)) (piece : Vec Entry A) → after_pieces before (sent ++ piece ∷ []) ≡ reverse piece.items ++ after_pieces before sent

@@ -1,5 +1,5 @@
 -- The board, the trail and a client's list tell the same after each section.
-use Rattle.std.proofs.Common.{◌≡◌, ◌≢◌, ◌⊎◌, refl, sym, ap, subst, ◌∙◌, ℕ, zero, suc, Bool, true, false, cond, List, [], ◌∷◌, ◌++◌, length, get_or, set, All, append_assoc, arith, Option, Some, None, Result, Ok, Err, inl, inr}
+use Rattle.std.proofs.Common.{◌≡◌, ◌≢◌, ◌⊎◌, refl, sym, ap, subst, ◌∙◌, ℕ, zero, suc, Bool, true, false, cond, List, [], ◌∷◌, ◌++◌, length, map, get_or, set, All, append_assoc, arith, Option, Some, None, Result, Ok, Err, inl, inr}
 use Rattle.std.proofs.lemmas.List.{append-nil, get_or-set_same, get_or-set_other}
 use Rattle.std.proofs.lemmas.List.Elements.{filter-append, All-nil, All-cons, All-head, All-tail, All-append}
 use native.Mathlib.Decide.{ℕ_discrete}
@@ -24,18 +24,19 @@ use Rattle.bp_core.specs.Outcomes.{Cuts}
 use Rattle.bp_core.specs.Added.{ended_reply}
 use Rattle.bp_audit.specs.Clients.{of_client}
 use Rattle.bp_audit.proofs.Comparing.{of_client-append, of_client-hit, of_client-miss}
-use Rattle.bp_board.specs.Boards.{Writes}
-use Rattle.bp_board.specs.declared.boards.Board.{Board}
-use Rattle.bp_board.specs.declared.boards.Line.{Line}
-use Rattle.bp_book.specs.Rings.{OneBack, GoBack, RingView, DrainsRings}
-use Rattle.bp_book.specs.Rings.GoBack.{none_taken, next_taken}
-use Rattle.bp_book.specs.Rings.DrainsRings.{none_left, next_ring}
-use Rattle.bp_book.specs.Books.{Alike, OwesRead, OwesWrite}
-use Rattle.bp_book.specs.declared.pending.Fix.{Fix as Fixing}
-use Rattle.bp_book.specs.declared.pending.Fix.TheVariants as fixing
-use Rattle.bp_book.specs.declared.pending.Flush.{Flush as Flushing}
-use Rattle.bp_book.specs.declared.pending.Flush.TheVariants as flushing
-use Rattle.bp_book.specs.Turns.{LookOutcome, refusal_reply, and_told, AskFixOutcome, AskFlushOutcome, ReadSaid, ReadIntoSaid, WriteSaid, TickSaid, PurgeSaid, EndReadOutcome, EndWriteOutcome}
+use Rattle.bp_session_log.specs.Boards.{Writes}
+use Rattle.bp_session_log.specs.declared.boards.Board.{Board}
+use Rattle.bp_session_log.specs.declared.boards.Line.{Line}
+use Rattle.bp_session_log.specs.Rings.{GoBack, RingView, DrainsRings}
+use Rattle.bp_session_log.specs.Rings.GoBack.{none_taken, next_taken}
+use Rattle.bp_session_log.specs.Rings.DrainsRings.{none_left, next_ring}
+use Rattle.bp_session_log.specs.Books.{Alike, OwesRead, OwesWrite}
+use Rattle.bp_session_log.specs.declared.pending.Fix.{Fix as Fixing}
+use Rattle.bp_session_log.specs.declared.pending.Fix.TheVariants as fixing
+use Rattle.bp_session_log.specs.declared.pending.Flush.{Flush as Flushing}
+use Rattle.bp_session_log.specs.declared.pending.Flush.TheVariants as flushing
+use Rattle.bp_session_log.specs.Turns.{LookOutcome, refusal_reply, and_told, AskFixOutcome, AskFlushOutcome, ReadSaid, ReadIntoSaid, WriteSaid, TickSaid, PurgeSaid, EndReadOutcome, EndWriteOutcome}
+use Rattle.bp_shared.specs.Posting.{TakesBack}
 use Rattle.bp_shared.specs.Telling.{is_told, told, IsLineOf, IsShown, IsToldBy, IsBlank}
 
 -- ---- what is told, part by part
@@ -75,19 +76,15 @@ more_unfixes start mid past a b = record {
   untold = told-append b.back a.back ∙ ap (λ es. es ++ told a.back) b.untold ∙ a.untold;
 }
 
-one_back : (client : ℕ) (start : Trail) (strays : ℕ) (g : Grant) (past : Trail) (strayed : ℕ) → OneBack client start strays g past strayed → AddsUnfixes start past
-one_back client start strays g past strayed (inl h) = record { back = give_back g ∷ []; goes_on = h.2; untold = refl }
-one_back client start strays g past strayed (inr h) = record { back = []; goes_on = h.1; untold = refl }
+pub went_back : (client : ℕ) (start : Trail) (taken : List Grant) (past : Trail) → GoBack client start taken past → AddsUnfixes start past
+went_back client start _ _ none_taken = no_unfixes start
+went_back client start _ _ (next_taken {taken} {past} g before own out) =
+    more_unfixes start past (give_back g ∷ past) (went_back client start taken past before) (record { back = give_back g ∷ []; goes_on = refl; untold = refl })
 
-went_back : (client : ℕ) (start : Trail) (strays : ℕ) (taken : List Grant) (past : Trail) (strayed : ℕ) → GoBack client start strays taken past strayed → AddsUnfixes start past
-went_back client start strays _ _ _ none_taken = no_unfixes start
-went_back client start strays _ _ _ (next_taken {taken} {past} {after} {strayed} {now_strayed} g before one) =
-    more_unfixes start past after (went_back client start strays taken past strayed before) (one_back client past strayed g after now_strayed one)
-
-pub drained_unfixes : (most client : ℕ) (rings rings_after : List RingView) (start : Trail) (strays : ℕ) (past : Trail) (strayed : ℕ) → DrainsRings most client rings rings_after start strays past strayed → AddsUnfixes start past
-drained_unfixes most client _ _ start strays _ _ none_left = no_unfixes start
-drained_unfixes most client _ _ start strays past strayed (next_ring {rings} {rings_after} {mid} {so_far} first rest) =
-    more_unfixes start mid past (went_back client start strays first.taken mid so_far first.go_back) (drained_unfixes most (suc client) rings rings_after mid so_far past strayed rest)
+pub drained_unfixes : (most client : ℕ) (rings rings_after : List RingView) (start past : Trail) → DrainsRings most client rings rings_after start past → AddsUnfixes start past
+drained_unfixes most client _ _ start _ none_left = no_unfixes start
+drained_unfixes most client _ _ start past (next_ring {rings} {rings_after} {mid} first rest) =
+    more_unfixes start mid past (went_back client start first.taken mid first.go_back) (drained_unfixes most (suc client) rings rings_after mid past rest)
 
 -- ---- the entries that a call adds are its client's
 -- a list got one entry of the client's, or none
@@ -284,6 +281,22 @@ told_by board start client old new had has past said list s l w = record {
   goes_on = s.goes_on;
   theirs = s.each client ∙ ap (λ n. get_or old.lists n []) (sym l.number_is) ∙ w.was ∙ l.list_is;
 }
+
+-- passes went back, of which nothing is told
+pub told_still : (start past after : Trail) (client : ℕ) (said : Trail) → IsToldBy start past client said → AddsUnfixes past after → IsToldBy start after client said
+told_still start past after client said t d = record {
+  since = d.back ++ t.since;
+  goes_on = d.goes_on ∙ ap (λ es. d.back ++ es) t.goes_on ∙ sym (append_assoc d.back t.since start);
+  theirs = ap (of_client client) (told-append d.back t.since ∙ ap (λ es. es ++ told t.since) d.untold) ∙ t.theirs;
+}
+
+pub backs_untold : (gs : List Grant) → told (map give_back gs) ≡ []
+backs_untold [] = refl
+backs_untold (g ∷ gs) = backs_untold gs
+
+pub told_taken_back : (start : Trail) (c client : ℕ) (old new : CoreView) (said : Trail) → IsToldBy start old.past client said → TakesBack c old new → IsToldBy start new.past client said
+told_taken_back start c client old new said t b =
+    told_still start old.past new.past client said t (record { back = map give_back b.passes; goes_on = ap (λ (core : CoreView). core.past) b.is; untold = backs_untold b.passes })
 
 -- since a pool was made over a core that had said nothing, the whole trail was told
 pub told_whole : (past : Trail) (client : ℕ) (said : Trail) → IsToldBy [] past client said → of_client client (told past) ≡ told said

@@ -3,8 +3,8 @@ use Rattle.std.proofs.Common.{◌≡◌, refl, sym, subst, ℕ, [], ◌∷◌, �
 use Rattle.std.specs.Prelude.{IsErrAnd}
 use Rattle.bp_page.specs.declared.refusals.Refusal.{Refusal}
 use Rattle.bp_page.specs.declared.refusals.Refusal.TheVariants as refusal
-use Rattle.bp_book.specs.declared.pending.Fix.{Fix as Fixing}
-use Rattle.bp_book.specs.declared.pending.Flush.{Flush as Flushing}
+use Rattle.bp_session_log.specs.declared.pending.Fix.{Fix as Fixing}
+use Rattle.bp_session_log.specs.declared.pending.Flush.{Flush as Flushing}
 use Rattle.bp_core.specs.CoreView.{CoreView}
 use Rattle.bp_trail.specs.declared.entries.Call.TheVariants.{Mark}
 use Rattle.bp_trail.specs.declared.entries.Reply.TheVariants.{Done}
@@ -13,7 +13,7 @@ use Rattle.bp_trail.specs.Pieces.{by, FixGoesOn, FlushGoesOn}
 use Rattle.bp_trail.specs.Pieces.Manner.{session}
 use Rattle.bp_trail.specs.Pieces.FixGoesOn.{begins as fix_begins, marked as fix_marked_by}
 use Rattle.bp_trail.specs.Pieces.FlushGoesOn.{begins as flush_begins, marked as flush_marked_by}
-use Rattle.bp_book.specs.Turns.{LookOutcome, MarksOnce, AskFixOutcome, AskFlushOutcome, FixTurn, FlushTurn}
+use Rattle.bp_session_log.specs.Turns.{LookOutcome, MarksOnce, AskFixOutcome, AskFlushOutcome, FixTurn, FlushTurn}
 use Rattle.bp_shared.proofs.Stepping.{err, not_looked}
 
 -- marks and waits so far, after which the fix or the flush goes on

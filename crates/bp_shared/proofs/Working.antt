@@ -15,11 +15,11 @@ use Rattle.bp_core.specs.declared.passes.Pass.{Pass}
 use Rattle.bp_core.specs.declared.passes.ReadTicket.{ReadTicket}
 use Rattle.bp_core.specs.declared.passes.WriteTicket.{WriteTicket}
 use Rattle.bp_core.specs.declared.passes.Ended.{Ended}
-use Rattle.bp_book.specs.declared.pending.Fix.{Fix as Fixing}
-use Rattle.bp_book.specs.declared.pending.Fix.TheVariants as fixing
-use Rattle.bp_book.specs.declared.pending.Flush.{Flush as Flushing}
-use Rattle.bp_book.specs.declared.pending.Flush.TheVariants as flushing
-use Rattle.bp_book.specs.Turns.{FixTurn, FlushTurn, MarksOnce, refusal_reply, and_told, EndReadOutcome, EndWriteOutcome, LoadOutcome, WriteOutOutcome}
+use Rattle.bp_session_log.specs.declared.pending.Fix.{Fix as Fixing}
+use Rattle.bp_session_log.specs.declared.pending.Fix.TheVariants as fixing
+use Rattle.bp_session_log.specs.declared.pending.Flush.{Flush as Flushing}
+use Rattle.bp_session_log.specs.declared.pending.Flush.TheVariants as flushing
+use Rattle.bp_session_log.specs.Turns.{FixTurn, FlushTurn, MarksOnce, refusal_reply, and_told, EndReadOutcome, EndWriteOutcome, LoadOutcome, WriteOutOutcome}
 use Rattle.bp_core.specs.Added.{Ends, ended_reply}
 use Rattle.bp_core.specs.Work.{Reads, Writes, Works, WorksThrough}
 use Rattle.bp_shared.proofs.Stepping.{err}

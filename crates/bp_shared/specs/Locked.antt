@@ -7,10 +7,10 @@ use Rattle.bp_trail.specs.Parameters.{Parameters}
 use Rattle.bp_trail.specs.Trail.{Trail}
 use Rattle.bp_trail.specs.Clock.{durable}
 use Rattle.bp_core.specs.CoreView.{CoreView}
-use Rattle.bp_book.specs.declared.pending.Fix.{Fix as Fixing}
-use Rattle.bp_book.specs.declared.pending.Flush.{Flush as Flushing}
-use Rattle.bp_book.specs.Causes.{Looks, AsksFix, AsksFlush}
-use Rattle.bp_book.specs.Rings.{RingView, DrainsRings}
+use Rattle.bp_session_log.specs.declared.pending.Fix.{Fix as Fixing}
+use Rattle.bp_session_log.specs.declared.pending.Flush.{Flush as Flushing}
+use Rattle.bp_session_log.specs.Causes.{Looks, AsksFix, AsksFlush}
+use Rattle.bp_session_log.specs.Rings.{RingView, DrainsRings}
 
 -- no pool's parameters
 abbrev pub no_parameters : Parameters
@@ -27,14 +27,12 @@ no_parameters =
     }
 
 -- what lies under the lock: the core, the greatest LSN that its reader has seen, how often device
--- work ended, modulo 2^64, the rings in the order in which they are drained, and how many passes
--- were strays
+-- work ended, modulo 2^64, and the rings in the order in which they are drained
 pub record LockedValue : Type 0 where
   pub core : CoreView
   pub seen : ℕ
   pub ends : ℕ
   pub rings : List RingView
-  pub strays : ℕ
 
 -- the reader is the mark's, the core was made with these parameters, and every LSN that it marked
 -- was seen
@@ -50,7 +48,7 @@ pub record Drained (old new : LockedValue) : Type 0 where
   pub before : new.core.before ≡ old.core.before
   pub seen : new.seen ≡ old.seen
   pub ends : new.ends ≡ old.ends
-  pub drained : DrainsRings 32 0 old.rings new.rings old.core.past old.strays new.core.past new.strays
+  pub drained : DrainsRings 32 0 old.rings new.rings old.core.past new.core.past
 
 -- the rings were drained, and nothing was done since
 abbrev pub IsDrained : LockedValue → Type 0
@@ -60,7 +58,7 @@ IsDrained state = (was : LockedValue) × Drained was state
 pub record InStep (Event : CoreView → CoreView → Type 0) (old : LockedValue) (said : Trail)
     (new : LockedValue) (after : Trail) : Type 0 where
   pub event : Event old.core new.core
-  pub rings_stay : (new.rings ≡ old.rings) × (new.strays ≡ old.strays)
+  pub rings_stay : new.rings ≡ old.rings
   pub piece : Trail
   pub is : new.core ≡ record old.core { past = piece ++ old.core.past }
   pub grows : after ≡ piece ++ said

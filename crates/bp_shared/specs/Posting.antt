@@ -1,5 +1,5 @@
 -- The passes that clients post by their rings, and what of them the trail has.
-use Rattle.std.specs.Prelude.{◌≡◌, ℕ, suc, ◌==◌, Bool, true, not, List, [], ◌∷◌, ◌++◌, map, reverse, filter, filter_map, All, if◌then◌else◌}
+use Rattle.std.specs.Prelude.{◌≡◌, ℕ, suc, ◌==◌, not, List, [], ◌∷◌, ◌++◌, map, reverse, filter, filter_map, All, if◌then◌else◌}
 use Rattle.rtrb.specs.declared.producer.Producer.{Producer}
 use Rattle.rtrb.specs.declared.consumer.Consumer.{Consumer}
 use Rattle.rtrb.specs.Ring.{sent, received, known_free}
@@ -7,9 +7,11 @@ use Rattle.bp_trail.specs.Event.{Grant}
 use Rattle.bp_trail.specs.Lists.{some}
 use Rattle.bp_trail.specs.Trail.{Trail}
 use Rattle.bp_trail.specs.Passes.{pass_of}
+use Rattle.bp_trail.specs.Script.{give_back}
 use Rattle.bp_audit.specs.Clients.{of_client}
-use Rattle.bp_book.specs.Books.{unfixes}
-use Rattle.bp_book.specs.Rings.{RingName, RingView, ring_of, ring_at}
+use Rattle.bp_core.specs.CoreView.{CoreView}
+use Rattle.bp_session_log.specs.Books.{unfixes}
+use Rattle.bp_session_log.specs.Rings.{RingName, RingView, ring_of, ring_at}
 use Rattle.bp_shared.specs.Telling.{told}
 
 -- the passes that a client gave back, newest first
@@ -22,21 +24,14 @@ came_out first [] client = []
 came_out first (ring ∷ rings) client =
     if client == first then reverse ring.received else came_out (suc first) rings client
 
--- the one list is the other, with some left out
-pub data IsWithin : List Grant → List Grant → Type 0 where
-  no_more : IsWithin [] []
-  kept : {few all : List Grant} (g : Grant) → IsWithin few all → IsWithin (g ∷ few) (g ∷ all)
-  left_out : {few all : List Grant} (g : Grant) → IsWithin few all → IsWithin few (g ∷ all)
-
 -- the rings have these names, and since the pool was made each client gave back what came out of its
--- ring, in order: all of it, where there were no strays, and nothing else
-pub record IsPosted (names : List RingName) (start : Trail) (rings : List RingView) (strays : ℕ)
-    (past : Trail) : Type 0 where
+-- ring, in order: all of it, and nothing else
+pub record IsPosted (names : List RingName) (start : Trail) (rings : List RingView) (past : Trail)
+    : Type 0 where
   pub names_are : map (λ (r : RingView). r.name) rings ≡ names
   pub since : Trail
   pub goes_on : past ≡ since ++ start
-  pub within : (c : ℕ) → IsWithin (unfixed c since) (came_out 0 rings c)
-  pub all : strays ≡ 0 → (c : ℕ) → unfixed c since ≡ came_out 0 rings c
+  pub all : (c : ℕ) → unfixed c since ≡ came_out 0 rings c
 
 -- no pass went through the ring, which has 32 free places
 abbrev pub IsUnused : {A P : Type 0} → Producer Grant A P → Type 0
@@ -50,14 +45,18 @@ pub record AreRings {A B P Q : Type 0} (producers : List (Producer Grant A P))
   pub unused : All IsUnused producers
   pub empty : All (λ ring. received ring ≡ []) consumers
 
--- since the pool was made, the client gave back passes that it posted, in that order, and no other;
--- where they are settled, all of them
-pub record IsSettledBy (start past : Trail) (client : ℕ) (posted : List Grant)
-    (is_settled : Bool) : Type 0 where
+-- since the pool was made, the client gave back the passes that it posted: all of them, in that
+-- order, and no other
+pub record IsUnfixedBy (start past : Trail) (client : ℕ) (posted : List Grant) : Type 0 where
   pub since : Trail
   pub goes_on : past ≡ since ++ start
-  pub within : IsWithin (unfixed client since) posted
-  pub all : is_settled ≡ true → unfixed client since ≡ posted
+  pub all : unfixed client since ≡ posted
+
+-- the core took passes of a client back, and did nothing else
+pub record TakesBack (client : ℕ) (old new : CoreView) : Type 0 where
+  pub passes : List Grant
+  pub own : All (λ g. g.client ≡ client) passes
+  pub is : new ≡ record old { past = map give_back passes ++ old.past }
 
 -- the passes that a client holds by its list: those that it was given and did not give back
 abbrev pub held_by : Trail → List Grant

@@ -14,7 +14,7 @@ use Rattle.bp_core.specs.Outcomes.{pass_is_out}
 use Rattle.bp_trail.specs.Pieces.{by, FixPiece, FlushPiece}
 use Rattle.bp_trail.specs.Pieces.Manner.{session}
 use Rattle.bp_trail.specs.Pieces.Outcome.{accepted, refused}
-use Rattle.bp_book.specs.Books.{owed, NeedNotGrow}
+use Rattle.bp_session_log.specs.Books.{owed, NeedNotGrow}
 use Rattle.bp_trail.specs.declared.entries.Flushed.{Flushed}
 use Rattle.bp_core.specs.Added.{Gives, Ends, flushed_reply}
 use Rattle.bp_core.specs.Work.{Reads, Writes, WorksThrough}

@@ -12,7 +12,7 @@ use Rattle.bp_trail.specs.Legal.{Legal}
 use Rattle.bp_trail.specs.Standing.{standing}
 use Rattle.bp_core.specs.CoreView.{CoreView}
 use Rattle.bp_core.specs.Outcomes.{Cuts}
-use Rattle.bp_book.specs.Rings.{RingName, no_name, ring_of}
+use Rattle.bp_session_log.specs.Rings.{RingName, no_name, ring_of}
 use Rattle.bp_shared.specs.Locked.{LockedValue}
 
 -- the names of what is made before a pool: the ring by which its trail is taken, the board of its
@@ -71,7 +71,7 @@ pub record GaveTooMany (c : Parameters) (had : TakerValue) : Type 0 where
 pub record HandsOut (old : LockedValue) (had : TakerValue) (entries : List Entry)
     (new : LockedValue) (has : TakerValue) : Type 0 where
   pub cuts : Cuts old.core entries new.core
-  pub rings_stay : (new.rings ≡ old.rings) × (new.strays ≡ old.strays)
+  pub rings_stay : new.rings ≡ old.rings
   pub ends_stay : new.ends ≡ old.ends
   pub had_all : had.past ≡ old.core.before
   pub takes : has.past ≡ reverse entries ++ had.past

@@ -6,8 +6,8 @@ use Rattle.bp_trail.specs.Legal.{Legal}
 use Rattle.bp_trail.specs.Parameters.{Parameters}
 use Rattle.bp_trail.specs.Trail.{Trail}
 use Rattle.bp_audit.specs.Clients.{of_client}
-use Rattle.bp_board.specs.declared.boards.Board.{Board}
-use Rattle.bp_board.specs.declared.boards.Line.{Line}
+use Rattle.bp_session_log.specs.declared.boards.Board.{Board}
+use Rattle.bp_session_log.specs.declared.boards.Line.{Line}
 
 -- any call but an unfix
 abbrev pub is_told : Call → Bool

@@ -3,10 +3,10 @@ use crate::locked_pool::LockedPool;
 use crate::names::PoolName;
 use crate::session::Session;
 use crate::taker::Taker;
-use bp_book::Book;
 use bp_core::PoolCore;
 use bp_keeper::{ListKeeper, RecordingKeeper};
 use bp_mark::{Mark, Reader};
+use bp_session_log::Book;
 use std::marker::Model;
 
 /// A pool that is shared no more: its sessions are ended one by one, and then its core is taken out. Contracts see it
@@ -31,8 +31,8 @@ impl<N: PoolName, K: ListKeeper> Model for ClosedPool<N, K> {
 impl<N: PoolName, K: ListKeeper> ClosedPool<N, K> {
     ghost use Rattle.std.specs.Prelude.{◌≡◌, ◌≤◌};
     ghost use Rattle.bp_trail.specs.Clock.{durable};
-    ghost use Rattle.bp_book.specs.Books.{unfixes};
-    ghost use Rattle.bp_shared.specs.Posting.{IsSettledBy};
+    ghost use Rattle.bp_session_log.specs.Books.{unfixes};
+    ghost use Rattle.bp_shared.specs.Posting.{IsUnfixedBy, TakesBack};
     ghost use Rattle.bp_shared.specs.Telling.{GoesOnFrom, IsToldBy};
 
     /// A pool whose state nobody else has.
@@ -47,20 +47,20 @@ impl<N: PoolName, K: ListKeeper> ClosedPool<N, K> {
     ///
     /// What the session's list told is what the core's trail tells of its client since the pool was made, entry by
     /// entry and with nothing between. Unfixes are left out of that: a pass is posted at once, and goes back when its
-    /// ring is next drained. So of these it says that the passes which went back are some of those that the client
-    /// posted, in that order, and no other. The second value tells whether they are all of them. It is false only where
-    /// a pass still waits in the ring, or one that came out of a ring was not its client's or not out.
+    /// ring is next drained. Of these it says that the passes which went back are those that the client posted, all of
+    /// them, in that order, and no other. What still waits in the session's ring goes back here, and the core does
+    /// nothing else: in the trail of a pool whose sessions end one by one, each has its own, and no end adds to another
+    /// client's.
     ///
     /// So this core gave each answer that the list has, the client has no other entry, and a page is pinned while its
     /// client's list holds a pass of it. A refusal that adds no entry is not bound by it.
-    pub fn end_session(&mut self, session: Session<N, K>) -> (Book<K>, bool)
-        ensures same { self.new ≡ self.old }
-        ensures client { result.0.client ≡ session.client }
-        ensures before { result.0.before ≡ session.before }
-        ensures said { result.0.said ≡ session.said }
-        ensures theirs { IsToldBy N.past self.old.past session.client session.said }
-        ensures posted { IsSettledBy N.past self.old.past session.client
-            (unfixes session.said) result.1 }
+    pub fn end_session(&mut self, session: Session<N, K>) -> Book<K>
+        ensures takes { TakesBack session.client self.old self.new }
+        ensures client { result.client ≡ session.client }
+        ensures before { result.before ≡ session.before }
+        ensures said { result.said ≡ session.said }
+        ensures theirs { IsToldBy N.past self.new.past session.client session.said }
+        ensures posted { IsUnfixedBy N.past self.new.past session.client (unfixes session.said) }
     {
         self.state.end_session(session)
     }

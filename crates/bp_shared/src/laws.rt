@@ -1,24 +1,23 @@
 //! What the clauses of a session's end come to. The function does nothing: its contract is the law.
-ghost use Rattle.std.specs.Prelude.{◌≡◌, ℕ, ◌<◌, Bool, true};
+ghost use Rattle.std.specs.Prelude.{◌≡◌, ℕ, ◌<◌, true};
 ghost use Rattle.bp_trail.specs.Event.{Grant};
 ghost use Rattle.bp_trail.specs.Trail.{Trail};
 ghost use Rattle.bp_trail.specs.Parameters.{Parameters};
 ghost use Rattle.bp_trail.specs.Passes.{passes_out, pins};
 ghost use Rattle.bp_trail.specs.Legal.{is_out, Legal};
-ghost use Rattle.bp_book.specs.Books.{unfixes};
-ghost use Rattle.bp_shared.specs.Posting.{held_by, IsSettledBy};
+ghost use Rattle.bp_session_log.specs.Books.{unfixes};
+ghost use Rattle.bp_shared.specs.Posting.{held_by, IsUnfixedBy};
 ghost use Rattle.bp_shared.specs.Telling.{IsToldBy};
 
 /// A page whose pass a client holds is pinned in the trail that the lock has. A pass that the client's list was given
-/// and did not give back is out there, whether or not all of the client's unfixes have come out of its ring; so its page
-/// has a pin, and does not leave.
+/// and did not give back is out there; so its page has a pin, and does not leave.
 pub fn held_pages_are_pinned()
-    ensures out { (c : Parameters) (start past : Trail) (client : ℕ) (said : Trail) (settled : Bool)
-        (g : Grant) → Legal c past → IsToldBy start past client said →
-        IsSettledBy start past client (unfixes said) settled →
+    ensures out { (c : Parameters) (start past : Trail) (client : ℕ) (said : Trail) (g : Grant)
+        → Legal c past → IsToldBy start past client said →
+        IsUnfixedBy start past client (unfixes said) →
         is_out g (held_by said) ≡ true → is_out g (passes_out past) ≡ true }
-    ensures pinned { (c : Parameters) (start past : Trail) (client : ℕ) (said : Trail)
-        (settled : Bool) (g : Grant) → Legal c past → IsToldBy start past client said →
-        IsSettledBy start past client (unfixes said) settled →
+    ensures pinned { (c : Parameters) (start past : Trail) (client : ℕ) (said : Trail) (g : Grant)
+        → Legal c past → IsToldBy start past client said →
+        IsUnfixedBy start past client (unfixes said) →
         is_out g (held_by said) ≡ true → 0 < pins past g.page }
 {}

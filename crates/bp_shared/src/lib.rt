@@ -5,8 +5,8 @@
 //! lock.
 //!
 //! The lists of the sessions are bound to the trail of the core, whether some memory has them or not: a session that
-//! ends at a [`ClosedPool`] told what the trail tells of its client since the pool was made, and nothing else, but for
-//! unfixes.
+//! ends at a [`ClosedPool`] told what the trail tells of its client since the pool was made, and nothing else. An unfix
+//! may stand at another place in the two. So unfixes are compared by themselves, and are the same, in the same order.
 #![tactic(auto)]
 
 pub mod closed_pool;

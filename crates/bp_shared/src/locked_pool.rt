@@ -3,11 +3,11 @@ use crate::names::PoolName;
 use crate::session::{Session, Told};
 use crate::taker::Taker;
 use crate::trail_ring::join_ends;
-use bp_board::Board;
-use bp_book::{Book, drain_all};
 use bp_core::{Entry, PassNote, PoolCore};
 use bp_keeper::ListKeeper;
 use bp_mark::Reader;
+use bp_session_log::draining::drain_known;
+use bp_session_log::{Board, Book, drain_all};
 use rtrb::{Consumer, Producer};
 use std::marker::{Model, PhantomData};
 
@@ -25,8 +25,6 @@ pub(crate) struct LockedPool<N: PoolName, K: ListKeeper> {
     consumers: Vec<Consumer<PassNote>>,
     /// How often device work ended.
     ends: u64,
-    /// The passes taken from rings that were not of the ring's client, or that the core did not know.
-    strays: u64,
     /// Where the trail is handed out.
     pieces: Producer<Vec<Entry>>,
     /// What each session's list told.
@@ -37,7 +35,7 @@ pub(crate) struct LockedPool<N: PoolName, K: ListKeeper> {
 impl<N: PoolName, K: ListKeeper> Model for LockedPool<N, K> {
     ghost use Rattle.std.specs.Prelude.{◌≡◌, map, length};
     ghost use Rattle.bp_shared.specs.Locked.{LockedValue, IsLocked};
-    ghost use Rattle.bp_book.specs.Rings.{ring_view};
+    ghost use Rattle.bp_session_log.specs.Rings.{ring_view};
     ghost use Rattle.bp_shared.specs.Posting.{IsPosted};
     ghost use Rattle.bp_shared.specs.Taking.{IsHandedOut};
     ghost use Rattle.bp_shared.specs.Telling.{IsShown};
@@ -49,23 +47,22 @@ impl<N: PoolName, K: ListKeeper> Model for LockedPool<N, K> {
       seen = s.reader.seen;
       ends = s.ends;
       rings = map ring_view s.consumers.items;
-      strays = s.strays;
     } };
 
     ghost invariant = { λ s. IsLocked N.mark N.parameters s.core s.reader
         × IsHandedOut N.ring.trail N.before s.pieces s.core
         × IsShown N.ring.board N.past s.board s.core.past
-        × IsPosted N.ring.rings N.past (map ring_view s.consumers.items) s.strays s.core.past
+        × IsPosted N.ring.rings N.past (map ring_view s.consumers.items) s.core.past
         × (length N.ring.rings ≡ N.parameters.clients) };
 }
 
 impl<N: PoolName, K: ListKeeper> LockedPool<N, K> {
-    ghost use Rattle.std.specs.Prelude.{◌≡◌, ◌<◌, ◌≤◌, [], All, map, length, reverse, slice_index_or};
+    ghost use Rattle.std.specs.Prelude.{◌≡◌, ◌<◌, ◌≤◌, [], true, All, map, length, reverse, slice_index_or};
     ghost use Rattle.rtrb.specs.Ring.{sent, received};
     ghost use Rattle.bp_trail.specs.Clock.{durable};
-    ghost use Rattle.bp_book.specs.Books.{unfixes};
-    ghost use Rattle.bp_book.specs.Rings.{ring_view, ring_of, ring_at};
-    ghost use Rattle.bp_shared.specs.Posting.{IsSettledBy};
+    ghost use Rattle.bp_session_log.specs.Books.{unfixes, all_held};
+    ghost use Rattle.bp_session_log.specs.Rings.{ring_view, ring_of, ring_at};
+    ghost use Rattle.bp_shared.specs.Posting.{IsUnfixedBy, TakesBack};
     ghost use Rattle.bp_shared.specs.Locked.{Drained};
     ghost use Rattle.bp_shared.specs.Taking.{IsEmptied};
     ghost use Rattle.bp_shared.specs.Telling.{GoesOnFrom, IsShown, IsToldBy};
@@ -91,14 +88,12 @@ impl<N: PoolName, K: ListKeeper> LockedPool<N, K> {
         requires begins { core.past ≡ N.past }
         ensures core { result.core ≡ core }
         ensures rings { result.rings ≡ map ring_view consumers.items }
-        ensures strays { result.strays ≡ 0 }
     {
         LockedPool {
             core,
             reader,
             consumers,
             ends: 0,
-            strays: 0,
             pieces,
             board,
             of: PhantomData,
@@ -113,43 +108,44 @@ impl<N: PoolName, K: ListKeeper> LockedPool<N, K> {
     }
 
     /// Drains each ring that is to be asked, bit c for that of client c, and each in which a pass is known to wait, the
-    /// first client's first, at most 32 passes each.
+    /// first client's first, at most 32 passes each. A pass that is not that client's, or not out, stays in its ring.
     pub(crate) fn drain(&mut self, asked: u64)
         ensures { Drained self.old self.new }
     {
-        drain_all(&mut self.core, &mut self.strays, &mut self.consumers, asked);
+        drain_all(&mut self.core, &mut self.consumers, asked);
     }
 
-    /// Whether each pass that a client posted went back: none waits in its ring, and none that came out of a ring was a
-    /// stray.
-    fn is_settled(&mut self, client: u8, producer: &mut Producer<PassNote>) -> bool
-        requires client_in { client < N.parameters.clients }
-        requires ring { slice_index_or N.ring.rings client (ring_of producer.old)
+    /// Gives each pass back that waits in the client's own ring. By the list, which gave each back while it held it,
+    /// none of them is one that is not out.
+    fn take_back_posted(&mut self, book: &Book<K>, producer: &mut Producer<PassNote>)
+        requires client_in { book.now.client < N.parameters.clients }
+        requires ring { slice_index_or N.ring.rings book.now.client (ring_of producer.old)
             ≡ ring_of producer.old }
-        ensures core { self.new.core ≡ self.old.core }
-        ensures producer { sent producer.new ≡ sent producer.old }
-        ensures shown { (b : _) → IsShown N.ring.board N.past b self.old.core.past
-            → IsShown N.ring.board N.past b self.new.core.past }
-        ensures posted { IsSettledBy N.past self.old.core.past client
-            (reverse (sent producer.old)) result }
+        requires sent { sent producer.old ≡ reverse (unfixes book.now.said) }
+        requires held { all_held book.now.said ≡ true }
+        requires theirs { IsToldBy N.past self.old.core.past book.now.client book.now.said }
+        ensures takes { TakesBack book.now.client self.old.core self.new.core }
+        ensures theirs { IsToldBy N.past self.new.core.past book.now.client book.now.said }
+        ensures posted { IsUnfixedBy N.past self.new.core.past book.now.client
+            (unfixes book.now.said) }
     {
-        let waiting = self.consumers[usize::from(client)].slots_beside(producer);
-        if waiting > 0 {
-            return false;
-        }
-        self.strays == 0
+        let client = usize::from(book.client());
+        let consumer = &mut self.consumers[client];
+        let waiting = consumer.slots_beside(producer);
+        drain_known(&mut self.core, client, consumer, waiting);
+        self.core.keeps_the_rules();
     }
 
-    /// Ends a session and gives its book, and whether each pass that its client posted went back. What its list told is
-    /// what the trail tells of its client.
-    pub(crate) fn end_session(&mut self, session: Session<N, K>) -> (Book<K>, bool)
-        ensures same { self.new.core ≡ self.old.core }
-        ensures client { result.0.client ≡ session.client }
-        ensures before { result.0.before ≡ session.before }
-        ensures said { result.0.said ≡ session.said }
-        ensures theirs { IsToldBy N.past self.old.core.past session.client session.said }
-        ensures posted { IsSettledBy N.past self.old.core.past session.client
-            (unfixes session.said) result.1 }
+    /// Ends a session and gives its book. The passes that it posted have gone back then, and its list is what the trail
+    /// tells of its client.
+    pub(crate) fn end_session(&mut self, session: Session<N, K>) -> Book<K>
+        ensures takes { TakesBack session.client self.old.core self.new.core }
+        ensures client { result.client ≡ session.client }
+        ensures before { result.before ≡ session.before }
+        ensures said { result.said ≡ session.said }
+        ensures theirs { IsToldBy N.past self.new.core.past session.client session.said }
+        ensures posted { IsUnfixedBy N.past self.new.core.past session.client
+            (unfixes session.said) }
     {
         let Session {
             book,
@@ -158,8 +154,8 @@ impl<N: PoolName, K: ListKeeper> LockedPool<N, K> {
             of: _,
         } = session;
         self.board.write::<Book<K>, Told>(&mut line, &book);
-        let is_settled = self.is_settled(book.client(), &mut producer);
-        (book, is_settled)
+        self.take_back_posted(&book, &mut producer);
+        book
     }
 
     /// The core and its reader. The taker has all that the core handed out.
@@ -176,7 +172,6 @@ impl<N: PoolName, K: ListKeeper> LockedPool<N, K> {
             reader,
             consumers: _,
             ends: _,
-            strays: _,
             mut pieces,
             board: _,
             of: _,

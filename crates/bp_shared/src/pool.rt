@@ -1,7 +1,7 @@
 //! The pool: a core behind a lock, and the mark that it looks at.
 ghost use Rattle.std.specs.Prelude.{◌≡◌, ◌≢◌, [], All, map, length, IfOk, OnOk, OnErr};
 ghost use Rattle.bp_page.specs.declared.refusals.Refusal.TheVariants as Refusal;
-ghost use Rattle.bp_book.specs.Rings.{ring_of};
+ghost use Rattle.bp_session_log.specs.Rings.{ring_of};
 ghost use Rattle.bp_shared.specs.Posting.{IsUnused};
 ghost use Rattle.bp_shared.specs.Sessions.{new_sessions};
 ghost use Rattle.bp_shared.specs.Telling.{IsBlank};
@@ -13,13 +13,12 @@ use crate::names::PoolName;
 use crate::session::Session;
 use crate::taker::Taker;
 use crate::trail_ring::TrailRing;
-use bp_board::Board;
-use bp_book::Posted;
-use bp_book::draining::ALL;
 use bp_core::{Pass, PassNote, PoolCore};
 use bp_keeper::{ListKeeper, RecordingKeeper};
 use bp_mark::{Mark, Reader};
 use bp_page::{Geometry, Refusal};
+use bp_session_log::draining::ALL;
+use bp_session_log::{Board, Posted};
 use rtrb::Producer;
 use std::alloc::Global;
 use std::marker::Model;
@@ -194,7 +193,7 @@ impl<N: PoolName, K: ListKeeper> SharedPool<N, K> {
 
     /// Takes the lock, and drains the rings that clients told of, and those in which a pass is known to wait. The
     /// critical section of each event begins so.
-    fn enter<R: Wait>(&self, rt: &R) -> MutexGuard<'_, LockedPool<N, K>>
+    fn lock_and_drain<R: Wait>(&self, rt: &R) -> MutexGuard<'_, LockedPool<N, K>>
         ensures { IsDrained (mutex_guard_value result) }
     {
         let mut state = locked(rt, &self.state);
@@ -204,7 +203,7 @@ impl<N: PoolName, K: ListKeeper> SharedPool<N, K> {
     }
 
     /// Lets go of the lock. Where an event found its page in flight, some device work has ended at the return.
-    fn leave<T, R: Wait>(
+    fn unlock_or_wait<T, R: Wait>(
         &self,
         rt: &R,
         state: MutexGuard<'_, LockedPool<N, K>>,

@@ -2,11 +2,10 @@
 mod list_pieces;
 
 use crate::names::PoolName;
-use bp_board::{Line, Shows};
-use bp_book::Book;
 use bp_core::{Pass, PassNote};
 use bp_keeper::{ListKeeper, RecordingKeeper};
 use bp_page::{Geometry, Refusal};
+use bp_session_log::{Book, Line, Shows};
 use rtrb::{Producer, PushError};
 use std::alloc::Global;
 use std::marker::{Model, PhantomData};
@@ -35,10 +34,10 @@ pub struct Session<N: PoolName, K: ListKeeper = RecordingKeeper> {
 }
 
 impl<N: PoolName, K: ListKeeper> Model for Session<N, K> {
-    ghost use Rattle.std.specs.Prelude.{◌≡◌, ◌<◌, reverse, slice_index_or};
+    ghost use Rattle.std.specs.Prelude.{◌≡◌, ◌<◌, true, reverse, slice_index_or};
     ghost use Rattle.rtrb.specs.Ring.{sent, known_free};
-    ghost use Rattle.bp_book.specs.Books.{unfixes};
-    ghost use Rattle.bp_book.specs.Rings.{ring_of};
+    ghost use Rattle.bp_session_log.specs.Books.{unfixes, all_held};
+    ghost use Rattle.bp_session_log.specs.Rings.{ring_of};
     ghost use Rattle.bp_shared.specs.Sessions.{SessionValue};
     ghost use Rattle.bp_shared.specs.Telling.{IsLineOf};
 
@@ -55,19 +54,20 @@ impl<N: PoolName, K: ListKeeper> Model for Session<N, K> {
       kept = s.book.kept;
     } };
 
-    // The ring is the client's; the passes posted are those of the list's own unfixes, in order; the line has what else
-    // the list told.
+    // The ring is the client's; the passes posted are those of the list's own unfixes, in order, each of which the list
+    // held; the line has what else the list told.
     ghost invariant = { λ s. (s.book.client < N.parameters.clients)
         × (s.book.size ≡ N.parameters.size)
         × (sent s.producer ≡ reverse (unfixes s.book.said))
         × IsLineOf N.ring.board s.line s.book.client s.book.said
         × (slice_index_or N.ring.rings s.book.client (ring_of s.producer)
-        ≡ ring_of s.producer) };
+        ≡ ring_of s.producer)
+        × (all_held s.book.said ≡ true) };
 }
 
 impl<N: PoolName, K: ListKeeper> Session<N, K> {
     ghost use Rattle.std.specs.Prelude.{◌≡◌, ◌<◌, [], All, length, slice_get, slice_index_or};
-    ghost use Rattle.bp_book.specs.Rings.{ring_of};
+    ghost use Rattle.bp_session_log.specs.Rings.{ring_of};
     ghost use Rattle.bp_shared.specs.Posting.{IsUnused};
     ghost use Rattle.bp_trail.specs.Script.{held_passes};
     ghost use Rattle.bp_shared.specs.Sessions.{UnfixSaid};

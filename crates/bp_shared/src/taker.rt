@@ -16,7 +16,7 @@ pub struct Taker<N: PoolName> {
 impl<N: PoolName> Model for Taker<N> {
     ghost use Rattle.std.specs.Prelude.{◌≡◌, length};
     ghost use Rattle.rtrb.specs.Ring.{received};
-    ghost use Rattle.bp_book.specs.Rings.{ring_at};
+    ghost use Rattle.bp_session_log.specs.Rings.{ring_at};
     ghost use Rattle.bp_shared.specs.Taking.{TakerValue, after_pieces};
 
     ghost Value = { TakerValue };
@@ -32,7 +32,7 @@ impl<N: PoolName> Model for Taker<N> {
 impl<N: PoolName> Taker<N> {
     ghost use Rattle.std.specs.Prelude.{◌≡◌, []};
     ghost use Rattle.rtrb.specs.Ring.{received};
-    ghost use Rattle.bp_book.specs.Rings.{ring_at};
+    ghost use Rattle.bp_session_log.specs.Rings.{ring_at};
 
     /// The taker of a pool that handed out nothing yet.
     pub(crate) fn new(taken: Consumer<Vec<Entry>>) -> Taker<N>

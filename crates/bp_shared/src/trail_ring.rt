@@ -2,14 +2,14 @@
 ghost use Rattle.std.specs.Prelude.{◌≡◌, ◌∷◌, ◌++◌, [], IfOk, OnErr, length};
 ghost use Rattle.bp_page.specs.declared.refusals.Refusal.TheVariants as Refusal;
 ghost use Rattle.rtrb.specs.Ring.{sent, received};
-ghost use Rattle.bp_book.specs.Rings.{ring_of, ring_at};
+ghost use Rattle.bp_session_log.specs.Rings.{ring_of, ring_at};
 ghost use Rattle.bp_shared.specs.Posting.{AreRings};
 ghost use Rattle.bp_shared.specs.Taking.{IsEmptied};
 
-use bp_board::Board;
-use bp_book::draining::RING;
 use bp_core::{Entry, PassNote};
 use bp_page::Refusal;
+use bp_session_log::Board;
+use bp_session_log::draining::RING;
 use rtrb::{Consumer, Producer, RingBuffer};
 use std::alloc::Global;
 use std::marker::Model;
@@ -30,7 +30,7 @@ pub struct TrailRing {
 impl Model for TrailRing {
     ghost use Rattle.std.specs.Prelude.{◌≡◌, [], map};
     ghost use Rattle.rtrb.specs.Ring.{sent, received};
-    ghost use Rattle.bp_book.specs.Rings.{ring_of, ring_at};
+    ghost use Rattle.bp_session_log.specs.Rings.{ring_of, ring_at};
     ghost use Rattle.bp_shared.specs.Posting.{AreRings};
     ghost use Rattle.bp_shared.specs.Taking.{PoolRing, IsEmptied};
 

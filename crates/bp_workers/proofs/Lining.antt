@@ -1,5 +1,5 @@
 -- Lists side by side: workers, their jobs and what these leave.
-use Rattle.std.proofs.Common.{◌≡◌, refl, sym, ◌∙◌, ap, subst, ℕ, zero, suc, ◌+◌, ◌<◌, true, false, arith, List, [], ◌∷◌, ◌++◌, All, length, take, drop, get_or, Option, Some, None}
+use Rattle.std.proofs.Common.{◌≡◌, refl, sym, ◌∙◌, ap, subst, ℕ, zero, suc, ◌+◌, ◌<◌, ◌≤◌, true, false, arith, List, [], ◌∷◌, ◌++◌, All, length, take, drop, get_or, Option, Some, None}
 use Rattle.std.specs.Prelude.{IsSome, is_some, zip}
 use Rattle.std.proofs.lemmas.List.{append_assoc, append-nil}
 use Rattle.std.proofs.lemmas.List.Elements.{All-nil, All-cons}
@@ -10,16 +10,16 @@ use Rattle.bp_trail.specs.Trail.{Trail}
 use Rattle.bp_audit.specs.Clients.{of_client}
 use Rattle.bp_core.specs.CoreView.{CoreView}
 use Rattle.bp_shared.specs.Sessions.{SessionValue, new_session, new_sessions}
-use Rattle.bp_shared.specs.Telling.{told, IsToldBy}
-use Rattle.bp_shared.proofs.Telling.{told_whole}
-use Rattle.bp_book.specs.Books.{unfixes}
-use Rattle.bp_shared.specs.Posting.{unfixed, IsWithin}
-use Rattle.bp_shared.proofs.Posting.{posted_whole, settled_whole}
+use Rattle.bp_shared.specs.Telling.{told}
+use Rattle.bp_shared.proofs.Telling.{told_whole, told_taken_back}
+use Rattle.bp_session_log.specs.Books.{unfixes}
+use Rattle.bp_shared.specs.Posting.{unfixed, TakesBack}
+use Rattle.bp_shared.proofs.Posting.{unfixed_whole, unfixed_still}
 use Rattle.bp_workers.specs.declared.worker.Left.{Left}
 use Rattle.bp_workers.specs.Giving.{GoBack}
 use Rattle.bp_workers.specs.Lists.{SideBySide}
 use Rattle.bp_workers.specs.Workers.{UpkeepValue, new_upkeep, Leaving}
-use Rattle.bp_workers.specs.Jobs.{IsOfPool, JobValue, IsReady, Ran, IsLeftOf, first_upkeep}
+use Rattle.bp_workers.specs.Jobs.{IsOfPool, JobValue, IsReady, Ran, IsLeftOf, AreNumbered, first_upkeep}
 use Rattle.bp_workers.specs.Runs.{IsNewJob, KeepsUp, LeftBy}
 
 pub as_long : {A B : Type 0} (P : ℕ → A → B → Type 0) (n : ℕ) (xs : List A) (ys : List B) → SideBySide P n xs ys → length xs ≡ length ys
@@ -106,6 +106,12 @@ all_ready n (x ∷ given) (j ∷ jobs) each =
 all_ready n [] (j ∷ jobs) each = absurd each
 all_ready n (x ∷ given) [] each = absurd each
 
+pub new_numbered : {W P : Type 0} (n : ℕ) (given : List (W × P)) (jobs : List (JobValue W P)) → SideBySide IsNewJob n given jobs → AreNumbered n jobs
+new_numbered n [] [] each = tt
+new_numbered n (x ∷ given) (j ∷ jobs) each = (ap (λ (s : SessionValue). s.client) each.0.session, new_numbered (suc n) given jobs each.1)
+new_numbered n [] (j ∷ jobs) each = absurd each
+new_numbered n (x ∷ given) [] each = absurd each
+
 has_upkeep : (upkeep : Option UpkeepValue) → upkeep ≡ new_upkeep 0 → IsSome upkeep
 has_upkeep None is = absurd (let no = is in cc)
 has_upkeep (Some u) is = refl
@@ -123,6 +129,71 @@ pub still_keeps : {W P : Type 0} (Leaves : Leaving W P) (olds news : List (JobVa
 still_keeps Leaves [] news len ran is = absurd (let no = is in cc)
 still_keeps Leaves (j ∷ olds) [] len ran is = absurd (omega (arith, len))
 still_keeps Leaves (j ∷ olds) (k ∷ news) len ran is = (ran 0 j (omega arith)).upkeep ∙ is
+
+pub ran_numbered : {W P : Type 0} (Leaves : Leaving W P) (n : ℕ) (olds news : List (JobValue W P)) → length news ≡ length olds → EachRan Leaves olds news → AreNumbered n olds → AreNumbered n news
+ran_numbered Leaves n [] [] len ran are = tt
+ran_numbered Leaves n (o ∷ olds) (j ∷ news) len ran are = ((ran 0 o (omega arith)).whose ∙ are.0, ran_numbered Leaves (suc n) olds news (omega (arith, len)) (λ k d below. ran (suc k) d (omega (arith, below))) are.1)
+ran_numbered Leaves n [] (j ∷ news) len ran are = absurd (omega (arith, len))
+ran_numbered Leaves n (o ∷ olds) [] len ran are = absurd (omega (arith, len))
+
+-- ---- what jobs left of their sessions, one after another
+-- what is left of the job of this client
+pub record IsLeftAt {W P K I B S : Type 0} (p : Parameters) (geometry_of : P → Geometry) (start past : Trail) (client : ℕ) (j : JobValue W P) (left : Left P W K I B S) : Type 0 where
+  pub number : j.session.client ≡ client
+  pub left_is : IsLeftOf p geometry_of start past j left
+
+-- the end of another client's session leaves it
+left_still : {W P K I B S : Type 0} (p : Parameters) (geometry_of : P → Geometry) (start : Trail) (c client : ℕ) (old new : CoreView) (j : JobValue W P) (left : Left P W K I B S) → client < c → TakesBack c old new → IsLeftAt p geometry_of start old.past client j left
+    → IsLeftAt p geometry_of start new.past client j left
+left_still p geometry_of start c client old new j left below b is = record {
+  number = is.number;
+  left_is = record {
+    worker = is.left_is.worker;
+    port = is.left_is.port;
+    of_pool = is.left_is.of_pool;
+    client = is.left_is.client;
+    before = is.left_is.before;
+    said = is.left_is.said;
+    held = is.left_is.held;
+    all_back = is.left_is.all_back;
+    theirs = told_taken_back start c left.book.client old new left.book.said is.left_is.theirs b;
+    posted = unfixed_still start c left.book.client old new (unfixes left.book.said) (λ same. let mine = is.left_is.client ∙ is.number in absurd (omega (arith, same, mine, below))) is.left_is.posted b;
+  };
+}
+
+each_still : {W P K I B S : Type 0} (p : Parameters) (geometry_of : P → Geometry) (start : Trail) (c n : ℕ) (old new : CoreView) (jobs : List (JobValue W P)) (lefts : List (Left P W K I B S)) → n + length lefts ≤ c → TakesBack c old new
+    → SideBySide (IsLeftAt p geometry_of start old.past) n jobs lefts → SideBySide (IsLeftAt p geometry_of start new.past) n jobs lefts
+each_still p geometry_of start c n old new [] [] below b each = tt
+each_still p geometry_of start c n old new (j ∷ jobs) (l ∷ lefts) below b each = (left_still p geometry_of start c n old new j l (omega (arith, below)) b each.0, each_still p geometry_of start c (suc n) old new jobs lefts (omega (arith, below)) b each.1)
+each_still p geometry_of start c n old new [] (l ∷ lefts) below b each = absurd each
+each_still p geometry_of start c n old new (j ∷ jobs) [] below b each = absurd each
+
+pub left_beside : {W P K I B S : Type 0} (p : Parameters) (geometry_of : P → Geometry) (start : Trail) (c : ℕ) (old new : CoreView) (all rest later : List (JobValue W P)) (made after : List (Left P W K I B S)) (j : JobValue W P) (left : Left P W K I B S)
+    → Beside (IsLeftAt p geometry_of start old.past) all rest made → rest ≡ j ∷ later → after ≡ made ++ left ∷ [] → length made ≡ c → j.session.client ≡ c → TakesBack j.session.client old new → IsLeftOf p geometry_of start new.past j left
+    → Beside (IsLeftAt p geometry_of start new.past) all later after
+left_beside p geometry_of start c old new all rest later made after j left so_far next adds at number b is =
+    let back : TakesBack c old new = subst (λ n. TakesBack n old new) number b in
+    let still : Beside (IsLeftAt p geometry_of start new.past) all rest made = record { done = so_far.done; joined = so_far.joined; each = each_still p geometry_of start c 0 old new so_far.done made (omega (arith, at)) back so_far.each } in
+    one_beside (IsLeftAt p geometry_of start new.past) all rest later made after j left c still next adds at (record { number = number; left_is = is })
+
+pub first_beside : {W P K I B S : Type 0} (p : Parameters) (geometry_of : P → Geometry) (start past : Trail) (all later : List (JobValue W P)) (made after : List (Left P W K I B S)) (j : JobValue W P) (left : Left P W K I B S)
+    → all ≡ j ∷ later → made ≡ [] → after ≡ made ++ left ∷ [] → AreNumbered 0 all → IsLeftOf p geometry_of start past j left → Beside (IsLeftAt p geometry_of start past) all later after
+first_beside p geometry_of start past all later made after j left begins none adds are is =
+    one_beside (IsLeftAt p geometry_of start past) all all later made after j left 0 (none_beside (IsLeftAt p geometry_of start past) all all made refl none) begins adds (ap length none)
+    (record { number = (subst (AreNumbered 0) begins are).0; left_is = is })
+
+pub left_of_each : {W P K I B S : Type 0} (p : Parameters) (geometry_of : P → Geometry) (start past : Trail) (n : ℕ) (jobs : List (JobValue W P)) (lefts : List (Left P W K I B S)) → SideBySide (IsLeftAt p geometry_of start past) n jobs lefts
+    → SideBySide (λ _. IsLeftOf p geometry_of start past) n jobs lefts
+left_of_each p geometry_of start past n [] [] each = tt
+left_of_each p geometry_of start past n (j ∷ jobs) (l ∷ lefts) each = (each.0.left_is, left_of_each p geometry_of start past (suc n) jobs lefts each.1)
+left_of_each p geometry_of start past n [] (l ∷ lefts) each = absurd each
+left_of_each p geometry_of start past n (j ∷ jobs) [] each = absurd each
+
+pub next_numbered : {W P : Type 0} (n m : ℕ) (rest later : List (JobValue W P)) (j : JobValue W P) → rest ≡ j ∷ later → m ≡ n + 1 → AreNumbered n rest → (j.session.client ≡ n) × AreNumbered m later
+next_numbered n m rest later j next is are =
+    let both : AreNumbered n (j ∷ later) = subst (AreNumbered n) next are in
+    let more : suc n ≡ m = omega (arith, is) in
+    (both.0, subst (λ k. AreNumbered k later) more both.1)
 
 -- only client 0 has the upkeep, and what it came to is known of that
 keeps_at : (core : CoreView) (n : ℕ) (old new : Option UpkeepValue) → old ≡ new_upkeep n → is_some new ≡ is_some old → (n ≡ 0 → KeepsUp core 0 new) → KeepsUp core n new
@@ -154,8 +225,7 @@ left_by p geometry_of core Leaves client given old new left is ran leaves same k
       all_back = (λ yes. ap held_passes leaves.said ∙ ran.all_back.0 (sym leaves.all_back ∙ yes), λ none. leaves.all_back ∙ ran.all_back.1 (sym (ap held_passes leaves.said) ∙ none));
       cut = leaves.before ∙ ran.before;
       theirs = subst (λ c. of_client c (told core.past) ≡ told left.book.said) whose (told_whole core.past left.book.client left.book.said leaves.theirs);
-      posted = subst (λ c. IsWithin (unfixed c core.past) (unfixes left.book.said)) whose (posted_whole core.past left.book.client (unfixes left.book.said) left.is_settled leaves.posted);
-      settled = λ yes. subst (λ c. unfixed c core.past ≡ unfixes left.book.said) whose (settled_whole core.past left.book.client (unfixes left.book.said) left.is_settled leaves.posted yes);
+      posted = subst (λ c. unfixed c core.past ≡ unfixes left.book.said) whose (unfixed_whole core.past left.book.client (unfixes left.book.said) leaves.posted);
     }
 
 each_left : {W P K I B S : Type 0} (p : Parameters) (geometry_of : P → Geometry) (core : CoreView) (Leaves : Leaving W P) (n : ℕ) (given : List (W × P)) (olds news : List (JobValue W P)) (lefts : List (Left P W K I B S))

@@ -1,5 +1,5 @@
 -- How far a mark is raised, step after step.
-use Rattle.std.proofs.Common.{ℕ, ◌≤◌, max, arith}
+use Rattle.std.proofs.Common.{ℕ, arith}
 use Rattle.bp_workers.specs.Logs.{RaisesWithin}
 
 pub raises-none : (durable raised : ℕ) → RaisesWithin durable raised durable raised

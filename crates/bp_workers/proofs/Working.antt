@@ -1,14 +1,13 @@
 -- The device's work of one part of a list after that of another.
-use Rattle.std.proofs.Common.{◌≡◌, refl, sym, ap, subst, ◌∙◌, ℕ, Bool, true, false, List, [], ◌∷◌, ◌++◌, append_assoc}
+use Rattle.std.proofs.Common.{refl, ap, ◌∙◌, ℕ, Bool, true, false, ◌∷◌}
 use Rattle.bp_page.specs.declared.refusals.Refusal.{Refusal}
 use Rattle.bp_page.specs.declared.refusals.Refusal.TheVariants as refusal
-use Rattle.bp_trail.specs.declared.entries.Entry.{Entry}
 use Rattle.bp_trail.specs.declared.entries.Call.TheVariants.{Tick}
 use Rattle.bp_trail.specs.declared.entries.Reply.TheVariants.{Done}
 use Rattle.bp_trail.specs.Trail.{Trail}
 use Rattle.bp_trail.specs.Pieces.{by}
-use Rattle.bp_core.specs.Work.{Reads, Writes, Works, WorksThrough}
-use Rattle.bp_shared.specs.Sessions.{WithSomeLsn, DoesWorkSaid}
+use Rattle.bp_core.specs.Work.{Reads, Writes}
+use Rattle.bp_shared.specs.Sessions.{DoesWorkSaid}
 use Rattle.bp_workers.specs.Tries.{Ticks, GivesUp, GoesOn}
 use Rattle.bp_workers.proofs.Trying.{gives-up-stays}
 

@@ -1,12 +1,12 @@
 -- What one worker's thread is given, and what it leaves.
-use Rattle.std.specs.Prelude.{◌≡◌, ◌↔◌, ℕ, Bool, true, List, [], ◌∷◌, length, Option, None, is_some}
+use Rattle.std.specs.Prelude.{◌≡◌, ◌↔◌, ℕ, suc, Bool, true, List, [], ◌∷◌, length, Option, None, is_some}
 use Rattle.bp_page.specs.declared.limits.Geometry.{Geometry}
 use Rattle.bp_trail.specs.Parameters.{Parameters}
 use Rattle.bp_trail.specs.Script.{held_passes}
 use Rattle.bp_trail.specs.Trail.{Trail}
 use Rattle.bp_shared.specs.Sessions.{SessionValue, new_session}
-use Rattle.bp_book.specs.Books.{unfixes}
-use Rattle.bp_shared.specs.Posting.{IsSettledBy}
+use Rattle.bp_session_log.specs.Books.{unfixes}
+use Rattle.bp_shared.specs.Posting.{IsUnfixedBy}
 use Rattle.bp_shared.specs.Telling.{IsToldBy}
 use Rattle.bp_workers.specs.declared.worker.Left.{Left}
 use Rattle.bp_workers.specs.Giving.{GoBack}
@@ -45,7 +45,7 @@ pub record Ran {W P : Type 0} (Leaves : Leaving W P) (old new : JobValue W P) : 
 
 -- what it leaves: the worker, its port, which is one to the pool's pages, and the session's own
 -- list, with what cuts handed out of that; the list told what the trail tells of the client, since
--- the pool was made
+-- the pool was made, and the client gave back in the trail what its list gave back
 pub record IsLeftOf {P W K I B S : Type 0} (p : Parameters) (geometry_of : P → Geometry)
     (start past : Trail) (j : JobValue W P) (left : Left P W K I B S) : Type 0 where
   pub worker : left.worker ≡ j.worker
@@ -57,7 +57,12 @@ pub record IsLeftOf {P W K I B S : Type 0} (p : Parameters) (geometry_of : P →
   pub held : left.held ≡ j.held
   pub all_back : left.all_went_back ≡ j.all_went_back
   pub theirs : IsToldBy start past left.book.client left.book.said
-  pub posted : IsSettledBy start past left.book.client (unfixes left.book.said) left.is_settled
+  pub posted : IsUnfixedBy start past left.book.client (unfixes left.book.said)
+
+-- the jobs are of this client and those after it, in order
+abbrev pub AreNumbered : {W P : Type 0} → ℕ → List (JobValue W P) → Type 0
+AreNumbered client [] = Unit {0}
+AreNumbered client (j ∷ jobs) = (j.session.client ≡ client) × AreNumbered (suc client) jobs
 
 -- the upkeep of the first of some jobs
 abbrev pub first_upkeep : {W P : Type 0} → List (JobValue W P) → Option UpkeepValue

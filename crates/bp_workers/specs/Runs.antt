@@ -3,37 +3,24 @@ use Rattle.std.specs.Prelude.{◌≡◌, ◌↔◌, ℕ, ◌≤◌, zero, suc, t
 use Rattle.bp_page.specs.declared.limits.Geometry.{Geometry}
 use Rattle.bp_page.specs.declared.refusals.Refusal.{Refusal}
 use Rattle.bp_page.specs.declared.refusals.Refusal.TheVariants as refusal
-use Rattle.bp_trail.specs.Parameters.{Parameters}
 use Rattle.bp_trail.specs.Clock.{durable}
 use Rattle.bp_trail.specs.Script.{held_passes}
 use Rattle.bp_audit.specs.Clients.{of_client}
 use Rattle.bp_core.specs.CoreView.{CoreView}
 use Rattle.bp_core.specs.Outcomes.{IsFitUpTo}
 use Rattle.bp_shared.specs.Sessions.{SessionValue, new_session}
-use Rattle.bp_book.specs.Books.{unfixes}
-use Rattle.bp_shared.specs.Posting.{unfixed, IsWithin}
+use Rattle.bp_session_log.specs.Books.{unfixes}
+use Rattle.bp_shared.specs.Posting.{unfixed}
 use Rattle.bp_shared.specs.Telling.{told}
-use Rattle.bp_workers.specs.declared.run.PoolConfig.{PoolConfig}
+use Rattle.bp_core.specs.declared.config.Config.{Config}
+use Rattle.bp_core.specs.Agreement.{parameters_with}
 use Rattle.bp_workers.specs.declared.worker.Left.{Left}
 use Rattle.bp_workers.specs.Giving.{GoBack}
 use Rattle.bp_workers.specs.Workers.{UpkeepValue, new_upkeep, Leaving}
 use Rattle.bp_workers.specs.Jobs.{IsOfPool, JobValue}
 
--- what the core of a run is made with
-abbrev pub run_parameters : PoolConfig → ℕ → Parameters
-run_parameters config clients = record {
-  frames = config.frames;
-  k = config.settings.k;
-  correlated = config.settings.correlated;
-  retained = config.settings.retained;
-  pages = config.geometry.pages;
-  size = config.geometry.size;
-  clients = clients;
-  room = config.room;
-}
-
 -- there are 1 to 64 workers, and as many ports, on devices of the geometry
-pub record FitTogether {P : Type 0} (geometry_of : P → Geometry) (config : PoolConfig)
+pub record FitTogether {P : Type 0} (geometry_of : P → Geometry) (config : Config)
     (ports : List P) (workers : ℕ) : Type 0 where
   pub some : 1 ≤ workers
   pub few : workers ≤ 64
@@ -42,12 +29,12 @@ pub record FitTogether {P : Type 0} (geometry_of : P → Geometry) (config : Poo
 
 -- and a core can be made for them, whose keeper has room for so many entries at most
 pub record CanRunUpTo {P : Type 0} (most_room : ℕ) (geometry_of : P → Geometry)
-    (config : PoolConfig) (ports : List P) (workers : ℕ) : Type 0 where
+    (config : Config) (ports : List P) (workers : ℕ) : Type 0 where
   pub fit : FitTogether geometry_of config ports workers
-  pub core : IsFitUpTo most_room (run_parameters config workers)
+  pub core : IsFitUpTo most_room (parameters_with config workers)
 
 -- and one whose keeper has the entries in memory
-abbrev pub CanRun : {P : Type 0} → (P → Geometry) → PoolConfig → List P → ℕ → Type 0
+abbrev pub CanRun : {P : Type 0} → (P → Geometry) → Config → List P → ℕ → Type 0
 CanRun geometry_of config ports workers = CanRunUpTo 16777216 geometry_of config ports workers
 
 -- why a run is refused
@@ -69,8 +56,7 @@ KeepsUp core (suc client) (Some u) = ⊥
 -- what client 0's upkeep came to; the port is still one to the pool's pages; the book is the
 -- client's. Then the passes go back that it held, and the session's list is handed over, less what
 -- was cut. Except for unfixes it is what the core's trail tells of the client; and the client gave
--- back in the trail some of the passes that its list gave back, in that order, and no other: all of
--- them, where they are settled
+-- back in the trail the passes that its list gave back: all of them, in that order, and no other
 pub record LeftBy {P W K I B S : Type 0} (core : CoreView) (geometry_of : P → Geometry)
     (Leaves : Leaving W P)
     (client : ℕ) (given : W × P) (left : Left P W K I B S) : Type 0 where
@@ -86,8 +72,7 @@ pub record LeftBy {P W K I B S : Type 0} (core : CoreView) (geometry_of : P → 
   pub all_back : (left.all_went_back ≡ true) ↔ (held_passes left.book.said ≡ [])
   pub cut : left.book.before ≡ returned.before
   pub theirs : of_client client (told core.past) ≡ told left.book.said
-  pub posted : IsWithin (unfixed client core.past) (unfixes left.book.said)
-  pub settled : left.is_settled ≡ true → unfixed client core.past ≡ unfixes left.book.said
+  pub posted : unfixed client core.past ≡ unfixes left.book.said
 
 -- the job of a client's worker over its port, before its thread
 pub record IsNewJob {W P : Type 0} (client : ℕ) (given : W × P) (j : JobValue W P) : Type 0 where

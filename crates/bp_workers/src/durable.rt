@@ -22,7 +22,7 @@ use std::time::Duration;
 pub trait Asked<N: PoolName, K: ListKeeper> {
     ghost use Rattle.std.specs.Prelude.{◌≡◌, ◌≢◌, ◌<◌};
     ghost use Rattle.bp_page.specs.declared.refusals.Refusal.TheVariants as Refusal;
-    ghost use Rattle.bp_book.specs.Turns.{TickSaid};
+    ghost use Rattle.bp_session_log.specs.Turns.{TickSaid};
     ghost use Rattle.bp_shared.specs.Sessions.{DoesWorkSaid};
     ghost use Rattle.bp_workers.specs.Tries.{Fixes, Ticks};
 
@@ -62,7 +62,7 @@ pub trait Asked<N: PoolName, K: ListKeeper> {
 }
 
 impl<N: PoolName, K: ListKeeper> Asked<N, K> for SharedPool<N, K> {
-    ghost use Rattle.bp_book.specs.Turns.{TickSaid};
+    ghost use Rattle.bp_session_log.specs.Turns.{TickSaid};
     ghost use Rattle.bp_shared.specs.Sessions.{FixSaid};
 
     ghost fixes = { FixSaid };

@@ -36,6 +36,7 @@ impl<N: PoolName, P: Port, K: ListKeeper, W: Worker<P, K>> Model for Job<N, P, K
 
 impl<N: PoolName, P: Port, K: ListKeeper, W: Worker<P, K>> Job<N, P, K, W> {
     ghost use Rattle.std.specs.Prelude.{◌≡◌};
+    ghost use Rattle.bp_shared.specs.Posting.{TakesBack};
     ghost use Rattle.bp_workers.specs.Workers.{held_upkeep};
     ghost use Rattle.bp_workers.specs.Jobs.{IsReady, Ran, IsLeftOf};
 
@@ -71,10 +72,11 @@ impl<N: PoolName, P: Port, K: ListKeeper, W: Worker<P, K>> Job<N, P, K, W> {
         self.all_went_back = give_back_all(rt, pool, &mut self.client.session);
     }
 
-    /// What the job left, its session being ended at its pool, and its upkeep. It takes no memory.
+    /// What the job left, its session being ended at its pool, and its upkeep. Passes that still wait in the session's
+    /// ring go back then. It takes no memory.
     pub(crate) fn into_left(self, pool: &mut ClosedPool<N, K>) -> (Left<P, W, K>, Option<Upkeep<N>>)
-        ensures pool { pool.new ≡ pool.old }
-        ensures left { IsLeftOf N.parameters P.geometry_of N.past pool.old.past self result.0 }
+        ensures pool { TakesBack self.session.client pool.old pool.new }
+        ensures left { IsLeftOf N.parameters P.geometry_of N.past pool.new.past self result.0 }
         ensures upkeep { held_upkeep result.1 ≡ self.upkeep }
     {
         let Job {
@@ -85,14 +87,13 @@ impl<N: PoolName, P: Port, K: ListKeeper, W: Worker<P, K>> Job<N, P, K, W> {
             all_went_back,
         } = self;
         let Client { session, port } = client;
-        let (book, is_settled) = pool.end_session(session);
+        let book = pool.end_session(session);
         let left = Left {
             worker,
             port,
             book,
             held,
             all_went_back,
-            is_settled,
         };
         (left, upkeep)
     }

@@ -13,8 +13,9 @@ pub mod kinds;
 pub mod run;
 pub mod worker;
 
+pub use bp_core::Config;
 pub use bp_shared::LogWriter;
 pub use durable::{Asked, DurableLog, Leading, Log, Patience, fix_durably};
 pub use kinds::Kind;
-pub use run::{PoolConfig, Run, run_workers, run_workers_over};
+pub use run::{Run, run_workers, run_workers_over};
 pub use worker::{Client, Left, Upkeep, Worker};

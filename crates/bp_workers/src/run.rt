@@ -3,40 +3,27 @@ ghost use Rattle.std.specs.Prelude.{◌≡◌, ◌<◌, ◌≤◌, ◌↔◌, �
 ghost use Rattle.std.specs.Prelude.{All, zip, vec_len, vec_capacity, slice_index_or};
 ghost use Rattle.bp_page.specs.declared.refusals.Refusal.TheVariants as Refusal;
 ghost use Rattle.bp_trail.specs.Legal.{Legal};
+ghost use Rattle.bp_core.specs.Agreement.{parameters_with};
 ghost use Rattle.bp_shared.specs.Sessions.{new_sessions};
 ghost use Rattle.bp_workers.specs.Workers.{upkeep_value, unused_upkeep};
-ghost use Rattle.bp_workers.specs.Jobs.{IsReady, Ran, IsLeftOf, IsOfPool, first_upkeep};
+ghost use Rattle.bp_workers.specs.Jobs.{IsReady, Ran, IsLeftOf, IsOfPool, AreNumbered, first_upkeep};
 ghost use Rattle.bp_workers.specs.Lists.{SideBySide};
-ghost use Rattle.bp_workers.specs.Runs.{run_parameters, FitTogether, CanRun, CanRunUpTo, RunAnswers, LeftBy, IsNewJob};
+ghost use Rattle.bp_workers.specs.Runs.{FitTogether, CanRun, CanRunUpTo, RunAnswers, LeftBy, IsNewJob};
 
 use crate::job::Job;
 use crate::kinds::Kind;
 use crate::worker::{Client, Left, Upkeep, Worker};
-use bp_core::PoolCore;
 use bp_core::config::MAX_CLIENTS;
+use bp_core::{Config, PoolCore};
 use bp_keeper::{ListKeeper, RecordingKeeper};
 use bp_page::{Geometry, Refusal};
 use bp_ports::Port;
-use bp_replacer::Settings;
 use bp_shared::{ClosedPool, LogWriter, Parts, PoolName, Session, SharedPool};
 use std::alloc::Global;
 use std::marker::{Brand, Send, Sync};
 use std::sync::Wait;
 use std::thread;
 use std::thread::Threads;
-
-/// What a pool of workers is made with.
-#[derive(Clone, Copy)]
-pub struct PoolConfig {
-    /// How many pages the file has, and the bytes of each.
-    pub geometry: Geometry,
-    /// K of LRU-K and its two periods.
-    pub settings: Settings,
-    /// How many frames there are, 1 to 65,536.
-    pub frames: usize,
-    /// The entries that the trail may have between two cuts.
-    pub room: usize,
-}
 
 /// What is there after all workers have returned.
 #[derive(Drop)]
@@ -101,19 +88,20 @@ fn run_jobs<
     thread::for_each_mut(rt, jobs, count, &|_, job| job.run(rt, pool));
 }
 
-/// What the jobs left, their sessions being ended at the pool, and the upkeep that the first had. There is room for it,
-/// so that no memory is taken.
+/// What the jobs left, their sessions being ended at the pool, and the upkeep that the first had. Each session is of
+/// another client, so that the end of one leaves what the others gave back. There is room for all, so that no memory is
+/// taken.
 fn all_left<N: PoolName, P: Port, K: ListKeeper, W: Worker<P, K>>(
     pool: &mut ClosedPool<N, K>,
     jobs: Vec<Job<N, P, K, W>>,
     left: Vec<Left<P, W, K>>,
 ) -> (Upkeep<N>, Vec<Left<P, W, K>>)
     requires upkeep { IsSome (first_upkeep jobs.items) }
+    requires numbered { AreNumbered 0 jobs.items }
     requires empty { left.items ≡ [] }
     requires room { vec_len jobs ≤ vec_capacity left }
     ensures upkeep { first_upkeep jobs.items ≡ Some (upkeep_value result.0) }
-    ensures pool { pool.new ≡ pool.old }
-    ensures left { SideBySide (λ _. IsLeftOf N.parameters P.geometry_of N.past pool.old.past) 0
+    ensures left { SideBySide (λ _. IsLeftOf N.parameters P.geometry_of N.past pool.new.past) 0
         jobs.items result.1.items }
 {
     let mut left = left;
@@ -147,6 +135,7 @@ fn run_pool<
 ) -> Result<Run<P, W, K>, Refusal>
     requires some { 0 < vec_len jobs }
     requires ready { All IsReady jobs.items }
+    requires numbered { AreNumbered 0 jobs.items }
     requires upkeep { IsSome (first_upkeep jobs.items) }
     requires new { N.past ≡ [] }
     ensures parameters { IfOk result (λ run. run.core.parameters ≡ N.parameters) }
@@ -233,7 +222,7 @@ fn are_of<P: Port>(ports: &[P], geometry: &Geometry) -> bool
 }
 
 /// Whether there is a port of the configuration's geometry for each of so many workers, which are 1 to 64.
-fn fit_together<P: Port>(config: &PoolConfig, ports: &[P], workers: usize) -> bool
+fn fit_together<P: Port>(config: &Config, ports: &[P], workers: usize) -> bool
     ensures { IsTrue result ↔ FitTogether P.geometry_of config.now ports.now workers }
 {
     if workers < 1 || workers > MAX_CLIENTS as usize || ports.len() != workers {
@@ -257,14 +246,14 @@ fn fit_together<P: Port>(config: &PoolConfig, ports: &[P], workers: usize) -> bo
 pub fn run_workers_over<K: Kind, P: Port + Send, W: Worker<P, K> + Send, R: Threads + Wait + Sync>(
     rt: &R,
     alloc: Global,
-    config: PoolConfig,
+    config: Config,
     ports: Vec<P>,
     workers: Vec<W>,
 ) -> Result<Run<P, W, K>, Refusal>
     ensures legal { IfOk result (λ run.
-        Legal (run_parameters config (vec_len workers)) run.core.past) }
+        Legal (parameters_with config (vec_len workers)) run.core.past) }
     ensures parameters { IfOk result (λ run.
-        run.core.parameters ≡ run_parameters config (vec_len workers)) }
+        run.core.parameters ≡ parameters_with config (vec_len workers)) }
     ensures left { IfOk result (λ run.
         SideBySide (LeftBy run.core P.geometry_of W.leaves) 0
         (zip workers.items ports.items) run.left.items) }
@@ -296,14 +285,14 @@ pub fn run_workers_over<K: Kind, P: Port + Send, W: Worker<P, K> + Send, R: Thre
 pub fn run_workers<P: Port + Send, W: Worker<P, RecordingKeeper> + Send, R: Threads + Wait + Sync>(
     rt: &R,
     alloc: Global,
-    config: PoolConfig,
+    config: Config,
     ports: Vec<P>,
     workers: Vec<W>,
 ) -> Result<Run<P, W>, Refusal>
     ensures legal { IfOk result (λ run.
-        Legal (run_parameters config (vec_len workers)) run.core.past) }
+        Legal (parameters_with config (vec_len workers)) run.core.past) }
     ensures parameters { IfOk result (λ run.
-        run.core.parameters ≡ run_parameters config (vec_len workers)) }
+        run.core.parameters ≡ parameters_with config (vec_len workers)) }
     ensures left { IfOk result (λ run.
         SideBySide (LeftBy run.core P.geometry_of W.leaves) 0
         (zip workers.items ports.items) run.left.items) }

@@ -1,10 +1,10 @@
 //! What a worker is given, and what it leaves.
 ghost use Rattle.std.specs.Prelude.{◌≡◌};
 
-use bp_book::Book;
 use bp_core::Entry;
 use bp_keeper::{ListKeeper, RecordingKeeper};
 use bp_ports::Port;
+use bp_session_log::Book;
 use bp_shared::{LogWriter, PoolName, Session, SharedPool, Taker};
 use std::sync::Wait;
 
@@ -86,9 +86,6 @@ pub struct Left<P: Port, W: Drop, K: ListKeeper = RecordingKeeper> {
     pub held: usize,
     /// Whether all of them went back.
     pub all_went_back: bool,
-    /// Whether the pool has taken back each pass that the session's list gave back: none waited in the session's ring,
-    /// and none that came out of a ring was a stray.
-    pub is_settled: bool,
 }
 
 impl<P: Port, W: Drop> Left<P, W, RecordingKeeper> {

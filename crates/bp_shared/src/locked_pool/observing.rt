@@ -9,10 +9,10 @@ ghost use Rattle.bp_shared.specs.Telling.{AtAMoment};
 use super::LockedPool;
 use crate::names::PoolName;
 use crate::session::{Session, Told};
-use bp_book::Book;
 use bp_core::Stats;
 use bp_keeper::ListKeeper;
 use bp_page::{Lsn, PageNo};
+use bp_session_log::Book;
 
 impl<N: PoolName, K: ListKeeper> LockedPool<N, K> {
     /// The first page from this number on that is unsaved.

@@ -2,10 +2,10 @@
 //! a fix and a flush first look at the mark once. What the list then tells goes to the session's line of the board.
 //! None takes memory for the list: what an event wants there is taken before the lock.
 ghost use Rattle.std.specs.Prelude.{◌≡◌, ◌≢◌, ◌+◌, ◌<◌, ◌≤◌, false, length, IfOk};
-ghost use Rattle.bp_book.specs.Books.{SameOwner, OwesRead, OwesWrite};
-ghost use Rattle.bp_book.specs.Turns.{FixTurn, FlushTurn, EndReadOutcome, EndWriteOutcome};
-ghost use Rattle.bp_book.specs.Turns.{TickSaid, PurgeSaid, ReadSaid, ReadIntoSaid, WriteSaid};
-ghost use Rattle.bp_book.specs.Causes.{EndsRead, EndsWrite};
+ghost use Rattle.bp_session_log.specs.Books.{SameOwner, OwesRead, OwesWrite};
+ghost use Rattle.bp_session_log.specs.Turns.{FixTurn, FlushTurn, EndReadOutcome, EndWriteOutcome};
+ghost use Rattle.bp_session_log.specs.Turns.{TickSaid, PurgeSaid, ReadSaid, ReadIntoSaid, WriteSaid};
+ghost use Rattle.bp_session_log.specs.Causes.{EndsRead, EndsWrite};
 ghost use Rattle.bp_core.specs.Outcomes.{TickOutcome, PurgeOutcome, ReadOutcome};
 ghost use Rattle.bp_core.specs.Outcomes.{ReadIntoOutcome, WriteOutcome};
 ghost use Rattle.bp_shared.specs.Locked.{IsDrained, InStep, FixStep, FlushStep, ends_after};
@@ -14,12 +14,11 @@ ghost use Rattle.bp_shared.specs.Telling.{IsLineOf};
 use super::LockedPool;
 use crate::names::PoolName;
 use crate::session::{Session, Told};
-use bp_board::Line;
-use bp_book::{Book, Fix, Flush, PendingRead, PendingWrite};
 use bp_core::{Ended, Pass};
 use bp_keeper::ListKeeper;
 use bp_mark::Mark;
 use bp_page::{Image, Lsn, PageNo, PortFault, Refusal};
+use bp_session_log::{Book, Fix, Flush, Line, PendingRead, PendingWrite};
 
 /// How often device work ended, after an end that may have been that of an unknown ticket.
 fn ends_after<T>(ends: u64, ended: &Result<T, Refusal>) -> u64

@@ -29,7 +29,7 @@ impl<N: PoolName, K: ListKeeper> SharedPool<N, K> {
             (λ past. FindsUnsaved N.parameters.pages from past result) }
         ensures few { IfSome result (λ page. page + 1 < 2 ^ 64) }
     {
-        let mut state = self.enter(rt);
+        let mut state = self.lock_and_drain(rt);
         state.next_unsaved(session, from)
     }
 
@@ -44,7 +44,7 @@ impl<N: PoolName, K: ListKeeper> SharedPool<N, K> {
         ensures least { AtAMoment N.parameters N.past session.old.client session.old.said
             (λ past. IsRedoFrom past result) }
     {
-        let mut state = self.enter(rt);
+        let mut state = self.lock_and_drain(rt);
         state.redo_from(session)
     }
 
@@ -54,7 +54,7 @@ impl<N: PoolName, K: ListKeeper> SharedPool<N, K> {
         ensures counts { AtAMoment N.parameters N.past session.old.client session.old.said
             (λ past. AreCounts past result) }
     {
-        let mut state = self.enter(rt);
+        let mut state = self.lock_and_drain(rt);
         state.stats(session)
     }
 }

@@ -5,17 +5,17 @@ use super::SharedPool;
 use super::source::{FromPort, Source, Zeros};
 use crate::names::PoolName;
 use crate::session::Session;
-use bp_book::{Fix, PendingRead, PendingWrite};
 use bp_core::{Ended, Pass};
 use bp_keeper::ListKeeper;
 use bp_page::{PageNo, Refusal};
 use bp_ports::Port;
+use bp_session_log::{Fix, PendingRead, PendingWrite};
 use std::sync::Wait;
 
 impl<N: PoolName, K: ListKeeper> SharedPool<N, K> {
     ghost use Rattle.std.specs.Prelude.{◌≡◌, ◌≢◌, ◌<◌};
-    ghost use Rattle.bp_book.specs.Books.{OwesRead, OwesWrite};
-    ghost use Rattle.bp_book.specs.Turns.{FixTurn, LoadOutcome, WriteOutOutcome};
+    ghost use Rattle.bp_session_log.specs.Books.{OwesRead, OwesWrite};
+    ghost use Rattle.bp_session_log.specs.Turns.{FixTurn, LoadOutcome, WriteOutOutcome};
     ghost use Rattle.bp_core.specs.Work.{MadeBlank};
     ghost use Rattle.bp_shared.specs.Sessions.{DoesWorkSaid, FixSaid};
 
@@ -38,7 +38,7 @@ impl<N: PoolName, K: ListKeeper> SharedPool<N, K> {
             port.old port.new }
     {
         let read = source.bring(rt, port, ticket.page());
-        let mut state = self.enter(rt);
+        let mut state = self.lock_and_drain(rt);
         let ended = state.end_read(session, ticket, read);
         drop(state);
         self.ended.notify_all();
@@ -63,7 +63,7 @@ impl<N: PoolName, K: ListKeeper> SharedPool<N, K> {
             session.new.said port.old port.new }
     {
         let written = port.write(rt, ticket.page(), ticket.image(), ticket.lsn());
-        let mut state = self.enter(rt);
+        let mut state = self.lock_and_drain(rt);
         let ended = state.end_write(session, ticket, written);
         drop(state);
         self.ended.notify_all();
@@ -87,9 +87,9 @@ impl<N: PoolName, K: ListKeeper> SharedPool<N, K> {
         ensures turn { FixTurn session.old.client page result session.old.said session.new.said }
     {
         session.book.reserve_for_event()?;
-        let mut state = self.enter(rt);
+        let mut state = self.lock_and_drain(rt);
         let answer = state.fix(&self.mark, &mut session.book, &mut session.line, page);
-        self.leave(rt, state, &answer);
+        self.unlock_or_wait(rt, state, &answer);
         answer
     }
 

@@ -5,11 +5,11 @@ ghost use Rattle.bp_core.specs.Added.{ended_reply, flushed_reply};
 use super::SharedPool;
 use crate::names::PoolName;
 use crate::session::Session;
-use bp_book::Flush;
 use bp_core::{Ended, Flushed};
 use bp_keeper::ListKeeper;
 use bp_page::{PageNo, Refusal};
 use bp_ports::Port;
+use bp_session_log::Flush;
 use std::sync::Wait;
 
 /// What a flush came to whose write-out ended so.
@@ -24,7 +24,7 @@ fn flushed_by(ended: Ended) -> Flushed
 
 impl<N: PoolName, K: ListKeeper> SharedPool<N, K> {
     ghost use Rattle.std.specs.Prelude.{◌≡◌, ◌≢◌, ◌<◌};
-    ghost use Rattle.bp_book.specs.Turns.{FlushTurn};
+    ghost use Rattle.bp_session_log.specs.Turns.{FlushTurn};
     ghost use Rattle.bp_shared.specs.Sessions.{DoesWorkSaid, FlushSaid};
 
     /// Takes the memory for one more event, and asks that a page be written out in one critical section. `Busy` and
@@ -42,9 +42,9 @@ impl<N: PoolName, K: ListKeeper> SharedPool<N, K> {
         ensures turn { FlushTurn session.old.client page result session.old.said session.new.said }
     {
         session.book.reserve_for_event()?;
-        let mut state = self.enter(rt);
+        let mut state = self.lock_and_drain(rt);
         let answer = state.flush(&self.mark, &mut session.book, &mut session.line, page);
-        self.leave(rt, state, &answer);
+        self.unlock_or_wait(rt, state, &answer);
         answer
     }
 

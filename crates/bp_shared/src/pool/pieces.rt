@@ -2,10 +2,10 @@
 use super::SharedPool;
 use crate::names::PoolName;
 use crate::taker::Taker;
-use bp_book::draining::ALL;
 use bp_core::Entry;
 use bp_keeper::RecordingKeeper;
 use bp_page::Refusal;
+use bp_session_log::draining::ALL;
 use std::sync::Wait;
 
 impl<N: PoolName> SharedPool<N, RecordingKeeper> {

@@ -11,7 +11,7 @@ use std::sync::Wait;
 
 impl<N: PoolName, K: ListKeeper> SharedPool<N, K> {
     ghost use Rattle.std.specs.Prelude.{◌≡◌, ◌≢◌, ◌+◌, ◌≤◌, false, length, IfOk};
-    ghost use Rattle.bp_book.specs.Turns.{TickSaid, PurgeSaid, ReadSaid, ReadIntoSaid, WriteSaid};
+    ghost use Rattle.bp_session_log.specs.Turns.{TickSaid, PurgeSaid, ReadSaid, ReadIntoSaid, WriteSaid};
     ghost use Rattle.bp_shared.specs.Sessions.{IsRoomy};
 
     /// Moves the clock on. `OutOfMemory`, `TrailFull` and `ClockFull` change nothing. A silent session answers
@@ -25,7 +25,7 @@ impl<N: PoolName, K: ListKeeper> SharedPool<N, K> {
             → result ≢ Err Refusal.OutOfMemory }
     {
         session.book.reserve_for_event()?;
-        let mut state = self.enter(rt);
+        let mut state = self.lock_and_drain(rt);
         state.tick(&mut session.book, &mut session.line, n)
     }
 
@@ -40,7 +40,7 @@ impl<N: PoolName, K: ListKeeper> SharedPool<N, K> {
             → result ≢ Err Refusal.OutOfMemory }
     {
         session.book.reserve_for_event()?;
-        let mut state = self.enter(rt);
+        let mut state = self.lock_and_drain(rt);
         state.purge(&mut session.book, &mut session.line)
     }
 
@@ -65,7 +65,7 @@ impl<N: PoolName, K: ListKeeper> SharedPool<N, K> {
             return Err(Refusal::UnknownPass);
         }
         session.book.reserve_for_event()?;
-        let mut state = self.enter(rt);
+        let mut state = self.lock_and_drain(rt);
         state.read(&mut session.book, &mut session.line, pass)
     }
 
@@ -94,7 +94,7 @@ impl<N: PoolName, K: ListKeeper> SharedPool<N, K> {
             return Err(Refusal::UnknownPass);
         }
         session.book.reserve_for_event()?;
-        let mut state = self.enter(rt);
+        let mut state = self.lock_and_drain(rt);
         state.read_into(&mut session.book, &mut session.line, pass, offset, into)
     }
 
@@ -148,7 +148,7 @@ impl<N: PoolName, K: ListKeeper> SharedPool<N, K> {
         }
         let spare = K::spare_bytes(self.alloc, bytes)?;
         session.book.reserve_for_event()?;
-        let mut state = self.enter(rt);
+        let mut state = self.lock_and_drain(rt);
         state.write(
             &mut session.book,
             &mut session.line,

@@ -8,7 +8,7 @@ use bp_page::Refusal;
 impl<N: PoolName> Session<N, RecordingKeeper> {
     ghost use Rattle.std.specs.Prelude.{◌≡◌, ◌+◌, ◌++◌, ◌≤◌, reverse, IsOk, IfOk, OnOk, OnErr, vec_capacity};
     ghost use Rattle.bp_page.specs.declared.refusals.Refusal.TheVariants as Refusal;
-    ghost use Rattle.bp_book.specs.Books.{owed};
+    ghost use Rattle.bp_session_log.specs.Books.{owed};
     ghost use Rattle.bp_shared.specs.Sessions.{IsCut, KeepsMemory};
 
     /// What cuts left of the session's own list, the oldest entry first.

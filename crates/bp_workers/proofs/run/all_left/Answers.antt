@@ -1,22 +1,37 @@
 -- What one more job left.
-use Rattle.std.proofs.Common.{arith, refl, ap, subst, ◌∙◌, length, rules}
+use Rattle.std.proofs.Common.{◌≡◌, arith, refl, ap, ◌+◌, ◌∙◌, [], ◌∷◌, length, rules}
+use Rattle.std.proofs.lemmas.List.{length-append}
 use Rattle.std.specs.Vec.Iter.{into_iter_items}
-use Rattle.bp_workers.specs.Jobs.{IsLeftOf}
-use Rattle.bp_workers.proofs.Lining.{one_beside, all_beside}
+use Rattle.bp_workers.proofs.Lining.{IsLeftAt, left_beside, first_beside, left_of_each, next_numbered, all_beside}
 use Rattle.bp_workers.proofs.run.all_left.Goals as goal
 
 pub loop-job-preserved : goal.loop-job-preserved
 loop-job-preserved g c =
-    let p = g.N.PoolName.parameters in
-    let start = g.N.PoolName.past in
     let i = c.loop-job.invariant in
     let left = c.into_left-one-in-loop-job.ensures in
+    let next = c.in-Some-job.ensures.steps.0 in
+    let adds = c.push_reserved-in-loop-job.ensures.items in
+    let more = next_numbered _ _ _ _ c.in-Some-job.job next (ap length adds ∙ length-append c.loop-job.left.items _) i.numbered in
     record {
-      pool = left.pool ∙ i.pool;
-      made = one_beside (λ _. IsLeftOf p g.P.Port.geometry_of start c.args.pool.now.past) _ _ _ _ _ c.in-Some-job.job _ _ i.made c.in-Some-job.ensures.steps.0 c.push_reserved-in-loop-job.ensures.items refl (rw i.pool at left.left);
-      room = omega (arith, i.room, ap length c.in-Some-job.ensures.steps.0, c.push_reserved-in-loop-job.ensures.len, c.push_reserved-in-loop-job.ensures.capacity);
+      numbered = more.1;
+      made = left_beside g.N.PoolName.parameters g.P.Port.geometry_of g.N.PoolName.past _ c.loop-job.pool c.into_left-one-in-loop-job.new.pool _ _ _ _ _ c.in-Some-job.job _ i.made next adds refl more.0 left.pool left.left;
+      room = omega (arith, i.room, ap length next, c.push_reserved-in-loop-job.ensures.len, c.push_reserved-in-loop-job.ensures.capacity);
+    }
+
+pub loop-job-init : goal.loop-job-init
+loop-job-init g c =
+    let begins : c.args.jobs.items ≡ c.in-Some.first ∷ into_iter_items c.into_iter-job-iterator.result = search rules in
+    let adds = c.push_reserved.ensures.items in
+    let none = ap length c.requires.empty in
+    let one : length c.push_reserved.new.self.items ≡ 0 + 1 = omega (arith, ap length adds, length-append c.args.left.items (c.into_left-one.result.0 ∷ []), none) in
+    let left = c.into_left-one.ensures in
+    record {
+      numbered = (next_numbered 0 _ _ _ c.in-Some.first begins one c.requires.numbered).1;
+      made = first_beside g.N.PoolName.parameters g.P.Port.geometry_of g.N.PoolName.past c.into_left-one.new.pool.past _ _ _ _ c.in-Some.first c.into_left-one.result.0 begins c.requires.empty adds c.requires.numbered left.left;
+      room = omega (arith, one, none, ap length begins, c.requires.room, c.push_reserved.ensures.len, c.push_reserved.ensures.capacity, c.args.jobs.ok, c.args.left.ok);
     }
 
 pub returns-clause-left : goal.returns-clause-left
 returns-clause-left g c =
-    all_beside (λ _. IsLeftOf g.N.PoolName.parameters g.P.Port.geometry_of g.N.PoolName.past c.args.pool.now.past) c.args.jobs.items (into_iter_items c.loop-job.job-iterator) c.loop-job.left.items c.loop-job.invariant.made (search (rules, c.in-None.ensures.steps))
+    left_of_each g.N.PoolName.parameters g.P.Port.geometry_of g.N.PoolName.past c.loop-job.pool.past 0 _ _
+    (all_beside (IsLeftAt g.N.PoolName.parameters g.P.Port.geometry_of g.N.PoolName.past c.loop-job.pool.past) c.args.jobs.items (into_iter_items c.loop-job.job-iterator) c.loop-job.left.items c.loop-job.invariant.made (search (rules, c.in-None.ensures.steps)))

@@ -1,8 +1,8 @@
 -- There is a job for each worker and its port.
-use Rattle.std.proofs.Common.{◌≡◌, arith, length, vec_len}
+use Rattle.std.proofs.Common.{◌≡◌, arith, length}
 use Rattle.std.specs.Prelude.{zip}
 use Rattle.bp_workers.specs.Runs.{IsNewJob}
-use Rattle.bp_workers.proofs.Lining.{as_long, as_many, all_ready, first_keeps}
+use Rattle.bp_workers.proofs.Lining.{as_long, as_many, all_ready, new_numbered, first_keeps}
 use Rattle.bp_workers.proofs.run.run_named.Goals as goal
 
 pub run_pool-requires-clause-some : goal.run_pool-requires-clause-some
@@ -13,6 +13,9 @@ run_pool-requires-clause-some g c κs within =
 
 pub run_pool-requires-clause-ready : goal.run_pool-requires-clause-ready
 run_pool-requires-clause-ready g c κs within = all_ready 0 (zip c.args.workers.items c.args.ports.items) c.in_ok-jobs.jobs.items c.in_ok-jobs.ensures.jobs
+
+pub run_pool-requires-clause-numbered : goal.run_pool-requires-clause-numbered
+run_pool-requires-clause-numbered g c κs within = new_numbered 0 (zip c.args.workers.items c.args.ports.items) c.in_ok-jobs.jobs.items c.in_ok-jobs.ensures.jobs
 
 pub run_pool-requires-clause-upkeep : goal.run_pool-requires-clause-upkeep
 run_pool-requires-clause-upkeep g c κs within =

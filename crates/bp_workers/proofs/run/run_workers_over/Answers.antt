@@ -5,12 +5,12 @@ use Rattle.bp_page.specs.declared.limits.Geometry.{Geometry}
 use Rattle.bp_page.specs.declared.refusals.Refusal.{Refusal}
 use Rattle.bp_page.specs.declared.refusals.Refusal.TheVariants as refusal
 use Rattle.bp_core.specs.CoreView.{CoreView}
-use Rattle.bp_workers.specs.declared.run.PoolConfig.{PoolConfig}
+use Rattle.bp_core.specs.declared.config.Config.{Config}
 use Rattle.bp_workers.specs.Runs.{FitTogether, CanRunUpTo, RunAnswers}
 use Rattle.bp_workers.proofs.run.run_workers_over.Goals as goal
 
 -- what is said of the ports and the count that were lent
-lent : {P : Type 0} (geometry_of : P → Geometry) (config : PoolConfig) (ports given : List P) (count counted : ℕ) → given ≡ ports → counted ≡ count → FitTogether geometry_of config given counted → FitTogether geometry_of config ports count
+lent : {P : Type 0} (geometry_of : P → Geometry) (config : Config) (ports given : List P) (count counted : ℕ) → given ≡ ports → counted ≡ count → FitTogether geometry_of config given counted → FitTogether geometry_of config ports count
 lent geometry_of config ports given count counted same is fit = subst (λ n. FitTogether geometry_of config ports n) is (subst (λ ps. FitTogether geometry_of config ps counted) same fit)
 
 abbrev why_of : {A : Type 0} → Result A Refusal → Refusal

@@ -8,7 +8,7 @@ pub invariant_of-self : goal.invariant_of-self
 invariant_of-self g c = (
   search rules,
   search rules,
-  shown_drained _ _ _ _ _ c.self.invariant.2 (drained_unfixes 32 0 _ _ _ _ _ _ c.drain_all.ensures.drained),
-  posted_drained _ _ 32 _ _ _ _ _ _ c.self.invariant.3 c.drain_all.ensures.drained,
+  shown_drained _ _ _ _ _ c.self.invariant.2 (drained_unfixes 32 0 _ _ _ _ c.drain_all.ensures.drained),
+  posted_drained _ _ 32 _ _ _ _ c.self.invariant.3 c.drain_all.ensures.drained,
   c.self.invariant.4,
 )

@@ -12,11 +12,11 @@ invariant_of-self g c =
       search rules,
       search rules,
       shown_more _ _ c.session.inside.book.client _ _ _ _ _ _ _ _ c.self.invariant.2 c.session.invariant.3 adds c.write.ensures,
-      posted_adds _ _ _ _ c.session.inside.book.client _ _ _ _ c.self.invariant.3 adds done.owner.unfixes_are,
+      posted_adds _ _ _ c.session.inside.book.client _ _ _ _ c.self.invariant.3 adds done.owner.unfixes_are,
       c.self.invariant.4,
     )
 
 pub returns-clause-in_step : goal.returns-clause-in_step
 returns-clause-in_step g c =
     let done = c.end_read-ended.ensures in
-    rw (← c.self.view_is, ← c.session.view_is) (step_one _ _ _ _ _ refl refl done.ended done.alike)
+    rw (← c.self.view_is, ← c.session.view_is) (step_one _ _ _ _ _ refl done.ended done.alike)

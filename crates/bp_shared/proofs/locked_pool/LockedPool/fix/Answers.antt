@@ -1,12 +1,12 @@
 -- At most one mark, one event.
 use Rattle.std.proofs.Common.{rules, refl, sym, ap, inl, inr, ◌∙◌, subst, map, Err}
 use Rattle.std.proofs.lemmas.Result.{err_from_is_err_and}
-use Rattle.bp_book.specs.declared.pending.Fix.{Fix as Fixing}
-use Rattle.bp_book.specs.Causes.{AsksFix}
-use Rattle.bp_book.specs.Turns.{FixTurn}
+use Rattle.bp_session_log.specs.declared.pending.Fix.{Fix as Fixing}
+use Rattle.bp_session_log.specs.Causes.{AsksFix}
+use Rattle.bp_session_log.specs.Turns.{FixTurn}
 use Rattle.bp_core.specs.CoreView.{CoreView}
 use Rattle.bp_shared.specs.Locked.{LooksFirst}
-use Rattle.bp_book.specs.Rings.{ring_view}
+use Rattle.bp_session_log.specs.Rings.{ring_view}
 use Rattle.bp_shared.specs.Posting.{IsPosted}
 use Rattle.bp_shared.specs.Telling.{IsShown}
 use Rattle.bp_shared.proofs.Stepping.{step_one, step_two, look_refused, looked, marks_once, not_looked}
@@ -22,7 +22,7 @@ invariant_of-self g c =
       search rules,
       search rules,
       subst (λ (core : CoreView). IsShown g.N.PoolName.ring.board g.N.PoolName.past c.self.inside.board core.past) (sym still) c.self.invariant.2,
-      subst (λ (core : CoreView). IsPosted g.N.PoolName.ring.rings g.N.PoolName.past (map ring_view c.self.inside.consumers.items) c.self.inside.strays core.past) (sym still) c.self.invariant.3,
+      subst (λ (core : CoreView). IsPosted g.N.PoolName.ring.rings g.N.PoolName.past (map ring_view c.self.inside.consumers.items) core.past) (sym still) c.self.invariant.3,
       c.self.invariant.4,
     )
 
@@ -35,7 +35,7 @@ invariant_of-self-2 g c =
       search rules,
       search rules,
       shown_more _ _ client _ _ _ _ _ _ _ _ c.self.invariant.2 c.requires.line adds c.write.ensures,
-      posted_adds _ _ _ _ client _ _ _ _ c.self.invariant.3 adds (c.ask_fix-answer.ensures.owner.unfixes_are ∙ c.look.ensures.owner.unfixes_are),
+      posted_adds _ _ _ client _ _ _ _ c.self.invariant.3 adds (c.ask_fix-answer.ensures.owner.unfixes_are ∙ c.look.ensures.owner.unfixes_are),
       c.self.invariant.4,
     )
 
@@ -52,7 +52,7 @@ pub returns-in_err-look-clause-in_step : goal.returns-in_err-look-clause-in_step
 returns-in_err-look-clause-in_step g c =
     let is = err_from_is_err_and c.from_residual.result c.from_residual.ensures.1 in
     let looks = look_refused (Unit {0}) Fixing c.args.book.now.client _ _ _ _ c.in_err-look.ensures.looks in
-    rw (← c.self.view_is) (step_one _ _ _ _ _ refl refl (subst (λ r. LooksFirst c.args.book.now.client c.look.new.reader.seen r (AsksFix c.args.book.now.client c.args.page r) c.self.inside.core c.look.new.core) (sym (is.1 ∙ ap Err is.2)) (inl (refl, looks))) c.look.ensures.alike)
+    rw (← c.self.view_is) (step_one _ _ _ _ _ refl (subst (λ r. LooksFirst c.args.book.now.client c.look.new.reader.seen r (AsksFix c.args.book.now.client c.args.page r) c.self.inside.core c.look.new.core) (sym (is.1 ∙ ap Err is.2)) (inl (refl, looks))) c.look.ensures.alike)
 
 pub returns-clause-turn : goal.returns-clause-turn
 returns-clause-turn g c =
@@ -62,4 +62,4 @@ pub returns-clause-in_step : goal.returns-clause-in_step
 returns-clause-in_step g c =
     let looks = looked _ _ _ _ _ _ c.in_ok-look.was c.look.ensures.looks in
     let asked = rw (c.look.ensures.owner.client) at c.ask_fix-answer.ensures.asked in
-    rw (← c.self.view_is) (step_two _ _ _ _ _ _ _ refl refl (inr (_, looks, asked)) c.look.ensures.alike c.ask_fix-answer.ensures.alike)
+    rw (← c.self.view_is) (step_two _ _ _ _ _ _ _ refl (inr (_, looks, asked)) c.look.ensures.alike c.ask_fix-answer.ensures.alike)

@@ -1,5 +1,5 @@
 -- The session's line is written once more, with what it has.
-use Rattle.bp_shared.proofs.Telling.{shown_again, told_by}
+use Rattle.bp_shared.proofs.Telling.{shown_again}
 use Rattle.bp_shared.proofs.locked_pool.LockedPool.stats.Goals as goal
 
 pub invariant_of-self : goal.invariant_of-self

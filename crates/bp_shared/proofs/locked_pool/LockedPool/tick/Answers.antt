@@ -12,7 +12,7 @@ invariant_of-self g c =
       search rules,
       search rules,
       shown_more _ _ c.args.book.now.client _ _ _ _ _ _ _ _ c.self.invariant.2 c.requires.line adds c.write.ensures,
-      posted_adds _ _ _ _ c.args.book.now.client _ _ _ _ c.self.invariant.3 adds done.owner.unfixes_are,
+      posted_adds _ _ _ c.args.book.now.client _ _ _ _ c.self.invariant.3 adds done.owner.unfixes_are,
       c.self.invariant.4,
     )
 
@@ -22,4 +22,4 @@ returns-clause-line g c = line_written _ _ _ _ _ _ _ _ _ c.requires.line c.write
 pub returns-clause-in_step : goal.returns-clause-in_step
 returns-clause-in_step g c =
     let done = c.ask_tick-answer.ensures in
-    rw (← c.self.view_is) (step_one _ _ _ _ _ refl refl done.asked done.alike)
+    rw (← c.self.view_is) (step_one _ _ _ _ _ refl done.asked done.alike)

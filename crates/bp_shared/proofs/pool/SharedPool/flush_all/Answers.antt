@@ -1,6 +1,5 @@
 -- Each flush is one page more.
-use Rattle.std.proofs.Common.{◌≡◌, refl, sym, ◌∙◌, ap, subst, ℕ, ◌+◌, arith}
-use Rattle.bp_shared.specs.FlushAll.{FlushesEach}
+use Rattle.std.proofs.Common.{refl, ◌∙◌, ap, arith}
 use Rattle.bp_shared.specs.FlushAll.FlushesEach.{none, page}
 use Rattle.bp_shared.proofs.Working.{none-yet, work-on, why-of}
 use Rattle.bp_shared.proofs.pool.SharedPool.flush_all.Goals as goal

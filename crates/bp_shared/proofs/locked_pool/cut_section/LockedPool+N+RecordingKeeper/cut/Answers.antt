@@ -14,7 +14,7 @@ invariant_of-self-2 g c =
       still_locked _ _ _ _ _ _ c.self.invariant.0 cut,
       handed_out _ _ _ _ c.in-Ok.entries c.self.inside.core c.cut_into.new.self c.self.invariant.1 cut passed.producer passed.emptied passed.sent,
       shown_cut _ _ _ c.self.inside.core c.cut_into.new.self _ c.self.invariant.2 cut,
-      posted_cut _ _ _ _ c.self.inside.core c.cut_into.new.self _ c.self.invariant.3 cut,
+      posted_cut _ _ _ c.self.inside.core c.cut_into.new.self _ c.self.invariant.3 cut,
       c.self.invariant.4,
     )
 
@@ -24,7 +24,7 @@ returns-clause-done g c =
     let passed = c.pass_on.ensures in
     rw (← c.self.view_is) (rw (← c.taker.view_is) (rw passed.same (record {
       cuts = c.in-Ok.ensures.done;
-      rings_stay = (refl, refl);
+      rings_stay = refl;
       ends_stay = refl;
       had_all = ap (after_pieces before) passed.all ∙ sym c.self.invariant.1.pieces_are;
       takes = ap (after_pieces before) passed.received ∙ one_more before (received c.taker.inside.taken) c.in-Ok.entries;

@@ -1,7 +1,0 @@
--- A line names no thread's key, so it may go to another thread.
-use denote.Param.Send.{IsSend}
-use Rattle.bp_board.specs.contracts.boards.Line.{the_row}
-use Rattle.bp_board.proofs.Sent.{line_send}
-
-pub send : IsSend the_row
-send = line_send

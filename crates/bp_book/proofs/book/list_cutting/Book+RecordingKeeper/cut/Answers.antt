@@ -1,8 +1,0 @@
--- The list handed out keeps its memory.
-use Rattle.std.proofs.Common.{arith, ap, length}
-use Rattle.bp_book.proofs.book.list_cutting.Book+RecordingKeeper.cut.Goals as goal
-
-pub returns-clause-memory : goal.returns-clause-memory
-returns-clause-memory c =
-    let r = c.self.invariant.0 in
-    rw (← c.self.view_is) (omega (arith, c.in_ok-entries.ensures.memory, c.in_ok-entries.ensures.len, r.entries_fit, r.tickets_are, ap length r.held_are, c.self.ranges))

@@ -1,0 +1,10 @@
+pub mod Asking
+pub mod Ending
+pub mod Posting
+pub mod Holding
+pub mod Drains
+pub mod Keeping
+-- The ghost steps of a board, and what the walks share.
+pub mod Steps
+pub mod Walks
+pub mod Sent

@@ -1,0 +1,137 @@
+-- `write` changes the key that both have. Assumes `Logic`.
+use Rattle.std.proofs.Common.{◌≡◌, ℕ, [], ◌∷◌, length, set, refl, sym, subst, List}
+use mathlib.Core.Option as maybe
+use lib.ListN.{get_elem?}
+use seplogic.Ra.Ura.{Ura}
+use mir.Syntax.{Fn, Dict, dcons, dnil, a_type}
+use mir.Val.{Val, vptr, vunit}
+use mir.MapTy.{inst_fn}
+use base.Logic.{SProp, ent, via, fst∗, snd∗}
+use base.Fml.{Fml, ftrue, flft}
+use prog.Wp.{WpFn}
+use prog.Model.{Model}
+use contract.Monad.{fact, fact_use}
+use contract.Running.{Running, MachineTables, tables, tables_of}
+use sound.WpLaws.{WpFn-mono}
+use types.Logic.{Logic, sem}
+use types.Kit.{‵, raw, ◌⊛◌, given, later, ◌$◌, ◌∵◌, !, qed, move, keep, drop, split, join, fsplit, fsplit3, fjoin, fjoin3, learn, suffices, done, use2, await, feq_i}
+use types.Run.{enter, returns, of_opd, unit_lit}
+use types.ByLocal.{alloc_all, pass_all, free_all, look_at, sets}
+use denote.Exit.{yes}
+use denote.RattleType.{RattleType, owns}
+use denote.Builtin.{RefOf}
+use denote.Laws.{Are, Ises, owns_show, showss}
+use denote.Param.{param, bounded}
+use denote.Signature.{plain, types_at}
+use denote.Steps.{nothing, opens, closes}
+use denote.Triple.Clauses.{Clauses, closing}
+use denote.Triple.Entry.{on_entry, alive}
+use denote.Triple.Spec.{Meets, triple_of}
+use denote.Triple.Table.{entered}
+use denote.Triple.Walked.{says, Stays, stay_dropped, stay_ref, walk_of, ends_at, Goes-dropped, Goes-ref, walk_Meets}
+use contract.CodeStep
+use Rattle.bp_trail.specs.Trail.{Trail}
+use Rattle.bp_session_log.specs.Owned.{board_owns, line_owns}
+use Rattle.bp_session_log.proofs.Steps as steps
+use Rattle.bp_session_log.specs.declared.boards.Shows.{Ghosts}
+use Rattle.bp_session_log.specs.contracts.boards.Board as Board
+use Rattle.bp_session_log.specs.contracts.boards.Line as Line
+use Rattle.bp_session_log.specs.contracts.boards.Board.write.{ended, clauses}
+use Rattle.bp_session_log.specs.contracts.boards.Board.write.Key.{name as #self}
+use Rattle.bp_session_log.proofs.boards.Board.write.Statement as stated
+use Rattle.bp_session_log.proofs.boards.Board.write.Code as code
+
+module _ (T S : RattleType) (g : Ghosts S.Denot T.Denot) (d : Dict) {M : Type 1} {𝓤 : Ura M} (𝓛 : Logic 𝓤) (𝓜 : Model 𝓤 𝓛.H) (𝓡 : Running 𝓤 𝓛.H 𝓜) where
+  open 𝓛 use {H}
+
+  abbrev function : Fn
+  function = inst_fn (bounded (a_type ∷ a_type ∷ []) (T, (S, tt)) (dcons d dnil)) code.function
+
+  abbrev A : RattleType
+  A = Board.the_row
+
+  abbrev B : RattleType
+  B = Line.the_row
+
+  abbrev X : RattleType
+  X = param 0 T
+
+  abbrev stayed : Stays (ended T S g d).signature.params (ended T S g d).kept
+  stayed = (stay_ref (0 ∷ []) tt (plain (λ _. A)), (stay_ref (1 ∷ []) tt (plain (λ _. B)), (stay_dropped (RefOf (2 ∷ []) tt (plain (λ _. X)) (λ _. tt)) yes, tt)))
+
+  abbrev 𝓣 : MachineTables 𝓤 H 𝓜
+  𝓣 = tables 𝓤 H 𝓜 𝓡 𝓡.env
+
+  abbrev held : Clauses 𝓤 (ended T S g d)
+  held = clauses T S g d 𝓛 𝓜.mem 𝓡.returns
+
+  module _ (z : (walk_of 𝓛 (ended T S g d) stayed held).Ghost) where
+    abbrev Vss : Type 0
+    Vss = List Val × (List Val × (List Val × Unit {0}))
+
+    abbrev At : Vss → (walk_of 𝓛 (ended T S g d) stayed held).Ghost
+    At vss = ((z.0.0, z.0.1, z.0.2, z.0.3, vss), z.1)
+
+    abbrev Goes : Vss → Type 1
+    Goes vss = ent 𝓤 ((walk_of 𝓛 (ended T S g d) stayed held).pre (At vss)) (WpFn 𝓤 H 𝓣.C 𝓣.Λ function ((walk_of 𝓛 (ended T S g d) stayed held).args (At vss)) ((walk_of 𝓛 (ended T S g d) stayed held).post (At vss)))
+
+    abbrev a : A.Denot
+    a = z.0.3.0.now
+
+    abbrev b : B.Denot
+    b = z.0.3.1.0.now
+
+    abbrev list : Trail
+    list = g.shown z.0.3.1.1.0.now
+
+    abbrev u : Val
+    u = vptr z.0.3.0.ref_ptr.0 z.0.3.0.ref_ptr.1
+
+    abbrev v : Val
+    v = vptr z.0.3.1.0.ref_ptr.0 z.0.3.1.0.ref_ptr.1
+
+    abbrev w : Val
+    w = vptr z.0.3.1.1.0.ref_ptr.0 z.0.3.1.1.0.ref_ptr.1
+
+    abbrev passed : Vss
+    passed = (u ∷ [], (v ∷ [], (w ∷ [], tt)))
+
+    abbrev args : Fml
+    args = owns (types_at (ended T S g d).signature.params z.0.0) z.0.3 passed
+
+    abbrev asked : SProp 𝓤
+    asked = (held z.0.0 z.0.3).requires z.1
+
+    walks : Goes passed
+    walks =
+        let r = z.0.3.0 in let s = z.0.3.1.0 in
+        let a' : A.Denot = record { name = a.name; lists = set a.lists b.number list } in
+        let b' : B.Denot = record { name = b.name; number = b.number; list = list } in
+        qed 𝓛 (((‵ (flft z.0.0.0 z.0.1.0) ⊛ ‵ (flft z.0.0.1.0 z.0.1.1.0) ⊛ ‵ (flft z.0.0.1.1.0 z.0.1.1.1.0) ⊛ ‵ (flft z.0.0.1.1.1.0 z.0.1.1.1.1.0) ⊛ ‵ (flft z.0.0.1.1.1.1.0 z.0.1.1.1.1.1.0) ⊛ ‵ ftrue) ⊛ ‵ args) ∷ raw (fact 𝓤 _) ∷ raw (fact 𝓤 _) ∷ given (b.name ≡ a.name) (‵ ftrue) ∷ []) ∵
+        keep ! (3 ∷ 0 ∷ []) $ learn ! (λ same. drop ! $ split ! $ split ! $ move ! (1 ∷ []) $ split ! $ move ! (3 ∷ []) $ fsplit ! $ fsplit3 ! $ drop ! $ move ! (2 ∷ []) $ fsplit ! $ fsplit3 ! $ drop ! $
+        keep ! (3 ∷ 4 ∷ 7 ∷ 0 ∷ 1 ∷ 5 ∷ 6 ∷ []) $ enter ! 𝓣.C 𝓣.Λ function (u ∷ v ∷ w ∷ []) _ $ alloc_all ! (λ l. pass_all ! refl ((tt, tt), ((tt, tt), ((tt, tt), tt))) $
+        opens ! tt A r.ref_ptr.0 r.ref_ptr.1 (λ cs. move ! (5 ∷ 6 ∷ 7 ∷ []) $ opens ! tt B s.ref_ptr.0 s.ref_ptr.1 (λ ds. move ! (1 ∷ []) $ fsplit ! $ move ! (7 ∷ []) $ fsplit ! $ move ! (1 ∷ 3 ∷ []) $
+        types.Kit.rewrite ! 1 (λ (n : ℕ). ‵ (line_owns n b.number b.list)) same refl $
+        use2 𝓛 (later (given (get_elem? a.lists b.number ≡ maybe.some b.list) (‵ (board_owns a.name a'.lists) ⊛ ‵ (line_owns a.name b.number list)))) (steps.writes 𝓛 a.name a.lists b.number b.list list) $
+        await ! tt $ learn ! (λ at. split ! $ types.Kit.rewrite ! 1 (λ (n : ℕ). ‵ (line_owns n b.number list)) (sym same) refl $
+        move ! (2 ∷ 0 ∷ []) $ fjoin ! $ move ! (2 ∷ 1 ∷ []) $ fjoin ! $
+        move ! (2 ∷ 0 ∷ 3 ∷ 4 ∷ 5 ∷ []) $ closes ! tt B b' ds s.ref_ptr.0 s.ref_ptr.1 $ move ! (4 ∷ 3 ∷ 5 ∷ 6 ∷ 7 ∷ []) $ closes ! tt A a' cs r.ref_ptr.0 r.ref_ptr.1 $
+        sets ! (of_opd ! (unit_lit !)) refl (tt, tt) $ returns ! (look_at ! 0 refl) $ free_all ! refl $
+        suffices ! _ (ends_at 𝓛 (ended T S g d) stayed held (At passed) vunit tt (a', (b', (tt, tt))) (tt, (tt, (tt, tt)))) $
+        says ! (record { within = steps.found_within a.lists b.number b.list at; was = steps.found_is a.lists b.number b.list [] at; name = refl; lists = refl; name_is = refl; number_is = refl; list_is = refl }) $
+        feq_i ! (List Val) (u ∷ []) (u ∷ []) refl $ fjoin3 ! $ move ! (2 ∷ 3 ∷ []) $ feq_i ! (List Val) (v ∷ []) (v ∷ []) refl $ fjoin3 ! $ nothing ! $ nothing ! $ fjoin ! $ move ! (1 ∷ 0 ∷ []) $ fjoin ! $ move ! (1 ∷ 0 ∷ []) $ fjoin ! $
+        feq_i ! (List Val) (vunit ∷ []) (vunit ∷ []) refl $ move ! (1 ∷ 0 ∷ []) $ join ! $ move ! (2 ∷ 3 ∷ []) $ join ! $ move ! (2 ∷ 0 ∷ []) $ join ! $ join ! $ done !)))))
+
+  meets : Meets 𝓛 (ended T S g d).signature (WpFn 𝓤 H 𝓣.C 𝓣.Λ function) (closing 𝓛 (ended T S g d) held)
+  unfolding tables_of contract.CodeStep.c_Tables
+  meets =
+      walk_Meets 𝓛 (ended T S g d) stayed (Goes-ref 𝓛 5 0 tt (plain (λ _. A)), (Goes-ref 𝓛 5 1 tt (plain (λ _. B)), (Goes-dropped 𝓛 5 (RefOf (2 ∷ []) tt (plain (λ _. X)) (λ _. tt)) yes (λ κs x f. refl), tt))) held
+      (WpFn 𝓤 H 𝓣.C 𝓣.Λ function) (WpFn-mono 𝓤 H 𝓛.laws (tables_of 𝓤 H 𝓜 𝓣) function)
+      (λ z. let a = z.0.3 in let vss = z.0.4 in let Rs = types_at (ended T S g d).signature.params z.0.0 in let On : SProp 𝓤 = on_entry 𝓛 (ended T S g d).signature z.0.0 z.0.1 a vss in
+      fact_use 𝓤 (Are Rs (Ises Rs) a vss) (via 𝓤 (sem 𝓛 (owns Rs a vss)) (via 𝓤 On (fst∗ 𝓤 On (asked z)) (snd∗ 𝓤 (alive 𝓛 (ended T S g d).signature z.0.0 z.0.1) (sem 𝓛 (owns Rs a vss)))) (owns_show 𝓛 Rs (Ises Rs) (showss 𝓛 Rs) a vss)) (λ are.
+      subst (Goes z) (λ i. (sym are.0.0 i, (sym are.1.0.0 i, (sym are.1.1.0.0 i, tt)))) (walks z)))
+
+pub write_spec : {M : Type 1} → stated.statement M
+write_spec 𝓤 𝓛 𝓜 𝓡 wired T S _ _ g d _ = let 𝓣' = tables 𝓤 𝓛.H 𝓜 𝓡 𝓡.env in
+    entered 𝓤 𝓛.H (triple_of 𝓛 (ended T S g d).signature (closing 𝓛 (ended T S g d) (held T S g d 𝓛 𝓜 𝓡))) 𝓣'.C 𝓣'.Λ (#self (bounded (a_type ∷ a_type ∷ []) (T, (S, tt)) (dcons d dnil))) (function T S g d 𝓛 𝓜 𝓡)
+    (code.unfolded 𝓤 𝓛.H 𝓜 𝓡 wired (T, (S, tt)) d) (meets T S g d 𝓛 𝓜 𝓡)

@@ -1,0 +1,219 @@
+//! What a session keeps for itself: its own list of entries, with room for all that the list still owes.
+ghost use Rattle.std.specs.Prelude.{◌≡◌, ◌≤◌, ◌<◌, ◌+◌, ◌-◌, ◌*◌, ◌^◌, ◌∷◌, ◌++◌, [], ◌==◌, true, false, not};
+ghost use Rattle.std.specs.Prelude.{filter, All, Some, None, length, reverse, slice_get, IsOk, IfOk, IsSome, IfSome};
+ghost use Rattle.std.specs.Prelude.{OnOk, OnErr, vec_len, vec_capacity};
+ghost use Rattle.bp_trail.specs.declared.entries.Call.TheVariants as Call;
+ghost use Rattle.bp_trail.specs.declared.entries.Reply.TheVariants as Reply;
+ghost use Rattle.bp_trail.specs.Event.{grant, same_grant};
+ghost use Rattle.bp_trail.specs.Passes.{passes_out};
+ghost use Rattle.bp_trail.specs.Legal.{is_out};
+ghost use Rattle.bp_trail.specs.Script.{held_passes};
+ghost use Rattle.bp_session_log.specs.Books.{BookValue, SameBook, Tells, plain_call, plain_reply, OwesRead, OwesWrite, owed, NeedNotGrow};
+
+mod asking;
+mod ending;
+mod list_cutting;
+mod posting;
+mod telling;
+
+use crate::held::Held;
+use bp_core::PassNote;
+use bp_keeper::ListKeeper;
+use bp_page::{Geometry, Image, Refusal};
+use std::alloc::{AllocError, Global};
+use std::marker::Model;
+
+/// A client's own list of entries, the passes that the list leaves out, and what is reserved for the entries that it
+/// owes. The entries are with their keeper: in memory, or for the proofs alone.
+///
+/// Contracts see the client, the bytes of a page, the list, newest first, with what cuts handed out of it, and how much
+/// more room there is than the list owes: for entries, for passes held, and for copies of images; and of a list that
+/// takes no memory for its entries, what else may want some.
+#[derive(Drop)]
+pub struct Book<K: ListKeeper> {
+    alloc: Global,
+    geometry: Geometry,
+    client: u8,
+    said: K,
+    /// The passes that the list gave and did not give back, in the order taken.
+    held: Held,
+    /// The tickets whose end may still come.
+    tickets: usize,
+    /// Blanks for the entries that will need a copy of an image.
+    blanks: Vec<K::Blank>,
+    /// Memory that the last end of device work left, to be freed with no lock held.
+    left: Option<Image>,
+}
+
+impl<K: ListKeeper> Model for Book<K> {
+    ghost use Rattle.std.specs.Prelude.{◌+◌, ◌-◌, ◌*◌, All, length, vec_len, vec_capacity};
+    ghost use Rattle.bp_session_log.specs.Books.{BookValue, KeepsRoom};
+
+    ghost Value = { BookValue };
+
+    ghost view = { λ b. record {
+      client = b.client;
+      size = b.geometry.size;
+      before = (K.kept b.said).before;
+      said = (K.kept b.said).past;
+      entries = (K.kept b.said).capacity
+          - ((K.kept b.said).len + (length b.held.passes + 2 * b.tickets));
+      passes = b.held.room - b.tickets;
+      copies = vec_len b.blanks - b.tickets;
+      places = vec_capacity b.blanks - b.tickets;
+      kept = (K.kept b.said).len;
+    } };
+
+    ghost invariant = { λ b.
+        KeepsRoom b.client (K.kept b.said).past b.held.passes b.tickets (K.kept b.said).len
+        (vec_len b.blanks) (K.kept b.said).capacity b.held.room
+        × All (λ blank. K.fits blank b.geometry.size) b.blanks.items };
+}
+
+/// Makes so many blanks more.
+fn make_blanks<K: ListKeeper>(
+    alloc: Global,
+    geometry: &Geometry,
+    blanks: &mut Vec<K::Blank>,
+    count: usize,
+) -> Result<(), AllocError>
+    requires sized { All (λ b. K.fits b geometry.now.size) blanks.old.items }
+    ensures sized { All (λ b. K.fits b geometry.now.size) blanks.new.items }
+    ensures more { vec_len blanks.old ≤ vec_len blanks.new }
+    ensures enough { OnOk result (vec_len blanks.old + count ≤ vec_len blanks.new) }
+    ensures memory { K.REFUSES ≡ false → vec_len blanks.old + count ≤ vec_capacity blanks.old →
+        IsOk result }
+{
+    for _ in 0..count {
+        let blank = K::blank(alloc, geometry)?;
+        blanks.push(blank)?;
+    }
+    Ok(())
+}
+
+/// A copy of an image, made of the last of some blanks.
+fn copied<K: ListKeeper>(blanks: &mut Vec<K::Blank>, image: &Image) -> K::SpareImage
+    requires some { 0 < vec_len blanks.old }
+    requires sized { All (λ b. K.fits b (length image.now)) blanks.old.items }
+    ensures serves { K.serves_image result image.now }
+    ensures copy { K.image_of result ≡ image.now }
+    ensures sized { All (λ b. K.fits b (length image.now)) blanks.new.items }
+    ensures len { vec_len blanks.new + 1 ≡ vec_len blanks.old }
+    ensures capacity { vec_capacity blanks.new ≡ vec_capacity blanks.old }
+{
+    let Some(blank) = blanks.pop() else {
+        unreachable!()
+    };
+    K::fill(blank, image)
+}
+
+/// How many entries a list with these debts has to have room for before one more event with a mark.
+fn entries_wanted(held: usize, tickets: usize) -> Option<usize>
+    ensures wanted { IfSome result (λ n. n ≡ held + 2 * tickets + 4) }
+    ensures counted { held + 2 * tickets + 4 < 2 ^ 64 → IsSome result }
+{
+    tickets.checked_mul(2)?.checked_add(held)?.checked_add(4)
+}
+
+impl<K: ListKeeper> Book<K> {
+    /// An empty list of this client's, with room for nothing. It takes no memory.
+    pub fn new(alloc: Global, geometry: Geometry, client: u8) -> Book<K>
+        ensures client { result.client ≡ client }
+        ensures size { result.size ≡ geometry.size }
+        ensures before { result.before ≡ [] }
+        ensures said { result.said ≡ [] }
+        ensures room { result.entries ≡ 0 }
+        ensures passes { result.passes ≡ 0 }
+        ensures places { result.places ≡ 0 }
+        ensures kept { result.kept ≡ 0 }
+    {
+        Book {
+            alloc,
+            geometry,
+            client,
+            said: K::empty(alloc),
+            held: Held::new(alloc),
+            tickets: 0,
+            blanks: Vec::new(alloc),
+            left: None,
+        }
+    }
+
+    /// Frees the memory that the last end of device work left, for which no lock has to be held.
+    pub fn free_left(&mut self)
+        ensures { self.new ≡ self.old }
+    {
+        self.left = None;
+    }
+
+    /// Where its memory comes from.
+    pub fn alloc(&self) -> Global {
+        self.alloc
+    }
+
+    /// Whose list it is.
+    pub fn client(&self) -> u8
+        ensures { result ≡ self.now.client }
+    {
+        self.client
+    }
+
+    /// How many passes the list leaves out.
+    pub fn held_count(&self) -> usize
+        ensures { result ≡ length (held_passes self.now.said) }
+    {
+        self.held.len()
+    }
+
+    /// Of the passes that the list leaves out, the one taken first. All are the client's own.
+    pub fn oldest_held(&self) -> Option<PassNote>
+        ensures first { result ≡ slice_get (held_passes self.now.said) 0 }
+        ensures own { All (λ g. g.client ≡ self.now.client) (held_passes self.now.said) }
+    {
+        self.held.oldest()
+    }
+
+    /// Takes the memory for a mark, for one event, and for all that is owed then. No entry is added. Where memory is
+    /// refused, which is `OutOfMemory`, the list is as before, and some of the room may be there. A list that takes no
+    /// memory for its entries is refused none where nothing else of it has to grow.
+    pub fn reserve_for_event(&mut self) -> Result<(), Refusal>
+        ensures same { SameBook self.old self.new }
+        ensures entries { OnOk result (4 ≤ self.new.entries) }
+        ensures passes { OnOk result (1 ≤ self.new.passes) }
+        ensures copies { OnOk result (2 ≤ self.new.copies) }
+        ensures refused { OnErr result (result ≡ Err Refusal.OutOfMemory) }
+        ensures memory { K.REFUSES ≡ false →
+            NeedNotGrow self.old.passes self.old.places self.old.kept self.old.said → IsOk result }
+    {
+        let Some(entries) = entries_wanted(self.held.len(), self.tickets) else {
+            return Err(Refusal::OutOfMemory);
+        };
+        let Some(passes) = self.tickets.checked_add(1) else {
+            return Err(Refusal::OutOfMemory);
+        };
+        self.said.reserve(entries)?;
+        self.held.reserve(passes)?;
+        let spare = self.blanks.len() - self.tickets;
+        make_blanks::<K>(
+            self.alloc,
+            &self.geometry,
+            &mut self.blanks,
+            2usize.saturating_sub(spare),
+        )?;
+        Ok(())
+    }
+
+    /// A copy of an image, made of a blank.
+    fn copy_of(&mut self, image: &Image) -> K::SpareImage
+        requires size { length image.now ≡ self.old.size }
+        requires room { 0 < self.old.copies }
+        ensures serves { K.serves_image result image.now }
+        ensures copy { K.image_of result ≡ image.now }
+        ensures same { SameBook self.old self.new }
+        ensures entries { self.new.entries ≡ self.old.entries }
+        ensures passes { self.new.passes ≡ self.old.passes }
+        ensures copies { self.new.copies + 1 ≡ self.old.copies }
+    {
+        copied::<K>(&mut self.blanks, image)
+    }
+}
