@@ -9,10 +9,10 @@ use Rattle.bp_trail.specs.Fits.{RowFits}
 use Rattle.bp_trail.specs.Parameters.{Parameters}
 use Rattle.bp_core.specs.Work.{Reads, Writes}
 use Rattle.bp_trace.specs.InRange.{IsInRange}
-use Rattle.bp_words.specs.declared.ending.Ending.{Ending}
-use Rattle.bp_words.specs.declared.words.Order.{Order}
-use Rattle.bp_words.specs.declared.words.Order.TheVariants as order
-use Rattle.bp_words.specs.Words.{Told}
+use Rattle.bp_cli.specs.declared.ending.Ending.{Ending}
+use Rattle.bp_cli.specs.declared.words.Order.{Order}
+use Rattle.bp_cli.specs.declared.words.Order.TheVariants as order
+use Rattle.bp_cli.specs.Words.{Told}
 use Rattle.bp_run.specs.PageFile.{IsNamed}
 use Rattle.bp_run.specs.Scripts.{scripts_of}
 use Rattle.bp_run.specs.Ways.{Ways}

@@ -23,16 +23,16 @@ use Rattle.bp_clients.specs.Runs.{RunAnswers}
 use Rattle.bp_charts.specs.declared.table.Line.{Line}
 use Rattle.bp_charts.specs.Table.{table_text}
 use Rattle.bp_sweep.specs.Dense.{Pages}
-use Rattle.bp_words.specs.Asked.{Asked, Sweep, asked_by, asked_in}
-use Rattle.bp_words.specs.Asked.Asked.{a_run, a_migration, a_sweep, an_explanation}
-use Rattle.bp_words.specs.Command.{bpool_app}
-use Rattle.bp_words.specs.Decision.{AsksForAnswer, AsksForHelp, IsRunnable}
-use Rattle.bp_words.specs.Ending.{is_help}
-use Rattle.bp_words.specs.Words.{Told, TraceAt, from_stdin, at_path, fault_in}
-use Rattle.bp_words.specs.declared.ending.Ending.{Ending}
-use Rattle.bp_words.specs.declared.ending.Ending.TheVariants as ending
-use Rattle.bp_words.specs.declared.words.Order.{Order}
-use Rattle.bp_words.specs.declared.words.Order.TheVariants as order
+use Rattle.bp_cli.specs.Asked.{Asked, Sweep, asked_by, asked_in}
+use Rattle.bp_cli.specs.Asked.Asked.{a_run, a_migration, a_sweep, an_explanation}
+use Rattle.bp_cli.specs.Command.{bpool_app}
+use Rattle.bp_cli.specs.Decision.{AsksForAnswer, AsksForHelp, IsRunnable}
+use Rattle.bp_cli.specs.Ending.{is_help}
+use Rattle.bp_cli.specs.Words.{Told, TraceAt, from_stdin, at_path, fault_in}
+use Rattle.bp_cli.specs.declared.ending.Ending.{Ending}
+use Rattle.bp_cli.specs.declared.ending.Ending.TheVariants as ending
+use Rattle.bp_cli.specs.declared.words.Order.{Order}
+use Rattle.bp_cli.specs.declared.words.Order.TheVariants as order
 use Rattle.bp_run.specs.Opening.{ending_of}
 use Rattle.bp_run.specs.Run.{DoesWords, parameters_for, ports_for}
 use Rattle.bp_run.proofs.Threads.{few_clients as at_most_64}

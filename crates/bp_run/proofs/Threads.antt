@@ -13,10 +13,11 @@ use Rattle.bp_audit.specs.Log.{log_of}
 use Rattle.bp_trace.specs.InRange.{IsInRange, SpeaksForLog}
 use Rattle.bp_trail.specs.declared.entries.Entry.{Entry}
 use Rattle.bp_trail.specs.declared.scripts.Refused.{Refused}
-use Rattle.bp_clients.specs.declared.run.Config.{Config}
+use Rattle.bp_core.specs.declared.config.Config.{Config}
+use Rattle.bp_core.specs.Agreement.{parameters_with}
 use Rattle.bp_clients.specs.Jobs.{EachScriptFits, RowFitsClient, list_of}
 use Rattle.bp_core.specs.Work.{Reads, Writes}
-use Rattle.bp_clients.specs.Runs.{IsRun, run_parameters}
+use Rattle.bp_clients.specs.Runs.{IsRun}
 use Rattle.bp_run.specs.Scripts.{clients_of, rows_of, scripts_for, scripts_of}
 
 no_log : (client : ℕ) (step : Step) → SpeaksForLog client step → 0 < client → log_of step ≡ None
@@ -62,11 +63,11 @@ script_count rows scripts are = ap length are ∙ length-map-range_with_len (λ 
 
 -- a run of some scripts is one of the scripts that they are
 pub run_of : {P : Type 0} (reads : Reads P) (writes : Writes P) (config : Config) (n : ℕ) (scripts : List (List Row)) (ports : List P) (rows : List Row) (trail : List Entry) (said : List (List Entry)) (refused : List Refused) (after : List P)
-    → n ≡ clients_of rows → scripts ≡ scripts_of rows → IsRun reads writes (run_parameters config n) scripts ports trail said refused after
-    → IsRun reads writes (run_parameters config (clients_of rows)) (scripts_of rows) ports trail said refused after
+    → n ≡ clients_of rows → scripts ≡ scripts_of rows → IsRun reads writes (parameters_with config n) scripts ports trail said refused after
+    → IsRun reads writes (parameters_with config (clients_of rows)) (scripts_of rows) ports trail said refused after
 run_of reads writes config n scripts ports rows trail said refused after count are run =
-    subst (λ m. IsRun reads writes (run_parameters config m) (scripts_of rows) ports trail said refused after) count
-    (subst (λ s. IsRun reads writes (run_parameters config n) s ports trail said refused after) are run)
+    subst (λ m. IsRun reads writes (parameters_with config m) (scripts_of rows) ports trail said refused after) count
+    (subst (λ s. IsRun reads writes (parameters_with config n) s ports trail said refused after) are run)
 
 -- the scripts that the rows were split into are those of their clients
 pub record AreScripts (rows : List Row) (n : ℕ) (scripts : List (List Row)) : Type 0 where

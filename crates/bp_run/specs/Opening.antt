@@ -5,8 +5,8 @@ use Rattle.bp_ports.specs.declared.files.OpenFault.{OpenFault}
 use Rattle.bp_ports.specs.declared.files.OpenFault.TheVariants.{Refused, Port}
 use Rattle.bp_ports.specs.declared.migration.MigrateFault.{MigrateFault}
 use Rattle.bp_ports.specs.declared.migration.MigrateFault.TheVariants as migrate_fault
-use Rattle.bp_words.specs.declared.ending.Ending.{Ending}
-use Rattle.bp_words.specs.declared.ending.Ending.TheVariants as ending
+use Rattle.bp_cli.specs.declared.ending.Ending.{Ending}
+use Rattle.bp_cli.specs.declared.ending.Ending.TheVariants as ending
 
 abbrev pub ending_of : OpenFault → Ending
 ending_of (Refused refusal) = ending.PageFileRefused refusal

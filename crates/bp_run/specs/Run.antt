@@ -20,12 +20,12 @@ use Rattle.bp_trace.specs.Totals.{totals_text}
 use Rattle.bp_audit.specs.Totals.{totals_of}
 use Rattle.bp_clients.specs.Runs.{IsRun}
 use Rattle.clap.specs.Words.{Text}
-use Rattle.bp_words.specs.declared.words.Order.{Order}
-use Rattle.bp_words.specs.declared.words.Order.TheVariants as order
+use Rattle.bp_cli.specs.declared.words.Order.{Order}
+use Rattle.bp_cli.specs.declared.words.Order.TheVariants as order
 use Rattle.bp_run.specs.Scripts.{clients_of, scripts_of}
-use Rattle.bp_words.specs.Words.{Told, TraceAt, from_stdin, at_path}
-use Rattle.bp_words.specs.Asked.{Migration, asked_by}
-use Rattle.bp_words.specs.Asked.Asked.{a_run, a_migration, an_explanation}
+use Rattle.bp_cli.specs.Words.{Told, TraceAt, from_stdin, at_path}
+use Rattle.bp_cli.specs.Asked.{Migration, asked_by}
+use Rattle.bp_cli.specs.Asked.Asked.{a_run, a_migration, an_explanation}
 use Rattle.bp_run.specs.PageFile.{IsNamed}
 use Rattle.bp_run.specs.Sweep.{SweepsWords}
 use Rattle.bp_run.specs.Ways.{Ways}

@@ -9,14 +9,14 @@ use Rattle.bp_ports.specs.declared.files.OpenFault.{OpenFault}
 use Rattle.bp_trail.specs.declared.scripts.Row.{Row}
 use Rattle.bp_trace.specs.Script.{Answers, script_of}
 use Rattle.bp_trace.specs.declared.faults.TraceFault.{TraceFault}
-use Rattle.bp_words.specs.Words.{Told, TraceAt, from_stdin, at_path}
-use Rattle.bp_words.specs.Asked.{Asked, Migration, asked_by}
-use Rattle.bp_words.specs.Asked.Asked.{a_run, a_migration, a_sweep, an_explanation}
-use Rattle.bp_words.specs.Decision.{IsDecision}
-use Rattle.bp_words.specs.declared.ending.Ending.{Ending}
-use Rattle.bp_words.specs.declared.ending.Ending.TheVariants as ending
-use Rattle.bp_words.specs.declared.words.Order.{Order}
-use Rattle.bp_words.specs.declared.words.Order.TheVariants as order
+use Rattle.bp_cli.specs.Words.{Told, TraceAt, from_stdin, at_path}
+use Rattle.bp_cli.specs.Asked.{Asked, Migration, asked_by}
+use Rattle.bp_cli.specs.Asked.Asked.{a_run, a_migration, a_sweep, an_explanation}
+use Rattle.bp_cli.specs.Decision.{IsDecision}
+use Rattle.bp_cli.specs.declared.ending.Ending.{Ending}
+use Rattle.bp_cli.specs.declared.ending.Ending.TheVariants as ending
+use Rattle.bp_cli.specs.declared.words.Order.{Order}
+use Rattle.bp_cli.specs.declared.words.Order.TheVariants as order
 use Rattle.bp_run.specs.Opening.{ending_of}
 use Rattle.bp_run.specs.PageFile.{IsOpenFault, memory_named}
 use Rattle.bp_run.specs.Sweep.{StopsSweepOf}

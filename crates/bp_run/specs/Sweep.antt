@@ -12,11 +12,11 @@ use Rattle.bp_sweep.specs.Sweeping.{AreCells, SweepRefused, plans_of}
 use Rattle.bp_sweep.specs.declared.cells.CellFault.{CellFault}
 use Rattle.bp_sweep.specs.declared.cells.Plan.{Plan}
 use Rattle.bp_sweep.specs.declared.faults.ReferenceFault.{ReferenceFault}
-use Rattle.bp_words.specs.Asked.{Sweep, asked_by}
-use Rattle.bp_words.specs.Asked.Asked.{a_sweep}
-use Rattle.bp_words.specs.Words.{TraceAt, from_stdin, at_path}
-use Rattle.bp_words.specs.declared.ending.Ending.{Ending}
-use Rattle.bp_words.specs.declared.ending.Ending.TheVariants as ending
+use Rattle.bp_cli.specs.Asked.{Sweep, asked_by}
+use Rattle.bp_cli.specs.Asked.Asked.{a_sweep}
+use Rattle.bp_cli.specs.Words.{TraceAt, from_stdin, at_path}
+use Rattle.bp_cli.specs.declared.ending.Ending.{Ending}
+use Rattle.bp_cli.specs.declared.ending.Ending.TheVariants as ending
 use Rattle.bp_run.specs.Drawing.{FailsToDraw, IsDrawn}
 use Rattle.bp_run.specs.Ways.{Ways}
 
@@ -74,7 +74,7 @@ pub record SweepsWords {F P T : Type 0} (ways : Ways F P T) (bytes_of : T → Op
 -- ---- why there is no table
 
 abbrev pub no_references : ReferenceFault → Ending
-no_references why = ending.ReferenceRefused why.line why.refusal
+no_references fault = ending.ReferenceRefused fault.line fault.why
 
 -- no references can be read: the bytes have this fault, where they are known
 pub record HasNoReferences (column : Option ℕ) (bytes : Option (List ℕ))

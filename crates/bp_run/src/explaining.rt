@@ -2,7 +2,7 @@
 ghost use Rattle.std.specs.Prelude.{◌≡◌, ◌++◌, ◌∷◌, [], IfErr, OnOk};
 ghost use Rattle.std.specs.Io.KnownBytes.{Appends};
 
-use bp_words::Ending;
+use bp_cli::Ending;
 use std::io::Write;
 
 /// Writes the text as a line.

@@ -2,22 +2,23 @@
 ghost use Rattle.std.specs.Prelude.{◌≡◌, ◌≢◌, All, List, IfErr, IfOk, vec_len};
 ghost use Rattle.bp_core.specs.Outcomes.{IsFit};
 ghost use Rattle.bp_clients.specs.Jobs.{lists};
-ghost use Rattle.bp_clients.specs.Runs.{IsRun, run_parameters};
+ghost use Rattle.bp_clients.specs.Runs.{IsRun};
+ghost use Rattle.bp_core.specs.Agreement.{parameters_with};
 ghost use Rattle.bp_trace.specs.InRange.{IsInRange};
-ghost use Rattle.bp_words.specs.Decision.{IsRunnable};
+ghost use Rattle.bp_cli.specs.Decision.{IsRunnable};
 ghost use Rattle.bp_run.specs.Run.{ReportsFree, parameters_for};
 ghost use Rattle.bp_run.specs.Scripts.{clients_of, scripts_of};
 ghost use Rattle.bp_run.specs.Stops.{NotReported};
-ghost use Rattle.bp_words.specs.Words.{told_of};
+ghost use Rattle.bp_cli.specs.Words.{told_of};
 
 use crate::run::{print_run, room_for};
 use crate::scripts::{client_count, split};
+use bp_cli::{Ending, Order, RunWords};
 use bp_clients::{Config, Outcome, run_clients};
 use bp_core::Row;
 use bp_page::Geometry;
 use bp_ports::Port;
 use bp_replacer::Settings;
-use bp_words::{Ending, Order, RunWords};
 use std::alloc::Global;
 use std::io::Write;
 use std::marker::{Send, Sync};
@@ -27,7 +28,7 @@ use std::thread::Threads;
 /// What the pool of a run in free order is made with.
 fn config_of(run: &RunWords<'_>, geometry: Geometry, rows: &[Row]) -> Config
     requires runnable { IsRunnable (told_of run.now) }
-    ensures parameters { run_parameters result (clients_of rows.now) ≡ parameters_for Order.Free
+    ensures parameters { parameters_with result (clients_of rows.now) ≡ parameters_for Order.Free
         (told_of run.now) geometry rows.now }
     ensures geometry { result.geometry ≡ geometry }
 {
@@ -51,9 +52,9 @@ fn run_threads<P: Port + Send, R: Threads + Wait + Sync>(
     requires ports { vec_len ports ≡ clients_of rows.items }
     requires alike { All (λ p. P.geometry_of p ≡ config.geometry) ports.items }
     requires fits { All (IsInRange config.geometry) rows.items }
-    requires fit { IsFit (run_parameters config (clients_of rows.items)) }
+    requires fit { IsFit (parameters_with config (clients_of rows.items)) }
     ensures run { IfOk result (λ run. (after : List P) × IsRun P.read_gives P.write_gives
-        (run_parameters config (clients_of rows.items)) (scripts_of rows.items) ports.items
+        (parameters_with config (clients_of rows.items)) (scripts_of rows.items) ports.items
         run.trail.items (lists run.said.items) run.refused.items after) }
     ensures fault { IfErr result (NotReported Order.Free) }
 {

@@ -1,15 +1,15 @@
 //! A page file of version 1 that is written anew in version 2.
 ghost use Rattle.std.specs.Prelude.{◌≡◌, IfErr, false};
-ghost use Rattle.bp_words.specs.Asked.{migration_of};
-ghost use Rattle.bp_words.specs.Decision.{IsMigratable};
+ghost use Rattle.bp_cli.specs.Asked.{migration_of};
+ghost use Rattle.bp_cli.specs.Decision.{IsMigratable};
 ghost use Rattle.bp_run.specs.Opening.{ending_of_fault};
 ghost use Rattle.bp_run.specs.Stops.{StopsMigration};
 
 use crate::file_ids::FileId;
 use crate::meter::{Meter, clear_line};
+use bp_cli::{Ending, Line, MigrationWords};
 use bp_page::{Format, Geometry, Refusal};
 use bp_ports::{MigrateFault, Progress, Untold, geometry_of_file, migrate_told};
-use bp_words::{Ending, Line, MigrationWords};
 use std::alloc::Global;
 use std::fs;
 use std::fs::{File, OpenFile};

@@ -3,8 +3,8 @@ ghost use Rattle.std.specs.Prelude.{◌≡◌, ◌≢◌, false, true, IfErr, If
 ghost use Rattle.std.specs.Io.KnownBytes.{Appends};
 ghost use Rattle.bp_charts.specs.Table.{table_text};
 ghost use Rattle.bp_sweep.specs.Sweeping.{AreCells};
-ghost use Rattle.bp_words.specs.Asked.{IsColumn, SweepsInLimits, sweep_of};
-ghost use Rattle.bp_words.specs.Words.{trace_told};
+ghost use Rattle.bp_cli.specs.Asked.{IsColumn, SweepsInLimits, sweep_of};
+ghost use Rattle.bp_cli.specs.Words.{trace_told};
 ghost use Rattle.bp_run.specs.Drawing.{IsDrawn};
 ghost use Rattle.bp_run.specs.Sweep.{AreReferencesOf, AreTaken, HasNoReferences, NotCounted, NotShown};
 ghost use Rattle.bp_run.specs.Sweep.{NotTaken, NotWritten, Shows, StopsSweep, Sweeps};
@@ -14,12 +14,13 @@ use crate::drawing::picture_of;
 use crate::meter::{SweepMeter, clear_line};
 use crate::opening::Ports;
 use bp_charts::{Line, write_table};
+use bp_cli::{Ending, SweepWords, TraceSource};
 use bp_page::Refusal;
 use bp_sweep::{
     Progress, ReferenceFault, References, Untold, count_cells, plans_of, read_column,
     read_references,
 };
-use bp_words::{Ending, SweepWords, TraceSource};
+use bp_trace::InputFault;
 use std::alloc::Global;
 use std::io::{BufReader, Read, Write};
 use std::sync::Wait;
@@ -31,7 +32,7 @@ fn no_references(fault: ReferenceFault) -> Ending
 {
     Ending::ReferenceRefused {
         line: fault.line,
-        refusal: fault.refusal,
+        why: fault.why,
     }
 }
 
@@ -41,7 +42,7 @@ fn references_in_lines<I: Read>(alloc: Global, reader: &mut I) -> Result<Referen
     ensures fault { IfErr result (HasNoReferences None (I.remaining reader.old)) }
 {
     let Ok(mut lines) = BufReader::new(alloc, reader) else {
-        return Err(no_references(ReferenceFault::new(0, Refusal::OutOfMemory)));
+        return Err(no_references(ReferenceFault::new(0, InputFault::OutOfMemory)));
     };
     match read_references(alloc, &mut lines) {
         Ok(references) => Ok(references),

@@ -1,8 +1,8 @@
 -- One number after the other comes in.
 use Rattle.std.proofs.Common.{◌≡◌, refl, sym, ◌∙◌, ap, subst, ℕ, ◌+◌, ◌<◌, ◌≤◌, arith, cond, nat_eq, List, [], ◌∷◌, ◌++◌, length, length-append, append-nil, map, All, Some, None, Ok, Err, ◌⊎◌, inl, inr, HashMap, hash_map_len}
 use Rattle.std.specs.HashMap.{get}
-use Rattle.bp_page.specs.declared.refusals.Refusal.{Refusal}
-use Rattle.bp_page.specs.declared.refusals.Refusal.TheVariants as refusal
+use Rattle.bp_trace.specs.declared.faults.InputFault.{InputFault}
+use Rattle.bp_trace.specs.declared.faults.InputFault.TheVariants as input_fault
 use Rattle.bp_sweep.specs.declared.dense.Gathered.{Gathered}
 use Rattle.bp_sweep.specs.declared.faults.ReferenceFault.{ReferenceFault}
 use Rattle.bp_sweep.specs.Dense.{AreDense, ArePages, ComesNext, IsIndex, PlacesNumber, most_numbers, page_of}
@@ -40,22 +40,22 @@ pub holds-count : (g : Gathered) (numbers seen : List ℕ) → Holds g numbers s
 holds-count g numbers seen holds = dense-count numbers g.pages.items seen holds.dense
 
 -- a number has no page
-pub place-fails : {S : Type 0} (line n : ℕ) (numbers seen : List ℕ) (said : Said) (why : Refusal) (places : HashMap ℕ ℕ S) (fault : ReferenceFault) → length numbers < most_references → said ≡ Ok n → PlacesNumber n seen (Err why) places
-    → fault.line ≡ line → fault.refusal ≡ why → IsOutside fault ⊎ ((fault.line ≡ line) × IsFaulty (length numbers) seen said fault.refusal)
-place-fails line n numbers seen said refusal.BadGeometry places fault few is placed at because =
-    inr (at, subst (λ s. IsFaulty (length numbers) seen s fault.refusal) (sym is) (subst (λ r. IsFaulty (length numbers) seen (Ok n) r) (sym because) (too_many few placed.0 placed.1)))
-place-fails line n numbers seen said refusal.OutOfMemory places fault few is placed at because = inl (inr because)
+pub place-fails : {S : Type 0} (line n : ℕ) (numbers seen : List ℕ) (said : Said) (why : InputFault) (places : HashMap ℕ ℕ S) (fault : ReferenceFault) → length numbers < most_references → said ≡ Ok n → PlacesNumber n seen (Err why) places
+    → fault.line ≡ line → fault.why ≡ why → IsOutside fault ⊎ ((fault.line ≡ line) × IsFaulty (length numbers) seen said fault.why)
+place-fails line n numbers seen said input_fault.TooManyPages places fault few is placed at because =
+    inr (at, subst (λ s. IsFaulty (length numbers) seen s fault.why) (sym is) (subst (λ r. IsFaulty (length numbers) seen (Ok n) r) (sym because) (too_many few placed.0 placed.1)))
+place-fails line n numbers seen said input_fault.OutOfMemory places fault few is placed at because = inl (inr because)
 place-fails line n numbers seen said _ places fault few is placed at because = absurd placed
 
 -- a line says no number
-pub says-none : (line : ℕ) (numbers seen : List ℕ) (said : Said) (why : Refusal) (fault : ReferenceFault) → length numbers < most_references → said ≡ Err why → fault.line ≡ line → fault.refusal ≡ why
-    → IsOutside fault ⊎ ((fault.line ≡ line) × IsFaulty (length numbers) seen said fault.refusal)
+pub says-none : (line : ℕ) (numbers seen : List ℕ) (said : Said) (why : InputFault) (fault : ReferenceFault) → length numbers < most_references → said ≡ Err why → fault.line ≡ line → fault.why ≡ why
+    → IsOutside fault ⊎ ((fault.line ≡ line) × IsFaulty (length numbers) seen said fault.why)
 says-none line numbers seen said why fault few is at because =
-    inr (at, subst (λ s. IsFaulty (length numbers) seen s fault.refusal) (sym is) (subst (λ r. IsFaulty (length numbers) seen (Err why) r) (sym because) (no_number few)))
+    inr (at, subst (λ s. IsFaulty (length numbers) seen s fault.why) (sym is) (subst (λ r. IsFaulty (length numbers) seen (Err why) r) (sym because) (no_number few)))
 
 -- a line after the most references
-pub says-too-much : (line : ℕ) (numbers seen : List ℕ) (said : Said) (fault : ReferenceFault) → most_references ≤ length numbers → fault.line ≡ line → fault.refusal ≡ refusal.TooLong
-    → IsOutside fault ⊎ ((fault.line ≡ line) × IsFaulty (length numbers) seen said fault.refusal)
+pub says-too-much : (line : ℕ) (numbers seen : List ℕ) (said : Said) (fault : ReferenceFault) → most_references ≤ length numbers → fault.line ≡ line → fault.why ≡ input_fault.TooLong
+    → IsOutside fault ⊎ ((fault.line ≡ line) × IsFaulty (length numbers) seen said fault.why)
 says-too-much line numbers seen said fault many at because = inr (at, subst (λ r. IsFaulty (length numbers) seen said r) (sym because) (too_long many))
 
 -- a number more

@@ -5,7 +5,7 @@ use Rattle.std.specs.List.{list_all}
 use Rattle.csv.specs.Reading.{ReadRecord, default_config, records, strip_bom}
 use Rattle.csv.specs.Records.{field_at}
 use Rattle.csv.specs.declared.reader.Reader.{Reader}
-use Rattle.bp_page.specs.declared.refusals.Refusal.TheVariants.{BadShape}
+use Rattle.bp_trace.specs.declared.faults.InputFault.TheVariants.{BadShape}
 use Rattle.bp_sweep.specs.declared.faults.ReferenceFault.{ReferenceFault}
 use Rattle.bp_sweep.specs.Dense.{Pages}
 use Rattle.bp_sweep.specs.References.{Answers, Said, text_said}

@@ -1,8 +1,8 @@
 -- Numbers made dense: each has a page, and pages are numbered from 0 as their numbers come first.
 use Rattle.std.specs.Prelude.{◌≡◌, ℕ, ◌<◌, ◌≤◌, ◌==◌, if◌then◌else◌, List, [], ◌∷◌, ◌++◌, length, All, Option, Some, None, Result, Ok, Err, nat_eq}
 use Rattle.std.specs.HashMap.{HashMap, get, hash_map_len}
-use Rattle.bp_page.specs.declared.refusals.Refusal.{Refusal}
-use Rattle.bp_page.specs.declared.refusals.Refusal.TheVariants as refusal
+use Rattle.bp_trace.specs.declared.faults.InputFault.{InputFault}
+use Rattle.bp_trace.specs.declared.faults.InputFault.TheVariants as input_fault
 
 -- the most different numbers
 abbrev pub most_numbers : ℕ
@@ -42,10 +42,10 @@ pub record IsIndex {S : Type 0} (places : HashMap ℕ ℕ S) (seen : List ℕ) :
   pub few : length seen ≤ most_numbers
 
 -- the page of a number that comes next and the map with it, or why it has none
-abbrev pub PlacesNumber : {S : Type 0} → ℕ → List ℕ → Result ℕ Refusal → HashMap ℕ ℕ S → Type 0
+abbrev pub PlacesNumber : {S : Type 0} → ℕ → List ℕ → Result ℕ InputFault → HashMap ℕ ℕ S → Type 0
 PlacesNumber n seen (Ok page) places =
     (newer : List ℕ) × ComesNext n seen page newer × IsIndex places newer
-PlacesNumber n seen (Err refusal.BadGeometry) places =
+PlacesNumber n seen (Err input_fault.TooManyPages) places =
     (page_of n seen ≡ None) × (most_numbers ≤ length seen)
-PlacesNumber n seen (Err refusal.OutOfMemory) places = Unit {0}
+PlacesNumber n seen (Err input_fault.OutOfMemory) places = Unit {0}
 PlacesNumber n seen (Err _) places = ⊥

@@ -22,7 +22,7 @@ abbrev pub Gathers : List ℕ → List ℕ → ℕ → Said → Result (Unit {0}
 Gathers numbers seen line said (Ok done) new =
     (n : ℕ) × (newer : List ℕ) × (said ≡ Ok n) × Holds new (numbers ++ n ∷ []) newer
 Gathers numbers seen line said (Err fault) new =
-    IsOutside fault ⊎ ((fault.line ≡ line) × IsFaulty (length numbers) seen said fault.refusal)
+    IsOutside fault ⊎ ((fault.line ≡ line) × IsFaulty (length numbers) seen said fault.why)
 
 abbrev pub pages_gathered : Gathered → Pages
 pages_gathered g = record { pages = g.pages.items; different = hash_map_len g.places }

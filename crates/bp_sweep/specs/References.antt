@@ -1,7 +1,7 @@
 -- The references of a list, of which each line or record says a number, or why it says none.
 use Rattle.std.specs.Prelude.{◌≡◌, ◌⊎◌, ℕ, ◌+◌, ◌<◌, ◌≤◌, List, ◌∷◌, ◌++◌, map, length, ok_or, None, Result, Ok, Err}
-use Rattle.bp_page.specs.declared.refusals.Refusal.{Refusal}
-use Rattle.bp_page.specs.declared.refusals.Refusal.TheVariants.{BadGeometry, BadNumber, OutOfMemory, ReadFault, TooLong}
+use Rattle.bp_trace.specs.declared.faults.InputFault.{InputFault}
+use Rattle.bp_trace.specs.declared.faults.InputFault.TheVariants.{BadNumber, OutOfMemory, ReadFault, TooLong, TooManyPages}
 use Rattle.bp_trace.specs.Numbers.{number_in}
 use Rattle.bp_sweep.specs.declared.faults.ReferenceFault.{ReferenceFault}
 use Rattle.bp_sweep.specs.Dense.{AreDense, Pages, most_numbers, page_of}
@@ -12,7 +12,7 @@ most_references = 268435456
 
 -- what a line or a record says
 abbrev pub Said : Type 0
-Said = Result ℕ Refusal
+Said = Result ℕ InputFault
 
 -- what a text says that is to be a number
 abbrev pub text_said : List ℕ → Said
@@ -20,14 +20,14 @@ text_said text = ok_or (number_in text) BadNumber
 
 -- the reader failed, or memory was refused
 abbrev pub IsOutside : ReferenceFault → Type 0
-IsOutside fault = (fault.refusal ≡ ReadFault) ⊎ (fault.refusal ≡ OutOfMemory)
+IsOutside fault = (fault.why ≡ ReadFault) ⊎ (fault.why ≡ OutOfMemory)
 
 -- why what is said is no reference, where so many came before it, of these different numbers
-pub data IsFaulty (count : ℕ) (seen : List ℕ) : Said → Refusal → Type 0 where
+pub data IsFaulty (count : ℕ) (seen : List ℕ) : Said → InputFault → Type 0 where
   too_long : {said : Said} → most_references ≤ count → IsFaulty count seen said TooLong
-  no_number : {why : Refusal} → count < most_references → IsFaulty count seen (Err why) why
+  no_number : {why : InputFault} → count < most_references → IsFaulty count seen (Err why) why
   too_many : {n : ℕ} → count < most_references → page_of n seen ≡ None → most_numbers ≤ length seen
-      → IsFaulty count seen (Ok n) BadGeometry
+      → IsFaulty count seen (Ok n) TooManyPages
 
 -- all of them say numbers, and these are the references
 pub record AreOf (said : List Said) (references : Pages) : Type 0 where
@@ -52,7 +52,7 @@ pub record StopsAt (line : ℕ) (said : List Said) (fault : ReferenceFault) : Ty
   pub few : length numbers ≤ most_references
   pub few_different : length seen ≤ most_numbers
   pub line_is : fault.line ≡ line + length numbers
-  pub why : IsFaulty (length numbers) seen found fault.refusal
+  pub why : IsFaulty (length numbers) seen found fault.why
 
 -- what reading all of them answers
 abbrev pub Answers : ℕ → List Said → Result Pages ReferenceFault → Type 0

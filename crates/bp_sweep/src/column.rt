@@ -10,7 +10,7 @@ ghost use Rattle.bp_sweep.specs.References.{IsOutside};
 use crate::dense::{Gathered, MAX_REFERENCES, References};
 use crate::faults::ReferenceFault;
 use crate::retried::Retried;
-use bp_page::Refusal;
+use bp_trace::InputFault;
 use bp_trace::decimal::parse_number;
 use csv::{ByteRecord, ErrorKind, Reader, ReaderBuilder};
 use std::alloc::Global;
@@ -27,12 +27,12 @@ fn field_in(row: &ByteRecord, column: u32) -> Option<&[u8]>
 }
 
 /// What a record says in a column, from 1: a number, or why it says none.
-fn record_said(row: &ByteRecord, column: u32) -> Result<u64, Refusal>
+fn record_said(row: &ByteRecord, column: u32) -> Result<u64, InputFault>
     ensures { result ≡ record_said column (fields_of row.now) }
 {
     match field_in(row, column) {
-        None => Err(Refusal::BadShape),
-        Some(field) => parse_number(field).ok_or(Refusal::BadNumber),
+        None => Err(InputFault::BadShape),
+        Some(field) => parse_number(field).ok_or(InputFault::BadNumber),
     }
 }
 
@@ -71,7 +71,7 @@ fn next_record<R: Read>(
     row: &mut ByteRecord,
     column: u32,
     line: u64,
-) -> Result<Option<Result<u64, Refusal>>, ReferenceFault>
+) -> Result<Option<Result<u64, InputFault>>, ReferenceFault>
     ensures taken { IfOk result (λ found. reader_trim records.old ≡ trim.None → Ready records.old →
         TakesRecord R.remaining records.old records.new column (fields_of row.new) found) }
     ensures ready { reader_trim records.old ≡ trim.None → IfOk result
@@ -82,8 +82,8 @@ fn next_record<R: Read>(
         Ok(false) => Ok(None),
         Ok(true) => Ok(Some(record_said(row, column))),
         Err(error) => match error.into_kind() {
-            ErrorKind::OutOfMemory => Err(ReferenceFault::new(line, Refusal::OutOfMemory)),
-            _ => Err(ReferenceFault::new(line, Refusal::ReadFault)),
+            ErrorKind::OutOfMemory => Err(ReferenceFault::new(line, InputFault::OutOfMemory)),
+            _ => Err(ReferenceFault::new(line, InputFault::ReadFault)),
         },
     }
 }
@@ -122,7 +122,7 @@ fn read_records<R: Read + Drop>(
 ///
 /// A record without such a field is `BadShape`, and one whose field is no number `BadNumber`, where it is not a header;
 /// so is each `BadShape` in column 0, which no record has. The record with the 1,048,577th different number is
-/// `BadGeometry`, and the one after 268,435,456 references `TooLong`, whatever it says. A fault of the reader is
+/// `TooManyPages`, and the one after 268,435,456 references `TooLong`, whatever it says. A fault of the reader is
 /// `ReadFault`, and refused memory `OutOfMemory`. A fault tells the number of its record, from 1, the header among
 /// them. A read that was interrupted is made again.
 pub fn read_column<R: Read + Drop>(

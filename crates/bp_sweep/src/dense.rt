@@ -4,7 +4,7 @@ ghost use Rattle.bp_sweep.specs.Dense.{IsIndex, PlacesNumber};
 ghost use Rattle.bp_sweep.specs.Gathering.{Gathers, Holds, IsGathered, pages_gathered};
 
 use crate::faults::ReferenceFault;
-use bp_page::Refusal;
+use bp_trace::InputFault;
 use std::alloc::Global;
 use std::collections::HashMap;
 use std::marker::Model;
@@ -52,7 +52,7 @@ impl References {
 }
 
 /// The page of a number, which gets the next one where it did not come before.
-fn place_number(places: &mut HashMap<u64, u32>, number: u64) -> Result<u32, Refusal>
+fn place_number(places: &mut HashMap<u64, u32>, number: u64) -> Result<u32, InputFault>
     ensures { (seen : List ℕ) → IsIndex places.old seen →
         PlacesNumber number seen result places.new }
 {
@@ -61,11 +61,11 @@ fn place_number(places: &mut HashMap<u64, u32>, number: u64) -> Result<u32, Refu
     }
     let page = places.len();
     if page >= MAX_NUMBERS {
-        return Err(Refusal::BadGeometry);
+        return Err(InputFault::TooManyPages);
     }
     match places.insert(number, page as u32) {
         Ok(_) => Ok(page as u32),
-        Err(_) => Err(Refusal::OutOfMemory),
+        Err(_) => Err(InputFault::OutOfMemory),
     }
 }
 
@@ -91,13 +91,13 @@ impl Gathered {
     pub(crate) fn add(
         &mut self,
         line: u64,
-        said: Result<u64, Refusal>,
+        said: Result<u64, InputFault>,
     ) -> Result<(), ReferenceFault>
         ensures { (numbers seen : List ℕ) → Holds self.old numbers seen →
             Gathers numbers seen line said result self.new }
     {
         if self.pages.len() >= MAX_REFERENCES {
-            return Err(ReferenceFault::new(line, Refusal::TooLong));
+            return Err(ReferenceFault::new(line, InputFault::TooLong));
         }
         let number = match said {
             Ok(number) => number,
@@ -109,7 +109,7 @@ impl Gathered {
         };
         match self.pages.push(page) {
             Ok(()) => Ok(()),
-            Err(_) => Err(ReferenceFault::new(line, Refusal::OutOfMemory)),
+            Err(_) => Err(ReferenceFault::new(line, InputFault::OutOfMemory)),
         }
     }
 

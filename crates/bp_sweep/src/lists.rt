@@ -6,7 +6,7 @@ ghost use Rattle.bp_sweep.specs.References.{IsOutside};
 
 use crate::dense::{Gathered, MAX_REFERENCES, References};
 use crate::faults::ReferenceFault;
-use bp_page::Refusal;
+use bp_trace::InputFault;
 use bp_trace::decimal::parse_number;
 use std::alloc::Global;
 use std::io::{BufRead, ErrorKind};
@@ -27,7 +27,7 @@ fn next_line<I: BufRead>(
     reader: &mut I,
     text: &mut Vec<u8>,
     line: u64,
-) -> Result<Option<Result<u64, Refusal>>, ReferenceFault>
+) -> Result<Option<Result<u64, InputFault>>, ReferenceFault>
     ensures found { IfSome (I.remaining reader.old) (λ left. FindsLine left result) }
     ensures rest { IfOk result
         (λ _. DropsThrough (I.remaining reader.old) (I.remaining reader.new) 10) }
@@ -38,12 +38,12 @@ fn next_line<I: BufRead>(
         Ok(0) => Ok(None),
         Ok(_) => {
             let number = parse_number(without_last(without_last(text, b'\n'), b'\r'));
-            Ok(Some(number.ok_or(Refusal::BadNumber)))
+            Ok(Some(number.ok_or(InputFault::BadNumber)))
         }
         Err(error) if error.kind() == ErrorKind::OutOfMemory => {
-            Err(ReferenceFault::new(line, Refusal::OutOfMemory))
+            Err(ReferenceFault::new(line, InputFault::OutOfMemory))
         }
-        Err(_) => Err(ReferenceFault::new(line, Refusal::ReadFault)),
+        Err(_) => Err(ReferenceFault::new(line, InputFault::ReadFault)),
     }
 }
 
@@ -51,7 +51,7 @@ fn next_line<I: BufRead>(
 /// or with the input. It is read line by line, and takes four bytes of memory a reference and a map of the different
 /// numbers. A list without lines has no references.
 ///
-/// The first line that is no number is `BadNumber`, the one with the 1,048,577th different number `BadGeometry`, and
+/// The first line that is no number is `BadNumber`, the one with the 1,048,577th different number `TooManyPages`, and
 /// the one after 268,435,456 references `TooLong`, whatever it says. A fault of the reader is `ReadFault`, and refused
 /// memory `OutOfMemory`. After each of them it is not told how much more of the list the reader has taken.
 pub fn read_references<I: BufRead>(

@@ -4,8 +4,8 @@ use Rattle.std.specs.Prelude.{All, ◌^◌}
 use Rattle.std.proofs.lemmas.Bool.{ltb-true, ltb-false, leb-true, eqb-true}
 use Rattle.std.proofs.lemmas.List.Elements.{All-cons}
 use Rattle.bp_page.specs.declared.limits.Geometry.{Geometry}
-use Rattle.bp_page.specs.declared.refusals.Refusal.{Refusal}
-use Rattle.bp_page.specs.declared.refusals.Refusal.TheVariants as refusal
+use Rattle.bp_trace.specs.declared.faults.InputFault.{InputFault}
+use Rattle.bp_trace.specs.declared.faults.InputFault.TheVariants as input_fault
 use Rattle.bp_trail.specs.declared.scripts.Row.{Row}
 use Rattle.bp_trail.specs.declared.scripts.Step.{Step}
 use Rattle.bp_trail.specs.declared.scripts.Step.TheVariants as step
@@ -37,7 +37,7 @@ page-below : (g : Geometry) (text : List ℕ) (page : ℕ) → page_in g text �
 unfolding page_in
 page-below g text page is = let found = goes (number_wanted text) (page_below g.pages) page is in below found.value (nat_lt found.value g.pages) refl found.then
   where
-    below : (n : ℕ) (b : Bool) → nat_lt n g.pages ≡ b → cond {A = Result ℕ Refusal} b (Ok n) (Err refusal.OutOfPage) ≡ Ok page → page < g.pages
+    below : (n : ℕ) (b : Bool) → nat_lt n g.pages ≡ b → cond {A = Result ℕ InputFault} b (Ok n) (Err input_fault.OutOfPage) ≡ Ok page → page < g.pages
     below n true is same = let e : n ≡ page = cc in subst (λ m. m < g.pages) e (ltb-true n g.pages is)
     below n false is same = cc
 
@@ -45,11 +45,11 @@ number-said : (text : List ℕ) (n : ℕ) → number_wanted text ≡ Ok n → n 
 unfolding number_in
 number-said text n is = go (nat_le 1 (length text) && nat_le (length text) 19) (digits_in text) is
   where
-    within : (m : ℕ) (b : Bool) → nat_le m (2 ^ 62) ≡ b → or_refuse refusal.BadNumber (cond {A = Option ℕ} b (Some m) None) ≡ Ok n → n ≤ 2 ^ 62
+    within : (m : ℕ) (b : Bool) → nat_le m (2 ^ 62) ≡ b → or_refuse input_fault.BadNumber (cond {A = Option ℕ} b (Some m) None) ≡ Ok n → n ≤ 2 ^ 62
     within m true le same = let e : m ≡ n = cc in subst (λ k. k ≤ 2 ^ 62) e (leb-true m (2 ^ 62) le)
     within m false le same = cc
 
-    go : (b : Bool) (o : Option ℕ) → or_refuse refusal.BadNumber (cond {A = Option ℕ} b (at_most (2 ^ 62) o) None) ≡ Ok n → n ≤ 2 ^ 62
+    go : (b : Bool) (o : Option ℕ) → or_refuse input_fault.BadNumber (cond {A = Option ℕ} b (at_most (2 ^ 62) o) None) ≡ Ok n → n ≤ 2 ^ 62
     go true (Some m) same = within m (nat_le m (2 ^ 62)) refl same
     go true None same = cc
     go false o same = cc
@@ -76,7 +76,7 @@ placed : (g : Geometry) (page offset : ℕ) (bytes : List ℕ) (lsn : ℕ) (s : 
 placed g page offset bytes lsn s said is = go (nat_lt page g.pages) (nat_le (offset + length bytes) g.size) refl refl is
   where
     go : (a b : Bool) → nat_lt page g.pages ≡ a → nat_le (offset + length bytes) g.size ≡ b
-        → cond {A = Result Step Refusal} (a && b) (Ok (step.Write page offset bytes lsn)) (Err refusal.OutOfPage) ≡ Ok s → IsPlaced g s
+        → cond {A = Result Step InputFault} (a && b) (Ok (step.Write page offset bytes lsn)) (Err input_fault.OutOfPage) ≡ Ok s → IsPlaced g s
     go true true of_file of_page same = record {
       page = page;
       offset = offset;
@@ -99,13 +99,13 @@ written g t s is =
     let bytes = goes (bytes_wanted t.bytes) (λ bytes. place_in g page.value offset.value bytes lsn.value) s lsn.then in
     placed g page.value offset.value bytes.value lsn.value s (bytes-said t.bytes bytes.value bytes.was, number-said t.lsn lsn.value lsn.was) bytes.then
   where
-    after_lsn : ℕ → ℕ → ℕ → Result Step Refusal
+    after_lsn : ℕ → ℕ → ℕ → Result Step InputFault
     after_lsn page offset lsn = bytes_wanted t.bytes >>= (λ bytes. place_in g page offset bytes lsn)
 
-    after_offset : ℕ → ℕ → Result Step Refusal
+    after_offset : ℕ → ℕ → Result Step InputFault
     after_offset page offset = number_wanted t.lsn >>= (λ lsn. after_lsn page offset lsn)
 
-    after_page : ℕ → Result Step Refusal
+    after_page : ℕ → Result Step InputFault
     after_page page = number_wanted t.offset >>= (λ offset. after_offset page offset)
 
 -- what is asked of a step of a client, by a pool of these parameters
@@ -128,14 +128,14 @@ module _ (g : Geometry) (c : Parameters) (pages : c.pages ≡ g.pages) (size : c
   of_write : IsPlaced g s → Suits c client s
   of_write p = subst (Suits c client) p.is ((subst (λ n. p.page < n) (sym pages) p.of_file, subst (λ n. p.offset + length p.bytes ≤ n) (sym size) p.of_page), tt, p.said)
 
-  first_of_log : (own : Unit {0}) → refused_if (not (client == 0)) refusal.BadClient ≡ Ok own → client ≡ 0
+  first_of_log : (own : Unit {0}) → refused_if (not (client == 0)) input_fault.BadClient ≡ Ok own → client ≡ 0
   first_of_log own is = go (client == 0) refl is
     where
-      go : (b : Bool) → (client == 0) ≡ b → refused_if (not b) refusal.BadClient ≡ Ok own → client ≡ 0
+      go : (b : Bool) → (client == 0) ≡ b → refused_if (not b) input_fault.BadClient ≡ Ok own → client ≡ 0
       go true e same = eqb-true client 0 e
       go false e same = cc
 
-  pub step-suits : (o : Op) (own : Unit {0}) → refused_if (is_log o && not (client == 0)) refusal.BadClient ≡ Ok own → step_in g o t ≡ Ok s → Suits c client s
+  pub step-suits : (o : Op) (own : Unit {0}) → refused_if (is_log o && not (client == 0)) input_fault.BadClient ≡ Ok own → step_in g o t ≡ Ok s → Suits c client s
   unfolding step_in
   step-suits op.Fix own first is = of_page step.Fix (λ page h. (h, tt, tt)) is
   step-suits op.Unfix own first is = of_page step.Unfix (λ page h. (h, tt, tt)) is
@@ -150,7 +150,7 @@ client-below : (o : Option ℕ) (n : ℕ) → client_of o ≡ Ok n → n ≤ mos
 client-below None n is = cc
 client-below (Some m) n is = go (nat_le m most_client) refl is
   where
-    go : (b : Bool) → nat_le m most_client ≡ b → cond {A = Result ℕ Refusal} b (Ok m) (Err refusal.BadClient) ≡ Ok n → n ≤ most_client
+    go : (b : Bool) → nat_le m most_client ≡ b → cond {A = Result ℕ InputFault} b (Ok m) (Err input_fault.BadClient) ≡ Ok n → n ≤ most_client
     go true le same = let e : m ≡ n = cc in subst (λ k. k ≤ most_client) e (leb-true m most_client le)
     go false le same = cc
 
@@ -163,8 +163,8 @@ unfolding texts_row
 texts-row g n t row is =
     let client = goes (client_in t.client) (λ client. after_client client) row is in
     let o = goes (op_in t.op) (λ o. after_op client.value o) row client.then in
-    let own = goes (refused_if (is_log o.value && not (client.value == 0)) refusal.BadClient) (λ own. after_own client.value o.value) row o.then in
-    let bare = goes (refused_if (has_extra o.value t) refusal.BadShape) (λ bare. after_bare client.value o.value) row own.then in
+    let own = goes (refused_if (is_log o.value && not (client.value == 0)) input_fault.BadClient) (λ own. after_own client.value o.value) row o.then in
+    let bare = goes (refused_if (has_extra o.value t) input_fault.BadShape) (λ bare. after_bare client.value o.value) row own.then in
     let s = goes (step_in g o.value t) (λ s. Ok (made client.value s)) row bare.then in
     let suits : (c : Parameters) → c.pages ≡ g.pages → c.size ≡ g.size → Suits c client.value s.value =
     λ c pages size. step-suits g c pages size client.value t s.value o.value own.value own.was s.was in
@@ -183,23 +183,23 @@ texts-row g n t row is =
     made : ℕ → Step → Row
     made client s = record { row = n; client = client; step = s }
 
-    after_bare : ℕ → Op → Result Row Refusal
+    after_bare : ℕ → Op → Result Row InputFault
     after_bare client o = step_in g o t >>= (λ s. Ok (made client s))
 
-    after_own : ℕ → Op → Result Row Refusal
-    after_own client o = refused_if (has_extra o t) refusal.BadShape >>= (λ bare. after_bare client o)
+    after_own : ℕ → Op → Result Row InputFault
+    after_own client o = refused_if (has_extra o t) input_fault.BadShape >>= (λ bare. after_bare client o)
 
-    after_op : ℕ → Op → Result Row Refusal
-    after_op client o = refused_if (is_log o && not (client == 0)) refusal.BadClient >>= (λ own. after_own client o)
+    after_op : ℕ → Op → Result Row InputFault
+    after_op client o = refused_if (is_log o && not (client == 0)) input_fault.BadClient >>= (λ own. after_own client o)
 
-    after_client : ℕ → Result Row Refusal
+    after_client : ℕ → Result Row InputFault
     after_client client = op_in t.op >>= (λ o. after_op client o)
 
 record-row : (g : Geometry) (n : ℕ) (fields : List (List ℕ)) (row : Row) → row_in g n fields ≡ Ok row → IsRow g n row
 unfolding row_in
-record-row g n fields row is = let t = goes (or_refuse refusal.BadShape (six_of fields)) (λ t. texts_row g n t) row is in texts-row g n t.value row t.then
+record-row g n fields row is = let t = goes (or_refuse input_fault.BadShape (six_of fields)) (λ t. texts_row g n t) row is in texts-row g n t.value row t.then
 
-at_row-ok : {X : Type 0} (n : ℕ) (r : Result X Refusal) (x : X) → at_row n r ≡ Ok x → r ≡ Ok x
+at_row-ok : {X : Type 0} (n : ℕ) (r : Result X InputFault) (x : X) → at_row n r ≡ Ok x → r ≡ Ok x
 at_row-ok n (Ok y) x is = let same : y ≡ x = cc in ap (λ z. Ok z) same
 at_row-ok n (Err e) x is = cc
 
@@ -210,10 +210,10 @@ record AreRows (g : Geometry) (n : ℕ) (rows : List Row) : Type 0 where
   numbered : AreNumberedFrom n rows
   in_range : All (IsInRange g) rows
 
-not-past : (n : ℕ) (within : Unit {0}) → at_row n (refused_if (nat_lt most_rows n) refusal.TooLong) ≡ Ok within → n ≤ most_rows
+not-past : (n : ℕ) (within : Unit {0}) → at_row n (refused_if (nat_lt most_rows n) input_fault.TooLong) ≡ Ok within → n ≤ most_rows
 not-past n within is = go (nat_lt most_rows n) refl is
   where
-    go : (b : Bool) → nat_lt most_rows n ≡ b → at_row n (refused_if b refusal.TooLong) ≡ Ok within → n ≤ most_rows
+    go : (b : Bool) → nat_lt most_rows n ≡ b → at_row n (refused_if b input_fault.TooLong) ≡ Ok within → n ≤ most_rows
     go true past same = cc
     go false past same = ltb-false most_rows n past
 
@@ -223,7 +223,7 @@ script_from-rows g n [] rows is =
     let e : [] ≡ rows = cc in
     subst (AreRows g n) e (record { few = λ h. omega arith; numbered = tt; in_range = λ k d h. absurd (omega arith) })
 script_from-rows g n (r ∷ rest) rows is =
-    let within = goes (at_row n (refused_if (nat_lt most_rows n) refusal.TooLong)) (λ within. after_within) rows is in
+    let within = goes (at_row n (refused_if (nat_lt most_rows n) input_fault.TooLong)) (λ within. after_within) rows is in
     let row = goes (at_row n (row_in g n r)) (λ row. after_row row) rows within.then in
     let others = goes (script_from g (n + 1) rest) (λ others. Ok (row.value ∷ others)) rows row.then in
     let e : row.value ∷ others.value ≡ rows = cc (others.then) in

@@ -4,8 +4,8 @@ use Rattle.std.proofs.lemmas.List.{append-nil}
 use Rattle.std.specs.Prelude.{nat_lt}
 use Rattle.std.proofs.lemmas.Bool.{le-ltb, lt-ltb}
 use Rattle.bp_page.specs.declared.limits.Geometry.{Geometry}
-use Rattle.bp_page.specs.declared.refusals.Refusal.{Refusal}
-use Rattle.bp_page.specs.declared.refusals.Refusal.TheVariants as refusal
+use Rattle.bp_trace.specs.declared.faults.InputFault.{InputFault}
+use Rattle.bp_trace.specs.declared.faults.InputFault.TheVariants as input_fault
 use Rattle.bp_trail.specs.declared.scripts.Row.{Row}
 use Rattle.bp_trace.specs.declared.faults.TraceFault.{TraceFault}
 use Rattle.bp_trace.specs.Fields.{◌>>=◌, Refuses}
@@ -41,16 +41,16 @@ module _ (g : Geometry) (n : ℕ) (rows : List Row) (left : List (List (List ℕ
     script_from-row row h said = sym (rw (split, within n h, said) (rows_then-row rows row (script_from g (n + 1) rest))) ∙ so_far
 
     -- a record that is refused
-    script_from-refused : (e : Refusal) → n ≤ most_rows → row_in g n r ≡ Err e → whole ≡ Err (fault n e)
+    script_from-refused : (e : InputFault) → n ≤ most_rows → row_in g n r ≡ Err e → whole ≡ Err (fault n e)
     unfolding script_from
     script_from-refused e h said = sym so_far ∙ rw (split, within n h, said) refl
 
-    -- a refusal of the record, or want of memory
-    pub refused_at : (e : Refusal) → n ≤ most_rows → Refuses e (row_in g n r) → IsOutside (fault_at n e) ⊎ (whole ≡ Err (fault_at n e))
-    refused_at refusal.OutOfMemory h said = inl (inl refl)
+    -- a fault of the record, or want of memory
+    pub refused_at : (e : InputFault) → n ≤ most_rows → Refuses e (row_in g n r) → IsOutside (fault_at n e) ⊎ (whole ≡ Err (fault_at n e))
+    refused_at input_fault.OutOfMemory h said = inl (inl refl)
     refused_at e h said = inr (script_from-refused e h said)
 
     -- a record too many
-    pub script_from-too_long : most_rows < n → whole ≡ Err (fault n refusal.TooLong)
+    pub script_from-too_long : most_rows < n → whole ≡ Err (fault n input_fault.TooLong)
     unfolding script_from
     script_from-too_long h = let past : nat_lt most_rows n ≡ true = lt-ltb most_rows n h in sym so_far ∙ rw (split, past) refl

@@ -1,5 +1,6 @@
 -- What the bytes of a trace say, what holds of every script, and what is printed of a trail.
 pub mod Numbers
+pub mod Faults
 pub mod Fields
 pub mod Record
 pub mod Script

@@ -1,29 +1,96 @@
-//! Why a trace has no script.
+//! What is wrong with a trace or a list of references, and why a trace has no script.
 ghost use Rattle.std.specs.Prelude.{◌≡◌};
+ghost use Rattle.bp_trace.specs.Faults.{fault_number};
 ghost use Rattle.bp_trace.specs.Script.{fault};
 
-use bp_page::Refusal;
+use std::alloc::AllocError;
 use thiserror::Error;
 
-/// Why there is no script: the number of the refusal, and the record that it is of, from 1. Row 0 is the trace as a
+/// What is wrong with a trace, or with a list of references: with a record or a line of it, or with the whole.
+#[derive(Clone, Copy, PartialEq, Eq, Debug, Error)]
+pub enum InputFault {
+    /// The references are of more than 1,048,576 different pages.
+    #[error("the references are of too many different pages")]
+    TooManyPages,
+    /// The memory that reading needs could not be had.
+    #[error("out of memory")]
+    OutOfMemory,
+    /// The record has not six fields, or one that its operation has no use for is not empty. Of references: it has no
+    /// such field.
+    #[error("a record does not have the fields of its operation")]
+    BadShape,
+    /// The client is no number from 0 to 63, or in a `log` row not 0.
+    #[error("no client has this number here")]
+    BadClient,
+    /// The word of the operation is none of the eight.
+    #[error("no operation has this name")]
+    BadOp,
+    /// A page, offset, LSN, number of ticks or reference is no decimal number within its limits.
+    #[error("a field is not a number within the limits")]
+    BadNumber,
+    /// The digits of the bytes are odd in number, or one of them is none of 0 to 9, a to f, A to F.
+    #[error("the bytes are not pairs of hexadecimal digits")]
+    BadHex,
+    /// The file has no such page, or the last byte would stand past the end of the page.
+    #[error("the page is not of the file, or the bytes are not within the page")]
+    OutOfPage,
+    /// The trace has more than 262,144 rows or 67,108,864 bytes, or the list more than 268,435,456 references.
+    #[error("the trace is too long")]
+    TooLong,
+    /// A read of the trace or of the list failed.
+    #[error("the trace could not be read")]
+    ReadFault,
+}
+
+impl From<AllocError> for InputFault {
+    ghost use Rattle.bp_trace.specs.declared.faults.InputFault.TheVariants.{OutOfMemory};
+
+    ghost from_gives = { λ _ fault. fault ≡ OutOfMemory };
+
+    fn from(_error: AllocError) -> InputFault {
+        InputFault::OutOfMemory
+    }
+}
+
+impl InputFault {
+    /// Its number, which reports and messages print. What `Refusal` has too has one number in both.
+    pub fn number(self) -> u16
+        ensures { result ≡ fault_number self }
+    {
+        match self {
+            InputFault::TooManyPages => 1,
+            InputFault::OutOfMemory => 22,
+            InputFault::BadShape => 40,
+            InputFault::BadClient => 41,
+            InputFault::BadOp => 42,
+            InputFault::BadNumber => 43,
+            InputFault::BadHex => 44,
+            InputFault::OutOfPage => 45,
+            InputFault::TooLong => 46,
+            InputFault::ReadFault => 47,
+        }
+    }
+}
+
+/// Why there is no script: the number of the fault, and the record that it is of, from 1. Row 0 is the trace as a
 /// whole.
 #[derive(Clone, Copy, PartialEq, Eq, Debug, Error)]
 #[error("trace row {row} refused {number}")]
 pub struct TraceFault {
     /// The number of the record, from 1, or 0 for the trace as a whole.
     pub row: u64,
-    /// The number of the refusal: 22, or 40 to 47.
+    /// The number of the fault: 22, or 40 to 47.
     pub number: u16,
 }
 
 impl TraceFault {
-    /// The refusal of a record, or of the trace as a whole where the row is 0.
-    pub fn new(row: u64, refusal: Refusal) -> TraceFault
-        ensures { result ≡ fault row refusal }
+    /// The fault of a record, or of the trace as a whole where the row is 0.
+    pub fn new(row: u64, why: InputFault) -> TraceFault
+        ensures { result ≡ fault row why }
     {
         TraceFault {
             row,
-            number: refusal.number(),
+            number: why.number(),
         }
     }
 }

@@ -4,7 +4,8 @@ ghost use Rattle.csv.specs.Records.{fields_of};
 ghost use Rattle.bp_trace.specs.Fields.{Gives, bytes_wanted, client_in, number_wanted, page_in, six_of, texts_of};
 
 use crate::decimal::parse_number;
-use bp_page::{Bytes, Geometry, PageNo, Refusal};
+use crate::faults::InputFault;
+use bp_page::{Bytes, Geometry, PageNo};
 use csv::ByteRecord;
 use hex::FromHexError;
 use std::alloc::Global;
@@ -47,39 +48,39 @@ pub fn six_fields(raw: &ByteRecord) -> Option<Fields<'_>>
 }
 
 /// The number of a client. Anything else is `BadClient`.
-pub fn parse_client(text: &[u8]) -> Result<u8, Refusal>
+pub fn parse_client(text: &[u8]) -> Result<u8, InputFault>
     ensures { result ≡ client_in text.now }
 {
     match parse_number(text) {
         Some(client) if client <= MAX_CLIENT => Ok(client as u8),
-        _ => Err(Refusal::BadClient),
+        _ => Err(InputFault::BadClient),
     }
 }
 
 /// A number that the op needs. Anything else is `BadNumber`.
-pub fn wanted_number(text: &[u8]) -> Result<u64, Refusal>
+pub fn wanted_number(text: &[u8]) -> Result<u64, InputFault>
     ensures { result ≡ number_wanted text.now }
 {
-    parse_number(text).ok_or(Refusal::BadNumber)
+    parse_number(text).ok_or(InputFault::BadNumber)
 }
 
 /// A page that the op needs. One that the file does not have is `OutOfPage`.
 #[tactic(auto, unfolding(crate::specs::Fields::page_in))]
-pub fn wanted_page(geometry: &Geometry, text: &[u8]) -> Result<PageNo, Refusal>
+pub fn wanted_page(geometry: &Geometry, text: &[u8]) -> Result<PageNo, InputFault>
     ensures { result ≡ page_in geometry.now text.now }
 {
     let number = wanted_number(text)?;
-    geometry.page(number).ok_or(Refusal::OutOfPage)
+    geometry.page(number).ok_or(InputFault::OutOfPage)
 }
 
 /// Bytes as pairs of hex digits of either case. Anything else is `BadHex`, and a refused growth `OutOfMemory`.
-pub fn wanted_bytes(alloc: Global, text: &[u8]) -> Result<Bytes, Refusal>
+pub fn wanted_bytes(alloc: Global, text: &[u8]) -> Result<Bytes, InputFault>
     ensures { Gives result (bytes_wanted text.now) }
 {
     let decoded = match hex::decode(alloc, text) {
         Ok(decoded) => decoded,
-        Err(FromHexError::OutOfMemory) => return Err(Refusal::OutOfMemory),
-        Err(_) => return Err(Refusal::BadHex),
+        Err(FromHexError::OutOfMemory) => return Err(InputFault::OutOfMemory),
+        Err(_) => return Err(InputFault::BadHex),
     };
     Ok(Bytes::of(alloc, decoded.as_slice())?)
 }

@@ -3,8 +3,7 @@ ghost use Rattle.std.specs.Prelude.{IfSome, OnOk};
 ghost use Rattle.std.specs.Io.KnownBytes.{IsAtEnd};
 ghost use Rattle.bp_trace.specs.Input.{IsInput};
 
-use crate::faults::TraceFault;
-use bp_page::Refusal;
+use crate::faults::{InputFault, TraceFault};
 use std::alloc::Global;
 use std::io::{ErrorKind, Read};
 
@@ -31,18 +30,18 @@ pub fn read_all<R: Read>(alloc: Global, reader: &mut R) -> Result<Vec<u8>, Trace
         let count = match reader.read(&mut chunk) {
             Ok(count) => count,
             Err(e) if e.kind() == ErrorKind::Interrupted => continue,
-            Err(_) => return Err(TraceFault::new(0, Refusal::ReadFault)),
+            Err(_) => return Err(TraceFault::new(0, InputFault::ReadFault)),
         };
         if count == 0 {
             return Ok(input);
         }
         if MAX_BYTES - input.len() < count {
-            return Err(TraceFault::new(0, Refusal::TooLong));
+            return Err(TraceFault::new(0, InputFault::TooLong));
         }
         let (read, _) = chunk.split_at(count);
         if input.extend_from_slice(read).is_err() {
-            return Err(TraceFault::new(0, Refusal::OutOfMemory));
+            return Err(TraceFault::new(0, InputFault::OutOfMemory));
         }
     }
-    Err(TraceFault::new(0, Refusal::ReadFault))
+    Err(TraceFault::new(0, InputFault::ReadFault))
 }

@@ -14,7 +14,7 @@ mod record;
 mod script;
 mod total_lines;
 
-pub use faults::TraceFault;
+pub use faults::{InputFault, TraceFault};
 pub use number_lists::{MAX_LISTED, numbers_listed};
 pub use printing::{ReportRun, report, report_rows, report_totals};
 pub use script::read_script;

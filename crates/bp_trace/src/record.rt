@@ -4,8 +4,9 @@ ghost use Rattle.csv.specs.Records.{fields_of};
 ghost use Rattle.bp_trace.specs.Fields.{Gives, texts_of};
 ghost use Rattle.bp_trace.specs.Record.{has_extra, is_log, op_in, place_in, row_in, step_in, texts_row, write_in};
 
+use crate::faults::InputFault;
 use crate::fields::{Fields, parse_client, six_fields, wanted_bytes, wanted_number, wanted_page};
-use bp_page::{Bytes, Geometry, Lsn, Refusal};
+use bp_page::{Bytes, Geometry, Lsn};
 use bp_trail::{Row, Step};
 use csv::ByteRecord;
 use std::alloc::Global;
@@ -25,7 +26,7 @@ enum Op {
 
 /// The op of a word in lower case. Any other word is `BadOp`.
 #[tactic(auto, unfolding(crate::specs::Record::op_in))]
-fn parse_op(text: &[u8]) -> Result<Op, Refusal>
+fn parse_op(text: &[u8]) -> Result<Op, InputFault>
     ensures { result ≡ op_in text.now }
 {
     if text == b"fix".as_slice() {
@@ -45,7 +46,7 @@ fn parse_op(text: &[u8]) -> Result<Op, Refusal>
     } else if text == b"purge".as_slice() {
         Ok(Op::Purge)
     } else {
-        Err(Refusal::BadOp)
+        Err(InputFault::BadOp)
     }
 }
 
@@ -79,7 +80,7 @@ fn write_at(
     offset: u64,
     bytes: Bytes,
     lsn: u64,
-) -> Result<Step, Refusal>
+) -> Result<Step, InputFault>
     ensures { result ≡ place_in geometry.now page offset bytes lsn }
 {
     match geometry.page(page) {
@@ -89,13 +90,13 @@ fn write_at(
             bytes,
             lsn: Lsn::new(lsn),
         }),
-        _ => Err(Refusal::OutOfPage),
+        _ => Err(InputFault::OutOfPage),
     }
 }
 
-/// The write that the fields say, or the first refusal.
+/// The write that the fields say, or the first fault.
 #[tactic(auto, unfolding(crate::specs::Record::write_in))]
-fn parse_write(alloc: Global, geometry: &Geometry, fields: &Fields<'_>) -> Result<Step, Refusal>
+fn parse_write(alloc: Global, geometry: &Geometry, fields: &Fields<'_>) -> Result<Step, InputFault>
     ensures { Gives result (write_in geometry.now (texts_of fields.now)) }
 {
     let page = wanted_number(fields.number)?;
@@ -112,7 +113,7 @@ fn parse_step(
     geometry: &Geometry,
     op: Op,
     fields: &Fields<'_>,
-) -> Result<Step, Refusal>
+) -> Result<Step, InputFault>
     ensures { Gives result (step_in geometry.now op (texts_of fields.now)) }
 {
     match op {
@@ -127,40 +128,40 @@ fn parse_step(
     }
 }
 
-/// The row that the six fields of the record say, or the first refusal.
+/// The row that the six fields of the record say, or the first fault.
 #[tactic(auto, unfolding(crate::specs::Record::texts_row))]
 fn parse_fields(
     alloc: Global,
     geometry: &Geometry,
     row: u64,
     fields: &Fields<'_>,
-) -> Result<Row, Refusal>
+) -> Result<Row, InputFault>
     ensures { Gives result (texts_row geometry.now row (texts_of fields.now)) }
 {
     let client = parse_client(fields.client)?;
     let op = parse_op(fields.op)?;
     if is_log(op) && client != 0 {
-        return Err(Refusal::BadClient);
+        return Err(InputFault::BadClient);
     }
     if has_extra(op, fields) {
-        return Err(Refusal::BadShape);
+        return Err(InputFault::BadShape);
     }
     let step = parse_step(alloc, geometry, op, fields)?;
     Ok(Row { row, client, step })
 }
 
-/// The row that the record of this number says, or the first refusal. A refused growth is `OutOfMemory`.
+/// The row that the record of this number says, or the first fault. A refused growth is `OutOfMemory`.
 #[tactic(auto, unfolding(crate::specs::Record::row_in))]
 pub fn parse_row(
     alloc: Global,
     geometry: &Geometry,
     row: u64,
     raw: &ByteRecord,
-) -> Result<Row, Refusal>
+) -> Result<Row, InputFault>
     ensures { Gives result (row_in geometry.now row (fields_of raw.now)) }
 {
     let Some(fields) = six_fields(raw) else {
-        return Err(Refusal::BadShape);
+        return Err(InputFault::BadShape);
     };
     parse_fields(alloc, geometry, row, &fields)
 }

@@ -3,12 +3,12 @@ ghost use Rattle.std.specs.Prelude.{◌≡◌, ◌≤◌, ◌⊎◌, All, IfOk, 
 ghost use Rattle.std.specs.Io.KnownBytes.{IsAtEnd};
 ghost use Rattle.csv.specs.Reading.{default_config, error_kind, records, strip_bom};
 ghost use Rattle.bp_trace.specs.InRange.{AreNumberedFrom, IsInRange};
-ghost use Rattle.bp_trace.specs.Script.{Answers, IsScriptOfSome, fault, fault_at, most_rows, refusal_of, script_from, script_of};
+ghost use Rattle.bp_trace.specs.Script.{Answers, IsScriptOfSome, fault, fault_at, fault_of_kind, most_rows, script_from, script_of};
 
-use crate::faults::TraceFault;
+use crate::faults::{InputFault, TraceFault};
 use crate::input::read_all;
 use crate::record::parse_row;
-use bp_page::{Geometry, Refusal};
+use bp_page::Geometry;
 use bp_trail::Row;
 use csv::{ByteRecord, Error, ErrorKind, ReaderBuilder};
 use std::alloc::Global;
@@ -19,21 +19,21 @@ const MAX_ROWS: u64 = 262_144;
 
 /// What a failed read of a record is: memory ran out, or the reader failed.
 fn fault_of(error: Error) -> TraceFault
-    ensures { result ≡ fault 0 (refusal_of (error_kind error)) }
+    ensures { result ≡ fault 0 (fault_of_kind (error_kind error)) }
 {
     match error.into_kind() {
-        ErrorKind::OutOfMemory => TraceFault::new(0, Refusal::OutOfMemory),
-        _ => TraceFault::new(0, Refusal::ReadFault),
+        ErrorKind::OutOfMemory => TraceFault::new(0, InputFault::OutOfMemory),
+        _ => TraceFault::new(0, InputFault::ReadFault),
     }
 }
 
 /// The fault of a record that says no row. A refused growth is of no record.
-fn fault_at(row: u64, refusal: Refusal) -> TraceFault
-    ensures { result ≡ fault_at row refusal }
+fn fault_at(row: u64, why: InputFault) -> TraceFault
+    ensures { result ≡ fault_at row why }
 {
-    match refusal {
-        Refusal::OutOfMemory => TraceFault::new(0, refusal),
-        _ => TraceFault::new(row, refusal),
+    match why {
+        InputFault::OutOfMemory => TraceFault::new(0, why),
+        _ => TraceFault::new(row, why),
     }
 }
 
@@ -58,10 +58,10 @@ fn rows_of(alloc: Global, bytes: &[u8], geometry: &Geometry) -> Result<Vec<Row>,
         }
         let row = match parse_row(alloc, geometry, number, &record) {
             Ok(row) => row,
-            Err(refusal) => return Err(fault_at(number, refusal)),
+            Err(why) => return Err(fault_at(number, why)),
         };
         if rows.push(row).is_err() {
-            return Err(TraceFault::new(0, Refusal::OutOfMemory));
+            return Err(TraceFault::new(0, InputFault::OutOfMemory));
         }
     }
     let more = match reader.read_byte_record(&mut record) {
@@ -69,7 +69,7 @@ fn rows_of(alloc: Global, bytes: &[u8], geometry: &Geometry) -> Result<Vec<Row>,
         Err(e) => return Err(fault_of(e)),
     };
     if more {
-        return Err(TraceFault::new(MAX_ROWS + 1, Refusal::TooLong));
+        return Err(TraceFault::new(MAX_ROWS + 1, InputFault::TooLong));
     }
     Ok(rows)
 }

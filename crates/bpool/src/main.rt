@@ -2,9 +2,9 @@
 //! sizes, or writes a page file anew in its second version.
 #![tactic(auto)]
 
+use bp_cli::Ending;
 use bp_page::Refusal;
 use bp_run::{Awaiting, PageFiles, run_with};
-use bp_words::Ending;
 use std::fs::File;
 use std::io::{BufWriter, ErrorKind, IsTerminal, Write};
 use std::marker::Sync;

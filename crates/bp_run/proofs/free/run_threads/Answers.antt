@@ -3,7 +3,7 @@ use Rattle.std.proofs.Common.{◌≡◌, ◌∙◌, ap, subst, ℕ, arith, refl}
 use Rattle.std.proofs.lemmas.List.{length-map}
 use Rattle.bp_core.specs.Outcomes.{IsFit}
 use Rattle.bp_clients.specs.Jobs.{lists}
-use Rattle.bp_clients.specs.Runs.{run_parameters}
+use Rattle.bp_core.specs.Agreement.{parameters_with}
 use Rattle.bp_run.specs.Scripts.{clients_of}
 use Rattle.bp_run.proofs.Splitting.{all_below}
 use Rattle.bp_run.proofs.Stopping.{memory_or_disagree}
@@ -29,7 +29,7 @@ run_clients-requires-clause-ports g c κs within =
 pub run_clients-requires-clause-fits : goal.run_clients-requires-clause-fits
 run_clients-requires-clause-fits g c κs within =
     let is = scripts_are c.args.rows.items c.deref.result.now c.client_count-clients.result (lists c.in-Ok.scripts.items) c.client_count-clients.ensures c.deref.ensures.value c.in-Ok.ensures.scripts in
-    scripts_fit c.args.config.geometry (run_parameters c.args.config c.in-Ok.scripts.len) c.args.rows.items (lists c.in-Ok.scripts.items) refl refl
+    scripts_fit c.args.config.geometry (parameters_with c.args.config c.in-Ok.scripts.len) c.args.rows.items (lists c.in-Ok.scripts.items) refl refl
     (omega (arith, is.counted, length-map c.in-Ok.scripts.items (λ v. v.items), c.in-Ok.scripts.ok)) c.requires.fits is.are
 
 pub returns-in-Ok-run_clients-clause-run : goal.returns-in-Ok-run_clients-clause-run
@@ -46,5 +46,5 @@ pub returns-in-Err-run_clients-clause-fault : goal.returns-in-Err-run_clients-cl
 returns-in-Err-run_clients-clause-fault g c =
     let is = scripts_are c.args.rows.items c.deref.result.now c.client_count-clients.result (lists c.in-Ok.scripts.items) c.client_count-clients.ensures c.deref.ensures.value c.in-Ok.ensures.scripts in
     let count : clients_of c.args.rows.items ≡ c.in-Ok.scripts.len = omega (arith, is.counted, length-map c.in-Ok.scripts.items (λ v. v.items), c.in-Ok.scripts.ok) in
-    memory_or_disagree (run_parameters c.args.config c.in-Ok.scripts.len) c.run_clients.result c.in-Err-run_clients.refusal
-    (subst (λ (n : ℕ). IsFit (run_parameters c.args.config n)) count c.requires.fit) c.in-Err-run_clients.is c.run_clients.ensures.answers
+    memory_or_disagree (parameters_with c.args.config c.in-Ok.scripts.len) c.run_clients.result c.in-Err-run_clients.refusal
+    (subst (λ (n : ℕ). IsFit (parameters_with c.args.config n)) count c.requires.fit) c.in-Err-run_clients.is c.run_clients.ensures.answers

@@ -1,8 +1,8 @@
 -- What a sweep shows of how far it has come.
 use Rattle.std.proofs.Common.{◌∙◌, ap, Some}
 use Rattle.clap.specs.Walk.{texts}
-use Rattle.bp_words.specs.Asked.{asked_of, sweep_of}
-use Rattle.bp_words.specs.Words.{words_or_default}
+use Rattle.bp_cli.specs.Asked.{asked_of, sweep_of}
+use Rattle.bp_cli.specs.Words.{words_or_default}
 use Rattle.bp_run.proofs.Stopping.{sweep_shown_or_kept}
 use Rattle.bp_run.proofs.run.carry_out.Goals as goal
 

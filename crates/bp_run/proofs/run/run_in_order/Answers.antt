@@ -1,8 +1,8 @@
 -- Each order has its own run.
 use Rattle.std.proofs.Common.{◌≡◌, ◌<◌, ◌∙◌, sym, ap, subst, arith, length}
 use Rattle.std.specs.Prelude.{IfErr}
-use Rattle.bp_words.specs.Words.{told_of}
-use Rattle.bp_words.specs.declared.words.Order.{Order}
+use Rattle.bp_cli.specs.Words.{told_of}
+use Rattle.bp_cli.specs.declared.words.Order.{Order}
 use Rattle.bp_run.specs.Run.{ports_for}
 use Rattle.bp_run.specs.Stops.{NotReported}
 use Rattle.bp_run.proofs.Opened.{in_free, in_trace, port_is, some_ports}

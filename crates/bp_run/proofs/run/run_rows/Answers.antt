@@ -1,4 +1,4 @@
-use Rattle.bp_words.specs.Words.{told_of}
+use Rattle.bp_cli.specs.Words.{told_of}
 use Rattle.bp_run.proofs.Opened.{rows_fit}
 use Rattle.bp_run.proofs.run.run_rows.Goals as goal
 

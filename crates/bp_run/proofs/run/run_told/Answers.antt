@@ -1,7 +1,7 @@
 -- What a run over an opened page file reports, or why it does not.
 use Rattle.std.proofs.Common.{◌≡◌, ◌∙◌, inl, sym, ap, subst, All, Err}
 use Rattle.std.proofs.lemmas.Result.{err_from_is_err_and}
-use Rattle.bp_words.specs.Words.{told_of}
+use Rattle.bp_cli.specs.Words.{told_of}
 use Rattle.bp_run.specs.Run.{ports_for}
 use Rattle.bp_run.proofs.Opened.{over_pages, stopped_at_ports, stopped_at_trace, stopped_in_run}
 use Rattle.bp_run.proofs.run.run_told.Goals as goal

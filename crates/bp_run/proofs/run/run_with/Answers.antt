@@ -2,9 +2,9 @@
 use Rattle.std.proofs.Common.{◌≡◌, ◌∙◌, inr, arith, subst, sym, ap, ℕ}
 use Rattle.std.specs.Io.KnownBytes.{Appends}
 use Rattle.clap.specs.Walk.{texts}
-use Rattle.bp_words.specs.Ending.{message_of}
-use Rattle.bp_words.specs.declared.ending.Ending.TheVariants as ending
-use Rattle.bp_words.specs.Words.{words_or_default}
+use Rattle.bp_cli.specs.Ending.{message_of}
+use Rattle.bp_cli.specs.declared.ending.Ending.TheVariants as ending
+use Rattle.bp_cli.specs.Words.{words_or_default}
 use Rattle.bp_run.proofs.Stopping.{does_no_help, ends_the_same, help_asked, is_version, kept_when, not_one, then_kept, zero_of, no_failure, no_picture}
 use Rattle.bp_run.proofs.run.run_with.Goals as goal
 

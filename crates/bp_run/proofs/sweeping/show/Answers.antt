@@ -7,7 +7,7 @@ use Rattle.bp_charts.specs.declared.table.Line.{Line}
 use Rattle.bp_charts.specs.Table.{table_text}
 use Rattle.bp_sweep.specs.Dense.{Pages}
 use Rattle.bp_sweep.specs.Sweeping.{AreCells}
-use Rattle.bp_words.specs.Asked.{Sweep, sweep_of}
+use Rattle.bp_cli.specs.Asked.{Sweep, sweep_of}
 use Rattle.bp_run.specs.Drawing.{IsDrawn}
 use Rattle.bp_run.specs.Sweep.{Shows, plans_told}
 use Rattle.bp_run.proofs.sweeping.show.Goals as goal

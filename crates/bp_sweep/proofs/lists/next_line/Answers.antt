@@ -1,7 +1,7 @@
 -- A line that was read whole, and what it says.
 use Rattle.std.proofs.Common.{◌∙◌, ap, ok_or, rules}
 use Rattle.std.specs.Io.BufRead.{strip_last}
-use Rattle.bp_page.specs.declared.refusals.Refusal.TheVariants.{BadNumber}
+use Rattle.bp_trace.specs.declared.faults.InputFault.TheVariants.{BadNumber}
 use Rattle.bp_trace.specs.Numbers.{number_in}
 use Rattle.bp_sweep.proofs.Lines.{line-found}
 use Rattle.bp_sweep.proofs.lists.next_line.Goals as goal

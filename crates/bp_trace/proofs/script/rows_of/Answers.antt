@@ -2,7 +2,7 @@ use Rattle.std.proofs.Common.{Bor, List, ℕ, ◌≡◌, ◌∙◌, ◌+◌, ◌
 use Rattle.std.specs.Result.{is_ok}
 use Rattle.csv.specs.Reading.{default_config, records, strip_bom}
 use Rattle.csv.specs.Records.{fields_of}
-use Rattle.bp_page.specs.declared.refusals.Refusal.TheVariants as refusal
+use Rattle.bp_trace.specs.declared.faults.InputFault.TheVariants as input_fault
 use Rattle.bp_trace.specs.Script.{fault, most_rows}
 use Rattle.bp_trace.proofs.CsvRecords.{takes_next, takes_none}
 use Rattle.bp_trace.proofs.RowSteps.{rows_then-none, script_from-end, refused_at, script_from-row, script_from-too_long}
@@ -44,7 +44,7 @@ returns-in-Err-parse_row c =
     let taken = takes_next (λ (s : Bor (List ℕ)). Some s.now) loop.reader c.read_byte_record.new.self fields inv.left inv.leaves read in
     let bound : loop.number ≤ most_rows = let h = c.loop-number-test.true in omega arith in
     rw c.fault_at.ensures (
-    (refused_at c.args.geometry.now loop.number loop.rows.items inv.left _ inv.rows fields taken.rest taken.split c.in-Err-parse_row.refusal bound c.in-Err-parse_row.ensures))
+    (refused_at c.args.geometry.now loop.number loop.rows.items inv.left _ inv.rows fields taken.rest taken.split c.in-Err-parse_row.why bound c.in-Err-parse_row.ensures))
 
 pub loop-number-preserved : goal.loop-number-preserved
 loop-number-preserved c =
@@ -73,7 +73,7 @@ returns-then-more c =
     let taken = takes_next (λ (s : Bor (List ℕ)). Some s.now) loop.reader c.read_byte_record-2.new.self fields inv.left inv.leaves read in
     let last : loop.number ≡ 262145 = let h = c.loop-number-test.false in let e = c.loop-number.auto.number-end in omega arith in
     let long = script_from-too_long c.args.geometry.now loop.number loop.rows.items inv.left _ inv.rows fields taken.rest taken.split (omega arith) in
-    rw c.new-then-more.ensures (inr (long ∙ ap (λ (k : ℕ). Err (fault k refusal.TooLong)) last))
+    rw c.new-then-more.ensures (inr (long ∙ ap (λ (k : ℕ). Err (fault k input_fault.TooLong)) last))
 
 pub returns : goal.returns
 returns c =

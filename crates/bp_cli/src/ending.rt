@@ -1,0 +1,139 @@
+//! How the program ends where it makes no report.
+ghost use Rattle.std.specs.Prelude.{◌≡◌, ◌<◌, true, false, OnOk};
+ghost use Rattle.std.specs.Io.KnownBytes.{Appends};
+ghost use Rattle.bp_cli.specs.Ending.{is_help, message_of, on_err, on_out, status_of};
+ghost use Rattle.bp_cli.specs.Line.{is_line};
+
+use crate::line::Line;
+use bp_page::Refusal;
+use bp_trace::{InputFault, TraceFault};
+use std::io::Write;
+use std::{fmt, io};
+
+/// The version of the program.
+pub const VERSION: &str = "0.10.0";
+
+/// How the program ends where it makes no report. Its `Display` is what is said.
+#[derive(Drop)]
+pub enum Ending {
+    /// The words ask for help, which is this text.
+    Help(String),
+    /// The words ask for the version.
+    Version,
+    /// A word is not text in UTF-8.
+    WordsNotText,
+    /// The words have this fault.
+    CommandLine(Line),
+    /// The page file can't be opened.
+    PageFileNotOpened,
+    /// No pool can be over this page file: its pages are of a wrong size or number, or there is no memory for them.
+    PageFileRefused(Refusal),
+    /// The file of the trace can't be opened.
+    TraceNotOpened,
+    /// The trace has no script.
+    TraceRefused(TraceFault),
+    /// The run could not be begun, or not be ended.
+    RunRefused(Refusal),
+    /// Not all of the output was written.
+    OutputFailed,
+    /// The file of the references can't be opened.
+    ReferencesNotOpened,
+    /// A line of the references is at fault. Line 0 is the list as a whole.
+    ReferenceRefused {
+        /// The number of the line from 1, of the record where a column is read, or 0.
+        line: u64,
+        /// What is wrong with it.
+        why: InputFault,
+    },
+    /// The picture of a table was not written. The table was.
+    PictureNotWritten,
+}
+
+impl fmt::Display for Ending {
+    ghost use Rattle.std.specs.Prelude.{Some};
+    ghost use Rattle.bp_cli.specs.Ending.{message_of};
+
+    ghost output = { λ ending. Some (message_of ending) };
+
+    fn fmt<W: fmt::Write>(&self, f: &mut fmt::Formatter<W>) -> fmt::Result {
+        match self {
+            Ending::Help(text) => f.write_str(text.as_str()),
+            Ending::Version => writeln!(f, "bpool {VERSION}"),
+            Ending::WordsNotText => {
+                f.write_str("error: a word is not UTF-8; try 'bpool --help'")
+            },
+            Ending::CommandLine(line) => write!(f, "{}; try 'bpool --help'", line.as_str()),
+            Ending::PageFileNotOpened => f.write_str("page file not opened"),
+            Ending::PageFileRefused(refusal) => {
+                write!(f, "page file refused {}", refusal.number())
+            }
+            Ending::TraceNotOpened => f.write_str("trace not opened"),
+            Ending::TraceRefused(fault) => {
+                let TraceFault { row, number } = *fault;
+                write!(f, "trace row {row} refused {number}")
+            }
+            Ending::RunRefused(refusal) => write!(f, "run refused {}", refusal.number()),
+            Ending::OutputFailed => f.write_str("output failed"),
+            Ending::ReferencesNotOpened => f.write_str("references not opened"),
+            Ending::ReferenceRefused { line, why } => {
+                write!(f, "reference line {line} refused {}", why.number())
+            }
+            Ending::PictureNotWritten => f.write_str("picture not written"),
+        }
+    }
+}
+
+impl Ending {
+    /// Whether it is an answer to the words: help, or the version.
+    pub fn is_help(&self) -> bool
+        ensures { result ≡ is_help self.now }
+    {
+        matches!(self, Ending::Help(_) | Ending::Version)
+    }
+
+    /// The status that the program ends with: 0 for help and for the version, and else 2.
+    pub fn status(&self) -> u8
+        ensures { result ≡ status_of self.now }
+    {
+        if self.is_help() { 0 } else { 2 }
+    }
+
+    /// Writes help and the version on `out`, and anything else as one line on `err`.
+    pub fn say<W: Write, E: Write>(&self, out: &mut W, err: &mut E) -> io::Result<()>
+        ensures out { OnOk result (Appends (W.contents out.old) (W.contents out.new)
+            (on_out self.now)) }
+        ensures err { OnOk result (Appends (E.contents err.old) (E.contents err.new)
+            (on_err self.now)) }
+        ensures one_line { is_help self.now ≡ false → is_line (message_of self.now) ≡ true }
+        ensures out_kept { is_help self.now ≡ false → out.new ≡ out.old }
+        ensures err_kept { is_help self.now ≡ true → err.new ≡ err.old }
+    {
+        if self.is_help() {
+            write!(out, "{self}")?;
+            out.flush()
+        } else {
+            writeln!(err, "{self}")
+        }
+    }
+
+    /// Says it, and gives the status that the program ends with.
+    ///
+    /// A fault of `err` changes nothing. Where help or the version can't be written the output failed: that is said,
+    /// with status 2.
+    pub fn finish<W: Write, E: Write>(&self, out: &mut W, err: &mut E) -> u8
+        ensures help { result ≡ 0 → (is_help self.now ≡ true) ×
+            Appends (W.contents out.old) (W.contents out.new) (message_of self.now) }
+        ensures fault { (result ≡ 0 → ⊥) → result ≡ 2 }
+        ensures out_kept { is_help self.now ≡ false → out.new ≡ out.old }
+        ensures err_kept { result < 2 → err.new ≡ err.old }
+    {
+        let said = self.say(out, err);
+        if said.is_ok() {
+            return self.status();
+        }
+        if self.is_help() {
+            let _ = writeln!(err, "{}", Ending::OutputFailed);
+        }
+        2
+    }
+}

@@ -1,0 +1,441 @@
+//! What the words of a command line name.
+ghost use Rattle.std.specs.Prelude.{◌≡◌, ◌<◌, ◌^◌, option_map, Some, IfOk};
+ghost use Rattle.clap.specs.Walk.{texts};
+ghost use Rattle.clap.specs.Values.{kind_of};
+ghost use Rattle.clap.specs.Words.{first_of, found_of, rows_of, subcommand_rows_of, FailsBy};
+ghost use Rattle.bp_cli.specs.Words.{explanation_at, fault_in, flag_at, format_of, number_at, order_at, order_of};
+ghost use Rattle.bp_cli.specs.Words.{draws_over, list_at};
+ghost use Rattle.bp_cli.specs.Words.{told_by_rows, told_of};
+ghost use Rattle.bp_cli.specs.Words as spec;
+ghost use Rattle.bp_cli.specs.Asked.{AreInLimits, asked_by, asked_in, asked_of, migration_by_rows, migration_of};
+ghost use Rattle.bp_cli.specs.Asked.{sweep_by_rows, sweep_of, sweep_with};
+ghost use Rattle.bp_cli.specs.Decision.{size_asked};
+
+use crate::command::bpool_command;
+use bp_page::{Format, explanation_of};
+use bp_replacer::settings::MAX_STAMPS;
+use bp_trace::decimal::parse_number;
+use bp_trace::{MAX_LISTED, numbers_listed};
+use clap::error::ErrorKind;
+use clap::{ArgMatches, Error};
+use std::alloc::{AllocError, Global};
+
+/// The most frames of a pool.
+const MAX_FRAMES: usize = 65_536;
+
+/// Where a run reads its trace, or a sweep its references.
+#[derive(Clone, Copy)]
+pub enum TraceSource<'a> {
+    /// Standard input.
+    Stdin,
+    /// The file at this path.
+    Path(&'a str),
+}
+
+/// The order in which the rows of a trace are run.
+#[derive(Clone, Copy)]
+pub enum Order {
+    /// That of the trace.
+    Trace,
+    /// Any that keeps each client's own: the clients are threads of one pool.
+    Free,
+}
+
+/// What the words of a run name.
+#[derive(Clone, Copy)]
+pub struct RunWords<'a> {
+    /// Where the trace is read.
+    pub trace: TraceSource<'a>,
+    /// The word of the page file: `mem:N`, or a path.
+    pub page_file: &'a str,
+    /// How many frames the pool has.
+    pub frames: usize,
+    /// K of LRU-K.
+    pub k: usize,
+    /// The correlated reference period, in ticks.
+    pub correlated: u64,
+    /// The retained information period, in ticks.
+    pub retained: u64,
+    /// How many bytes a page has.
+    pub page_size: usize,
+    /// How pages stand in a page file at a path.
+    pub format: Format,
+    /// In which order the rows are run.
+    pub order: Order,
+    /// Whether the report has no lines of events.
+    pub totals: bool,
+}
+
+/// What the words of a migration name.
+#[derive(Clone, Copy)]
+pub struct MigrationWords<'a> {
+    /// The path of the page file of version 1.
+    pub old: &'a str,
+    /// The path of the page file of version 2 that is made of it.
+    pub new: &'a str,
+    /// How many bytes a page has.
+    pub page_size: usize,
+}
+
+/// What the words of a sweep name: it runs each number of frames with each K.
+#[derive(Drop)]
+pub struct SweepWords<'a> {
+    /// Where the references are read.
+    pub references: TraceSource<'a>,
+    /// How many frames the pools have: 1 to 64 different numbers from 1 to 65,536.
+    pub frames: Vec<usize>,
+    /// K of LRU-K: 1 to 16 different numbers from 1 to 16.
+    pub ks: Vec<usize>,
+    /// The correlated reference period, in references.
+    pub correlated: u64,
+    /// Which field of a record the number is in, from 1 to 65,536, where each line is a record. Else each is a number.
+    pub column: Option<usize>,
+    /// The path of the picture that is drawn of the table, if there is to be one. It is not where the references are.
+    pub svg: Option<&'a str>,
+}
+
+/// What the words of a command line ask for.
+#[derive(Drop)]
+pub enum Task<'a> {
+    /// A run of a trace.
+    Run(RunWords<'a>),
+    /// A page file of version 1 written anew in version 2.
+    Migrate(MigrationWords<'a>),
+    /// A table of what references come to, by frames and K.
+    Sweep(SweepWords<'a>),
+    /// Says this text.
+    Explain(&'a str),
+}
+
+impl Task<'_> {
+    /// How many bytes a page has, where there are pages.
+    pub fn page_size(&self) -> Option<usize>
+        ensures { result ≡ size_asked (asked_of self.now) }
+    {
+        match self {
+            Task::Run(run) => Some(run.page_size),
+            Task::Migrate(migration) => Some(migration.page_size),
+            Task::Sweep(_) | Task::Explain(_) => None,
+        }
+    }
+}
+
+fn trace_source<'a>(word: &'a str) -> TraceSource<'a>
+    ensures { spec.trace_told result ≡ spec.trace_of word.entry.now }
+{
+    if word == "stdin" {
+        TraceSource::Stdin
+    } else {
+        TraceSource::Path(word)
+    }
+}
+
+fn order_of(word: &str) -> Option<Order>
+    ensures { result ≡ order_of word.now }
+{
+    match word {
+        "trace" => Some(Order::Trace),
+        "free" => Some(Order::Free),
+        _ => None,
+    }
+}
+
+/// The version of page files with this number, of 1 and 2.
+fn format_of(number: usize) -> Format
+    ensures { result ≡ format_of number }
+{
+    if number == 2 {
+        Format::Headed
+    } else {
+        Format::Plain
+    }
+}
+
+/// The count that an option names.
+fn count_at(matches: &ArgMatches<'_>, id: &str) -> Option<usize>
+    ensures { result ≡ number_at id.now (rows_of (found_of matches.now)) }
+{
+    matches.get_one::<usize>(id)
+}
+
+/// The period that an option names.
+fn period_at(matches: &ArgMatches<'_>, id: &str) -> Option<u64>
+    ensures { result ≡ number_at id.now (rows_of (found_of matches.now)) }
+{
+    matches.get_one::<u64>(id)
+}
+
+/// The word that stands for an argument.
+fn word_at<'a>(matches: &ArgMatches<'a>, id: &str) -> Option<&'a str>
+    ensures { option_map (λ word. word.now) result ≡ first_of id.now
+        (rows_of (found_of matches.now)) }
+{
+    matches.get_str(id)
+}
+
+/// What the number that the matches name says.
+fn explanation_at(matches: &ArgMatches<'_>) -> Option<&'static str>
+    ensures { option_map (λ text. text.now) result
+        ≡ explanation_at (rows_of (found_of matches.now)) }
+{
+    let word = word_at(matches, "number")?;
+    let number = parse_number(word.as_bytes())?;
+    explanation_of(number)
+}
+
+/// Whether an option without a value is there.
+fn flag_at(matches: &ArgMatches<'_>, id: &str) -> bool
+    ensures { result ≡ flag_at id.now (rows_of (found_of matches.now)) }
+{
+    match word_at(matches, id) {
+        Some(word) => word == "true",
+        None => false,
+    }
+}
+
+/// The numbers of an option's list, each from `low` to `high`.
+fn list_at(
+    alloc: Global,
+    matches: &ArgMatches<'_>,
+    id: &str,
+    low: usize,
+    high: usize,
+) -> Result<Option<Vec<usize>>, AllocError>
+    requires { high < 2 ^ 63 }
+    ensures { IfOk result (λ numbers. option_map (λ v. v.items) numbers
+        ≡ list_at id.now low high (rows_of (found_of matches.now))) }
+{
+    match word_at(matches, id) {
+        Some(word) => numbers_listed(alloc, word, low, high),
+        None => Ok(None),
+    }
+}
+
+/// Whether the picture of a sweep would go into its references: their words are the same.
+fn draws_over(matches: &ArgMatches<'_>) -> bool
+    ensures { result ≡ draws_over (rows_of (found_of matches.now)) }
+{
+    let Some(word) = word_at(matches, "references") else {
+        return false;
+    };
+    match word_at(matches, "svg") {
+        Some(picture) => word == picture,
+        None => false,
+    }
+}
+
+/// The order that the matches of a run name.
+fn order_at(matches: &ArgMatches<'_>) -> Option<Order>
+    ensures { result ≡ order_at (rows_of (found_of matches.now)) }
+{
+    let word = word_at(matches, "order")?;
+    order_of(word)
+}
+
+/// What the matches of a run name.
+fn run_words<'a>(matches: &ArgMatches<'a>) -> Option<RunWords<'a>>
+    ensures { option_map told_of result ≡ told_by_rows (rows_of (found_of matches.now)) }
+{
+    let trace = word_at(matches, "trace")?;
+    let page_file = word_at(matches, "page-file")?;
+    let frames = count_at(matches, "frames")?;
+    let k = count_at(matches, "k")?;
+    let correlated = period_at(matches, "correlated")?;
+    let retained = period_at(matches, "retained")?;
+    let page_size = count_at(matches, "page-size")?;
+    let version = count_at(matches, "format")?;
+    let order = order_at(matches)?;
+    Some(RunWords {
+        trace: trace_source(trace),
+        page_file,
+        frames,
+        k,
+        correlated,
+        retained,
+        page_size,
+        format: format_of(version),
+        order,
+        totals: flag_at(matches, "totals"),
+    })
+}
+
+/// What the matches of a migration name.
+fn migration_words<'a>(matches: &ArgMatches<'a>) -> Option<MigrationWords<'a>>
+    ensures { option_map migration_of result ≡ migration_by_rows (rows_of (found_of matches.now)) }
+{
+    let old = word_at(matches, "old")?;
+    let new = word_at(matches, "new")?;
+    let page_size = count_at(matches, "page-size")?;
+    Some(MigrationWords {
+        old,
+        new,
+        page_size,
+    })
+}
+
+/// What the matches of a sweep name, with these numbers of frames and these K.
+fn sweep_with<'a>(
+    matches: &ArgMatches<'a>,
+    frames: Vec<usize>,
+    ks: Vec<usize>,
+) -> Option<SweepWords<'a>>
+    ensures { option_map sweep_of result
+        ≡ sweep_with frames.items ks.items (rows_of (found_of matches.now)) }
+{
+    let references = word_at(matches, "references")?;
+    let correlated = period_at(matches, "correlated")?;
+    Some(SweepWords {
+        references: trace_source(references),
+        frames,
+        ks,
+        correlated,
+        column: count_at(matches, "column"),
+        svg: word_at(matches, "svg"),
+    })
+}
+
+/// What the matches of a sweep name.
+fn sweep_words<'a>(
+    alloc: Global,
+    matches: &ArgMatches<'a>,
+) -> Result<Option<SweepWords<'a>>, AllocError>
+    ensures { IfOk result (λ words. option_map sweep_of words
+        ≡ sweep_by_rows (rows_of (found_of matches.now))) }
+{
+    let Some(frames) = list_at(alloc, matches, "frames", 1, MAX_FRAMES)? else {
+        return Ok(None);
+    };
+    let Some(ks) = list_at(alloc, matches, "k", 1, MAX_STAMPS)? else {
+        return Ok(None);
+    };
+    if draws_over(matches) {
+        return Ok(None);
+    }
+    Ok(sweep_with(matches, frames, ks))
+}
+
+/// What the matches of the program ask for.
+fn task_in<'a>(alloc: Global, matches: &ArgMatches<'a>) -> Result<Option<Task<'a>>, AllocError>
+    ensures { IfOk result (λ task. option_map asked_of task
+        ≡ asked_in (subcommand_rows_of matches.now)) }
+{
+    if let Some(run) = matches.subcommand_matches("run") {
+        return match run_words(run) {
+            Some(words) => Ok(Some(Task::Run(words))),
+            None => Ok(None),
+        };
+    }
+    if let Some(sweep) = matches.subcommand_matches("sweep") {
+        return match sweep_words(alloc, sweep)? {
+            Some(words) => Ok(Some(Task::Sweep(words))),
+            None => Ok(None),
+        };
+    }
+    if let Some(migration) = matches.subcommand_matches("migrate") {
+        return match migration_words(migration) {
+            Some(words) => Ok(Some(Task::Migrate(words))),
+            None => Ok(None),
+        };
+    }
+    let Some(explain) = matches.subcommand_matches("explain") else {
+        return Ok(None);
+    };
+    match explanation_at(explain) {
+        Some(text) => Ok(Some(Task::Explain(text))),
+        None => Ok(None),
+    }
+}
+
+/// A fault of an option whose word names nothing.
+fn invalid(alloc: Global, said: &str) -> Result<Error, AllocError>
+    ensures { IfOk result (λ e. kind_of e ≡ ErrorKind.InvalidValue) }
+{
+    let mut command = bpool_command(alloc)?;
+    command.error(ErrorKind::InvalidValue, said)
+}
+
+/// The fault of a run that names no order.
+fn no_order(alloc: Global, run: &ArgMatches<'_>) -> Result<Error, AllocError>
+    ensures { IfOk result (λ e. kind_of e ≡ ErrorKind.InvalidValue) }
+{
+    let word = word_at(run, "order").unwrap_or("");
+    let said = format!(in alloc;
+        "invalid value '{word}' for '--order <ORDER>' [possible values: trace, free]"
+    )?;
+    invalid(alloc, said.as_str())
+}
+
+/// The fault of an option whose word is no list of numbers up to `high`.
+fn no_list(
+    alloc: Global,
+    sweep: &ArgMatches<'_>,
+    id: &str,
+    high: usize,
+) -> Result<Error, AllocError>
+    ensures { IfOk result (λ e. kind_of e ≡ ErrorKind.InvalidValue) }
+{
+    let word = word_at(sweep, id).unwrap_or("");
+    let said = format!(in alloc;
+        "invalid value '{word}' for '--{id} <LIST>': not 1 to {MAX_LISTED} different numbers from 1 to {high} with commas, nor FIRST..LAST"
+    )?;
+    invalid(alloc, said.as_str())
+}
+
+/// The fault of a sweep: its frames are no list, or else its K are none, or else its picture goes into its references.
+fn no_sweep(alloc: Global, sweep: &ArgMatches<'_>) -> Result<Error, AllocError>
+    ensures { IfOk result (λ e. kind_of e ≡ ErrorKind.InvalidValue) }
+{
+    if list_at(alloc, sweep, "frames", 1, MAX_FRAMES)?.is_none() {
+        return no_list(alloc, sweep, "frames", MAX_FRAMES);
+    }
+    if list_at(alloc, sweep, "k", 1, MAX_STAMPS)?.is_none() {
+        return no_list(alloc, sweep, "k", MAX_STAMPS);
+    }
+    let picture = word_at(sweep, "svg").unwrap_or("");
+    let said = format!(in alloc;
+        "invalid value '{picture}' for '--svg <FILE>': it is the word of REFERENCES"
+    )?;
+    invalid(alloc, said.as_str())
+}
+
+/// The fault of a number that no refusal has.
+fn no_number(alloc: Global, explain: &ArgMatches<'_>) -> Result<Error, AllocError>
+    ensures { IfOk result (λ e. kind_of e ≡ ErrorKind.InvalidValue) }
+{
+    let word = word_at(explain, "number").unwrap_or("");
+    let said = format!(in alloc; "invalid value '{word}' for '<N>': no refusal has this number")?;
+    invalid(alloc, said.as_str())
+}
+
+/// The fault of words that clap lets through, with an option whose word names nothing.
+fn names_nothing(alloc: Global, matches: &ArgMatches<'_>) -> Result<Error, AllocError>
+    ensures { IfOk result (λ e. kind_of e ≡ ErrorKind.InvalidValue) }
+{
+    if let Some(sweep) = matches.subcommand_matches("sweep") {
+        return no_sweep(alloc, sweep);
+    }
+    if let Some(explain) = matches.subcommand_matches("explain") {
+        return no_number(alloc, explain);
+    }
+    match matches.subcommand_matches("run") {
+        Some(run) => no_order(alloc, run),
+        None => no_order(alloc, matches),
+    }
+}
+
+/// Reads the words of a command line, which leave out the program's name.
+///
+/// An `Err` is by the kind of the words' first fault: a mistake, a call for help, or want of memory.
+pub fn read_words<'a>(alloc: Global, words: &'a [&'a str]) -> Result<Task<'a>, Error>
+    ensures told { IfOk result (λ task. asked_by (texts words.now) ≡ Some (asked_of task)) }
+    ensures limits { IfOk result (λ task. AreInLimits (asked_of task)) }
+    ensures faults { FailsBy (fault_in (texts words.now)) result }
+{
+    let command = bpool_command(alloc)?;
+    let matches = command.try_get_matches_from(words)?;
+    let told = task_in(alloc, &matches)?;
+    match told {
+        Some(task) => Ok(task),
+        None => Err(names_nothing(alloc, &matches)?),
+    }
+}

@@ -1,5 +1,0 @@
-use Rattle.bp_words.proofs.Messages.{message-line}
-use Rattle.bp_words.proofs.ending.Ending.say.Goals as goal
-
-pub returns-else-is_help-clause-one_line : goal.returns-else-is_help-clause-one_line
-returns-else-is_help-clause-one_line g c = message-line c.args.self.now
