@@ -1,7 +1,7 @@
 /* The calls of the header, as C makes them. Each refuses a null pointer, and else makes the proved call of its name.
  * Where two structs of the caller's may be one, it passes its own. A length beyond the largest page it passes as one
- * byte more than that, which the proved call refuses. The proved calls are those of crates/hojzmated_c, to which the
- * Makefile gives names that begin with proved_.
+ * byte more than that, which the proved call refuses. The proved calls are those of crates/hojzmated_c, whose names
+ * begin with proved_.
  *
  * This file is tested, by fuzz.c and peers/c/refusals.c, and not proved.
  */

@@ -41,7 +41,7 @@ def escaped(text):
 
 def blocks_of(cases):
     """For each case its name and its lines."""
-    for block in cases.split("\n== ")[1:]:
+    for block in cases.split("\ncase ")[1:]:
         name, *lines = block.splitlines()
         yield name, [line for line in lines if line and not line.startswith("#")]
 
@@ -49,26 +49,26 @@ def blocks_of(cases):
 def runs_of(lines):
     """Each run of a case that has a list on standard input or in a file: its words, the list, and what it prints."""
     files, runs = {}, []
-    for kind, rest in (line.split(" ", 1) for line in lines):
-        if kind == "@":
+    for kind, _, rest in (line.partition(" ") for line in lines):
+        if kind == "file":
             name, _, text = rest.partition(" text ")
             files[name] = escaped(text)
-        elif kind == "$":
+        elif kind == "bpool":
             words = rest.split()
             runs.append((words[1:], [files.get(words[1], "")] if len(words) > 1 else [], []))
-        elif kind == "<":
+        elif kind == "input":
             runs[-1][1].append(escaped(rest) + "\n")
-        elif kind == ">":
+        elif kind == "output":
             runs[-1][2].append(rest)
-        elif kind == ">=":
+        elif kind == "output_as":
             runs[-1][2].extend(text_of("check", "cases", rest).splitlines())
     return runs
 
 
 def filled_in(lines):
     """The lines of a case for each of its rows, which fill in %1, %2 and so on; once where it has none."""
-    rows = [[it.strip() for it in line[2:].split("=>")] for line in lines if line.startswith("* ")]
-    rest = [line for line in lines if not line.startswith("* ")]
+    rows = [[it.strip() for it in line[4:].split("=>")] for line in lines if line.startswith("row ")]
+    rest = [line for line in lines if not line.startswith("row ")]
     for row in rows or [[]]:
         yield [re.sub(r"%(\d)", lambda it: row[int(it[1]) - 1], line) if row else line for line in rest]
 
@@ -85,7 +85,7 @@ def sweeps_of(cases):
         if not name.startswith("sweep_"):
             continue
         for filled in filled_in(lines):
-            for words, pieces, printed in runs_of([it for it in filled if it[0] in "@$<>"]):
+            for words, pieces, printed in runs_of(filled):
                 if printed and printed[0] == simulation.HEADER and "--column" not in words:
                     yield name, without_picture(words), "".join(pieces), [it for it in printed[1:] if ",opt," not in it]
 

@@ -27,7 +27,7 @@ pub use Rattle.bp_ports.specs.Files
 pub use Rattle.bp_device.specs.Drivers
 pub use Rattle.bp_device.specs.Owned
 -- Shared pools, and runs of workers.
-pub use Rattle.bp_book.specs.Turns
+pub use Rattle.bp_session_log.specs.Turns
 pub use Rattle.bp_shared.specs.Sessions
 pub use Rattle.bp_shared.specs.Taking
 pub use Rattle.bp_shared.specs.Telling

@@ -14,7 +14,7 @@ pub use bp_replacer::Settings;
 
 // Cores, their entries, and what their calls hand out.
 pub use bp_core::{
-    Core, EndRefusal, Ended, Fix, Flush, NotFlushed, Pass, PassNote, PoolCore, ReadTicket,
+    Config, Core, EndRefusal, Ended, Fix, Flush, NotFlushed, Pass, PassNote, PoolCore, ReadTicket,
     SilentCore, Stats, WriteTicket,
 };
 pub use bp_keeper::{Keeper, ListKeeper, RecordingKeeper, SilentKeeper};
@@ -31,13 +31,13 @@ pub use bp_device::{OwnedPool, drive_fix, drive_flush, drive_flush_all, drive_ne
 
 // Workers over one pool.
 pub use bp_workers::{
-    Asked, Client, DurableLog, Kind, Leading, Left, Log, Patience, PoolConfig, Run, Upkeep, Worker,
+    Asked, Client, DurableLog, Kind, Leading, Left, Log, Patience, Run, Upkeep, Worker,
     fix_durably, run_workers, run_workers_over,
 };
 
 // The shared pool that they have, and its parts for who runs threads himself.
-pub use bp_book::Book;
 pub use bp_mark::{LogEnd, Mark, Reader};
+pub use bp_session_log::Book;
 pub use bp_shared::{
     ClosedPool, LogWriter, Parts, PoolName, Session, SharedPool, SilentPool, SilentSession, Taker,
     TrailRing, give_back,

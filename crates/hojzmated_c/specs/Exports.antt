@@ -5,7 +5,7 @@ use Rattle.bp_page.specs.declared.refusals.Refusal.{Refusal}
 use Rattle.bp_page.specs.declared.refusals.PortFault.{PortFault}
 use Rattle.bp_page.specs.Refusals.{number_of}
 use Rattle.bp_trail.specs.Event.{Grant}
-use Rattle.bp_trail.specs.Saved.{top}
+use Rattle.bp_trail.specs.Saved.{page_lsn}
 use Rattle.bp_core.specs.declared.passes.Pass.{Pass}
 use Rattle.bp_core.specs.declared.passes.Ended.{Ended}
 use Rattle.bp_core.specs.declared.passes.Ended.TheVariants as ended
@@ -159,7 +159,7 @@ abbrev pub LsnTold : Option CoreView → Option CoreView → HzGrant → ℕ →
 LsnTold old new pass lsn lsn' number =
     OnSame old new number (lsn' ≡ lsn)
     (λ core.
-    ((number ≡ 0) × KnowsPass core (pass_of pass) × EachPast core (λ past. lsn' ≡ top past pass.page))
+    ((number ≡ 0) × KnowsPass core (pass_of pass) × EachPast core (λ past. lsn' ≡ page_lsn past pass.page))
     ⊎ ((number ≡ 14) × LacksPass core (pass_of pass) × (lsn' ≡ lsn)))
 
 abbrev pub NextTold : Option CoreView → Option CoreView → ℕ → HzUnsaved → HzUnsaved → ℕ → Type 0

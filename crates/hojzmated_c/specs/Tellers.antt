@@ -4,7 +4,7 @@ use Rattle.bp_page.specs.declared.refusals.Refusal.{Refusal}
 use Rattle.bp_page.specs.declared.refusals.Refusal.TheVariants as refusal
 use Rattle.bp_trail.specs.Trail.{Trail}
 use Rattle.bp_trail.specs.Places.{resident}
-use Rattle.bp_trail.specs.Saved.{top, first_lsn, IsRedoFrom}
+use Rattle.bp_trail.specs.Saved.{page_lsn, first_lsn, IsRedoFrom}
 use Rattle.bp_core.specs.declared.stats.Stats.{Stats}
 use Rattle.bp_core.specs.CoreView.{CoreView, EachPast}
 use Rattle.bp_core.specs.Counts.{AreCounts}
@@ -16,7 +16,7 @@ use Rattle.hojzmated_c.specs.Forms.{shown_stats}
 -- an unsaved page: its page LSN, and the least LSN of its writes that are not saved
 abbrev pub ShowsUnsaved : Trail → Option ℕ → HzUnsaved → Type 0
 ShowsUnsaved past (Some page) out =
-    (out.page ≡ page) × (out.lsn ≡ top past page) × (first_lsn past page ≡ Some out.first_lsn)
+    (out.page ≡ page) × (out.lsn ≡ page_lsn past page) × (first_lsn past page ≡ Some out.first_lsn)
     × (out.has_page ≡ 1)
 ShowsUnsaved past None out = out ≡ record { page = 0; lsn = 0; first_lsn = 0; has_page = 0 }
 

@@ -1,5 +1,6 @@
 //! The silent core for C, C++, Rust and Go: a static library of plain calls on a handle. `include/hojzmated.h` declares
-//! them, and `docs/C.md` says how to use them.
+//! them without `proved_` in their names: `bindings/c/pointers.c` has those calls, which look for null pointers and then
+//! make these. `docs/C.md` says how to use them.
 //!
 //! Every call tests what the core requires, and answers 0 or the number of a refusal. What C has to keep to is that a
 //! handle is one that these calls made, and that each pointer leads to memory of its type.
@@ -66,7 +67,7 @@ fn boxed(alloc: Global, config: &HzConfig) -> Result<Box<Pool, Global>, Refusal>
 
 /// The version of the library: its first number ten thousand times, its second a hundred times, and its third.
 #[unsafe(no_mangle)]
-pub extern "C" fn hz_version() -> u32
+pub extern "C" fn proved_hz_version() -> u32
     ensures { result ≡ 1000 }
 {
     VERSION
@@ -74,7 +75,7 @@ pub extern "C" fn hz_version() -> u32
 
 /// Makes a core: 0, or the number of the refusal, which leaves `core` as it was.
 #[unsafe(no_mangle)]
-pub extern "C" fn hz_core_new(alloc: Global, config: &HzConfig, core: &mut HzCore) -> u16
+pub extern "C" fn proved_hz_core_new(alloc: Global, config: &HzConfig, core: &mut HzCore) -> u16
     ensures { Made core.old.seal.pool core.new.seal.pool config.now result }
 {
     if core.is_live {
@@ -91,7 +92,7 @@ pub extern "C" fn hz_core_new(alloc: Global, config: &HzConfig, core: &mut HzCor
 
 /// Frees a core: 0, or 50 where there is none. The handle has none afterwards.
 #[unsafe(no_mangle)]
-pub extern "C" fn hz_core_free(alloc: Global, core: &mut HzCore) -> u16
+pub extern "C" fn proved_hz_core_free(alloc: Global, core: &mut HzCore) -> u16
     ensures gone { core.new.seal.pool ≡ None }
     ensures number { result ≡ (if is_some core.old.seal.pool then 0 else 50) }
 {
@@ -103,7 +104,7 @@ pub extern "C" fn hz_core_free(alloc: Global, core: &mut HzCore) -> u16
 
 /// Moves the clock on.
 #[unsafe(no_mangle)]
-pub extern "C" fn hz_tick(alloc: Global, core: &mut HzCore, client: u8, n: u64) -> u16
+pub extern "C" fn proved_hz_tick(alloc: Global, core: &mut HzCore, client: u8, n: u64) -> u16
     ensures { Ticked core.old.seal.pool core.new.seal.pool client n result }
 {
     let Some(mut pool) = core.take(alloc) else {
@@ -116,7 +117,7 @@ pub extern "C" fn hz_tick(alloc: Global, core: &mut HzCore, client: u8, n: u64) 
 
 /// Notes that the log is durable as far as an LSN.
 #[unsafe(no_mangle)]
-pub extern "C" fn hz_mark(alloc: Global, core: &mut HzCore, client: u8, lsn: u64) -> u16
+pub extern "C" fn proved_hz_mark(alloc: Global, core: &mut HzCore, client: u8, lsn: u64) -> u16
     ensures { Marked core.old.seal.pool core.new.seal.pool client lsn result }
 {
     let Some(mut pool) = core.take(alloc) else {
@@ -129,7 +130,12 @@ pub extern "C" fn hz_mark(alloc: Global, core: &mut HzCore, client: u8, lsn: u64
 
 /// Forgets old histories, and counts them.
 #[unsafe(no_mangle)]
-pub extern "C" fn hz_purge(alloc: Global, core: &mut HzCore, client: u8, count: &mut u64) -> u16
+pub extern "C" fn proved_hz_purge(
+    alloc: Global,
+    core: &mut HzCore,
+    client: u8,
+    count: &mut u64,
+) -> u16
     ensures { Purged core.old.seal.pool core.new.seal.pool client count.old count.new result }
 {
     let Some(mut pool) = core.take(alloc) else {
@@ -145,7 +151,7 @@ pub extern "C" fn hz_purge(alloc: Global, core: &mut HzCore, client: u8, count: 
 
 /// Asks for a page. Where another one is to be written out first, `image` takes the bytes to write.
 #[unsafe(no_mangle)]
-pub extern "C" fn hz_fix(
+pub extern "C" fn proved_hz_fix(
     alloc: Global,
     core: &mut HzCore,
     client: u8,
@@ -167,7 +173,7 @@ pub extern "C" fn hz_fix(
 
 /// Asks that a page be written out if it is unsaved: `image` then takes the bytes to write.
 #[unsafe(no_mangle)]
-pub extern "C" fn hz_flush(
+pub extern "C" fn proved_hz_flush(
     alloc: Global,
     core: &mut HzCore,
     client: u8,
@@ -189,7 +195,7 @@ pub extern "C" fn hz_flush(
 
 /// Ends a read that went well.
 #[unsafe(no_mangle)]
-pub extern "C" fn hz_read_end(
+pub extern "C" fn proved_hz_read_end(
     alloc: Global,
     core: &mut HzCore,
     ticket: &HzGrant,
@@ -212,7 +218,7 @@ pub extern "C" fn hz_read_end(
 
 /// Ends a read that failed: the number is never 0.
 #[unsafe(no_mangle)]
-pub extern "C" fn hz_read_failed(
+pub extern "C" fn proved_hz_read_failed(
     alloc: Global,
     core: &mut HzCore,
     ticket: &HzGrant,
@@ -230,7 +236,7 @@ pub extern "C" fn hz_read_failed(
 
 /// Ends a write-out.
 #[unsafe(no_mangle)]
-pub extern "C" fn hz_write_end(
+pub extern "C" fn proved_hz_write_end(
     alloc: Global,
     core: &mut HzCore,
     ticket: &HzGrant,
@@ -261,7 +267,7 @@ pub extern "C" fn hz_write_end(
 
 /// Copies a part of a page.
 #[unsafe(no_mangle)]
-pub extern "C" fn hz_read(
+pub extern "C" fn proved_hz_read(
     alloc: Global,
     core: &mut HzCore,
     pass: &HzGrant,
@@ -281,7 +287,7 @@ pub extern "C" fn hz_read(
 
 /// Tells where the bytes of a page are, while this pass is out. No entry is added.
 #[unsafe(no_mangle)]
-pub extern "C" fn hz_page(
+pub extern "C" fn proved_hz_page(
     alloc: Global,
     core: &mut HzCore,
     pass: &HzGrant,
@@ -309,7 +315,7 @@ pub extern "C" fn hz_page(
 
 /// Puts bytes into a page.
 #[unsafe(no_mangle)]
-pub extern "C" fn hz_write(
+pub extern "C" fn proved_hz_write(
     alloc: Global,
     core: &mut HzCore,
     pass: &HzGrant,
@@ -329,7 +335,7 @@ pub extern "C" fn hz_write(
 
 /// Gives a pass back.
 #[unsafe(no_mangle)]
-pub extern "C" fn hz_unfix(alloc: Global, core: &mut HzCore, pass: &HzGrant) -> u16
+pub extern "C" fn proved_hz_unfix(alloc: Global, core: &mut HzCore, pass: &HzGrant) -> u16
     ensures { Unfixed core.old.seal.pool core.new.seal.pool pass.now result }
 {
     let Some(mut pool) = core.take(alloc) else {
@@ -348,7 +354,7 @@ pub extern "C" fn hz_unfix(alloc: Global, core: &mut HzCore, pass: &HzGrant) -> 
 
 /// Tells the page LSN of the page of a pass. No entry is added.
 #[unsafe(no_mangle)]
-pub extern "C" fn hz_page_lsn(
+pub extern "C" fn proved_hz_page_lsn(
     alloc: Global,
     core: &mut HzCore,
     pass: &HzGrant,
@@ -361,16 +367,16 @@ pub extern "C" fn hz_page_lsn(
     };
     let told = pool.page_lsn(pass);
     *core = HzCore::of(pool);
-    let Some(top) = told else {
+    let Some(page_lsn) = told else {
         return Refusal::UnknownPass.number();
     };
-    *lsn = top.number();
+    *lsn = page_lsn.number();
     0
 }
 
 /// Tells the first unsaved page from this number on. No entry is added.
 #[unsafe(no_mangle)]
-pub extern "C" fn hz_next_unsaved(
+pub extern "C" fn proved_hz_next_unsaved(
     alloc: Global,
     core: &mut HzCore,
     from: u64,
@@ -388,7 +394,7 @@ pub extern "C" fn hz_next_unsaved(
 
 /// Tells from where redo has to begin. No entry is added.
 #[unsafe(no_mangle)]
-pub extern "C" fn hz_redo_from(
+pub extern "C" fn proved_hz_redo_from(
     alloc: Global,
     core: &mut HzCore,
     lsn: &mut u64,
@@ -417,7 +423,7 @@ pub extern "C" fn hz_redo_from(
 
 /// What was counted, and how many pages there are of each kind. No entry is added.
 #[unsafe(no_mangle)]
-pub extern "C" fn hz_stats_of(alloc: Global, core: &mut HzCore, out: &mut HzStats) -> u16
+pub extern "C" fn proved_hz_stats_of(alloc: Global, core: &mut HzCore, out: &mut HzStats) -> u16
     ensures { StatsTold core.old.seal.pool core.new.seal.pool out.old out.new result }
 {
     let Some(pool) = core.take(alloc) else {
@@ -430,7 +436,7 @@ pub extern "C" fn hz_stats_of(alloc: Global, core: &mut HzCore, out: &mut HzStat
 
 /// Tells whether a page is in a frame. No entry is added.
 #[unsafe(no_mangle)]
-pub extern "C" fn hz_is_resident(
+pub extern "C" fn proved_hz_is_resident(
     alloc: Global,
     core: &mut HzCore,
     page: u64,
@@ -452,7 +458,7 @@ pub extern "C" fn hz_is_resident(
 
 /// Writes the text of a refusal's number, as much of it as there is room for, and returns its whole length.
 #[unsafe(no_mangle)]
-pub extern "C" fn hz_text(number: u16, into: &mut [u8]) -> usize
+pub extern "C" fn proved_hz_text(number: u16, into: &mut [u8]) -> usize
     ensures length { result ≡ length (text_of number) }
     ensures bytes { into.new ≡ begun_with (text_of number) into.old }
 {

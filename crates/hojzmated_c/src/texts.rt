@@ -1,8 +1,8 @@
 //! The text of each number.
 //!
-//! They are those of `Refusal`, but for two: 1 comes from no list of references here, and the LSN of 12 is in a field.
-//! Four numbers are of C alone. `peers/c/refusals.c` has each text that a call answers once more, and looks whether it
-//! comes.
+//! They are those of `explanation_of`, but for two: 1 comes from no list of references here, and the LSN of 12 is in a
+//! field. Four numbers are of C alone. `peers/c/refusals.c` has each text that a call answers once more, and looks
+//! whether it comes.
 ghost use Rattle.std.specs.Prelude.{◌≡◌};
 ghost use Rattle.hojzmated_c.specs.Texts.{text_of};
 

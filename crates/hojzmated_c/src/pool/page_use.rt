@@ -1,7 +1,7 @@
 //! Reading, writing and giving back a page by what its pass was given as.
 ghost use Rattle.std.specs.Prelude.{◌≡◌, IfSome, IfNone};
 ghost use Rattle.bp_trail.specs.Images.{held as held_by};
-ghost use Rattle.bp_trail.specs.Saved.{top};
+ghost use Rattle.bp_trail.specs.Saved.{page_lsn};
 ghost use Rattle.bp_core.specs.CoreView.{EachPast};
 ghost use Rattle.bp_core.specs.Outcomes.{KnowsPass, LacksPass, UnfixOutcome};
 ghost use Rattle.hojzmated_c.specs.Forms.{pass_of};
@@ -48,7 +48,7 @@ impl Pool {
     pub(crate) fn page_lsn(&self, held: &HzGrant) -> Option<Lsn>
         ensures known { IfSome result (λ lsn. KnowsPass self.now (pass_of held.now)) }
         ensures lsn { IfSome result (λ lsn. EachPast self.now
-            (λ past. lsn ≡ top past held.now.page)) }
+            (λ past. lsn ≡ page_lsn past held.now.page)) }
         ensures unknown { IfNone result (LacksPass self.now (pass_of held.now)) }
     {
         let pass = held.pass();

@@ -1,0 +1,146 @@
+/* How long one hz_fix takes, at the longest too: with one load in HITS hits, and after a burst of hits.
+ *
+ *     peers/c/tail FRAMES HITS SECONDS
+ *     peers/c/tail FRAMES burst ROUNDS
+ *
+ * A page has 128 bytes, and there are twice as many pages as frames. The pages come at random, and the clock moves by
+ * one at each fix; K is 2, with no correlated period. In the first form HITS fixes of resident pages come between two
+ * loads, each of which has a page leave. In the second each frame's page is hit once, and then a page is loaded: only
+ * that fix is timed. The time is that of hz_fix alone, with some 20 ns for the clock itself.
+ *
+ * Printed: how many fixes were timed, and their median, 99.9 in 100 and greatest, in nanoseconds; in the first form
+ * also operations a second, of fix and unfix.
+ */
+#include <stdbool.h>
+#include <stdint.h>
+#include <stdio.h>
+#include <stdlib.h>
+#include <string.h>
+#include <time.h>
+
+#include "hojzmated.h"
+
+enum { SIZE = 128, MOST = 1 << 24 };
+
+static hz_core core;
+static uint8_t image[SIZE];
+static unsigned pages, frames, resident_count;
+static unsigned *residents; /* the resident pages */
+static unsigned *place_of;  /* one more than the place of a page among them, or 0 */
+static uint32_t *times;
+static size_t timed;
+static uint64_t state = 1;
+
+static void fail(const char *what)
+{
+    fprintf(stderr, "tail: %s\n", what);
+    exit(1);
+}
+
+static uint64_t now(void)
+{
+    struct timespec t;
+    clock_gettime(CLOCK_MONOTONIC, &t);
+    return (uint64_t)t.tv_sec * 1000000000u + (uint64_t)t.tv_nsec;
+}
+
+static unsigned draw(unsigned below)
+{
+    state = state * 6364136223846793005u + 1442695040888963407u;
+    return (unsigned)((state >> 33) % below);
+}
+
+/* Fixes a page and gives it back. The fix is timed where that is asked for. */
+static void fix(unsigned page, bool is_timed)
+{
+    hz_fixed fixed;
+    if (hz_tick(&core, 0, 1))
+        fail("tick");
+    uint64_t begin = now();
+    uint16_t refused = hz_fix(&core, 0, page, image, SIZE, &fixed);
+    uint64_t took = now() - begin;
+    if (refused)
+        fail("fix");
+    if (is_timed && timed < MOST)
+        times[timed++] = (uint32_t)(took < UINT32_MAX ? took : UINT32_MAX);
+    if (fixed.kind == HZ_LOAD) {
+        if (hz_read_end(&core, &fixed.grant, image, SIZE, &fixed.grant))
+            fail("read_end");
+        unsigned place = resident_count;
+        if (fixed.has_evicted) {
+            place = place_of[fixed.evicted] - 1;
+            place_of[fixed.evicted] = 0;
+        } else {
+            resident_count++;
+        }
+        residents[place] = page;
+        place_of[page] = place + 1;
+    }
+    if (hz_unfix(&core, &fixed.grant))
+        fail("unfix");
+}
+
+static unsigned absent(void)
+{
+    unsigned page = draw(pages);
+    while (place_of[page])
+        page = draw(pages);
+    return page;
+}
+
+static int by_time(const void *a, const void *b)
+{
+    uint32_t x = *(const uint32_t *)a, y = *(const uint32_t *)b;
+    return (x > y) - (x < y);
+}
+
+static void start(void)
+{
+    pages = 2 * frames;
+    hz_config config = {.pages = pages, .page_size = SIZE, .frames = frames, .room = (size_t)1 << 61,
+                        .correlated = 0, .retained = (uint64_t)1 << 62, .k = 2, .clients = 1};
+    residents = calloc(frames, sizeof *residents);
+    place_of = calloc(pages, sizeof *place_of);
+    times = malloc(MOST * sizeof *times);
+    if (!residents || !place_of || !times || hz_core_new(&config, &core))
+        fail("the pool");
+    memset(times, 0, MOST * sizeof *times);
+    for (unsigned page = 0; page < frames; page++)
+        fix(page, false);
+    for (unsigned i = 0; i < 4 * frames; i++)
+        fix(residents[draw(frames)], false);
+}
+
+int main(int argc, char **argv)
+{
+    frames = argc == 4 ? (unsigned)atoi(argv[1]) : 0;
+    if (frames < 1 || frames > 65536)
+        fail("FRAMES HITS SECONDS, or FRAMES burst ROUNDS");
+    start();
+    uint64_t begin = now(), operations = 0;
+    if (!strcmp(argv[2], "burst")) {
+        for (int round = atoi(argv[3]); round > 0; round--) {
+            for (unsigned at = 0; at < frames; at++)
+                fix(residents[(at * 40503u + (unsigned)round) % frames], false);
+            fix(absent(), true);
+        }
+    } else {
+        unsigned hits = (unsigned)atoi(argv[2]);
+        for (double seconds = atof(argv[3]); (double)(now() - begin) < seconds * 1e9;) {
+            for (unsigned i = 0; i < hits; i++)
+                fix(residents[draw(frames)], true);
+            fix(absent(), true);
+            operations += hits + 1;
+        }
+    }
+    double took = (double)(now() - begin) * 1e-9;
+    if (timed == 0)
+        fail("nothing was timed");
+    qsort(times, timed, sizeof *times, by_time);
+    printf("%zu fixes, median %u ns, 99.9 in 100 %u ns, greatest %u ns", timed, times[timed / 2],
+           times[timed - 1 - timed / 1000], times[timed - 1]);
+    if (operations)
+        printf(", %.0f operations a second", (double)operations / took);
+    printf("\n");
+    return hz_core_free(&core) ? 1 : 0;
+}
