@@ -1,0 +1,100 @@
+//! The power fails while four threads move amounts, and one makes checkpoints.
+use crate::disk::{Disk, Fault};
+use hojzmated::SharedConfig;
+use ledger::Store;
+use ledger::bank::{self, Client, Random};
+use std::sync::atomic::{AtomicBool, AtomicU64, Ordering};
+use std::thread;
+use std::time::Duration;
+
+const THREADS: usize = 4;
+const ACCOUNTS: u64 = 60;
+
+/// What was acknowledged to each client.
+type Acks = [AtomicU64; THREADS];
+
+/// Cuts the power twice. What the threads did until then is another thing each time.
+pub fn run(seed: u64) -> Result<(), String> {
+    let (disk, mut random) = (Disk::new(seed), Random(seed));
+    let store = Store::create(&*disk.pages(), &*disk.log(), (500, 1024), 100_000);
+    store.map_err(told)?;
+    bank::load(&opened(&disk)?, ACCOUNTS).map_err(told)?;
+    disk.is_slow();
+    let acks = Acks::default();
+    for _ in 0..2 {
+        let store = opened(&disk)?;
+        disk.is_to_fail(Some(Fault::Cut(1 + random.below(600))));
+        work(&store, &disk, &acks, random.below(1 << 40))?;
+        drop(store);
+        if random.below(4) > 0 {
+            disk.lose_power();
+        } else {
+            disk.restart();
+        }
+        disk.is_to_fail(None);
+        let store = opened(&disk)?;
+        store.verify().map_err(told)?;
+        let known: Vec<u64> = acks.iter().map(|it| it.load(Ordering::Relaxed)).collect();
+        bank::check(&store, &known).map_err(told)?;
+    }
+    Ok(())
+}
+
+fn told(why: ledger::Error) -> String {
+    why.to_string()
+}
+
+fn opened(disk: &Disk) -> Result<Store, String> {
+    let opened = Store::open(disk.pages(), disk.log(), |pages, size| {
+        SharedConfig::new(pages, size, 64)
+    });
+    opened.map(|it| it.0).map_err(told)
+}
+
+fn work(store: &Store, disk: &Disk, acks: &Acks, seed: u64) -> Result<(), String> {
+    let has_ended = AtomicBool::new(false);
+    // What fails once the power is off is no fault.
+    let or_off = |done: ledger::Result<()>| match done {
+        Err(why) if !disk.is_off() => Err(why.to_string()),
+        _ => Ok(()),
+    };
+    thread::scope(|scope| {
+        let (has_ended, or_off) = (&has_ended, &or_off);
+        let workers: Vec<_> = acks
+            .iter()
+            .enumerate()
+            .map(|(number, ack)| {
+                let client = Client {
+                    store,
+                    number: number as u64,
+                    accounts: ACCOUNTS,
+                    opens: 30,
+                    scans: 10,
+                    random: Random(seed + number as u64),
+                };
+                scope.spawn(move || or_off(transfer(client, ack)))
+            })
+            .collect();
+        let keeper = scope.spawn(move || {
+            while !has_ended.load(Ordering::Relaxed) && store.is_running() {
+                or_off(store.checkpoint())?;
+                thread::sleep(Duration::from_micros(500));
+            }
+            Ok(())
+        });
+        let done: Vec<_> = workers.into_iter().map(|it| it.join()).collect();
+        has_ended.store(true, Ordering::Relaxed);
+        let mut done = done.into_iter().chain([keeper.join()]);
+        done.try_for_each(|it| it.unwrap_or(Err("a thread panicked".into())))
+    })
+}
+
+/// Makes transactions until one fails.
+fn transfer(mut client: Client, ack: &AtomicU64) -> ledger::Result<()> {
+    loop {
+        if let Some((count, lsn)) = client.step()? {
+            client.store.make_durable(lsn)?;
+            ack.store(count, Ordering::Relaxed);
+        }
+    }
+}
