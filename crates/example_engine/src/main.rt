@@ -5,144 +5,138 @@
 
 ghost use Rattle.std.specs.Prelude.{◌≡◌};
 
-mod log;
-
-use crate::log::{Log, Shared};
+use anyhow::Context;
 use hojzmated::{
-    Client, FilePort, Format, Geometry, OpenFault, Pass, Patience, PoolConfig, PoolName, Port,
-    Refusal, Settings, SilentKeeper, SilentPool as Pool, Upkeep, Worker, create_page_file,
-    fix_durably, give_back, run_workers_over,
+    Client, Config, FilePort, Format, Geometry, Lsn, PageNo, PoolName, Port, Refusal, SilentKeeper,
+    SilentPool, Upkeep, Worker, create_page_file, give_back, run_workers_over,
 };
-use std::env;
-use std::fs::File;
+use std::os::unix::fs::FileExt;
 use std::sync::{Arc, Mutex, Wait};
 use std::thread::Parker;
 use std::time::Duration;
+use std::{env, fs};
 
-const PAGES: u64 = 32;
-
-/// A worker's session and port. The session stays its own: each clause `client` says so, and each loop's invariant.
+/// A client's session and port. The session stays that client's: the clause `client` and the loops' invariants say so.
 type Own<N, P> = Client<N, P, SilentKeeper>;
+
+/// The log. A record is the number of a page to which 1 is added, in 8 bytes. Its LSN is its own number, from 1.
+#[derive(Drop)]
+struct Log {
+    file: fs::File,
+    last: Lsn,
+    /// How many clients still add.
+    adders: u64,
+}
+
+impl Log {
+    /// Appends a record. Its LSN.
+    fn append(&mut self, page: PageNo) -> Result<Lsn, Refusal> {
+        let place = self.last.number().wrapping_mul(8);
+        let written = self.file.write_all_at(&page.number().to_le_bytes(), place);
+        written.map_err(|_| Refusal::WriteFailed)?;
+        self.last = Lsn::new(self.last.number().wrapping_add(1));
+        Ok(self.last)
+    }
+}
 
 #[derive(Drop)]
 struct Adding {
-    shared: Shared,
+    log: Arc<Mutex<Log>, std::alloc::Global>,
     /// The latest value of a counter, or why there is none.
     latest: Result<u64, Refusal>,
 }
 
 impl Adding {
-    /// Adds 1 in the page of a pass: first the record, then the write. The log's lock makes it one step.
+    /// Adds 1 in the page whose turn it is. The log's lock makes it one step: first the record, then the write.
     fn add<N: PoolName, P: Port>(
         &self,
         rt: &impl Wait,
-        pool: &Pool<N>,
+        pool: &SilentPool<N>,
         own: &mut Own<N, P>,
-        pass: &Pass,
     ) -> Result<u64, Refusal>
         ensures client { own.new.session.client ≡ own.old.session.client }
     {
-        let (mut log, mut counter) = (self.shared.log.lock(rt), [0; 8]);
-        pool.read_into(rt, &mut own.session, pass, 0, &mut counter)?;
-        let value = u64::from_le_bytes(counter).wrapping_add(1);
-        let lsn = log.append(pass.page())?;
-        pool.write_from(rt, &mut own.session, pass, 0, &value.to_le_bytes(), lsn)?;
-        Ok(value)
-    }
-
-    /// Adds 1 in the page with a number. A fix that wants the log durable, or a frame, waits and tries again.
-    fn visit<N: PoolName, P: Port>(
-        &mut self,
-        rt: &impl Wait,
-        pool: &Pool<N>,
-        own: &mut Own<N, P>,
-        number: u64,
-    ) -> Result<u64, Refusal>
-        ensures client { own.new.session.client ≡ own.old.session.client }
-    {
-        let patience = Patience {
-            rounds: 1000,
-            steps: 2, // more than the correlated period
-            pause: Duration::from_millis(1),
-        };
-        let page = own.port.geometry().page(number).ok_or(Refusal::OutOfPage)?;
-        let pass = fix_durably(rt, pool, own, &mut self.shared, page, patience)?;
-        let value = self.add(rt, pool, own, &pass);
-        // A pass can't be dropped: one that does not go back is spent as a note.
-        if let Err((pass, _)) = give_back(rt, pool, &mut own.session, pass) {
-            pass.note();
-        }
         pool.tick(rt, &mut own.session, 1)?;
-        value
+        let page = PageNo::new(self.log.lock(rt).last.number() % own.port.geometry().pages);
+        let pass = pool.fix(rt, &mut own.session, &mut own.port, page)?;
+        let (mut log, mut counter) = (self.log.lock(rt), [0; 8]);
+        let read = pool.read_into(rt, &mut own.session, &pass, 0, &mut counter);
+        let value = u64::from_le_bytes(counter).wrapping_add(1);
+        let written = match read.and_then(|()| log.append(page)) {
+            Ok(lsn) => pool.write_from(rt, &mut own.session, &pass, 0, &value.to_le_bytes(), lsn),
+            Err(refusal) => Err(refusal),
+        };
+        // A pass can't be dropped: one that does not go back is spent as a note.
+        let back = give_back(rt, pool, &mut own.session, pass);
+        let _ = back.map_err(|(pass, _)| pass.note());
+        written.and(Ok(value))
     }
 }
 
-// Over any port, so that it runs over a device in memory too.
 impl<P: Port> Worker<P, SilentKeeper> for Adding {
-    fn work<N: PoolName, R: Wait>(&mut self, rt: &R, pool: &Pool<N>, own: &mut Own<N, P>) {
-        for turn in 0..10 * PAGES {
-            self.latest = self.visit(rt, pool, own, turn % PAGES);
-            if self.latest.is_err() {
-                break;
+    fn work<N: PoolName, R: Wait>(&mut self, rt: &R, pool: &SilentPool<N>, own: &mut Own<N, P>) {
+        'adds: for _ in 0..10 * own.port.geometry().pages {
+            for _ in 0..1000 {
+                self.latest = self.add(rt, pool, own);
+                if self.latest.is_ok() {
+                    continue 'adds;
+                }
+                // Refused: the clock has still to move on, or client 0 to sync the log.
+                Parker::new().park_timeout(rt, Duration::from_millis(1));
             }
+            break;
         }
-        self.shared.log.lock(rt).is_closed = true;
+        let mut log = self.log.lock(rt);
+        log.adders = log.adders.saturating_sub(1);
     }
 
     fn lead<N: PoolName, R: Wait>(
         &mut self,
         rt: &R,
-        pool: &Pool<N>,
+        pool: &SilentPool<N>,
         own: &mut Own<N, P>,
         upkeep: &mut Upkeep<N>,
     ) {
         for _ in rt.forever() {
             Parker::new().park_timeout(rt, Duration::from_millis(1));
-            let mut log = self.shared.log.lock(rt);
-            if let Err(refusal) = log.sync(pool, &mut upkeep.log) {
-                // Records may be lost, even if the next sync passes: the mark stays, and client 1 gives up.
-                self.latest = Err(refusal);
+            let log = self.log.lock(rt);
+            if log.file.sync_data().is_err() {
+                // Records may be lost, even if the next sync passes: the mark stays where it is.
+                self.latest = Err(Refusal::WriteFailed);
                 return;
             }
-            if log.is_closed {
+            upkeep.log.raise(pool, log.last);
+            if log.adders == 0 {
                 break;
             }
         }
-        // The checkpoint. The log is durable by now; `main` syncs the page file, as a port can't.
-        for number in 0..PAGES {
-            if let Some(page) = own.port.geometry().page(number) {
-                let flushed = pool.flush(rt, &mut own.session, &mut own.port, page);
-                self.latest = flushed.and(self.latest);
-            }
-        }
+        // The checkpoint: each unsaved page goes out, and then all of them reach the device. The log is durable by now.
+        let flushed = pool.flush_all(rt, &mut own.session, &mut own.port);
+        let synced = own.port.sync(rt).map_err(|_| Refusal::WriteFailed);
+        let done = flushed.map_err(|stop| stop.why).and(synced);
+        self.latest = done.and(self.latest);
     }
 }
 
 fn main(rt: HostRuntime) -> Result<(), anyhow::Error> {
     let (rt, alloc) = (&rt, rt.alloc());
     let mut words = env::args(rt)?.skip(1);
-    let (Some(path), Some(log)) = (words.next(), words.next()) else {
-        return Ok(());
-    };
-    let (path, geometry) = (path.as_str(), Geometry::new(PAGES, 64)?);
-    let log = Arc::new(alloc, Mutex::new(Log::open(rt, log.as_str())?))?;
+    let path = words.next().context("no page file is named")?;
+    let log = words.next().context("no log is named")?;
+    let geometry = Geometry::new(32, 64)?;
+    // It makes nothing where the file is there.
+    let _ = create_page_file(rt, alloc, &path, geometry, Format::Headed);
+    let file = fs::File::options().write(true).create(true).open(rt, &log)?;
+    let (last, adders) = (Lsn::new(file.metadata()?.len() / 8), 1);
+    let log = Arc::new(alloc, Mutex::new(Log { file, last, adders }))?;
     let (mut ports, mut workers) = (Vec::new(alloc), Vec::new(alloc));
     for _ in 0..2 {
-        ports.push(match FilePort::open(rt, alloc, path, 64, Format::Headed) {
-            Err(OpenFault::Port(_)) => create_page_file(rt, alloc, path, geometry, Format::Headed)?,
-            opened => opened?,
-        })?;
-        let (shared, latest) = (Shared::of(&log)?, Ok(0));
-        workers.push(Adding { shared, latest })?;
+        ports.push(FilePort::open(rt, alloc, &path, 64, Format::Headed)?)?;
+        let (log, latest) = (Arc::try_clone(&log)?, Ok(0));
+        workers.push(Adding { log, latest })?;
     }
-    let config = PoolConfig {
-        geometry,
-        settings: Settings::new(2, 1, 1000)?,
-        frames: 8,
-        room: 1 << 61,
-    };
+    let config = Config::new(geometry).with_frames(8);
     let run = run_workers_over::<SilentKeeper, _, _, _>(rt, alloc, config, ports, workers)?;
-    File::open(rt, path)?.sync_all()?;
     for left in &run.left {
         println!(rt; "a worker's latest counter: {}", left.worker.latest?)?;
     }

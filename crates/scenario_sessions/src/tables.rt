@@ -307,9 +307,8 @@ impl<N: PoolName, K: Kind> Table<N, K> {
             lists,
         } = beside;
         let mut pool = pool.close();
-        let mut settled = true;
         for (session, note) in sessions.into_iter().zip(notes.iter_mut()) {
-            settled = end_session(&mut pool, session, note) && settled;
+            end_session(&mut pool, session, note);
         }
         let (core, _, _) = pool.into_core(taker);
         let rest = K::trail(&core);
@@ -319,26 +318,24 @@ impl<N: PoolName, K: Kind> Table<N, K> {
             unread = unread.saturating_add(note.unread);
             client = client.saturating_add(1);
         }
-        answers.add(Some(match (agree, settled) {
-            (true, true) => Answer::Reply(Reply::Done),
-            (true, false) => Answer::Word("a pass that was given back did not go back"),
-            (false, _) => Answer::Word("a list is not its client's part of the trail"),
+        answers.add(Some(if agree {
+            Answer::Reply(Reply::Done)
+        } else {
+            Answer::Word("a list is not its client's part of the trail")
         }));
         pool_of(alloc, core, device, lists, unread)
     }
 }
 
-/// Ends a session, whose list is cut to its end, and answers whether all its passes went back that it gave back. A cut
-/// that is refused memory is made once more.
+/// Ends a session, whose list is cut to its end. A cut that is refused memory is made once more.
 fn end_session<N: PoolName, K: Kind>(
     pool: &mut ClosedPool<N, K>,
     session: Session<N, K>,
     note: &mut Note,
-) -> bool {
+) {
     let mut session = session;
     if let Answer::Refused(_) = K::cut_list(&mut session, &mut note.cut) {
         K::cut_list(&mut session, &mut note.cut);
     }
-    let (_, is_settled) = pool.end_session(session);
-    is_settled
+    pool.end_session(session);
 }

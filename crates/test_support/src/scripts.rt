@@ -3,8 +3,8 @@ ghost use Rattle.std.specs.Prelude.{◌≡◌, All, IsTrue};
 ghost use Rattle.bp_trail.specs.Fits.{RowFits};
 
 use bp_core::{Core, Row, Step};
-use bp_page::{Geometry, Refusal};
-use bp_trace::{TraceFault, read_script};
+use bp_page::Geometry;
+use bp_trace::{InputFault, TraceFault, read_script};
 use std::alloc::Global;
 
 /// The rows of a text, numbered from 1. Where memory is refused, it is read once more.
@@ -29,7 +29,7 @@ pub fn scripts_of(
     };
     match scripts {
         Some(scripts) => Ok(scripts),
-        None => Err(TraceFault::new(0, Refusal::OutOfMemory)),
+        None => Err(TraceFault::new(0, InputFault::OutOfMemory)),
     }
 }
 

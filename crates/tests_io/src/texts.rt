@@ -1,10 +1,12 @@
 //! The texts of what goes wrong, each on a line.
 use bp_page::{Lsn, PageNo, PortFault, Refusal, explanation_of};
-use bp_trace::TraceFault;
+use bp_trace::{InputFault, TraceFault};
+use std::alloc::Global;
+use std::fmt::Display;
 use std::process::Abort;
 
 /// The refusals whose text names no LSN, and that are explained by the same text.
-const REFUSALS: [Refusal; 19] = [
+const REFUSALS: [Refusal; 16] = [
     Refusal::BadSettings,
     Refusal::BadLength,
     Refusal::NoVictim,
@@ -20,9 +22,6 @@ const REFUSALS: [Refusal; 19] = [
     Refusal::RingFull,
     Refusal::Disagree,
     Refusal::BadClient,
-    Refusal::BadOp,
-    Refusal::BadNumber,
-    Refusal::BadHex,
     Refusal::OutOfPage,
 ];
 
@@ -43,23 +42,40 @@ const TEXTS: &str = "\
 23 the ring of passes to give back is full
 24 the clients' lists and the trail do not agree
 41 no client has this number here
+45 the page is not of the file, or the bytes are not within the page
+";
+
+/// The faults of a trace that are explained by their own text.
+const FAULTS: [InputFault; 6] = [
+    InputFault::OutOfMemory,
+    InputFault::BadClient,
+    InputFault::BadOp,
+    InputFault::BadNumber,
+    InputFault::BadHex,
+    InputFault::OutOfPage,
+];
+
+/// Their numbers and texts.
+const TEXTS_OF_FAULTS: &str = "\
+22 out of memory
+41 no client has this number here
 42 no operation has this name
 43 a field is not a number within the limits
 44 the bytes are not pairs of hexadecimal digits
 45 the page is not of the file, or the bytes are not within the page
 ";
 
-/// The refusals that a list of references can have too, of which their explanation speaks.
-const OF_LISTS: [Refusal; 4] = [
-    Refusal::BadGeometry,
-    Refusal::BadShape,
-    Refusal::TooLong,
-    Refusal::ReadFault,
+/// The faults whose explanation speaks of lists of references, or of a page file, too.
+const OF_LISTS: [InputFault; 4] = [
+    InputFault::TooManyPages,
+    InputFault::BadShape,
+    InputFault::TooLong,
+    InputFault::ReadFault,
 ];
 
 /// Their numbers and texts.
 const TEXTS_OF_LISTS: &str = "\
-1 the number of pages or the page size is out of its limits
+1 the references are of too many different pages
 40 a record does not have the fields of its operation
 46 the trace is too long
 47 the trace could not be read
@@ -73,38 +89,63 @@ const EXPLAINED_OF_LISTS: &str = "\
 47 the trace or the list of references could not be read
 ";
 
-/// The refusals' own texts.
-fn said_of<R: Abort + AllocGlobal>(rt: &R, refusals: &[Refusal]) -> String {
-    let mut said = String::new(rt.alloc());
-    for refusal in refusals {
-        let number = refusal.number();
-        let line = format!(in rt.alloc(); "{number} {refusal}\n").expect(rt, "the line");
-        said.push_str(line.as_str()).expect(rt, "the text");
+/// What refusals or faults say of themselves, and what their numbers stand for.
+#[derive(Drop)]
+struct Said {
+    own: String,
+    explained: String,
+}
+
+impl Said {
+    fn nothing(alloc: Global) -> Said {
+        Said {
+            own: String::new(alloc),
+            explained: String::new(alloc),
+        }
+    }
+
+    /// One more, with this number, which says this of itself.
+    fn add<R: Abort + AllocGlobal, T: Display>(&mut self, rt: &R, number: u16, one: &T) {
+        let own = format!(in rt.alloc(); "{number} {one}\n").expect(rt, "the line");
+        self.own.push_str(own.as_str()).expect(rt, "the text");
+        let text = explanation_of(u64::from(number)).unwrap_or("nothing");
+        let explained = format!(in rt.alloc(); "{number} {text}\n").expect(rt, "the line");
+        self.explained
+            .push_str(explained.as_str())
+            .expect(rt, "the text");
+    }
+}
+
+/// What these faults say.
+fn said_of<R: Abort + AllocGlobal>(rt: &R, faults: &[InputFault]) -> Said {
+    let mut said = Said::nothing(rt.alloc());
+    for fault in faults {
+        said.add(rt, fault.number(), fault);
     }
     said
 }
 
-/// What their numbers stand for.
-fn explained_of<R: Abort + AllocGlobal>(rt: &R, refusals: &[Refusal]) -> String {
-    let mut explained = String::new(rt.alloc());
-    for refusal in refusals {
-        let number = u64::from(refusal.number());
-        let text = explanation_of(number).unwrap_or("nothing");
-        let line = format!(in rt.alloc(); "{number} {text}\n").expect(rt, "the line");
-        explained.push_str(line.as_str()).expect(rt, "the text");
+#[test]
+fn explanations_are_what_refusals_say(rt: HostRuntime) {
+    let mut said = Said::nothing(rt.alloc());
+    for refusal in REFUSALS {
+        said.add(&rt, refusal.number(), &refusal);
     }
-    explained
+    assert_eq!(rt; said.own.as_str(), TEXTS);
+    assert_eq!(rt; said.explained.as_str(), TEXTS);
 }
 
 #[test]
-fn explanations_are_what_refusals_say(rt: HostRuntime) {
-    assert_eq!(rt; said_of(&rt, &REFUSALS).as_str(), TEXTS);
-    assert_eq!(rt; explained_of(&rt, &REFUSALS).as_str(), TEXTS);
-    assert_eq!(rt; said_of(&rt, &OF_LISTS).as_str(), TEXTS_OF_LISTS);
-    assert_eq!(rt; explained_of(&rt, &OF_LISTS).as_str(), EXPLAINED_OF_LISTS);
+fn explanations_are_what_faults_say(rt: HostRuntime) {
+    let said = said_of(&rt, &FAULTS);
+    assert_eq!(rt; said.own.as_str(), TEXTS_OF_FAULTS);
+    assert_eq!(rt; said.explained.as_str(), TEXTS_OF_FAULTS);
+    let said = said_of(&rt, &OF_LISTS);
+    assert_eq!(rt; said.own.as_str(), TEXTS_OF_LISTS);
+    assert_eq!(rt; said.explained.as_str(), EXPLAINED_OF_LISTS);
 }
 
-// A refusal of the log names an LSN, which its number can't.
+// A refusal of the log names an LSN, which its number can't; that of a geometry speaks of no references.
 #[test]
 fn other_texts(rt: HostRuntime) {
     let needs_log = Refusal::NeedLog(Lsn::new(18_446_744_073_709_551_615));
@@ -112,7 +153,8 @@ fn other_texts(rt: HostRuntime) {
     let trace = TraceFault { row: 3, number: 40 };
     let page = PageNo::new(1_048_575);
     let said = format!(in rt.alloc();
-        "{needs_log}\n{explained}\n{}\n{}\n{}\n{trace}\n{page}\n",
+        "{needs_log}\n{explained}\n{}\n{}\n{}\n{}\n{trace}\n{page}\n",
+        Refusal::BadGeometry,
         PortFault::Device,
         PortFault::Memory,
         PortFault::WrongPage
@@ -121,6 +163,7 @@ fn other_texts(rt: HostRuntime) {
     let texts = "\
 the log must first be durable up to 18446744073709551615
 the log must first be durable as far as the page was changed
+the number of pages or the page size is out of its limits
 the device failed
 out of memory
 the page's place in its file has another page

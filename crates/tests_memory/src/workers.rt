@@ -10,7 +10,7 @@ use bp_keeper::ListKeeper;
 use bp_lruk::Settings;
 use bp_page::{Geometry, Refusal};
 use bp_shared::{PoolName, SharedPool};
-use bp_workers::{Client, Kind, PoolConfig, Run, Upkeep, Worker, run_workers_over};
+use bp_workers::{Client, Config, Kind, Run, Upkeep, Worker, run_workers_over};
 use std::alloc::Global;
 use std::marker::Sync;
 use std::process::Abort;
@@ -119,7 +119,7 @@ fn new_visitor(alloc: Global) -> Visitor {
 fn try_run<K: Kind, R: Threads + Wait + Sync + Abort + AllocGlobal>(
     rt: &R,
 ) -> Option<Run<MemPort, Visitor, K>> {
-    let config = PoolConfig {
+    let config = Config {
         geometry: Geometry::new(4, 16).expect(rt, "the geometry"),
         settings: Settings::new(2, 0, 1000).expect(rt, "the settings"),
         frames: 2,

@@ -84,7 +84,7 @@ impl Waiter {
 }
 
 /// Puts a byte at the front of page 0 under log record 5, and keeps the pass or gives it back.
-fn change<N: PoolName, P: Port, R: Wait>(
+pub(crate) fn change<N: PoolName, P: Port, R: Wait>(
     rt: &R,
     alloc: Global,
     pool: &SharedPool<N>,

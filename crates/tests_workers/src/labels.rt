@@ -9,7 +9,7 @@ use bp_device::{MemPort, Port};
 use bp_keeper::ListKeeper;
 use bp_page::{Lsn, Refusal};
 use bp_shared::{PoolName, SharedPool};
-use bp_workers::{Client, PoolConfig, Upkeep, Worker, run_workers_over};
+use bp_workers::{Client, Config, Upkeep, Worker, run_workers_over};
 use std::alloc::Global;
 use std::rt::HostRuntime;
 use std::sync::Wait;
@@ -118,7 +118,7 @@ impl<P: Port, K: ListKeeper> Worker<P, K> for Labeler {
 fn silent_labels_are_read_back(rt: HostRuntime) {
     let rt = &rt;
     // The most that a silent pool may count.
-    let config = PoolConfig {
+    let config = Config {
         room: 1 << 61,
         ..config(rt, 2)
     };

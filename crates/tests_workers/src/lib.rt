@@ -10,6 +10,10 @@ mod dead_ports;
 #[cfg(test)]
 mod durable;
 #[cfg(test)]
+mod flushing;
+#[cfg(test)]
+mod following;
+#[cfg(test)]
 mod labels;
 #[cfg(test)]
 mod making;

@@ -2,13 +2,13 @@
 use bp_device::{MemDevice, MemPort};
 use bp_lruk::Settings;
 use bp_page::Geometry;
-use bp_workers::PoolConfig;
+use bp_workers::Config;
 use std::process::Abort;
 
 pub(crate) const PAGES: u64 = 4;
 
-pub(crate) fn config<R: Abort + AllocGlobal>(rt: &R, frames: usize) -> PoolConfig {
-    PoolConfig {
+pub(crate) fn config<R: Abort + AllocGlobal>(rt: &R, frames: usize) -> Config {
+    Config {
         geometry: Geometry::new(PAGES, 16).expect(rt, "the geometry"),
         settings: Settings::new(2, 0, 1000).expect(rt, "the settings"),
         frames,

@@ -10,7 +10,7 @@ use bp_core::RecordingKeeper;
 use bp_device::{FusePort, MemDevice, MemPort, Port};
 use bp_page::{Geometry, Refusal};
 use bp_shared::{PoolName, SharedPool};
-use bp_workers::{Client, PoolConfig, Run, Upkeep, Worker, run_workers};
+use bp_workers::{Client, Config, Run, Upkeep, Worker, run_workers};
 use std::alloc::Global;
 use std::marker::{Send, Sync};
 use std::process::Abort;
@@ -87,7 +87,7 @@ impl<P: Port> Worker<P, RecordingKeeper> for Visitor {
 fn visit_all<P: Port + Send, R: Threads + Wait + Sync>(
     rt: &R,
     alloc: Global,
-    config: PoolConfig,
+    config: Config,
     ports: Vec<P>,
     visitors: Vec<Visitor>,
 ) -> Result<Run<P, Visitor>, Refusal>

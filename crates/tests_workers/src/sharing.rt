@@ -57,7 +57,7 @@ fn expect_shared<R: Abort + AllocGlobal + Threads + Wait + Sync>(
         assert_eq!(rt; left.worker.done, 12);
         assert_eq!(rt; left.worker.refused, 0);
         assert_eq!(rt; left.held, 0);
-        assert!(rt; left.all_went_back && left.is_settled);
+        assert!(rt; left.all_went_back);
     }
     assert_eq!(rt; count_marks(run.core.trail()), 1);
 }
@@ -80,7 +80,7 @@ fn passes_still_held_go_back(rt: HostRuntime) {
     let run = run(rt, 4, 2, true);
     for left in &run.left {
         assert_eq!(rt; left.held, 1);
-        assert!(rt; left.all_went_back && left.is_settled);
+        assert!(rt; left.all_went_back);
         assert!(rt;
             matches!(left.said().last(), Some(entry) if matches!(entry.call, Call::Unfix { .. }))
         );

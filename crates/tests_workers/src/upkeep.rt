@@ -86,7 +86,7 @@ impl<P: Port> Worker<P, RecordingKeeper> for Hoarder {
 /// The last of the passes finds the ring full, which is then emptied. What client 0 cut meanwhile and what is left are,
 /// together, as many entries as all lists have, and a legal trail.
 #[test]
-fn full_ring_is_settled(rt: HostRuntime) {
+fn full_ring_is_emptied(rt: HostRuntime) {
     let rt = &rt;
     let mut workers = Vec::new(rt.alloc());
     for _ in 0..2 {

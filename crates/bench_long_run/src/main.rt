@@ -7,7 +7,7 @@
 #![tactic(auto)]
 
 ghost use Rattle.std.specs.Prelude.{◌≡◌, ◌+◌, ◌<◌, ◌≤◌, IfOk, length};
-ghost use Rattle.long_run.specs.declared.TheConstants.{PAGES};
+ghost use Rattle.bench_long_run.specs.declared.TheConstants.{PAGES};
 
 use bp_audit::Totals;
 use bp_core::{Entry, Keeper, Pass, PoolCore, RecordingKeeper, SilentKeeper};

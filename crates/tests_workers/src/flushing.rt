@@ -1,0 +1,171 @@
+//! Client 0 makes checkpoints, while the others write to their pages under a log.
+ghost use Rattle.std.specs.Prelude.{◌≡◌};
+
+use crate::making::{config, ports};
+use bp_audit::Totals;
+use bp_core::RecordingKeeper;
+use bp_device::{MemPort, Port};
+use bp_page::{Lsn, PageNo, Refusal};
+use bp_shared::{PoolName, SharedPool};
+use bp_workers::{Client, Left, Upkeep, Worker, run_workers};
+use std::alloc::Global;
+use std::cmp::min;
+use std::process::Abort;
+use std::rt::HostRuntime;
+use std::sync::{Arc, Mutex, Wait};
+use std::thread::Parker;
+use std::time::Duration;
+use test_support::judging::unlawful_in;
+use test_support::pools::{fix, give, write};
+
+/// How often each of the others writes.
+const TURNS: u8 = 100;
+
+/// The log, which has no records: a record's LSN is its number, from 1.
+#[derive(Drop)]
+struct Log {
+    last: u64,
+    /// How many clients still write.
+    writers: u64,
+}
+
+/// Client 0, or a client who writes to a page of its own.
+#[derive(Drop)]
+struct Hand {
+    alloc: Global,
+    log: Arc<Mutex<Log>, Global>,
+    page: u64,
+    outcome: Result<(), Refusal>,
+    /// From where redo would begin after each checkpoint.
+    redo: Vec<Lsn>,
+}
+
+impl Hand {
+    /// Keeps the log locked from the record to the write.
+    fn put<N: PoolName, P: Port, R: Wait>(
+        &self,
+        rt: &R,
+        pool: &SharedPool<N>,
+        client: &mut Client<N, P>,
+        byte: u8,
+    ) -> Result<(), Refusal>
+        ensures client { client.new.session.client ≡ client.old.session.client }
+    {
+        let note = fix(rt, pool, client, self.page)?;
+        let mut log = self.log.lock(rt);
+        log.last = log.last.saturating_add(1);
+        let written = write(rt, self.alloc, pool, client, note, byte, log.last);
+        drop(log);
+        give(rt, pool, client, note)?;
+        written
+    }
+
+    /// Makes a checkpoint. From where redo would begin.
+    fn checkpoint<N: PoolName, P: Port, R: Wait>(
+        &self,
+        rt: &R,
+        pool: &SharedPool<N>,
+        client: &mut Client<N, P>,
+        upkeep: &mut Upkeep<N>,
+    ) -> Result<Lsn, Refusal>
+        ensures client { client.new.session.client ≡ client.old.session.client }
+    {
+        let log = self.log.lock(rt);
+        let next = Lsn::new(log.last.saturating_add(1));
+        // Here an engine makes the log durable.
+        upkeep.log.raise(pool, Lsn::new(log.last));
+        drop(log);
+        let flushed = pool.flush_all(rt, &mut client.session, &mut client.port);
+        flushed.map_err(|stop| stop.why)?;
+        let least = pool.redo_from(rt, &mut client.session);
+        client.port.sync(rt).map_err(|_| Refusal::WriteFailed)?;
+        Ok(least.map_or(next, |least| min(least, next)))
+    }
+}
+
+impl<P: Port> Worker<P, RecordingKeeper> for Hand {
+    fn work<N: PoolName, R: Wait>(
+        &mut self,
+        rt: &R,
+        pool: &SharedPool<N>,
+        client: &mut Client<N, P>,
+    ) {
+        for turn in 1..=TURNS {
+            if self.outcome.is_ok() {
+                self.outcome = self.put(rt, pool, client, turn);
+            }
+        }
+        let mut log = self.log.lock(rt);
+        log.writers = log.writers.saturating_sub(1);
+    }
+
+    fn lead<N: PoolName, R: Wait>(
+        &mut self,
+        rt: &R,
+        pool: &SharedPool<N>,
+        client: &mut Client<N, P>,
+        upkeep: &mut Upkeep<N>,
+    ) {
+        for _ in rt.forever() {
+            let is_last = self.log.lock(rt).writers == 0;
+            match self.checkpoint(rt, pool, client, upkeep) {
+                Ok(redo) => {
+                    if self.redo.push(redo).is_err() {
+                        self.outcome = Err(Refusal::OutOfMemory);
+                    }
+                }
+                // A page was written to after the mark was raised: so is the next mark.
+                Err(Refusal::NeedLog(_)) => {}
+                Err(refusal) => self.outcome = Err(refusal),
+            }
+            if is_last {
+                return;
+            }
+            Parker::new().park_timeout(rt, Duration::from_micros(50));
+        }
+    }
+}
+
+/// The place from which redo would begin never falls, and lies behind the last record in the end. The device then has
+/// of each page what was written last.
+#[test]
+fn checkpoints_beside_writers(rt: HostRuntime) {
+    let rt = &rt;
+    let log = Log {
+        last: 0,
+        writers: 3,
+    };
+    let log = Arc::new(rt.alloc(), Mutex::new(log)).expect(rt, "the log");
+    let mut workers = Vec::new(rt.alloc());
+    for page in 0..4u64 {
+        let hand = Hand {
+            alloc: rt.alloc(),
+            log: Arc::try_clone(&log).expect(rt, "the log"),
+            page,
+            outcome: Ok(()),
+            redo: Vec::new(rt.alloc()),
+        };
+        workers.push(hand).expect(rt, "a place");
+    }
+    let run = run_workers(rt, rt.alloc(), config(rt, 4), ports(rt, 4), workers);
+    let mut run = run.expect(rt, "the run");
+    assert_eq!(rt; unlawful_in(rt.alloc(), &run.core), Ok(None));
+    assert!(rt; Totals::of(run.core.trail()).writes >= 3);
+    for left in &run.left {
+        assert_eq!(rt; left.worker.outcome, Ok(()));
+    }
+    let first: &mut Left<MemPort, Hand> = run.left.first_mut().expect(rt, "what client 0 left");
+    let mut before = Lsn::new(0);
+    for redo in &first.worker.redo {
+        assert!(rt; before <= *redo);
+        before = *redo;
+    }
+    assert_eq!(rt; before, Lsn::new(3 * u64::from(TURNS) + 1));
+    for number in 1..4u64 {
+        let image = first
+            .port
+            .read(rt, PageNo::new(number))
+            .expect(rt, "the page");
+        assert_eq!(rt; image.bytes().first(), Some(&TURNS));
+    }
+}

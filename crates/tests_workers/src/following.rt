@@ -1,0 +1,157 @@
+//! A client that is not client 0 has the log made durable: it asks client 0 for that, and waits.
+ghost use Rattle.std.specs.Prelude.{◌≡◌};
+
+use crate::durable::change;
+use crate::making::{config, ports};
+use bp_core::RecordingKeeper;
+use bp_device::Port;
+use bp_keeper::ListKeeper;
+use bp_page::{Lsn, Refusal};
+use bp_shared::{PoolName, SharedPool};
+use bp_workers::{Client, DurableLog, Patience, Upkeep, Worker, fix_durably, run_workers};
+use std::alloc::Global;
+use std::process::Abort;
+use std::rt::HostRuntime;
+use std::sync::{Arc, Mutex, Wait};
+use std::thread::Parker;
+use std::time::Duration;
+use test_support::judging::unlawful_in;
+use test_support::pools::give;
+
+/// What the clients share.
+#[derive(Drop)]
+struct Log {
+    /// The LSN up to which it is to be durable.
+    wanted: u64,
+    /// The LSN up to which it is durable, and the pool's mark raised.
+    raised: u64,
+    /// Whether client 1 wants no more.
+    is_over: bool,
+}
+
+/// The log as client 1 has it. Client 0 alone can raise the mark.
+#[derive(Drop)]
+struct Following {
+    log: Arc<Mutex<Log>, Global>,
+    /// The LSN up to which this client knows the mark to be raised.
+    known: u64,
+}
+
+impl<N: PoolName> DurableLog<N> for Following {
+    ghost use Rattle.std.specs.Prelude.{[]};
+
+    ghost durable_to = { λ following. following.known };
+
+    ghost raised_to = { λ following. following.known };
+
+    ghost lent = { λ _. [] };
+
+    /// Asks client 0, and waits for ten seconds at most.
+    fn reach<K: ListKeeper, R: Wait>(&mut self, rt: &R, _: &SharedPool<N, K>, lsn: Lsn) -> bool {
+        for _ in 0..10000 {
+            let mut log = self.log.lock(rt);
+            log.wanted = log.wanted.max(lsn.number());
+            self.known = self.known.max(log.raised);
+            if lsn.number() <= self.known {
+                break;
+            }
+            drop(log);
+            Parker::new().park_timeout(rt, Duration::from_millis(1));
+        }
+        lsn.number() <= self.known
+    }
+}
+
+#[derive(Drop)]
+struct Sharer {
+    alloc: Global,
+    following: Following,
+    outcome: Result<(), Refusal>,
+}
+
+impl Sharer {
+    /// Writes to page 0 under log record 5, and then wants page 1, in a pool of one frame.
+    fn visit<N: PoolName, P: Port, R: Wait>(
+        &mut self,
+        rt: &R,
+        pool: &SharedPool<N>,
+        client: &mut Client<N, P>,
+    ) -> Result<(), Refusal>
+        ensures client { client.new.session.client ≡ client.old.session.client }
+    {
+        change(rt, self.alloc, pool, client, false)?;
+        let page = client.port.geometry().page(1).ok_or(Refusal::OutOfPage)?;
+        let patience = Patience {
+            rounds: 10,
+            steps: 1,
+            pause: Duration::from_millis(1),
+        };
+        let pass = fix_durably(rt, pool, client, &mut self.following, page, patience)?;
+        give(rt, pool, client, pass.note())
+    }
+}
+
+impl<P: Port> Worker<P, RecordingKeeper> for Sharer {
+    fn work<N: PoolName, R: Wait>(
+        &mut self,
+        rt: &R,
+        pool: &SharedPool<N>,
+        client: &mut Client<N, P>,
+    ) {
+        self.outcome = self.visit(rt, pool, client);
+        self.following.log.lock(rt).is_over = true;
+    }
+
+    fn lead<N: PoolName, R: Wait>(
+        &mut self,
+        rt: &R,
+        pool: &SharedPool<N>,
+        _client: &mut Client<N, P>,
+        upkeep: &mut Upkeep<N>,
+    ) {
+        for _ in rt.forever() {
+            let mut log = self.following.log.lock(rt);
+            if log.raised < log.wanted {
+                // An engine syncs its log here.
+                upkeep.log.raise(pool, Lsn::new(log.wanted));
+                log.raised = log.wanted;
+            }
+            if log.is_over {
+                return;
+            }
+            drop(log);
+            Parker::new().park_timeout(rt, Duration::from_millis(1));
+        }
+    }
+}
+
+/// Page 0 goes out once client 0 has raised the mark to 5, for which it was asked.
+#[test]
+fn client_one_waits_for_client_zero(rt: HostRuntime) {
+    let rt = &rt;
+    let log = Log {
+        wanted: 0,
+        raised: 0,
+        is_over: false,
+    };
+    let log = Arc::new(rt.alloc(), Mutex::new(log)).expect(rt, "the log");
+    let mut workers = Vec::new(rt.alloc());
+    for _ in 0..2 {
+        let log = Arc::try_clone(&log).expect(rt, "the log");
+        let sharer = Sharer {
+            alloc: rt.alloc(),
+            following: Following { log, known: 0 },
+            outcome: Ok(()),
+        };
+        workers.push(sharer).expect(rt, "a place");
+    }
+    let run = run_workers(rt, rt.alloc(), config(rt, 1), ports(rt, 2), workers);
+    let run = run.expect(rt, "the run");
+    assert_eq!(rt; unlawful_in(rt.alloc(), &run.core), Ok(None));
+    assert_eq!(rt; run.core.durable(), Lsn::new(5));
+    for left in &run.left {
+        assert_eq!(rt; left.worker.outcome, Ok(()));
+    }
+    let log = log.lock(rt);
+    assert_eq!(rt; (log.wanted, log.raised), (5, 5));
+}
