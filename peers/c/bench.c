@@ -12,7 +12,8 @@
  *     tree       a look-up in a B+tree of three levels: three pages, each searched in place
  *     evict      look, over four times as many pages as there are frames
  *
- * There are 4,096 frames, and but for evict all pages are resident. The clock of this pool moves once in 16 fixes.
+ * There are 4,096 frames, or as many as $FRAMES says, and but for evict all pages are resident. The clock of this pool
+ * moves once in 16 fixes.
  * Before it counts, the program uses each page once, and ends where it finds other bytes there than belong there.
  *
  * THREADS threads operate at once, or one. More than one there are over Berkeley DB alone: a core of this pool has one
@@ -26,7 +27,8 @@
 
 #include "threads.h"
 
-enum { FRAMES = 4096, PLACE = 64 };
+enum { PLACE = 64 };
+static size_t frames = 4096; /* or as many as $FRAMES says */
 enum use { NOTHING, LOOK, PAGE, UPDATE, TREE, EVICT, USES };
 static const char *const names[USES] = {"nothing", "look", "page", "update", "tree", "evict"};
 
@@ -80,7 +82,7 @@ static void unfix(void)
  * pages need. */
 static size_t cache(void)
 {
-    return use == EVICT ? (size_t)FRAMES * (size * 4 / 5 + 90) : (size_t)FRAMES * (size + 1024) * 2;
+    return use == EVICT ? frames * (size * 4 / 5 + 90) : frames * (size + 1024) * 2;
 }
 
 static void start(void)
@@ -155,7 +157,7 @@ static void unfix(void)
 
 static void start(void)
 {
-    hz_config config = {.pages = pages, .page_size = size, .frames = FRAMES, .room = (size_t)1 << 61,
+    hz_config config = {.pages = pages, .page_size = size, .frames = frames, .room = (size_t)1 << 61,
                         .correlated = 0, .retained = 100000, .k = 2, .clients = 1};
     file = open("bench.pages", O_RDWR | O_CREAT | O_TRUNC, 0600);
     image = malloc(size);
@@ -190,7 +192,7 @@ static unsigned inners, children, leaf_rows;
 static void shape_tree(void)
 {
     children = (size - HEAD) / INNER_STEP, leaf_rows = (size - HEAD) / LEAF_STEP;
-    inners = (FRAMES - 1) / (children + 1) < children ? (FRAMES - 1) / (children + 1) : children;
+    inners = (frames - 1) / (children + 1) < children ? (frames - 1) / (children + 1) : children;
 }
 
 static unsigned nodes(void)
@@ -327,8 +329,12 @@ int main(int argc, char **argv)
     int threads = argc == 5 ? atoi(argv[4]) : 1;
     if (threads < 1 || threads > (is_shared ? MOST_THREADS : 1))
         fail("so many threads do not share the pool");
+    const char *wanted = getenv("FRAMES");
+    frames = wanted ? strtoul(wanted, NULL, 10) : frames;
+    if (frames < 256 || frames > 65536)
+        fail("FRAMES is 256 to 65536");
     shape_tree();
-    pages = use == TREE ? nodes() : use == EVICT ? 4 * FRAMES : FRAMES;
+    pages = use == TREE ? nodes() : use == EVICT ? 4 * frames : frames;
     start();
     use_all();
     double hits, misses, hits_before, misses_before;

@@ -10,6 +10,9 @@ Berkeley DB. A round runs the three one after the other for each use and page si
 rounds of a second, where nothing else is said. Printed is a table: millions of operations a second of the wall clock,
 the median of the rounds, and the ratio to Berkeley DB in the same round: the median, and the least to the greatest.
 
+With FRAMES in the environment, 256 to 65,536, the pools have so many in place of 4,096, and pages are of 4,096 bytes
+alone.
+
 With `threads` it measures the pager that many threads share, bindings/rust/examples/bench_shared.rs, in pages of 4,096
 bytes and with 1, 2 and 4 threads. Beside it is peers/c/bench.c with Berkeley DB, and for look-ups in a tree also LMDB,
 by peers/c/lmdb.c. The operations are those of all threads.
@@ -32,7 +35,7 @@ TOP = os.path.dirname(os.path.dirname(os.path.dirname(os.path.realpath(__file__)
 CC = [os.environ.get("CC", "cc"), "-std=gnu11", "-O3"]  # as cargo has it
 C, RUST, SHARED, PEER, LMDB = "C", "Rust", "SharedPager", "Berkeley DB", "LMDB"
 PEERS = (PEER, LMDB)
-SIZES, THREADS = (1024, 4096, 8192), (1, 2, 4)
+SIZES, THREADS = (4096,) if "FRAMES" in os.environ else (1024, 4096, 8192), (1, 2, 4)
 MOST_FOR_OTHERS = 0.1  # of a processor
 
 

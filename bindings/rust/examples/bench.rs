@@ -3,8 +3,8 @@
 //!
 //!     bench USE SIZE SECONDS
 //!
-//! 4,096 pages of SIZE bytes, each with its number in each word, are all in frames, and are taken at
-//! random. USE is what is done with each: `nothing`; `look` at 16 bytes; the sum of the `page`; an
+//! 4,096 pages of SIZE bytes, or as many as $FRAMES says, each with its number in each word, are all in
+//! frames, and are taken at random. USE is what is done with each: `nothing`; `look` at 16 bytes; the sum of the `page`; an
 //! `update` of 8 bytes. With `tree` it is a look-up in a B+tree of three levels, which has nearly as
 //! many pages. Pages are looked at in place. The clock moves once in 16 fixes.
 //!
@@ -19,8 +19,6 @@ mod pages;
 
 type Outcome<T> = Result<T, Box<dyn Error>>;
 
-const PAGES: u64 = 4096;
-
 struct Bench {
     pool: Pool,
     /// For pages that go out, of which there are none.
@@ -34,7 +32,7 @@ impl Bench {
         let config = Config {
             correlated: 0,
             retained: 100_000,
-            ..Config::new(pages, size, PAGES as usize)
+            ..Config::new(pages, size, pages as usize)
         };
         let pool = Pool::new(&config)?;
         let (mut image, mut buffer) = (vec![0; size], vec![0; size]);
@@ -109,19 +107,20 @@ fn main() -> Outcome<()> {
         return Err("bench USE SIZE SECONDS".into());
     };
     let (size, seconds) = (size.parse()?, seconds.parse()?);
+    let frames = std::env::var("FRAMES").map_or(Ok(4096), |frames| frames.parse())?;
     if what == "tree" {
-        let tree = tree::Tree::new(size, PAGES);
+        let tree = tree::Tree::new(size, frames);
         let mut bench = Bench::new(tree.pages(), size, |page, image| tree.node(page, image))?;
         return measure(seconds, tree.keys(), |key| bench.look_up(2 * key));
     }
-    let mut bench = Bench::new(PAGES, size, fill)?;
+    let mut bench = Bench::new(frames, size, fill)?;
     match what.as_str() {
-        "nothing" => measure(seconds, PAGES, |page| bench.fix(page).map(|_| 0)),
-        "look" => measure(seconds, PAGES, |page| bench.look(page)),
-        "page" => measure(seconds, PAGES, |page| {
+        "nothing" => measure(seconds, frames, |page| bench.fix(page).map(|_| 0)),
+        "look" => measure(seconds, frames, |page| bench.look(page)),
+        "page" => measure(seconds, frames, |page| {
             Ok(sum_of(&bench.fix(page)?.bytes()?))
         }),
-        "update" => measure(seconds, PAGES, |page| bench.update(page)),
+        "update" => measure(seconds, frames, |page| bench.update(page)),
         _ => Err("USE is nothing, look, page, update or tree".into()),
     }
 }
