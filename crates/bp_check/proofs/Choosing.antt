@@ -27,7 +27,7 @@ use Rattle.bp_check.specs.declared.spans.Span.{Span}
 use Rattle.bp_check.specs.declared.past.choice.Rank.{Rank}
 use Rattle.bp_check.specs.Ranks.{rank_of}
 use Rattle.bp_check.specs.Spans.{spans, spans_at, outdated}
-use Rattle.bp_check.specs.Told.{AreSpans}
+use Rattle.bp_check.specs.Seen.{AreSpans}
 use Rattle.bp_check.proofs.References.{last-spans, none-spans}
 use Rattle.bp_check.proofs.SpanLemmas.{spans_at-get}
 

@@ -10,7 +10,7 @@ use Rattle.bp_trail.specs.Legal.{IsLawful, Legal}
 use Rattle.bp_check.specs.declared.setup.Setup.{Setup}
 use Rattle.bp_check.specs.Setups.{parameters_of}
 use Rattle.bp_check.specs.Verdict.{IsFirstUnlawful}
-use Rattle.bp_check.specs.Told.{Told}
+use Rattle.bp_check.specs.Seen.{Seen}
 use Rattle.bp_check.proofs.Reversed.{newest}
 use Rattle.bp_check.proofs.Rooms.{lawful-here, legal-there, legal-here}
 
@@ -25,11 +25,11 @@ lawful-at c xs i e below is legal =
     ap reverse (sym (take-append-drop (i + 1) xs)) ∙ reverse-append (take (i + 1) xs) (drop (i + 1) xs) ∙ ap (λ (es : List Entry). reverse (drop (i + 1) xs) ++ es) (newest xs i e e below is) in
     (legal-rest c (reverse (drop (i + 1) xs)) (e ∷ reverse (take i xs)) (subst (Legal c) cut legal)).here
 
-module _ (setup : Setup) (trail : List Entry) (place : ℕ) (e : Entry) (told : Told) (lawful : Bool)
+module _ (setup : Setup) (trail : List Entry) (place : ℕ) (e : Entry) (told : Seen) (lawful : Bool)
     (below : place < length trail) (is : e ≡ get_or trail place e) (told_is : told ≡ record { parameters = parameters_of setup 0; past = reverse (take place trail) })
     (says : IsTrue lawful ↔ IsLawful told.parameters told.past e) (denied : lawful ≡ false) where
   refused : IsLawful (parameters_of setup 0) (reverse (take place trail)) e → ⊥
-  refused l = true≢false (sym (says.1 (subst (λ (t : Told). IsLawful t.parameters t.past e) (sym told_is) l)) ∙ denied)
+  refused l = true≢false (sym (says.1 (subst (λ (t : Seen). IsLawful t.parameters t.past e) (sym told_is) l)) ∙ denied)
 
   pub first-unlawful : (room : ℕ) → Legal (parameters_of setup 0) (reverse (take place trail)) → IsFirstUnlawful (parameters_of setup room) trail place
   first-unlawful room legal = record {

@@ -20,7 +20,7 @@ use Rattle.bp_trail.proofs.Serials.{AllBelow, has_serial, numbered, out-serial}
 use Rattle.bp_trail.proofs.Events.{Event, event-of}
 use Rattle.bp_trail.proofs.Events.Event.{fix_hit, read_good, write_clean, write_dirty}
 use Rattle.bp_check.specs.declared.spans.Span.{Span}
-use Rattle.bp_check.specs.Told.{passed_on, pages_after, AreEnded, KeepsSpans, Keeps}
+use Rattle.bp_check.specs.Seen.{passed_on, pages_after, AreEnded, KeepsSpans, Keeps}
 
 -- ---- what a lawful entry names is in range
 

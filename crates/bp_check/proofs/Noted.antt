@@ -21,7 +21,7 @@ use Rattle.bp_trail.proofs.Events.{Event, event-of}
 use Rattle.bp_trail.proofs.Events.Event.{purged}
 use Rattle.bp_check.specs.declared.spans.Span.{Span}
 use Rattle.bp_check.specs.Spans.{spans, spans_at, with_reference, outdated}
-use Rattle.bp_check.specs.Told.{KeepsSpans}
+use Rattle.bp_check.specs.Seen.{KeepsSpans}
 use Rattle.bp_check.proofs.References.{spans-cons}
 use Rattle.bp_check.proofs.Choosing.{outdated-forgets}
 

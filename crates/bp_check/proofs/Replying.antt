@@ -9,7 +9,7 @@ use Rattle.bp_trail.specs.Parameters.{Parameters}
 use Rattle.bp_trail.specs.Trail.{Trail}
 use Rattle.bp_trail.specs.PageMap.{reply_of, MayReply, FindsWrongPage}
 use Rattle.bp_trail.specs.PageMap.FindsWrongPage.{another_page}
-use Rattle.bp_check.specs.Told.{tells_wrong_page}
+use Rattle.bp_check.specs.Seen.{tells_wrong_page}
 
 finds : (call : Call) (reply : Reply) → tells_wrong_page call reply ≡ true → FindsWrongPage call reply
 finds (ReadEnd t p None) WrongPage told = another_page t p

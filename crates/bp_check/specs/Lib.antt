@@ -2,5 +2,5 @@
 pub mod Setups
 pub mod Verdict
 pub mod Spans
-pub mod Told
+pub mod Seen
 pub mod Ranks

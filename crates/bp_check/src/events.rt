@@ -2,7 +2,7 @@
 ghost use Rattle.std.specs.Prelude.{◌≡◌, ℕ, ◌==◌};
 ghost use Rattle.bp_trail.specs.Event as event;
 ghost use Rattle.bp_trail.specs.Passes as passes;
-ghost use Rattle.bp_check.specs.Told.{is_ticket};
+ghost use Rattle.bp_check.specs.Seen.{is_ticket};
 
 use bp_page::{Lsn, PageNo};
 use bp_trail::{Call, Entry, Grant, Reply};

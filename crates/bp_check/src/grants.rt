@@ -5,7 +5,7 @@ ghost use Rattle.bp_trail.specs.Event.{grant};
 ghost use Rattle.bp_trail.specs.Lists.{some, count};
 ghost use Rattle.bp_trail.specs.Legal.{is_out};
 ghost use Rattle.bp_trail.specs.Passes.{is_of};
-ghost use Rattle.bp_check.specs.Told.{passed_on};
+ghost use Rattle.bp_check.specs.Seen.{passed_on};
 
 use bp_page::PageNo;
 use bp_trail::Grant;

@@ -39,7 +39,7 @@ pub(crate) struct Past<'a> {
 impl<'a> Model for Past<'a> {
     ghost use Rattle.std.specs.Prelude.{reverse};
     ghost use Rattle.bp_check.specs.Setups.{parameters_of};
-    ghost use Rattle.bp_check.specs.Told.{Told as Seen, Keeps};
+    ghost use Rattle.bp_check.specs.Seen.{Seen, Keeps};
 
     ghost Value = { Seen };
 

@@ -5,7 +5,7 @@ ghost use Rattle.bp_trail.specs.Trail.{Trail};
 ghost use Rattle.bp_trail.specs.Event as event;
 ghost use Rattle.bp_trail.specs.Saved as saved;
 ghost use Rattle.bp_trail.specs.Images as images;
-ghost use Rattle.bp_check.specs.Told.{AreEnded};
+ghost use Rattle.bp_check.specs.Seen.{AreEnded};
 
 use crate::events::{begins, loads, lsn_written, writes};
 use bp_page::{Lsn, PageNo};

@@ -5,7 +5,7 @@ use Rattle.bp_trail.specs.Lists.{count}
 use Rattle.bp_trail.specs.Places.{residents}
 use Rattle.bp_trail.specs.Saved.{unsaved}
 use Rattle.bp_trail.proofs.Redo.{first-unsaved}
-use Rattle.bp_audit.specs.Totals.{totals_of}
+use Rattle.bp_trail.specs.Totals.{totals_of}
 use Rattle.bp_frames.specs.Frames.{is_pinned, is_to_save}
 use Rattle.bp_keeper.specs.Kept.{Kept}
 use Rattle.bp_core.specs.declared.state.State.{State}

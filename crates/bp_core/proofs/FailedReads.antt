@@ -14,7 +14,7 @@ use Rattle.bp_trail.specs.PageMap.FindsWrongPage.{another_page}
 use Rattle.bp_trail.specs.Legal.{is_out}
 use Rattle.bp_frames.specs.GrantLists.{Given, GivesAsMuch}
 use Rattle.bp_core.specs.declared.state.State.{State}
-use Rattle.bp_core.specs.ReadFaults.{read_failure}
+use Rattle.bp_trail.specs.Ends.{read_failure}
 use Rattle.bp_core.specs.CoreView.{CoreView, EachPast}
 use Rattle.bp_keeper.specs.Kept.{Kept, with_next}
 use Rattle.bp_core.specs.Agreement.{Parts, Agrees, IsCore, view_of}

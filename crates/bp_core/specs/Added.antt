@@ -1,15 +1,10 @@
 -- What a piece of entries adds to a core, and how it ends.
 use Rattle.std.specs.Prelude.{◌≡◌, [], ◌∷◌, ◌++◌, Option}
 use Rattle.bp_trail.specs.declared.entries.Reply.{Reply}
-use Rattle.bp_trail.specs.declared.entries.Reply.TheVariants.{Cleaned, StillDirty, Clean, Absent}
 use Rattle.bp_trail.specs.Lists.{and_given}
 use Rattle.bp_trail.specs.Event.{Grant}
 use Rattle.bp_trail.specs.Trail.{Trail}
 use Rattle.bp_trail.specs.Passes.{passes_out}
-use Rattle.bp_core.specs.declared.passes.Ended.{Ended}
-use Rattle.bp_core.specs.declared.passes.Ended.TheVariants as ended
-use Rattle.bp_trail.specs.declared.entries.Flushed.{Flushed}
-use Rattle.bp_trail.specs.declared.entries.Flushed.TheVariants as flushed
 use Rattle.bp_core.specs.CoreView.{CoreView}
 
 -- the core with more entries, newest first
@@ -24,14 +19,3 @@ Gives piece given = (said : Trail) → passes_out (piece ++ said) ≡ and_given 
 abbrev pub Ends : Reply → Trail → Type 0
 Ends reply [] = ⊥
 Ends reply (e ∷ older) = e.reply ≡ reply
-
--- the replies by which a write-out and a flush end
-abbrev pub ended_reply : Ended → Reply
-ended_reply ended.Cleaned = Cleaned
-ended_reply ended.StillDirty = StillDirty
-
-abbrev pub flushed_reply : Flushed → Reply
-flushed_reply flushed.Clean = Clean
-flushed_reply flushed.Absent = Absent
-flushed_reply flushed.Cleaned = Cleaned
-flushed_reply flushed.StillDirty = StillDirty

@@ -5,7 +5,7 @@ use Rattle.bp_trail.specs.Lists.{count}
 use Rattle.bp_trail.specs.Passes.{pins, reads_out, writes_out}
 use Rattle.bp_trail.specs.Places.{residents}
 use Rattle.bp_trail.specs.Saved.{unsaved}
-use Rattle.bp_audit.specs.Totals.{totals_of}
+use Rattle.bp_trail.specs.Totals.{totals_of}
 use Rattle.bp_core.specs.declared.stats.Stats.{Stats}
 
 -- the totals are those of all entries, where these are fewer than 2^64; and each count of pages is

@@ -3,9 +3,7 @@ pub mod Defaults
 -- What is promised: what a caller sees of a core, what each of its calls answers and leaves, and
 -- which pages it finds unsaved, and what it counts.
 pub mod CoreView
-pub mod ReadFaults
 pub mod Outcomes
-pub mod EndRefusals
 pub mod Unsaved
 pub mod Counts
 -- What pieces of entries add, and which work of a device they stand for.

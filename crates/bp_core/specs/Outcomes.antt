@@ -15,7 +15,7 @@ use Rattle.bp_trail.specs.PageMap.{has_free_frame, reply_of}
 use Rattle.bp_trail.specs.Trail.{Trail}
 use Rattle.bp_trail.specs.Cuts.{LeadsOn}
 use Rattle.bp_trail.specs.declared.entries.Entry.{Entry}
-use Rattle.bp_core.specs.ReadFaults.{read_refusal, read_failure}
+use Rattle.bp_trail.specs.Ends.{read_refusal, read_failure, ended_reply}
 use Rattle.bp_core.specs.CoreView.{CoreView, opening, EachPast, with_entry, HasRoomFor}
 use Rattle.bp_core.specs.CoreView.{LacksRoomFor}
 use Rattle.bp_trail.specs.declared.entries.Call.{Call}
@@ -23,7 +23,7 @@ use Rattle.bp_trail.specs.declared.entries.Call.TheVariants.{Tick, Fix, ReadEnd,
 use Rattle.bp_trail.specs.declared.entries.Call.TheVariants.{Write, Unfix, Flush, Purge}
 use Rattle.bp_trail.specs.declared.entries.Reply.{Reply}
 use Rattle.bp_trail.specs.declared.entries.Reply.TheVariants.{Done, Hit, Load, WriteFirst, NoVictim}
-use Rattle.bp_trail.specs.declared.entries.Reply.TheVariants.{NeedLog, Busy, Fixed, Cleaned}
+use Rattle.bp_trail.specs.declared.entries.Reply.TheVariants.{NeedLog, Busy, Fixed}
 use Rattle.bp_trail.specs.declared.entries.Reply.TheVariants.{StillDirty, WriteFailed, Content}
 use Rattle.bp_trail.specs.declared.entries.Reply.TheVariants.{Clean, Absent, Forgot}
 use Rattle.bp_core.specs.declared.passes.Pass.{Pass}
@@ -33,8 +33,7 @@ use Rattle.bp_core.specs.declared.passes.Fix.{Fix as Fixing}
 use Rattle.bp_core.specs.declared.passes.Fix.TheVariants as fixing
 use Rattle.bp_core.specs.declared.passes.Flush.{Flush as Flushing}
 use Rattle.bp_core.specs.declared.passes.Flush.TheVariants as flushing
-use Rattle.bp_core.specs.declared.passes.Ended.{Ended}
-use Rattle.bp_core.specs.declared.passes.Ended.TheVariants as ended
+use Rattle.bp_trail.specs.declared.ends.Ended.{Ended}
 use Rattle.bp_core.specs.declared.passes.EndRefusal.{EndRefusal}
 use Rattle.bp_core.specs.declared.passes.EndRefusal.TheVariants as end_refusal
 
@@ -225,12 +224,9 @@ ReadEndOutcome old ticket _ _ new = ⊥
 
 abbrev pub WriteEndOutcome : CoreView → WriteTicket → Result (Unit {0}) PortFault
     → Result Ended (EndRefusal WriteTicket (Result (Unit {0}) PortFault)) → CoreView → Type 0
-WriteEndOutcome old ticket (Ok done) (Ok ended.Cleaned) new =
+WriteEndOutcome old ticket (Ok done) (Ok how) new =
     KnowsWrite old ticket
-    × Adds old ticket.client (WriteEnd ticket.serial ticket.page true) Cleaned new
-WriteEndOutcome old ticket (Ok done) (Ok ended.StillDirty) new =
-    KnowsWrite old ticket
-    × Adds old ticket.client (WriteEnd ticket.serial ticket.page true) StillDirty new
+    × Adds old ticket.client (WriteEnd ticket.serial ticket.page true) (ended_reply how) new
 WriteEndOutcome old ticket (Err fault) (Err (end_refusal.Failed refusal.WriteFailed)) new =
     KnowsWrite old ticket
     × Adds old ticket.client (WriteEnd ticket.serial ticket.page false) WriteFailed new
@@ -256,12 +252,9 @@ ReadEndByOutcome old ticket _ _ new = ⊥
 
 abbrev pub WriteEndByOutcome : CoreView → Grant → Result (Unit {0}) PortFault
     → Result Ended (EndRefusal Grant (Result (Unit {0}) PortFault)) → CoreView → Type 0
-WriteEndByOutcome old ticket (Ok done) (Ok ended.Cleaned) new =
+WriteEndByOutcome old ticket (Ok done) (Ok how) new =
     EachPast old (λ past. is_out ticket (writes_out past) ≡ true)
-    × Adds old ticket.client (WriteEnd ticket.serial ticket.page true) Cleaned new
-WriteEndByOutcome old ticket (Ok done) (Ok ended.StillDirty) new =
-    EachPast old (λ past. is_out ticket (writes_out past) ≡ true)
-    × Adds old ticket.client (WriteEnd ticket.serial ticket.page true) StillDirty new
+    × Adds old ticket.client (WriteEnd ticket.serial ticket.page true) (ended_reply how) new
 WriteEndByOutcome old ticket (Err fault) (Err (end_refusal.Failed refusal.WriteFailed)) new =
     EachPast old (λ past. is_out ticket (writes_out past) ≡ true)
     × Adds old ticket.client (WriteEnd ticket.serial ticket.page false) WriteFailed new

@@ -11,7 +11,7 @@ use Rattle.bp_trail.specs.declared.entries.Reply.{Reply}
 use Rattle.bp_trail.specs.declared.entries.Reply.TheVariants.{WriteFirst}
 use Rattle.bp_trail.specs.Saved.{page_lsn}
 use Rattle.bp_trail.specs.Trail.{Trail}
-use Rattle.bp_core.specs.ReadFaults.{read_failure}
+use Rattle.bp_trail.specs.Ends.{read_failure}
 use Rattle.bp_core.specs.CoreView.{CoreView}
 use Rattle.bp_core.specs.Added.{Ends, with_piece}
 

@@ -29,8 +29,6 @@
 #![tactic(auto)]
 
 pub mod config;
-pub mod faults;
-pub mod not_flushed;
 pub mod passes;
 pub mod pool;
 mod state;
@@ -38,11 +36,9 @@ pub mod stats;
 
 pub use bp_keeper::{GhostTrail as Before, Keeper, RecordingKeeper, SilentKeeper};
 pub use bp_replacer::Settings;
-pub use bp_trail::{Call, Entry, Flushed, Refused, Reply, Row, Step};
+pub use bp_trail::{Call, Ended, Entry, Flushed, NotFlushed, Refused, Reply, Row, Step};
 pub use config::Config;
-pub use faults::{refusal_of_read, reply_of_read};
-pub use not_flushed::NotFlushed;
-pub use passes::{EndRefusal, Ended, Fix, Flush, Pass, PassNote, ReadTicket, WriteTicket};
+pub use passes::{EndRefusal, Fix, Flush, Pass, PassNote, ReadTicket, WriteTicket};
 pub use pool::PoolCore;
 pub use stats::Stats;
 

@@ -69,35 +69,12 @@ pub enum Flush {
     WriteFirst(WriteTicket),
 }
 
-/// How a write-out ended.
-#[derive(Clone, Copy, Drop)]
-pub enum Ended {
-    /// The page is saved.
-    Cleaned,
-    /// The page was written since the write-out began, and is unsaved still.
-    StillDirty,
-}
-
 /// Why the end of a device operation was refused.
 pub enum EndRefusal<T, R> {
     /// No such ticket is out here: the ticket and the result of the operation come back, and nothing changed.
     Unknown(T, R),
     /// The operation failed, which is `ReadFailed`, `WrongPage` or `WriteFailed`. The ticket is spent.
     Failed(Refusal),
-}
-
-impl<T, R> EndRefusal<T, R> {
-    ghost use Rattle.bp_core.specs.EndRefusals.{number_of_end};
-
-    /// Its number, which reports and messages print.
-    pub fn number(&self) -> u16
-        ensures { result ≡ number_of_end self.now }
-    {
-        match self {
-            EndRefusal::Unknown(_, _) => Refusal::UnknownTicket.number(),
-            EndRefusal::Failed(refusal) => refusal.number(),
-        }
-    }
 }
 
 impl Pass {
@@ -121,9 +98,7 @@ impl Pass {
     {
         self.serial
     }
-}
 
-impl Pass {
     /// What it was given as.
     pub(crate) fn grant(&self) -> Grant
         ensures { result ≡ grant self.now.client self.now.page self.now.serial }
@@ -217,17 +192,6 @@ impl ReadTicket {
         self.serial
     }
 
-    /// What it was given as.
-    pub(crate) fn grant(&self) -> Grant
-        ensures { result ≡ grant self.now.client self.now.page self.now.serial }
-    {
-        Grant {
-            client: self.client,
-            page: self.page,
-            serial: self.serial,
-        }
-    }
-
     /// Spends the ticket. No core is asked: where one knows the ticket, its read stays in flight.
     pub fn forfeit(self) {
         let ReadTicket {
@@ -272,17 +236,6 @@ impl WriteTicket {
         ensures { result ≡ self.now.lsn }
     {
         self.lsn
-    }
-
-    /// What it was given as.
-    pub(crate) fn grant(&self) -> Grant
-        ensures { result ≡ grant self.now.client self.now.page self.now.serial }
-    {
-        Grant {
-            client: self.client,
-            page: self.page,
-            serial: self.serial,
-        }
     }
 
     /// Spends the ticket as `forfeit` does, and gives its image, so that the caller frees that memory where it likes.

@@ -2,13 +2,13 @@
 ghost use Rattle.bp_core.specs.Agreement.{parameters_of, parameters_with};
 ghost use Rattle.bp_core.specs.Outcomes.{NewOutcome};
 
+mod access;
 mod checkpoint;
 mod cutting;
 mod fixing;
 mod loading;
-mod observing;
-mod page_use;
-mod tellers;
+mod lookups;
+mod queries;
 mod upkeep;
 mod write_outs;
 

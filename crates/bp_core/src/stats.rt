@@ -1,8 +1,8 @@
 //! What a core counts.
-use bp_audit::Totals;
+use bp_trail::Totals;
 
 /// What a core counted since it was made, and how many pages there are of each kind now.
-#[derive(Clone, Copy, PartialEq, Eq, Debug, Drop)]
+#[derive(Clone, Copy, Drop)]
 pub struct Stats {
     /// How many replies of each kind its entries have, with the entries that cuts handed out.
     pub totals: Totals,

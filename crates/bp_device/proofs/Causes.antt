@@ -13,7 +13,7 @@ use Rattle.bp_core.specs.declared.passes.Flush.{Flush as Flushing}
 use Rattle.bp_trail.specs.declared.entries.Call.{Call}
 use Rattle.bp_trail.specs.declared.entries.Call.TheVariants.{Fix, Flush}
 use Rattle.bp_trail.specs.declared.entries.Reply.TheVariants.{NeedLog}
-use Rattle.bp_core.specs.ReadFaults.{read_refusal}
+use Rattle.bp_trail.specs.Ends.{read_refusal}
 use Rattle.bp_core.specs.CoreView.{CoreView, HasRoomFor, LacksRoomFor}
 use Rattle.bp_core.specs.Outcomes.{FixOutcome, FlushOutcome, TakesMemory}
 use Rattle.bp_device.specs.Drivers.{LoadOutcome, SaveOutcome, IsCaused}

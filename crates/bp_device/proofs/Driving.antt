@@ -11,8 +11,8 @@ use Rattle.bp_core.specs.declared.passes.WriteTicket.{WriteTicket}
 use Rattle.bp_core.specs.declared.passes.Fix.{Fix as Fixing}
 use Rattle.bp_core.specs.declared.passes.Fix.TheVariants as fixing
 use Rattle.bp_core.specs.declared.passes.Flush.TheVariants as flushing
-use Rattle.bp_core.specs.declared.passes.Ended.{Ended}
-use Rattle.bp_core.specs.declared.passes.Ended.TheVariants as ended
+use Rattle.bp_trail.specs.declared.ends.Ended.{Ended}
+use Rattle.bp_trail.specs.declared.ends.Ended.TheVariants as ended
 use Rattle.bp_trail.specs.declared.entries.Call.{Call}
 use Rattle.bp_trail.specs.declared.entries.Call.TheVariants.{Fix, ReadEnd, WriteEnd, Flush}
 use Rattle.bp_trail.specs.declared.entries.Reply.{Reply}
@@ -21,7 +21,7 @@ use Rattle.bp_trail.specs.Lists.{and_given, without}
 use Rattle.bp_trail.specs.Event.{page_of, pass_given, pass_back}
 use Rattle.bp_trail.specs.Trail.{Trail}
 use Rattle.bp_trail.specs.Passes.{passes_out}
-use Rattle.bp_core.specs.ReadFaults.{read_refusal, read_failure}
+use Rattle.bp_trail.specs.Ends.{read_refusal, read_failure, ended_reply, flushed_reply}
 use Rattle.bp_core.specs.CoreView.{CoreView, with_entry}
 use Rattle.bp_core.specs.Outcomes.{FixOutcome, FlushOutcome}
 use Rattle.bp_trail.specs.Pieces.{by, FixGoesOn, FixPiece, FlushGoesOn, FlushPiece}
@@ -31,10 +31,9 @@ use Rattle.bp_trail.specs.Pieces.FixGoesOn.{cleaned as on_cleaned, still_dirty a
 use Rattle.bp_trail.specs.Pieces.FixPiece.{hit as fix_hit, fixed as fix_fixed, no_victim as fix_no_victim, need_log as fix_need_log, busy as fix_busy, read_failed as fix_read_failed, wrong_page as fix_wrong_page, write_failed as fix_write_failed, no_room as fix_no_room, no_memory as fix_no_memory}
 use Rattle.bp_trail.specs.Pieces.FlushGoesOn.{begins as flush_begins}
 use Rattle.bp_trail.specs.Pieces.FlushPiece.{clean as flush_clean, absent as flush_absent, cleaned as flush_cleaned, still_dirty as flush_still_dirty, need_log as flush_need_log, busy as flush_busy, write_failed as flush_write_failed, no_room as flush_no_room, no_memory as flush_no_memory}
-use Rattle.bp_trail.specs.declared.entries.Flushed.{Flushed}
-use Rattle.bp_trail.specs.declared.entries.Flushed.TheVariants as flushed
+use Rattle.bp_trail.specs.declared.ends.Flushed.{Flushed}
+use Rattle.bp_trail.specs.declared.ends.Flushed.TheVariants as flushed
 use Rattle.bp_device.specs.Drivers.{AddsPiece, DrivesFix, DrivesFlush, LoadOutcome, SaveOutcome, SavingOutcome}
-use Rattle.bp_core.specs.Added.{ended_reply, flushed_reply}
 
 -- no entry yet
 pub adds-none : (core : CoreView) (P : Trail → Type 0) → P [] → AddsPiece core P None core

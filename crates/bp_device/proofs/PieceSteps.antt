@@ -24,7 +24,7 @@ use Rattle.bp_trail.specs.Pieces.Manner.{driver}
 use Rattle.bp_trail.specs.Pieces.Outcome.{accepted, refused}
 use Rattle.bp_trail.specs.Script.{is_pass_of, latest_pass, WithPass, RowPiece}
 use Rattle.bp_trail.proofs.Counting.{filter-reverse}
-use Rattle.bp_trail.specs.declared.entries.Flushed.{Flushed}
+use Rattle.bp_trail.specs.declared.ends.Flushed.{Flushed}
 use Rattle.bp_device.specs.Drivers.{DrivesFix, DrivesFlush}
 use Rattle.bp_device.specs.Rows.{AreHeld, EndsIn, DrivesRow}
 

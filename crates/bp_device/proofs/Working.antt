@@ -10,18 +10,18 @@ use Rattle.bp_core.specs.declared.passes.WriteTicket.{WriteTicket}
 use Rattle.bp_core.specs.declared.passes.Fix.{Fix as Fixing}
 use Rattle.bp_core.specs.declared.passes.Fix.TheVariants as fixing
 use Rattle.bp_core.specs.declared.passes.Flush.TheVariants as flushing
-use Rattle.bp_core.specs.declared.passes.Ended.{Ended}
+use Rattle.bp_trail.specs.declared.ends.Ended.{Ended}
 use Rattle.bp_trail.specs.declared.entries.Call.{Call}
 use Rattle.bp_trail.specs.declared.entries.Call.TheVariants.{Fix, ReadEnd, WriteEnd, Flush}
 use Rattle.bp_trail.specs.declared.entries.Reply.{Reply}
 use Rattle.bp_trail.specs.declared.entries.Reply.TheVariants.{Hit, Load, WriteFirst, NoVictim, NeedLog, Busy, Fixed, WriteFailed}
 use Rattle.bp_trail.specs.Saved.{page_lsn}
 use Rattle.bp_trail.specs.Pieces.{by}
-use Rattle.bp_core.specs.ReadFaults.{read_failure}
+use Rattle.bp_trail.specs.Ends.{read_failure, ended_reply}
 use Rattle.bp_core.specs.CoreView.{CoreView, with_entry}
 use Rattle.bp_core.specs.Outcomes.{FixOutcome, FlushOutcome}
 use Rattle.bp_device.specs.Drivers.{LoadOutcome, SaveOutcome, NoRead}
-use Rattle.bp_core.specs.Added.{Ends, ended_reply}
+use Rattle.bp_core.specs.Added.{Ends}
 use Rattle.bp_trail.specs.Trail.{Trail}
 use Rattle.bp_core.specs.Work.{Reads, Writes, Works, WorksThrough, DoesWork}
 

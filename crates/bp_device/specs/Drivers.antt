@@ -9,7 +9,7 @@ use Rattle.bp_page.specs.Refusals.{number_of}
 use Rattle.bp_core.specs.declared.passes.Pass.{Pass}
 use Rattle.bp_core.specs.declared.passes.ReadTicket.{ReadTicket}
 use Rattle.bp_core.specs.declared.passes.WriteTicket.{WriteTicket}
-use Rattle.bp_core.specs.declared.passes.Ended.{Ended}
+use Rattle.bp_trail.specs.declared.ends.Ended.{Ended}
 use Rattle.bp_core.specs.declared.passes.Fix.{Fix as Fixing}
 use Rattle.bp_core.specs.declared.passes.Fix.TheVariants as fixing
 use Rattle.bp_trail.specs.declared.entries.Call.{Call}
@@ -17,14 +17,14 @@ use Rattle.bp_trail.specs.declared.entries.Call.TheVariants.{ReadEnd, WriteEnd}
 use Rattle.bp_trail.specs.declared.entries.Reply.TheVariants.{Fixed, NeedLog, WriteFailed}
 use Rattle.bp_trail.specs.Event.{Grant, grant}
 use Rattle.bp_trail.specs.Trail.{Trail}
-use Rattle.bp_core.specs.ReadFaults.{read_refusal, read_failure}
+use Rattle.bp_trail.specs.Ends.{read_refusal, read_failure, ended_reply, flushed_reply}
 use Rattle.bp_core.specs.CoreView.{CoreView, with_entry, HasRoomFor, LacksRoomFor}
 use Rattle.bp_core.specs.Outcomes.{Adds, FixOutcome, TakesMemory}
-use Rattle.bp_core.specs.Added.{with_piece, Gives, Ends, ended_reply, flushed_reply}
+use Rattle.bp_core.specs.Added.{with_piece, Gives, Ends}
 use Rattle.bp_trail.specs.Pieces.{FixGoesOn, FixPiece, FlushPiece}
 use Rattle.bp_trail.specs.Pieces.Manner.{driver}
 use Rattle.bp_trail.specs.Pieces.Outcome.{accepted, refused}
-use Rattle.bp_trail.specs.declared.entries.Flushed.{Flushed}
+use Rattle.bp_trail.specs.declared.ends.Flushed.{Flushed}
 
 -- a piece was added that is as P says
 pub record AddsPiece (old : CoreView) (P : Trail → Type 0) (given : Option Grant)

@@ -1,9 +1,9 @@
 -- What a flush of each unsaved page does.
 use Rattle.std.specs.Prelude.{ℕ, ◌+◌, Some, Result, Ok, Err}
-use Rattle.bp_trail.specs.declared.entries.Flushed.{Flushed}
+use Rattle.bp_trail.specs.declared.ends.Flushed.{Flushed}
 use Rattle.bp_core.specs.CoreView.{CoreView}
 use Rattle.bp_core.specs.Unsaved.{AreSaved, FindsUnsaved}
-use Rattle.bp_core.specs.declared.not_flushed.NotFlushed.{NotFlushed}
+use Rattle.bp_trail.specs.declared.ends.NotFlushed.{NotFlushed}
 use Rattle.bp_device.specs.Drivers.{DrivesFlush}
 
 -- unsaved pages were flushed, one after the other: each was the first from where the one before it

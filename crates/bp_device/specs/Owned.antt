@@ -6,7 +6,7 @@ use Rattle.bp_page.specs.declared.limits.Geometry.{Geometry}
 use Rattle.bp_page.specs.declared.refusals.Refusal.{Refusal}
 use Rattle.bp_page.specs.declared.refusals.Refusal.TheVariants as refusal
 use Rattle.bp_trail.specs.declared.entries.Call.TheVariants as call
-use Rattle.bp_trail.specs.declared.entries.Flushed.{Flushed}
+use Rattle.bp_trail.specs.declared.ends.Flushed.{Flushed}
 use Rattle.bp_trail.specs.Images.{held}
 use Rattle.bp_trail.specs.Parameters.{Parameters}
 use Rattle.bp_core.specs.declared.passes.Pass.{Pass}

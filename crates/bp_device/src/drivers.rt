@@ -176,10 +176,8 @@ pub fn drive_flush<K: Keeper, P: Port, R: Wait>(
         Flush::Absent => Ok(Flushed::Absent),
         Flush::WriteFirst(ticket) => {
             let written = port.write(rt, ticket.page(), ticket.image(), ticket.lsn());
-            match save(core, ticket, written)? {
-                Ended::Cleaned => Ok(Flushed::Cleaned),
-                Ended::StillDirty => Ok(Flushed::StillDirty),
-            }
+            let ended = save(core, ticket, written)?;
+            Ok(ended.flushed())
         }
     }
 }

@@ -1,8 +1,9 @@
 -- Slots in the order of their grants' serial numbers: which grants are out, what halving by a number finds, and what marks and drops leave.
-use Rattle.std.proofs.Common.{◌≡◌, ◌≢◌, ℕ, zero, suc, ◌+◌, ◌<◌, ◌≤◌, Bool, true, false, not, ◌&&◌, ◌||◌, ◌==◌, cond, List, [], ◌∷◌, ◌++◌, length, filter, get_or, set, append-nil, reverse, Option, Some, max, refl, sym, ap, ◌∙◌, arith}
-use Rattle.std.specs.Prelude.{All, if◌then◌else◌}
+use Rattle.std.proofs.Common.{◌≡◌, ◌≢◌, ℕ, zero, suc, ◌+◌, ◌-◌, ◌<◌, ◌≤◌, Bool, true, false, not, ◌&&◌, ◌||◌, ◌==◌, cond, List, [], ◌∷◌, ◌++◌, length, filter, get_or, set, append-nil, reverse, Option, Some, max, refl, sym, ap, ◌∙◌, arith, inl, inr}
+use Rattle.std.specs.Prelude.{All, if◌then◌else◌, slice_get}
 use Rattle.std.specs.Option.{option_to_list}
-use Rattle.std.proofs.lemmas.Bool.{ne_eqb, eq-eqb}
+use Rattle.std.proofs.lemmas.Bool.{ne_eqb, eq-eqb, cases_lt}
+use Rattle.std.proofs.lemmas.List.{get_or_default}
 use Rattle.std.proofs.lemmas.List.Sorted.{IsPermutation-reverse, list_any-IsPermutation}
 use Rattle.bp_trail.specs.Event.{Grant, grant, same_grant}
 use Rattle.bp_trail.specs.Lists.{some}
@@ -10,8 +11,8 @@ use Rattle.bp_trail.specs.Legal.{is_out}
 use Rattle.bp_trail.proofs.Counting.{filter-reverse}
 use Rattle.bp_frames.specs.declared.grant_list.Slot.{Slot}
 use Rattle.bp_frames.specs.GrantLists.{grants_out, above}
-use Rattle.bp_frames.specs.Rising.{StandsAt, StandsNowhere}
-use Rattle.bp_frames.proofs.Rising.{some-none, some-alone}
+use Rattle.bp_frames.specs.Rising.{IsRisingBy, StandsAt, StandsNowhere}
+use Rattle.bp_frames.proofs.Rising.{some-none, some-alone, rising-pushed}
 
 some-reverse : (p : Grant → Bool) (gs : List Grant) → some p (reverse gs) ≡ some p gs
 some-reverse p gs = sym (list_any-IsPermutation p gs (reverse gs) (IsPermutation-reverse gs))
@@ -70,6 +71,29 @@ out-filter (s ∷ ss) = go s.is_out refl (out-filter ss)
     go true is rest = ap (λ b. if b then s.grant ∷ grants_out rest_of else grants_out rest_of) is ∙ ap (λ gs. s.grant ∷ gs) rest
     go false is rest = rest
 
+-- those of other numbers
+abbrev is_another : ℕ → Slot → Bool
+is_another n s = s.is_out && not (s.grant.serial == n)
+
+pub out-without : (n : ℕ) (ss : List Slot) → grants_out (filter (is_another n) ss) ≡ filter (λ (g : Grant). not (g.serial == n)) (grants_out ss)
+out-without n [] = refl
+out-without n (s ∷ ss) = go s.is_out (not (s.grant.serial == n)) refl refl (out-without n ss)
+  where
+    go : (b c : Bool) → s.is_out ≡ b → not (s.grant.serial == n) ≡ c → grants_out (filter (is_another n) ss) ≡ filter (λ (g : Grant). not (g.serial == n)) (grants_out ss)
+        → grants_out (cond (b && c) (s ∷ filter (is_another n) ss) (filter (is_another n) ss)) ≡ filter (λ (g : Grant). not (g.serial == n)) (if b then s.grant ∷ grants_out ss else grants_out ss)
+    go true true is other rest =
+        ap (λ b. if b then s.grant ∷ grants_out (filter (is_another n) ss) else grants_out (filter (is_another n) ss)) is
+        ∙ ap (λ gs. s.grant ∷ gs) rest
+        ∙ sym (ap (λ c. cond c (s.grant ∷ filter (λ (g : Grant). not (g.serial == n)) (grants_out ss)) (filter (λ (g : Grant). not (g.serial == n)) (grants_out ss))) other)
+    go true false is same rest = rest ∙ sym (ap (λ c. cond c (s.grant ∷ filter (λ (g : Grant). not (g.serial == n)) (grants_out ss)) (filter (λ (g : Grant). not (g.serial == n)) (grants_out ss))) same)
+    go false c is other rest = rest
+
+pub all-out : (ss : List Slot) → All (λ (s : Slot). s.is_out ≡ true) ss → length (grants_out ss) ≡ length ss
+all-out [] all = refl
+all-out (s ∷ ss) all =
+    ap (λ b. length (if b then s.grant ∷ grants_out ss else grants_out ss)) (all 0 s (omega arith))
+    ∙ ap suc (all-out ss (λ k d lt. all (suc k) d (omega arith)))
+
 module _ (client page n : ℕ) (ss : List Slot) where
   other : (s : Slot) → (s.grant.serial ≡ n → ⊥) → (s.is_out && same_grant (grant client page n) s.grant) ≡ false
   other s apart =
@@ -77,7 +101,7 @@ module _ (client page n : ℕ) (ss : List Slot) where
       ∙ ap (λ b. s.is_out && b) (and-false (client == s.grant.client) (page == s.grant.page))
       ∙ none s.is_out
 
-  in-slots : is_out (grant client page n) (reverse (grants_out ss)) ≡ some (λ (s : Slot). s.is_out && same_grant (grant client page n) s.grant) ss
+  pub in-slots : is_out (grant client page n) (reverse (grants_out ss)) ≡ some (λ (s : Slot). s.is_out && same_grant (grant client page n) s.grant) ss
   in-slots = some-reverse (same_grant (grant client page n)) (grants_out ss) ∙ some-out (same_grant (grant client page n)) ss
 
   -- the grant with the number is the one that is meant where it is out, and client and page are
@@ -177,3 +201,31 @@ front-left ss ts r s is was left = ap grants_out is ∙ ap (λ (o : Option Slot)
 
 pub back-left : (ss ts : List Slot) (r : Option Slot) (s : Slot) → ss ≡ ts ++ option_to_list r → r ≡ Some s → s.is_out ≡ false → grants_out ss ≡ grants_out ts
 back-left ss ts r s is was left = ap grants_out is ∙ ap (λ (o : Option Slot). grants_out (ts ++ option_to_list o)) was ∙ out-append ts (s ∷ []) ∙ ap (λ gs. grants_out ts ++ gs) (out-left s left) ∙ append-nil (grants_out ts)
+
+-- ---- the oldest
+pub oldest-is : (ss : List Slot) (first : ℕ) (d : Slot) → first < length ss → ((k : ℕ) (e : Slot) → k < first → (get_or ss k e).is_out ≡ false) → (get_or ss first d).is_out ≡ true → slice_get (grants_out ss) 0 ≡ Some (get_or ss first d).grant
+oldest-is [] first d lt left out = absurd (omega arith)
+oldest-is (s ∷ ss) zero d lt left out = ap (λ b. slice_get (if b then s.grant ∷ grants_out ss else grants_out ss) 0) out
+oldest-is (s ∷ ss) (suc first) d lt left out =
+    ap (λ b. slice_get (if b then s.grant ∷ grants_out ss else grants_out ss) 0) (left 0 s (omega arith))
+    ∙ oldest-is ss first d (omega arith) (λ k e l. left (suc k) e (omega arith)) out
+
+pub none-out : (ss : List Slot) → ((k : ℕ) (d : Slot) → k < length ss → (get_or ss k d).is_out ≡ false) → grants_out ss ≡ []
+none-out [] left = refl
+none-out (s ∷ ss) left = ap (λ b. if b then s.grant ∷ grants_out ss else grants_out ss) (left 0 s (omega arith)) ∙ none-out ss (λ k d l. left (suc k) d (omega arith))
+
+-- one more whose number is above that of the last
+pub rises-pushed : (xs : List Slot) (x last : Slot) → IsRisingBy (λ (s : Slot). s.grant.serial) xs → 0 < length xs → last ≡ get_or xs (length xs - 1) last → last.grant.serial < x.grant.serial → IsRisingBy (λ (s : Slot). s.grant.serial) (xs ++ x ∷ [])
+rises-pushed xs x last rising some is above = rising-pushed (λ (s : Slot). s.grant.serial) xs rising x (λ k d lt. below k d lt)
+  where
+    serial_of : Slot → ℕ
+    serial_of s = s.grant.serial
+
+    at_end : (d : Slot) → get_or xs (length xs - 1) d ≡ last
+    at_end d = get_or_default xs (length xs - 1) d last (omega (arith, some)) ∙ sym is
+
+    below : (k : ℕ) (d : Slot) → k < length xs → (get_or xs k d).grant.serial < x.grant.serial
+    below k d lt = elim (cases_lt k (length xs - 1)) [
+      | inl less ↦ omega (arith, rising k (length xs - 1) d less (omega (arith, some)), ap serial_of (at_end d), above)
+      | inr ge ↦ omega (arith, ap (λ i. (get_or xs i d).grant.serial) {x = k} {y = length xs - 1} (omega (arith, ge, lt)), ap serial_of (at_end d), above)
+    ]

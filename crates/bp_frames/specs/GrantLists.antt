@@ -1,6 +1,6 @@
 -- What a list of passes or tickets is seen as: those that are out, newest first, and which more may
 -- be given.
-use Rattle.std.specs.Prelude.{◌≡◌, ℕ, ◌+◌, ◌-◌, ◌≤◌, max, List, [], ◌∷◌, length, reverse}
+use Rattle.std.specs.Prelude.{◌≡◌, ℕ, ◌+◌, ◌-◌, ◌<◌, ◌≤◌, max, Bool, true, false, List, [], ◌∷◌, length, reverse, slice_index_or}
 use Rattle.std.specs.Prelude.{if◌then◌else◌}
 use Rattle.bp_frames.specs.declared.grant_list.Slot.{Slot}
 use Rattle.bp_frames.specs.Rising.{IsRisingBy}
@@ -40,7 +40,18 @@ above (s ∷ ss) = max (s.grant.serial + 1) (above ss)
 abbrev pub given_by : List Slot → ℕ → Given
 given_by slots room = record { out = reverse (grants_out slots); room = room; next = above slots }
 
--- slots in the order of their numbers, so many of which have a grant that is out
-abbrev pub AreInOrder : List Slot → ℕ → Type 0
-AreInOrder slots count =
-    IsRisingBy (λ (s : Slot). s.grant.serial) slots × (count ≡ length (grants_out slots))
+-- the numbers of the slots rise, if that is said of them
+abbrev pub MayRise : Bool → List Slot → Type 0
+MayRise is_rising slots = is_rising ≡ true → IsRisingBy (λ (s : Slot). s.grant.serial) slots
+
+-- slots, in the order of their numbers if that is said of them, so many of which have a grant that
+-- is out
+abbrev pub AreInOrder : List Slot → ℕ → Bool → Type 0
+AreInOrder slots count is_rising =
+    MayRise is_rising slots × (count ≡ length (grants_out slots))
+
+-- where the first slot stands whose grant is out, or the end
+pub record IsFirstOut (slots : List Slot) (first : ℕ) : Type 0 where
+  pub within : first ≤ length slots
+  pub left : (k : ℕ) (d : Slot) → k < first → (slice_index_or slots k d).is_out ≡ false
+  pub out : (d : Slot) → first < length slots → (slice_index_or slots first d).is_out ≡ true

@@ -215,7 +215,7 @@ impl FrameTable {
 
     /// Sees to it that more than `reads` frames wait for a page, where that many wait or more. It may take memory, for
     /// one frame; where that is refused nothing changes.
-    pub fn provide(&mut self, alloc: Global, reads: usize) -> Result<(), AllocError>
+    pub fn make_spare_frame(&mut self, alloc: Global, reads: usize) -> Result<(), AllocError>
         requires room { length self.old.frames + reads < self.old.limit }
         requires waiting { reads ≤ self.old.spare }
         ensures frames { self.new.frames ≡ self.old.frames }
@@ -240,7 +240,7 @@ impl FrameTable {
     /// Puts a page of the file that was read, and has no frame, into a frame that waits, with the number of the block
     /// of its references, and with one pass out. The frame keeps the image itself. Returns where it is, and the image
     /// that it had before, whose bytes mean nothing. It takes no memory.
-    pub fn fill(&mut self, page: PageNo, block: BlockNo, image: Image) -> (FrameSlot, Image)
+    pub fn install(&mut self, page: PageNo, block: BlockNo, image: Image) -> (FrameSlot, Image)
         requires absent { some (is_frame_of page) self.old.frames ≡ false }
         requires in_range { page < self.old.pages }
         requires spare { 0 < self.old.spare }

@@ -1,8 +1,10 @@
 //! The passes or tickets that are out.
-ghost use Rattle.std.specs.Prelude.{◌≡◌, ◌<◌, ◌≤◌, ◌==◌, ◌&&◌, [], not, All, filter, length, IfOk, OnOk};
-ghost use Rattle.std.specs.Prelude.{IsTrue, IsFalse};
-ghost use Rattle.bp_trail.specs.Event.{Grant, grant};
+ghost use Rattle.std.specs.Prelude.{◌≡◌, ◌<◌, ◌≤◌, ◌+◌, ◌^◌, ◌==◌, ◌&&◌, ◌++◌, ◌∷◌, [], not, All, filter, length};
+ghost use Rattle.std.specs.Prelude.{IsTrue, IsFalse, IfOk, OnOk, IsOk, reverse, slice_get};
+ghost use Rattle.bp_trail.specs.Event.{Grant, grant, same_grant};
+ghost use Rattle.bp_trail.specs.Lists.{some};
 ghost use Rattle.bp_trail.specs.Legal.{is_out};
+ghost use Rattle.bp_frames.specs.GrantLists.{MayRise, IsFirstOut};
 ghost use Rattle.bp_frames.specs.Rising.{IsRisingBy, IsPlaceFor, IsPlaceOf};
 ghost use Rattle.bp_frames.specs.declared.grant_list.Slot.{Slot};
 
@@ -19,12 +21,13 @@ struct Slot {
     is_out: bool,
 }
 
-/// The passes or tickets of a kind that are out, in the order of their serial numbers.
+/// The passes or tickets of a kind that are out, in the order in which they were given.
 ///
-/// `has` and `take_back` take O(log n) for n slots, `len` and `give` O(1). None of them moves a grant or takes
-/// memory: a grant that is taken back leaves its slot, which keeps the order. A slot that was left goes once it is
-/// the oldest or the newest, at most two of each at a call; so a list that is taken back from its ends alone has no
-/// such slots.
+/// Their serial numbers rise: `give` asks for that, and `add` only notes whether they do. As long as they rise `has`
+/// and `take_back` take O(log n) for n slots, `len`, `give` and `add` O(1). None of them moves a grant or takes memory:
+/// a grant that is taken back leaves its slot, which keeps the order. A slot that was left goes once it is the oldest
+/// or the newest, at most two of each at a call; so a list that is taken back from its ends alone has no such slots.
+/// Once a number did not rise, `has` and `take_back` look at all slots.
 ///
 /// `reserve` alone may move grants, and takes O(1) on average. Where room is wanted it first closes the slots that were
 /// left, if they are half of all or more; where that is not enough, the list grows to at least twice its size.
@@ -33,6 +36,8 @@ pub struct GrantList {
     slots: VecDeque<Slot>,
     /// How many are out.
     count: usize,
+    /// Whether each slot has a greater number than the one before it.
+    is_rising: bool,
 }
 
 impl Model for GrantList {
@@ -44,7 +49,7 @@ impl Model for GrantList {
 
     ghost view = { λ g. given_by g.slots.items (deque_capacity g.slots - deque_len g.slots) };
 
-    ghost invariant = { λ g. AreInOrder g.slots.items g.count };
+    ghost invariant = { λ g. AreInOrder g.slots.items g.count g.is_rising };
 }
 
 /// Where the slot of this number stands or would stand, found by halving.
@@ -76,17 +81,68 @@ fn is_out_as(slot: &Slot, client: u8, page: PageNo) -> bool
     slot.is_out && client == slot.grant.client && page == slot.grant.page
 }
 
+/// Whether this grant is out, found by a look at each slot.
+fn is_among(slots: &VecDeque<Slot>, client: u8, page: PageNo, serial: u64) -> bool
+    ensures { result ≡ some (λ s. s.is_out && same_grant (grant client page serial) s.grant)
+        slots.now.items }
+{
+    slots.iter().any(|slot| is_this(slot, client, page, serial))
+}
+
+/// Whether the grant of a slot is out, and is this one.
+fn is_this(slot: &Slot, client: u8, page: PageNo, serial: u64) -> bool
+    ensures { result ≡ (slot.now.is_out
+        && same_grant (grant client page serial) slot.now.grant) }
+{
+    is_out_as(slot, client, page) && serial == slot.grant.serial
+}
+
+/// Whether the grant of a slot is out, and has another number.
+fn is_another(slot: &Slot, serial: u64) -> bool
+    ensures { result ≡ (slot.now.is_out && not (slot.now.grant.serial == serial)) }
+{
+    slot.is_out && slot.grant.serial != serial
+}
+
+/// Whether the numbers rise with one slot more.
+fn rises_with(slots: &VecDeque<Slot>, is_rising: bool, serial: u64) -> bool
+    requires { MayRise is_rising slots.now.items }
+    ensures { (slot : Slot) → slot.grant.serial ≡ serial →
+        MayRise result (slots.now.items ++ slot ∷ []) }
+{
+    match slots.back() {
+        Some(newest) => is_rising && newest.grant.serial < serial,
+        None => true,
+    }
+}
+
+/// Where the first slot stands whose grant is out, or the end.
+fn first_out(slots: &VecDeque<Slot>) -> usize
+    ensures { IsFirstOut slots.now.items result }
+{
+    let mut first = 0;
+    while first < slots.len() && !slots[first].is_out {
+        first += 1;
+    }
+    first
+}
+
 impl GrantList {
     ghost use Rattle.bp_frames.specs.GrantLists.{with_grant, GivesAsMuch};
 
     /// No grants, and no room. It takes no memory.
     pub fn new(alloc: Global) -> GrantList
         ensures empty { result.out ≡ [] }
+        ensures room { result.room ≡ 0 }
         ensures next { result.next ≡ 0 }
     {
+        let mut slots = VecDeque::new(alloc);
+        // Only of this does std say that it leaves no memory.
+        slots.shrink_to_fit();
         GrantList {
-            slots: VecDeque::new(alloc),
+            slots,
             count: 0,
+            is_rising: true,
         }
     }
 
@@ -99,31 +155,49 @@ impl GrantList {
         Ok(GrantList {
             slots: VecDeque::with_capacity(alloc, room)?,
             count: 0,
+            is_rising: true,
         })
     }
 
     /// How many are out.
     pub fn len(&self) -> usize
-        ensures { result ≡ length self.now.out }
+        ensures count { result ≡ length self.now.out }
+        ensures small { result < 2 ^ 63 }
     {
         self.count
+    }
+
+    /// The one that was given first. It takes O(1) where no slots were left before it: see `trim_front`.
+    pub fn oldest(&self) -> Option<Grant>
+        ensures { result ≡ slice_get (reverse self.now.out) 0 }
+    {
+        let first = first_out(&self.slots);
+        if first < self.slots.len() {
+            Some(self.slots[first].grant)
+        } else {
+            None
+        }
     }
 
     /// Whether this grant, of all three numbers, is out. It is found by halving.
     pub fn has(&self, client: u8, page: PageNo, serial: u64) -> bool
         ensures { result ≡ is_out (grant client page serial) self.now.out }
     {
+        if !self.is_rising {
+            return is_among(&self.slots, client, page, serial);
+        }
         match find(&self.slots, serial) {
             Some(place) => is_out_as(&self.slots[place], client, page),
             None => false,
         }
     }
 
-    /// Takes memory for so many more. Where that is refused the grants stay as they are.
+    /// Takes memory for so many more, if there is not the room. Where it is refused the grants stay as they are.
     pub fn reserve(&mut self, additional: usize) -> Result<(), AllocError>
         ensures out { self.new.out ≡ self.old.out }
         ensures room { OnOk result (additional ≤ self.new.room) }
         ensures more { GivesAsMuch self.old self.new }
+        ensures succeeds { additional ≤ self.old.room → IsOk result }
     {
         if self.free() < additional && self.count <= self.slots.len() / 2 {
             self.squeeze();
@@ -169,6 +243,20 @@ impl GrantList {
         self.count += 1;
     }
 
+    /// Adds the newest grant, whatever its number, which takes no memory.
+    pub fn add(&mut self, grant: Grant)
+        requires room { 0 < self.old.room }
+        ensures out { self.new.out ≡ grant ∷ self.old.out }
+        ensures room { self.new.room + 1 ≡ self.old.room }
+    {
+        self.is_rising = rises_with(&self.slots, self.is_rising, grant.serial);
+        self.slots.push_back_reserved(Slot {
+            grant,
+            is_out: true,
+        });
+        self.count += 1;
+    }
+
     /// Takes this grant, of all three numbers, out, and tells whether it was. That leaves no less room; where it was not
     /// out nothing changes. It is found by halving.
     pub fn take_back(&mut self, client: u8, page: PageNo, serial: u64) -> bool
@@ -186,7 +274,23 @@ impl GrantList {
         true
     }
 
-    /// Marks this grant as taken back, and tells whether it was out.
+    /// Takes this grant out, and tells whether it was. It looks at each slot, and closes those that were left.
+    fn remove_each(&mut self, client: u8, page: PageNo, serial: u64) -> bool
+        ensures was { result ≡ is_out (grant client page serial) self.old.out }
+        ensures out { IsTrue result → self.new.out
+            ≡ filter (λ g. not (g.serial == serial)) self.old.out }
+        ensures more { GivesAsMuch self.old self.new }
+        ensures same { IsFalse result → self.new ≡ self.old }
+    {
+        if !is_among(&self.slots, client, page, serial) {
+            return false;
+        }
+        self.slots.retain(|slot| is_another(slot, serial));
+        self.count = self.slots.len();
+        true
+    }
+
+    /// Marks this grant as taken back, or removes it where the numbers do not rise, and tells whether it was out.
     fn mark(&mut self, client: u8, page: PageNo, serial: u64) -> bool
         ensures was { result ≡ is_out (grant client page serial) self.old.out }
         ensures out { IsTrue result → self.new.out
@@ -194,6 +298,9 @@ impl GrantList {
         ensures more { GivesAsMuch self.old self.new }
         ensures same { IsFalse result → self.new ≡ self.old }
     {
+        if !self.is_rising {
+            return self.remove_each(client, page, serial);
+        }
         let Some(place) = find(&self.slots, serial) else {
             return false;
         };
@@ -203,6 +310,17 @@ impl GrantList {
         self.slots[place].is_out = false;
         self.count -= 1;
         true
+    }
+
+    /// Drops the slots that were left before the first grant that is out. It takes O(1) on average, since each slot goes
+    /// once.
+    pub fn trim_front(&mut self)
+        ensures out { self.new.out ≡ self.old.out }
+        ensures more { GivesAsMuch self.old self.new }
+    {
+        for _ in 0..first_out(&self.slots) {
+            self.drop_oldest();
+        }
     }
 
     /// Drops the oldest slot and the newest, if their grants were taken back.

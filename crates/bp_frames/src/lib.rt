@@ -6,8 +6,8 @@
 //! [`GrantList`] holds the passes, or the tickets of one kind, that are out. Neither knows of a trail: what each is
 //! seen as is said in `specs`, and the core above ties that to its entries.
 //!
-//! Memory is taken by `FrameTable::with_capacity` and `provide`, and by `GrantList::with_capacity` and `reserve`; by
-//! nothing else.
+//! Memory is taken by `FrameTable::with_capacity` and `make_spare_frame`, and by `GrantList::with_capacity` and
+//! `reserve`; by nothing else.
 #![tactic(auto)]
 
 mod bit_row;

@@ -1,11 +1,10 @@
 //! What a core asks of the keeper of its trail.
 ghost use Rattle.std.specs.Prelude.{◌≡◌, ℕ, ◌^◌, ◌<◌, ◌≤◌, Bool, false, List, length, IsOk, IfOk};
 ghost use Rattle.bp_trail.specs.declared.entries.Reply.TheVariants.{Done, Content, Fixed};
-ghost use Rattle.bp_audit.specs.Totals.{totals_of};
+ghost use Rattle.bp_trail.specs.Totals.{totals_of};
 
-use bp_audit::Totals;
 use bp_page::{Image, Lsn};
-use bp_trail::{Call, Grant, Reply};
+use bp_trail::{Call, Grant, Reply, Totals};
 use std::alloc::{AllocError, Global};
 
 /// Keeps the entries of a trail, in memory or for the proofs alone.

@@ -4,9 +4,8 @@ ghost use Rattle.std.specs.Prelude.{◌≡◌, ◌≤◌, ◌++◌, IsOk, IfOk, 
 use crate::ghost_trail::GhostTrail;
 use crate::keeper::Keeper;
 use crate::list_keeper::ListKeeper;
-use bp_audit::Totals;
 use bp_page::{Bytes, Geometry, Image, Lsn};
-use bp_trail::{Call, Entry, Grant, Reply};
+use bp_trail::{Call, Entry, Grant, Reply, Totals};
 use std::alloc::{AllocError, Global};
 use std::marker::Model;
 use std::mem;
@@ -24,7 +23,7 @@ pub struct RecordingKeeper {
 
 impl Model for RecordingKeeper {
     ghost use Rattle.std.specs.Prelude.{◌++◌, length, reverse, vec_capacity};
-    ghost use Rattle.bp_audit.specs.Totals.{CountsAll};
+    ghost use Rattle.bp_trail.specs.Totals.{CountsAll};
     ghost use Rattle.bp_keeper.specs.Kept.{Kept};
 
     ghost Value = { Kept };

@@ -3,9 +3,8 @@
 use crate::ghost_trail::{Event, GhostImage, GhostTrail, Shown};
 use crate::keeper::Keeper;
 use crate::list_keeper::ListKeeper;
-use bp_audit::Totals;
 use bp_page::{Geometry, Image, Lsn};
-use bp_trail::{Call, Entry, Grant, Reply};
+use bp_trail::{Call, Entry, Grant, Reply, Totals};
 use std::alloc::{AllocError, Global};
 use std::marker::Model;
 
@@ -21,7 +20,7 @@ pub struct SilentKeeper {
 
 impl Model for SilentKeeper {
     ghost use Rattle.std.specs.Prelude.{◌<◌, ◌^◌, [], true};
-    ghost use Rattle.bp_audit.specs.Totals.{CountsAll};
+    ghost use Rattle.bp_trail.specs.Totals.{CountsAll};
     ghost use Rattle.bp_keeper.specs.Kept.{Kept};
 
     ghost Value = { Kept };

@@ -4,7 +4,7 @@ ghost use Rattle.std.specs.Io.KnownBytes.{Consumes};
 ghost use Rattle.bp_ports.specs.WholeFiles.{Migrates, MigratesPage};
 ghost use Rattle.bp_ports.specs.MigrateFaults.{OnWriteFault, ReadsAFront};
 
-use crate::progress::{Progress, Untold};
+use crate::progress::{Progress, Unwatched};
 use bp_page::{Geometry, Image, Lsn, PageNo, slot2};
 use std::alloc::Global;
 use std::io::{Read, Write};
@@ -53,7 +53,7 @@ fn migrate_page<I: Read, W: Write>(
 }
 
 /// As `migrate_with`, and tells how far it has come after each page.
-pub fn migrate_told<I: Read, W: Write, P: Progress>(
+pub fn migrate_watched<I: Read, W: Write, P: Progress>(
     alloc: Global,
     reader: &mut I,
     writer: &mut W,
@@ -94,5 +94,5 @@ pub fn migrate_with<I: Read, W: Write>(
     ensures cause { IfErr result (λ fault. OnWriteFault fault
         (ReadsAFront geometry.now (I.remaining reader.old) (I.remaining reader.new))) }
 {
-    migrate_told(alloc, reader, writer, geometry, &mut Untold)
+    migrate_watched(alloc, reader, writer, geometry, &mut Unwatched)
 }

@@ -8,8 +8,8 @@ pub trait Progress {
 
 /// Nobody is told.
 #[derive(Clone, Copy)]
-pub struct Untold;
+pub struct Unwatched;
 
-impl Progress for Untold {
+impl Progress for Unwatched {
     fn written(&mut self, _done: u64, _pages: u64) {}
 }

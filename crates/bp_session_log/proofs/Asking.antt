@@ -3,7 +3,6 @@ use Rattle.std.proofs.Common.{◌≡◌, refl, sym, ap, subst, ◌∙◌, ℕ, �
 use Rattle.bp_page.specs.declared.refusals.Refusal.{Refusal}
 use Rattle.bp_page.specs.declared.refusals.Refusal.TheVariants as refusal
 use Rattle.bp_core.specs.declared.passes.Pass.{Pass}
-use Rattle.bp_core.specs.declared.passes.ReadTicket.{ReadTicket}
 use Rattle.bp_trail.specs.declared.entries.Call.{Call}
 use Rattle.bp_trail.specs.declared.entries.Call.TheVariants.{Mark, Fix, Flush, ReadEnd}
 use Rattle.bp_trail.specs.declared.entries.Reply.{Reply}
@@ -13,7 +12,8 @@ use Rattle.bp_trail.specs.Trail.{Trail}
 use Rattle.bp_trail.specs.Clock.{durable}
 use Rattle.bp_trail.specs.Legal.{Legal}
 use Rattle.bp_core.specs.CoreView.{CoreView, with_entry}
-use Rattle.bp_core.specs.Outcomes.{Adds, FixOutcome, FlushOutcome, ReadEndOutcome, StepOutcome, TickOutcome, PurgeOutcome, ReadOutcome, WriteOutcome}
+use Rattle.bp_core.specs.Outcomes.{Adds, FixOutcome, FlushOutcome, ReadEndByOutcome, StepOutcome, TickOutcome, PurgeOutcome, ReadOutcome, WriteOutcome}
+use Rattle.bp_trail.specs.Event.{Grant}
 use Rattle.bp_trail.specs.Pieces.{by}
 use Rattle.bp_trail.proofs.Events.{Event, event-of}
 use Rattle.bp_trail.proofs.Events.Event.{fix_write, flush_write}
@@ -91,7 +91,7 @@ write_first_sized old new client call t p image adds =
     sized-event old.parameters old.past client call t p image l.before (event-of old.parameters old.past (by client call (WriteFirst t p image)) l.here)
 
 -- a read that ended well is in both
-pub loaded_alike : (old new : CoreView) (said after : Trail) (client : ℕ) (ticket : ReadTicket) (image : List ℕ) (pass : Pass) → ticket.client ≡ client → ReadEndOutcome old ticket (Ok image) (Ok pass) new
+pub loaded_alike : (old new : CoreView) (said after : Trail) (client : ℕ) (ticket : Grant) (image : List ℕ) (pass : Pass) → ticket.client ≡ client → ReadEndByOutcome old ticket (Ok image) (Ok pass) new
     → after ≡ by client (ReadEnd ticket.serial ticket.page (Some image)) (Fixed pass.serial) ∷ said → Alike old said new after
 loaded_alike old new said after client ticket image pass whose ended grows =
     let e = λ (c : ℕ). by c (ReadEnd ticket.serial ticket.page (Some image)) (Fixed pass.serial) in

@@ -1,16 +1,16 @@
 -- The room that a list keeps, after the end of device work that its newest entry began.
-use Rattle.std.proofs.Common.{rules, ◌≡◌, refl, sym, ap, subst, ◌∙◌, eqb, ℕ, ◌+◌, ◌-◌, ◌≤◌, Bool, true, false, All, List, [], ◌∷◌, ◌++◌, length, filter, reverse, length-append, arith, Some, None, Err}
+use Rattle.std.proofs.Common.{rules, ◌≡◌, refl, sym, ap, subst, ◌∙◌, eqb, ℕ, ◌+◌, ◌-◌, ◌*◌, ◌≤◌, Bool, true, false, All, List, [], ◌∷◌, ◌++◌, length, filter, reverse, length-append, arith, Some, None, Err}
 use Rattle.std.proofs.lemmas.List.{reverse-append}
 use Rattle.std.proofs.lemmas.List.Elements.{All-append}
 use Rattle.std.specs.Prelude.{not, if◌then◌else◌}
 use Rattle.bp_page.specs.declared.refusals.Refusal.{Refusal}
 use Rattle.bp_page.specs.declared.refusals.PortFault.{PortFault}
 use Rattle.bp_page.specs.declared.refusals.PortFault.TheVariants as fault
-use Rattle.bp_trail.specs.declared.entries.Call.TheVariants.{ReadEnd, WriteEnd}
+use Rattle.bp_trail.specs.declared.entries.Call.TheVariants.{Fix, ReadEnd, WriteEnd}
 use Rattle.bp_trail.specs.declared.entries.Reply.{Reply}
 use Rattle.bp_trail.specs.declared.entries.Reply.TheVariants.{Hit, Load, WriteFirst, Fixed}
 use Rattle.bp_core.specs.declared.passes.ReadTicket.{ReadTicket}
-use Rattle.bp_core.specs.ReadFaults.{read_refusal, read_failure}
+use Rattle.bp_trail.specs.Ends.{read_refusal, read_failure}
 use Rattle.bp_trail.specs.Lists.{and_given}
 use Rattle.bp_trail.specs.Event.{Grant, grant, pass_given}
 use Rattle.bp_trail.specs.Trail.{Trail}
@@ -33,18 +33,36 @@ read_owed client ticket said o = subst (λ (es : Trail). 1 ≤ open_tickets es) 
 pub write_owed : (client ticket : ℕ) (said : Trail) → OwesWriteEnd client ticket said → 1 ≤ open_tickets said
 write_owed client ticket said o = subst (λ (es : Trail). 1 ≤ open_tickets es) (sym o.gave) (omega arith)
 
+-- a pass that a fix gave at once
+pub keeps_hit : (client page n : ℕ) (said after : Trail) (held held' : List Grant) (tickets kept kept' copies c c' h h' : ℕ)
+    → KeepsRoom client said held tickets kept copies c h
+    → after ≡ by client (Fix page) (Hit n) ∷ said → held' ≡ grant client page n ∷ held → kept' ≡ kept + 1 → c' ≡ c → h' + 1 ≡ h
+    → kept + (length held + 2 * tickets) + 2 ≤ c → tickets + 1 ≤ h
+    → KeepsRoom client after held' tickets kept' copies c' h'
+keeps_hit client page n said after held held' tickets kept kept' copies c c' h h' r grows holds more same_c same_h entries passes =
+    let g = grant client page n in
+    let len : length held' ≡ length held + 1 = omega (arith, ap length holds) in
+    record {
+      held_are = holds ∙ ap (λ gs. g ∷ gs) r.held_are ∙ ap (λ es. passes_out es) (sym grows);
+      own = subst (All (λ g. g.client ≡ client)) (sym holds) (All-append (λ (g : Grant). g.client ≡ client) (g ∷ []) held (search rules) r.own);
+      tickets_are = subst (λ (es : Trail). tickets ≡ open_tickets es) (sym grows) (omega (arith, r.tickets_are));
+      entries_fit = omega (arith, len, more, same_c, entries);
+      passes_fit = omega (arith, same_h, passes);
+      copies_fit = r.copies_fit;
+    }
+
 pub keeps_loaded : (client : ℕ) (said after : Trail) (held held' : List Grant) (tickets kept kept' copies copies' : ℕ) (c c' h h' : ℕ) (ticket : ReadTicket) (n : ℕ) (image : List ℕ)
     → KeepsRoom client said held tickets kept copies c h → OwesRead client ticket said
-    → after ≡ by client (ReadEnd ticket.serial ticket.page (Some image)) (Fixed n) ∷ said → held' ≡ held ++ grant client ticket.page n ∷ [] → kept' ≡ kept + 1 → c' ≡ c → h' + 1 ≡ h
+    → after ≡ by client (ReadEnd ticket.serial ticket.page (Some image)) (Fixed n) ∷ said → held' ≡ grant client ticket.page n ∷ held → kept' ≡ kept + 1 → c' ≡ c → h' + 1 ≡ h
     → copies ≤ copies' + 1
     → KeepsRoom client after held' (tickets - 1) kept' copies' c' h'
 keeps_loaded client said after held held' tickets kept kept' copies copies' c c' h h' ticket n image r o grows holds more same_c same_h most =
     let g = grant client ticket.page n in
     let fewer = read_owed client ticket said o in
-    let len : length held' ≡ length held + 1 = ap length holds ∙ length-append held (g ∷ []) in
+    let len : length held' ≡ length held + 1 = omega (arith, ap length holds) in
     record {
-      held_are = holds ∙ ap (λ gs. gs ++ g ∷ []) r.held_are ∙ sym (reverse-append (g ∷ []) (passes_out said)) ∙ ap (λ es. reverse (passes_out es)) (sym grows);
-      own = subst (All (λ g. g.client ≡ client)) (sym holds) (All-append (λ (g : Grant). g.client ≡ client) held (g ∷ []) r.own (search rules));
+      held_are = holds ∙ ap (λ gs. g ∷ gs) r.held_are ∙ ap (λ es. passes_out es) (sym grows);
+      own = subst (All (λ g. g.client ≡ client)) (sym holds) (All-append (λ (g : Grant). g.client ≡ client) (g ∷ []) held (search rules) r.own);
       tickets_are = subst (λ (es : Trail). tickets - 1 ≡ open_tickets es) (sym grows) (omega (arith, r.tickets_are));
       entries_fit = omega (arith, r.entries_fit, len, more, same_c, fewer, r.tickets_are);
       passes_fit = omega (arith, r.passes_fit, same_h, fewer, r.tickets_are);
@@ -64,7 +82,7 @@ keeps_not_loaded client said after held tickets kept kept' copies c c' h ticket 
     let fewer = read_owed client ticket said o in
     let gives = failed_gives client ticket.page f in
     record {
-      held_are = r.held_are ∙ ap reverse (sym (ap (λ g. and_given g (passes_out said)) gives.0)) ∙ ap (λ es. reverse (passes_out es)) (sym grows);
+      held_are = r.held_are ∙ sym (ap (λ g. and_given g (passes_out said)) gives.0) ∙ ap (λ es. passes_out es) (sym grows);
       own = r.own;
       tickets_are = subst (λ (es : Trail). tickets - 1 ≡ open_tickets es) (sym grows) (omega (arith, gives.1, r.tickets_are));
       entries_fit = omega (arith, r.entries_fit, more, same_c, fewer, r.tickets_are);
@@ -89,7 +107,7 @@ keeps_written client said after held tickets kept kept' copies c c' h ticket pag
     let fewer = write_owed client ticket said o in
     let p = plain-with client page reply plain in
     record {
-      held_are = r.held_are ∙ ap reverse (sym (ap (λ o. and_given o (passes_out said)) p.0)) ∙ ap (λ es. reverse (passes_out es)) (sym grows);
+      held_are = r.held_are ∙ sym (ap (λ o. and_given o (passes_out said)) p.0) ∙ ap (λ es. passes_out es) (sym grows);
       own = r.own;
       tickets_are = subst (λ (es : Trail). tickets - 1 ≡ open_tickets es) (sym grows) (omega (arith, p.1, r.tickets_are));
       entries_fit = omega (arith, r.entries_fit, more, same_c, fewer, r.tickets_are);

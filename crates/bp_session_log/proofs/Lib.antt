@@ -1,7 +1,6 @@
 pub mod Asking
 pub mod Ending
 pub mod Posting
-pub mod Holding
 pub mod Drains
 pub mod Keeping
 -- The ghost steps of a board, and what the walks share.

@@ -15,9 +15,6 @@ use Rattle.bp_trail.proofs.Counting.{filter-reverse}
 use Rattle.bp_session_log.specs.Books.{KeepsRoom, open_tickets}
 use Rattle.bp_session_log.proofs.Ending.{filter_le, others}
 
-out-reversed : (g : Grant) (gs : List Grant) → is_out g (reverse gs) ≡ true → is_out g gs ≡ true
-out-reversed g gs h = list_any-IsPermutation (same_grant g) gs (reverse gs) (IsPermutation-reverse gs) ∙ h
-
 -- a pass among those held is the client's, and there is one fewer without it
 pub record Held (client : ℕ) (g : Grant) (gs : List Grant) : Type 0 where
   pub whose : g.client ≡ client
@@ -39,9 +36,9 @@ held_there client g (x ∷ gs) own there = go (same_grant g x) refl there (held_
           fewer = elim (x.serial == g.serial) as (λ b. length (cond (not b) (x ∷ filter (others g.serial) gs) (filter (others g.serial) gs)) + 1 ≤ length (x ∷ gs)) [ true ↦ omega (arith, r.fewer) | false ↦ omega (arith, r.fewer) ];
         }
 
-pub held_of_list : (client : ℕ) (g : Grant) (said : Trail) (held : List Grant) → held ≡ reverse (passes_out said) → All (λ (x : Grant). x.client ≡ client) held → is_out g (passes_out said) ≡ true → Held client g held
+pub held_of_list : (client : ℕ) (g : Grant) (said : Trail) (held : List Grant) → held ≡ passes_out said → All (λ (x : Grant). x.client ≡ client) held → is_out g (passes_out said) ≡ true → Held client g held
 held_of_list client g said held are own there =
-    held_there client g held own (out-reversed g held (ap (is_out g) (ap reverse are ∙ reverse-reverse (passes_out said)) ∙ there))
+    held_there client g held own (ap (is_out g) are ∙ there)
 
 pub keeps_unfixed : (client : ℕ) (said after : Trail) (held held' : List Grant) (tickets kept kept' copies : ℕ) (c c' h h' : ℕ) (g : Grant)
     → KeepsRoom client said held tickets kept copies c h → is_out g (passes_out said) ≡ true
@@ -50,7 +47,7 @@ pub keeps_unfixed : (client : ℕ) (said after : Trail) (held held' : List Grant
 keeps_unfixed client said after held held' tickets kept kept' copies c c' h h' g r there grows holds more same_c same_h =
     let fewer : length held' + 1 ≤ length held = subst (λ gs. length gs + 1 ≤ length held) (sym holds) (held_of_list client g said held r.held_are r.own there).fewer in
     record {
-      held_are = holds ∙ ap (filter (others g.serial)) r.held_are ∙ sym (filter-reverse (others g.serial) (passes_out said)) ∙ ap (λ es. reverse (passes_out es)) (sym grows);
+      held_are = holds ∙ ap (filter (others g.serial)) r.held_are ∙ ap (λ es. passes_out es) (sym grows);
       own = subst (All (λ (x : Grant). x.client ≡ client)) (sym holds) (All-filter (others g.serial) (λ (x : Grant). x.client ≡ client) held r.own);
       tickets_are = subst (λ (es : Trail). tickets ≡ open_tickets es) (sym grows) (omega (arith, r.tickets_are));
       entries_fit = omega (arith, r.entries_fit, fewer, more, same_c);

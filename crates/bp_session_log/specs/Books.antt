@@ -103,11 +103,11 @@ abbrev pub NeedNotGrow : (passes places kept : ℕ) → Trail → Type 0
 NeedNotGrow passes places kept said =
     (1 ≤ passes) × (2 ≤ places) × (kept + (owed said + 4) < 2 ^ 64)
 
--- the passes held are those that the list leaves out, and there is room for what is owed: an unfix
--- for each of them; for each open ticket an end, an unfix and a copy of an image
+-- the passes held are those that the list leaves out, newest first, and there is room for what is
+-- owed: an unfix for each of them; for each open ticket an end, an unfix and a copy of an image
 pub record KeepsRoom (client : ℕ) (said : Trail) (held : List Grant)
     (tickets kept copies for_said for_held : ℕ) : Type 0 where
-  pub held_are : held ≡ held_passes said
+  pub held_are : held ≡ passes_out said
   pub own : All (λ g. g.client ≡ client) held
   pub tickets_are : tickets ≡ open_tickets said
   pub entries_fit : kept + (length held + 2 * tickets) ≤ for_said

@@ -13,7 +13,7 @@ use Rattle.bp_core.specs.declared.passes.Fix.{Fix as CoreFixing}
 use Rattle.bp_core.specs.declared.passes.Fix.TheVariants as core_fixing
 use Rattle.bp_core.specs.declared.passes.Flush.{Flush as CoreFlushing}
 use Rattle.bp_core.specs.declared.passes.Flush.TheVariants as core_flushing
-use Rattle.bp_core.specs.declared.passes.Ended.{Ended}
+use Rattle.bp_trail.specs.declared.ends.Ended.{Ended}
 use Rattle.bp_core.specs.declared.passes.EndRefusal.TheVariants.{Failed}
 use Rattle.bp_core.specs.CoreView.{CoreView}
 use Rattle.bp_session_log.specs.declared.pending.Fix.{Fix as Fixing}

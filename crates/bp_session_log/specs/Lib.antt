@@ -3,7 +3,6 @@ pub mod Books
 pub mod Turns
 pub mod Causes
 pub mod Rings
-pub mod Holding
 -- What a board and its lines own, and what each call does.
 pub mod Owned
 pub mod Boards

@@ -4,7 +4,7 @@ use Rattle.std.specs.Prelude.{length, take, drop}
 use Rattle.bp_page.specs.declared.refusals.Refusal.{Refusal}
 use Rattle.bp_page.specs.declared.refusals.Refusal.TheVariants as refusal
 use Rattle.bp_page.specs.declared.refusals.PortFault.{PortFault}
-use Rattle.bp_core.specs.ReadFaults.{read_refusal}
+use Rattle.bp_trail.specs.Ends.{read_refusal, ended_reply}
 use Rattle.bp_core.specs.declared.passes.Pass.{Pass}
 use Rattle.bp_core.specs.declared.passes.ReadTicket.{ReadTicket}
 use Rattle.bp_core.specs.declared.passes.WriteTicket.{WriteTicket}
@@ -12,7 +12,7 @@ use Rattle.bp_session_log.specs.declared.pending.Fix.{Fix as Fixing}
 use Rattle.bp_session_log.specs.declared.pending.Fix.TheVariants as fixing
 use Rattle.bp_session_log.specs.declared.pending.Flush.{Flush as Flushing}
 use Rattle.bp_session_log.specs.declared.pending.Flush.TheVariants as flushing
-use Rattle.bp_core.specs.declared.passes.Ended.{Ended}
+use Rattle.bp_trail.specs.declared.ends.Ended.{Ended}
 use Rattle.bp_trail.specs.declared.entries.Call.{Call}
 use Rattle.bp_trail.specs.declared.entries.Call.TheVariants.{Mark, Fix, ReadEnd, WriteEnd, Flush, Tick, Read, Write, Purge}
 use Rattle.bp_trail.specs.declared.entries.Reply.{Reply}
@@ -21,7 +21,6 @@ use Rattle.bp_trail.specs.Trail.{Trail}
 use Rattle.bp_trail.specs.Clock.{durable}
 use Rattle.bp_core.specs.CoreView.{CoreView}
 use Rattle.bp_trail.specs.Pieces.{by}
-use Rattle.bp_core.specs.Added.{ended_reply}
 use Rattle.bp_core.specs.Work.{Reads, Writes}
 
 -- the list has a mark more

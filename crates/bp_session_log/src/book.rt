@@ -16,8 +16,8 @@ mod list_cutting;
 mod posting;
 mod telling;
 
-use crate::held::Held;
 use bp_core::PassNote;
+use bp_frames::GrantList;
 use bp_keeper::ListKeeper;
 use bp_page::{Geometry, Image, Refusal};
 use std::alloc::{AllocError, Global};
@@ -36,7 +36,7 @@ pub struct Book<K: ListKeeper> {
     client: u8,
     said: K,
     /// The passes that the list gave and did not give back, in the order taken.
-    held: Held,
+    held: GrantList,
     /// The tickets whose end may still come.
     tickets: usize,
     /// Blanks for the entries that will need a copy of an image.
@@ -57,7 +57,7 @@ impl<K: ListKeeper> Model for Book<K> {
       before = (K.kept b.said).before;
       said = (K.kept b.said).past;
       entries = (K.kept b.said).capacity
-          - ((K.kept b.said).len + (length b.held.passes + 2 * b.tickets));
+          - ((K.kept b.said).len + (length b.held.out + 2 * b.tickets));
       passes = b.held.room - b.tickets;
       copies = vec_len b.blanks - b.tickets;
       places = vec_capacity b.blanks - b.tickets;
@@ -65,7 +65,7 @@ impl<K: ListKeeper> Model for Book<K> {
     } };
 
     ghost invariant = { λ b.
-        KeepsRoom b.client (K.kept b.said).past b.held.passes b.tickets (K.kept b.said).len
+        KeepsRoom b.client (K.kept b.said).past b.held.out b.tickets (K.kept b.said).len
         (vec_len b.blanks) (K.kept b.said).capacity b.held.room
         × All (λ blank. K.fits blank b.geometry.size) b.blanks.items };
 }
@@ -124,6 +124,7 @@ impl<K: ListKeeper> Book<K> {
         ensures said { result.said ≡ [] }
         ensures room { result.entries ≡ 0 }
         ensures passes { result.passes ≡ 0 }
+        ensures copies { result.copies ≡ 0 }
         ensures places { result.places ≡ 0 }
         ensures kept { result.kept ≡ 0 }
     {
@@ -132,7 +133,7 @@ impl<K: ListKeeper> Book<K> {
             geometry,
             client,
             said: K::empty(alloc),
-            held: Held::new(alloc),
+            held: GrantList::new(alloc),
             tickets: 0,
             blanks: Vec::new(alloc),
             left: None,
@@ -170,7 +171,8 @@ impl<K: ListKeeper> Book<K> {
         ensures first { result ≡ slice_get (held_passes self.now.said) 0 }
         ensures own { All (λ g. g.client ≡ self.now.client) (held_passes self.now.said) }
     {
-        self.held.oldest()
+        let oldest = self.held.oldest()?;
+        Some(PassNote::of(oldest.client, oldest.page, oldest.serial))
     }
 
     /// Takes the memory for a mark, for one event, and for all that is owed then. No entry is added. Where memory is

@@ -17,7 +17,6 @@
 pub mod boards;
 pub mod book;
 pub mod draining;
-mod held;
 pub mod pending;
 mod posted;
 

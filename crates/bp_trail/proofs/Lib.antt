@@ -29,3 +29,7 @@ pub mod Since
 pub mod Cuts
 pub mod SecondFix
 pub mod Rows
+pub mod Comparing
+pub mod Logged
+pub mod InPieces
+pub mod Replies

@@ -14,6 +14,7 @@ pub mod Victim
 pub mod PageMap
 pub mod Legal
 pub mod Device
+pub mod Ends
 -- The laws: what each legal trail keeps, and the definitions once more, each in one sentence over
 -- the whole list.
 pub mod Safety
@@ -28,3 +29,8 @@ pub mod Fits
 pub mod Room
 pub mod Standing
 pub mod Cuts
+-- What two lists of one run are compared by, and what is counted of a list.
+pub mod Clients
+pub mod LogBound
+pub mod InPieces
+pub mod Totals

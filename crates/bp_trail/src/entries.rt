@@ -134,16 +134,3 @@ pub struct Grant {
     /// How many passes, or how many tickets of both kinds, were given before it.
     pub serial: u64,
 }
-
-/// How a page came to be saved, or that it is not here.
-#[derive(Clone, Copy, PartialEq, Eq, Debug, Drop)]
-pub enum Flushed {
-    /// No write of the page was left to save.
-    Clean,
-    /// The page is not resident.
-    Absent,
-    /// The page was written out, and is saved.
-    Cleaned,
-    /// The page was written out, and was written to meanwhile.
-    StillDirty,
-}

@@ -1,5 +1,5 @@
 //! Laws of the definitions in `specs/`. Each function does nothing: its contract is the law.
-ghost use Rattle.std.specs.Prelude.{◌≡◌, ◌≢◌, ℕ, suc, ◌+◌, ◌<◌, ◌≤◌, ◌==◌, nat_lt, Bool, true, false, IsTrue, IsFalse, Decides, List, [], ◌∷◌, ◌++◌, length, filter_map, Contains, Option, Some, None, is_some, if◌then◌else◌};
+ghost use Rattle.std.specs.Prelude.{◌≡◌, ◌≢◌, ℕ, suc, ◌+◌, ◌<◌, ◌≤◌, ◌==◌, nat_lt, Bool, true, false, IsTrue, IsFalse, Decides, List, [], ◌∷◌, ◌++◌, length, reverse, filter_map, Contains, Option, Some, None, is_some, if◌then◌else◌};
 ghost use Rattle.bp_references.specs.Burst.{Burst, last_time};
 ghost use Rattle.bp_references.specs.Cut.{IsCut};
 ghost use Rattle.bp_references.specs.Distance.{is_farther};
@@ -7,6 +7,8 @@ ghost use Rattle.bp_references.specs.Stamp.{burst_at, burst_stamp, IsTimed};
 ghost use Rattle.bp_trail.specs.declared.entries.Entry.{Entry};
 ghost use Rattle.bp_trail.specs.declared.entries.Call.TheVariants.{Fix, ReadEnd, WriteEnd};
 ghost use Rattle.bp_trail.specs.declared.entries.Reply.TheVariants.{Load, WriteFirst, Fixed, Cleaned};
+ghost use Rattle.bp_trail.specs.declared.scripts.Row.{Row};
+ghost use Rattle.bp_trail.specs.declared.scripts.Refused.{Refused};
 ghost use Rattle.bp_trail.specs.Parameters.{Parameters};
 ghost use Rattle.bp_trail.specs.Lists.{greatest, some, count, after_last, since, EachEntry};
 ghost use Rattle.bp_trail.specs.Event.{Grant, ticket_given, pass_back, read_ticket_back, write_ticket_back, ends_well, begins, begins_of, loads, writes, lsn_written, marked};
@@ -23,6 +25,12 @@ ghost use Rattle.bp_trail.specs.Legal.{is_out, Legal};
 ghost use Rattle.bp_trail.specs.Device.{due};
 ghost use Rattle.bp_trail.specs.Standing.{Standing, standing};
 ghost use Rattle.bp_trail.specs.Cuts.{Precedes, AfterEach, Piece, Chained, joined, ReadsSince};
+ghost use Rattle.bp_trail.specs.Pieces.{Manner};
+ghost use Rattle.bp_trail.specs.Script.{FollowsBy, Follows};
+ghost use Rattle.bp_trail.specs.Clients.{of_client};
+ghost use Rattle.bp_trail.specs.LogBound.{row_at, is_unfix, IsWithinLog};
+ghost use Rattle.bp_trail.specs.InPieces.{InPieceOf, BoundedByItsRow};
+ghost use Rattle.bp_trail.specs.Totals.{both, totals_of};
 ghost use Rattle.bp_trail.specs.Safety.{EvictsSafely, WritesAreDurable, Safe};
 ghost use Rattle.bp_trail.specs.Claims.{HeldIsPlain, ReadsAreKnown, FindsDue, AnswersPlain, SendsPlain};
 ghost use Rattle.bp_trail.specs.Wording.{can_answer, FitsItsCall, SaysSo};
@@ -323,4 +331,36 @@ pub fn pieces_are_one_legal_trail()
         Chained c pieces next → Precedes c next (joined pieces) }
     ensures reads { (c : Parameters) (opening : Standing) (trail : Trail) →
         AfterEach c opening trail (Legal c) → ReadsSince c opening trail }
+{}
+
+/// The entries of one client, in a list that is turned round, are those in the list, turned round.
+pub fn one_client_in_either_order()
+    ensures { (client : ℕ) (entries : List Entry) → of_client client (reverse entries) ≡ reverse
+        (of_client client entries) }
+{}
+
+/// The row that `row_at` counts to is the row in whose piece the entry stands, by the very cut that says that the
+/// entries follow the rows.
+pub fn entry_is_in_the_piece_of_its_row()
+    ensures { (m : Manner) (rows : List Row) (ends : List ℕ) (past newer older : Trail)
+        (e : Entry) (refusals : List Refused) (cut : FollowsBy m rows ends past refusals) →
+        past ≡ newer ++ e ∷ older → InPieceOf m (row_at (reverse ends)
+        (length older)) e older rows ends past refusals cut }
+{}
+
+/// What `is_within_log` tests is the bound. Where it holds by the cut by which the entries of client 0 follow its
+/// script, each entry of client 0 that is no unfix stands in the piece of a row, and the greatest LSN marked up to and
+/// with that entry is at most the greatest of the log rows before that row.
+pub fn marks_are_bounded_row_by_row()
+    ensures { (m : Manner) (script : List Row) (trail newer past said : Trail) (e : Entry)
+        (refusals : List Refused) (cut : Follows m script said refusals) →
+        said ≡ of_client 0 trail → IsWithinLog script cut.ends trail → trail ≡ newer ++ e ∷ past →
+        e.client ≡ 0 → is_unfix e.call ≡ false → BoundedByItsRow m script said refusals cut past e }
+{}
+
+/// The totals of two lists, one after the other, are those of each together: so the pieces of a trail that was cut have
+/// the totals of the whole.
+pub fn pieces_add_up()
+    ensures { (first later : List Entry) → totals_of (first ++ later) ≡ both (totals_of first)
+        (totals_of later) }
 {}

@@ -7,10 +7,10 @@ use Rattle.bp_page.specs.Refusals.{number_of}
 use Rattle.bp_trail.specs.Event.{Grant}
 use Rattle.bp_trail.specs.Saved.{page_lsn}
 use Rattle.bp_core.specs.declared.passes.Pass.{Pass}
-use Rattle.bp_core.specs.declared.passes.Ended.{Ended}
-use Rattle.bp_core.specs.declared.passes.Ended.TheVariants as ended
+use Rattle.bp_trail.specs.declared.ends.Ended.{Ended}
+use Rattle.bp_trail.specs.declared.ends.Ended.TheVariants as ended
 use Rattle.bp_core.specs.declared.passes.EndRefusal.{EndRefusal}
-use Rattle.bp_core.specs.EndRefusals.{number_of_end}
+use Rattle.hojzmated_c.specs.EndRefusals.{number_of_end}
 use Rattle.bp_core.specs.CoreView.{CoreView, EachPast}
 use Rattle.bp_core.specs.Outcomes.{KnowsPass, LacksPass, UnfixOutcome}
 use Rattle.hojzmated_c.specs.declared.forms.HzConfig.{HzConfig}

@@ -1,3 +1,4 @@
+pub mod EndRefusals
 pub mod Owned
 pub mod Forms
 pub mod Outcomes

@@ -18,9 +18,9 @@ use Rattle.bp_core.specs.declared.passes.Flush.{Flush}
 use Rattle.bp_core.specs.declared.passes.Flush.TheVariants as flushing
 use Rattle.bp_core.specs.declared.passes.ReadTicket.{ReadTicket}
 use Rattle.bp_core.specs.declared.passes.WriteTicket.{WriteTicket}
-use Rattle.bp_core.specs.declared.passes.Ended.{Ended}
+use Rattle.bp_trail.specs.declared.ends.Ended.{Ended}
 use Rattle.bp_core.specs.declared.passes.EndRefusal.{EndRefusal}
-use Rattle.bp_core.specs.EndRefusals.{number_of_end}
+use Rattle.hojzmated_c.specs.EndRefusals.{number_of_end}
 use Rattle.bp_core.specs.CoreView.{CoreView, EachPast}
 use Rattle.bp_core.specs.Outcomes.{IsFitUpTo, TakesMemory, StepOutcome, TickOutcome, PurgeOutcome}
 use Rattle.bp_core.specs.Outcomes.{FixOutcome, FlushOutcome, ReadEndByOutcome}

@@ -1,10 +1,10 @@
 //! A core, and what C's plain structs stand for in it. Every call tests what the core requires.
 ghost use Rattle.hojzmated_c.specs.Outcomes.{Opens, Ticks, Marks, Purges};
 
+mod access;
 mod device;
 mod fixing;
-mod page_use;
-mod tellers;
+mod queries;
 
 use crate::forms::HzConfig;
 use bp_core::SilentCore;

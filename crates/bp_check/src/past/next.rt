@@ -5,7 +5,7 @@ ghost use Rattle.bp_trail.specs.Event as event;
 ghost use Rattle.bp_trail.specs.Passes as passes;
 ghost use Rattle.bp_trail.specs.Legal.{IsLawful};
 ghost use Rattle.bp_check.specs.Setups.{parameters_of};
-ghost use Rattle.bp_check.specs.Told.{passed_on, pages_after, AreEnded, KeepsSpans};
+ghost use Rattle.bp_check.specs.Seen.{passed_on, pages_after, AreEnded, KeepsSpans};
 
 use crate::events::{
     evicted, loaded, marked, page_of, pass_back, pass_of, read_ticket_back, read_ticket_of,

@@ -1,7 +1,7 @@
 //! The lawful replies to a call. Each function has the name of its definition.
 ghost use Rattle.std.specs.Prelude.{◌≡◌, ◌↔◌, IfOk, IsTrue};
 ghost use Rattle.bp_trail.specs.PageMap as of;
-ghost use Rattle.bp_check.specs.Told.{tells_wrong_page};
+ghost use Rattle.bp_check.specs.Seen.{tells_wrong_page};
 
 use crate::past::Past;
 use bp_page::{Image, PageNo};

@@ -31,7 +31,14 @@ impl<K: Keeper> PoolCore<K> {
             return Err(Refusal::TrailFull);
         }
         let Some(slot) = self.state.frames.find(page) else {
-            return self.fault(client, page);
+            if self.is_loading(page) {
+                self.record_unchanged(client, Call::Fix(page), Reply::Busy);
+                return Err(Refusal::Busy);
+            }
+            if self.state.frames.len() + self.state.reads.len() < self.config.frames {
+                return self.load_into_free_frame(client, page);
+            }
+            return self.evict_for(client, page);
         };
         let pending = self.state.reads.len() + 1;
         self.state.passes.reserve(pending)?;
@@ -45,27 +52,8 @@ impl<K: Keeper> PoolCore<K> {
         Ok(Fix::Hit(pass))
     }
 
-    /// Fixes a page that has no frame.
-    fn fault(&mut self, client: u8, page: PageNo) -> Result<Fix, Refusal>
-        requires client_in { client < self.old.parameters.clients }
-        requires page_in { page < self.old.parameters.pages }
-        requires away { EachPast self.old (λ past. resident past page ≡ false) }
-        requires room { HasRoomFor 3 self.old }
-        ensures outcome { FixOutcome self.old client page result self.new }
-        ensures memory { result ≡ Err Refusal.OutOfMemory → TakesMemory (Call.Fix page) self.old }
-    {
-        if self.is_loading(page) {
-            self.answer(client, Call::Fix(page), Reply::Busy);
-            return Err(Refusal::Busy);
-        }
-        if self.has_free_frame() {
-            return self.load(client, page);
-        }
-        self.make_way(client, page)
-    }
-
     /// Brings a page into the frame of the victim, or begins to write the victim out.
-    fn make_way(&mut self, client: u8, page: PageNo) -> Result<Fix, Refusal>
+    fn evict_for(&mut self, client: u8, page: PageNo) -> Result<Fix, Refusal>
         requires client_in { client < self.old.parameters.clients }
         requires page_in { page < self.old.parameters.pages }
         requires idle { EachPast self.old (λ past. loading past page ≡ false) }
@@ -76,16 +64,16 @@ impl<K: Keeper> PoolCore<K> {
         ensures memory { result ≡ Err Refusal.OutOfMemory → TakesMemory (Call.Fix page) self.old }
     {
         let Some(victim) = self.victim() else {
-            self.answer(client, Call::Fix(page), Reply::NoVictim);
+            self.record_unchanged(client, Call::Fix(page), Reply::NoVictim);
             return Err(Refusal::NoVictim);
         };
         let frame = self.frame(victim).unwrap();
         if !frame.is_unsaved {
-            return self.replace(client, page, victim);
+            return self.load_into_victim(client, page, victim);
         }
         let page_lsn = frame.page_lsn;
         if self.durable() < page_lsn {
-            self.answer(client, Call::Fix(page), Reply::NeedLog(page_lsn));
+            self.record_unchanged(client, Call::Fix(page), Reply::NeedLog(page_lsn));
             return Err(Refusal::NeedLog(page_lsn));
         }
         let ticket = self.begin_write_out(client, Call::Fix(page), victim)?;

@@ -11,23 +11,22 @@ ghost use Rattle.bp_trail.specs.Saved.{unsaved};
 ghost use Rattle.bp_trail.specs.Victim.{victim};
 ghost use Rattle.bp_frames.specs.GrantLists.{GivesAsMuch};
 ghost use Rattle.bp_core.specs.CoreView.{EachPast, HasRoomFor};
-ghost use Rattle.bp_core.specs.ReadFaults.{read_failure};
+ghost use Rattle.bp_trail.specs.Ends.{read_failure};
 ghost use Rattle.bp_core.specs.Outcomes.{FixOutcome, HasFreeFrame, IsFull, ReadEndOutcome};
 ghost use Rattle.bp_core.specs.Outcomes.{ReadEndByOutcome, Adds, TakesMemory};
 
-use crate::faults::{refusal_of_read, reply_of_read};
 use crate::passes::{EndRefusal, Fix, Pass, ReadTicket};
 use crate::pool::PoolCore;
 use bp_frames::GrantList;
 use bp_keeper::Keeper;
 use bp_page::{Image, PageNo, PortFault, Refusal};
 use bp_replacer::Histories;
-use bp_trail::{Call, Grant, Reply};
+use bp_trail::{Call, Grant, Reply, refusal_of_read, reply_of_read};
 use std::alloc::AllocError;
 
 impl<K: Keeper> PoolCore<K> {
     /// Gives a ticket to read a page into a free frame.
-    pub(super) fn load(&mut self, client: u8, page: PageNo) -> Result<Fix, Refusal>
+    pub(super) fn load_into_free_frame(&mut self, client: u8, page: PageNo) -> Result<Fix, Refusal>
         requires client_in { client < self.old.parameters.clients }
         requires page_in { page < self.old.parameters.pages }
         requires idle { EachPast self.old (λ past. loading past page ≡ false) }
@@ -38,8 +37,8 @@ impl<K: Keeper> PoolCore<K> {
         ensures memory { TakesMemory (Call.Fix page) self.old }
     {
         let reads = self.state.reads.len();
-        self.state.frames.provide(self.alloc, reads)?;
-        make_ready(
+        self.state.frames.make_spare_frame(self.alloc, reads)?;
+        reserve_for_read(
             &mut self.state.passes,
             &mut self.state.reads,
             &mut self.state.histories,
@@ -55,7 +54,12 @@ impl<K: Keeper> PoolCore<K> {
     }
 
     /// Gives a ticket to read a page into the frame of the victim.
-    pub(super) fn replace(&mut self, client: u8, page: PageNo, gone: PageNo) -> Result<Fix, Refusal>
+    pub(super) fn load_into_victim(
+        &mut self,
+        client: u8,
+        page: PageNo,
+        gone: PageNo,
+    ) -> Result<Fix, Refusal>
         requires client_in { client < self.old.parameters.clients }
         requires page_in { page < self.old.parameters.pages }
         requires idle { EachPast self.old (λ past. loading past page ≡ false) }
@@ -69,7 +73,7 @@ impl<K: Keeper> PoolCore<K> {
     {
         let slot = self.state.frames.find(gone).unwrap();
         let block = self.state.block(&slot);
-        make_ready(
+        reserve_for_read(
             &mut self.state.passes,
             &mut self.state.reads,
             &mut self.state.histories,
@@ -99,22 +103,12 @@ impl<K: Keeper> PoolCore<K> {
         requires size { IfOk read (λ image. length image ≡ self.old.parameters.size) }
         ensures outcome { ReadEndOutcome self.old ticket read result self.new }
     {
-        self.read_end_leaving(ticket, read, &mut None)
-    }
-
-    /// Ends a read as `read_end` does, for callers that hold a lock. A silent core keeps the image itself, and what the
-    /// page's frame had before goes to `left`: the caller frees that memory, or uses it again, when it likes. Its bytes
-    /// mean nothing.
-    pub fn read_end_leaving(
-        &mut self,
-        ticket: ReadTicket,
-        read: Result<Image, PortFault>,
-        left: &mut Option<Image>,
-    ) -> Result<Pass, EndRefusal<ReadTicket, Result<Image, PortFault>>>
-        requires size { IfOk read (λ image. length image ≡ self.old.parameters.size) }
-        ensures outcome { ReadEndOutcome self.old ticket read result self.new }
-    {
-        match self.read_end_by(ticket.grant(), read, left) {
+        let given = Grant {
+            client: ticket.client,
+            page: ticket.page,
+            serial: ticket.serial,
+        };
+        match self.read_end_by(given, read, &mut None) {
             Ok(pass) => {
                 ticket.forfeit();
                 Ok(pass)
@@ -127,7 +121,9 @@ impl<K: Keeper> PoolCore<K> {
         }
     }
 
-    /// Ends a read as `read_end_leaving` does, by what its ticket was given as: for callers that keep no tickets.
+    /// Ends a read as `read_end` does, by what its ticket was given as. A silent core keeps the image itself, and what
+    /// the page's frame had before goes to `left`: a caller that holds a lock frees that memory, or uses it again, when
+    /// it likes. Its bytes mean nothing.
     pub fn read_end_by(
         &mut self,
         ticket: Grant,
@@ -162,7 +158,7 @@ impl<K: Keeper> PoolCore<K> {
             return Err(EndRefusal::Unknown(ticket, Ok(image)));
         }
         let block = self.state.histories.place(page).unwrap();
-        let (slot, before) = self.state.frames.fill(page, block, image);
+        let (slot, before) = self.state.frames.install(page, block, image);
         self.state.histories.fault_at(page, block, self.state.clock);
         let pass = self.state.give_pass(client, page);
         let image = &self.state.frames.frame(&slot).image;
@@ -202,7 +198,7 @@ impl<K: Keeper> PoolCore<K> {
 /// Takes the memory that a page's read will need, but for its frame: room for its ticket, for its pass beside those
 /// of the reads that are out, and its history's block. Where that is refused no page is held more than before.
 #[tactic(auto, unfolding(bp_replacer::specs::Histories::KeepsPlaces))]
-fn make_ready(
+fn reserve_for_read(
     passes: &mut GrantList,
     reads: &mut GrantList,
     histories: &mut Histories,

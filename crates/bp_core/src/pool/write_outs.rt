@@ -12,11 +12,11 @@ ghost use Rattle.bp_core.specs.Outcomes.{IsBegin, BeginOutcome, FlushOutcome, Ta
 ghost use Rattle.bp_core.specs.Outcomes.{WriteEndOutcome, WriteEndByOutcome};
 
 use crate::config::FLUSH_OWES;
-use crate::passes::{EndRefusal, Ended, Flush, WriteTicket};
+use crate::passes::{EndRefusal, Flush, WriteTicket};
 use crate::pool::PoolCore;
 use bp_keeper::Keeper;
 use bp_page::{Image, PageNo, PortFault, Refusal};
-use bp_trail::{Call, Grant, Reply};
+use bp_trail::{Call, Ended, Grant, Reply};
 
 impl<K: Keeper> PoolCore<K> {
     /// Asks that a page be written out if it is unsaved: a ticket to do so; `Absent` where it is not resident,
@@ -36,24 +36,24 @@ impl<K: Keeper> PoolCore<K> {
         }
         let Some(frame) = self.frame(page) else {
             if self.is_loading(page) {
-                self.answer(client, Call::Flush(page), Reply::Busy);
+                self.record_unchanged(client, Call::Flush(page), Reply::Busy);
                 return Err(Refusal::Busy);
             }
-            self.answer(client, Call::Flush(page), Reply::Absent);
+            self.record_unchanged(client, Call::Flush(page), Reply::Absent);
             return Ok(Flush::Absent);
         };
         let is_unsaved = frame.is_unsaved;
         let page_lsn = frame.page_lsn;
         if frame.is_writing {
-            self.answer(client, Call::Flush(page), Reply::Busy);
+            self.record_unchanged(client, Call::Flush(page), Reply::Busy);
             return Err(Refusal::Busy);
         }
         if !is_unsaved {
-            self.answer(client, Call::Flush(page), Reply::Clean);
+            self.record_unchanged(client, Call::Flush(page), Reply::Clean);
             return Ok(Flush::Clean);
         }
         if self.durable() < page_lsn {
-            self.answer(client, Call::Flush(page), Reply::NeedLog(page_lsn));
+            self.record_unchanged(client, Call::Flush(page), Reply::NeedLog(page_lsn));
             return Err(Refusal::NeedLog(page_lsn));
         }
         let ticket = self.begin_write_out(client, Call::Flush(page), page)?;
@@ -112,33 +112,26 @@ impl<K: Keeper> PoolCore<K> {
     ) -> Result<Ended, EndRefusal<WriteTicket, Result<(), PortFault>>>
         ensures outcome { WriteEndOutcome self.old ticket write result self.new }
     {
-        self.write_end_leaving(ticket, write, &mut None)
-    }
-
-    /// Ends a write-out as `write_end` does, for callers that hold a lock. The image that went out goes to `left`: the
-    /// caller frees that memory when it likes.
-    pub fn write_end_leaving(
-        &mut self,
-        ticket: WriteTicket,
-        write: Result<(), PortFault>,
-        left: &mut Option<Image>,
-    ) -> Result<Ended, EndRefusal<WriteTicket, Result<(), PortFault>>>
-        ensures outcome { WriteEndOutcome self.old ticket write result self.new }
-    {
-        match self.write_end_by(ticket.grant(), write) {
+        let given = Grant {
+            client: ticket.client,
+            page: ticket.page,
+            serial: ticket.serial,
+        };
+        match self.write_end_by(given, write) {
             Ok(how) => {
-                *left = Some(ticket.into_image());
+                ticket.forfeit();
                 Ok(how)
             }
             Err(EndRefusal::Unknown(_, write)) => Err(EndRefusal::Unknown(ticket, write)),
             Err(EndRefusal::Failed(why)) => {
-                *left = Some(ticket.into_image());
+                ticket.forfeit();
                 Err(EndRefusal::Failed(why))
             }
         }
     }
 
-    /// Ends a write-out as `write_end` does, by what its ticket was given as: for callers that keep no tickets.
+    /// Ends a write-out as `write_end` does, by what its ticket was given as: for a caller that keeps no
+    /// tickets, or that holds a lock, and frees the ticket's image later.
     pub fn write_end_by(
         &mut self,
         ticket: Grant,

@@ -1,28 +1,16 @@
 //! The ends of device work. None of these takes memory.
 ghost use Rattle.std.specs.Prelude.{◌≡◌, true, length, IfOk, Ok, Err};
 ghost use Rattle.bp_trail.specs.Clock.{durable};
-ghost use Rattle.bp_core.specs.Added.{ended_reply};
-ghost use Rattle.bp_session_log.specs.Books.{SameOwner, OwesRead, OwesWrite, Alike, plain_reply};
+ghost use Rattle.bp_session_log.specs.Books.{SameOwner, OwesRead, OwesWrite, Alike};
 ghost use Rattle.bp_session_log.specs.Turns.{EndReadOutcome, EndWriteOutcome};
 ghost use Rattle.bp_session_log.specs.Causes.{EndsRead, EndsWrite};
 
 use super::{Book, copied};
 use crate::pending::{PendingRead, PendingWrite};
-use bp_core::{Call, EndRefusal, Ended, Pass, PoolCore, ReadTicket, Reply, reply_of_read};
+use bp_core::{Call, EndRefusal, Ended, Pass, PoolCore, ReadTicket, Reply};
 use bp_keeper::ListKeeper;
 use bp_page::{Image, PortFault, Refusal};
-use bp_trail::Grant;
-
-/// The reply by which a write-out that went well ends.
-fn reply_of_end(ended: Ended) -> Reply
-    ensures reply { result ≡ ended_reply ended }
-    ensures plain { plain_reply result ≡ true }
-{
-    match ended {
-        Ended::Cleaned => Reply::Cleaned,
-        Ended::StillDirty => Reply::StillDirty,
-    }
-}
+use bp_trail::{Grant, reply_of_read};
 
 impl<K: ListKeeper> Book<K> {
     /// Ends a read that went well. The list keeps a copy of the image. A ticket that the core does not know is
@@ -44,25 +32,26 @@ impl<K: ListKeeper> Book<K> {
         ensures outcome { EndReadOutcome ticket (Ok image) result self.old.said self.new.said }
         ensures alike { Alike core.old self.old.said core.new self.new.said }
     {
-        let copy = copied::<K>(&mut self.blanks, &image);
         let page = ticket.page();
         let serial = ticket.serial();
-        match core.read_end_leaving(ticket, Ok(image), &mut self.left) {
+        ticket.forfeit();
+        let given = self.grant(page, serial);
+        let ended = self.grant(page, serial);
+        let copy = copied::<K>(&mut self.blanks, &image);
+        match core.read_end_by(given, Ok(image), &mut self.left) {
             Ok(pass) => {
                 let note = pass.note();
-                let ended = Grant {
+                self.said.record_load(ended, note.serial(), copy);
+                self.held.add(Grant {
                     client: self.client,
                     page,
-                    serial,
-                };
-                self.said.record_load(ended, note.serial(), copy);
-                self.held.push(note);
+                    serial: note.serial(),
+                });
                 self.tickets -= 1;
                 Ok(note.pass())
             }
             Err(EndRefusal::Failed(_)) => unreachable!(),
-            Err(EndRefusal::Unknown(lost, back)) => {
-                lost.forfeit();
+            Err(EndRefusal::Unknown(_, back)) => {
                 self.left = back.ok();
                 self.blanks.push_reserved(K::clear(copy));
                 Err(Refusal::UnknownTicket)
@@ -160,19 +149,18 @@ impl<K: ListKeeper> Book<K> {
         let PendingWrite { ticket } = ticket;
         let page = ticket.page();
         let serial = ticket.serial();
-        match core.write_end_leaving(ticket, written, &mut self.left) {
+        self.left = Some(ticket.into_image());
+        let given = self.grant(page, serial);
+        match core.write_end_by(given, written) {
             Ok(ended) => {
-                self.tell_write_end(serial, page, true, reply_of_end(ended));
+                self.tell_write_end(serial, page, true, ended.reply());
                 Ok(ended)
             }
             Err(EndRefusal::Failed(_)) => {
                 self.tell_write_end(serial, page, false, Reply::WriteFailed);
                 Err(Refusal::WriteFailed)
             }
-            Err(EndRefusal::Unknown(lost, _)) => {
-                self.left = Some(lost.into_image());
-                Err(Refusal::UnknownTicket)
-            }
+            Err(EndRefusal::Unknown(_, _)) => Err(Refusal::UnknownTicket),
         }
     }
 }

@@ -17,7 +17,7 @@ impl<K: ListKeeper> Book<K> {
     pub fn holds(&self, pass: &Pass) -> bool
         ensures { result ≡ pass_is_out pass.now self.now.said }
     {
-        self.held.has(pass)
+        self.held.has(pass.client(), pass.page(), pass.serial())
     }
 
     /// Adds the entry of a pass that goes back, which is held no more. It takes no memory. The core is not asked:
@@ -32,6 +32,8 @@ impl<K: ListKeeper> Book<K> {
             page: note.page(),
         };
         self.said.record(self.client, call, Reply::Done);
-        self.held.remove(note.serial());
+        self.held
+            .take_back(note.client(), note.page(), note.serial());
+        self.held.trim_front();
     }
 }

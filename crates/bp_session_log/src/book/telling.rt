@@ -91,9 +91,10 @@ impl<K: ListKeeper> Book<K> {
         ensures told { Tells self.old (Call.Fix page) (Reply.Hit pass.serial) self.new }
     {
         let note = pass.note();
+        let held = self.grant(page, note.serial());
         self.said
             .record(self.client, Call::Fix(page), Reply::Hit(note.serial()));
-        self.held.push(note);
+        self.held.add(held);
         note.pass()
     }
 

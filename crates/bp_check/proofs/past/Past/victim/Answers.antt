@@ -3,7 +3,7 @@ use Rattle.bp_trail.specs.Places.{residents}
 use Rattle.bp_trail.specs.Victim.{rank, candidate, Rank as ARank}
 use Rattle.bp_check.specs.declared.past.choice.Rank.{Rank}
 use Rattle.bp_check.specs.Ranks.{rank_of}
-use Rattle.bp_check.specs.Told.{Told}
+use Rattle.bp_check.specs.Seen.{Seen}
 use Rattle.bp_check.proofs.Choosing.{Best, skips, begins, takes, keeps, victim-some, victim-none}
 use Rattle.bp_check.proofs.past.Past.victim.Goals as goal
 use Rattle.bp_check.proofs.past.Past.victim.Goals.{then-candidate+in-Some, then-candidate+in-None, else-candidate, then-before, else-before}
@@ -42,12 +42,12 @@ pub returns-in-Some-first : goal.returns-in-Some-first
 returns-in-Some-first c =
     let v = c.args.self.now in
     victim-some v.parameters v.past c.self.inside.residents c.loop-place.place c.in-Some-first.best
-    (c.self.invariant.residents ∙ ap (λ (t : Told). residents t.past) c.self.view_is) (omega (arith, c.len-place-end.ensures, c.loop-place-test.false))
+    (c.self.invariant.residents ∙ ap (λ (t : Seen). residents t.past) c.self.view_is) (omega (arith, c.len-place-end.ensures, c.loop-place-test.false))
     (subst (Best v.parameters v.past _) c.in-Some-first.is c.loop-place.invariant)
 
 pub returns-in-None-first : goal.returns-in-None-first
 returns-in-None-first c =
     let v = c.args.self.now in
     victim-none v.parameters v.past c.self.inside.residents c.loop-place.place
-    (c.self.invariant.residents ∙ ap (λ (t : Told). residents t.past) c.self.view_is) (omega (arith, c.len-place-end.ensures, c.loop-place-test.false))
+    (c.self.invariant.residents ∙ ap (λ (t : Seen). residents t.past) c.self.view_is) (omega (arith, c.len-place-end.ensures, c.loop-place-test.false))
     (subst (Best v.parameters v.past _) c.in-None-first.is c.loop-place.invariant)

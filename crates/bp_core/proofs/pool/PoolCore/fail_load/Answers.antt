@@ -1,7 +1,7 @@
 use Rattle.std.proofs.Common.{true, None, sym, ◌∙◌, ap}
 use Rattle.bp_trail.specs.declared.entries.Call.TheVariants.{ReadEnd}
 use Rattle.bp_trail.specs.Event.{grant}
-use Rattle.bp_core.specs.ReadFaults.{read_failure}
+use Rattle.bp_trail.specs.Ends.{read_failure}
 use Rattle.bp_keeper.specs.Kept.{with_next}
 use Rattle.bp_core.proofs.Keeps.{adds, read-seen}
 use Rattle.bp_core.proofs.KeepsLoads.{held-now}

@@ -1,17 +1,44 @@
-use Rattle.std.proofs.Common.{◌≡◌, ap, sym, ◌∙◌, true, arith}
+use Rattle.std.proofs.Common.{◌≡◌, ap, sym, ◌∙◌, subst, true, false, arith}
 use Rattle.bp_trail.specs.declared.entries.Call.TheVariants.{Fix}
 use Rattle.bp_trail.specs.declared.entries.Reply.TheVariants.{Hit}
 use Rattle.bp_trail.specs.Places.{resident}
 use Rattle.bp_core.specs.CoreView.{EachPast, HasRoomFor}
-use Rattle.bp_core.proofs.Seen.{few_pins, now_is, known_is, resident_seen}
+use Rattle.std.proofs.lemmas.Bool.{lt-ltb, le-ltb}
+use Rattle.bp_trail.specs.PageMap.{has_free_frame}
+use Rattle.bp_core.specs.Outcomes.IsQuiet.{fix_busy}
+use Rattle.bp_core.proofs.Seen.{few_pins, now_is, known_is, resident_seen, occupied_is, within_frames}
 use Rattle.bp_core.proofs.Keeps.{adds}
 use Rattle.bp_core.proofs.Placed.{held-here, tell-blocks}
 use Rattle.bp_core.proofs.KeepsPasses.{keeps-hit}
 use Rattle.bp_core.proofs.Memory.{here-takes}
 use Rattle.bp_core.proofs.pool.PoolCore.fix.Goals as goal
 
-pub fault-requires-clause-away : goal.fault-requires-clause-away
-fault-requires-clause-away g c = ap (λ v. resident v.past c.args.page) (sym c.self.view_is) ∙ sym (resident_seen _ _ _ c.self.invariant.agrees c.args.page) ∙ sym c.in_default.ensures.here
+pub is_loading-requires : goal.is_loading-requires
+is_loading-requires g c = record { away = ap (λ v. resident v.past c.args.page) (sym c.self.view_is) ∙ sym (resident_seen _ _ _ c.self.invariant.agrees c.args.page) ∙ sym c.in_default.ensures.here }
+
+pub load_into_free_frame-requires-clause-away : goal.load_into_free_frame-requires-clause-away
+load_into_free_frame-requires-clause-away g c = ap (λ v. resident v.past c.args.page) (sym c.self.view_is) ∙ sym (resident_seen _ _ _ c.self.invariant.agrees c.args.page) ∙ sym c.in_default.ensures.here
+
+pub evict_for-requires-clause-away : goal.evict_for-requires-clause-away
+evict_for-requires-clause-away g c = ap (λ v. resident v.past c.args.page) (sym c.self.view_is) ∙ sym (resident_seen _ _ _ c.self.invariant.agrees c.args.page) ∙ sym c.in_default.ensures.here
+
+pub record_unchanged-requires-clause-quiet : goal.record_unchanged-requires-clause-quiet
+record_unchanged-requires-clause-quiet g c = fix_busy c.args.page
+
+pub overflow_add-len : goal.overflow_add-len
+overflow_add-len g c = omega (arith, within_frames _ _ _ c.self.invariant.agrees, c.len.ensures, c.len-in_default.ensures, c.self.invariant.frame_room.few)
+
+pub load_into_free_frame-requires-clause-frame : goal.load_into_free_frame-requires-clause-frame
+load_into_free_frame-requires-clause-frame g c =
+    let i = c.self.inside in
+    subst (λ v. has_free_frame v.parameters v.past ≡ true) c.self.view_is
+    (lt-ltb _ i.config.frames (omega (arith, occupied_is _ _ _ c.self.invariant.agrees, c.len.ensures, c.len-in_default.ensures, c.if-len-self.true)))
+
+pub evict_for-requires-clause-full : goal.evict_for-requires-clause-full
+evict_for-requires-clause-full g c =
+    let i = c.self.inside in
+    subst (λ v. has_free_frame v.parameters v.past ≡ false) c.self.view_is
+    (le-ltb _ i.config.frames (omega (arith, occupied_is _ _ _ c.self.invariant.agrees, c.len.ensures, c.len-in_default.ensures, c.if-len-self.false)))
 
 pub block-block-requires-clause-told : goal.block-block-requires-clause-told
 block-block-requires-clause-told g c = tell-blocks _ _ _ c.self.invariant

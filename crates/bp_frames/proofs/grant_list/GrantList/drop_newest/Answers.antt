@@ -14,7 +14,7 @@ same c =
 
 pub invariant_of-self : goal.invariant_of-self
 invariant_of-self c =
-    (rising-front (λ (s : Slot). s.grant.serial) c.pop_back.new.self.items (option_to_list c.pop_back.result) c.self.inside.slots.items c.pop_back.ensures.items c.self.invariant.0, c.self.invariant.1 ∙ ap length (same c))
+    (λ rises. rising-front (λ (s : Slot). s.grant.serial) c.pop_back.new.self.items (option_to_list c.pop_back.result) c.self.inside.slots.items c.pop_back.ensures.items (c.self.invariant.0 rises), c.self.invariant.1 ∙ ap length (same c))
 
 pub returns-then-not-newest-clause-out : goal.returns-then-not-newest-clause-out
 returns-then-not-newest-clause-out c = ap reverse (sym (same c)) ∙ ap (λ (v : Given). v.out) c.self.view_is

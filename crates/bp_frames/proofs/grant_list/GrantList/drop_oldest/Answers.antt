@@ -14,4 +14,4 @@ same c =
 
 pub invariant_of-self : goal.invariant_of-self
 invariant_of-self c =
-    (rising-rest (λ (s : Slot). s.grant.serial) (option_to_list c.pop_front.result) c.pop_front.new.self.items c.self.inside.slots.items c.pop_front.ensures.items c.self.invariant.0, c.self.invariant.1 ∙ ap length (same c))
+    (λ rises. rising-rest (λ (s : Slot). s.grant.serial) (option_to_list c.pop_front.result) c.pop_front.new.self.items c.self.inside.slots.items c.pop_front.ensures.items (c.self.invariant.0 rises), c.self.invariant.1 ∙ ap length (same c))

@@ -19,7 +19,7 @@ invariant_of-self c =
     let slot : Slot = record { grant = grant c.args.client c.args.page c.args.serial; is_out = true } in
     let newest = subst (λ (v : Given). v.next ≤ c.args.serial) (sym c.self.view_is) c.requires.newest in
     rw c.push_back_reserved.ensures.items (
-      rising-pushed (λ (s : Slot). s.grant.serial) items c.self.invariant.0 slot (below-above items c.args.serial newest),
+      λ rises. rising-pushed (λ (s : Slot). s.grant.serial) items (c.self.invariant.0 rises) slot (below-above items c.args.serial newest),
       omega (arith, c.self.invariant.1, ap length (out-append items (slot ∷ [])), length-append (grants_out items) (slot.grant ∷ [])),
     )
 

@@ -45,7 +45,7 @@ pub invariant_of-self : goal.invariant_of-self
 invariant_of-self c =
     let items = c.self.inside.slots.items in
     let slot = left items c.args.serial c.in-Some.place c.in-Some.ensures c.index_mut.result.now c.index_mut.ensures.value in (
-      rising-set (λ (s : Slot). s.grant.serial) items c.in-Some.place slot c.in-Some.ensures.in_range (numbered items c.args.serial c.in-Some.place c.in-Some.ensures c.index_mut.result.now c.index_mut.ensures.value) c.self.invariant.0,
+      λ rises. rising-set (λ (s : Slot). s.grant.serial) items c.in-Some.place slot c.in-Some.ensures.in_range (numbered items c.args.serial c.in-Some.place c.in-Some.ensures c.index_mut.result.now c.index_mut.ensures.value) (c.self.invariant.0 rises),
       omega (arith, c.self.invariant.1, fewer items c.args.serial c.in-Some.place c.in-Some.ensures c.index_mut.result.now c.index_mut.ensures.value c.index.result.now c.index.ensures (and_parts _ _ (sym c.is_out_as.ensures ∙ c.if-not-is_out_as.false)).0),
     )
 

@@ -15,7 +15,7 @@ same c = ap grants_out (kept c) ∙ out-filter c.self.inside.slots.items
 
 pub invariant_of-self : goal.invariant_of-self
 invariant_of-self c =
-    (subst (IsRisingBy (λ (s : Slot). s.grant.serial)) (sym (kept c)) (rising-filter (λ (s : Slot). s.grant.serial) (λ (s : Slot). s.is_out) c.self.inside.slots.items c.self.invariant.0), c.self.invariant.1 ∙ ap length (sym (same c)))
+    (λ rises. subst (IsRisingBy (λ (s : Slot). s.grant.serial)) (sym (kept c)) (rising-filter (λ (s : Slot). s.grant.serial) (λ (s : Slot). s.is_out) c.self.inside.slots.items (c.self.invariant.0 rises)), c.self.invariant.1 ∙ ap length (sym (same c)))
 
 pub returns-clause-out : goal.returns-clause-out
 returns-clause-out c = ap reverse (same c) ∙ ap (λ (v : Given). v.out) c.self.view_is

@@ -1,4 +1,4 @@
-use Rattle.bp_audit.proofs.Counting.{counts_next}
+use Rattle.bp_trail.proofs.Replies.{counts_next}
 use Rattle.bp_keeper.proofs.Newest.{newest}
 use Rattle.bp_keeper.proofs.recording.RecordingKeeperKeeper.record.Goals as goal
 

@@ -1,4 +1,4 @@
-use Rattle.bp_audit.proofs.Counting.{adds_nothing, counts_nothing}
+use Rattle.bp_trail.proofs.Replies.{adds_nothing, counts_nothing}
 use Rattle.bp_keeper.proofs.Newest.{newest}
 use Rattle.bp_keeper.proofs.recording.RecordingKeeperKeeper.record_read.Goals as goal
 

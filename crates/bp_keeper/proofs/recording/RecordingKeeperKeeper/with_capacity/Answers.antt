@@ -1,5 +1,5 @@
 use Rattle.std.proofs.Common.{◌∙◌, ◌++◌, ap, reverse}
-use Rattle.bp_audit.proofs.Counting.{counts_none}
+use Rattle.bp_trail.proofs.Replies.{counts_none}
 use Rattle.bp_keeper.proofs.recording.RecordingKeeperKeeper.with_capacity.Goals as goal
 
 pub invariant_of-result : goal.invariant_of-result

@@ -1,4 +1,4 @@
-use Rattle.bp_audit.proofs.Counting.{adds_nothing, counts_nothing}
+use Rattle.bp_trail.proofs.Replies.{adds_nothing, counts_nothing}
 use Rattle.bp_keeper.proofs.silent.SilentKeeperKeeper.record_write.Goals as goal
 
 pub invariant_of-self : goal.invariant_of-self

@@ -1,4 +1,4 @@
-use Rattle.bp_audit.proofs.Counting.{counts_none}
+use Rattle.bp_trail.proofs.Replies.{counts_none}
 use Rattle.bp_keeper.proofs.silent.SilentKeeperKeeper.with_capacity.Goals as goal
 
 pub invariant_of-result : goal.invariant_of-result

@@ -1,4 +1,4 @@
-use Rattle.bp_audit.proofs.Counting.{counts_next}
+use Rattle.bp_trail.proofs.Replies.{counts_next}
 use Rattle.bp_keeper.proofs.silent.SilentKeeperListKeeper.record_load.Goals as goal
 
 pub invariant_of-self : goal.invariant_of-self

@@ -1,6 +1,6 @@
 -- One ticket fewer.
 use Rattle.std.proofs.Common.{rules, ◌≡◌, ◌∙◌}
-use Rattle.bp_core.specs.ReadFaults.{read_refusal}
+use Rattle.bp_trail.specs.Ends.{read_refusal}
 use Rattle.bp_session_log.proofs.Keeping.{next_past, next_len, next_capacity}
 use Rattle.bp_session_log.proofs.Ending.{keeps_not_loaded, ended_badly}
 use Rattle.bp_session_log.proofs.book.Book.end_failed_load.Goals as goal

@@ -15,8 +15,8 @@ invariant_of-self g c =
     let told = c.record_load.ensures in (
       keeps_loaded _ _ _ _ _ _ _ _ _ _ _ _ _ _ c.args.ticket c.note-note.result.serial c.args.image c.self.invariant.0 (search rules)
           (next_past _ _ _ _ _ told ∙ search rules)
-          (c.push.ensures.passes ∙ search rules)
-          (next_len _ _ _ _ _ told) (next_capacity _ _ _ _ _ told) c.push.ensures.room
+          (c.add.ensures.out ∙ search rules)
+          (next_len _ _ _ _ _ told) (next_capacity _ _ _ _ _ told) c.add.ensures.room
           (search rules),
       subst (λ (n : ℕ). All (λ b. g.K.ListKeeper.fits b n) blanks) (search rules) c.copied-copy.ensures.sized,
     )
@@ -41,5 +41,5 @@ invariant_of-self-in-Err-Unknown g c =
 pub returns-in-Ok-clause-alike : goal.returns-in-Ok-clause-alike
 returns-in-Ok-clause-alike g c =
     rw (← c.self.view_is)
-    (loaded_alike _ _ _ _ c.self.inside.client c.args.ticket c.args.image c.in-Ok.pass (search rules) c.in-Ok.ensures.outcome
+    (loaded_alike _ _ _ _ c.self.inside.client c.grant-given.result c.args.image c.in-Ok.pass (search rules) c.in-Ok.ensures.outcome
     (next_past _ _ _ _ _ c.record_load.ensures ∙ search rules))

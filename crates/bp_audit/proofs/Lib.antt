@@ -1,5 +1,0 @@
--- Lemmas.
-pub mod Comparing
-pub mod Logged
-pub mod Standing
-pub mod Counting

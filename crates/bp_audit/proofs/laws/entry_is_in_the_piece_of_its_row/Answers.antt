@@ -1,5 +1,0 @@
-use Rattle.bp_audit.proofs.Standing.{in_piece}
-use Rattle.bp_audit.proofs.laws.entry_is_in_the_piece_of_its_row.Goals as goal
-
-pub returns : goal.returns
-returns c = in_piece

@@ -1,0 +1,31 @@
+//! Whether what a client says of itself is what the trail has of it.
+ghost use Rattle.std.specs.Prelude.{◌≡◌, ◌<◌, ◌↔◌, IsTrue, length, slice_index_or};
+ghost use Rattle.bp_trail.specs.Clients.{of_client};
+
+use crate::entries::Entry;
+use crate::sameness::same_entry;
+
+/// Whether this entry stands at the place.
+fn is_next(said: &[Entry], at: usize, e: &Entry) -> bool
+    ensures { IsTrue result ↔ ((at < length said.now) ×
+        (slice_index_or said.now at e.now ≡ e.now)) }
+{
+    at < said.len() && same_entry(&said[at], e)
+}
+
+/// Whether a client's own list has exactly the trail's entries of that client, in their order. Both lists are in the
+/// order of time. It takes no memory.
+pub fn agrees(trail: &[Entry], said: &[Entry], client: u8) -> bool
+    ensures { IsTrue result ↔ (said.now ≡ of_client client trail.now) }
+{
+    let mut at = 0;
+    for e in trail {
+        if e.client == client {
+            if !is_next(said, at, e) {
+                return false;
+            }
+            at += 1;
+        }
+    }
+    at == said.len()
+}

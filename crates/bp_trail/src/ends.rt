@@ -1,0 +1,81 @@
+//! How device work ends, and a flush by it.
+ghost use Rattle.std.specs.Prelude.{◌≡◌};
+ghost use Rattle.bp_trail.specs.Ends.{read_refusal, read_failure, ended_reply, flushed_reply};
+
+use crate::entries::Reply;
+use bp_page::{PageNo, PortFault, Refusal};
+use thiserror::Error;
+
+/// How a write-out ended.
+#[derive(Clone, Copy, Drop)]
+pub enum Ended {
+    /// The page is saved.
+    Cleaned,
+    /// The page was written since the write-out began, and is unsaved still.
+    StillDirty,
+}
+
+impl Ended {
+    /// The reply of that end's entry.
+    pub fn reply(self) -> Reply
+        ensures { result ≡ ended_reply self }
+    {
+        match self {
+            Ended::Cleaned => Reply::Cleaned,
+            Ended::StillDirty => Reply::StillDirty,
+        }
+    }
+
+    /// What a flush came to whose write-out ended so.
+    pub fn flushed(self) -> Flushed
+        ensures { flushed_reply result ≡ ended_reply self }
+    {
+        match self {
+            Ended::Cleaned => Flushed::Cleaned,
+            Ended::StillDirty => Flushed::StillDirty,
+        }
+    }
+}
+
+/// How a page came to be saved, or that it is not here.
+#[derive(Clone, Copy, PartialEq, Eq, Debug, Drop)]
+pub enum Flushed {
+    /// No write of the page was left to save.
+    Clean,
+    /// The page is not resident.
+    Absent,
+    /// The page was written out, and is saved.
+    Cleaned,
+    /// The page was written out, and was written to meanwhile.
+    StillDirty,
+}
+
+/// The page at which a flush of all pages ended, and why it was refused.
+#[derive(Clone, Copy, PartialEq, Eq, Debug, Error, Drop)]
+#[error("page {page} was not flushed: {why}")]
+pub struct NotFlushed {
+    /// The page, whose flush was refused.
+    pub page: PageNo,
+    /// Why.
+    pub why: Refusal,
+}
+
+/// Why the end of a read that failed so is refused: `WrongPage` where another page was found, and else `ReadFailed`.
+pub fn refusal_of_read(fault: PortFault) -> Refusal
+    ensures { result ≡ read_refusal fault }
+{
+    match fault {
+        PortFault::WrongPage => Refusal::WrongPage,
+        PortFault::Device | PortFault::Memory => Refusal::ReadFailed,
+    }
+}
+
+/// The reply of that end's entry.
+pub fn reply_of_read(fault: PortFault) -> Reply
+    ensures { result ≡ read_failure fault }
+{
+    match fault {
+        PortFault::WrongPage => Reply::WrongPage,
+        PortFault::Device | PortFault::Memory => Reply::ReadFailed,
+    }
+}
