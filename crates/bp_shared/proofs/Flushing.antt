@@ -9,19 +9,20 @@ use Rattle.bp_trail.specs.declared.entries.Reply.TheVariants.{WriteFirst, NeedLo
 use Rattle.bp_core.specs.declared.passes.WriteTicket.{WriteTicket}
 use Rattle.bp_session_log.specs.declared.pending.Flush.{Flush as Flushing}
 use Rattle.bp_session_log.specs.declared.pending.Flush.TheVariants as flushing
-use Rattle.bp_core.specs.declared.passes.Ended.{Ended}
-use Rattle.bp_core.specs.declared.passes.Ended.TheVariants as ended
+use Rattle.bp_trail.specs.declared.ends.Ended.{Ended}
+use Rattle.bp_trail.specs.declared.ends.Ended.TheVariants as ended
 use Rattle.bp_trail.specs.Trail.{Trail}
 use Rattle.bp_trail.specs.Pieces.{by, FlushGoesOn}
 use Rattle.bp_trail.specs.Pieces.Manner.{session}
 use Rattle.bp_trail.specs.Pieces.FlushGoesOn.{begins, marked, waited}
 use Rattle.bp_trail.specs.Pieces.FlushPiece.{clean, absent, cleaned, still_dirty, need_log, write_failed, lost_write, no_room, no_memory}
-use Rattle.bp_trail.specs.declared.entries.Flushed.{Flushed}
-use Rattle.bp_trail.specs.declared.entries.Flushed.TheVariants as flushed
+use Rattle.bp_trail.specs.declared.ends.Flushed.{Flushed}
+use Rattle.bp_trail.specs.declared.ends.Flushed.TheVariants as flushed
 use Rattle.bp_session_log.specs.Turns.{FlushTurn, EndWriteOutcome, WriteOutOutcome}
 use Rattle.bp_shared.proofs.Turning.{FlushWaits, FlushTurns, flush_marked}
 use Rattle.bp_shared.specs.Sessions.{FlushSaid}
-use Rattle.bp_core.specs.Added.{Gives, ended_reply, flushed_reply}
+use Rattle.bp_core.specs.Added.{Gives}
+use Rattle.bp_trail.specs.Ends.{ended_reply, flushed_reply}
 use Rattle.bp_core.specs.Work.{Writes}
 
 goes_on-append : (client page : ℕ) (xs ys : Trail) → FlushGoesOn session client page xs → FlushGoesOn session client page ys → FlushGoesOn session client page (xs ++ ys)

@@ -9,3 +9,4 @@ pub mod Telling
 pub mod Posting
 pub mod Holding
 pub mod Waiting
+pub mod Reaching

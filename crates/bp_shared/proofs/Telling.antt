@@ -18,12 +18,12 @@ use Rattle.bp_trail.specs.Script.{give_back}
 use Rattle.bp_core.specs.declared.passes.Pass.{Pass}
 use Rattle.bp_core.specs.declared.passes.ReadTicket.{ReadTicket}
 use Rattle.bp_core.specs.declared.passes.WriteTicket.{WriteTicket}
-use Rattle.bp_core.specs.declared.passes.Ended.{Ended}
+use Rattle.bp_trail.specs.declared.ends.Ended.{Ended}
 use Rattle.bp_core.specs.CoreView.{CoreView}
 use Rattle.bp_core.specs.Outcomes.{Cuts}
-use Rattle.bp_core.specs.Added.{ended_reply}
-use Rattle.bp_audit.specs.Clients.{of_client}
-use Rattle.bp_audit.proofs.Comparing.{of_client-append, of_client-hit, of_client-miss}
+use Rattle.bp_trail.specs.Ends.{ended_reply}
+use Rattle.bp_trail.specs.Clients.{of_client}
+use Rattle.bp_trail.proofs.Comparing.{of_client-append, of_client-hit, of_client-miss}
 use Rattle.bp_session_log.specs.Boards.{Writes}
 use Rattle.bp_session_log.specs.declared.boards.Board.{Board}
 use Rattle.bp_session_log.specs.declared.boards.Line.{Line}
@@ -37,7 +37,7 @@ use Rattle.bp_session_log.specs.declared.pending.Flush.{Flush as Flushing}
 use Rattle.bp_session_log.specs.declared.pending.Flush.TheVariants as flushing
 use Rattle.bp_session_log.specs.Turns.{LookOutcome, refusal_reply, and_told, AskFixOutcome, AskFlushOutcome, ReadSaid, ReadIntoSaid, WriteSaid, TickSaid, PurgeSaid, EndReadOutcome, EndWriteOutcome}
 use Rattle.bp_shared.specs.Posting.{TakesBack}
-use Rattle.bp_shared.specs.Telling.{is_told, told, IsLineOf, IsShown, IsToldBy, IsBlank}
+use Rattle.bp_shared.specs.Telling.{is_told, told, IsLineOf, IsShown, IsToldBy, IsBlank, GoesOnFrom, AreEarlier}
 
 -- ---- what is told, part by part
 told-append : (xs ys : Trail) → told (xs ++ ys) ≡ told xs ++ told ys
@@ -301,3 +301,41 @@ told_taken_back start c client old new said t b =
 -- since a pool was made over a core that had said nothing, the whole trail was told
 pub told_whole : (past : Trail) (client : ℕ) (said : Trail) → IsToldBy [] past client said → of_client client (told past) ≡ told said
 told_whole past client said t = ap (λ es. of_client client (told es)) (t.goes_on ∙ append-nil t.since) ∙ t.theirs
+
+-- ---- the board of what sessions saw
+goes_on_more : (start past after piece : Trail) → GoesOnFrom start past → after ≡ piece ++ past → GoesOnFrom start after
+goes_on_more start past after piece s grows = (piece ++ s.0, grows ∙ ap (λ es. piece ++ es) s.1 ∙ sym (append_assoc piece s.0 start))
+
+-- the trail got more entries
+earlier_more : (board : ℕ) (b : Board) (past after piece : Trail) → AreEarlier board b past → after ≡ piece ++ past → AreEarlier board b after
+earlier_more board b past after piece e grows = record { board_is = e.board_is; each = λ n. goes_on_more (get_or b.lists n []) past after piece (e.each n) grows }
+
+pub earlier_adds : (board : ℕ) (b : Board) (client : ℕ) (past after said told_after : Trail) → AreEarlier board b past → Adds client past said after told_after → AreEarlier board b after
+earlier_adds board b client past after said told_after e a = earlier_more board b past after a.piece e a.goes_on
+
+pub earlier_drained : (board : ℕ) (b : Board) (past mid : Trail) → AreEarlier board b past → AddsUnfixes past mid → AreEarlier board b mid
+earlier_drained board b past mid e d = earlier_more board b past mid d.back e d.goes_on
+
+pub earlier_cut : (board : ℕ) (b : Board) (old new : CoreView) (entries : List Entry) → AreEarlier board b old.past → Cuts old entries new → AreEarlier board b new.past
+earlier_cut board b old new entries e cut = subst (λ p. AreEarlier board b p) (sym (ap (λ (core : CoreView). core.past) cut.is)) e
+
+-- nothing was seen yet
+pub earlier_none : (board : ℕ) (b : Board) (past : Trail) → b.name ≡ board → IsBlank b.lists → AreEarlier board b past
+earlier_none board b past name blank = record { board_is = name; each = λ n. (past, sym (append-nil past) ∙ ap (λ l. past ++ l) (sym (blank n))) }
+
+-- what a session saw before is an older part of the trail
+pub line_earlier : (board : ℕ) (old new : Board) (had has : Line) (past list : Trail) → AreEarlier board old past → Writes old had list new has → GoesOnFrom had.list past
+line_earlier board old new had has past list e w = subst (λ l. GoesOnFrom l past) w.was (e.each had.number)
+
+-- a session sees the trail as it is
+pub earlier_seen : (board : ℕ) (old new : Board) (had has : Line) (past : Trail) → AreEarlier board old past → Writes old had past new has → AreEarlier board new past
+earlier_seen board old new had has past e w = record { board_is = w.name ∙ e.board_is; each = λ n. each n (ℕ_discrete n had.number) }
+  where
+    each : (n : ℕ) → Dec (n ≡ had.number) → GoesOnFrom (get_or new.lists n []) past
+    each n (yes is) =
+        ([], sym (ap (λ ls. get_or ls n []) w.lists ∙ ap (λ m. get_or (set old.lists had.number past) m []) is ∙ get_or-set_same old.lists had.number past [] w.within))
+    each n (no apart) =
+        subst (λ l. GoesOnFrom l past) (sym (ap (λ ls. get_or ls n []) w.lists ∙ get_or-set_other old.lists had.number n past [] apart)) (e.each n)
+
+pub goes_on_taken : (c : ℕ) (start : Trail) (old new : CoreView) → GoesOnFrom start old.past → TakesBack c old new → GoesOnFrom start new.past
+goes_on_taken c start old new s b = goes_on_more start old.past new.past (map give_back b.passes) s (ap (λ (core : CoreView). core.past) b.is)

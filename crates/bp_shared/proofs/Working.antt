@@ -4,7 +4,7 @@ use Rattle.bp_page.specs.declared.refusals.Refusal.{Refusal}
 use Rattle.bp_page.specs.declared.refusals.Refusal.TheVariants as refusal
 use Rattle.bp_page.specs.declared.refusals.PortFault.{PortFault}
 use Rattle.bp_page.specs.declared.refusals.PortFault.TheVariants as fault
-use Rattle.bp_core.specs.ReadFaults.{read_refusal, read_failure}
+use Rattle.bp_trail.specs.Ends.{read_refusal, read_failure, ended_reply}
 use Rattle.bp_trail.specs.declared.entries.Call.{Call}
 use Rattle.bp_trail.specs.declared.entries.Call.TheVariants.{Mark, Fix, ReadEnd, WriteEnd, Flush}
 use Rattle.bp_trail.specs.declared.entries.Reply.{Reply}
@@ -14,13 +14,13 @@ use Rattle.bp_trail.specs.Pieces.{by}
 use Rattle.bp_core.specs.declared.passes.Pass.{Pass}
 use Rattle.bp_core.specs.declared.passes.ReadTicket.{ReadTicket}
 use Rattle.bp_core.specs.declared.passes.WriteTicket.{WriteTicket}
-use Rattle.bp_core.specs.declared.passes.Ended.{Ended}
+use Rattle.bp_trail.specs.declared.ends.Ended.{Ended}
 use Rattle.bp_session_log.specs.declared.pending.Fix.{Fix as Fixing}
 use Rattle.bp_session_log.specs.declared.pending.Fix.TheVariants as fixing
 use Rattle.bp_session_log.specs.declared.pending.Flush.{Flush as Flushing}
 use Rattle.bp_session_log.specs.declared.pending.Flush.TheVariants as flushing
 use Rattle.bp_session_log.specs.Turns.{FixTurn, FlushTurn, MarksOnce, refusal_reply, and_told, EndReadOutcome, EndWriteOutcome, LoadOutcome, WriteOutOutcome}
-use Rattle.bp_core.specs.Added.{Ends, ended_reply}
+use Rattle.bp_core.specs.Added.{Ends}
 use Rattle.bp_core.specs.Work.{Reads, Writes, Works, WorksThrough}
 use Rattle.bp_shared.proofs.Stepping.{err}
 use Rattle.bp_shared.specs.Sessions.{WithSomeLsn, DoesWorkSaid}

@@ -1,47 +1,66 @@
--- What a flush of each unsaved page adds to a session's list.
-use Rattle.std.specs.Prelude.{ℕ, ◌+◌, Option, Some, None, Result, Ok, Err}
+-- What a flush of each unsaved page adds to a session's list, and what it saw of the trail.
+use Rattle.std.specs.Prelude.{◌≡◌, ℕ, ◌+◌, false, Option, Some, None, Result, Ok, Err}
+use Rattle.bp_page.specs.declared.refusals.Refusal.{Refusal}
 use Rattle.bp_trail.specs.Parameters.{Parameters}
 use Rattle.bp_trail.specs.Trail.{Trail}
-use Rattle.bp_trail.specs.declared.entries.Flushed.{Flushed}
-use Rattle.bp_core.specs.declared.not_flushed.NotFlushed.{NotFlushed}
+use Rattle.bp_trail.specs.Saved.{unsaved}
+use Rattle.bp_trail.specs.declared.ends.Flushed.{Flushed}
+use Rattle.bp_trail.specs.declared.ends.NotFlushed.{NotFlushed}
 use Rattle.bp_core.specs.Unsaved.{FindsUnsaved}
-use Rattle.bp_shared.specs.Sessions.{FlushSaid}
-use Rattle.bp_shared.specs.Telling.{AtAMoment}
+use Rattle.bp_shared.specs.Sessions.{SessionValue, FlushSaid}
+use Rattle.bp_shared.specs.Telling.{GoesOnFrom, Sees}
 
--- whose list it is, of which pool, and what the trail had when the pool was made
-pub record Owner : Type 0 where
+-- with which parameters a pool was made, and what the trail had then
+pub record Pool : Type 0 where
   pub parameters : Parameters
   pub start : Trail
-  pub client : ℕ
 
--- at a moment at which the list was so, this was the first unsaved page from the number on
-abbrev pub Finds : Owner → Trail → ℕ → Option ℕ → Type 0
-Finds o said from page =
-    AtAMoment o.parameters o.start o.client said
-    (λ past. FindsUnsaved o.parameters.pages from past page)
+-- the session saw the trail, in which this is the first unsaved page from the number on
+pub record Finds (o : Pool) (old : SessionValue) (from : ℕ) (page : Option ℕ) (new : SessionValue)
+    : Type 0 where
+  pub sees : Sees o.parameters o.start old new
+  pub found : FindsUnsaved o.parameters.pages from new.seen page
+
+-- a page was flushed, which added to the session's list, and saw nothing more of the trail
+pub record Flushes (page : ℕ) (answer : Result Flushed Refusal) (old new : SessionValue)
+    : Type 0 where
+  pub client : new.client ≡ old.client
+  pub seen : new.seen ≡ old.seen
+  pub said : FlushSaid old.client page answer old.said new.said
 
 -- unsaved pages were flushed, one after the other: each was the first from where the one before it
 -- ended, and the next is to be looked for from this number on
-pub data FlushesEach (o : Owner) (said : Trail) : ℕ → Trail → Type 0 where
-  none : FlushesEach o said 0 said
-  page : {from : ℕ} {mid after : Trail} (page : ℕ) (how : Flushed) → FlushesEach o said from mid
-      → Finds o mid from (Some page) → FlushSaid o.client page (Ok how) mid after
-      → FlushesEach o said (page + 1) after
+pub data FlushesEach (o : Pool) (old : SessionValue) : ℕ → SessionValue → Type 0 where
+  none : FlushesEach o old 0 old
+  page : {from : ℕ} {mid new : SessionValue} (page : ℕ) (how : Flushed) (found : SessionValue)
+      → FlushesEach o old from mid → Finds o mid from (Some page) found
+      → Flushes page (Ok how) found new → FlushesEach o old (page + 1) new
 
 -- after the last of them no page was found
-pub record FlushedAll (o : Owner) (said after : Trail) : Type 0 where
+pub record FlushedAll (o : Pool) (old new : SessionValue) : Type 0 where
   pub next : ℕ
-  pub flushed : FlushesEach o said next after
-  pub none_left : Finds o after next None
+  pub mid : SessionValue
+  pub flushed : FlushesEach o old next mid
+  pub none_left : Finds o mid next None new
 
 -- the flush of a page that was found was refused
-pub record StoppedAt (o : Owner) (stop : NotFlushed) (said after : Trail) : Type 0 where
+pub record StoppedAt (o : Pool) (stop : NotFlushed) (old new : SessionValue) : Type 0 where
   pub next : ℕ
-  pub mid : Trail
-  pub flushed : FlushesEach o said next mid
-  pub found : Finds o mid next (Some stop.page)
-  pub refused : FlushSaid o.client stop.page (Err stop.why) mid after
+  pub mid : SessionValue
+  pub found : SessionValue
+  pub flushed : FlushesEach o old next mid
+  pub finds : Finds o mid next (Some stop.page) found
+  pub refused : Flushes stop.page (Err stop.why) found new
 
-abbrev pub FlushAllSaid : {A : Type 0} → Owner → Result A NotFlushed → Trail → Trail → Type 0
-FlushAllSaid o (Ok done) said after = FlushedAll o said after
-FlushAllSaid o (Err stop) said after = StoppedAt o stop said after
+abbrev pub FlushAllSaid : {A : Type 0} → Pool → Result A NotFlushed → SessionValue → SessionValue
+    → Type 0
+FlushAllSaid o (Ok done) old new = FlushedAll o old new
+FlushAllSaid o (Err stop) old new = StoppedAt o stop old new
+
+-- between these two the session saw a trail in which the page was not unsaved, or the page was
+-- flushed
+pub data Reaches (page : ℕ) (old new : SessionValue) : Type 0 where
+  saved : (mid : SessionValue) → GoesOnFrom old.seen mid.seen → unsaved mid.seen page ≡ false
+      → GoesOnFrom mid.seen new.seen → Reaches page old new
+  flushed : (how : Flushed) (mid after : SessionValue) → GoesOnFrom old.seen mid.seen
+      → Flushes page (Ok how) mid after → GoesOnFrom after.seen new.seen → Reaches page old new

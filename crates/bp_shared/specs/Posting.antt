@@ -8,7 +8,7 @@ use Rattle.bp_trail.specs.Lists.{some}
 use Rattle.bp_trail.specs.Trail.{Trail}
 use Rattle.bp_trail.specs.Passes.{pass_of}
 use Rattle.bp_trail.specs.Script.{give_back}
-use Rattle.bp_audit.specs.Clients.{of_client}
+use Rattle.bp_trail.specs.Clients.{of_client}
 use Rattle.bp_core.specs.CoreView.{CoreView}
 use Rattle.bp_session_log.specs.Books.{unfixes}
 use Rattle.bp_session_log.specs.Rings.{RingName, RingView, ring_of, ring_at}

@@ -15,20 +15,24 @@ use Rattle.bp_trail.specs.Pieces.{by, FixPiece, FlushPiece}
 use Rattle.bp_trail.specs.Pieces.Manner.{session}
 use Rattle.bp_trail.specs.Pieces.Outcome.{accepted, refused}
 use Rattle.bp_session_log.specs.Books.{owed, NeedNotGrow}
-use Rattle.bp_trail.specs.declared.entries.Flushed.{Flushed}
-use Rattle.bp_core.specs.Added.{Gives, Ends, flushed_reply}
+use Rattle.bp_trail.specs.declared.ends.Flushed.{Flushed}
+use Rattle.bp_core.specs.Added.{Gives, Ends}
+use Rattle.bp_trail.specs.Ends.{flushed_reply}
 use Rattle.bp_core.specs.Work.{Reads, Writes, WorksThrough}
 
--- whose session it is, and its list: what cuts handed out, and all of it; in how many places of its
--- ring it knows no pass; for how many entries the list has room beyond all that it owes, and for how
--- many passes; for how many copies of images there is a place; and how many entries are kept
+-- whose session it is, and its list: what cuts handed out, and all of it; the pool's trail as a call
+-- of the session saw it last; in how many places of its ring it knows no pass; for how many entries
+-- the list has room beyond all that it owes, for how many passes, and for how many copies of images;
+-- for how many copies there is a place; and how many entries are kept
 pub record SessionValue : Type 0 where
   pub client : ℕ
   pub before : Trail
   pub said : Trail
+  pub seen : Trail
   pub free : ℕ
   pub room : ℕ
   pub passes : ℕ
+  pub copies : ℕ
   pub places : ℕ
   pub kept : ℕ
 
@@ -43,9 +47,11 @@ new_session client =
       client = client;
       before = [];
       said = [];
+      seen = [];
       free = 32;
       room = 0;
       passes = 0;
+      copies = 0;
       places = 0;
       kept = 0;
     }
@@ -57,7 +63,8 @@ new_sessions (suc n) = new_sessions n ++ new_session n ∷ []
 
 -- what the list had was handed out, and all else goes on
 abbrev pub IsCut : SessionValue → SessionValue → Type 0
-IsCut old new = new ≡ record old { before = old.said; room = new.room; kept = new.kept }
+IsCut old new =
+    new ≡ record old { before = old.said; room = new.room; copies = new.copies; kept = new.kept }
 
 -- a list that was handed out has the memory that it had
 abbrev pub KeepsMemory : {A : Type 0} → SessionValue → Vec Entry A → Type 0

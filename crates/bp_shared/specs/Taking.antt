@@ -15,16 +15,18 @@ use Rattle.bp_core.specs.Outcomes.{Cuts}
 use Rattle.bp_session_log.specs.Rings.{RingName, no_name, ring_of}
 use Rattle.bp_shared.specs.Locked.{LockedValue}
 
--- the names of what is made before a pool: the ring by which its trail is taken, the board of its
--- sessions, and the ring of each session, in the order of their clients
+-- the names of what is made before a pool: the ring by which its trail is taken, the boards of its
+-- sessions, for their lists and for what they saw of the trail, and the ring of each session, in the
+-- order of their clients
 pub record PoolRing : Type 0 where
   pub trail : RingName
   pub board : ℕ
+  pub seen : ℕ
   pub rings : List RingName
 
 -- the names of nothing
 abbrev pub no_ring : PoolRing
-no_ring = record { trail = no_name; board = 0; rings = [] }
+no_ring = record { trail = no_name; board = 0; seen = 0; rings = [] }
 
 -- no piece waits in the ring, which has room for one
 abbrev pub IsEmptied : {T A P : Type 0} → Producer T A P → Type 0

@@ -5,9 +5,10 @@ use Rattle.bp_trail.specs.declared.entries.Call.TheVariants.{Unfix}
 use Rattle.bp_trail.specs.Legal.{Legal}
 use Rattle.bp_trail.specs.Parameters.{Parameters}
 use Rattle.bp_trail.specs.Trail.{Trail}
-use Rattle.bp_audit.specs.Clients.{of_client}
+use Rattle.bp_trail.specs.Clients.{of_client}
 use Rattle.bp_session_log.specs.declared.boards.Board.{Board}
 use Rattle.bp_session_log.specs.declared.boards.Line.{Line}
+use Rattle.bp_shared.specs.Sessions.{SessionValue}
 
 -- any call but an unfix
 abbrev pub is_told : Call → Bool
@@ -48,11 +49,15 @@ pub record IsToldBy (start past : Trail) (client : ℕ) (said : Trail) : Type 0 
   pub goes_on : past ≡ since ++ start
   pub theirs : of_client client (told since) ≡ told said
 
--- some legal list of entries, which goes on from the pool's first ones, tells of the client what its
--- list tells, and is as P says
-pub record AtAMoment (parameters : Parameters) (start : Trail) (client : ℕ) (said : Trail)
-    (P : Trail → Type 0) : Type 0 where
-  pub past : Trail
-  pub legal : Legal parameters past
-  pub told_is : IsToldBy start past client said
-  pub is : P past
+-- on the board of what sessions saw each line has what was once the pool's trail
+pub record AreEarlier (board : ℕ) (b : Board) (past : Trail) : Type 0 where
+  pub board_is : b.name ≡ board
+  pub each : (n : ℕ) → GoesOnFrom (slice_index_or b.lists n []) past
+
+-- a call of the session saw the pool's trail, and did nothing else: that is a legal list, which tells
+-- of the client what the session's list tells, and goes on from what the session saw before
+pub record Sees (parameters : Parameters) (start : Trail) (old new : SessionValue) : Type 0 where
+  pub same : new ≡ record old { seen = new.seen }
+  pub legal : Legal parameters new.seen
+  pub told_is : IsToldBy start new.seen old.client old.said
+  pub goes_on : GoesOnFrom old.seen new.seen

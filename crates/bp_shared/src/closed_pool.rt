@@ -52,6 +52,9 @@ impl<N: PoolName, K: ListKeeper> ClosedPool<N, K> {
     /// nothing else: in the trail of a pool whose sessions end one by one, each has its own, and no end adds to another
     /// client's.
     ///
+    /// What the session saw of the trail is the older part of it: so what `next_unsaved`, `redo_from` and `stats` told
+    /// is so of entries that the pool had, with all that the client had told by then.
+    ///
     /// So this core gave each answer that the list has, the client has no other entry, and a page is pinned while its
     /// client's list holds a pass of it. A refusal that adds no entry is not bound by it.
     pub fn end_session(&mut self, session: Session<N, K>) -> Book<K>
@@ -59,6 +62,7 @@ impl<N: PoolName, K: ListKeeper> ClosedPool<N, K> {
         ensures client { result.client ≡ session.client }
         ensures before { result.before ≡ session.before }
         ensures said { result.said ≡ session.said }
+        ensures seen { GoesOnFrom session.seen self.new.past }
         ensures theirs { IsToldBy N.past self.new.past session.client session.said }
         ensures posted { IsUnfixedBy N.past self.new.past session.client (unfixes session.said) }
     {

@@ -22,6 +22,7 @@ pub fn give_back<N: PoolName, K: ListKeeper, R: Wait>(
 ) -> Result<(), (Pass, Refusal)>
     ensures client { session.new.client ≡ session.old.client }
     ensures before { session.new.before ≡ session.old.before }
+    ensures seen { session.new.seen ≡ session.old.seen }
     ensures outcome { UnfixSaid session.old pass result session.new }
 {
     match pool.unfix(session, pass) {

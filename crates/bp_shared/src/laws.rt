@@ -1,4 +1,4 @@
-//! What the clauses of a session's end come to. The function does nothing: its contract is the law.
+//! What the clauses of a session's calls come to. The functions do nothing: their contracts are the laws.
 ghost use Rattle.std.specs.Prelude.{◌≡◌, ℕ, ◌<◌, true};
 ghost use Rattle.bp_trail.specs.Event.{Grant};
 ghost use Rattle.bp_trail.specs.Trail.{Trail};
@@ -6,7 +6,9 @@ ghost use Rattle.bp_trail.specs.Parameters.{Parameters};
 ghost use Rattle.bp_trail.specs.Passes.{passes_out, pins};
 ghost use Rattle.bp_trail.specs.Legal.{is_out, Legal};
 ghost use Rattle.bp_session_log.specs.Books.{unfixes};
+ghost use Rattle.bp_shared.specs.FlushAll.{FlushedAll, Pool, Reaches};
 ghost use Rattle.bp_shared.specs.Posting.{held_by, IsUnfixedBy};
+ghost use Rattle.bp_shared.specs.Sessions.{SessionValue};
 ghost use Rattle.bp_shared.specs.Telling.{IsToldBy};
 
 /// A page whose pass a client holds is pinned in the trail that the lock has. A pass that the client's list was given
@@ -20,4 +22,10 @@ pub fn held_pages_are_pinned()
         → Legal c past → IsToldBy start past client said →
         IsUnfixedBy start past client (unfixes said) →
         is_out g (held_by said) ≡ true → 0 < pins past g.page }
+{}
+
+/// A flush of all that ended well left out no page: each was flushed, or was seen not to be unsaved while it went on.
+pub fn flush_all_reaches_each_page()
+    ensures each { (o : Pool) (old new : SessionValue) (page : ℕ) → FlushedAll o old new
+        → page < o.parameters.pages → Reaches page old new }
 {}

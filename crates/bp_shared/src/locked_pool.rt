@@ -1,6 +1,6 @@
 //! What lies under the lock: the core, its reader of the mark, and the ends of the rings at which passes come out.
 use crate::names::PoolName;
-use crate::session::{Session, Told};
+use crate::session::{Past, Session, Told};
 use crate::taker::Taker;
 use crate::trail_ring::join_ends;
 use bp_core::{Entry, PassNote, PoolCore};
@@ -29,6 +29,8 @@ pub(crate) struct LockedPool<N: PoolName, K: ListKeeper> {
     pieces: Producer<Vec<Entry>>,
     /// What each session's list told.
     board: Board,
+    /// What each session saw of the trail.
+    seen: Board,
     of: PhantomData<N>,
 }
 
@@ -38,7 +40,7 @@ impl<N: PoolName, K: ListKeeper> Model for LockedPool<N, K> {
     ghost use Rattle.bp_session_log.specs.Rings.{ring_view};
     ghost use Rattle.bp_shared.specs.Posting.{IsPosted};
     ghost use Rattle.bp_shared.specs.Taking.{IsHandedOut};
-    ghost use Rattle.bp_shared.specs.Telling.{IsShown};
+    ghost use Rattle.bp_shared.specs.Telling.{AreEarlier, IsShown};
 
     ghost Value = { LockedValue };
 
@@ -53,7 +55,8 @@ impl<N: PoolName, K: ListKeeper> Model for LockedPool<N, K> {
         × IsHandedOut N.ring.trail N.before s.pieces s.core
         × IsShown N.ring.board N.past s.board s.core.past
         × IsPosted N.ring.rings N.past (map ring_view s.consumers.items) s.core.past
-        × (length N.ring.rings ≡ N.parameters.clients) };
+        × (length N.ring.rings ≡ N.parameters.clients)
+        × AreEarlier N.ring.seen s.seen s.core.past };
 }
 
 impl<N: PoolName, K: ListKeeper> LockedPool<N, K> {
@@ -65,7 +68,7 @@ impl<N: PoolName, K: ListKeeper> LockedPool<N, K> {
     ghost use Rattle.bp_shared.specs.Posting.{IsUnfixedBy, TakesBack};
     ghost use Rattle.bp_shared.specs.Locked.{Drained};
     ghost use Rattle.bp_shared.specs.Taking.{IsEmptied};
-    ghost use Rattle.bp_shared.specs.Telling.{GoesOnFrom, IsShown, IsToldBy};
+    ghost use Rattle.bp_shared.specs.Telling.{AreEarlier, GoesOnFrom, IsShown, IsToldBy};
 
     /// A core whose rings gave nothing yet.
     pub(crate) fn new(
@@ -74,14 +77,16 @@ impl<N: PoolName, K: ListKeeper> LockedPool<N, K> {
         consumers: Vec<Consumer<PassNote>>,
         pieces: Producer<Vec<Entry>>,
         board: Board,
+        seen: Board,
     ) -> LockedPool<N, K>
         requires reader { reader.mark ≡ N.mark }
         requires parameters { core.parameters ≡ N.parameters }
         requires before { core.before ≡ N.before }
         requires ring { ring_of pieces ≡ N.ring.trail }
         requires unused { IsEmptied pieces × (sent pieces ≡ []) }
-        requires seen { durable core.past ≤ reader.seen }
+        requires looked { durable core.past ≤ reader.seen }
         requires shown { IsShown N.ring.board N.past board core.past }
+        requires earlier { AreEarlier N.ring.seen seen core.past }
         requires rings { map ring_at consumers.items ≡ N.ring.rings }
         requires empty { All (λ ring. received ring ≡ []) consumers.items }
         requires count { length N.ring.rings ≡ N.parameters.clients }
@@ -96,6 +101,7 @@ impl<N: PoolName, K: ListKeeper> LockedPool<N, K> {
             ends: 0,
             pieces,
             board,
+            seen,
             of: PhantomData,
         }
     }
@@ -143,6 +149,7 @@ impl<N: PoolName, K: ListKeeper> LockedPool<N, K> {
         ensures client { result.client ≡ session.client }
         ensures before { result.before ≡ session.before }
         ensures said { result.said ≡ session.said }
+        ensures seen { GoesOnFrom session.seen self.new.core.past }
         ensures theirs { IsToldBy N.past self.new.core.past session.client session.said }
         ensures posted { IsUnfixedBy N.past self.new.core.past session.client
             (unfixes session.said) }
@@ -151,9 +158,11 @@ impl<N: PoolName, K: ListKeeper> LockedPool<N, K> {
             book,
             mut producer,
             mut line,
+            mut seen,
             of: _,
         } = session;
         self.board.write::<Book<K>, Told>(&mut line, &book);
+        self.seen.write::<PoolCore<K>, Past>(&mut seen, &self.core);
         self.take_back_posted(&book, &mut producer);
         book
     }
@@ -174,6 +183,7 @@ impl<N: PoolName, K: ListKeeper> LockedPool<N, K> {
             ends: _,
             mut pieces,
             board: _,
+            seen: _,
             of: _,
         } = self;
         let Taker { mut taken, of: _ } = taker;

@@ -17,7 +17,7 @@ pub trait PoolName {
     ghost before: { Trail };
     // The core's trail when the pool was made.
     ghost past: { Trail };
-    // The ring by which the trail goes to its taker, and the board of the sessions.
+    // The rings by which the trail goes to its taker and passes go back, and the boards of the sessions.
     ghost ring: { PoolRing };
 }
 

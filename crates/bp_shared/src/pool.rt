@@ -32,13 +32,14 @@ mod pieces;
 mod single;
 mod source;
 
-/// A session for each client, with the next line of the board and the posting end of its ring, in order.
+/// A session for each client, with the next line of both boards and the posting end of its ring, in order.
 fn new_clients<N: PoolName, K: ListKeeper>(
     alloc: Global,
     geometry: Geometry,
     clients: u8,
     producers: Vec<Producer<PassNote>>,
     board: &mut Board,
+    seen: &mut Board,
 ) -> Result<Vec<Session<N, K>>, Refusal>
     requires clients { clients ≡ N.parameters.clients }
     requires size { geometry.size ≡ N.parameters.size }
@@ -46,9 +47,12 @@ fn new_clients<N: PoolName, K: ListKeeper>(
     requires unused { All IsUnused producers.items }
     requires count { length producers.items ≡ clients }
     requires board { board.old.name ≡ N.ring.board }
-    requires empty { board.old.lists ≡ [] }
+    requires seen { seen.old.name ≡ N.ring.seen }
+    requires empty { (board.old.lists ≡ []) × (seen.old.lists ≡ []) }
     ensures board { board.new.name ≡ N.ring.board }
+    ensures seen { seen.new.name ≡ N.ring.seen }
     ensures blank { OnOk result (IsBlank board.new.lists) }
+    ensures unseen { OnOk result (IsBlank seen.new.lists) }
     ensures sessions { IfOk result (λ made. made.items ≡ new_sessions N.parameters.clients) }
     ensures refused { OnErr result (result ≡ Err Refusal.OutOfMemory) }
 {
@@ -58,7 +62,8 @@ fn new_clients<N: PoolName, K: ListKeeper>(
         let Some(producer) = producers.next() else {
             unreachable!()
         };
-        let session = Session::new(alloc, geometry, client, producer, board.line());
+        let (line, seen) = (board.line(), seen.line());
+        let session = Session::new(alloc, geometry, client, producer, line, seen);
         let Ok(()) = sessions.push(session) else {
             return Err(Refusal::OutOfMemory);
         };
@@ -134,6 +139,7 @@ impl<N: PoolName, K: ListKeeper> SharedPool<N, K> {
             pieces,
             taken,
             mut board,
+            mut seen,
             producers,
             consumers,
         } = ring;
@@ -146,10 +152,11 @@ impl<N: PoolName, K: ListKeeper> SharedPool<N, K> {
             core.clients(),
             producers,
             &mut board,
+            &mut seen,
         )?;
         let room = core.room();
         let posted = Posted::nothing(core.clients());
-        let state = LockedPool::new(core, reader, consumers, pieces, board);
+        let state = LockedPool::new(core, reader, consumers, pieces, board, seen);
         let pool = SharedPool {
             alloc,
             mark,
@@ -176,6 +183,7 @@ impl<N: PoolName, K: ListKeeper> SharedPool<N, K> {
     pub fn unfix(&self, session: &mut Session<N, K>, pass: Pass) -> Result<(), (Pass, Refusal)>
         ensures client { session.new.client ≡ session.old.client }
         ensures before { session.new.before ≡ session.old.before }
+        ensures seen { session.new.seen ≡ session.old.seen }
         ensures outcome { UnfixSaid session.old pass result session.new }
     {
         let client = session.client();

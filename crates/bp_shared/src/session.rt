@@ -2,8 +2,8 @@
 mod list_pieces;
 
 use crate::names::PoolName;
-use bp_core::{Pass, PassNote};
-use bp_keeper::{ListKeeper, RecordingKeeper};
+use bp_core::{Pass, PassNote, PoolCore};
+use bp_keeper::{Keeper, ListKeeper, RecordingKeeper};
 use bp_page::{Geometry, Refusal};
 use bp_session_log::{Book, Line, Shows};
 use rtrb::{Producer, PushError};
@@ -19,6 +19,13 @@ impl<K: ListKeeper> Shows<Book<K>> for Told {
     ghost shown = { λ book. told book.said };
 }
 
+/// The trail of a core as it stands on a pool's board of what its sessions saw.
+pub(crate) struct Past;
+
+impl<K: Keeper> Shows<PoolCore<K>> for Past {
+    ghost shown = { λ core. core.past };
+}
+
 /// One client's end of a pool: the list of the client's own entries, and a ring by which its passes go back.
 ///
 /// The list is bound to the pool: [`ClosedPool::end_session`](crate::ClosedPool::end_session) says how. A pass that was
@@ -30,6 +37,8 @@ pub struct Session<N: PoolName, K: ListKeeper = RecordingKeeper> {
     pub(crate) producer: Producer<PassNote>,
     /// The session's line on the pool's board.
     pub(crate) line: Line,
+    /// Its line on the board of what sessions saw: the trail as its calls saw it last.
+    pub(crate) seen: Line,
     pub(crate) of: PhantomData<N>,
 }
 
@@ -47,9 +56,11 @@ impl<N: PoolName, K: ListKeeper> Model for Session<N, K> {
       client = s.book.client;
       before = s.book.before;
       said = s.book.said;
+      seen = s.seen.list;
       free = known_free s.producer;
       room = s.book.entries;
       passes = s.book.passes;
+      copies = s.book.copies;
       places = s.book.places;
       kept = s.book.kept;
     } };
@@ -62,7 +73,8 @@ impl<N: PoolName, K: ListKeeper> Model for Session<N, K> {
         × IsLineOf N.ring.board s.line s.book.client s.book.said
         × (slice_index_or N.ring.rings s.book.client (ring_of s.producer)
         ≡ ring_of s.producer)
-        × (all_held s.book.said ≡ true) };
+        × (all_held s.book.said ≡ true)
+        × (s.seen.name ≡ N.ring.seen) };
 }
 
 impl<N: PoolName, K: ListKeeper> Session<N, K> {
@@ -80,6 +92,7 @@ impl<N: PoolName, K: ListKeeper> Session<N, K> {
         client: u8,
         producer: Producer<PassNote>,
         line: Line,
+        seen: Line,
     ) -> Session<N, K>
         requires client_in { client < N.parameters.clients }
         requires size { geometry.size ≡ N.parameters.size }
@@ -87,12 +100,15 @@ impl<N: PoolName, K: ListKeeper> Session<N, K> {
         requires ring { slice_index_or N.ring.rings client (ring_of producer)
             ≡ ring_of producer }
         requires line { IsLineOf N.ring.board line client [] }
+        requires seen { (seen.name ≡ N.ring.seen) × (seen.list ≡ []) }
         ensures client { result.client ≡ client }
         ensures before { result.before ≡ [] }
         ensures said { result.said ≡ [] }
+        ensures seen { result.seen ≡ [] }
         ensures free { result.free ≡ 32 }
         ensures room { result.room ≡ 0 }
         ensures passes { result.passes ≡ 0 }
+        ensures copies { result.copies ≡ 0 }
         ensures places { result.places ≡ 0 }
         ensures kept { result.kept ≡ 0 }
     {
@@ -100,6 +116,7 @@ impl<N: PoolName, K: ListKeeper> Session<N, K> {
             book: Book::new(alloc, geometry, client),
             producer,
             line,
+            seen,
             of: PhantomData,
         }
     }
@@ -137,6 +154,7 @@ impl<N: PoolName, K: ListKeeper> Session<N, K> {
             book,
             producer: _,
             line: _,
+            seen: _,
             of: _,
         } = self;
         book
@@ -148,6 +166,7 @@ impl<N: PoolName, K: ListKeeper> Session<N, K> {
     pub(crate) fn post(&mut self, pass: Pass) -> Result<(), (Pass, Refusal)>
         ensures client { self.new.client ≡ self.old.client }
         ensures before { self.new.before ≡ self.old.before }
+        ensures seen { self.new.seen ≡ self.old.seen }
         ensures outcome { UnfixSaid self.old pass result self.new }
     {
         if !self.book.holds(&pass) {

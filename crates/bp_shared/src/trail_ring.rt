@@ -15,13 +15,14 @@ use std::alloc::Global;
 use std::marker::Model;
 
 /// The rings of a pool, made before it: one with room for one piece of a trail, and one for the passes that each client
-/// posts. Contracts see their names and that of the board on which the pool's sessions will show their lists, by which
-/// they are told from all others.
+/// posts. Contracts see their names, and those of the boards on which the pool's sessions will show their lists and what
+/// they saw of the trail, by which they are told from all others.
 #[derive(Drop)]
 pub struct TrailRing {
     pub(crate) pieces: Producer<Vec<Entry>>,
     pub(crate) taken: Consumer<Vec<Entry>>,
     pub(crate) board: Board,
+    pub(crate) seen: Board,
     /// Where each client posts its passes, and where they come out.
     pub(crate) producers: Vec<Producer<PassNote>>,
     pub(crate) consumers: Vec<Consumer<PassNote>>,
@@ -39,11 +40,12 @@ impl Model for TrailRing {
     ghost view = { λ r. record {
       trail = ring_of r.pieces;
       board = r.board.name;
+      seen = r.seen.name;
       rings = map ring_of r.producers.items;
     } };
 
     ghost invariant = { λ r. (ring_at r.taken ≡ ring_of r.pieces) × IsEmptied r.pieces
-        × (sent r.pieces ≡ []) × (received r.taken ≡ []) × (r.board.lists ≡ [])
+        × (sent r.pieces ≡ []) × (received r.taken ≡ []) × (r.board.lists ≡ []) × (r.seen.lists ≡ [])
         × AreRings r.producers.items r.consumers.items };
 }
 
@@ -86,6 +88,7 @@ impl TrailRing {
             pieces,
             taken,
             board: Board::new(),
+            seen: Board::new(),
             producers,
             consumers,
         })

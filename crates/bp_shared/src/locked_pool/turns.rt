@@ -2,14 +2,13 @@
 //! a fix and a flush first look at the mark once. What the list then tells goes to the session's line of the board.
 //! None takes memory for the list: what an event wants there is taken before the lock.
 ghost use Rattle.std.specs.Prelude.{◌≡◌, ◌≢◌, ◌+◌, ◌<◌, ◌≤◌, false, length, IfOk};
-ghost use Rattle.bp_session_log.specs.Books.{SameOwner, OwesRead, OwesWrite};
+ghost use Rattle.bp_session_log.specs.Books.{OwesRead, OwesWrite};
 ghost use Rattle.bp_session_log.specs.Turns.{FixTurn, FlushTurn, EndReadOutcome, EndWriteOutcome};
 ghost use Rattle.bp_session_log.specs.Turns.{TickSaid, PurgeSaid, ReadSaid, ReadIntoSaid, WriteSaid};
 ghost use Rattle.bp_session_log.specs.Causes.{EndsRead, EndsWrite};
 ghost use Rattle.bp_core.specs.Outcomes.{TickOutcome, PurgeOutcome, ReadOutcome};
 ghost use Rattle.bp_core.specs.Outcomes.{ReadIntoOutcome, WriteOutcome};
 ghost use Rattle.bp_shared.specs.Locked.{IsDrained, InStep, FixStep, FlushStep, ends_after};
-ghost use Rattle.bp_shared.specs.Telling.{IsLineOf};
 
 use super::LockedPool;
 use crate::names::PoolName;
@@ -18,7 +17,7 @@ use bp_core::{Ended, Pass};
 use bp_keeper::ListKeeper;
 use bp_mark::Mark;
 use bp_page::{Image, Lsn, PageNo, PortFault, Refusal};
-use bp_session_log::{Book, Fix, Flush, Line, PendingRead, PendingWrite};
+use bp_session_log::{Book, Fix, Flush, PendingRead, PendingWrite};
 
 /// How often device work ended, after an end that may have been that of an unknown ticket.
 fn ends_after<T>(ends: u64, ended: &Result<T, Refusal>) -> u64
@@ -35,29 +34,28 @@ impl<N: PoolName, K: ListKeeper> LockedPool<N, K> {
     pub(crate) fn fix(
         &mut self,
         mark: &Mark,
-        book: &mut Book<K>,
-        line: &mut Line,
+        session: &mut Session<N, K>,
         page: PageNo,
     ) -> Result<Fix, Refusal>
         requires drained { IsDrained self.old }
         requires mark { mark.now ≡ N.mark }
         requires page_in { page < N.parameters.pages }
-        requires client_in { book.old.client < N.parameters.clients }
-        requires size { book.old.size ≡ N.parameters.size }
-        requires entries { 4 ≤ book.old.entries }
-        requires passes { 1 ≤ book.old.passes }
-        requires copies { 2 ≤ book.old.copies }
-        requires line { IsLineOf N.ring.board line.old book.old.client book.old.said }
-        ensures owner { SameOwner book.old book.new }
-        ensures line { IsLineOf N.ring.board line.new book.new.client book.new.said }
+        requires entries { 4 ≤ session.old.room }
+        requires passes { 1 ≤ session.old.passes }
+        requires copies { 2 ≤ session.old.copies }
+        ensures client { session.new.client ≡ session.old.client }
+        ensures before { session.new.before ≡ session.old.before }
+        ensures seen { session.new.seen ≡ session.old.seen }
+        ensures free { session.new.free ≡ session.old.free }
         ensures ends { self.new.ends ≡ self.old.ends }
-        ensures turn { FixTurn book.old.client page result book.old.said book.new.said }
-        ensures in_step { InStep (FixStep book.old.client page self.new.seen result)
-            self.old book.old.said self.new book.new.said }
+        ensures turn { FixTurn session.old.client page result session.old.said session.new.said }
+        ensures in_step { InStep (FixStep session.old.client page self.new.seen result)
+            self.old session.old.said self.new session.new.said }
     {
-        book.look(&mut self.core, &mut self.reader, mark)?;
-        let answer = book.ask_fix(&mut self.core, page);
-        self.board.write::<Book<K>, Told>(line, book);
+        session.book.look(&mut self.core, &mut self.reader, mark)?;
+        let answer = session.book.ask_fix(&mut self.core, page);
+        self.board
+            .write::<Book<K>, Told>(&mut session.line, &session.book);
         answer
     }
 
@@ -65,29 +63,28 @@ impl<N: PoolName, K: ListKeeper> LockedPool<N, K> {
     pub(crate) fn flush(
         &mut self,
         mark: &Mark,
-        book: &mut Book<K>,
-        line: &mut Line,
+        session: &mut Session<N, K>,
         page: PageNo,
     ) -> Result<Flush, Refusal>
         requires drained { IsDrained self.old }
         requires mark { mark.now ≡ N.mark }
         requires page_in { page < N.parameters.pages }
-        requires client_in { book.old.client < N.parameters.clients }
-        requires size { book.old.size ≡ N.parameters.size }
-        requires entries { 4 ≤ book.old.entries }
-        requires passes { 1 ≤ book.old.passes }
-        requires copies { 2 ≤ book.old.copies }
-        requires line { IsLineOf N.ring.board line.old book.old.client book.old.said }
-        ensures owner { SameOwner book.old book.new }
-        ensures line { IsLineOf N.ring.board line.new book.new.client book.new.said }
+        requires entries { 4 ≤ session.old.room }
+        requires passes { 1 ≤ session.old.passes }
+        requires copies { 2 ≤ session.old.copies }
+        ensures client { session.new.client ≡ session.old.client }
+        ensures before { session.new.before ≡ session.old.before }
+        ensures seen { session.new.seen ≡ session.old.seen }
+        ensures free { session.new.free ≡ session.old.free }
         ensures ends { self.new.ends ≡ self.old.ends }
-        ensures turn { FlushTurn book.old.client page result book.old.said book.new.said }
-        ensures in_step { InStep (FlushStep book.old.client page self.new.seen result)
-            self.old book.old.said self.new book.new.said }
+        ensures turn { FlushTurn session.old.client page result session.old.said session.new.said }
+        ensures in_step { InStep (FlushStep session.old.client page self.new.seen result)
+            self.old session.old.said self.new session.new.said }
     {
-        book.look(&mut self.core, &mut self.reader, mark)?;
-        let answer = book.ask_flush(&mut self.core, page);
-        self.board.write::<Book<K>, Told>(line, book);
+        session.book.look(&mut self.core, &mut self.reader, mark)?;
+        let answer = session.book.ask_flush(&mut self.core, page);
+        self.board
+            .write::<Book<K>, Told>(&mut session.line, &session.book);
         answer
     }
 
@@ -103,6 +100,7 @@ impl<N: PoolName, K: ListKeeper> LockedPool<N, K> {
         requires size { IfOk read (λ image. length image ≡ N.parameters.size) }
         ensures client { session.new.client ≡ session.old.client }
         ensures before { session.new.before ≡ session.old.before }
+        ensures seen { session.new.seen ≡ session.old.seen }
         ensures free { session.new.free ≡ session.old.free }
         ensures outcome { EndReadOutcome ticket read result session.old.said session.new.said }
         ensures ends { self.new.ends ≡ ends_after result self.old.ends }
@@ -127,6 +125,7 @@ impl<N: PoolName, K: ListKeeper> LockedPool<N, K> {
         requires owes { OwesWrite session.old.client ticket session.old.said }
         ensures client { session.new.client ≡ session.old.client }
         ensures before { session.new.before ≡ session.old.before }
+        ensures seen { session.new.seen ≡ session.old.seen }
         ensures free { session.new.free ≡ session.old.free }
         ensures outcome { EndWriteOutcome ticket written result session.old.said session.new.said }
         ensures ends { self.new.ends ≡ ends_after result self.old.ends }
@@ -141,110 +140,108 @@ impl<N: PoolName, K: ListKeeper> LockedPool<N, K> {
     }
 
     /// Moves the clock.
-    pub(crate) fn tick(
-        &mut self,
-        book: &mut Book<K>,
-        line: &mut Line,
-        n: u64,
-    ) -> Result<(), Refusal>
+    pub(crate) fn tick(&mut self, session: &mut Session<N, K>, n: u64) -> Result<(), Refusal>
         requires drained { IsDrained self.old }
-        requires client_in { book.old.client < N.parameters.clients }
-        requires room { 0 < book.old.entries }
-        requires line { IsLineOf N.ring.board line.old book.old.client book.old.said }
-        ensures owner { SameOwner book.old book.new }
-        ensures line { IsLineOf N.ring.board line.new book.new.client book.new.said }
+        requires room { 0 < session.old.room }
+        ensures client { session.new.client ≡ session.old.client }
+        ensures before { session.new.before ≡ session.old.before }
+        ensures seen { session.new.seen ≡ session.old.seen }
+        ensures free { session.new.free ≡ session.old.free }
         ensures ends { self.new.ends ≡ self.old.ends }
-        ensures outcome { TickSaid book.old.client n result book.old.said book.new.said }
+        ensures outcome { TickSaid session.old.client n result session.old.said session.new.said }
         ensures memory { result ≢ Err Refusal.OutOfMemory }
-        ensures in_step { InStep (λ core after. TickOutcome core book.old.client n result after)
-            self.old book.old.said self.new book.new.said }
+        ensures in_step { InStep (λ core after. TickOutcome core session.old.client n result after)
+            self.old session.old.said self.new session.new.said }
     {
-        let answer = book.ask_tick(&mut self.core, n);
-        self.board.write::<Book<K>, Told>(line, book);
+        let answer = session.book.ask_tick(&mut self.core, n);
+        self.board
+            .write::<Book<K>, Told>(&mut session.line, &session.book);
         answer
     }
 
     /// Forgets old references, and counts their pages.
-    pub(crate) fn purge(&mut self, book: &mut Book<K>, line: &mut Line) -> Result<u64, Refusal>
+    pub(crate) fn purge(&mut self, session: &mut Session<N, K>) -> Result<u64, Refusal>
         requires drained { IsDrained self.old }
-        requires client_in { book.old.client < N.parameters.clients }
-        requires room { 0 < book.old.entries }
-        requires line { IsLineOf N.ring.board line.old book.old.client book.old.said }
-        ensures owner { SameOwner book.old book.new }
-        ensures line { IsLineOf N.ring.board line.new book.new.client book.new.said }
+        requires room { 0 < session.old.room }
+        ensures client { session.new.client ≡ session.old.client }
+        ensures before { session.new.before ≡ session.old.before }
+        ensures seen { session.new.seen ≡ session.old.seen }
+        ensures free { session.new.free ≡ session.old.free }
         ensures ends { self.new.ends ≡ self.old.ends }
-        ensures outcome { PurgeSaid book.old.client result book.old.said book.new.said }
+        ensures outcome { PurgeSaid session.old.client result session.old.said session.new.said }
         ensures memory { result ≢ Err Refusal.OutOfMemory }
-        ensures in_step { InStep (λ core after. PurgeOutcome core book.old.client result after)
-            self.old book.old.said self.new book.new.said }
+        ensures in_step { InStep (λ core after. PurgeOutcome core session.old.client result after)
+            self.old session.old.said self.new session.new.said }
     {
-        let answer = book.ask_purge(&mut self.core);
-        self.board.write::<Book<K>, Told>(line, book);
+        let answer = session.book.ask_purge(&mut self.core);
+        self.board
+            .write::<Book<K>, Told>(&mut session.line, &session.book);
         answer
     }
 
     /// Reads the page of a pass of the list's client.
     pub(crate) fn read(
         &mut self,
-        book: &mut Book<K>,
-        line: &mut Line,
+        session: &mut Session<N, K>,
         pass: &Pass,
     ) -> Result<Image, Refusal>
         requires drained { IsDrained self.old }
-        requires own { pass.now.client ≡ book.old.client }
-        requires size { book.old.size ≡ N.parameters.size }
-        requires room { 0 < book.old.entries }
-        requires copies { 0 < book.old.copies }
-        requires line { IsLineOf N.ring.board line.old book.old.client book.old.said }
+        requires own { pass.now.client ≡ session.old.client }
+        requires room { 0 < session.old.room }
+        requires copies { 0 < session.old.copies }
         ensures size { IfOk result (λ image. length image ≡ N.parameters.size) }
-        ensures owner { SameOwner book.old book.new }
-        ensures line { IsLineOf N.ring.board line.new book.new.client book.new.said }
+        ensures client { session.new.client ≡ session.old.client }
+        ensures before { session.new.before ≡ session.old.before }
+        ensures seen { session.new.seen ≡ session.old.seen }
+        ensures free { session.new.free ≡ session.old.free }
         ensures ends { self.new.ends ≡ self.old.ends }
-        ensures outcome { ReadSaid book.old.client pass.now result book.old.said book.new.said }
+        ensures outcome { ReadSaid session.old.client pass.now result session.old.said session.new.said }
         ensures in_step { InStep (λ core after. ReadOutcome core pass.now result after)
-            self.old book.old.said self.new book.new.said }
+            self.old session.old.said self.new session.new.said }
     {
-        let answer = book.ask_read(&mut self.core, pass);
-        self.board.write::<Book<K>, Told>(line, book);
+        let answer = session.book.ask_read(&mut self.core, pass);
+        self.board
+            .write::<Book<K>, Told>(&mut session.line, &session.book);
         answer
     }
 
     /// Copies bytes of the page of a pass of the list's client.
     pub(crate) fn read_into(
         &mut self,
-        book: &mut Book<K>,
-        line: &mut Line,
+        session: &mut Session<N, K>,
         pass: &Pass,
         offset: u32,
         into: &mut [u8],
     ) -> Result<(), Refusal>
         requires drained { IsDrained self.old }
-        requires own { pass.now.client ≡ book.old.client }
-        requires size { book.old.size ≡ N.parameters.size }
+        requires own { pass.now.client ≡ session.old.client }
         requires fits { offset + length into.old ≤ N.parameters.size }
-        requires room { 0 < book.old.entries }
-        requires copies { 0 < book.old.copies }
-        requires line { IsLineOf N.ring.board line.old book.old.client book.old.said }
-        ensures owner { SameOwner book.old book.new }
-        ensures line { IsLineOf N.ring.board line.new book.new.client book.new.said }
+        requires room { 0 < session.old.room }
+        requires copies { 0 < session.old.copies }
+        ensures client { session.new.client ≡ session.old.client }
+        ensures before { session.new.before ≡ session.old.before }
+        ensures seen { session.new.seen ≡ session.old.seen }
+        ensures free { session.new.free ≡ session.old.free }
         ensures ends { self.new.ends ≡ self.old.ends }
-        ensures outcome { ReadIntoSaid book.old.client pass.now offset into.old result into.new
-            book.old.said book.new.said }
+        ensures outcome { ReadIntoSaid session.old.client pass.now offset into.old result into.new
+            session.old.said session.new.said }
         ensures memory { K.REFUSES ≡ false → result ≢ Err Refusal.OutOfMemory }
         ensures in_step { InStep
             (λ core after. ReadIntoOutcome core pass.now offset into.old result into.new after)
-            self.old book.old.said self.new book.new.said }
+            self.old session.old.said self.new session.new.said }
     {
-        let answer = book.ask_read_into(&mut self.core, pass, offset, into);
-        self.board.write::<Book<K>, Told>(line, book);
+        let answer = session
+            .book
+            .ask_read_into(&mut self.core, pass, offset, into);
+        self.board
+            .write::<Book<K>, Told>(&mut session.line, &session.book);
         answer
     }
 
     /// Writes to the page of a pass of the list's client.
     pub(crate) fn write(
         &mut self,
-        book: &mut Book<K>,
-        line: &mut Line,
+        session: &mut Session<N, K>,
         pass: &Pass,
         offset: u32,
         bytes: &[u8],
@@ -252,23 +249,27 @@ impl<N: PoolName, K: ListKeeper> LockedPool<N, K> {
         spare: K::SpareBytes,
     ) -> Result<(), Refusal>
         requires drained { IsDrained self.old }
-        requires own { pass.now.client ≡ book.old.client }
+        requires own { pass.now.client ≡ session.old.client }
         requires fits { offset + length bytes.now ≤ N.parameters.size }
-        requires room { 0 < book.old.entries }
+        requires room { 0 < session.old.room }
         requires spare { K.serves_bytes spare bytes.now }
-        requires line { IsLineOf N.ring.board line.old book.old.client book.old.said }
-        ensures owner { SameOwner book.old book.new }
-        ensures line { IsLineOf N.ring.board line.new book.new.client book.new.said }
+        ensures client { session.new.client ≡ session.old.client }
+        ensures before { session.new.before ≡ session.old.before }
+        ensures seen { session.new.seen ≡ session.old.seen }
+        ensures free { session.new.free ≡ session.old.free }
         ensures ends { self.new.ends ≡ self.old.ends }
-        ensures outcome { WriteSaid book.old.client pass.now offset bytes.now lsn result
-            book.old.said book.new.said }
+        ensures outcome { WriteSaid session.old.client pass.now offset bytes.now lsn result
+            session.old.said session.new.said }
         ensures memory { K.REFUSES ≡ false → result ≢ Err Refusal.OutOfMemory }
         ensures in_step { InStep
             (λ core after. WriteOutcome core pass.now offset bytes.now lsn result after)
-            self.old book.old.said self.new book.new.said }
+            self.old session.old.said self.new session.new.said }
     {
-        let answer = book.ask_write(&mut self.core, pass, offset, bytes, lsn, spare);
-        self.board.write::<Book<K>, Told>(line, book);
+        let answer = session
+            .book
+            .ask_write(&mut self.core, pass, offset, bytes, lsn, spare);
+        self.board
+            .write::<Book<K>, Told>(&mut session.line, &session.book);
         answer
     }
 }

@@ -1,11 +1,12 @@
 //! What a checkpoint asks, and what a pool counts. Each call takes the lock once, drains the rings, and adds no entry of
-//! its own. Its clause is of some legal list that tells of the client what the client's list tells; that this is the
-//! pool's list at a moment of the call is seen under the lock, where the call has the same clause of that list itself.
+//! its own. What it answers is so of the trail as the session then saw it. That is a legal list which has all that the
+//! client told so far, and no more of it, and which goes on from what the session saw before. When the session ends, the
+//! pool's trail is seen to go on from it.
 ghost use Rattle.std.specs.Prelude.{◌≡◌, ◌+◌, ◌^◌, ◌<◌, IfSome};
 ghost use Rattle.bp_trail.specs.Saved.{IsRedoFrom};
 ghost use Rattle.bp_core.specs.Counts.{AreCounts};
 ghost use Rattle.bp_core.specs.Unsaved.{FindsUnsaved};
-ghost use Rattle.bp_shared.specs.Telling.{AtAMoment};
+ghost use Rattle.bp_shared.specs.Telling.{Sees};
 
 use super::SharedPool;
 use crate::names::PoolName;
@@ -24,9 +25,8 @@ impl<N: PoolName, K: ListKeeper> SharedPool<N, K> {
         session: &mut Session<N, K>,
         from: u64,
     ) -> Option<PageNo>
-        ensures session { session.new ≡ session.old }
-        ensures found { AtAMoment N.parameters N.past session.old.client session.old.said
-            (λ past. FindsUnsaved N.parameters.pages from past result) }
+        ensures sees { Sees N.parameters N.past session.old session.new }
+        ensures found { FindsUnsaved N.parameters.pages from session.new.seen result }
         ensures few { IfSome result (λ page. page + 1 < 2 ^ 64) }
     {
         let mut state = self.lock_and_drain(rt);
@@ -40,9 +40,8 @@ impl<N: PoolName, K: ListKeeper> SharedPool<N, K> {
     /// last. A record that is in the log but not yet in its page is not seen: where another thread may be between the
     /// two, take the log's end before the call, and note the lesser.
     pub fn redo_from<R: Wait>(&self, rt: &R, session: &mut Session<N, K>) -> Option<Lsn>
-        ensures session { session.new ≡ session.old }
-        ensures least { AtAMoment N.parameters N.past session.old.client session.old.said
-            (λ past. IsRedoFrom past result) }
+        ensures sees { Sees N.parameters N.past session.old session.new }
+        ensures least { IsRedoFrom session.new.seen result }
     {
         let mut state = self.lock_and_drain(rt);
         state.redo_from(session)
@@ -50,9 +49,8 @@ impl<N: PoolName, K: ListKeeper> SharedPool<N, K> {
 
     /// What the pool counts. It costs the same however many pages there are.
     pub fn stats<R: Wait>(&self, rt: &R, session: &mut Session<N, K>) -> Stats
-        ensures session { session.new ≡ session.old }
-        ensures counts { AtAMoment N.parameters N.past session.old.client session.old.said
-            (λ past. AreCounts past result) }
+        ensures sees { Sees N.parameters N.past session.old session.new }
+        ensures counts { AreCounts session.new.seen result }
     {
         let mut state = self.lock_and_drain(rt);
         state.stats(session)

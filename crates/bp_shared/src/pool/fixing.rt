@@ -32,6 +32,7 @@ impl<N: PoolName, K: ListKeeper> SharedPool<N, K> {
         requires port { (P.geometry_of port.old).size ≡ N.parameters.size }
         ensures client { session.new.client ≡ session.old.client }
         ensures before { session.new.before ≡ session.old.before }
+        ensures seen { session.new.seen ≡ session.old.seen }
         ensures free { session.new.free ≡ session.old.free }
         ensures port { P.geometry_of port.new ≡ P.geometry_of port.old }
         ensures outcome { LoadOutcome S.gives ticket result session.old.said session.new.said
@@ -57,6 +58,7 @@ impl<N: PoolName, K: ListKeeper> SharedPool<N, K> {
         requires owes { OwesWrite session.old.client ticket session.old.said }
         ensures client { session.new.client ≡ session.old.client }
         ensures before { session.new.before ≡ session.old.before }
+        ensures seen { session.new.seen ≡ session.old.seen }
         ensures free { session.new.free ≡ session.old.free }
         ensures port { P.geometry_of port.new ≡ P.geometry_of port.old }
         ensures outcome { WriteOutOutcome P.write_gives ticket result session.old.said
@@ -83,12 +85,13 @@ impl<N: PoolName, K: ListKeeper> SharedPool<N, K> {
         requires page_in { page < N.parameters.pages }
         ensures client { session.new.client ≡ session.old.client }
         ensures before { session.new.before ≡ session.old.before }
+        ensures seen { session.new.seen ≡ session.old.seen }
         ensures free { session.new.free ≡ session.old.free }
         ensures turn { FixTurn session.old.client page result session.old.said session.new.said }
     {
         session.book.reserve_for_event()?;
         let mut state = self.lock_and_drain(rt);
-        let answer = state.fix(&self.mark, &mut session.book, &mut session.line, page);
+        let answer = state.fix(&self.mark, session, page);
         self.unlock_or_wait(rt, state, &answer);
         answer
     }
@@ -113,6 +116,7 @@ impl<N: PoolName, K: ListKeeper> SharedPool<N, K> {
         requires port { (P.geometry_of port.old).size ≡ N.parameters.size }
         ensures client { session.new.client ≡ session.old.client }
         ensures before { session.new.before ≡ session.old.before }
+        ensures seen { session.new.seen ≡ session.old.seen }
         ensures free { session.new.free ≡ session.old.free }
         ensures port { P.geometry_of port.new ≡ P.geometry_of port.old }
         ensures outcome { FixSaid session.old.client page result session.old.said session.new.said }
@@ -139,6 +143,7 @@ impl<N: PoolName, K: ListKeeper> SharedPool<N, K> {
         requires port { (P.geometry_of port.old).size ≡ N.parameters.size }
         ensures client { session.new.client ≡ session.old.client }
         ensures before { session.new.before ≡ session.old.before }
+        ensures seen { session.new.seen ≡ session.old.seen }
         ensures free { session.new.free ≡ session.old.free }
         ensures port { P.geometry_of port.new ≡ P.geometry_of port.old }
         ensures outcome { FixSaid session.old.client page result session.old.said session.new.said }
@@ -163,6 +168,7 @@ impl<N: PoolName, K: ListKeeper> SharedPool<N, K> {
         requires port { (P.geometry_of port.old).size ≡ N.parameters.size }
         ensures client { session.new.client ≡ session.old.client }
         ensures before { session.new.before ≡ session.old.before }
+        ensures seen { session.new.seen ≡ session.old.seen }
         ensures free { session.new.free ≡ session.old.free }
         ensures port { P.geometry_of port.new ≡ P.geometry_of port.old }
         ensures outcome { FixSaid session.old.client page result session.old.said session.new.said }

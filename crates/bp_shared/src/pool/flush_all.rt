@@ -33,9 +33,8 @@ impl<N: PoolName, K: ListKeeper> SharedPool<N, K> {
         ensures before { session.new.before ≡ session.old.before }
         ensures free { session.new.free ≡ session.old.free }
         ensures port { P.geometry_of port.new ≡ P.geometry_of port.old }
-        ensures outcome { FlushAllSaid
-            (record { parameters = N.parameters; start = N.past; client = session.old.client })
-            result session.old.said session.new.said }
+        ensures outcome { FlushAllSaid (record { parameters = N.parameters; start = N.past })
+            result session.old session.new }
         ensures work { ((stop : _) → result ≡ Err stop → stop.why ≡ Refusal.UnknownTicket → ⊥)
             → DoesWorkSaid P.read_gives P.write_gives session.old.said session.new.said
             port.old port.new }

@@ -1,26 +1,14 @@
 //! Flushes of shared pages, with their device work.
-ghost use Rattle.std.specs.Prelude.{◌≡◌};
-ghost use Rattle.bp_core.specs.Added.{ended_reply, flushed_reply};
 
 use super::SharedPool;
 use crate::names::PoolName;
 use crate::session::Session;
-use bp_core::{Ended, Flushed};
+use bp_core::Flushed;
 use bp_keeper::ListKeeper;
 use bp_page::{PageNo, Refusal};
 use bp_ports::Port;
 use bp_session_log::Flush;
 use std::sync::Wait;
-
-/// What a flush came to whose write-out ended so.
-fn flushed_by(ended: Ended) -> Flushed
-    ensures { flushed_reply result ≡ ended_reply ended }
-{
-    match ended {
-        Ended::Cleaned => Flushed::Cleaned,
-        Ended::StillDirty => Flushed::StillDirty,
-    }
-}
 
 impl<N: PoolName, K: ListKeeper> SharedPool<N, K> {
     ghost use Rattle.std.specs.Prelude.{◌≡◌, ◌≢◌, ◌<◌};
@@ -38,12 +26,13 @@ impl<N: PoolName, K: ListKeeper> SharedPool<N, K> {
         requires page_in { page < N.parameters.pages }
         ensures client { session.new.client ≡ session.old.client }
         ensures before { session.new.before ≡ session.old.before }
+        ensures seen { session.new.seen ≡ session.old.seen }
         ensures free { session.new.free ≡ session.old.free }
         ensures turn { FlushTurn session.old.client page result session.old.said session.new.said }
     {
         session.book.reserve_for_event()?;
         let mut state = self.lock_and_drain(rt);
-        let answer = state.flush(&self.mark, &mut session.book, &mut session.line, page);
+        let answer = state.flush(&self.mark, session, page);
         self.unlock_or_wait(rt, state, &answer);
         answer
     }
@@ -64,6 +53,7 @@ impl<N: PoolName, K: ListKeeper> SharedPool<N, K> {
         requires page_in { page < N.parameters.pages }
         ensures client { session.new.client ≡ session.old.client }
         ensures before { session.new.before ≡ session.old.before }
+        ensures seen { session.new.seen ≡ session.old.seen }
         ensures free { session.new.free ≡ session.old.free }
         ensures port { P.geometry_of port.new ≡ P.geometry_of port.old }
         ensures outcome { FlushSaid session.old.client page result
@@ -77,7 +67,7 @@ impl<N: PoolName, K: ListKeeper> SharedPool<N, K> {
                 Ok(Flush::Absent) => return Ok(Flushed::Absent),
                 Ok(Flush::WriteFirst(ticket)) => {
                     let ended = self.write_out(rt, session, port, ticket)?;
-                    return Ok(flushed_by(ended));
+                    return Ok(ended.flushed());
                 }
                 Err(refusal) => match refusal {
                     // Some device work has ended: ask again.

@@ -19,6 +19,7 @@ impl<N: PoolName, K: ListKeeper> SharedPool<N, K> {
     pub fn tick<R: Wait>(&self, rt: &R, session: &mut Session<N, K>, n: u64) -> Result<(), Refusal>
         ensures client { session.new.client ≡ session.old.client }
         ensures before { session.new.before ≡ session.old.before }
+        ensures seen { session.new.seen ≡ session.old.seen }
         ensures free { session.new.free ≡ session.old.free }
         ensures outcome { TickSaid session.old.client n result session.old.said session.new.said }
         ensures memory { K.REFUSES ≡ false → IsRoomy session.old
@@ -26,7 +27,7 @@ impl<N: PoolName, K: ListKeeper> SharedPool<N, K> {
     {
         session.book.reserve_for_event()?;
         let mut state = self.lock_and_drain(rt);
-        state.tick(&mut session.book, &mut session.line, n)
+        state.tick(session, n)
     }
 
     /// Forgets old references, and counts their pages. `OutOfMemory` and `TrailFull` change nothing. A silent session
@@ -34,6 +35,7 @@ impl<N: PoolName, K: ListKeeper> SharedPool<N, K> {
     pub fn purge<R: Wait>(&self, rt: &R, session: &mut Session<N, K>) -> Result<u64, Refusal>
         ensures client { session.new.client ≡ session.old.client }
         ensures before { session.new.before ≡ session.old.before }
+        ensures seen { session.new.seen ≡ session.old.seen }
         ensures free { session.new.free ≡ session.old.free }
         ensures outcome { PurgeSaid session.old.client result session.old.said session.new.said }
         ensures memory { K.REFUSES ≡ false → IsRoomy session.old
@@ -41,7 +43,7 @@ impl<N: PoolName, K: ListKeeper> SharedPool<N, K> {
     {
         session.book.reserve_for_event()?;
         let mut state = self.lock_and_drain(rt);
-        state.purge(&mut session.book, &mut session.line)
+        state.purge(session)
     }
 
     /// A copy of the image of a pass's page, which has the page size. `UnknownPass`, before all else, where the pass is
@@ -55,6 +57,7 @@ impl<N: PoolName, K: ListKeeper> SharedPool<N, K> {
     ) -> Result<Image, Refusal>
         ensures client { session.new.client ≡ session.old.client }
         ensures before { session.new.before ≡ session.old.before }
+        ensures seen { session.new.seen ≡ session.old.seen }
         ensures free { session.new.free ≡ session.old.free }
         ensures size { IfOk result (λ image. length image ≡ N.parameters.size) }
         ensures stranger { pass.now.client ≢ session.old.client → result ≡ Err Refusal.UnknownPass }
@@ -66,7 +69,7 @@ impl<N: PoolName, K: ListKeeper> SharedPool<N, K> {
         }
         session.book.reserve_for_event()?;
         let mut state = self.lock_and_drain(rt);
-        state.read(&mut session.book, &mut session.line, pass)
+        state.read(session, pass)
     }
 
     /// Copies so many bytes of a pass's page, from the offset on. Refused as `read` is, which leaves the bytes that were
@@ -83,6 +86,7 @@ impl<N: PoolName, K: ListKeeper> SharedPool<N, K> {
         requires fits { offset + length into.old ≤ N.parameters.size }
         ensures client { session.new.client ≡ session.old.client }
         ensures before { session.new.before ≡ session.old.before }
+        ensures seen { session.new.seen ≡ session.old.seen }
         ensures free { session.new.free ≡ session.old.free }
         ensures stranger { pass.now.client ≢ session.old.client → result ≡ Err Refusal.UnknownPass }
         ensures outcome { ReadIntoSaid session.old.client pass.now offset into.old result into.new
@@ -95,7 +99,7 @@ impl<N: PoolName, K: ListKeeper> SharedPool<N, K> {
         }
         session.book.reserve_for_event()?;
         let mut state = self.lock_and_drain(rt);
-        state.read_into(&mut session.book, &mut session.line, pass, offset, into)
+        state.read_into(session, pass, offset, into)
     }
 
     /// Puts bytes into a pass's page, from the offset on, and raises the page LSN to `lsn` if that is greater. Refusals
@@ -112,6 +116,7 @@ impl<N: PoolName, K: ListKeeper> SharedPool<N, K> {
         requires fits { offset + length bytes.now ≤ N.parameters.size }
         ensures client { session.new.client ≡ session.old.client }
         ensures before { session.new.before ≡ session.old.before }
+        ensures seen { session.new.seen ≡ session.old.seen }
         ensures free { session.new.free ≡ session.old.free }
         ensures stranger { pass.now.client ≢ session.old.client → result ≡ Err Refusal.UnknownPass }
         ensures outcome { WriteSaid session.old.client pass.now offset bytes.now lsn result
@@ -136,6 +141,7 @@ impl<N: PoolName, K: ListKeeper> SharedPool<N, K> {
         requires fits { offset + length bytes.now ≤ N.parameters.size }
         ensures client { session.new.client ≡ session.old.client }
         ensures before { session.new.before ≡ session.old.before }
+        ensures seen { session.new.seen ≡ session.old.seen }
         ensures free { session.new.free ≡ session.old.free }
         ensures stranger { pass.now.client ≢ session.old.client → result ≡ Err Refusal.UnknownPass }
         ensures outcome { WriteSaid session.old.client pass.now offset bytes.now lsn result
@@ -149,14 +155,6 @@ impl<N: PoolName, K: ListKeeper> SharedPool<N, K> {
         let spare = K::spare_bytes(self.alloc, bytes)?;
         session.book.reserve_for_event()?;
         let mut state = self.lock_and_drain(rt);
-        state.write(
-            &mut session.book,
-            &mut session.line,
-            pass,
-            offset,
-            bytes,
-            lsn,
-            spare,
-        )
+        state.write(session, pass, offset, bytes, lsn, spare)
     }
 }

@@ -16,8 +16,10 @@ loop-client-init g c = record {
   sessions = c.new-sessions.ensures.items;
   rings = search rules;
   board = c.requires.board;
-  lines = ap length c.requires.empty;
-  blank = subst IsBlank (sym c.requires.empty) (λ _. refl);
+  lines = ap length c.requires.empty.0;
+  blank = subst IsBlank (sym c.requires.empty.0) (λ _. refl);
+  seen = c.requires.seen;
+  unseen = subst IsBlank (sym c.requires.empty.1) (λ _. refl);
 }
 
 pub new-session-requires-clause-unused : goal.new-session-requires-clause-unused
@@ -34,22 +36,24 @@ new-session-requires-clause-ring g c =
 
 pub new-session-requires-clause-line : goal.new-session-requires-clause-line
 new-session-requires-clause-line g c = record {
-  board_is = c.line.ensures.name_is ∙ c.loop-client.invariant.board;
-  number_is = c.line.ensures.number_is ∙ c.loop-client.invariant.lines;
-  list_is = c.line.ensures.empty;
+  board_is = c.line-line.ensures.name_is ∙ c.loop-client.invariant.board;
+  number_is = c.line-line.ensures.number_is ∙ c.loop-client.invariant.lines;
+  list_is = c.line-line.ensures.empty;
 }
 
 pub loop-client-preserved : goal.loop-client-preserved
 loop-client-preserved g c =
     let i = c.loop-client.invariant in
-    let more = c.line.ensures in
-    let counted : length c.line.new.self.lists ≡ length c.loop-client.board.lists + 1 = ap length more.lists ∙ length-append c.loop-client.board.lists ([] ∷ []) in
+    let more = c.line-line.ensures in
+    let counted : length c.line-line.new.self.lists ≡ length c.loop-client.board.lists + 1 = ap length more.lists ∙ length-append c.loop-client.board.lists ([] ∷ []) in
     record {
-      sessions = sessions_more c.loop-client.client _ _ _ c.new-session.result i.sessions (search rules) c.new-session.ensures.client c.new-session.ensures.before c.new-session.ensures.said c.new-session.ensures.free c.new-session.ensures.room c.new-session.ensures.passes c.new-session.ensures.places c.new-session.ensures.kept (add-one c.loop-client.client);
+      sessions = sessions_more c.loop-client.client _ _ _ c.new-session.result i.sessions (search rules) c.new-session.ensures.client c.new-session.ensures.before c.new-session.ensures.said c.new-session.ensures.seen c.new-session.ensures.free c.new-session.ensures.room c.new-session.ensures.passes c.new-session.ensures.copies c.new-session.ensures.places c.new-session.ensures.kept (add-one c.loop-client.client);
       rings = ap (drop 1) (sym c.in-Some.ensures.items ∙ i.rings ∙ drop_more c.args.producers.items c.loop-client.client c.in-Some.producer (omega (arith, c.loop-client-test.true, c.requires.count)));
       board = more.name ∙ i.board;
       lines = omega (arith, counted, i.lines);
       blank = subst IsBlank (sym more.lists) (blank_more _ i.blank);
+      seen = c.line-seen.ensures.name ∙ i.seen;
+      unseen = subst IsBlank (sym c.line-seen.ensures.lists) (blank_more _ i.unseen);
     }
 
 pub returns-clause-sessions : goal.returns-clause-sessions

@@ -1,4 +1,4 @@
--- So many sessions were made, each with a line of the board, and the rings of the others are left.
+-- So many sessions were made, each with a line of both boards, and the rings of the others are left.
 use Rattle.std.proofs.Common.{◌≡◌, length, drop}
 use Rattle.std.specs.Vec.Iter.{into_iter_items}
 use Rattle.bp_shared.specs.Sessions.{new_sessions}
@@ -12,4 +12,6 @@ invariant-loop-client g l = record {
   board : l.board.name ≡ g.N.PoolName.ring.board;
   lines : length l.board.lists ≡ l.client;
   blank : IsBlank l.board.lists;
+  seen : l.seen.name ≡ g.N.PoolName.ring.seen;
+  unseen : IsBlank l.seen.lists;
 }

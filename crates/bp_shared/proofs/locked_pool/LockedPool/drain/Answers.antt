@@ -1,6 +1,6 @@
 -- Rings drained, of which the board shows nothing.
 use Rattle.std.proofs.Common.{rules}
-use Rattle.bp_shared.proofs.Telling.{drained_unfixes, shown_drained}
+use Rattle.bp_shared.proofs.Telling.{drained_unfixes, earlier_drained, shown_drained}
 use Rattle.bp_shared.proofs.Posting.{posted_drained}
 use Rattle.bp_shared.proofs.locked_pool.LockedPool.drain.Goals as goal
 
@@ -11,4 +11,5 @@ invariant_of-self g c = (
   shown_drained _ _ _ _ _ c.self.invariant.2 (drained_unfixes 32 0 _ _ _ _ c.drain_all.ensures.drained),
   posted_drained _ _ 32 _ _ _ _ c.self.invariant.3 c.drain_all.ensures.drained,
   c.self.invariant.4,
+  earlier_drained _ _ _ _ c.self.invariant.5 (drained_unfixes 32 0 _ _ _ _ c.drain_all.ensures.drained),
 )

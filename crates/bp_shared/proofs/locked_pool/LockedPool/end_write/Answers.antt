@@ -1,7 +1,7 @@
 -- One event, which the board shows.
 use Rattle.std.proofs.Common.{rules, refl}
 use Rattle.bp_shared.proofs.Stepping.{step_one}
-use Rattle.bp_shared.proofs.Telling.{adds_one, end_write_one, shown_more}
+use Rattle.bp_shared.proofs.Telling.{adds_one, end_write_one, earlier_adds, shown_more}
 use Rattle.bp_shared.proofs.Posting.{posted_adds}
 use Rattle.bp_shared.proofs.locked_pool.LockedPool.end_write.Goals as goal
 
@@ -14,6 +14,7 @@ invariant_of-self g c =
       shown_more _ _ c.session.inside.book.client _ _ _ _ _ _ _ _ c.self.invariant.2 c.session.invariant.3 adds c.write.ensures,
       posted_adds _ _ _ c.session.inside.book.client _ _ _ _ c.self.invariant.3 adds done.owner.unfixes_are,
       c.self.invariant.4,
+      earlier_adds _ _ _ _ _ _ _ c.self.invariant.5 adds,
     )
 
 pub returns-clause-in_step : goal.returns-clause-in_step

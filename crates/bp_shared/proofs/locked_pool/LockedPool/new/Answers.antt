@@ -10,4 +10,5 @@ invariant_of-result g c = (
   c.requires.shown,
   posted_none _ _ _ _ (views_name _ ∙ c.requires.rings) (views_empty _ c.requires.empty) c.requires.begins,
   c.requires.count,
+  c.requires.earlier,
 )

@@ -5,7 +5,7 @@ use Rattle.bp_session_log.specs.Rings.{RingName, RingView, ring_view}
 use Rattle.bp_shared.specs.Posting.{IsPosted}
 use Rattle.bp_shared.proofs.Posting.{meets}
 use Rattle.bp_shared.proofs.Waiting.{settles}
-use Rattle.bp_shared.proofs.Telling.{shown_drained, went_back}
+use Rattle.bp_shared.proofs.Telling.{earlier_drained, shown_drained, went_back}
 use Rattle.bp_shared.proofs.locked_pool.LockedPool.take_back_posted.Goals as goal
 
 pub slots_beside-waiting-requires : goal.slots_beside-waiting-requires
@@ -27,6 +27,7 @@ invariant_of-self g c =
       shown_drained _ _ _ _ _ c.self.invariant.2 (went_back _ _ drained.taken _ drained.go_back),
       subst (λ vs. IsPosted g.N.PoolName.ring.rings g.N.PoolName.past vs c.drain_known.new.core.past) (sym (map-set ring_view c.self.inside.consumers.items c.from-client.result c.drain_known.new.consumer)) all.posted,
       c.self.invariant.4,
+      earlier_drained _ _ _ _ c.self.invariant.5 (went_back _ _ drained.taken _ drained.go_back),
     )
 
 pub returns-clause-takes : goal.returns-clause-takes

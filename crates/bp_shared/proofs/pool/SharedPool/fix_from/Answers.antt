@@ -7,7 +7,7 @@ use Rattle.bp_shared.proofs.Working.{none-yet, fix-turn-work, load-work, write-w
 use Rattle.bp_shared.proofs.pool.SharedPool.fix_from.Goals as goal
 
 pub loop-init : goal.loop-init
-loop-init g c = record { client = refl; before = refl; free = refl; port = refl; waits = waits_none _ _ _; work = none-yet _ _ _ _ }
+loop-init g c = record { client = refl; before = refl; seen = refl; free = refl; port = refl; waits = waits_none _ _ _; work = none-yet _ _ _ _ }
 
 pub returns-in-Ok-Hit-clause-outcome : goal.returns-in-Ok-Hit-clause-outcome
 returns-in-Ok-Hit-clause-outcome g c =
@@ -29,6 +29,7 @@ loop-preserved-in_ok-write_out-in-Ok-WriteFirst g c =
     record {
       client = c.write_out.ensures.client ∙ c.ask_fix.ensures.client ∙ i.client;
       before = c.write_out.ensures.before ∙ c.ask_fix.ensures.before ∙ i.before;
+      seen = c.write_out.ensures.seen ∙ c.ask_fix.ensures.seen ∙ i.seen;
       free = c.write_out.ensures.free ∙ c.ask_fix.ensures.free ∙ i.free;
       port = c.write_out.ensures.port ∙ i.port;
       waits = written_waits _ _ _ _ _ c.in-Ok-WriteFirst.ticket _ _ _ _ (turn_more _ _ _ _ _ _ i.waits t) o;
@@ -47,13 +48,13 @@ pub loop-preserved : goal.loop-preserved
 loop-preserved g c =
     let i = c.loop.invariant in
     let t = rw (c.in-Busy.is, i.client) at c.in-Err.ensures.turn in
-    record { client = c.ask_fix.ensures.client ∙ i.client; before = c.ask_fix.ensures.before ∙ i.before; free = c.ask_fix.ensures.free ∙ i.free; port = i.port; waits = busy_waits _ _ _ _ (turn_more _ _ _ _ _ _ i.waits t); work = fix-turn-work _ _ _ _ _ _ _ _ _ _ i.work t }
+    record { client = c.ask_fix.ensures.client ∙ i.client; before = c.ask_fix.ensures.before ∙ i.before; seen = c.ask_fix.ensures.seen ∙ i.seen; free = c.ask_fix.ensures.free ∙ i.free; port = i.port; waits = busy_waits _ _ _ _ (turn_more _ _ _ _ _ _ i.waits t); work = fix-turn-work _ _ _ _ _ _ _ _ _ _ i.work t }
 
 pub returns-in_default : goal.returns-in_default
 returns-in_default g c =
     let i = c.loop.invariant in
     let t = rw i.client at c.in-Err.ensures.turn in
-    record { client = c.ask_fix.ensures.client ∙ i.client; before = c.ask_fix.ensures.before ∙ i.before; free = c.ask_fix.ensures.free ∙ i.free; port = i.port; outcome = refused_said _ _ c.in-Err.refusal _ _ c.in_default.not-Busy (turn_more _ _ _ _ _ _ i.waits t); work = λ known. fix-turn-work _ _ _ _ _ _ _ _ _ _ i.work t }
+    record { client = c.ask_fix.ensures.client ∙ i.client; before = c.ask_fix.ensures.before ∙ i.before; seen = c.ask_fix.ensures.seen ∙ i.seen; free = c.ask_fix.ensures.free ∙ i.free; port = i.port; outcome = refused_said _ _ c.in-Err.refusal _ _ c.in_default.not-Busy (turn_more _ _ _ _ _ _ i.waits t); work = λ known. fix-turn-work _ _ _ _ _ _ _ _ _ _ i.work t }
 
 pub returns-in-Ok-Hit-clause-work : goal.returns-in-Ok-Hit-clause-work
 returns-in-Ok-Hit-clause-work g c =

@@ -7,7 +7,7 @@ use Rattle.bp_shared.proofs.Working.{none-yet, flush-turn-work, write-work, bega
 use Rattle.bp_shared.proofs.pool.SharedPool.flush.Goals as goal
 
 pub loop-init : goal.loop-init
-loop-init g c = record { client = refl; before = refl; free = refl; port = refl; waits = flush_waits_none _ _ _; work = none-yet _ _ _ _ }
+loop-init g c = record { client = refl; before = refl; seen = refl; free = refl; port = refl; waits = flush_waits_none _ _ _; work = none-yet _ _ _ _ }
 
 pub returns-in-Ok-Clean-clause-outcome : goal.returns-in-Ok-Clean-clause-outcome
 returns-in-Ok-Clean-clause-outcome g c =
@@ -26,7 +26,7 @@ returns-in-Ok-WriteFirst-clause-outcome g c =
     let i = c.loop.invariant in
     let t = rw (c.in-Ok-WriteFirst.field-0-is, i.client) at c.in-Ok-WriteFirst.ensures.turn in
     let o = rw c.in-Ok-WriteFirst.ticket-is at c.in_ok-ended-in-Ok-WriteFirst.ensures.outcome in
-    flushed_said _ _ _ _ _ c.in-Ok-WriteFirst.ticket c.in_ok-ended-in-Ok-WriteFirst.ended c.flushed_by.result _ _ _ (flush_turn_more _ _ _ _ _ _ i.waits t) c.flushed_by.ensures o
+    flushed_said _ _ _ _ _ c.in-Ok-WriteFirst.ticket c.in_ok-ended-in-Ok-WriteFirst.ended c.flushed.result _ _ _ (flush_turn_more _ _ _ _ _ _ i.waits t) c.flushed.ensures o
 
 pub returns-in_err-ended-in-Ok-WriteFirst-clause-outcome : goal.returns-in_err-ended-in-Ok-WriteFirst-clause-outcome
 returns-in_err-ended-in-Ok-WriteFirst-clause-outcome g c =
@@ -41,13 +41,13 @@ pub loop-preserved : goal.loop-preserved
 loop-preserved g c =
     let i = c.loop.invariant in
     let t = rw (c.in-Busy.is, i.client) at c.in-Err.ensures.turn in
-    record { client = c.ask_flush.ensures.client ∙ i.client; before = c.ask_flush.ensures.before ∙ i.before; free = c.ask_flush.ensures.free ∙ i.free; port = i.port; waits = flush_busy_waits _ _ _ _ (flush_turn_more _ _ _ _ _ _ i.waits t); work = flush-turn-work _ _ _ _ _ _ _ _ _ _ i.work t }
+    record { client = c.ask_flush.ensures.client ∙ i.client; before = c.ask_flush.ensures.before ∙ i.before; seen = c.ask_flush.ensures.seen ∙ i.seen; free = c.ask_flush.ensures.free ∙ i.free; port = i.port; waits = flush_busy_waits _ _ _ _ (flush_turn_more _ _ _ _ _ _ i.waits t); work = flush-turn-work _ _ _ _ _ _ _ _ _ _ i.work t }
 
 pub returns-in_default : goal.returns-in_default
 returns-in_default g c =
     let i = c.loop.invariant in
     let t = rw i.client at c.in-Err.ensures.turn in
-    record { client = c.ask_flush.ensures.client ∙ i.client; before = c.ask_flush.ensures.before ∙ i.before; free = c.ask_flush.ensures.free ∙ i.free; port = i.port; outcome = flush_refused_said _ _ c.in-Err.refusal _ _ c.in_default.not-Busy (flush_turn_more _ _ _ _ _ _ i.waits t); work = λ known. flush-turn-work _ _ _ _ _ _ _ _ _ _ i.work t }
+    record { client = c.ask_flush.ensures.client ∙ i.client; before = c.ask_flush.ensures.before ∙ i.before; seen = c.ask_flush.ensures.seen ∙ i.seen; free = c.ask_flush.ensures.free ∙ i.free; port = i.port; outcome = flush_refused_said _ _ c.in-Err.refusal _ _ c.in_default.not-Busy (flush_turn_more _ _ _ _ _ _ i.waits t); work = λ known. flush-turn-work _ _ _ _ _ _ _ _ _ _ i.work t }
 
 pub returns-in-Ok-Clean-clause-work : goal.returns-in-Ok-Clean-clause-work
 returns-in-Ok-Clean-clause-work g c =

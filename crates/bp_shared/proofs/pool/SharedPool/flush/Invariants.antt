@@ -9,6 +9,7 @@ invariant-loop g l =
     record {
       client : l.session.client ≡ l.initial.session.client;
       before : l.session.before ≡ l.initial.session.before;
+      seen : l.session.seen ≡ l.initial.session.seen;
       free : l.session.free ≡ l.initial.session.free;
       port : g.P.Port.geometry_of l.port ≡ g.P.Port.geometry_of l.initial.port;
       waits : FlushWaits l.initial.session.client l.page l.initial.session.said l.session.said;

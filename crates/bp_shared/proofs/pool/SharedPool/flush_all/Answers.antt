@@ -13,19 +13,19 @@ overflow_add-from g c = let few = c.in-Some.ensures.few in omega (arith, few, c.
 pub loop-page-preserved : goal.loop-page-preserved
 loop-page-preserved g c =
     let i = c.loop-page.invariant in
-    let f = rw (c.in-Some.ensures.session, i.client) at c.in-Ok.ensures in
-    let found = rw i.client at c.in-Some.ensures.found in
+    let s = c.in-Some.ensures.sees.same in
+    let f = c.in-Ok.ensures in
     record {
-      client = f.client;
-      before = f.before ∙ i.before;
-      free = f.free ∙ i.free;
+      client = f.client ∙ ap (λ s. s.client) s ∙ i.client;
+      before = f.before ∙ ap (λ s. s.before) s ∙ i.before;
+      free = f.free ∙ ap (λ s. s.free) s ∙ i.free;
       port = f.port ∙ i.port;
-      flushed = rw c.number-from.ensures (page c.in-Some.page c.in-Ok.field-0 i.flushed found f.outcome);
-      work = work-on _ _ _ _ _ _ _ _ i.work (f.work (λ unknown. absurd (let no = unknown in cc)));
+      flushed = rw c.number-from.ensures (page c.in-Some.page c.in-Ok.field-0 _ i.flushed (record { sees = c.in-Some.ensures.sees; found = c.in-Some.ensures.found }) (record { client = f.client; seen = f.seen; said = f.outcome }));
+      work = work-on _ _ _ _ _ _ _ _ i.work (rw (ap (λ s. s.said) s) at (f.work (λ unknown. absurd (let no = unknown in cc))));
     }
 
 pub returns-in-Err-clause-work : goal.returns-in-Err-clause-work
 returns-in-Err-clause-work g c = λ known.
     let i = c.loop-page.invariant in
-    let f = rw c.in-Some.ensures.session at c.in-Err.ensures in
-    work-on _ _ _ _ _ _ _ _ i.work (f.work (λ unknown. known _ refl (ap why-of unknown)))
+    let f = c.in-Err.ensures in
+    work-on _ _ _ _ _ _ _ _ i.work (rw (ap (λ s. s.said) c.in-Some.ensures.sees.same) at (f.work (λ unknown. known _ refl (ap why-of unknown))))

@@ -11,7 +11,7 @@ invariant-loop-page g l =
       before : l.session.before ≡ l.initial.session.before;
       free : l.session.free ≡ l.initial.session.free;
       port : g.P.Port.geometry_of l.port ≡ g.P.Port.geometry_of l.initial.port;
-      flushed : FlushesEach (record { parameters = g.N.PoolName.parameters; start = g.N.PoolName.past; client = l.initial.session.client }) l.initial.session.said l.from l.session.said;
+      flushed : FlushesEach (record { parameters = g.N.PoolName.parameters; start = g.N.PoolName.past }) l.initial.session l.from l.session;
       work : DoesWorkSaid g.P.Port.read_gives g.P.Port.write_gives l.initial.session.said l.session.said l.initial.port l.port;
     }
 

@@ -3,7 +3,7 @@ use Rattle.std.proofs.Common.{refl, sym, ap, ◌∙◌, [], ◌∷◌, length, l
 use Rattle.rtrb.specs.Ring.{received}
 use Rattle.bp_shared.specs.Taking.{after_pieces}
 use Rattle.bp_shared.proofs.Taking.{one_more, handed_out, comes_next, still_locked}
-use Rattle.bp_shared.proofs.Telling.{shown_cut}
+use Rattle.bp_shared.proofs.Telling.{earlier_cut, shown_cut}
 use Rattle.bp_shared.proofs.Posting.{posted_cut}
 use Rattle.bp_shared.proofs.locked_pool.cut_section.LockedPool+N+RecordingKeeper.cut.Goals as goal
 
@@ -16,6 +16,7 @@ invariant_of-self-2 g c =
       shown_cut _ _ _ c.self.inside.core c.cut_into.new.self _ c.self.invariant.2 cut,
       posted_cut _ _ _ c.self.inside.core c.cut_into.new.self _ c.self.invariant.3 cut,
       c.self.invariant.4,
+      earlier_cut _ _ c.self.inside.core c.cut_into.new.self _ c.self.invariant.5 cut,
     )
 
 pub returns-clause-done : goal.returns-clause-done

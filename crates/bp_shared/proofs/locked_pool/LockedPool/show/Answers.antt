@@ -1,0 +1,24 @@
+-- Both lines of the session are written: with what it told, and with the trail.
+use Rattle.std.proofs.Common.{refl}
+use Rattle.bp_shared.proofs.Telling.{shown_again, told_by, line_earlier, earlier_seen}
+use Rattle.bp_shared.proofs.locked_pool.LockedPool.show.Goals as goal
+
+pub invariant_of-self : goal.invariant_of-self
+invariant_of-self g c = (
+  c.self.invariant.0,
+  c.self.invariant.1,
+  shown_again _ _ _ _ _ _ _ _ _ c.self.invariant.2 c.session.invariant.3 c.write.ensures,
+  c.self.invariant.3,
+  c.self.invariant.4,
+  earlier_seen _ _ _ _ _ _ c.self.invariant.5 c.write-2.ensures,
+)
+
+pub returns-clause-sees : goal.returns-clause-sees
+returns-clause-sees g c =
+    let legal = rw c.self.invariant.0.parameters_are at c.keeps_the_rules.ensures.legal in
+    rw (← c.session.view_is) (rw c.write-2.ensures.list_is (record {
+      same = refl;
+      legal = legal;
+      told_is = told_by _ _ _ _ _ _ _ _ _ _ c.self.invariant.2 c.session.invariant.3 c.write.ensures;
+      goes_on = line_earlier _ _ _ _ _ _ _ c.self.invariant.5 c.write-2.ensures;
+    }))
