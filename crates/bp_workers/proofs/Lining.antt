@@ -1,5 +1,5 @@
 -- Lists side by side: workers, their jobs and what these leave.
-use Rattle.std.proofs.Common.{◌≡◌, refl, sym, ◌∙◌, ap, subst, ℕ, zero, suc, ◌+◌, ◌<◌, ◌≤◌, true, false, arith, List, [], ◌∷◌, ◌++◌, All, length, take, drop, get_or, Option, Some, None}
+use Rattle.std.proofs.Common.{◌≡◌, refl, sym, ◌∙◌, ap, subst, ℕ, zero, suc, ◌+◌, ◌<◌, ◌≤◌, true, false, arith, List, [], ◌∷◌, ◌++◌, All, length, get_or, Option, Some, None}
 use Rattle.std.specs.Prelude.{IsSome, is_some, zip}
 use Rattle.std.proofs.lemmas.List.{append_assoc, append-nil}
 use Rattle.std.proofs.lemmas.List.Elements.{All-nil, All-cons}
@@ -7,11 +7,11 @@ use Rattle.bp_page.specs.declared.limits.Geometry.{Geometry}
 use Rattle.bp_trail.specs.Parameters.{Parameters}
 use Rattle.bp_trail.specs.Script.{held_passes}
 use Rattle.bp_trail.specs.Trail.{Trail}
-use Rattle.bp_audit.specs.Clients.{of_client}
+use Rattle.bp_trail.specs.Clients.{of_client}
 use Rattle.bp_core.specs.CoreView.{CoreView}
 use Rattle.bp_shared.specs.Sessions.{SessionValue, new_session, new_sessions}
-use Rattle.bp_shared.specs.Telling.{told}
-use Rattle.bp_shared.proofs.Telling.{told_whole, told_taken_back}
+use Rattle.bp_shared.specs.Telling.{told, GoesOnFrom}
+use Rattle.bp_shared.proofs.Telling.{told_whole, told_taken_back, goes_on_taken}
 use Rattle.bp_session_log.specs.Books.{unfixes}
 use Rattle.bp_shared.specs.Posting.{unfixed, TakesBack}
 use Rattle.bp_shared.proofs.Posting.{unfixed_whole, unfixed_still}
@@ -154,6 +154,7 @@ left_still p geometry_of start c client old new j left below b is = record {
     client = is.left_is.client;
     before = is.left_is.before;
     said = is.left_is.said;
+    saw = goes_on_taken c j.session.seen old new is.left_is.saw b;
     held = is.left_is.held;
     all_back = is.left_is.all_back;
     theirs = told_taken_back start c left.book.client old new left.book.said is.left_is.theirs b;
@@ -224,6 +225,7 @@ left_by p geometry_of core Leaves client given old new left is ran leaves same k
       back = subst (GoBack ran.returned.said) (sym leaves.said) ran.back;
       all_back = (λ yes. ap held_passes leaves.said ∙ ran.all_back.0 (sym leaves.all_back ∙ yes), λ none. leaves.all_back ∙ ran.all_back.1 (sym (ap held_passes leaves.said) ∙ none));
       cut = leaves.before ∙ ran.before;
+      saw = subst (λ l. GoesOnFrom l core.past) ran.seen leaves.saw;
       theirs = subst (λ c. of_client c (told core.past) ≡ told left.book.said) whose (told_whole core.past left.book.client left.book.said leaves.theirs);
       posted = subst (λ c. unfixed c core.past ≡ unfixes left.book.said) whose (unfixed_whole core.past left.book.client (unfixes left.book.said) leaves.posted);
     }
@@ -248,16 +250,3 @@ pub all_left_by : {W P K I B S : Type 0} (p : Parameters) (geometry_of : P → G
     → first_upkeep news ≡ Some u → KeepsUp core 0 (Some u) → SideBySide (LeftBy core geometry_of Leaves) 0 given lefts
 all_left_by p geometry_of core Leaves u given olds news lefts new len ran left same first keeps =
     each_left p geometry_of core Leaves 0 given olds news lefts new len ran left same (λ _ _. subst (KeepsUp core 0) (sym first) keeps)
-
--- a slice that is written back to the vector that lent it
-pub lent_back : {J : Type 0} (n : ℕ) (new old : List J) → length new ≡ n → take n (new ++ drop (length new) old) ≡ new
-lent_back zero [] old len = refl
-lent_back (suc n) [] old len = absurd (omega arith)
-lent_back zero (x ∷ new) old len = absurd (omega arith)
-lent_back (suc n) (x ∷ new) old len = ap (λ xs. x ∷ xs) (taken n new (drop (suc (length new)) old) (omega arith))
-  where
-    taken : {J : Type 0} (n : ℕ) (xs ys : List J) → length xs ≡ n → take n (xs ++ ys) ≡ xs
-    taken zero [] ys len = refl
-    taken (suc n) [] ys len = absurd (omega arith)
-    taken zero (x ∷ xs) ys len = absurd (omega arith)
-    taken (suc n) (x ∷ xs) ys len = ap (λ zs. x ∷ zs) (taken n xs ys (omega arith))

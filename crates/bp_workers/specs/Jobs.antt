@@ -7,7 +7,7 @@ use Rattle.bp_trail.specs.Trail.{Trail}
 use Rattle.bp_shared.specs.Sessions.{SessionValue, new_session}
 use Rattle.bp_session_log.specs.Books.{unfixes}
 use Rattle.bp_shared.specs.Posting.{IsUnfixedBy}
-use Rattle.bp_shared.specs.Telling.{IsToldBy}
+use Rattle.bp_shared.specs.Telling.{GoesOnFrom, IsToldBy}
 use Rattle.bp_workers.specs.declared.worker.Left.{Left}
 use Rattle.bp_workers.specs.Giving.{GoBack}
 use Rattle.bp_workers.specs.Workers.{UpkeepValue, new_upkeep, Leaving}
@@ -38,6 +38,7 @@ pub record Ran {W P : Type 0} (Leaves : Leaving W P) (old new : JobValue W P) : 
   pub whose : new.session.client ≡ old.session.client
   pub client : new.session.client ≡ returned.client
   pub before : new.session.before ≡ returned.before
+  pub seen : new.session.seen ≡ returned.seen
   pub held : new.held ≡ length (held_passes returned.said)
   pub back : GoBack returned.said new.session.said
   pub all_back : (new.all_went_back ≡ true) ↔ (held_passes new.session.said ≡ [])
@@ -45,7 +46,8 @@ pub record Ran {W P : Type 0} (Leaves : Leaving W P) (old new : JobValue W P) : 
 
 -- what it leaves: the worker, its port, which is one to the pool's pages, and the session's own
 -- list, with what cuts handed out of that; the list told what the trail tells of the client, since
--- the pool was made, and the client gave back in the trail what its list gave back
+-- the pool was made, and the client gave back in the trail what its list gave back; and the trail
+-- goes on from what the session saw of it
 pub record IsLeftOf {P W K I B S : Type 0} (p : Parameters) (geometry_of : P → Geometry)
     (start past : Trail) (j : JobValue W P) (left : Left P W K I B S) : Type 0 where
   pub worker : left.worker ≡ j.worker
@@ -54,6 +56,7 @@ pub record IsLeftOf {P W K I B S : Type 0} (p : Parameters) (geometry_of : P →
   pub client : left.book.client ≡ j.session.client
   pub before : left.book.before ≡ j.session.before
   pub said : left.book.said ≡ j.session.said
+  pub saw : GoesOnFrom j.session.seen past
   pub held : left.held ≡ j.held
   pub all_back : left.all_went_back ≡ j.all_went_back
   pub theirs : IsToldBy start past left.book.client left.book.said

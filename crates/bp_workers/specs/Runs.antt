@@ -5,13 +5,13 @@ use Rattle.bp_page.specs.declared.refusals.Refusal.{Refusal}
 use Rattle.bp_page.specs.declared.refusals.Refusal.TheVariants as refusal
 use Rattle.bp_trail.specs.Clock.{durable}
 use Rattle.bp_trail.specs.Script.{held_passes}
-use Rattle.bp_audit.specs.Clients.{of_client}
+use Rattle.bp_trail.specs.Clients.{of_client}
 use Rattle.bp_core.specs.CoreView.{CoreView}
 use Rattle.bp_core.specs.Outcomes.{IsFitUpTo}
 use Rattle.bp_shared.specs.Sessions.{SessionValue, new_session}
 use Rattle.bp_session_log.specs.Books.{unfixes}
 use Rattle.bp_shared.specs.Posting.{unfixed}
-use Rattle.bp_shared.specs.Telling.{told}
+use Rattle.bp_shared.specs.Telling.{told, GoesOnFrom}
 use Rattle.bp_core.specs.declared.config.Config.{Config}
 use Rattle.bp_core.specs.Agreement.{parameters_with}
 use Rattle.bp_workers.specs.declared.worker.Left.{Left}
@@ -56,7 +56,8 @@ KeepsUp core (suc client) (Some u) = ⊥
 -- what client 0's upkeep came to; the port is still one to the pool's pages; the book is the
 -- client's. Then the passes go back that it held, and the session's list is handed over, less what
 -- was cut. Except for unfixes it is what the core's trail tells of the client; and the client gave
--- back in the trail the passes that its list gave back: all of them, in that order, and no other
+-- back in the trail the passes that its list gave back: all of them, in that order, and no other.
+-- What the session saw of the trail is the older part of the core's
 pub record LeftBy {P W K I B S : Type 0} (core : CoreView) (geometry_of : P → Geometry)
     (Leaves : Leaving W P)
     (client : ℕ) (given : W × P) (left : Left P W K I B S) : Type 0 where
@@ -71,6 +72,7 @@ pub record LeftBy {P W K I B S : Type 0} (core : CoreView) (geometry_of : P → 
   pub back : GoBack returned.said left.book.said
   pub all_back : (left.all_went_back ≡ true) ↔ (held_passes left.book.said ≡ [])
   pub cut : left.book.before ≡ returned.before
+  pub saw : GoesOnFrom returned.seen core.past
   pub theirs : of_client client (told core.past) ≡ told left.book.said
   pub posted : unfixed client core.past ≡ unfixes left.book.said
 

@@ -46,6 +46,7 @@ pub trait Asked<N: PoolName, K: ListKeeper> {
         requires port { (P.geometry_of port.old).size ≡ N.parameters.size }
         ensures client { session.new.client ≡ session.old.client }
         ensures before { session.new.before ≡ session.old.before }
+        ensures seen { session.new.seen ≡ session.old.seen }
         ensures free { session.new.free ≡ session.old.free }
         ensures port { P.geometry_of port.new ≡ P.geometry_of port.old }
         ensures gives { fixes session.old.client page result session.old.said session.new.said }
@@ -56,6 +57,7 @@ pub trait Asked<N: PoolName, K: ListKeeper> {
     fn ask_tick<R: Wait>(&self, rt: &R, session: &mut Session<N, K>, n: u64) -> Result<(), Refusal>
         ensures client { session.new.client ≡ session.old.client }
         ensures before { session.new.before ≡ session.old.before }
+        ensures seen { session.new.seen ≡ session.old.seen }
         ensures free { session.new.free ≡ session.old.free }
         ensures gives { ticks session.old.client n result session.old.said session.new.said }
         ensures outcome { TickSaid session.old.client n result session.old.said session.new.said };
@@ -203,6 +205,7 @@ fn overcome<N: PoolName, K: ListKeeper, A: Asked<N, K>, L: DurableLog<N>, R: Wai
 ) -> Result<(), Refusal>
     ensures client { session.new.client ≡ session.old.client }
     ensures before { session.new.before ≡ session.old.before }
+    ensures seen { session.new.seen ≡ session.old.seen }
     ensures free { session.new.free ≡ session.old.free }
     ensures lent { L.lent log.new ≡ L.lent log.old }
     ensures raises { RaisesWithin (L.durable_to log.old) (L.raised_to log.old)
@@ -256,6 +259,7 @@ pub fn fix_durably<N: PoolName, P: Port, K: ListKeeper, A: Asked<N, K>, L: Durab
     requires page_in { page < N.parameters.pages }
     ensures client { client.new.session.client ≡ client.old.session.client }
     ensures before { client.new.session.before ≡ client.old.session.before }
+    ensures seen { client.new.session.seen ≡ client.old.session.seen }
     ensures free { client.new.session.free ≡ client.old.session.free }
     ensures port { P.geometry_of client.new.port ≡ P.geometry_of client.old.port }
     ensures lent { L.lent log.new ≡ L.lent log.old }

@@ -15,6 +15,7 @@ fn give_first_back<N: PoolName, K: ListKeeper, R: Wait>(
 )
     ensures client { session.new.client ≡ session.old.client }
     ensures before { session.new.before ≡ session.old.before }
+    ensures seen { session.new.seen ≡ session.old.seen }
     ensures back { GoBack session.old.said session.new.said }
 {
     let Some(note) = session.oldest_held() else {
@@ -33,6 +34,7 @@ pub(crate) fn give_back_all<N: PoolName, K: ListKeeper, R: Wait>(
 ) -> bool
     ensures client { session.new.client ≡ session.old.client }
     ensures before { session.new.before ≡ session.old.before }
+    ensures seen { session.new.seen ≡ session.old.seen }
     ensures back { GoBack session.old.said session.new.said }
     ensures all { IsTrue result ↔ held_passes session.new.said ≡ [] }
 {

@@ -3,7 +3,7 @@
 //!
 //! `run_workers` picks the name on which pool, sessions and mark agree, so that its callers need not. What it answers
 //! is the workers, their lists and the core, whose trail is one legal history. `run_workers_over` does so over a pool
-//! of any kind.
+//! of any kind. `run_clients` runs scripts, each of which is played by a worker.
 #![tactic(auto)]
 
 pub mod durable;
@@ -11,6 +11,7 @@ mod giving;
 mod job;
 pub mod kinds;
 pub mod run;
+pub mod scripts;
 pub mod worker;
 
 pub use bp_core::Config;
@@ -18,4 +19,5 @@ pub use bp_shared::LogWriter;
 pub use durable::{Asked, DurableLog, Leading, Log, Patience, fix_durably};
 pub use kinds::Kind;
 pub use run::{Run, run_workers, run_workers_over};
+pub use scripts::{Outcome, run_clients, scripts_fit};
 pub use worker::{Client, Left, Upkeep, Worker};

@@ -9,7 +9,7 @@ use Rattle.bp_workers.proofs.Working.{goes-on-work, gives-up-work}
 use Rattle.bp_workers.proofs.durable.fix_durably.Goals as goal
 
 pub loop-round-init : goal.loop-round-init
-loop-round-init g c = record { client = refl; before = refl; free = refl; port = refl; lent = refl; raises = raises-none _ _; leads = leads-none _ _ _ _ _ _ _ _; work = none-yet _ _ _ _ }
+loop-round-init g c = record { client = refl; before = refl; seen = refl; free = refl; port = refl; lent = refl; raises = raises-none _ _; leads = leads-none _ _ _ _ _ _ _ _; work = none-yet _ _ _ _ }
 
 pub loop-round-preserved : goal.loop-round-preserved
 loop-round-preserved g c =
@@ -20,6 +20,7 @@ loop-round-preserved g c =
     record {
       client = c.overcome.ensures.client ∙ c.ask_fix.ensures.client ∙ i.client;
       before = c.overcome.ensures.before ∙ c.ask_fix.ensures.before ∙ i.before;
+      seen = c.overcome.ensures.seen ∙ c.ask_fix.ensures.seen ∙ i.seen;
       free = c.overcome.ensures.free ∙ c.ask_fix.ensures.free ∙ i.free;
       port = c.ask_fix.ensures.port ∙ i.port;
       lent = c.overcome.ensures.lent ∙ i.lent;

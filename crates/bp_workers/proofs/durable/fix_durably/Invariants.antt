@@ -12,6 +12,7 @@ invariant-loop-round g l =
     record {
       client : l.client.session.client ≡ l.initial.client.session.client;
       before : l.client.session.before ≡ l.initial.client.session.before;
+      seen : l.client.session.seen ≡ l.initial.client.session.seen;
       free : l.client.session.free ≡ l.initial.client.session.free;
       port : g.P.Port.geometry_of l.client.port ≡ g.P.Port.geometry_of l.initial.client.port;
       lent : g.L.DurableLog.lent l.log ≡ g.L.DurableLog.lent l.initial.log;

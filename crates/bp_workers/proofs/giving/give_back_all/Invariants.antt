@@ -7,5 +7,6 @@ abbrev pub invariant-loop : goal.invariant-loop
 invariant-loop g l = record {
   client : l.session.client ≡ l.initial.session.client;
   before : l.session.before ≡ l.initial.session.before;
+  seen : l.session.seen ≡ l.initial.session.seen;
   back : GoBack l.initial.session.said l.session.said;
 }

@@ -10,4 +10,4 @@ pub returns-in-Err-clause-back : goal.returns-in-Err-clause-back
 returns-in-Err-clause-back g c = search (rules, nothing_back)
 
 pub returns-in_default-give_back-clause-back : goal.returns-in_default-give_back-clause-back
-returns-in_default-give_back-clause-back g c = first_back _ _ _ c.in-Some.note refl (sym c.oldest_held.ensures.first ∙ c.in-Some.is) (search rules)
+returns-in_default-give_back-clause-back g c = first_back c.args.session.now.client _ _ _ c.in-Some.note refl c.oldest_held.ensures.own (sym c.oldest_held.ensures.first ∙ c.in-Some.is) (search rules)

@@ -1,0 +1,90 @@
+-- How a port's work grows with its client's list, step by step.
+use Rattle.std.proofs.Common.{◌≡◌, ◌≢◌, refl, sym, ◌∙◌, ap, subst, ℕ, true, false, List, [], ◌∷◌, Option, Some, None, Result, Err}
+use Rattle.std.proofs.lemmas.List.{append-nil}
+use Rattle.bp_page.specs.declared.refusals.Refusal.{Refusal}
+use Rattle.bp_page.specs.declared.refusals.Refusal.TheVariants as refusal
+use Rattle.bp_trail.specs.declared.entries.Call.{Call}
+use Rattle.bp_trail.specs.declared.entries.Call.TheVariants.{Tick, Read, Write, Unfix, Purge}
+use Rattle.bp_trail.specs.declared.entries.Reply.{Reply}
+use Rattle.bp_trail.specs.declared.scripts.Step.{Step}
+use Rattle.bp_trail.specs.declared.scripts.Step.TheVariants as step
+use Rattle.bp_trail.specs.Trail.{Trail}
+use Rattle.bp_trail.specs.Event.{Grant}
+use Rattle.bp_trail.specs.Pieces.{Outcome, OneCall, outcome_of}
+use Rattle.bp_trail.specs.Pieces.Manner.{session}
+use Rattle.bp_trail.specs.Pieces.Outcome.{accepted, refused}
+use Rattle.bp_trail.specs.Script.{latest_pass, WithPass, RowPiece, GivesBack, give_back}
+use Rattle.bp_trail.specs.Script.GivesBack.{none_held, next}
+use Rattle.bp_core.specs.Work.{Reads, Writes, Works, WorksThrough}
+use Rattle.bp_shared.specs.Sessions.{WithSomeLsn, DoesWorkSaid}
+use Rattle.bp_workers.specs.Steps.{is_fault, AddsStep, StepSaid, StepWork}
+use Rattle.bp_workers.proofs.Following.{no_fault}
+
+-- a step without device work
+abbrev IsQuiet : Step → Type 0
+IsQuiet (step.Fix page) = ⊥
+IsQuiet (step.Flush page) = ⊥
+IsQuiet _ = Unit {0}
+
+-- a step that is no fault of the run met no ticket that is unknown
+pub known_step : (r : Result (Unit {0}) Refusal) → is_fault (outcome_of r) ≡ false → r ≢ Err refusal.UnknownTicket
+known_step r none is = let no : true ≡ false = subst (λ o. is_fault (outcome_of o) ≡ false) is none in cc
+
+module _ {P : Type 0} (reads : Reads P) (writes : Writes P) where
+  -- a call without device work
+  one-call-work : (past : Trail) (port : P) (numbers : List ℕ) (client : ℕ) (call : Call) (piece : Trail) (o : Outcome) → ((reply : Reply) → Works reads writes past call reply port port) → OneCall numbers client call piece o
+      → WorksThrough reads writes past piece port port
+  one-call-work past port numbers client call piece accepted none h = subst (λ es. WorksThrough reads writes past es port port) (sym h.1) (port, refl, none h.0)
+  one-call-work past port numbers client call piece (refused n) none h = subst (λ es. WorksThrough reads writes past es port port) (sym h.1) refl
+
+  with-pass-work : (past : Trail) (port : P) (numbers : List ℕ) (client : ℕ) (call : ℕ → Call) (piece : Trail) (o : Outcome) (pass : Option Grant) → ((n : ℕ) (reply : Reply) → Works reads writes past (call n) reply port port)
+      → WithPass numbers client call piece o pass → WorksThrough reads writes past piece port port
+  with-pass-work past port numbers client call piece o None none h = subst (λ es. WorksThrough reads writes past es port port) (sym h.0) refl
+  with-pass-work past port numbers client call piece o (Some g) none h = one-call-work past port numbers client (call g.serial) piece o (none g.serial) h
+
+  -- a row without device work
+  quiet-piece : (said piece : Trail) (port : P) (client : ℕ) (s : Step) (o : Outcome) → IsQuiet s → RowPiece session said client s piece o → WorksThrough reads writes said piece port port
+  quiet-piece said piece port client (step.Fix page) o quiet h = absurd quiet
+  quiet-piece said piece port client (step.Flush page) o quiet h = absurd quiet
+  quiet-piece said piece port client (step.Unfix page) o quiet h = with-pass-work said port [] client (λ n. Unfix n page) piece o (latest_pass said client page) (λ n reply. refl) h
+  quiet-piece said piece port client (step.Read page) o quiet h = with-pass-work said port (20 ∷ 22 ∷ []) client (λ n. Read n page) piece o (latest_pass said client page) (λ n reply. refl) h
+  quiet-piece said piece port client (step.Write page offset bytes lsn) o quiet h =
+      with-pass-work said port (20 ∷ 22 ∷ []) client (λ n. Write n page offset bytes lsn) piece o (latest_pass said client page) (λ n reply. refl) h
+  quiet-piece said piece port client (step.Tick n) o quiet h = one-call-work said port (20 ∷ 21 ∷ 22 ∷ []) client (Tick n) piece o (λ reply. refl) h
+  quiet-piece said piece port client step.Purge o quiet h = one-call-work said port (20 ∷ 22 ∷ []) client Purge piece o (λ reply. refl) h
+  quiet-piece said piece port client (step.Log lsn) o quiet h = subst (λ es. WorksThrough reads writes said es port port) (sym h.0) refl
+
+module _ {P : Type 0} (reads : Reads P) (writes : Writes P) where
+  quiet : (client : ℕ) (s : Step) (o : Outcome) (said after : Trail) (port kept : P) → IsQuiet s → StepSaid client s o said after → is_fault o ≡ false → kept ≡ port → DoesWorkSaid reads writes said after port kept
+  quiet client s o said after port kept is says none same =
+      let adds : AddsStep client s o said after = no_fault (is_fault o) none says in
+      record {
+        piece = adds.piece;
+        grows = adds.grows;
+        through = subst (λ k. WorksThrough reads (WithSomeLsn writes) said adds.piece port k) (sym same) (quiet-piece reads (WithSomeLsn writes) said adds.piece port client s o is adds.of_row);
+      }
+
+  -- what one step had the port do is the work of what it added
+  pub step-work : (client : ℕ) (s : Step) (o : Outcome) (said after : Trail) (port kept : P) → StepSaid client s o said after → is_fault o ≡ false → StepWork reads writes s said after port kept → DoesWorkSaid reads writes said after port kept
+  step-work client (step.Fix page) o said after port kept says none work = work
+  step-work client (step.Flush page) o said after port kept says none work = work
+  step-work client (step.Unfix page) o said after port kept says none same = quiet client (step.Unfix page) o said after port kept tt says none same
+  step-work client (step.Read page) o said after port kept says none same = quiet client (step.Read page) o said after port kept tt says none same
+  step-work client (step.Write page offset bytes lsn) o said after port kept says none same = quiet client (step.Write page offset bytes lsn) o said after port kept tt says none same
+  step-work client (step.Tick n) o said after port kept says none same = quiet client (step.Tick n) o said after port kept tt says none same
+  step-work client step.Purge o said after port kept says none same = quiet client step.Purge o said after port kept tt says none same
+  step-work client (step.Log lsn) o said after port kept says none same = quiet client (step.Log lsn) o said after port kept tt says none same
+
+  -- passes that go back have no work
+  went-back : (said mid after : Trail) (port now : P) → DoesWorkSaid reads writes said mid port now → GivesBack mid after → DoesWorkSaid reads writes said after port now
+  went-back said mid _ port now w (none_held none) = w
+  went-back said mid after port now w (next g first rest) =
+      went-back said (give_back g ∷ mid) after port now (record { piece = give_back g ∷ w.piece; grows = ap (λ es. give_back g ∷ es) w.grows; through = (now, w.through, refl) }) rest
+
+  -- of a list that was empty all is told
+  all-told : (after : Trail) (port kept : P) → DoesWorkSaid reads writes [] after port kept → WorksThrough reads (WithSomeLsn writes) [] after port kept
+  all-told after port kept w = subst (λ es. WorksThrough reads (WithSomeLsn writes) [] es port kept) (sym (w.grows ∙ append-nil w.piece)) w.through
+
+  -- the work of rows, after which passes went back
+  pub whole-work : (mid after : Trail) (port now : P) → DoesWorkSaid reads writes [] mid port now → GivesBack mid after → WorksThrough reads (WithSomeLsn writes) [] after port now
+  whole-work mid after port now w back = all-told after port now (went-back [] mid after port now w back)

@@ -1,0 +1,41 @@
+-- Each row adds its piece to those of the rows before it.
+use Rattle.std.proofs.Common.{◌≡◌, sym, ◌∙◌, ap, subst, ◌+◌, ◌++◌, ◌∷◌, [], take, add-one, arith, reverse, false}
+use Rattle.std.proofs.Math.Seq.{take-suc}
+use Rattle.std.proofs.lemmas.List.Elements.{All-get_or}
+use Rattle.bp_trail.specs.Pieces.{outcome_of}
+use Rattle.bp_trail.specs.Pieces.Manner.{session}
+use Rattle.bp_trail.specs.Script.{FollowsBy}
+use Rattle.bp_shared.proofs.Working.{work-on}
+use Rattle.bp_workers.specs.Steps.{is_fault}
+use Rattle.bp_workers.specs.Scripts.{IsRowOf}
+use Rattle.bp_workers.proofs.Following.{follows-more, known-more}
+use Rattle.bp_workers.proofs.Playing.{known_step, step-work}
+use Rattle.bp_workers.proofs.scripts.player.run_rows.Goals as goal
+
+pub loop-row-preserved : goal.loop-row-preserved
+loop-row-preserved g c =
+    let i = c.loop-row.invariant in
+    let row = c.row-item.result in
+    let at = c.loop-row.row-index in
+    let whose = c.args.client.now.session.client in
+    let more : take (at + 1) c.args.script.now ≡ take at c.args.script.now ++ row ∷ [] =
+    rw add-one (take-suc c.args.script.now at row (omega (arith, c.loop-row-test.true)) ∙ ap (λ r. take at c.args.script.now ++ r ∷ []) (sym c.row-item.is)) in
+    let fits : IsRowOf g.N.PoolName.parameters whose row =
+    subst (λ r. IsRowOf g.N.PoolName.parameters whose r) (sym c.row-item.is) (All-get_or (IsRowOf g.N.PoolName.parameters whose) c.args.script.now at row (omega (arith, c.loop-row-test.true)) c.requires.fits) in
+    let none : is_fault (outcome_of c.step-outcome.result) ≡ false = sym c.is_fault.ensures ∙ c.if-is_fault.false in
+    record {
+      same = (c.step-outcome.ensures.same.0 ∙ i.same.0, c.step-outcome.ensures.same.1 ∙ i.same.1);
+      plays = record {
+        pieces = subst (λ rows. FollowsBy session (reverse rows) (reverse c.push_reserved.new.self.items) c.step-outcome.new.client.session.said (reverse c.note_refused.new.refused.items)) (sym more)
+            (follows-more c.loop-row.client.session.client (take at c.args.script.now) row c.loop-row.ends.items c.push_reserved.new.self.items _ _ c.loop-row.refused.items c.note_refused.new.refused.items (outcome_of c.step-outcome.result) (fits.own ∙ sym i.same.0) i.plays.pieces c.step-outcome.ensures.outcome none c.note_refused.ensures.refused
+            (c.push_reserved.ensures.items ∙ ap (λ n. c.loop-row.ends.items ++ n ∷ []) c.count.ensures));
+        known = known-more row.row c.loop-row.refused.items c.note_refused.new.refused.items (outcome_of c.step-outcome.result) i.plays.known none c.note_refused.ensures.refused;
+        work = work-on _ _ _ _ _ _ _ _ i.plays.work
+            (step-work _ _ c.loop-row.client.session.client row.step (outcome_of c.step-outcome.result) _ _ _ _ c.step-outcome.ensures.outcome none (c.step-outcome.ensures.work (known_step c.step-outcome.result none)));
+      };
+      held = c.step-outcome.ensures.held;
+      few_ends = omega (arith, c.push_reserved.ensures.len, i.few_ends);
+      few_refused = omega (arith, c.note_refused.ensures.more, i.few_refused);
+      ends_capacity = c.push_reserved.ensures.capacity ∙ i.ends_capacity;
+      refused_capacity = c.note_refused.ensures.capacity ∙ i.refused_capacity;
+    }

@@ -1,0 +1,97 @@
+//! What is compared once all threads have ended.
+ghost use Rattle.std.specs.Prelude.{◌≡◌, false, OnOk, OnErr, [], ◌∷◌, ◌++◌, All, IfErr, IsTrue};
+ghost use Rattle.std.specs.Prelude.{map, reverse};
+ghost use Rattle.bp_page.specs.declared.refusals.Refusal.TheVariants as Refusal;
+ghost use Rattle.bp_workers.specs.Scripts.{lists};
+ghost use Rattle.bp_workers.specs.Players.{left_value, Agrees, Disagrees, SomeDisagrees, NotAdded};
+ghost use Rattle.bp_workers.specs.Players.{Collected};
+
+use crate::scripts::player::ScriptPlayer;
+use crate::worker::Left;
+use bp_core::{Entry, Refused};
+use bp_page::Refusal;
+use bp_ports::Port;
+use bp_trail::agrees;
+
+/// Whether a client played its whole script and gave all passes back, its list is what the trail has of it, and the log
+/// of client 0 bounds the marks.
+fn is_agreed<P: Port>(trail: &[Entry], left: &Left<P, ScriptPlayer>) -> bool
+    requires uncut { left.now.book.before ≡ [] }
+    ensures agrees { IsTrue result → Agrees trail.now (left_value left.now) }
+    ensures disagrees { result ≡ false → Disagrees trail.now (left_value left.now) }
+{
+    if !left.worker.is_done() || !left.all_went_back {
+        return false;
+    }
+    let client = left.book.client();
+    if !agrees(trail, left.said(), client) {
+        return false;
+    }
+    client != 0 || left.worker.bounds_marks(trail)
+}
+
+/// Adds refused rows. The room for them was reserved before.
+fn append(all: &mut Vec<Refused>, more: &[Refused]) -> Result<(), Refusal>
+    ensures items { OnOk result (all.new.items ≡ all.old.items ++ more.now) }
+    ensures refused { OnErr result (result ≡ Err Refusal.OutOfMemory) }
+{
+    all.extend_from_slice(more)?;
+    Ok(())
+}
+
+/// Adds what one client left.
+fn add_left<P: Port>(
+    trail: &[Entry],
+    left: Left<P, ScriptPlayer>,
+    said: &mut Vec<Vec<Entry>>,
+    refused: &mut Vec<Refused>,
+    ports: &mut Vec<P>,
+) -> Result<(), Refusal>
+    requires uncut { left.book.before ≡ [] }
+    ensures agrees { OnOk result (Agrees trail.now (left_value left)) }
+    ensures said { OnOk result (lists said.new.items ≡ lists said.old.items ++
+        reverse left.book.said ∷ []) }
+    ensures refused { OnOk result (refused.new.items ≡ refused.old.items ++ left.worker.refused) }
+    ensures ports { OnOk result (ports.new.items ≡ ports.old.items ++ left.port ∷ []) }
+    ensures fault { IfErr result (NotAdded (Disagrees trail.now (left_value left))) }
+{
+    if !is_agreed(trail, &left) {
+        return Err(Refusal::Disagree);
+    }
+    let Left {
+        worker,
+        port,
+        book,
+        held: _,
+        all_went_back: _,
+    } = left;
+    append(refused, worker.refused())?;
+    let Ok(()) = ports.push(port) else {
+        return Err(Refusal::OutOfMemory);
+    };
+    match said.push(book.into_said()) {
+        Ok(()) => Ok(()),
+        Err(_) => Err(Refusal::OutOfMemory),
+    }
+}
+
+/// What the clients left, one after the other. `Disagree` where a script was not run whole or a pass did not go back,
+/// where a list is not what the trail has of its client, or where a mark came before the log rows of client 0 allow it.
+pub(crate) fn collect<P: Port>(
+    trail: &[Entry],
+    left: Vec<Left<P, ScriptPlayer>>,
+    said: &mut Vec<Vec<Entry>>,
+    refused: &mut Vec<Refused>,
+    ports: &mut Vec<P>,
+) -> Result<(), Refusal>
+    requires uncut { All (λ one. one.book.before ≡ []) left.items }
+    requires empty { (said.old.items ≡ []) × (refused.old.items ≡ []) × (ports.old.items ≡ []) }
+    ensures collected { OnOk result (Collected trail.now (map left_value left.items)
+        (lists said.new.items) refused.new.items ports.new.items) }
+    ensures fault { IfErr result (NotAdded (SomeDisagrees trail.now (map left_value left.items))) }
+{
+    for one in left {
+        add_left(trail, one, said, refused, ports)?;
+    }
+    Ok(())
+}
