@@ -22,9 +22,9 @@ use Rattle.clap.specs.declared.error.kind.ErrorKind.TheVariants.{InvalidValue, M
 use Rattle.clap.proofs.WalkLemmas.{both}
 use Rattle.bp_cli.specs.Command.{bpool_app, number_option, bare_number, positional as positional_rule, run_shape, migrate_shape, sweep_shape, explain_shape}
 use Rattle.bp_cli.specs.declared.words.Order.{Order}
-use Rattle.bp_cli.specs.Words.{IsInLimits, Told, ◌>>=◌, are_same, draws_over, explanation_at, fault_in, flag_at, format_of, frames_at, ks_at, names_sweep, number_at, order_at, naming_fault, told_by_rows, trace_of}
+use Rattle.bp_cli.specs.Words.{IsInLimits, RunOptions, ◌>>=◌, are_same, draws_over, explanation_at, fault_in, flag_at, format_of, frames_at, ks_at, names_sweep, number_at, order_at, naming_fault, options_by_rows, trace_of}
 use Rattle.bp_cli.specs.Words.TraceAt.{from_stdin, at_path}
-use Rattle.bp_cli.specs.Asked.{Asked, Migration, Sweep, HasPageSize, AreInLimits, IsColumn, SweepsInLimits, asked_by, asked_in, migration_by_rows, sweep_told, sweep_with}
+use Rattle.bp_cli.specs.Asked.{Asked, Migration, Sweep, HasPageSize, AreInLimits, IsColumn, SweepsInLimits, asked_by, asked_in, migration_by_rows, sweep_given, sweep_with}
 use Rattle.bp_cli.specs.Asked.Asked.{a_run, a_migration, a_sweep, an_explanation}
 use Rattle.bp_cli.proofs.Entering.{NotHelp, walk_not_help}
 use Rattle.bp_cli.proofs.Fits.{AllFit, Fits, IsOf, or_else-nil}
@@ -154,8 +154,8 @@ both_given false h e = cc
 
 -- what the rows tell a run in either order
 record Tells (rows : List Row) : Type 0 where
-  told : Order → Told
-  tells : told_by_rows rows ≡ option_map told (order_at rows)
+  told : Order → RunOptions
+  tells : options_by_rows rows ≡ option_map told (order_at rows)
   limits : (order : Order) → IsInLimits (told order)
 
 last_bound : {A B : Type 0} (f : A → B) (o : Option A) → (o >>= λ x. Some (f x)) ≡ option_map f o
@@ -207,7 +207,7 @@ rows_tell rows filled = record {
     version : IsNumber (codes "format") 1 2 rows
     version = option_read (codes "format") 1 2 (codes "1") refl refl
 
-    told_in_order : Order → Told
+    told_in_order : Order → RunOptions
     told_in_order order = record {
       trace = trace_of trace.word;
       page_file = pages.word;
@@ -431,13 +431,13 @@ run_tells words run told = go (order_at rows) refl
     go : (order : Option Order) → order_at rows ≡ order → IsAccepted words
     go (Some order) is = record {
       asked = Some (a_run (told.told order));
-      asks = met ∙ ap (λ (o : Option Told). option_map a_run o) (told.tells ∙ ap (λ (o : Option Order). option_map told.told o) is);
+      asks = met ∙ ap (λ (o : Option RunOptions). option_map a_run o) (told.tells ∙ ap (λ (o : Option Order). option_map told.told o) is);
       limits = told.limits order;
       fault = named ∙ ap (λ (o : Option Order). if is_some o then [] else InvalidValue ∷ []) is;
     }
     go None is = record {
       asked = None;
-      asks = met ∙ ap (λ (o : Option Told). option_map a_run o) (told.tells ∙ ap (λ (o : Option Order). option_map told.told o) is);
+      asks = met ∙ ap (λ (o : Option RunOptions). option_map a_run o) (told.tells ∙ ap (λ (o : Option Order). option_map told.told o) is);
       limits = tt;
       fault = named ∙ ap (λ (o : Option Order). if is_some o then [] else InvalidValue ∷ []) is;
     }
@@ -459,7 +459,7 @@ sweep_tells words sweep told = go (frames_at rows) (ks_at rows) (draws_over rows
     rows = finished sweep_built.rules (walk sweep_built.rules [] nothing_held sweep.words).held
 
     by_lists : Option (List ℕ) → Option (List ℕ) → Bool → Option Asked
-    by_lists frames ks over = option_map a_sweep (sweep_told frames ks over rows)
+    by_lists frames ks over = option_map a_sweep (sweep_given frames ks over rows)
 
     fault_by : Option (List ℕ) → Option (List ℕ) → Bool → Kinds
     fault_by frames ks over = if names_sweep frames ks over then [] else InvalidValue ∷ []

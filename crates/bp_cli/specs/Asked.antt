@@ -6,7 +6,7 @@ use Rattle.clap.specs.Walk.{is_empty}
 use Rattle.clap.specs.Words.{Row, Text, first_of, subcommand_of}
 use Rattle.bp_cli.specs.Command.{bpool_app}
 use Rattle.bp_trace.specs.NumberLists.{most_listed}
-use Rattle.bp_cli.specs.Words.{Told, TraceAt, IsInLimits, ◌>>=◌, draws_over, explanation_at, fault_in, frames_at, ks_at, number_at, told_by_rows, told_of, trace_of, trace_told}
+use Rattle.bp_cli.specs.Words.{RunOptions, TraceAt, IsInLimits, ◌>>=◌, draws_over, explanation_at, fault_in, frames_at, ks_at, number_at, options_by_rows, options_of, trace_of, trace_given}
 use Rattle.bp_cli.specs.Words.TraceAt.{at_path}
 use Rattle.bp_cli.specs.declared.words.MigrationWords.{MigrationWords}
 use Rattle.bp_cli.specs.declared.words.SweepWords.{SweepWords}
@@ -33,7 +33,7 @@ pub record Sweep : Type 0 where
 
 -- what the words ask for
 pub data Asked : Type 0 where
-  a_run : Told → Asked
+  a_run : RunOptions → Asked
   a_migration : Migration → Asked
   a_sweep : Sweep → Asked
   an_explanation : Text → Asked
@@ -61,18 +61,18 @@ sweep_with frames ks rows = do
   })
 
 -- what a sweep's own rows tell it, where its picture does not go into its references
-abbrev pub sweep_told : Option (List ℕ) → Option (List ℕ) → Bool → List Row → Option Sweep
-sweep_told (Some frames) (Some ks) over rows = if over then None else sweep_with frames ks rows
-sweep_told _ _ over rows = None
+abbrev pub sweep_given : Option (List ℕ) → Option (List ℕ) → Bool → List Row → Option Sweep
+sweep_given (Some frames) (Some ks) over rows = if over then None else sweep_with frames ks rows
+sweep_given _ _ over rows = None
 
 abbrev pub sweep_by_rows : List Row → Option Sweep
-sweep_by_rows rows = sweep_told (frames_at rows) (ks_at rows) (draws_over rows) rows
+sweep_by_rows rows = sweep_given (frames_at rows) (ks_at rows) (draws_over rows) rows
 
 -- what the subcommand that was met asks for
 abbrev pub asked_in : Option (Text × List Row) → Option Asked
 asked_in None = None
 asked_in (Some met) =
-    if bytes_eq met.0 (codes "run") then option_map a_run (told_by_rows met.1)
+    if bytes_eq met.0 (codes "run") then option_map a_run (options_by_rows met.1)
     else if bytes_eq met.0 (codes "sweep") then option_map a_sweep (sweep_by_rows met.1)
     else if bytes_eq met.0 (codes "migrate") then option_map a_migration (migration_by_rows met.1)
     else if bytes_eq met.0 (codes "explain") then option_map an_explanation (explanation_at met.1)
@@ -129,7 +129,7 @@ migration_of w = record { old = w.old.now; new = w.new.now; size = w.page_size }
 
 abbrev pub sweep_of : SweepWords → Sweep
 sweep_of w = record {
-  references = trace_told w.references;
+  references = trace_given w.references;
   frames = w.frames.items;
   ks = w.ks.items;
   correlated = w.correlated;
@@ -138,7 +138,7 @@ sweep_of w = record {
 }
 
 abbrev pub asked_of : Task → Asked
-asked_of (task.Run w) = a_run (told_of w)
+asked_of (task.Run w) = a_run (options_of w)
 asked_of (task.Migrate w) = a_migration (migration_of w)
 asked_of (task.Sweep w) = a_sweep (sweep_of w)
 asked_of (task.Explain text) = an_explanation text.now

@@ -5,7 +5,7 @@ use Rattle.clap.specs.Words.{Text}
 use Rattle.clap.specs.declared.error.kind.ErrorKind.{ErrorKind}
 use Rattle.clap.specs.declared.error.kind.ErrorKind.TheVariants.{DisplayHelp, DisplayVersion, OutOfMemory as no_memory}
 use Rattle.bp_page.specs.declared.refusals.Refusal.TheVariants.{BadGeometry, OutOfMemory}
-use Rattle.bp_cli.specs.Words.{Told, IsInLimits, fault_in}
+use Rattle.bp_cli.specs.Words.{RunOptions, IsInLimits, fault_in}
 use Rattle.bp_cli.specs.Asked.{Migration, Asked, HasPageSize, SweepsInLimits, asked_by, asked_of}
 use Rattle.bp_cli.specs.Asked.Asked.{a_run, a_migration, a_sweep, an_explanation}
 use Rattle.bp_cli.specs.declared.words.Task.{Task}
@@ -13,7 +13,7 @@ use Rattle.bp_cli.specs.declared.ending.Ending.{Ending}
 use Rattle.bp_cli.specs.declared.ending.Ending.TheVariants as ending
 
 -- a run can begin with what it is told
-pub record IsRunnable (told : Told) : Type 0 where
+pub record IsRunnable (told : RunOptions) : Type 0 where
   pub limits : IsInLimits told
   pub in_sixteens : told.size % 16 ≡ 0
 

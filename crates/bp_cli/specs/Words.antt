@@ -26,7 +26,7 @@ pub data TraceAt : Type 0 where
   at_path : Text → TraceAt
 
 -- what a run is told
-pub record Told : Type 0 where
+pub record RunOptions : Type 0 where
   pub trace : TraceAt
   pub page_file : Text
   pub frames : ℕ
@@ -109,8 +109,8 @@ abbrev pub order_at : List Row → Option Order
 order_at rows = first_of (codes "order") rows >>= order_of
 
 -- what a run's own rows tell it
-abbrev pub told_by_rows : List Row → Option Told
-told_by_rows rows = do
+abbrev pub options_by_rows : List Row → Option RunOptions
+options_by_rows rows = do
   trace ← first_of (codes "trace") rows
   page_file ← first_of (codes "page-file") rows
   frames ← number_at (codes "frames") rows
@@ -152,7 +152,7 @@ abbrev pub fault_in : List Text → Kinds
 fault_in words = or_else (fault_of bpool_app words) (naming_fault (subcommand_of bpool_app words))
 
 -- the numbers are in the limits of the options
-pub record IsInLimits (told : Told) : Type 0 where
+pub record IsInLimits (told : RunOptions) : Type 0 where
   pub some_frames : 1 ≤ told.frames
   pub few_frames : told.frames ≤ 65536
   pub settings : IsWithinLimits told.k told.correlated told.retained
@@ -171,14 +171,14 @@ words_or_default (word ∷ words) = word ∷ words
 
 -- ---- the values of the code
 
-abbrev pub trace_told : TraceSource → TraceAt
-trace_told trace_source.Stdin = from_stdin
-trace_told (trace_source.Path path) = at_path path.now
+abbrev pub trace_given : TraceSource → TraceAt
+trace_given trace_source.Stdin = from_stdin
+trace_given (trace_source.Path path) = at_path path.now
 
-abbrev pub told_of : RunWords → Told
-told_of w =
+abbrev pub options_of : RunWords → RunOptions
+options_of w =
     record {
-      trace = trace_told w.trace;
+      trace = trace_given w.trace;
       page_file = w.page_file.now;
       frames = w.frames;
       k = w.k;

@@ -5,7 +5,7 @@ ghost use Rattle.clap.specs.Values.{kind_of};
 ghost use Rattle.clap.specs.Words.{first_of, found_of, rows_of, subcommand_rows_of, FailsBy};
 ghost use Rattle.bp_cli.specs.Words.{explanation_at, fault_in, flag_at, format_of, number_at, order_at, order_of};
 ghost use Rattle.bp_cli.specs.Words.{draws_over, list_at};
-ghost use Rattle.bp_cli.specs.Words.{told_by_rows, told_of};
+ghost use Rattle.bp_cli.specs.Words.{options_by_rows, options_of};
 ghost use Rattle.bp_cli.specs.Words as spec;
 ghost use Rattle.bp_cli.specs.Asked.{AreInLimits, asked_by, asked_in, asked_of, migration_by_rows, migration_of};
 ghost use Rattle.bp_cli.specs.Asked.{sweep_by_rows, sweep_of, sweep_with};
@@ -121,7 +121,7 @@ impl Task<'_> {
 }
 
 fn trace_source<'a>(word: &'a str) -> TraceSource<'a>
-    ensures { spec.trace_told result ≡ spec.trace_of word.entry.now }
+    ensures { spec.trace_given result ≡ spec.trace_of word.entry.now }
 {
     if word == "stdin" {
         TraceSource::Stdin
@@ -234,7 +234,7 @@ fn order_at(matches: &ArgMatches<'_>) -> Option<Order>
 
 /// What the matches of a run name.
 fn run_words<'a>(matches: &ArgMatches<'a>) -> Option<RunWords<'a>>
-    ensures { option_map told_of result ≡ told_by_rows (rows_of (found_of matches.now)) }
+    ensures { option_map options_of result ≡ options_by_rows (rows_of (found_of matches.now)) }
 {
     let trace = word_at(matches, "trace")?;
     let page_file = word_at(matches, "page-file")?;

@@ -1,14 +1,13 @@
 -- The rows of a trace, client by client.
 use Rattle.std.proofs.Common.{◌≡◌, ◌≢◌, ◌∙◌, refl, sym, ap, subst, ℕ, zero, suc, ◌<◌, arith, Bool, true, false, ◌==◌, List, [], ◌∷◌, ◌++◌, cond, map, length, get_or, set, take, drop, All}
 use Rattle.std.proofs.lemmas.Bool.{eqb-true, eq-eqb}
-use Rattle.std.proofs.lemmas.List.{append_assoc, append-nil, get_or-map, get_or-set_other, get_or-set_same, get_or_default, length-map, map-set, same_lists}
+use Rattle.std.proofs.lemmas.List.{append_assoc, append-nil, get_or-map, get_or-set_other, get_or-set_same, get_or_default, length-map, map-set, same_lists, take_at}
 use Rattle.std.proofs.lemmas.List.Elements.{All-head, All-tail, All-nil, All-cons}
 use Rattle.std.proofs.lemmas.List.FromFn.{get_or-map-range_with_len, length-map-range_with_len}
 use Rattle.std.specs.declared.vec.Vec.{Vec}
 use Rattle.bp_trail.specs.declared.scripts.Row.{Row}
 use Rattle.bp_trail.specs.Lists.{greatest}
-use Rattle.bp_clients.proofs.Making.{lent_back}
-use Rattle.bp_clients.specs.Jobs.{list_of, lists}
+use Rattle.bp_workers.specs.Scripts.{list_of, lists}
 use Rattle.bp_run.specs.Scripts.{clients_of, rows_of, scripts_for}
 
 -- ---- the greatest client
@@ -68,7 +67,7 @@ pub one_more_lent : {A : Type 0} (clients n : ℕ) (now items new : List (Vec Ro
     → list_of row.client (lists new) ≡ list_of row.client (lists now) ++ row ∷ [] → ((c : ℕ) → c ≢ row.client → list_of c (lists new) ≡ list_of c (lists now))
     → AreSplit clients (lists (take n (new ++ drop (length new) items))) rest rows
 one_more_lent clients n now items new row rest rows so_far is len same own others =
-    subst (λ scripts. AreSplit clients (lists scripts) rest rows) (sym (lent_back n new items (same ∙ len)))
+    subst (λ scripts. AreSplit clients (lists scripts) rest rows) (sym (take_at new (drop (length new) items) n (same ∙ len)))
     (one_more clients (lists now) (lists new) row rest rows (subst (λ scripts. AreSplit clients (lists scripts) (row ∷ rest) rows) (sym is) so_far)
     (length-map new (λ v. v.items) ∙ same ∙ sym (length-map now (λ v. v.items))) own others)
 

@@ -19,7 +19,7 @@ use Rattle.bp_trail.specs.Parameters.{Parameters}
 use Rattle.bp_trace.specs.InRange.{IsInRange}
 use Rattle.bp_core.specs.Work.{Reads, Writes}
 use Rattle.bp_core.specs.Outcomes.{IsFit}
-use Rattle.bp_clients.specs.Runs.{RunAnswers}
+use Rattle.bp_workers.specs.ScriptRuns.{RunAnswers}
 use Rattle.bp_charts.specs.declared.table.Line.{Line}
 use Rattle.bp_charts.specs.Table.{table_text}
 use Rattle.bp_sweep.specs.Dense.{Pages}
@@ -28,7 +28,7 @@ use Rattle.bp_cli.specs.Asked.Asked.{a_run, a_migration, a_sweep, an_explanation
 use Rattle.bp_cli.specs.Command.{bpool_app}
 use Rattle.bp_cli.specs.Decision.{AsksForAnswer, AsksForHelp, IsRunnable}
 use Rattle.bp_cli.specs.Ending.{is_help}
-use Rattle.bp_cli.specs.Words.{Told, TraceAt, from_stdin, at_path, fault_in}
+use Rattle.bp_cli.specs.Words.{RunOptions, TraceAt, from_stdin, at_path, fault_in}
 use Rattle.bp_cli.specs.declared.ending.Ending.{Ending}
 use Rattle.bp_cli.specs.declared.ending.Ending.TheVariants as ending
 use Rattle.bp_cli.specs.declared.words.Order.{Order}
@@ -50,7 +50,7 @@ memory_or_disagree c (Err refusal.Disagree) why fit is answers = let same : refu
 memory_or_disagree c (Err other) why fit is never = absurd never
 
 -- those of a run in either order are fit
-pub free_fits : (t : Told) (g : Geometry) (rows : List Row) → IsRunnable t → All (IsInRange g) rows → IsFit (parameters_for order.Free t g rows)
+pub free_fits : (t : RunOptions) (g : Geometry) (rows : List Row) → IsRunnable t → All (IsInRange g) rows → IsFit (parameters_for order.Free t g rows)
 free_fits t g rows runnable in_range = record {
   frames = runnable.limits.some_frames;
   few_frames = runnable.limits.few_frames;
@@ -78,7 +78,7 @@ no_help_trace traces bytes_of from_stdin g bytes ended help not = (let none = ap
 no_help_trace traces bytes_of (at_path path) g bytes ended help (inl not) = (let none = ap is_help not.1 in cc)
 no_help_trace traces bytes_of (at_path path) g bytes ended help (inr not) = (let none = ap is_help not.2.said in cc)
 
-no_help_run : {F P T : Type 0} (ways : Ways F P T) (bytes_of : T → Option (List ℕ)) (told : Told) (bytes : Option (List ℕ)) (ended : Ending) → is_help ended ≡ true → StopsRun ways bytes_of told bytes ended → ⊥
+no_help_run : {F P T : Type 0} (ways : Ways F P T) (bytes_of : T → Option (List ℕ)) (told : RunOptions) (bytes : Option (List ℕ)) (ended : Ending) → is_help ended ≡ true → StopsRun ways bytes_of told bytes ended → ⊥
 no_help_run ways bytes_of told bytes ended help (inl not) = (let none = ap is_help not.said ∙ not_help not.fault in cc)
 no_help_run ways bytes_of told bytes ended help (inr (inl at)) = no_help_trace ways.traces bytes_of told.trace (ways.geometry at.file) bytes ended help at.not_read
 no_help_run ways bytes_of told bytes ended help (inr (inr after)) = go after.stopped

@@ -9,15 +9,15 @@ use Rattle.bp_trail.specs.declared.scripts.Step.{Step}
 use Rattle.bp_trail.specs.declared.scripts.Step.TheVariants as step
 use Rattle.bp_trail.specs.Lists.{greatest}
 use Rattle.bp_trail.specs.Parameters.{Parameters}
-use Rattle.bp_audit.specs.Log.{log_of}
+use Rattle.bp_trail.specs.LogBound.{log_of}
 use Rattle.bp_trace.specs.InRange.{IsInRange, SpeaksForLog}
 use Rattle.bp_trail.specs.declared.entries.Entry.{Entry}
 use Rattle.bp_trail.specs.declared.scripts.Refused.{Refused}
 use Rattle.bp_core.specs.declared.config.Config.{Config}
 use Rattle.bp_core.specs.Agreement.{parameters_with}
-use Rattle.bp_clients.specs.Jobs.{EachScriptFits, RowFitsClient, list_of}
+use Rattle.bp_workers.specs.Scripts.{EachScriptFits, RowFitsClient, list_of}
 use Rattle.bp_core.specs.Work.{Reads, Writes}
-use Rattle.bp_clients.specs.Runs.{IsRun}
+use Rattle.bp_workers.specs.ScriptRuns.{IsRun}
 use Rattle.bp_run.specs.Scripts.{clients_of, rows_of, scripts_for, scripts_of}
 
 no_log : (client : ℕ) (step : Step) → SpeaksForLog client step → 0 < client → log_of step ≡ None

@@ -17,13 +17,13 @@ use Rattle.bp_device.specs.Rows.{ScriptCaused}
 use Rattle.bp_trace.specs.Script.{IsScriptOfSome, script_of}
 use Rattle.bp_trace.specs.Report.{report_text, rows_text}
 use Rattle.bp_trace.specs.Totals.{totals_text}
-use Rattle.bp_audit.specs.Totals.{totals_of}
-use Rattle.bp_clients.specs.Runs.{IsRun}
+use Rattle.bp_trail.specs.Totals.{totals_of}
+use Rattle.bp_workers.specs.ScriptRuns.{IsRun}
 use Rattle.clap.specs.Words.{Text}
 use Rattle.bp_cli.specs.declared.words.Order.{Order}
 use Rattle.bp_cli.specs.declared.words.Order.TheVariants as order
 use Rattle.bp_run.specs.Scripts.{clients_of, scripts_of}
-use Rattle.bp_cli.specs.Words.{Told, TraceAt, from_stdin, at_path}
+use Rattle.bp_cli.specs.Words.{RunOptions, TraceAt, from_stdin, at_path}
 use Rattle.bp_cli.specs.Asked.{Migration, asked_by}
 use Rattle.bp_cli.specs.Asked.Asked.{a_run, a_migration, an_explanation}
 use Rattle.bp_run.specs.PageFile.{IsNamed}
@@ -47,7 +47,7 @@ ports_for order.Free rows = clients_of rows
 
 -- what the core of a run in this order is made with, over a page file of this geometry, for these
 -- rows
-abbrev pub parameters_for : Order → Told → Geometry → List Row → Parameters
+abbrev pub parameters_for : Order → RunOptions → Geometry → List Row → Parameters
 parameters_for in_order told g rows = record {
   frames = told.frames;
   k = told.k;
@@ -121,7 +121,7 @@ AreRead {T} traces bytes_of (at_path path) g bytes rows =
 -- what was written is the report of such a run of the rows of the trace, over ports to the page
 -- file that was opened as the words name it
 pub record Runs {F P T : Type 0} (ways : Ways F P T) (bytes_of : T → Option (List ℕ))
-    (reads : Reads P) (writes : Writes P) (told : Told) (bytes : Option (List ℕ))
+    (reads : Reads P) (writes : Writes P) (told : RunOptions) (bytes : Option (List ℕ))
     (all_accepted : Bool) (old new : Option (List ℕ)) : Type 0 where
   pub file : F
   pub opened : ways.opens told.page_file told.size told.format (Ok file)
@@ -140,7 +140,7 @@ pub record Runs {F P T : Type 0} (ways : Ways F P T) (bytes_of : T → Option (L
 pub record RunsWords {F P T : Type 0} (ways : Ways F P T) (bytes_of : T → Option (List ℕ))
     (reads : Reads P) (writes : Writes P) (words : List Text) (bytes : Option (List ℕ)) (status : ℕ)
     (old new : Option (List ℕ)) : Type 0 where
-  pub told : Told
+  pub told : RunOptions
   pub named : asked_by words ≡ Some (a_run told)
   pub all_accepted : Bool
   pub runs : Runs ways bytes_of reads writes told bytes all_accepted old new

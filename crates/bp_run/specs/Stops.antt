@@ -9,7 +9,7 @@ use Rattle.bp_ports.specs.declared.files.OpenFault.{OpenFault}
 use Rattle.bp_trail.specs.declared.scripts.Row.{Row}
 use Rattle.bp_trace.specs.Script.{Answers, script_of}
 use Rattle.bp_trace.specs.declared.faults.TraceFault.{TraceFault}
-use Rattle.bp_cli.specs.Words.{Told, TraceAt, from_stdin, at_path}
+use Rattle.bp_cli.specs.Words.{RunOptions, TraceAt, from_stdin, at_path}
 use Rattle.bp_cli.specs.Asked.{Asked, Migration, asked_by}
 use Rattle.bp_cli.specs.Asked.Asked.{a_run, a_migration, a_sweep, an_explanation}
 use Rattle.bp_cli.specs.Decision.{IsDecision}
@@ -24,7 +24,7 @@ use Rattle.bp_run.specs.Ways.{Ways}
 use Rattle.bp_run.specs.Run.{AreRead, ports_for}
 
 -- the page file is not opened
-pub record NotOpened {F P T : Type 0} (ways : Ways F P T) (told : Told)
+pub record NotOpened {F P T : Type 0} (ways : Ways F P T) (told : RunOptions)
     (ended : Ending) : Type 0 where
   pub fault : OpenFault
   pub gave : ways.opens told.page_file told.size told.format (Err fault)
@@ -65,7 +65,7 @@ NotReported in_order ended =
 
 -- the page file was opened, and the trace has no rows
 pub record StopsAtTrace {F P T : Type 0} (ways : Ways F P T) (bytes_of : T → Option (List ℕ))
-    (told : Told) (bytes : Option (List ℕ)) (ended : Ending) : Type 0 where
+    (told : RunOptions) (bytes : Option (List ℕ)) (ended : Ending) : Type 0 where
   pub file : F
   pub opened : ways.opens told.page_file told.size told.format (Ok file)
   pub not_read : NotRead ways.traces bytes_of told.trace (ways.geometry file) bytes ended
@@ -73,7 +73,7 @@ pub record StopsAtTrace {F P T : Type 0} (ways : Ways F P T) (bytes_of : T → O
 -- the page file was opened and the rows were read, and then the run came to no end, or its report
 -- to none
 pub record StopsAfterRead {F P T : Type 0} (ways : Ways F P T) (bytes_of : T → Option (List ℕ))
-    (told : Told) (bytes : Option (List ℕ)) (ended : Ending) : Type 0 where
+    (told : RunOptions) (bytes : Option (List ℕ)) (ended : Ending) : Type 0 where
   pub file : F
   pub opened : ways.opens told.page_file told.size told.format (Ok file)
   pub rows : List Row
@@ -82,7 +82,7 @@ pub record StopsAfterRead {F P T : Type 0} (ways : Ways F P T) (bytes_of : T →
       ⊎ NotReported told.order ended
 
 -- why a run makes no report
-abbrev pub StopsRun : {F P T : Type 0} → Ways F P T → (T → Option (List ℕ)) → Told → Option (List ℕ)
+abbrev pub StopsRun : {F P T : Type 0} → Ways F P T → (T → Option (List ℕ)) → RunOptions → Option (List ℕ)
     → Ending → Type 0
 StopsRun ways bytes_of told bytes ended =
     NotOpened ways told ended
@@ -100,7 +100,7 @@ StopsMigration _ = ⊥
 -- the words name such a run, or such a migration
 pub record StopsRunOf {F P T : Type 0} (ways : Ways F P T) (bytes_of : T → Option (List ℕ))
     (words : List Text) (bytes : Option (List ℕ)) (ended : Ending) : Type 0 where
-  pub told : Told
+  pub told : RunOptions
   pub named : asked_by words ≡ Some (a_run told)
   pub stops : StopsRun ways bytes_of told bytes ended
 

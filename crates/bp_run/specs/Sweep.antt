@@ -38,14 +38,14 @@ AreTaken {T} traces bytes_of (at_path path) column bytes references =
     (file : T) × traces path (Some file) × AreReferencesOf column (bytes_of file) references
 
 -- for each number of frames a pool of each K, and the optimum
-abbrev pub plans_told : Sweep → List Plan
-plans_told s = plans_of s.frames s.ks s.correlated
+abbrev pub plans_given : Sweep → List Plan
+plans_given s = plans_of s.frames s.ks s.correlated
 
 -- what was written is the table of their cells, which has these lines: each says what its pool
 -- counts over the references
 pub record Tabulates (s : Sweep) (references : Pages) (lines : List Line)
     (old new : Option (List ℕ)) : Type 0 where
-  pub cells : AreCells references (plans_told s) lines
+  pub cells : AreCells references (plans_given s) lines
   pub written : Appends old new (table_text lines)
 
 -- the table was written, and its picture drawn where the words ask for one
@@ -95,7 +95,7 @@ NotTaken {T} traces bytes_of (at_path path) column bytes ended =
 -- a cell was refused, and the sweep with it
 pub record StopsAtCell (s : Sweep) (references : Pages) (ended : Ending) : Type 0 where
   pub why : CellFault
-  pub refused : SweepRefused references (plans_told s) why
+  pub refused : SweepRefused references (plans_given s) why
   pub said : ended ≡ ending.RunRefused why.refusal
 
 -- memory is wanted for the plans, or a cell was refused
@@ -122,7 +122,7 @@ NotWritten saves s lines old new ended =
 pub record StopsAtTable (saves : Text → List ℕ → Bool → Type 0) (s : Sweep) (references : Pages)
     (old new : Option (List ℕ)) (ended : Ending) : Type 0 where
   pub lines : List Line
-  pub cells : AreCells references (plans_told s) lines
+  pub cells : AreCells references (plans_given s) lines
   pub why : NotWritten saves s lines old new ended
 
 -- there is no table, or no picture of it

@@ -1,24 +1,24 @@
 //! A run in free order: one thread for each client.
 ghost use Rattle.std.specs.Prelude.{◌≡◌, ◌≢◌, All, List, IfErr, IfOk, vec_len};
 ghost use Rattle.bp_core.specs.Outcomes.{IsFit};
-ghost use Rattle.bp_clients.specs.Jobs.{lists};
-ghost use Rattle.bp_clients.specs.Runs.{IsRun};
+ghost use Rattle.bp_workers.specs.Scripts.{lists};
+ghost use Rattle.bp_workers.specs.ScriptRuns.{IsRun};
 ghost use Rattle.bp_core.specs.Agreement.{parameters_with};
 ghost use Rattle.bp_trace.specs.InRange.{IsInRange};
 ghost use Rattle.bp_cli.specs.Decision.{IsRunnable};
 ghost use Rattle.bp_run.specs.Run.{ReportsFree, parameters_for};
 ghost use Rattle.bp_run.specs.Scripts.{clients_of, scripts_of};
 ghost use Rattle.bp_run.specs.Stops.{NotReported};
-ghost use Rattle.bp_cli.specs.Words.{told_of};
+ghost use Rattle.bp_cli.specs.Words.{options_of};
 
 use crate::run::{print_run, room_for};
 use crate::scripts::{client_count, split};
 use bp_cli::{Ending, Order, RunWords};
-use bp_clients::{Config, Outcome, run_clients};
 use bp_core::Row;
 use bp_page::Geometry;
 use bp_ports::Port;
 use bp_replacer::Settings;
+use bp_workers::{Config, Outcome, run_clients};
 use std::alloc::Global;
 use std::io::Write;
 use std::marker::{Send, Sync};
@@ -27,9 +27,9 @@ use std::thread::Threads;
 
 /// What the pool of a run in free order is made with.
 fn config_of(run: &RunWords<'_>, geometry: Geometry, rows: &[Row]) -> Config
-    requires runnable { IsRunnable (told_of run.now) }
+    requires runnable { IsRunnable (options_of run.now) }
     ensures parameters { parameters_with result (clients_of rows.now) ≡ parameters_for Order.Free
-        (told_of run.now) geometry rows.now }
+        (options_of run.now) geometry rows.now }
     ensures geometry { result.geometry ≡ geometry }
 {
     let settings = Settings::new(run.k, run.correlated, run.retained).unwrap();
@@ -83,12 +83,12 @@ pub(crate) fn run_free<P: Port + Send, R: Threads + Wait + Sync, W: Write>(
     rows: Vec<Row>,
     out: &mut W,
 ) -> Result<bool, Ending>
-    requires runnable { IsRunnable (told_of run.now) }
+    requires runnable { IsRunnable (options_of run.now) }
     requires ports { vec_len ports ≡ clients_of rows.items }
     requires alike { All (λ p. P.geometry_of p ≡ geometry) ports.items }
     requires fits { All (IsInRange geometry) rows.items }
     ensures reported { IfOk result (λ all_accepted. ReportsFree P.read_gives P.write_gives
-        run.now.totals (parameters_for Order.Free (told_of run.now) geometry rows.items)
+        run.now.totals (parameters_for Order.Free (options_of run.now) geometry rows.items)
         ports.items (scripts_of rows.items) all_accepted
         (W.contents out.old) (W.contents out.new)) }
     ensures fault { IfErr result (NotReported Order.Free) }

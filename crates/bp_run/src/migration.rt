@@ -9,7 +9,7 @@ use crate::file_ids::FileId;
 use crate::meter::{Meter, clear_line};
 use bp_cli::{Ending, Line, MigrationWords};
 use bp_page::{Format, Geometry, Refusal};
-use bp_ports::{MigrateFault, Progress, Untold, geometry_of_file, migrate_told};
+use bp_ports::{MigrateFault, Progress, Unwatched, geometry_of_file, migrate_watched};
 use std::alloc::Global;
 use std::fs;
 use std::fs::{File, OpenFile};
@@ -63,7 +63,7 @@ fn copy_pages<I: Read + Drop, W: Write + OpenFile + Drop, P: Progress>(
     let Ok(mut writer) = BufWriter::new(alloc, new) else {
         return Err(no_memory);
     };
-    match migrate_told(alloc, &mut reader, &mut writer, geometry, progress) {
+    match migrate_watched(alloc, &mut reader, &mut writer, geometry, progress) {
         Ok(()) => {}
         Err(fault) => return Err(ending_of(fault)),
     }
@@ -157,6 +157,14 @@ pub(crate) fn migrate<R: Files, E: Write>(
         clear_line(err);
         made
     } else {
-        make_file(rt, alloc, old, &geometry, beside.as_str(), new, &mut Untold)
+        make_file(
+            rt,
+            alloc,
+            old,
+            &geometry,
+            beside.as_str(),
+            new,
+            &mut Unwatched,
+        )
     }
 }

@@ -7,7 +7,7 @@ ghost use Rattle.bp_trace.specs.InRange.{IsInRange};
 ghost use Rattle.bp_trace.specs.Report.{rows_text};
 ghost use Rattle.bp_cli.specs.Decision.{AsksForAnswer, AsksForHelp, AsksForVersion, IsRunnable};
 ghost use Rattle.bp_cli.specs.Ending.{message_of};
-ghost use Rattle.bp_cli.specs.Words.{told_of, trace_told, words_or_default};
+ghost use Rattle.bp_cli.specs.Words.{options_of, trace_given, words_or_default};
 ghost use Rattle.bp_run.specs.Opening.{ending_of};
 ghost use Rattle.bp_run.specs.PageFile.{IsNamed};
 ghost use Rattle.bp_run.specs.Run.{AreRead, AreRowsOf, Reports, ReportsIn, Runs, DoesWords};
@@ -20,7 +20,7 @@ use crate::free::run_free;
 use crate::migration::migrate;
 use crate::opening::Ports;
 use crate::scripts::client_count;
-use crate::sweeping::sweep_told;
+use crate::sweeping::sweep_as_asked;
 use bp_cli::{Ending, Order, RunWords, Task, TraceSource, decide};
 use bp_core::config::MAX_CLIENTS;
 use bp_core::{Core, Entry, Refused, Row};
@@ -101,9 +101,9 @@ fn new_core(
     geometry: Geometry,
     rows: &[Row],
 ) -> Result<Core, Ending>
-    requires runnable { IsRunnable (told_of run.now) }
+    requires runnable { IsRunnable (options_of run.now) }
     ensures made { IfOk result (λ core. (core.parameters ≡ parameters_for Order.Trace
-        (told_of run.now) geometry rows.now) × (core.before ≡ []) × (core.past ≡ [])) }
+        (options_of run.now) geometry rows.now) × (core.before ≡ []) × (core.past ≡ [])) }
     ensures fault { IfErr result (λ ended. ended ≡ Ending.RunRefused Refusal.OutOfMemory) }
 {
     let settings = Settings::new(run.k, run.correlated, run.retained).unwrap();
@@ -157,10 +157,10 @@ fn run_rows<P: Port, R: Wait, W: Write>(
     rows: &[Row],
     out: &mut W,
 ) -> Result<bool, Ending>
-    requires runnable { IsRunnable (told_of run.now) }
+    requires runnable { IsRunnable (options_of run.now) }
     requires fits { All (IsInRange (P.geometry_of port.old)) rows.now }
     ensures reported { IfOk result (λ ok. Reports P.read_gives P.write_gives run.now.totals
-        (parameters_for Order.Trace (told_of run.now) (P.geometry_of port.old) rows.now)
+        (parameters_for Order.Trace (options_of run.now) (P.geometry_of port.old) rows.now)
         port.old rows.now ok (W.contents out.old) (W.contents out.new)) }
     ensures fault { IfErr result (NotReported Order.Trace) }
     ensures kept { IfErr result (λ ended. ended ≢ Ending.OutputFailed → out.new ≡ out.old) }
@@ -196,10 +196,10 @@ fn rows_of<I: Read, R, O: Ports<R>>(
     geometry: &Geometry,
 ) -> Result<Vec<Row>, Ending>
     ensures read { IfOk result (λ rows. AreRead O.ways.traces O.T.remaining
-        (trace_told trace.entry) geometry.now (I.remaining reader.old) rows.items) }
+        (trace_given trace.entry) geometry.now (I.remaining reader.old) rows.items) }
     ensures fits { IfOk result (λ rows. All (IsInRange geometry.now) rows.items) }
     ensures fault { IfErr result (NotRead O.ways.traces O.T.remaining
-        (trace_told trace.entry) geometry.now (I.remaining reader.old)) }
+        (trace_given trace.entry) geometry.now (I.remaining reader.old)) }
 {
     match trace {
         TraceSource::Stdin => rows_from(alloc, reader, geometry),
@@ -226,12 +226,12 @@ fn ending_of(fault: OpenFault) -> Ending
 
 /// The page file that the words name.
 fn open_file<R, O: Ports<R>>(rt: &R, ports: &mut O, run: &RunWords<'_>) -> Result<O::F, Ending>
-    requires runnable { IsRunnable (told_of run.now) }
+    requires runnable { IsRunnable (options_of run.now) }
     ensures gave { IfOk result (λ file. O.ways.opens run.now.page_file.now run.now.page_size
         run.now.format (Ok file)) }
     ensures named { IfOk result (λ file. IsNamed run.now.page_file.now run.now.page_size
         run.now.format (O.ways.memory file) (O.ways.geometry file) (O.ways.headed file)) }
-    ensures fault { IfErr result (NotOpened O.ways (told_of run.now)) }
+    ensures fault { IfErr result (NotOpened O.ways (options_of run.now)) }
 {
     match ports.open(rt, run.page_file, run.page_size, run.format) {
         Ok(file) => Ok(file),
@@ -272,12 +272,12 @@ fn run_in_order<P: Port + Send, R: Threads + Wait + Sync, W: Write>(
     rows: Vec<Row>,
     out: &mut W,
 ) -> Result<bool, Ending>
-    requires runnable { IsRunnable (told_of run.now) }
+    requires runnable { IsRunnable (options_of run.now) }
     requires ports { vec_len ports ≡ ports_for run.now.order rows.items }
     requires alike { All (λ p. P.geometry_of p ≡ geometry) ports.items }
     requires fits { All (IsInRange geometry) rows.items }
     ensures reported { IfOk result (λ ok. ReportsIn P.read_gives P.write_gives run.now.order
-        run.now.totals (parameters_for run.now.order (told_of run.now) geometry rows.items)
+        run.now.totals (parameters_for run.now.order (options_of run.now) geometry rows.items)
         ports.items rows.items ok (W.contents out.old) (W.contents out.new)) }
     ensures fault { IfErr result (NotReported run.now.order) }
     ensures kept { IfErr result (λ ended. ended ≢ Ending.OutputFailed → out.new ≡ out.old) }
@@ -293,7 +293,7 @@ fn run_in_order<P: Port + Send, R: Threads + Wait + Sync, W: Write>(
 /// whether all were accepted.
 ///
 /// The trace is read whole first: where it has no script, nothing is written.
-fn run_told<R: Threads + Wait + Sync, I: Read, O: Ports<R>, W: Write>(
+fn run_as_asked<R: Threads + Wait + Sync, I: Read, O: Ports<R>, W: Write>(
     rt: &R,
     alloc: Global,
     run: &RunWords<'_>,
@@ -301,10 +301,10 @@ fn run_told<R: Threads + Wait + Sync, I: Read, O: Ports<R>, W: Write>(
     ports: &mut O,
     out: &mut W,
 ) -> Result<bool, Ending>
-    requires runnable { IsRunnable (told_of run.now) }
+    requires runnable { IsRunnable (options_of run.now) }
     ensures ran { IfOk result (λ ok. Runs O.ways O.T.remaining O.P.read_gives O.P.write_gives
-        (told_of run.now) (I.remaining reader.old) ok (W.contents out.old) (W.contents out.new)) }
-    ensures stopped { IfErr result (StopsRun O.ways O.T.remaining (told_of run.now)
+        (options_of run.now) (I.remaining reader.old) ok (W.contents out.old) (W.contents out.new)) }
+    ensures stopped { IfErr result (StopsRun O.ways O.T.remaining (options_of run.now)
         (I.remaining reader.old)) }
     ensures kept { IfErr result (λ ended. ended ≢ Ending.OutputFailed → out.new ≡ out.old) }
 {
@@ -358,7 +358,7 @@ pub fn carry_out<
 {
     match decide(alloc, words)? {
         Task::Run(run) => {
-            let all_accepted = run_told(rt, alloc, &run, reader, ports, out)?;
+            let all_accepted = run_as_asked(rt, alloc, &run, reader, ports, out)?;
             Ok(status_of_run(all_accepted))
         }
         Task::Migrate(migration) => {
@@ -366,7 +366,7 @@ pub fn carry_out<
             Ok(0)
         }
         Task::Sweep(sweep) => {
-            sweep_told(rt, alloc, &sweep, reader, ports, out, err)?;
+            sweep_as_asked(rt, alloc, &sweep, reader, ports, out, err)?;
             Ok(0)
         }
         Task::Explain(text) => {

@@ -1,6 +1,6 @@
 //! The scripts of the clients of a trace.
 ghost use Rattle.std.specs.Prelude.{◌≡◌, ◌≢◌, ◌<◌, ◌++◌, ◌∷◌, ℕ, All, IfOk, OnOk, OnErr, [], length, vec_len};
-ghost use Rattle.bp_clients.specs.Jobs.{list_of, lists};
+ghost use Rattle.bp_workers.specs.Scripts.{list_of, lists};
 ghost use Rattle.bp_run.specs.Scripts.{clients_of, scripts_for};
 
 use bp_core::Row;

@@ -4,11 +4,11 @@ ghost use Rattle.std.specs.Io.KnownBytes.{Appends};
 ghost use Rattle.bp_charts.specs.Table.{table_text};
 ghost use Rattle.bp_sweep.specs.Sweeping.{AreCells};
 ghost use Rattle.bp_cli.specs.Asked.{IsColumn, SweepsInLimits, sweep_of};
-ghost use Rattle.bp_cli.specs.Words.{trace_told};
+ghost use Rattle.bp_cli.specs.Words.{trace_given};
 ghost use Rattle.bp_run.specs.Drawing.{IsDrawn};
 ghost use Rattle.bp_run.specs.Sweep.{AreReferencesOf, AreTaken, HasNoReferences, NotCounted, NotShown};
 ghost use Rattle.bp_run.specs.Sweep.{NotTaken, NotWritten, Shows, StopsSweep, Sweeps};
-ghost use Rattle.bp_run.specs.Sweep.{no_references, plans_told};
+ghost use Rattle.bp_run.specs.Sweep.{no_references, plans_given};
 
 use crate::drawing::picture_of;
 use crate::meter::{SweepMeter, clear_line};
@@ -17,7 +17,7 @@ use bp_charts::{Line, write_table};
 use bp_cli::{Ending, SweepWords, TraceSource};
 use bp_page::Refusal;
 use bp_sweep::{
-    Progress, ReferenceFault, References, Untold, count_cells, plans_of, read_column,
+    Progress, ReferenceFault, References, Unwatched, count_cells, plans_of, read_column,
     read_references,
 };
 use bp_trace::InputFault;
@@ -79,9 +79,9 @@ fn references_of<I: Read, R, O: Ports<R>>(
 ) -> Result<References, Ending>
     requires possible { SweepsInLimits (sweep_of words.now) }
     ensures taken { IfOk result (AreTaken O.ways.traces O.T.remaining
-        (trace_told words.now.references) words.now.column (I.remaining reader.old)) }
+        (trace_given words.now.references) words.now.column (I.remaining reader.old)) }
     ensures fault { IfErr result (NotTaken O.ways.traces O.T.remaining
-        (trace_told words.now.references) words.now.column (I.remaining reader.old)) }
+        (trace_given words.now.references) words.now.column (I.remaining reader.old)) }
 {
     match words.references {
         TraceSource::Stdin => references_from(alloc, words.column, reader),
@@ -103,7 +103,7 @@ fn count<R: Wait, G: Progress>(
     progress: &mut G,
 ) -> Result<Vec<Line>, Ending>
     ensures cells { IfOk result (λ lines. AreCells references.now
-        (plans_told (sweep_of words.now)) lines.items) }
+        (plans_given (sweep_of words.now)) lines.items) }
     ensures fault { IfErr result (NotCounted (sweep_of words.now) references.now) }
 {
     let Ok(plans) = plans_of(alloc, &words.frames, &words.ks, words.correlated) else {
@@ -125,7 +125,7 @@ fn count_watched<R: Wait + Clock, E: Write>(
     err: &mut E,
 ) -> Result<Vec<Line>, Ending>
     ensures cells { IfOk result (λ lines. AreCells references.now
-        (plans_told (sweep_of words.now)) lines.items) }
+        (plans_given (sweep_of words.now)) lines.items) }
     ensures fault { IfErr result (NotCounted (sweep_of words.now) references.now) }
     ensures err_kept { is_watched ≡ false → err.new ≡ err.old }
 {
@@ -135,7 +135,7 @@ fn count_watched<R: Wait + Clock, E: Write>(
         clear_line(err);
         counted
     } else {
-        count(rt, alloc, words, references, &mut Untold)
+        count(rt, alloc, words, references, &mut Unwatched)
     }
 }
 
@@ -222,7 +222,7 @@ fn show<R: Wait + Clock, O: Ports<R>, W: Write, E: Write>(
 /// All references are read before any cell is counted, all cells are counted before the table is written, and the
 /// picture is written last. `PictureNotWritten` comes only where that fails; want of memory for the picture is known
 /// before the table is written.
-pub(crate) fn sweep_told<R: Wait + Clock, I: Read, O: Ports<R>, W: Write, E: Write>(
+pub(crate) fn sweep_as_asked<R: Wait + Clock, I: Read, O: Ports<R>, W: Write, E: Write>(
     rt: &R,
     alloc: Global,
     words: &SweepWords<'_>,

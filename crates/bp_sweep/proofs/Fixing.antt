@@ -18,13 +18,13 @@ use Rattle.bp_core.specs.declared.passes.ReadTicket.{ReadTicket}
 use Rattle.bp_core.specs.declared.passes.WriteTicket.{WriteTicket}
 use Rattle.bp_core.specs.declared.passes.Fix.{Fix as Fixing}
 use Rattle.bp_core.specs.declared.passes.Fix.TheVariants as fixing
-use Rattle.bp_core.specs.ReadFaults.{read_refusal}
+use Rattle.bp_trail.specs.Ends.{read_refusal}
 use Rattle.bp_core.specs.CoreView.{CoreView, with_entry, HasRoomFor}
 use Rattle.bp_core.specs.Outcomes.{FixOutcome, TickOutcome}
 use Rattle.bp_device.specs.Drivers.{DrivesFix, LoadOutcome}
 use Rattle.bp_device.proofs.Driving.{adds-none, hit-drives, load-drives, refusal-drives}
-use Rattle.bp_audit.specs.declared.totals.Totals.{Totals}
-use Rattle.bp_audit.specs.Totals.{counted, no_totals, HasRoom}
+use Rattle.bp_trail.specs.declared.totals.Totals.{Totals}
+use Rattle.bp_trail.specs.Totals.{counted, no_totals, HasRoom}
 use Rattle.bp_sweep.specs.Referring.{IsTallied, FixesPage, HasRun, is_passed_over}
 use Rattle.bp_sweep.proofs.Tally.{tally-room, room-few, tally-entry, done-totals, totals-none, no-write-out}
 use Rattle.bp_sweep.proofs.Steps.{run-fixed, run-passed}

@@ -26,7 +26,7 @@ use Rattle.bp_device.specs.Drivers.{DrivesFix}
 use Rattle.bp_device.specs.Rows.{DrivesRows, AddsScript}
 use Rattle.bp_device.proofs.PieceSteps.{fix-drives, fix_refused-drives, unfix-drives, no_pass-drives, tick-drives}
 use Rattle.bp_device.proofs.ScriptSteps.{rows-none, rows-step, rows-end, rows-parameters, going-none, going-done, script-done}
-use Rattle.bp_audit.specs.declared.totals.Totals.{Totals}
+use Rattle.bp_trail.specs.declared.totals.Totals.{Totals}
 use Rattle.bp_sweep.specs.Cells.{rows_of, script_from, script_of, Counted}
 use Rattle.bp_sweep.specs.Referring.{HasRun, IsTallied}
 

@@ -21,11 +21,11 @@ use Rattle.bp_trail.specs.Parameters.{Parameters}
 use Rattle.bp_trail.specs.Trail.{Trail}
 use Rattle.bp_trail.specs.Legal.{Legal}
 use Rattle.bp_trail.specs.Pieces.{by}
-use Rattle.bp_audit.specs.declared.totals.Totals.{Totals}
-use Rattle.bp_audit.specs.Totals.{HasRoom, counted, no_totals, one, replies, totals_of}
-use Rattle.bp_audit.specs.Totals.{is_hit, is_fault, is_eviction, is_failure, is_refusal}
-use Rattle.bp_audit.specs.Totals.{is_write as is_write_reply}
-use Rattle.bp_core.specs.ReadFaults.{read_failure}
+use Rattle.bp_trail.specs.declared.totals.Totals.{Totals}
+use Rattle.bp_trail.specs.Totals.{HasRoom, counted, no_totals, one, replies, totals_of}
+use Rattle.bp_trail.specs.Totals.{is_hit, is_fault, is_eviction, is_failure, is_refusal}
+use Rattle.bp_trail.specs.Totals.{is_write as is_write_reply}
+use Rattle.bp_trail.specs.Ends.{read_failure}
 use Rattle.bp_core.specs.CoreView.{CoreView, with_entry, HasRoomFor}
 use Rattle.bp_page.specs.declared.refusals.Refusal.{Refusal}
 use Rattle.bp_core.specs.declared.passes.Pass.{Pass}

@@ -11,8 +11,8 @@ use Rattle.bp_trail.specs.Trail.{Trail}
 use Rattle.bp_trail.specs.Legal.{Legal}
 use Rattle.bp_trail.specs.Pieces.Manner.{driver}
 use Rattle.bp_trail.specs.Script.{Follows}
-use Rattle.bp_audit.specs.declared.totals.Totals.{Totals}
-use Rattle.bp_audit.specs.Totals.{totals_of}
+use Rattle.bp_trail.specs.declared.totals.Totals.{Totals}
+use Rattle.bp_trail.specs.Totals.{totals_of}
 
 -- the rows of the reference with this number, from 0: client 0 fixes the page, gives it back, and
 -- moves the clock by one

@@ -11,8 +11,8 @@ use Rattle.bp_core.specs.declared.passes.Pass.{Pass}
 use Rattle.bp_core.specs.CoreView.{CoreView}
 use Rattle.bp_device.specs.Drivers.{DrivesFix}
 use Rattle.bp_device.specs.Rows.{DrivesRows}
-use Rattle.bp_audit.specs.declared.totals.Totals.{Totals}
-use Rattle.bp_audit.specs.Totals.{totals_of}
+use Rattle.bp_trail.specs.declared.totals.Totals.{Totals}
+use Rattle.bp_trail.specs.Totals.{totals_of}
 use Rattle.bp_sweep.specs.Cells.{script_of}
 
 -- no page was written to

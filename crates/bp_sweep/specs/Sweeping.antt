@@ -6,7 +6,7 @@ use Rattle.bp_replacer.specs.Limits.{IsWithinLimits}
 use Rattle.bp_charts.specs.declared.farthest.Optimum.{Optimum as BestCounts}
 use Rattle.bp_charts.specs.Optimum.{IsOptimum}
 use Rattle.bp_charts.specs.declared.table.Line.{Line}
-use Rattle.bp_audit.specs.declared.totals.Totals.{Totals}
+use Rattle.bp_trail.specs.declared.totals.Totals.{Totals}
 use Rattle.bp_sweep.specs.declared.cells.Plan.{Plan}
 use Rattle.bp_sweep.specs.declared.cells.Policy.{Policy}
 use Rattle.bp_sweep.specs.declared.cells.Policy.TheVariants.{LruK, Optimum}

@@ -6,17 +6,17 @@ ghost use Rattle.bp_core.specs.Outcomes.{KnowsPass, KnowsRead};
 ghost use Rattle.bp_trail.specs.declared.entries.Call.TheVariants as call;
 ghost use Rattle.bp_trail.specs.declared.entries.Reply.TheVariants as reply;
 ghost use Rattle.bp_device.specs.Drivers.{LoadOutcome};
-ghost use Rattle.bp_audit.specs.Totals.{HasRoom, counted};
+ghost use Rattle.bp_trail.specs.Totals.{HasRoom, counted};
 ghost use Rattle.bp_sweep.specs.Cells.{Counted, cell_parameters};
 ghost use Rattle.bp_sweep.specs.Referring.{AreFrames, CellRefused, EndsCell, FixesPage, HasRun};
 ghost use Rattle.bp_sweep.specs.Referring.{IsTallied, is_passed_over};
 
-use crate::progress::{Progress, Turn, Untold, tell};
-use bp_audit::Totals;
+use crate::progress::{Progress, Turn, Unwatched, tell};
 use bp_core::{EndRefusal, Fix, Pass, ReadTicket, Reply, SilentCore};
 use bp_page::{Image, PageNo, PortFault, Refusal};
 use bp_ports::Port;
 use bp_replacer::Settings;
+use bp_trail::Totals;
 use std::alloc::Global;
 use std::sync::Wait;
 
@@ -219,7 +219,7 @@ pub fn count_references<P: Port, R: Wait>(
         settings,
         frames,
         references,
-        &mut Untold,
+        &mut Unwatched,
         turn,
     )
 }

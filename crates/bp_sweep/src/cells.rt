@@ -9,13 +9,13 @@ ghost use Rattle.bp_sweep.specs.Sweeping.{SweepRefused, best_totals, k_of, line_
 use crate::cell::count_cell;
 use crate::dense::References;
 use crate::progress::{Progress, Turn};
-use bp_audit::Totals;
 use bp_charts::{Line, Optimum, count_optimum};
 use bp_core::config::MAX_FRAMES;
 use bp_page::{Geometry, Refusal};
 use bp_ports::MemDevice;
 use bp_replacer::Settings;
 use bp_replacer::settings::MAX_PERIOD;
+use bp_trail::Totals;
 use std::alloc::Global;
 use std::sync::Wait;
 use thiserror::Error;

@@ -12,7 +12,7 @@ mod plans;
 mod progress;
 mod retried;
 
-pub use bp_audit::Totals;
+pub use bp_trail::Totals;
 pub use cell::count_references;
 pub use cells::{CellFault, Plan, Policy, count_cells};
 pub use column::read_column;
@@ -20,4 +20,4 @@ pub use dense::References;
 pub use faults::ReferenceFault;
 pub use lists::read_references;
 pub use plans::plans_of;
-pub use progress::{Progress, Untold};
+pub use progress::{Progress, Unwatched};

@@ -9,9 +9,9 @@ pub trait Progress {
 
 /// Nobody is told.
 #[derive(Clone, Copy)]
-pub struct Untold;
+pub struct Unwatched;
 
-impl Progress for Untold {
+impl Progress for Unwatched {
     fn advanced(&mut self, _cell: u64, _cells: u64, _counted: u64, _references: u64) {}
 }
 

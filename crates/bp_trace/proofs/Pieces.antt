@@ -6,10 +6,10 @@ use Rattle.bp_trail.specs.declared.entries.Entry.{Entry}
 use Rattle.bp_trail.specs.declared.entries.Reply.{Reply}
 use Rattle.bp_trail.specs.Trail.{Trail}
 use Rattle.bp_trail.specs.Clock.{clock}
-use Rattle.bp_audit.specs.declared.totals.Totals.{Totals}
+use Rattle.bp_trail.specs.declared.totals.Totals.{Totals}
 use Rattle.bp_trace.specs.Lines.{event_line}
 use Rattle.bp_trace.specs.Totals.{totals_text}
-use Rattle.bp_audit.specs.Totals.{counted, is_eviction, is_failure, is_fault, is_hit, is_refusal, is_write, one, replies, totals_of}
+use Rattle.bp_trail.specs.Totals.{counted, is_eviction, is_failure, is_fault, is_hit, is_refusal, is_write, one, replies, totals_of}
 use Rattle.bp_trace.specs.Report.{lines_after, report_text, steps_of}
 use Rattle.bp_trace.specs.Pieces.{lines_from, Taken, none_taken, and_one, and_taken, text_of_pieces, joined, MayTake, TakesNoMore}
 use Rattle.bp_trace.proofs.Entries.{clock-next, drop-item}

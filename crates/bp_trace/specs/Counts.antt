@@ -1,6 +1,6 @@
 -- How high totals may be.
 use Rattle.std.specs.Prelude.{ℕ, ◌≤◌}
-use Rattle.bp_audit.specs.declared.totals.Totals.{Totals}
+use Rattle.bp_trail.specs.declared.totals.Totals.{Totals}
 
 -- no total is above the number of entries
 abbrev pub AreWithin : ℕ → Totals → Type 0

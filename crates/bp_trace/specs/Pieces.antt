@@ -1,11 +1,11 @@
 -- What is printed of a run that is told piece by piece.
 use Rattle.std.specs.Prelude.{ℕ, ◌+◌, ◌^◌, ◌≤◌, ◌<◌, length, List, [], ◌∷◌, ◌++◌}
 use Rattle.bp_trail.specs.declared.entries.Entry.{Entry}
-use Rattle.bp_audit.specs.declared.totals.Totals.{Totals}
+use Rattle.bp_trail.specs.declared.totals.Totals.{Totals}
 use Rattle.bp_trace.specs.declared.printing.pieces.ReportRun.{ReportRun}
 use Rattle.bp_trace.specs.Lines.{event_line}
 use Rattle.bp_trace.specs.Totals.{totals_text}
-use Rattle.bp_audit.specs.Totals.{no_totals, counted}
+use Rattle.bp_trail.specs.Totals.{no_totals, counted}
 use Rattle.bp_trace.specs.Report.{steps_of}
 
 -- the lines of entries, oldest first, from this time on

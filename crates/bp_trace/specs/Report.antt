@@ -8,7 +8,7 @@ use Rattle.bp_trail.specs.Trail.{Trail}
 use Rattle.bp_trail.specs.Clock.{clock}
 use Rattle.bp_trace.specs.Lines.{event_line, refused_line}
 use Rattle.bp_trace.specs.Totals.{totals_text}
-use Rattle.bp_audit.specs.Totals.{totals_of}
+use Rattle.bp_trail.specs.Totals.{totals_of}
 
 -- the steps by which a call moves the clock
 abbrev pub steps_of : Call → ℕ

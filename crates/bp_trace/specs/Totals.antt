@@ -1,7 +1,7 @@
 -- The lines that say how many replies of each kind a list of entries has.
 use Rattle.std.specs.Prelude.{ℕ, List, ◌++◌, codes}
 use Rattle.std.specs.Fmt.{decimal}
-use Rattle.bp_audit.specs.declared.totals.Totals.{Totals}
+use Rattle.bp_trail.specs.declared.totals.Totals.{Totals}
 
 unfoldable pub total_line : List ℕ → ℕ → List ℕ
 total_line name n = name ++ codes " " ++ decimal n ++ codes "\n"

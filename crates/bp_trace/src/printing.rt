@@ -2,15 +2,14 @@
 ghost use Rattle.std.specs.Prelude.{◌≡◌, [], IfOk, OnOk};
 ghost use Rattle.std.specs.Io.KnownBytes.{Appends};
 ghost use Rattle.bp_trace.specs.Totals.{totals_text};
-ghost use Rattle.bp_audit.specs.Totals.{totals_of};
+ghost use Rattle.bp_trail.specs.Totals.{totals_of};
 ghost use Rattle.bp_trace.specs.Report.{lines_after, report_text, rows_text, steps_of};
 
 mod pieces;
 
 use crate::lines::{write_event, write_refused};
 use crate::total_lines::write_totals;
-use bp_audit::Totals;
-use bp_trail::{Call, Entry, Refused};
+use bp_trail::{Call, Entry, Refused, Totals};
 pub use pieces::ReportRun;
 use std::io;
 use std::io::Write;

@@ -3,7 +3,7 @@ ghost use Rattle.std.specs.Prelude.{OnOk};
 ghost use Rattle.std.specs.Io.KnownBytes.{Appends};
 ghost use Rattle.bp_trace.specs.Totals.{total_line, totals_text};
 
-use bp_audit::Totals;
+use bp_trail::Totals;
 use std::io;
 use std::io::Write;
 

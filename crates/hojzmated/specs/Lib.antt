@@ -13,10 +13,10 @@ pub use Rattle.bp_trail.specs.Saved
 pub use Rattle.bp_trail.specs.Legal
 pub use Rattle.bp_trail.specs.Pieces
 pub use Rattle.bp_trail.specs.Script
+pub use Rattle.bp_trail.specs.Ends
 -- What the calls of a core answer and leave, which pages are unsaved, and what is counted.
 pub use Rattle.bp_core.specs.CoreView
 pub use Rattle.bp_core.specs.Outcomes
-pub use Rattle.bp_core.specs.EndRefusals
 pub use Rattle.bp_core.specs.Unsaved
 pub use Rattle.bp_core.specs.Counts
 pub use Rattle.bp_core.specs.Added

@@ -18,12 +18,12 @@ pub use bp_core::{
     SilentCore, Stats, WriteTicket,
 };
 pub use bp_keeper::{Keeper, ListKeeper, RecordingKeeper, SilentKeeper};
-pub use bp_trail::{Call, Entry, Flushed, Grant, Reply};
+pub use bp_trail::{Call, Entry, Flushed, Grant, Reply, Totals, agrees};
 
 // Ports, and page files.
 pub use bp_ports::{
-    FilePort, MemDevice, MemPort, MigrateFault, OpenFault, Port, Progress, Store, Untold,
-    create_page_file, geometry_of_file, migrate_told, migrate_with,
+    FilePort, MemDevice, MemPort, MigrateFault, OpenFault, Port, Progress, Store, Unwatched,
+    create_page_file, geometry_of_file, migrate_watched, migrate_with,
 };
 
 // A pool for one owner; and a whole fix or flush of a core that has one.
@@ -44,4 +44,3 @@ pub use bp_shared::{
 };
 
 // What lists of entries come to.
-pub use bp_audit::{Totals, agrees};

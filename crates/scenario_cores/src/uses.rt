@@ -5,7 +5,7 @@ use crate::buffers::{bytes_read, span_of};
 use crate::lists::{grant_of, pass_of};
 use crate::outcomes::{content, done, lsn_or_none};
 use crate::pools::Pool;
-use bp_core::{EndRefusal, Ended as WriteEnded, Keeper};
+use bp_core::{EndRefusal, Keeper};
 use bp_page::{Bytes, Image, Lsn, PortFault, Refusal};
 use bp_trail::{Grant, Reply};
 use scenario_words::{Answer, Said, Verb, filled, named};
@@ -34,8 +34,7 @@ impl<K: Keeper> Pool<K> {
 
     fn end_write(&mut self, ticket: Grant, written: Result<(), PortFault>) -> Answer {
         match self.core.write_end_by(ticket, written) {
-            Ok(WriteEnded::Cleaned) => Answer::Reply(Reply::Cleaned),
-            Ok(WriteEnded::StillDirty) => Answer::Reply(Reply::StillDirty),
+            Ok(ended) => Answer::Reply(ended.reply()),
             Err(EndRefusal::Failed(refusal)) => Answer::Refused(refusal),
             Err(EndRefusal::Unknown(back, _)) => Answer::Back(Refusal::UnknownTicket, back, None),
         }

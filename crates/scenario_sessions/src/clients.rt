@@ -3,12 +3,11 @@ ghost use Rattle.std.specs.Prelude.{◌≡◌};
 
 use crate::kinds::Kind;
 use crate::making::Noting;
-use bp_audit::agrees;
 use bp_core::{Call, Entry, Reply};
 use bp_device::Port;
 use bp_page::Lsn;
 use bp_shared::{PoolName, Session, SharedPool};
-use bp_trail::Grant;
+use bp_trail::{Grant, agrees};
 use scenario_cores::{
     Lists, bytes_read, content, done, flushed, flushed_all, forgot, grant_of, lsn_or_none,
     page_or_none, pass_of, span_of, stats_of, went,
@@ -37,7 +36,7 @@ impl Note {
 
 /// What is told of a client without a call.
 #[derive(Clone, Copy)]
-pub(crate) struct Told {
+pub(crate) struct Standing {
     pub(crate) held: usize,
     pub(crate) entries: usize,
     /// The tickets that the list gave and did not end.
@@ -60,9 +59,12 @@ fn tickets_out(entries: &[Entry]) -> u64 {
 }
 
 /// What is told of a client with this session, whose port failed so often.
-pub(crate) fn told_of<N: PoolName, K: Kind>(session: &Session<N, K>, failures: u64) -> Told {
+pub(crate) fn standing_of<N: PoolName, K: Kind>(
+    session: &Session<N, K>,
+    failures: u64,
+) -> Standing {
     let list = K::list(session);
-    Told {
+    Standing {
         held: session.held_count(),
         entries: list.len(),
         out: tickets_out(list),

@@ -1,8 +1,8 @@
 //! What a run of client threads left.
 
 use bp_check::Setup;
-use bp_clients::Outcome;
 use bp_core::{Call, Entry, Reply};
+use bp_workers::Outcome;
 use scenario_cores::Device;
 use scenario_words::{Answer, Said, Verb, entry_of, refusals_of, totals_of};
 use std::alloc::Global;

@@ -2,9 +2,9 @@
 
 use crate::answers::Answers;
 use crate::scripts::Asked;
-use bp_clients::Outcome;
 use bp_core::{Entry, Refused, Reply};
 use bp_page::Image;
+use bp_workers::Outcome;
 use scenario_words::Answer;
 use std::alloc::Global;
 

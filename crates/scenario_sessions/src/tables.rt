@@ -2,7 +2,7 @@
 ghost use Rattle.std.specs.Prelude.{◌≡◌};
 
 use crate::answers::Answers;
-use crate::clients::{Note, Told, call, is_part, tell, told_of};
+use crate::clients::{Note, Standing, call, is_part, standing_of, tell};
 use crate::kinds::Kind;
 use crate::making::{Beside, Made};
 use bp_device::Port;
@@ -79,7 +79,7 @@ enum Lack {
 
 /// What a call lacked that answers so, with what was told before it and after it. A fix and a flush may leave entries,
 /// where memory was wanted after their first event; no call leaves a pass or a ticket.
-fn lack_of(verb: Verb, answer: &Answer, before: Told, after: Told) -> Lack {
+fn lack_of(verb: Verb, answer: &Answer, before: Standing, after: Standing) -> Lack {
     let is_image = matches!(answer, Answer::Refused(Refusal::ReadFailed))
         && before.failures == after.failures;
     if !is_image && !answer.lacks_memory() {
@@ -216,10 +216,10 @@ impl<N: PoolName, K: Kind> Table<N, K> {
         }
     }
 
-    fn told(&self, client: u64) -> Told {
+    fn told(&self, client: u64) -> Standing {
         match self.sessions.get(client as usize) {
-            Some(session) => told_of(session, self.failures(client)),
-            None => Told {
+            Some(session) => standing_of(session, self.failures(client)),
+            None => Standing {
                 held: 0,
                 entries: 0,
                 out: 0,

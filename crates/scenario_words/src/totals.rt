@@ -1,8 +1,7 @@
 //! What entries count up to, as an answer.
 
 use crate::answers::Answer;
-use bp_audit::Totals;
-use bp_trail::Entry;
+use bp_trail::{Entry, Totals};
 use std::alloc::Global;
 
 /// What these entries count up to, but for so many of the reads that failed.

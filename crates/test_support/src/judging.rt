@@ -1,7 +1,7 @@
 //! What the judge says of the entries of a pool.
 use bp_check::{Setup, first_unlawful};
-use bp_clients::Config;
 use bp_core::{Core, Entry, Keeper, PoolCore};
+use bp_workers::Config;
 use std::alloc::{AllocError, Global};
 
 /// What the entries of a core are judged by.

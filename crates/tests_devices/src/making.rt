@@ -1,10 +1,10 @@
 //! What the tests share: pages of 16 bytes, four of them and one frame, and ports of which one call fails.
 ghost use Rattle.std.specs.Prelude.{◌≡◌, All, vec_len};
 
-use bp_clients::{Config, Outcome, run_clients, scripts_fit};
 use bp_device::{FusePort, MemDevice, MemPort, Port};
 use bp_lruk::Settings;
 use bp_page::{Geometry, Image, Lsn, PageNo};
+use bp_workers::{Config, Outcome, run_clients, scripts_fit};
 use std::marker::Sync;
 use std::process::Abort;
 use std::sync::Wait;

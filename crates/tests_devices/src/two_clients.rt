@@ -1,8 +1,8 @@
 //! Two clients over one frame, and one call of one port fails.
 use crate::making::{Failing, NINE, ZEROS, config, device, run};
-use bp_audit::Totals;
-use bp_clients::Outcome;
 use bp_core::Reply;
+use bp_trail::Totals;
+use bp_workers::Outcome;
 use std::process::Abort;
 
 /// Each client changes page 1, which has to go out for page 2. That stays fixed, so that page 1 may find no frame.

@@ -1,6 +1,6 @@
 //! What entries tell of passes and tickets.
-use bp_audit::Totals;
 use bp_core::{Call, Entry, Reply};
+use bp_trail::Totals;
 use test_support::pools::unfixes;
 
 /// Whether all tickets of these entries went back.

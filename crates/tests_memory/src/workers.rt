@@ -3,13 +3,13 @@ ghost use Rattle.std.specs.Prelude.{◌≡◌};
 
 use crate::devices::{device, port_of};
 use crate::telling::all_went_back;
-use bp_audit::agrees;
 use bp_core::{RecordingKeeper, SilentKeeper};
 use bp_device::{MemPort, Port};
 use bp_keeper::ListKeeper;
 use bp_lruk::Settings;
 use bp_page::{Geometry, Refusal};
 use bp_shared::{PoolName, SharedPool};
+use bp_trail::agrees;
 use bp_workers::{Client, Config, Kind, Run, Upkeep, Worker, run_workers_over};
 use std::alloc::Global;
 use std::marker::Sync;

@@ -3,11 +3,11 @@ ghost use Rattle.std.specs.Prelude.{◌≡◌};
 ghost use Rattle.bp_page.specs.declared.limits.Geometry.{Geometry as AGeometry};
 
 use crate::gates::{Gate, HeldPort};
-use bp_audit::Totals;
 use bp_core::PassNote;
 use bp_device::{FusePort, MemDevice, MemPort, Port};
 use bp_page::{PageNo, Refusal};
 use bp_shared::{PoolName, Session, SharedPool};
+use bp_trail::Totals;
 use bp_workers::Client;
 use std::process::Abort;
 use std::sync::Wait;

@@ -6,11 +6,11 @@ ghost use Rattle.std.specs.Prelude.{◌≡◌};
 
 use crate::gates::Gate;
 use crate::making::{Fails, Way, change, clients_of, counts, look, on_device};
-use bp_audit::Totals;
 use bp_core::{Entry, Reply};
 use bp_device::Flushed;
 use bp_page::Refusal;
 use bp_shared::{PoolName, SharedPool, Taker};
+use bp_trail::Totals;
 use bp_workers::Client;
 use std::marker::{Brand, Send, Sync};
 use std::process::Abort;

@@ -24,7 +24,7 @@ side_weaker P Q follows n (x ∷ xs) [] each = absurd each
 -- a pass that goes back is no work of the device
 pub back_work : {A : Type 0} (reads : Reads A) (writes : Writes A) (said after : Trail) (port kept : A) → GoBack said after → DoesWorkSaid reads writes [] said port kept → DoesWorkSaid reads writes [] after port kept
 back_work reads writes said after port kept no_more work = work
-back_work reads writes said after port kept (one_more g later rest held) work =
+back_work reads writes said after port kept (one_more g later rest held own) work =
     let so_far = back_work reads writes said _ port kept rest work in
     record { piece = give_back g ∷ so_far.piece; grows = ap (λ es. give_back g ∷ es) so_far.grows; through = (kept, so_far.through, refl) }
 

@@ -3,11 +3,11 @@ ghost use Rattle.std.specs.Prelude.{◌≡◌, ◌<◌};
 ghost use Rattle.bp_workers.specs.Logs.{RaisesWithin};
 
 use crate::making::{config, ports};
-use bp_audit::Totals;
 use bp_core::{Call, Pass, RecordingKeeper};
 use bp_device::{MemPort, Port};
 use bp_page::{Lsn, PageNo, Refusal};
 use bp_shared::{PoolName, SharedPool};
+use bp_trail::Totals;
 use bp_workers::{
     Client, Leading, Left, Log, LogWriter, Patience, Upkeep, Worker, fix_durably, run_workers,
 };

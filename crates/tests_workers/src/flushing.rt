@@ -2,11 +2,11 @@
 ghost use Rattle.std.specs.Prelude.{◌≡◌};
 
 use crate::making::{config, ports};
-use bp_audit::Totals;
 use bp_core::RecordingKeeper;
 use bp_device::{MemPort, Port};
 use bp_page::{Lsn, PageNo, Refusal};
 use bp_shared::{PoolName, SharedPool};
+use bp_trail::Totals;
 use bp_workers::{Client, Left, Upkeep, Worker, run_workers};
 use std::alloc::Global;
 use std::cmp::min;

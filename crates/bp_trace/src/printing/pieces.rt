@@ -6,8 +6,7 @@ ghost use Rattle.bp_trace.specs.Counts.{AreWithin};
 use super::steps_of;
 use crate::lines::write_event;
 use crate::total_lines::write_totals;
-use bp_audit::Totals;
-use bp_trail::Entry;
+use bp_trail::{Entry, Totals};
 use std::io;
 use std::io::{ErrorKind, Write};
 

@@ -9,12 +9,12 @@ use Rattle.bp_sweep.specs.Dense.{Pages}
 use Rattle.bp_sweep.specs.Sweeping.{AreCells}
 use Rattle.bp_cli.specs.Asked.{Sweep, sweep_of}
 use Rattle.bp_run.specs.Drawing.{IsDrawn}
-use Rattle.bp_run.specs.Sweep.{Shows, plans_told}
+use Rattle.bp_run.specs.Sweep.{Shows, plans_given}
 use Rattle.bp_run.proofs.sweeping.show.Goals as goal
 
 -- lines that were lent, written and drawn
 shown : {A B : Type 0} (saves : Text → List ℕ → Bool → Type 0) (s : Sweep) (references : Pages) (lines lent : List Line) (old new : Option (List ℕ)) (result : Result A B)
-    → lent ≡ lines → AreCells references (plans_told s) lines → OnOk result (Appends old new (table_text lent)) → OnOk result (IsDrawn saves s.svg s.ks lent) → OnOk result (Shows saves s references old new)
+    → lent ≡ lines → AreCells references (plans_given s) lines → OnOk result (Appends old new (table_text lent)) → OnOk result (IsDrawn saves s.svg s.ks lent) → OnOk result (Shows saves s references old new)
 shown saves s references lines lent old new (Ok done) same cells written drawn = record {
   lines = lines;
   tabulates = record { cells = cells; written = subst (λ ls. Appends old new (table_text ls)) same written };

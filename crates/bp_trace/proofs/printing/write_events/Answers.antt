@@ -3,10 +3,10 @@ use Rattle.std.proofs.KnownBytes.{Appends-nil, Appends-trans}
 use Rattle.std.proofs.lemmas.List.{append-nil, drop_all}
 use Rattle.bp_trail.specs.Clock.{clock}
 use Rattle.bp_trace.specs.Lines.{event_line}
-use Rattle.bp_audit.specs.Totals.{totals_of}
+use Rattle.bp_trail.specs.Totals.{totals_of}
 use Rattle.bp_trace.specs.Report.{lines_after}
 use Rattle.bp_trace.proofs.Entries.{clock-next, lines_after-drop}
-use Rattle.bp_audit.proofs.Counting.{totals_of-room, totals_of-take}
+use Rattle.bp_trail.proofs.Replies.{totals_of-room, totals_of-take}
 use Rattle.bp_trace.proofs.printing.write_events.Goals as goal
 
 pub loop-entry-init : goal.loop-entry-init

@@ -2,7 +2,7 @@ use Rattle.std.proofs.Common.{◌≡◌, ◌+◌, ◌*◌, ◌≤◌, ◌++◌, 
 use Rattle.std.specs.Io.KnownBytes.{Appends}
 use Rattle.bp_trail.specs.Trail.{Trail}
 use Rattle.bp_trail.specs.Clock.{clock}
-use Rattle.bp_audit.specs.Totals.{totals_of}
+use Rattle.bp_trail.specs.Totals.{totals_of}
 use Rattle.bp_trace.specs.Report.{lines_after}
 use Rattle.bp_trace.proofs.printing.write_events.Given as goal
 
