@@ -5,11 +5,12 @@
     peers/c/transfers.py [--rounds N] [--seconds N] [--accounts N] [--folder FOLDER]
     peers/c/transfers.py k [--rounds N] ..
 
-It builds the ledger and peers/c/transfers.c with each of the three; what is not there is left out. A round runs the four
-one after the other: with 1 and 4 threads, with each transaction synced and with none, and with a cache of more than the
-rows and of a tenth of them. LMDB has no cache of its own, and stands in both. The files are in the folder, of a disk
-whose syncs cost what they cost there. Where nothing is said there are three rounds of five seconds, and 100,000 accounts.
-Printed are tables of the medians: transactions a second, and the 99th percentile of their times in milliseconds.
+It builds the ledger and peers/c/transfers.c with each of the three; what is not there is left out. A round runs the
+four one after the other: with 1 and 4 threads, with each transaction synced and with none, and with a cache of more
+than the rows and of a tenth of them. LMDB has no cache of its own, and stands in both. The files are in the folder,
+of a disk whose syncs cost what they cost there. Where nothing is said there are seven rounds of two seconds, and
+100,000 accounts. Printed are tables of the medians: transactions a second, and the 99th percentile of their times in
+milliseconds.
 
 With `k` it measures the ledger alone, with a cache of a tenth and no syncs: the hit ratio and the rate for K 1, 2 and 3
 and periods of none, an eighth, a quarter and a half of the frames.
@@ -60,7 +61,7 @@ class Ledger:
         shutil.rmtree(self.store, ignore_errors=True)
         shutil.copytree(self.loaded, self.store)
         return said(self.program, "run", self.store, "--threads", threads, "--seconds", seconds, "--sync", is_synced,
-                    "--frames", frames, "--opens", 0, "--scans", 0, *more)
+                    "--frames", frames, "--opens", 0, *more)
 
 
 def numbers(text):
@@ -107,6 +108,10 @@ def beside_others(ledger, folder, options):
             row.append(f"{rate:,.0f}; {p99:.3f}")
         cache = "all" if part == 1 else "a tenth"
         print(f"| {cache} | {'each' if sync else 'none'} | {threads} | {' | '.join(row)} |")
+    spreads = sorted((max(rates) - min(rates)) / statistics.median(rates)
+                     for rates in ([rate for rate, _ in cell] for cell in cells.values()))
+    half, most = statistics.median(spreads), spreads[-1]
+    print(f"\nA rate moves between rounds by {half:.0%} of its median in half of the cells, and by {most:.0%} at most.")
 
 
 def periods(ledger, options):
@@ -124,7 +129,7 @@ def periods(ledger, options):
 
 
 def main(words):
-    options, folder = {"rounds": 3, "seconds": 5, "accounts": 100_000}, tempfile.gettempdir()
+    options, folder = {"rounds": 7, "seconds": 2, "accounts": 100_000}, tempfile.gettempdir()
     of_periods = words[:1] == ["k"]
     words = words[1:] if of_periods else words
     while words:

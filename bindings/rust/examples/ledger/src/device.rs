@@ -15,34 +15,41 @@ pub trait Device: Send + Sync {
 
     /// How many bytes there are.
     fn size(&self) -> io::Result<u64>;
+
+    /// Writes zeros over the first `size` bytes, so that a full disk is met now and not at a commit.
+    fn fill(&self, size: u64) -> io::Result<()> {
+        let zeros = vec![0; 1 << 20];
+        for at in (0..size).step_by(zeros.len()) {
+            let count = (size - at).min(zeros.len() as u64);
+            self.write_at(&zeros[..count as usize], at)?;
+        }
+        Ok(())
+    }
 }
 
-impl Device for File {
+/// A file, whose syncs may be left out to see what they cost.
+pub struct DiskFile {
+    pub file: File,
+    pub is_synced: bool,
+}
+
+impl Device for DiskFile {
     fn read_at(&self, bytes: &mut [u8], offset: u64) -> io::Result<()> {
-        self.read_exact_at(bytes, offset)
+        self.file.read_exact_at(bytes, offset)
     }
 
     fn write_at(&self, bytes: &[u8], offset: u64) -> io::Result<()> {
-        self.write_all_at(bytes, offset)
+        self.file.write_all_at(bytes, offset)
     }
 
     fn sync(&self) -> io::Result<()> {
-        self.sync_data()
+        match self.is_synced {
+            true => self.file.sync_data(),
+            false => Ok(()),
+        }
     }
 
     fn size(&self) -> io::Result<u64> {
-        Ok(self.metadata()?.len())
+        Ok(self.file.metadata()?.len())
     }
-}
-
-/// Writes zeros over the first `size` bytes, so that a full disk is met now and not at a commit.
-pub(crate) fn fill_with_zeros(device: &dyn Device, size: u64) -> io::Result<()> {
-    let zeros = vec![0; 1 << 20];
-    let mut at = 0;
-    while at < size {
-        let bytes = &zeros[..(size - at).min(zeros.len() as u64) as usize];
-        device.write_at(bytes, at)?;
-        at += bytes.len() as u64;
-    }
-    Ok(())
 }

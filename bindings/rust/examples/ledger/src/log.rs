@@ -1,304 +1,190 @@
-//! The write-ahead log: a ring of records in one file, behind two marks that say where redo begins.
+//! The write-ahead log: one file of two halves. While records go into one half, a checkpoint brings
+//! the changes of the other into the page file. After that the other may be written over.
 //!
-//! The LSN of a record is where it begins in a log without end. In the file that is at the LSN
-//! modulo the capacity of the ring. A record is good where its checksum, its LSN and its epoch are.
-//! Each start of the store begins a new epoch: so what an earlier run left in the ring is not taken
-//! for its records.
-use crate::checksum::crc32c;
-use crate::device::{Device, fill_with_zeros};
-use crate::node::{put_word, word};
-use crate::{Error, Result};
-use std::io;
-use std::sync::atomic::{AtomicU64, Ordering};
-use std::sync::{Mutex, MutexGuard, OnceLock, PoisonError};
+//! Each half begins with a mark, and then has records, one after the other. The LSN of a record is
+//! where it begins in a log without end. A mark has a number, its turn, which the records behind it
+//! have too: so what the half had before is not taken for them. Redo reads both halves.
+use crate::device::Device;
+use crate::node::{half, word};
+use crate::{Error, Result, bad};
+use std::collections::BTreeMap;
+use std::sync::{LazyLock, Mutex, OnceLock};
+use std::{array, fmt, io};
 
-/// A record begins with its LSN, its epoch, its length and the checksum of all but that.
-pub const HEAD: usize = 24;
+/// A record begins with its LSN, its turn, its length and the checksum of all but that.
+const HEAD: usize = 24;
 const SUM: usize = 20;
-
-/// The marks stand apart, so that a torn write spoils one of them at most.
-const MARK_PLACES: u64 = 4096;
-const RING: u64 = 2 * MARK_PLACES;
-const MARK_SUM: usize = 64;
-const MARK_SIZE: usize = MARK_SUM + 4;
-const MAGIC: u64 = u64::from_le_bytes(*b"ledger 1");
+/// A mark has seven numbers and their checksum, and so many bytes to itself: a record that is torn
+/// does not spoil it.
+const MARK_SUM: usize = 56;
+const MARK: u64 = 4096;
 /// No record has LSN 0, which the pager takes for none.
 const FIRST: u64 = 64;
 
-/// What a store needs to know before its log is read.
-#[derive(Clone, Copy, Debug, PartialEq, Eq)]
-pub struct Mark {
-    /// The store's own number, which its page file has too.
-    pub store: u64,
-    pub pages: u64,
-    pub page_size: u64,
-    /// How many bytes the ring has.
-    pub capacity: u64,
-    /// How many marks were written before.
+/// The bodies that pages have by the records so far, and the newest record of each.
+pub type Bodies = BTreeMap<u64, (Vec<u8>, u64)>;
+
+/// A half with the LSNs from `start` to `end`.
+#[derive(Clone, Copy, Default)]
+pub struct Half {
     turn: u64,
-    epoch: u64,
-    /// The redo point: where the first record begins that may not be in the page file.
-    pub redo: u64,
+    pub start: u64,
+    pub end: u64,
+    /// The redo point: what records say that begin before is in the page file.
+    redo: u64,
+    /// Records that begin before are durable.
+    pub durable: u64,
 }
 
-impl Mark {
-    pub fn new(store: u64, pages: u64, page_size: u64, capacity: u64) -> Mark {
-        Mark {
-            store,
-            pages,
-            page_size,
-            capacity,
-            turn: 0,
-            epoch: 0,
-            redo: FIRST,
-        }
-    }
-
-    fn encode(&self) -> [u8; MARK_SIZE] {
-        let mut bytes = [0; MARK_SIZE];
-        let words = [
-            MAGIC,
-            self.store,
-            self.pages,
-            self.page_size,
-            self.capacity,
-            self.turn,
-            self.epoch,
-            self.redo,
-        ];
-        for (at, each) in words.into_iter().enumerate() {
-            put_word(&mut bytes, 8 * at, each);
-        }
-        let sum = crc32c(&[&bytes[..MARK_SUM]]);
-        bytes[MARK_SUM..].copy_from_slice(&sum.to_le_bytes());
-        bytes
-    }
-
-    fn decode(bytes: &[u8; MARK_SIZE]) -> Option<Mark> {
-        let is_good = word(bytes, 0) == MAGIC
-            && bytes[MARK_SUM..] == crc32c(&[&bytes[..MARK_SUM]]).to_le_bytes();
-        is_good.then(|| Mark {
-            store: word(bytes, 8),
-            pages: word(bytes, 16),
-            page_size: word(bytes, 24),
-            capacity: word(bytes, 32),
-            turn: word(bytes, 40),
-            epoch: word(bytes, 48),
-            redo: word(bytes, 56),
-        })
-    }
-
-    fn write(&self, device: &dyn Device) -> io::Result<()> {
-        device.write_at(&self.encode(), self.turn % 2 * MARK_PLACES)?;
-        device.sync()
-    }
-}
-
+/// The log, and what is known of its device.
 pub struct Log {
     device: Box<dyn Device>,
-    capacity: u64,
-    tail: Mutex<Tail>,
-    /// The newest mark. Whoever holds it is the only one who writes to the device.
-    mark: Mutex<Mark>,
-    redo: AtomicU64,
-    /// Records that begin before are durable.
-    durable: AtomicU64,
-    syncs: AtomicU64,
+    /// What never changes: the store's own number, which its page file has too, its pages, their
+    /// size, and how many bytes the log has.
+    pub fixed: [u64; 4],
+    half: Mutex<Half>,
+    /// Whoever has it syncs for all. A failed sync may be told once only, so it is one at a time.
+    syncing: Mutex<()>,
     /// Why nothing is logged any more.
     stopped: OnceLock<String>,
 }
 
-/// The records that are not on the device yet.
-#[derive(Default)]
-struct Tail {
-    begin: u64,
-    epoch: u64,
-    records: Vec<u8>,
-}
-
-impl Tail {
-    fn end(&self) -> u64 {
-        self.begin + self.records.len() as u64
+impl Half {
+    /// Makes the changes of each record, and finds the end. Tells whether a part of a record follows.
+    fn redo(&mut self, device: &dyn Device, size: u64, bodies: &mut Bodies) -> Result<bool> {
+        loop {
+            let at = MARK + self.end - self.start;
+            let place = self.turn % 2 * size + at;
+            let mut record = vec![0; HEAD];
+            if at + HEAD as u64 <= size {
+                device.read_at(&mut record, place)?;
+            }
+            if word(&record, 0) != self.end || word(&record, 8) != self.turn {
+                return Ok(false);
+            }
+            let length = word(&record, 16) & 0xffff_ffff;
+            if length < HEAD as u64 || at + length > size {
+                return Ok(true);
+            }
+            record.resize(length as usize, 0);
+            device.read_at(&mut record, place)?;
+            if record[SUM..HEAD] != sum_of(&record) {
+                return Ok(true);
+            }
+            if redo(&record[HEAD..], self.end, bodies).is_none() {
+                return bad(format!("the log's record {} is wrong", self.end));
+            }
+            self.end += length;
+        }
     }
-}
-
-/// A thread that panics leaves a tail and a mark as good as any: both change at once.
-fn locked<T>(mutex: &Mutex<T>) -> MutexGuard<'_, T> {
-    mutex.lock().unwrap_or_else(PoisonError::into_inner)
 }
 
 impl Log {
-    /// Makes an empty log of this capacity.
-    pub fn create(device: &dyn Device, mark: &Mark) -> Result<()> {
-        fill_with_zeros(device, RING + mark.capacity)?;
-        Ok(mark.write(device)?)
+    /// Makes an empty log of a store for which these numbers never change.
+    pub fn create(device: &dyn Device, fixed: [u64; 4]) -> Result<()> {
+        device.fill(fixed[3])?;
+        Ok(write_mark(device, fixed, [0, FIRST, FIRST])?)
     }
 
-    /// Opens a log, and finds its end.
-    pub fn open(device: Box<dyn Device>) -> Result<Log> {
-        let size = device.size()?;
-        let mut marks = Vec::new();
-        for place in [0, MARK_PLACES] {
-            let mut bytes = [0; MARK_SIZE];
-            if place + MARK_SIZE as u64 <= size {
-                device.read_at(&mut bytes, place)?;
+    /// Opens a log. Gives the bodies that redo makes, and whether a part of a record follows. Once
+    /// they are in the page file, [`turn_over`](Log::turn_over) is to be called.
+    pub fn open(device: Box<dyn Device>) -> Result<(Log, Bodies, bool)> {
+        let (size, mut marks) = (device.size()?, Vec::new());
+        for place in [0, size / 2] {
+            let mut mark = [0; MARK_SUM + 4];
+            if size >= 2 * MARK {
+                device.read_at(&mut mark, place)?;
             }
-            marks.extend(Mark::decode(&bytes));
+            marks.extend(words_of(&mark));
         }
-        let newest = marks.into_iter().max_by_key(|mark| mark.turn);
-        let mark = newest.ok_or_else(|| Error::BadStore("the log has no good mark".into()))?;
-        let capacity = mark.capacity;
-        if size != RING + capacity {
-            let wanted = RING + capacity;
-            let why = format!("the log has {size} bytes, and not {wanted}");
-            return Err(Error::BadStore(why));
-        }
-        Ok(Log {
-            device,
-            capacity,
-            tail: Mutex::default(),
-            mark: Mutex::new(mark),
-            redo: AtomicU64::new(mark.redo),
-            durable: AtomicU64::new(0),
-            syncs: AtomicU64::new(0),
-            stopped: OnceLock::new(),
-        })
-    }
-
-    /// Finds the end of the log, and makes it durable so far: what a process wrote that was killed
-    /// may be in the system's memory alone. Gives the end, and whether a part of a record follows.
-    pub fn find_end(&self) -> Result<(u64, bool)> {
-        let mark = self.mark();
-        self.device.sync()?;
-        let mut end = mark.redo;
-        while let Some(record) = self.record_at(end)? {
-            end += record.len() as u64;
-        }
-        let mut rest = [0; 16];
-        self.read(&mut rest, end)?;
-        *locked(&self.tail) = Tail {
-            begin: end,
-            epoch: mark.epoch + 1,
-            records: Vec::new(),
+        marks.sort_by_key(|mark| mark[4]);
+        let Some(&[fixed @ .., _, _, redo]) = marks.last() else {
+            return bad("the log has no good mark");
         };
-        self.durable.store(end, Ordering::Release);
-        let is_torn = word(&rest, 0) == end && word(&rest, 8) == mark.epoch;
-        Ok((end, is_torn))
-    }
-
-    pub fn mark(&self) -> Mark {
-        *locked(&self.mark)
-    }
-
-    /// The LSN that the next record gets.
-    pub fn end(&self) -> u64 {
-        locked(&self.tail).end()
-    }
-
-    /// Records that begin before this LSN are durable.
-    pub fn durable(&self) -> u64 {
-        self.durable.load(Ordering::Acquire)
-    }
-
-    /// How many bytes redo would read.
-    pub fn length(&self) -> u64 {
-        self.end().saturating_sub(self.redo.load(Ordering::Acquire))
-    }
-
-    /// How often records were made durable.
-    pub fn syncs(&self) -> u64 {
-        self.syncs.load(Ordering::Relaxed)
-    }
-
-    pub fn capacity(&self) -> u64 {
-        self.capacity
-    }
-
-    /// The whole record that begins at this LSN. None where the log ends there.
-    pub fn record_at(&self, lsn: u64) -> Result<Option<Vec<u8>>> {
-        let mark = self.mark();
-        let mut head = [0; HEAD];
-        self.read(&mut head, lsn)?;
-        let size = u64::from(u32::from_le_bytes([head[16], head[17], head[18], head[19]]));
-        let is_own = word(&head, 0) == lsn && word(&head, 8) == mark.epoch;
-        if !is_own || size < HEAD as u64 || lsn + size > mark.redo + self.capacity {
-            return Ok(None);
+        if size != fixed[3] {
+            return bad(format!("the log has {size} bytes, and not {}", fixed[3]));
         }
-        let mut record = vec![0; size as usize];
-        self.read(&mut record, lsn)?;
-        let is_whole = record[SUM..HEAD] == sum_of(&record).to_le_bytes();
-        Ok(is_whole.then_some(record))
+        // What a process wrote that was killed may be in the system's memory alone.
+        device.sync()?;
+        let (mut half, mut bodies, mut is_torn) = (Half::default(), Bodies::new(), false);
+        for [.., turn, start, _] in marks.into_iter().filter(|mark| mark[5] >= redo) {
+            (half.turn, half.start, half.end) = (turn, start, start);
+            is_torn |= half.redo(&*device, size / 2, &mut bodies)?;
+        }
+        (half.durable, half.redo) = (half.end, half.end);
+        let log = Log {
+            device,
+            fixed,
+            half: Mutex::new(half),
+            syncing: Mutex::new(()),
+            stopped: OnceLock::new(),
+        };
+        Ok((log, bodies, is_torn))
     }
 
-    /// Puts a record behind the others and gives its LSN. None where the log has no room: then a
+    /// How far the log has come.
+    pub fn half(&self) -> Half {
+        *self.half.lock().unwrap()
+    }
+
+    /// Writes a record behind the others and gives its LSN. None where the half has no room: then a
     /// checkpoint makes some. The record is not durable yet.
-    pub fn append(&self, mut record: Vec<u8>) -> Result<Option<u64>> {
+    pub fn append(&self, body: &[u8]) -> Result<Option<u64>> {
         self.is_running()?;
-        if record.len() as u64 > self.capacity / 2 {
-            return Err(Error::LargeTransaction);
+        let (half_size, size) = (self.fixed[3] / 2, (HEAD + body.len()) as u64);
+        if MARK + size > half_size {
+            return Err(Error::NoRoom("the transaction is too large for the log"));
         }
-        let mut tail = locked(&self.tail);
-        let lsn = tail.end();
-        if lsn + record.len() as u64 > self.redo.load(Ordering::Acquire) + self.capacity {
+        let mut half = self.half.lock().unwrap();
+        let (lsn, at) = (half.end, MARK + half.end - half.start);
+        if at + size > half_size {
             return Ok(None);
         }
-        put_word(&mut record, 0, lsn);
-        put_word(&mut record, 8, tail.epoch);
-        let size = record.len() as u32;
-        record[16..20].copy_from_slice(&size.to_le_bytes());
+        let head = [lsn, half.turn, size].map(u64::to_le_bytes);
+        let mut record = [head.as_flattened(), body].concat();
         let sum = sum_of(&record);
-        record[SUM..HEAD].copy_from_slice(&sum.to_le_bytes());
-        tail.records.append(&mut record);
+        record[SUM..HEAD].copy_from_slice(&sum);
+        let place = half.turn % 2 * half_size + at;
+        self.stop_unless(self.device.write_at(&record, place))?;
+        half.end += size;
         Ok(Some(lsn))
     }
 
     /// Makes the record with this LSN durable, and all others that there are. One thread does it for
     /// those that come meanwhile: that is group commit.
     pub fn make_durable(&self, lsn: u64) -> io::Result<()> {
-        if self.durable() > lsn {
-            return Ok(());
+        let _one = self.syncing.lock().unwrap();
+        let Half { end, durable, .. } = self.half();
+        if durable <= lsn {
+            self.is_running()?;
+            self.stop_unless(self.device.sync())?;
+            let mut half = self.half.lock().unwrap();
+            half.durable = half.durable.max(end);
         }
-        let _writing = locked(&self.mark);
-        if self.durable() > lsn {
-            return Ok(());
-        }
-        self.is_running()?;
-        let mut tail = locked(&self.tail);
-        let (begin, end) = (tail.begin, tail.end());
-        let records = std::mem::take(&mut tail.records);
-        tail.begin = end;
-        drop(tail);
-        let written = self.write(&records, begin);
-        let synced = written.and_then(|()| self.device.sync());
-        self.stop_unless(synced)?;
-        self.durable.store(end, Ordering::Release);
-        self.syncs.fetch_add(1, Ordering::Relaxed);
         Ok(())
     }
 
-    /// Cuts the log: redo begins at this LSN from now on, and what is before may be written over.
-    pub fn cut(&self, redo: u64) -> io::Result<()> {
-        let mut mark = locked(&self.mark);
+    /// Has records go to the other half from now on, unless redo wants that. The mark is durable
+    /// before them, and so is all that was before. Gives where the half begins.
+    pub fn turn_over(&self) -> io::Result<u64> {
+        let _one = self.syncing.lock().unwrap();
         self.is_running()?;
-        let next = Mark {
-            turn: mark.turn + 1,
-            epoch: locked(&self.tail).epoch,
-            redo,
-            ..*mark
-        };
-        self.stop_unless(next.write(&*self.device))?;
-        *mark = next;
-        self.redo.store(redo, Ordering::Release);
-        Ok(())
+        let mut half = self.half.lock().unwrap();
+        if half.redo >= half.start {
+            let (turn, start) = (half.turn + 1, half.end);
+            let written = write_mark(&*self.device, self.fixed, [turn, start, half.redo]);
+            self.stop_unless(written)?;
+            (half.turn, half.start, half.durable) = (turn, start, start);
+        }
+        Ok(half.start)
     }
 
-    /// Has nothing logged any more. After a failed write or sync nobody knows what the device has:
-    /// that is found out by the next start.
-    pub fn stop(&self, why: &dyn std::fmt::Display) {
-        // The first reason is the one that counts.
-        let _ = self.stopped.set(why.to_string());
+    /// Cuts the log: redo wants no record before this LSN any more.
+    pub fn cut(&self, redo: u64) {
+        self.half.lock().unwrap().redo = redo;
     }
 
+    /// Refuses where the store has stopped.
     pub fn is_running(&self) -> io::Result<()> {
         match self.stopped.get() {
             Some(why) => Err(io::Error::other(format!("the store has stopped: {why}"))),
@@ -306,34 +192,69 @@ impl Log {
         }
     }
 
-    fn stop_unless(&self, done: io::Result<()>) -> io::Result<()> {
-        done.inspect_err(|error| self.stop(error))
-    }
-
-    /// The pieces in the file of so many bytes of the log: two where the ring begins anew.
-    fn pieces(&self, lsn: u64, size: usize) -> [(u64, std::ops::Range<usize>); 2] {
-        let at = lsn % self.capacity;
-        let first = size.min((self.capacity - at) as usize);
-        [(RING + at, 0..first), (RING, first..size)]
-    }
-
-    fn read(&self, bytes: &mut [u8], lsn: u64) -> io::Result<()> {
-        for (at, piece) in self.pieces(lsn, bytes.len()) {
-            self.device.read_at(&mut bytes[piece], at)?;
-        }
-        Ok(())
-    }
-
-    fn write(&self, bytes: &[u8], lsn: u64) -> io::Result<()> {
-        for (at, piece) in self.pieces(lsn, bytes.len()) {
-            if !piece.is_empty() {
-                self.device.write_at(&bytes[piece], at)?;
-            }
-        }
-        Ok(())
+    /// Has nothing logged any more where this failed. After a failed write or sync nobody knows what
+    /// the device has: that is found out by the next start.
+    pub fn stop_unless<T, E: fmt::Display>(&self, done: Result<T, E>) -> Result<T, E> {
+        // The first reason is the one that counts.
+        done.inspect_err(|why| drop(self.stopped.set(why.to_string())))
     }
 }
 
-fn sum_of(record: &[u8]) -> u32 {
-    crc32c(&[&record[..SUM], &record[HEAD..]])
+/// Begins a half by its mark, and has that stay.
+fn write_mark(device: &dyn Device, fixed: [u64; 4], half: [u64; 3]) -> io::Result<()> {
+    let words = [&fixed[..], &half].concat();
+    let mut mark: Vec<u8> = words.into_iter().flat_map(u64::to_le_bytes).collect();
+    mark.extend(crc32c(&[&mark]).to_le_bytes());
+    device.write_at(&mark, half[0] % 2 * (fixed[3] / 2))?;
+    device.sync()
+}
+
+/// The numbers of a mark, if it is one.
+fn words_of(mark: &[u8]) -> Option<[u64; 7]> {
+    let (words, sum) = mark.split_at(MARK_SUM);
+    let is_good = sum == crc32c(&[words]).to_le_bytes();
+    is_good.then(|| array::from_fn(|at| word(words, 8 * at)))
+}
+
+fn sum_of(record: &[u8]) -> [u8; 4] {
+    crc32c(&[&record[..SUM], &record[HEAD..]]).to_le_bytes()
+}
+
+/// CRC-32C of these parts, one after the other. It finds each change of up to 32 bits in a row.
+pub fn crc32c(parts: &[&[u8]]) -> u32 {
+    static TABLE: LazyLock<[u32; 256]> = LazyLock::new(|| {
+        let of_bit = |rest: u32, _| (rest >> 1) ^ (0x82f6_3b78 * (rest & 1));
+        array::from_fn(|byte| (0..8).fold(byte as u32, of_bit))
+    });
+    let (table, bytes) = (&*TABLE, parts.iter().copied().flatten());
+    !bytes.fold(!0, |sum, byte| {
+        (sum >> 8) ^ table[usize::from(sum as u8 ^ byte)]
+    })
+}
+
+/// Puts a change of a page behind those that a record has: the number of the page, how many bytes
+/// stay at both ends of its body, and what comes between them. Where nothing stays, it has the whole.
+pub fn add_change(record: &mut Vec<u8>, page: u64, before: &[u8], after: &[u8]) {
+    let is_same = |it: &(&u8, &u8)| it.0 == it.1;
+    let front = before.iter().zip(after).take_while(is_same).count();
+    let (before, after) = (&before[front..], &after[front..]);
+    let ends = before.iter().rev().zip(after.iter().rev());
+    let back = ends.take_while(is_same).count();
+    let between = &after[..after.len() - back];
+    let sizes = [front, back, between.len()].map(|it| (it as u16).to_le_bytes());
+    record.extend([&page.to_le_bytes(), sizes.as_flattened(), between].concat());
+}
+
+/// Makes the changes of a record. None where they are not of the bodies that there are.
+fn redo(mut record: &[u8], lsn: u64, bodies: &mut Bodies) -> Option<()> {
+    while !record.is_empty() {
+        let (head, rest) = record.split_at_checked(14)?;
+        let [front, back, size] = [8, 10, 12].map(|at| half(head, at));
+        let (between, rest) = rest.split_at_checked(size)?;
+        let (body, newest) = bodies.entry(word(head, 0)).or_default();
+        let back = body.len().checked_sub(back)?;
+        *body = [body.get(..front)?, between, &body[back..]].concat();
+        (*newest, record) = (lsn, rest);
+    }
+    Some(())
 }

@@ -1,205 +1,121 @@
-//! A page as a sorted list of keys with values: slots from the front, entries from the end.
+//! A page as a list of keys with values, in order, with nothing between them.
 //!
-//! The value of an inner node's entry is the page of a child, whose keys begin at the entry's key.
-//! The first entry of an inner node stands for all keys below, too.
+//! A page begins with its page LSN and its checksum, which are stamped as it goes out. Then come the
+//! length of its body, and since when the log has all of that. The body of a node begins with its
+//! level, 0 for a leaf. In an inner node a value is the page of a child, which has the keys from the
+//! entry's key on. The first key there is 0, as the first child has all keys below the second's.
+use std::ops::Range;
+use std::{array, iter};
 
-/// Where a page has its page LSN and its checksum, which are stamped as it goes out. What follows
-/// is what the log knows of a page.
 pub const LSN: usize = 0;
 pub const SUM: usize = 8;
-pub const STAMP: usize = 12;
+/// Where what is not stamped begins: the length first.
+pub const CONTENT: usize = 12;
+pub const SINCE: usize = 16;
+pub const BODY: usize = 24;
 
-const LEVEL: usize = 12; // one byte: 0 for a leaf
-const COUNT: usize = 14;
-const HEAP: usize = 16; // where the entries begin
-const OWN: usize = 24; // the page's own number
-/// Where page 0 has its fields, and a free page the next one.
-pub const BODY: usize = 32;
-const SLOTS: usize = 32;
-
-const HEAD: usize = 10; // of an entry: key and length
-
-/// The level of a page in the free list, and that of page 0.
+/// The level of a page in the free list, which has the next one behind it.
 pub const FREE: u8 = 255;
-pub const META: u8 = 254;
+
+/// An entry begins with its key and the length of its value.
+const HEAD: usize = 10;
 
 pub fn word(bytes: &[u8], at: usize) -> u64 {
-    bytes[at..at + 8]
-        .iter()
-        .rfold(0, |word, byte| word << 8 | u64::from(*byte))
+    u64::from_le_bytes(array::from_fn(|byte| bytes[at + byte]))
 }
 
-pub fn put_word(bytes: &mut [u8], at: usize, word: u64) {
-    bytes[at..at + 8].copy_from_slice(&word.to_le_bytes());
+pub fn half(bytes: &[u8], at: usize) -> usize {
+    usize::from(u16::from_le_bytes([bytes[at], bytes[at + 1]]))
 }
 
-fn half(bytes: &[u8], at: usize) -> usize {
-    usize::from(bytes[at]) | usize::from(bytes[at + 1]) << 8
+/// The body of a page, which has none where it was never written to.
+pub fn body(page: &[u8]) -> &[u8] {
+    &page[BODY..][..half(page, CONTENT)]
 }
 
-fn put_half(bytes: &mut [u8], at: usize, number: usize) {
-    bytes[at..at + 2].copy_from_slice(&(number as u16).to_le_bytes());
+/// What a page with this body has behind its stamp.
+pub fn content(since: u64, body: &[u8]) -> Vec<u8> {
+    let length = (body.len() as u32).to_le_bytes();
+    [&length, &since.to_le_bytes()[..], body].concat()
 }
 
-/// A page that is looked at.
+/// The body of a node, which is looked at.
 #[derive(Clone, Copy)]
 pub struct Node<'a>(pub &'a [u8]);
 
 impl<'a> Node<'a> {
-    pub fn level(self) -> u8 {
-        self.0[LEVEL]
-    }
-
-    pub fn page(self) -> u64 {
-        word(self.0, OWN)
-    }
-
-    pub fn count(self) -> usize {
-        half(self.0, COUNT)
-    }
-
-    fn place(self, index: usize) -> usize {
-        half(self.0, SLOTS + 2 * index)
-    }
-
-    pub fn key(self, index: usize) -> u64 {
-        word(self.0, self.place(index))
-    }
-
-    pub fn value(self, index: usize) -> &'a [u8] {
-        let at = self.place(index);
-        &self.0[at + HEAD..][..half(self.0, at + 8)]
-    }
-
     pub fn entries(self) -> impl Iterator<Item = (u64, &'a [u8])> {
-        (0..self.count()).map(move |index| (self.key(index), self.value(index)))
+        let mut rest = &self.0[1..];
+        iter::from_fn(move || {
+            let (head, behind) = rest.split_at_checked(HEAD)?;
+            let (value, behind) = behind.split_at_checked(half(head, 8))?;
+            rest = behind;
+            Some((word(head, 0), value))
+        })
     }
 
-    /// Where a key is, or where it belongs.
-    pub fn find(self, key: u64) -> Result<usize, usize> {
-        let (mut low, mut high) = (0, self.count());
-        while low < high {
-            let middle = (low + high) / 2;
-            if self.key(middle) < key {
-                low = middle + 1;
-            } else {
-                high = middle;
-            }
+    /// Where the entry of a key is, or where it would begin.
+    fn place(self, key: u64) -> Range<usize> {
+        let mut place = 1..1;
+        for (other, value) in self.entries().take_while(|it| it.0 <= key) {
+            let end = place.end + HEAD + value.len();
+            place = if other == key { place.end } else { end }..end;
         }
-        match low < self.count() && self.key(low) == key {
-            true => Ok(low),
-            false => Err(low),
-        }
+        place
     }
 
     pub fn get(self, key: u64) -> Option<&'a [u8]> {
-        self.find(key).ok().map(|index| self.value(index))
+        let place = self.place(key);
+        self.0.get(place.start + HEAD..place.end)
     }
 
-    /// Which entry of an inner node stands for a key.
-    pub fn child_index(self, key: u64) -> usize {
-        self.find(key).unwrap_or_else(|at| at.saturating_sub(1))
-    }
-
-    pub fn child(self, index: usize) -> u64 {
-        word(self.value(index), 0)
-    }
-
-    /// Bytes that slots and entries need.
-    fn used(self) -> usize {
-        self.entries()
-            .map(|(_, value)| 2 + HEAD + value.len())
-            .sum()
-    }
-}
-
-/// Makes a page an empty node, which keeps its stamp.
-pub fn format(bytes: &mut [u8], page: u64, level: u8) {
-    bytes[STAMP..].fill(0);
-    bytes[LEVEL] = level;
-    put_half(bytes, HEAP, bytes.len());
-    put_word(bytes, OWN, page);
-}
-
-/// Puts a value in the place of a key. Where it does not fit the page has neither, and it says so.
-#[must_use]
-pub fn put(bytes: &mut [u8], key: u64, value: &[u8]) -> bool {
-    let index = match Node(bytes).find(key) {
-        Ok(index) if Node(bytes).value(index).len() == value.len() => {
-            let at = Node(bytes).place(index) + HEAD;
-            bytes[at..at + value.len()].copy_from_slice(value);
-            return true;
+    /// The first key of the child that has a key, its page, and the first key of the next child.
+    pub fn child(self, key: u64) -> Option<(u64, u64, Option<u64>)> {
+        let (mut entries, mut own) = (self.entries().peekable(), None);
+        while let Some(entry) = entries.next_if(|it| it.0 <= key) {
+            own = Some(entry);
         }
-        Ok(index) => {
-            remove(bytes, index);
-            index
-        }
-        Err(index) => index,
-    };
-    let size = HEAD + value.len();
-    let end = SLOTS + 2 * (Node(bytes).count() + 1);
-    if half(bytes, HEAP) < end + size {
-        if bytes.len() < SLOTS + Node(bytes).used() + 2 + size {
-            return false;
-        }
-        let entries = owned(Node(bytes).entries());
-        fill(bytes, &entries);
-    }
-    let at = half(bytes, HEAP) - size;
-    put_word(bytes, at, key);
-    put_half(bytes, at + 8, value.len());
-    bytes[at + HEAD..at + size].copy_from_slice(value);
-    bytes.copy_within(SLOTS + 2 * index..end - 2, SLOTS + 2 * index + 2);
-    put_half(bytes, SLOTS + 2 * index, at);
-    put_half(bytes, HEAP, at);
-    put_half(bytes, COUNT, Node(bytes).count() + 1);
-    true
-}
-
-/// Takes an entry out. Its bytes are free once the page has to be filled anew.
-pub fn remove(bytes: &mut [u8], index: usize) {
-    let count = Node(bytes).count();
-    let end = SLOTS + 2 * count;
-    bytes.copy_within(SLOTS + 2 * index + 2..end, SLOTS + 2 * index);
-    put_half(bytes, end - 2, 0);
-    put_half(bytes, COUNT, count - 1);
-}
-
-/// Sees to it that the first key of an inner node is not above this one of its first child.
-pub fn lower_first(bytes: &mut [u8], least: u64) {
-    if least < Node(bytes).key(0) {
-        let at = Node(bytes).place(0);
-        put_word(bytes, at, least);
+        let (first, page) = own?;
+        let page = u64::from_le_bytes(page.try_into().ok()?);
+        Some((first, page, entries.peek().map(|it| it.0)))
     }
 }
 
-/// Puts the upper half of a node, by bytes, into an empty one, with an entry more that it has not
-/// got. Each half has room for its part, where a page has room for three of the largest entries.
-pub fn split(left: &mut [u8], right: &mut [u8], key: u64, value: &[u8]) {
-    let mut entries = owned(Node(left).entries());
-    let index = entries.partition_point(|it| it.0 < key);
-    entries.insert(index, (key, value.to_vec()));
-    let half = (Node(left).used() + 2 + HEAD + value.len()) / 2;
-    let mut before = 0;
-    let lower = entries.iter().take_while(|(_, value)| {
-        before += 2 + HEAD + value.len();
-        before <= half
+/// Puts a value in the place of a key's, or takes the key out.
+pub fn set(body: &mut Vec<u8>, key: u64, value: Option<&[u8]>) {
+    let entry = value.map(|value| {
+        let length = (value.len() as u16).to_le_bytes();
+        [&key.to_le_bytes(), &length[..], value].concat()
     });
-    let at = lower.count().clamp(1, entries.len() - 1);
-    fill(left, &entries[..at]);
-    fill(right, &entries[at..]);
+    let place = Node(body).place(key);
+    body.splice(place, entry.unwrap_or_default());
 }
 
-type Entries = Vec<(u64, Vec<u8>)>;
-
-fn owned<'a>(entries: impl Iterator<Item = (u64, &'a [u8])>) -> Entries {
-    entries.map(|(key, value)| (key, value.to_vec())).collect()
-}
-
-fn fill(bytes: &mut [u8], entries: &[(u64, Vec<u8>)]) {
-    format(bytes, Node(bytes).page(), Node(bytes).level());
-    for (key, value) in entries {
-        let has_room = put(bytes, *key, value);
-        assert!(has_room, "a part of a page is smaller than a page");
+/// Takes the child out that has a key. The next one has its keys from then on, or the one before.
+pub fn remove_child(body: &mut Vec<u8>, key: u64) {
+    if let Some((first, _, next)) = Node(body).child(key) {
+        let heir = next.and_then(|next| Some(Node(body).get(next)?.to_vec()));
+        set(body, next.unwrap_or(first), None);
+        set(body, first, heir.as_deref());
     }
+}
+
+/// Takes the upper half of a node out, by bytes, and gives its first key and its body. Each half is
+/// smaller than a page, as an entry is not larger than a quarter of one.
+pub fn split(body: &mut Vec<u8>) -> (u64, Vec<u8>) {
+    let mut middle = 1;
+    for (_, value) in Node(body).entries() {
+        let end = middle + HEAD + value.len();
+        if end > body.len() / 2 {
+            break;
+        }
+        middle = end;
+    }
+    let mut upper = body.split_off(middle);
+    let first = word(&upper, 0);
+    if body[0] > 0 {
+        upper[..8].fill(0);
+    }
+    upper.insert(0, body[0]);
+    (first, upper)
 }

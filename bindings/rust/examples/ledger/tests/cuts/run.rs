@@ -44,12 +44,11 @@ impl Model {
 
     /// After a start: the store has made the first so many transactions, and all of each.
     fn compare(&mut self, store: &Store) -> Outcome {
-        let mut found = Map::new();
-        let scanned = store.scan(0, |key, value| {
-            found.insert(key, value.to_vec());
-            true
-        });
-        scanned.map_err(|why| why.to_string())?;
+        let found = store.scan(0, usize::MAX).map_err(|why| why.to_string())?;
+        if !found.is_sorted_by(|one, next| one.0 < next.0) {
+            return Err("keys are out of order".into());
+        }
+        let found: Map = found.into_iter().collect();
         let count = found
             .get(&STEPS)
             .map_or(0, |it| u64::from_le_bytes(it[..8].try_into().unwrap()));
@@ -104,14 +103,14 @@ pub fn run(seed: u64, fault: Option<Fault>) -> Outcome<Asked> {
     let mut random = Random(seed);
     let mut pick = |from: &[u64]| from[random.below(from.len() as u64) as usize];
     let (page_size, pages) = (pick(&[1024, 1024, 2048, 4096]), pick(&[60, 600, 600]));
-    let (capacity, frames, is_even) = (
-        pick(&[40_000, 70_000]),
+    let (log_size, frames, is_even) = (
+        pick(&[80_000, 140_000]),
         pick(&[32, 48, 64]),
         pick(&[1, 0, 0, 0]),
     );
     let disk = Disk::new(seed ^ 0x5eed);
-    let size = (pages, page_size as usize);
-    Store::create(&*disk.pages(), &*disk.log(), size, capacity).map_err(|why| why.to_string())?;
+    let sizes = [pages, page_size, log_size];
+    Store::create(&*disk.pages(), &*disk.log(), sizes).map_err(|why| why.to_string())?;
     disk.is_to_fail(fault);
     let mut run = Run {
         disk,
@@ -243,7 +242,7 @@ impl Run {
         }
         match transaction.commit() {
             Ok(lsn) => self.committed(store, changes, lsn),
-            Err(Error::NoPageLeft | Error::LargeTransaction) => Ok(()),
+            Err(Error::NoRoom(_)) => Ok(()),
             Err(error) => {
                 // Where the store goes on, nothing was made.
                 self.model.begun = (!store.is_running()).then_some(changes);
@@ -266,18 +265,15 @@ impl Run {
             let key = self.key();
             same(store.get(key)?.as_ref(), self.model.now.get(&key))?;
         }
-        let mut wanted = self.model.now.iter();
-        let mut is_same = true;
-        store.scan(0, |key, value| {
-            is_same = wanted
-                .next()
-                .is_some_and(|it| *it.0 == key && it.1 == value);
-            is_same
-        })?;
-        match is_same && wanted.next().is_none() {
-            true => Ok(()),
-            false => Err(Failure::Wrong("a scan gives something else".into())),
+        let (from, most) = (self.key(), self.random.below(200) as usize);
+        for (from, most) in [(0, usize::MAX), (from, most)] {
+            let found = store.scan(from, most)?;
+            let wanted = self.model.now.range(from..).take(most);
+            if !found.iter().map(|(key, value)| (key, value)).eq(wanted) {
+                return Err(Failure::Wrong("a scan gives something else".into()));
+            }
         }
+        Ok(())
     }
 
     fn roll_back(&mut self, store: &Store) -> Result<(), Failure> {

@@ -1,8 +1,8 @@
 //! The power fails while four threads move amounts, and one makes checkpoints.
 use crate::disk::{Disk, Fault};
 use hojzmated::SharedConfig;
-use ledger::Store;
 use ledger::bank::{self, Client, Random};
+use ledger::{Error, Store};
 use std::sync::atomic::{AtomicBool, AtomicU64, Ordering};
 use std::thread;
 use std::time::Duration;
@@ -16,8 +16,7 @@ type Acks = [AtomicU64; THREADS];
 /// Cuts the power twice. What the threads did until then is another thing each time.
 pub fn run(seed: u64) -> Result<(), String> {
     let (disk, mut random) = (Disk::new(seed), Random(seed));
-    let store = Store::create(&*disk.pages(), &*disk.log(), (500, 1024), 100_000);
-    store.map_err(told)?;
+    Store::create(&*disk.pages(), &*disk.log(), [500, 1024, 100_000]).map_err(told)?;
     bank::load(&opened(&disk)?, ACCOUNTS).map_err(told)?;
     disk.is_slow();
     let acks = Acks::default();
@@ -34,8 +33,10 @@ pub fn run(seed: u64) -> Result<(), String> {
         disk.is_to_fail(None);
         let store = opened(&disk)?;
         store.verify().map_err(told)?;
-        let known: Vec<u64> = acks.iter().map(|it| it.load(Ordering::Relaxed)).collect();
-        bank::check(&store, &known).map_err(told)?;
+        let known = acks
+            .iter()
+            .flat_map(|it| it.load(Ordering::Relaxed).to_le_bytes());
+        bank::check(&store, &known.collect::<Vec<_>>()).map_err(told)?;
     }
     Ok(())
 }
@@ -69,7 +70,6 @@ fn work(store: &Store, disk: &Disk, acks: &Acks, seed: u64) -> Result<(), String
                     number: number as u64,
                     accounts: ACCOUNTS,
                     opens: 30,
-                    scans: 10,
                     random: Random(seed + number as u64),
                 };
                 scope.spawn(move || or_off(transfer(client, ack)))
@@ -89,12 +89,19 @@ fn work(store: &Store, disk: &Disk, acks: &Acks, seed: u64) -> Result<(), String
     })
 }
 
-/// Makes transactions until one fails.
+/// Makes transactions until something fails. Others are rolled back, and are never seen by scans.
 fn transfer(mut client: Client, ack: &AtomicU64) -> ledger::Result<()> {
     loop {
-        if let Some((count, lsn)) = client.step()? {
-            client.store.make_durable(lsn)?;
-            ack.store(count, Ordering::Relaxed);
+        ack.store(client.step()?, Ordering::Relaxed);
+        let (from, mut dropped) = (client.random.below(16 * ACCOUNTS), client.store.begin());
+        dropped.put(from, b"never")?;
+        let found = client.store.scan(from, 20)?;
+        let is_good = found.is_sorted_by(|one, next| one.0 < next.0)
+            && found
+                .iter()
+                .all(|(key, value)| *key >= from && value != b"never");
+        if !is_good {
+            return Err(Error::BadStore(format!("a scan from {from} is wrong")));
         }
     }
 }
