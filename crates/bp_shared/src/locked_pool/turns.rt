@@ -195,7 +195,8 @@ impl<N: PoolName, K: ListKeeper> LockedPool<N, K> {
         ensures seen { session.new.seen ≡ session.old.seen }
         ensures free { session.new.free ≡ session.old.free }
         ensures ends { self.new.ends ≡ self.old.ends }
-        ensures outcome { ReadSaid session.old.client pass.now result session.old.said session.new.said }
+        ensures outcome { ReadSaid session.old.client pass.now result
+            session.old.said session.new.said }
         ensures in_step { InStep (λ core after. ReadOutcome core pass.now result after)
             self.old session.old.said self.new session.new.said }
     {

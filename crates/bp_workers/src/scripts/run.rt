@@ -153,7 +153,8 @@ pub fn run_clients<P: Port + Send, R: Threads + Wait + Sync>(
     requires clients { (0 < vec_len scripts) × (vec_len scripts ≤ 64) }
     requires ports { vec_len ports ≡ vec_len scripts }
     requires geometry { All (λ p. P.geometry_of p ≡ config.geometry) ports.items }
-    requires fits { EachScriptFits (parameters_with config (vec_len scripts)) (lists scripts.items) }
+    requires fits { EachScriptFits (parameters_with config (vec_len scripts))
+        (lists scripts.items) }
     ensures run { IfOk result (λ run. IsRun P.read_gives P.write_gives
         (parameters_with config (vec_len scripts)) (lists scripts.items) ports.items
         run.0.trail.items (lists run.0.said.items) run.0.refused.items run.1.items) }
