@@ -27,7 +27,8 @@ struct Slot {
 /// and `take_back` take O(log n) for n slots, `len`, `give` and `add` O(1). None of them moves a grant or takes memory:
 /// a grant that is taken back leaves its slot, which keeps the order. A slot that was left goes once it is the oldest
 /// or the newest, at most two of each at a call; so a list that is taken back from its ends alone has no such slots.
-/// Once a number did not rise, `has` and `take_back` look at all slots.
+/// Once a number did not rise, and until the list is empty, `has` and `take_back` look at all slots, and the latter closes
+/// those that were left.
 ///
 /// `reserve` alone may move grants, and takes O(1) on average. Where room is wanted it first closes the slots that were
 /// left, if they are half of all or more; where that is not enough, the list grows to at least twice its size.
@@ -179,7 +180,7 @@ impl GrantList {
         }
     }
 
-    /// Whether this grant, of all three numbers, is out. It is found by halving.
+    /// Whether this grant, of all three numbers, is out. It is found by halving as long as numbers rise.
     pub fn has(&self, client: u8, page: PageNo, serial: u64) -> bool
         ensures { result ≡ is_out (grant client page serial) self.now.out }
     {
@@ -258,7 +259,7 @@ impl GrantList {
     }
 
     /// Takes this grant, of all three numbers, out, and tells whether it was. That leaves no less room; where it was not
-    /// out nothing changes. It is found by halving.
+    /// out nothing changes. It is found by halving as long as numbers rise; where they do not, all of its number go.
     pub fn take_back(&mut self, client: u8, page: PageNo, serial: u64) -> bool
         ensures was { result ≡ is_out (grant client page serial) self.old.out }
         ensures out { IsTrue result → self.new.out

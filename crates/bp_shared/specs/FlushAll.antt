@@ -57,10 +57,16 @@ abbrev pub FlushAllSaid : {A : Type 0} → Pool → Result A NotFlushed → Sess
 FlushAllSaid o (Ok done) old new = FlushedAll o old new
 FlushAllSaid o (Err stop) old new = StoppedAt o stop old new
 
--- between these two the session saw a trail in which the page was not unsaved, or the page was
--- flushed
+-- the session later on: its client is the same, and its list and what it saw go on
+pub record Later (old new : SessionValue) : Type 0 where
+  pub client : new.client ≡ old.client
+  pub said : GoesOnFrom old.said new.said
+  pub seen : GoesOnFrom old.seen new.seen
+
+-- between these two the session saw a trail in which the page was not unsaved, or a flush of it was
+-- answered
 pub data Reaches (page : ℕ) (old new : SessionValue) : Type 0 where
-  saved : (mid : SessionValue) → GoesOnFrom old.seen mid.seen → unsaved mid.seen page ≡ false
-      → GoesOnFrom mid.seen new.seen → Reaches page old new
-  flushed : (how : Flushed) (mid after : SessionValue) → GoesOnFrom old.seen mid.seen
-      → Flushes page (Ok how) mid after → GoesOnFrom after.seen new.seen → Reaches page old new
+  saved : (mid : SessionValue) → Later old mid → unsaved mid.seen page ≡ false → Later mid new
+      → Reaches page old new
+  flushed : (how : Flushed) (mid after : SessionValue) → Later old mid
+      → Flushes page (Ok how) mid after → Later after new → Reaches page old new

@@ -38,7 +38,7 @@ pub record IsShown (board : ℕ) (start : Trail) (b : Board) (past : Trail) : Ty
 abbrev pub IsBlank : List Trail → Type 0
 IsBlank lists = (c : ℕ) → slice_index_or lists c [] ≡ []
 
--- a trail has more entries than one before it
+-- a trail is another one with entries after it, or that one
 abbrev pub GoesOnFrom : Trail → Trail → Type 0
 GoesOnFrom start past = (since : Trail) × (past ≡ since ++ start)
 
@@ -49,12 +49,12 @@ pub record IsToldBy (start past : Trail) (client : ℕ) (said : Trail) : Type 0 
   pub goes_on : past ≡ since ++ start
   pub theirs : of_client client (told since) ≡ told said
 
--- on the board of what sessions saw each line has what was once the pool's trail
+-- on the board of what sessions saw each line has an older part of the trail, or none or all of it
 pub record AreEarlier (board : ℕ) (b : Board) (past : Trail) : Type 0 where
   pub board_is : b.name ≡ board
   pub each : (n : ℕ) → GoesOnFrom (slice_index_or b.lists n []) past
 
--- a call of the session saw the pool's trail, and did nothing else: that is a legal list, which tells
+-- a call of the session saw a trail, and did nothing else: that is a legal list, which tells
 -- of the client what the session's list tells, and goes on from what the session saw before
 pub record Sees (parameters : Parameters) (start : Trail) (old new : SessionValue) : Type 0 where
   pub same : new ≡ record old { seen = new.seen }

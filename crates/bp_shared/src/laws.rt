@@ -24,7 +24,8 @@ pub fn held_pages_are_pinned()
         is_out g (held_by said) ≡ true → 0 < pins past g.page }
 {}
 
-/// A flush of all that ended well left out no page: each was flushed, or was seen not to be unsaved while it went on.
+/// A flush of all that ended well left out no page. Of each a flush was answered, which the list has, or the session saw
+/// a trail meanwhile in which it was not unsaved.
 pub fn flush_all_reaches_each_page()
     ensures each { (o : Pool) (old new : SessionValue) (page : ℕ) → FlushedAll o old new
         → page < o.parameters.pages → Reaches page old new }

@@ -1,7 +1,7 @@
 //! What a checkpoint asks, and what a pool counts. Each call takes the lock once, drains the rings, and adds no entry of
 //! its own. What it answers is so of the trail as the session then saw it. That is a legal list which has all that the
 //! client told so far, and no more of it, and which goes on from what the session saw before. When the session ends, the
-//! pool's trail is seen to go on from it.
+//! pool's trail is seen to go on from it. That it is the trail of that moment, and no older part, is known under the lock.
 ghost use Rattle.std.specs.Prelude.{◌≡◌, ◌+◌, ◌^◌, ◌<◌, IfSome};
 ghost use Rattle.bp_trail.specs.Saved.{IsRedoFrom};
 ghost use Rattle.bp_core.specs.Counts.{AreCounts};

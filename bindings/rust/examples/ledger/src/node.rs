@@ -101,7 +101,7 @@ pub fn remove_child(body: &mut Vec<u8>, key: u64) {
 }
 
 /// Takes the upper half of a node out, by bytes, and gives its first key and its body. Each half is
-/// smaller than a page, as an entry is not larger than a quarter of one.
+/// smaller than a page, as an entry has 266 bytes at most and a page 1,024 or more.
 pub fn split(body: &mut Vec<u8>) -> (u64, Vec<u8>) {
     let mut middle = 1;
     for (_, value) in Node(body).entries() {

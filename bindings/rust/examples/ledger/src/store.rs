@@ -94,6 +94,8 @@ impl Store {
     /// gives the pager's settings from the number of pages and the page size. Tells whether the log
     /// ended within a record: that was never acknowledged, and is gone.
     ///
+    /// Nothing here keeps a second process out: `main.rs` locks the files before it opens a store.
+    ///
     /// A commit pins all pages that it changes. So have more frames than that, and better the pages
     /// that are used again and again.
     pub fn open(
