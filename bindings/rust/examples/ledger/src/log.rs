@@ -108,8 +108,13 @@ impl Log {
         device.sync()?;
         let (mut half, mut bodies, mut is_torn) = (Half::default(), Bodies::new(), false);
         for [.., turn, start, _] in marks.into_iter().filter(|mark| mark[5] >= redo) {
+            let older_end = half.end;
             (half.turn, half.start, half.end) = (turn, start, start);
             is_torn |= half.redo(&*device, size / 2, &mut bodies)?;
+            // Records came here only once those before the mark were durable.
+            if 0 < older_end && older_end < start && start < half.end {
+                return bad(format!("the log lost its records from {older_end} on"));
+            }
         }
         (half.durable, half.redo) = (half.end, half.end);
         let log = Log {
