@@ -218,6 +218,6 @@ impl Drop for PageGuard<'_> {
     fn drop(&mut self) {
         // A pass of this pool always goes back. One of another pool is refused, which changes
         // nothing.
-        let _ = self.pool.give_back(&self.pass);
+        let _ = self.pool.unfix_by(&self.pass);
     }
 }

@@ -434,12 +434,12 @@ impl Pool {
     /// # Errors
     /// [`UnknownPass`](Error::UnknownPass) for a pass of another pool, which comes back.
     pub fn unfix(&self, pass: Pass) -> Result<(), Refused<Pass>> {
-        Refused::check(self.give_back(&pass), pass)
+        Refused::check(self.unfix_by(&pass), pass)
     }
 
     /// Gives a pass back that its owner lets go then.
     #[inline]
-    pub(crate) fn give_back(&self, pass: &Pass) -> Result<()> {
+    pub(crate) fn unfix_by(&self, pass: &Pass) -> Result<()> {
         let grant = self.own_pass(pass)?;
         // SAFETY: the handle is free, and the pass a grant.
         Error::check(unsafe { sys::hz_unfix(self.core(), &grant) })

@@ -7,7 +7,7 @@ use crate::{FILE_PAGES, FRAMES};
 use bp_core::Entry;
 use bp_device::Port;
 use bp_page::PageNo;
-use bp_shared::{PoolName, Session, SharedPool, Taker, give_back};
+use bp_shared::{PoolName, Session, SharedPool, Taker};
 use std::alloc::Global;
 use std::sync::{Mutex, Wait};
 use std::thread;
@@ -93,7 +93,7 @@ impl<N: PoolName, P: Port, K: Kind> Job<N, P, K> {
         requires page_in { page < N.parameters.pages }
     {
         if let Ok(pass) = pool.fix(rt, &mut self.session, &mut self.port, page) {
-            if let Err((pass, _)) = give_back(rt, pool, &mut self.session, pass) {
+            if let Err((pass, _)) = pool.unfix_draining(rt, &mut self.session, pass) {
                 pass.note();
             }
             self.done = self.done.saturating_add(1);

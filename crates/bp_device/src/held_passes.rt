@@ -19,7 +19,7 @@ fn is_taken_by(note: &PassNote, client: u8) -> bool
 }
 
 /// Gives the pass back. Its note stays.
-pub(crate) fn give<K: Keeper>(core: &mut PoolCore<K>, note: PassNote)
+pub(crate) fn unfix_note<K: Keeper>(core: &mut PoolCore<K>, note: PassNote)
     requires known { EachPast core.old (λ past. is_out note (passes_out past) ≡ true) }
     ensures entry { core.new ≡ with_entry core.old note.client
         (Call.Unfix note.serial note.page) Reply.Done }
@@ -48,7 +48,7 @@ fn lowest_client(held: &[PassNote]) -> Option<u8>
 }
 
 /// Gives back the passes that this client holds, in the order taken, where no lower client holds any. Their notes stay.
-fn give_back_of<K: Keeper>(core: &mut PoolCore<K>, held: &[PassNote], client: u8)
+fn unfix_all_of<K: Keeper>(core: &mut PoolCore<K>, held: &[PassNote], client: u8)
     requires ends_in { EndsIn core.old held.now }
     requires least { All (λ g. client ≤ g.client) held.now }
     ensures outcome { GoingBack core.old held.now (filter
@@ -57,18 +57,18 @@ fn give_back_of<K: Keeper>(core: &mut PoolCore<K>, held: &[PassNote], client: u8
     serials_differ(core);
     for note in held {
         if is_taken_by(note, client) {
-            give(core, *note);
+            unfix_note(core, *note);
         }
     }
 }
 
 /// Gives back all passes that are held: client by client, from the lowest, in the order taken.
-pub(crate) fn give_back_all<K: Keeper>(core: &mut PoolCore<K>, held: &mut Vec<PassNote>)
+pub(crate) fn unfix_all<K: Keeper>(core: &mut PoolCore<K>, held: &mut Vec<PassNote>)
     requires ends_in { EndsIn core.old held.old.items }
     ensures outcome { GaveBack core.old held.old.items core.new }
 {
     while let Some(client) = lowest_client(held) {
-        give_back_of(core, held, client);
+        unfix_all_of(core, held, client);
         held.retain(|note| !is_taken_by(note, client));
     }
 }

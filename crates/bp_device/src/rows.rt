@@ -8,7 +8,7 @@ ghost use Rattle.bp_core.specs.Work.{DoesWork};
 
 use crate::drivers::{drive_fix, drive_flush};
 use crate::held_list::HeldList;
-use crate::held_passes::{give, serials_differ};
+use crate::held_passes::{serials_differ, unfix_note};
 use bp_core::{Keeper, PoolCore, Row, Step};
 use bp_page::{Bytes, Lsn, PageNo, Refusal};
 use bp_ports::Port;
@@ -80,7 +80,7 @@ fn unfix_row<K: Keeper>(
     let Some(note) = held.take_latest(client, page) else {
         return Err(Refusal::UnknownPass);
     };
-    give(core, note);
+    unfix_note(core, note);
     Ok(())
 }
 

@@ -8,7 +8,7 @@ ghost use Rattle.bp_device.specs.Rows.{AddsScript, DrivesRowsCaused, ScriptCause
 ghost use Rattle.bp_core.specs.Work.{DoesWork};
 
 use crate::held_list::HeldList;
-use crate::held_passes::give_back_all;
+use crate::held_passes::unfix_all;
 use crate::rows::drive_row;
 use bp_core::{Keeper, PoolCore, Refused, Row};
 use bp_page::Refusal;
@@ -88,6 +88,6 @@ pub fn drive_all<K: Keeper, P: Port, R: Wait>(
     let mut refused = Vec::with_capacity(alloc, rows.len())?;
     drive_rows(rt, core, port, &mut held, &mut refused, rows);
     held.copy_to(&mut left);
-    give_back_all(core, &mut left);
+    unfix_all(core, &mut left);
     Ok(refused)
 }

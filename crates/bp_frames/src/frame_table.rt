@@ -19,18 +19,18 @@ use bp_replacer::{BlockNo, Settings};
 use std::alloc::{AllocError, Global};
 use std::marker::Model;
 
-/// The frames of a core, at most `limit`, with an image of the geometry's size in each. A frame is made once, when a
+/// The frames of a core, at most `capacity`, with an image of the geometry's size in each. A frame is made once, when a
 /// load first needs it, and serves one page after another. A page's frame is found in one step, and then known by its
 /// slot.
 #[derive(Drop)]
 pub struct FrameTable {
     geometry: Geometry,
-    limit: usize,
+    capacity: usize,
     slots: Vec<Frame>,
     /// For each page of the file one more than the slot of its frame, or 0 where it has none.
     places: Vec<u32>,
     /// The slots whose frame waits for a page.
-    spare: Vec<usize>,
+    free_frames: Vec<usize>,
     /// The pages that may be replaced, at the seats of their slots.
     candidates: Candidates,
     /// How many frames of pages have a pass out.
@@ -47,15 +47,15 @@ impl Model for FrameTable {
 
     ghost Value = { Table };
 
-    ghost view = { λ t. table_of t.geometry.size t.limit t.slots.items
-        (places_from 0 t.places.items) t.spare.items t.places.items
+    ghost view = { λ t. table_of t.geometry.size t.capacity t.slots.items
+        (places_from 0 t.places.items) t.free_frames.items t.places.items
         (entered t.candidates) };
 
-    ghost invariant = { λ t. IsTable t.geometry.size t.limit t.slots.items
-        (places_from 0 t.places.items) t.spare.items
-        × HasTableRoom t.limit (vec_capacity t.slots) (vec_capacity t.spare)
-        × IsSeating t.limit t.places.items t.candidates.seats
-        × IsAccount t.limit t.slots.items t.places.items t.pinned t.unsaved };
+    ghost invariant = { λ t. IsTable t.geometry.size t.capacity t.slots.items
+        (places_from 0 t.places.items) t.free_frames.items
+        × HasTableRoom t.capacity (vec_capacity t.slots) (vec_capacity t.free_frames)
+        × IsSeating t.capacity t.places.items t.candidates.seats
+        × IsAccount t.capacity t.slots.items t.places.items t.pinned t.unsaved };
 }
 
 // What a count changes by where something holds.
@@ -68,37 +68,37 @@ fn one_if(holds: bool) -> usize
 impl FrameTable {
     ghost use Rattle.bp_frames.specs.Tables.{IsSlotIn, with_changed};
 
-    /// Room for `limit` frames, at most 65,536, none of which is made yet, and for each page of the file 4 bytes and
+    /// Room for `capacity` frames, at most 65,536, none of which is made yet, and for each page of the file 4 bytes and
     /// little more than a bit. It fails by want of memory alone.
     pub fn with_capacity(
         alloc: Global,
-        limit: usize,
+        capacity: usize,
         geometry: Geometry,
         settings: Settings,
     ) -> Result<FrameTable, AllocError>
-        requires { limit ≤ 65536 }
+        requires { capacity ≤ 65536 }
         ensures { IfOk result (λ t. t ≡ record {
           frames = [];
-          spare = 0;
+          free_frames = 0;
           size = geometry.size;
-          limit
-              = limit;
+          capacity
+              = capacity;
           pages = geometry.pages;
           places = replicate geometry.pages 0;
           candidates = record
-              { frames = limit; correlated = settings.correlated; entries = [] };
+              { frames = capacity; correlated = settings.correlated; entries = [] };
         }) }
     {
         let pages = geometry.pages as usize;
         Ok(FrameTable {
             geometry,
-            limit,
-            slots: Vec::with_capacity(alloc, limit)?,
+            capacity,
+            slots: Vec::with_capacity(alloc, capacity)?,
             places: vec![in alloc; 0; pages]?,
-            spare: Vec::with_capacity(alloc, limit)?,
-            candidates: Candidates::new(alloc, limit, settings)?,
+            free_frames: Vec::with_capacity(alloc, capacity)?,
+            candidates: Candidates::new(alloc, capacity, settings)?,
             pinned: 0,
-            unsaved: Unsaved::new(alloc, limit, pages, settings)?,
+            unsaved: Unsaved::new(alloc, capacity, pages, settings)?,
         })
     }
 
@@ -106,7 +106,7 @@ impl FrameTable {
     pub fn len(&self) -> usize
         ensures { result ≡ length self.now.frames }
     {
-        self.slots.len() - self.spare.len()
+        self.slots.len() - self.free_frames.len()
     }
 
     /// How many pages have passes out, in one step: the number is kept, and not counted anew.
@@ -216,23 +216,23 @@ impl FrameTable {
     /// Sees to it that more than `reads` frames wait for a page, where that many wait or more. It may take memory, for
     /// one frame; where that is refused nothing changes.
     pub fn make_spare_frame(&mut self, alloc: Global, reads: usize) -> Result<(), AllocError>
-        requires room { length self.old.frames + reads < self.old.limit }
-        requires waiting { reads ≤ self.old.spare }
+        requires room { length self.old.frames + reads < self.old.capacity }
+        requires waiting { reads ≤ self.old.free_frames }
         ensures frames { self.new.frames ≡ self.old.frames }
         ensures size { self.new.size ≡ self.old.size }
-        ensures limit { self.new.limit ≡ self.old.limit }
+        ensures capacity { self.new.capacity ≡ self.old.capacity }
         ensures pages { self.new.pages ≡ self.old.pages }
         ensures places { self.new.places ≡ self.old.places }
         ensures candidates { self.new.candidates ≡ self.old.candidates }
-        ensures enough { OnOk result (reads < self.new.spare) }
-        ensures more { self.old.spare ≤ self.new.spare }
+        ensures enough { OnOk result (reads < self.new.free_frames) }
+        ensures more { self.old.free_frames ≤ self.new.free_frames }
         ensures unchanged { OnErr result (self.new ≡ self.old) }
     {
-        if reads < self.spare.len() {
+        if reads < self.free_frames.len() {
             return Ok(());
         }
         let image = Image::blank(alloc, &self.geometry)?;
-        self.spare.push_reserved(self.slots.len());
+        self.free_frames.push_reserved(self.slots.len());
         self.slots.push_reserved(Frame::waiting(image));
         Ok(())
     }
@@ -243,20 +243,20 @@ impl FrameTable {
     pub fn install(&mut self, page: PageNo, block: BlockNo, image: Image) -> (FrameSlot, Image)
         requires absent { some (is_frame_of page) self.old.frames ≡ false }
         requires in_range { page < self.old.pages }
-        requires spare { 0 < self.old.spare }
+        requires free_frames { 0 < self.old.free_frames }
         requires size { length image ≡ self.old.size }
         ensures at { IsSlotIn self.new result.0 }
         ensures page { result.0.page ≡ page }
         ensures left { length result.1 ≡ self.old.size }
         ensures frames { IsPermutation (loaded_with page block image ∷
             self.old.frames) self.new.frames }
-        ensures spare { self.new.spare + 1 ≡ self.old.spare }
+        ensures free_frames { self.new.free_frames + 1 ≡ self.old.free_frames }
         ensures size { self.new.size ≡ self.old.size }
-        ensures limit { self.new.limit ≡ self.old.limit }
+        ensures capacity { self.new.capacity ≡ self.old.capacity }
         ensures pages { self.new.pages ≡ self.old.pages }
         ensures candidates { self.new.candidates ≡ self.old.candidates }
     {
-        let index = self.spare.pop().unwrap();
+        let index = self.free_frames.pop().unwrap();
         let left = self.slots[index].load(page, block, image);
         self.places[page.number() as usize] = index as u32 + 1;
         self.pinned += 1;
@@ -269,7 +269,7 @@ impl FrameTable {
         requires apart { entry_of self.old.candidates slot.now.page ≡ None }
         ensures { self.new ≡ record self.old {
           frames = without_page slot.now.page self.old.frames;
-          spare = self.old.spare + 1;
+          free_frames = self.old.free_frames + 1;
           places = self.new.places;
         } }
     {
@@ -277,7 +277,7 @@ impl FrameTable {
         self.pinned -= one_if(frame.pins > 0);
         self.unsaved.note(slot, frame.first_lsn, None);
         self.places[slot.page.number() as usize] = 0;
-        self.spare.push_reserved(slot.index);
+        self.free_frames.push_reserved(slot.index);
     }
 
     /// Enters the page among the candidates, where it is not yet, with its K-th stamp and the time of its newest

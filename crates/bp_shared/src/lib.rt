@@ -10,7 +10,6 @@
 #![tactic(auto)]
 
 pub mod closed_pool;
-mod giving;
 pub mod laws;
 mod locked_pool;
 mod locking;
@@ -25,7 +24,6 @@ mod trail_ring;
 use bp_keeper::SilentKeeper;
 pub use bp_trail::Flushed;
 pub use closed_pool::ClosedPool;
-pub use giving::give_back;
 pub use log_writer::LogWriter;
 pub use names::PoolName;
 pub use parts::Parts;

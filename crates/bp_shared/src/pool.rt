@@ -187,11 +187,36 @@ impl<N: PoolName, K: ListKeeper> SharedPool<N, K> {
         ensures outcome { UnfixSaid session.old pass result session.new }
     {
         let client = session.client();
-        let posted = session.post(pass);
+        let posted = session.unfix(pass);
         if posted.is_ok() {
             self.posted.tell(client);
         }
         posted
+    }
+
+    /// Gives a pass back as `unfix` does. Where the session's ring is full all rings are drained first, for which the
+    /// lock is taken once.
+    ///
+    /// `UnknownPass` as from `unfix`; `RingFull` where the ring is full even then. Both hand the pass back and change
+    /// nothing that the session tells.
+    pub fn unfix_draining<R: Wait>(
+        &self,
+        rt: &R,
+        session: &mut Session<N, K>,
+        pass: Pass,
+    ) -> Result<(), (Pass, Refusal)>
+        ensures client { session.new.client ≡ session.old.client }
+        ensures before { session.new.before ≡ session.old.before }
+        ensures seen { session.new.seen ≡ session.old.seen }
+        ensures outcome { UnfixSaid session.old pass result session.new }
+    {
+        match self.unfix(session, pass) {
+            Err((pass, Refusal::RingFull)) => {
+                self.settle(rt);
+                self.unfix(session, pass)
+            }
+            outcome => outcome,
+        }
     }
 
     /// Drains the rings, and does nothing else. It takes no memory.

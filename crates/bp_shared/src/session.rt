@@ -163,7 +163,7 @@ impl<N: PoolName, K: ListKeeper> Session<N, K> {
     /// Puts a pass on the ring, with no lock and no memory. Where the list does not give it, or gives it back already,
     /// this is `UnknownPass`; where the ring has 32 passes in it, `RingFull`. Both hand the pass back, and change
     /// nothing.
-    pub(crate) fn post(&mut self, pass: Pass) -> Result<(), (Pass, Refusal)>
+    pub(crate) fn unfix(&mut self, pass: Pass) -> Result<(), (Pass, Refusal)>
         ensures client { self.new.client ≡ self.old.client }
         ensures before { self.new.before ≡ self.old.before }
         ensures seen { self.new.seen ≡ self.old.seen }

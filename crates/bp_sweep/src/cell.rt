@@ -103,7 +103,7 @@ fn fix_page<P: Port, R: Wait>(
 }
 
 /// Gives a pass back.
-fn give_back(core: &mut SilentCore, pass: Pass)
+fn unfix(core: &mut SilentCore, pass: Pass)
     requires known { KnowsPass core.old pass }
     ensures entry { core.new ≡ with_entry core.old pass.client
         (call.Unfix pass.serial pass.page) reply.Done }
@@ -133,7 +133,7 @@ fn refer<P: Port, R: Wait>(
     ensures geometry { P.geometry_of port.new ≡ P.geometry_of port.old }
 {
     if let Some(pass) = fix_page(rt, core, port, page, totals)? {
-        give_back(core, pass);
+        unfix(core, pass);
     }
     core.tick(0, 1)
 }

@@ -1,6 +1,6 @@
 //! One worker's thread.
 
-use crate::giving::give_back_all;
+use crate::unfixing::unfix_all;
 use crate::worker::{Client, Left, Upkeep, Worker};
 use bp_keeper::ListKeeper;
 use bp_ports::Port;
@@ -69,7 +69,7 @@ impl<N: PoolName, P: Port, K: ListKeeper, W: Worker<P, K>> Job<N, P, K, W> {
             None => self.worker.work(rt, pool, &mut self.client),
         }
         self.held = self.client.session.held_count();
-        self.all_went_back = give_back_all(rt, pool, &mut self.client.session);
+        self.all_went_back = unfix_all(rt, pool, &mut self.client.session);
     }
 
     /// What the job left, its session being ended at its pool, and its upkeep. Passes that still wait in the session's

@@ -7,11 +7,11 @@
 #![tactic(auto)]
 
 pub mod durable;
-mod giving;
 mod job;
 pub mod kinds;
 pub mod run;
 pub mod scripts;
+mod unfixing;
 pub mod worker;
 
 pub use bp_core::Config;

@@ -8,7 +8,7 @@ ghost use Rattle.std.specs.Prelude.{◌≡◌};
 use anyhow::Context;
 use hojzmated::{
     Client, Config, FilePort, Format, Geometry, Lsn, PageNo, PoolName, Port, Refusal, SilentKeeper,
-    SilentPool, Upkeep, Worker, create_page_file, give_back, run_workers_over,
+    SilentPool, Upkeep, Worker, create_page_file, run_workers_over,
 };
 use std::os::unix::fs::FileExt;
 use std::sync::{Arc, Mutex, Wait};
@@ -67,7 +67,7 @@ impl Adding {
             Err(refusal) => Err(refusal),
         };
         // A pass can't be dropped: one that does not go back is spent as a note.
-        let back = give_back(rt, pool, &mut own.session, pass);
+        let back = pool.unfix_draining(rt, &mut own.session, pass);
         let _ = back.map_err(|(pass, _)| pass.note());
         written.and(Ok(value))
     }

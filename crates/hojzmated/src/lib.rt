@@ -40,7 +40,7 @@ pub use bp_mark::{LogEnd, Mark, Reader};
 pub use bp_session_log::Book;
 pub use bp_shared::{
     ClosedPool, LogWriter, Parts, PoolName, Session, SharedPool, SilentPool, SilentSession, Taker,
-    TrailRing, give_back,
+    TrailRing,
 };
 
 // What lists of entries come to.

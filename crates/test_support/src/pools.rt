@@ -13,7 +13,7 @@ use bp_keeper::{ListKeeper, RecordingKeeper};
 use bp_lruk::Settings;
 use bp_mark::LogEnd;
 use bp_page::{Bytes, Geometry, Image, Lsn, Refusal};
-use bp_shared::{Parts, PoolName, Session, SharedPool, Taker, give_back};
+use bp_shared::{Parts, PoolName, Session, SharedPool, Taker};
 use bp_workers::Client;
 use std::alloc::Global;
 use std::sync::Wait;
@@ -126,7 +126,7 @@ pub fn unfix<N: PoolName, P: Port, K: ListKeeper>(
 }
 
 /// Gives a pass back, by way of an emptied ring where it is full.
-pub fn give<N: PoolName, P: Port, K: ListKeeper, R: Wait>(
+pub fn unfix_draining<N: PoolName, P: Port, K: ListKeeper, R: Wait>(
     rt: &R,
     pool: &SharedPool<N, K>,
     client: &mut Client<N, P, K>,
@@ -134,7 +134,7 @@ pub fn give<N: PoolName, P: Port, K: ListKeeper, R: Wait>(
 ) -> Result<(), Refusal>
     ensures client { client.new.session.client ≡ client.old.session.client }
 {
-    match give_back(rt, pool, &mut client.session, note.pass()) {
+    match pool.unfix_draining(rt, &mut client.session, note.pass()) {
         Ok(()) => Ok(()),
         Err((back, refusal)) => {
             back.note();

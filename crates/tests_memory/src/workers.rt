@@ -17,7 +17,7 @@ use std::process::Abort;
 use std::sync::Wait;
 use std::thread::Threads;
 use test_support::judging::unlawful_in;
-use test_support::pools::{fix, give, read, write};
+use test_support::pools::{fix, read, unfix_draining, write};
 
 /// How many entries there may be.
 const ROOM: usize = 100;
@@ -49,7 +49,7 @@ fn visit<N: PoolName, P: Port, K: ListKeeper, R: Wait>(
     let note = fix(rt, pool, client, u64::from(own))?;
     let wrote = write(rt, alloc, pool, client, note, byte_of(own), 0);
     let image = read(rt, pool, client, note);
-    give(rt, pool, client, note)?;
+    unfix_draining(rt, pool, client, note)?;
     wrote?;
     let byte = image?.bytes().first().copied();
     pool.tick(rt, &mut client.session, 1)?;

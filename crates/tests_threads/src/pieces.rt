@@ -13,7 +13,7 @@ use std::sync::{Mutex, Wait};
 use std::thread::Threads;
 use std::{mem, thread};
 use test_support::judging::{setup_of, unlawful};
-use test_support::pools::{Made, Opened, fix, give, make, open, read, unfixes};
+use test_support::pools::{Made, Opened, fix, make, open, read, unfix_draining, unfixes};
 
 /// How threads use a pool.
 #[derive(Clone, Copy, Drop)]
@@ -118,7 +118,7 @@ fn run_once<N: PoolName, R: Wait>(
         return false;
     };
     let _ = read(rt, pool, client, note);
-    let _ = give(rt, pool, client, note);
+    let _ = unfix_draining(rt, pool, client, note);
     true
 }
 

@@ -18,7 +18,7 @@ use std::sync::Wait;
 use std::thread::Threads;
 use std::time::Duration;
 use test_support::judging::unlawful_in;
-use test_support::pools::{fix, give, write};
+use test_support::pools::{fix, unfix_draining, write};
 
 /// A log that notes what was asked of it, and may be one that never gets durable.
 #[derive(Drop)]
@@ -96,7 +96,7 @@ pub(crate) fn change<N: PoolName, P: Port, R: Wait>(
     let note = fix(rt, pool, client, 0)?;
     let written = write(rt, alloc, pool, client, note, 7, 5);
     if !keeps {
-        give(rt, pool, client, note)?;
+        unfix_draining(rt, pool, client, note)?;
     }
     written
 }
@@ -130,7 +130,7 @@ impl<P: Port> Worker<P, RecordingKeeper> for Waiter {
         };
         let writer = &mut upkeep.log;
         let fixed = match fix_by(rt, pool, client, &mut self.log, writer, second, patience) {
-            Ok(pass) => give(rt, pool, client, pass.note()),
+            Ok(pass) => unfix_draining(rt, pool, client, pass.note()),
             Err(refusal) => Err(refusal),
         };
         self.note(fixed);

@@ -16,7 +16,7 @@ use std::sync::{Arc, Mutex, Wait};
 use std::thread::Parker;
 use std::time::Duration;
 use test_support::judging::unlawful_in;
-use test_support::pools::{fix, give, write};
+use test_support::pools::{fix, unfix_draining, write};
 
 /// How often each of the others writes.
 const TURNS: u8 = 100;
@@ -56,7 +56,7 @@ impl Hand {
         log.last = log.last.saturating_add(1);
         let written = write(rt, self.alloc, pool, client, note, byte, log.last);
         drop(log);
-        give(rt, pool, client, note)?;
+        unfix_draining(rt, pool, client, note)?;
         written
     }
 

@@ -16,7 +16,7 @@ use std::sync::{Arc, Mutex, Wait};
 use std::thread::Parker;
 use std::time::Duration;
 use test_support::judging::unlawful_in;
-use test_support::pools::give;
+use test_support::pools::unfix_draining;
 
 /// What the clients share.
 #[derive(Drop)]
@@ -87,7 +87,7 @@ impl Sharer {
             pause: Duration::from_millis(1),
         };
         let pass = fix_durably(rt, pool, client, &mut self.following, page, patience)?;
-        give(rt, pool, client, pass.note())
+        unfix_draining(rt, pool, client, pass.note())
     }
 }
 

@@ -13,7 +13,7 @@ use bp_workers::{Client, Config, Upkeep, Worker, run_workers_over};
 use std::alloc::Global;
 use std::rt::HostRuntime;
 use std::sync::Wait;
-use test_support::pools::{fix, give, read};
+use test_support::pools::{fix, read, unfix_draining};
 
 /// The label of page 0. That of each page after it is one more.
 const FIRST: u8 = 10;
@@ -43,7 +43,7 @@ fn has_label<N: PoolName, P: Port, K: ListKeeper, R: Wait>(
 {
     let note = fix(rt, pool, client, number)?;
     let image = read(rt, pool, client, note);
-    give(rt, pool, client, note)?;
+    unfix_draining(rt, pool, client, note)?;
     Ok(image?.bytes().first() == Some(&label_of(number)))
 }
 

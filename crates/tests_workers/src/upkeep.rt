@@ -9,7 +9,7 @@ use bp_workers::{Client, Upkeep, Worker, run_workers};
 use std::rt::HostRuntime;
 use std::sync::Wait;
 use test_support::judging::{setup_of, unlawful};
-use test_support::pools::{fix, give};
+use test_support::pools::{fix, unfix_draining};
 
 /// Passes of one page at a time: one more than a ring has places.
 const PASSES: usize = 33;
@@ -38,7 +38,7 @@ impl Hoarder {
         }
     }
 
-    fn give<N: PoolName, P: Port, R: Wait>(
+    fn unfix_held<N: PoolName, P: Port, R: Wait>(
         &mut self,
         rt: &R,
         pool: &SharedPool<N>,
@@ -50,7 +50,7 @@ impl Hoarder {
             let Some(note) = client.session.oldest_held() else {
                 return;
             };
-            if give(rt, pool, client, note).is_ok() {
+            if unfix_draining(rt, pool, client, note).is_ok() {
                 self.given = self.given.saturating_add(1);
             }
         }
@@ -65,7 +65,7 @@ impl<P: Port> Worker<P, RecordingKeeper> for Hoarder {
         client: &mut Client<N, P>,
     ) {
         self.take(rt, pool, client);
-        self.give(rt, pool, client);
+        self.unfix_held(rt, pool, client);
     }
 
     fn lead<N: PoolName, R: Wait>(
@@ -79,7 +79,7 @@ impl<P: Port> Worker<P, RecordingKeeper> for Hoarder {
         if let Ok(piece) = pool.cut(rt, &mut upkeep.taker) {
             self.cut = piece;
         }
-        self.give(rt, pool, client);
+        self.unfix_held(rt, pool, client);
     }
 }
 

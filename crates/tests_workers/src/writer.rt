@@ -8,7 +8,7 @@ use bp_shared::{PoolName, SharedPool};
 use bp_workers::{Client, Upkeep, Worker};
 use std::alloc::Global;
 use std::sync::Wait;
-use test_support::pools::{fix, give, write};
+use test_support::pools::{fix, unfix_draining, write};
 
 /// Writes to each page in turn, so many rounds. The one of client 0 first raises the mark beyond all that is
 /// written.
@@ -111,6 +111,6 @@ pub(crate) fn write_page<N: PoolName, P: Port, K: ListKeeper, R: Wait>(
 {
     let note = fix(rt, pool, client, number)?;
     let written = write(rt, alloc, pool, client, note, byte, lsn);
-    give(rt, pool, client, note)?;
+    unfix_draining(rt, pool, client, note)?;
     written
 }

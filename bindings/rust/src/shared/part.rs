@@ -202,13 +202,13 @@ impl Part {
         let page = pass.page();
         let (Some(number), Ok(bytes)) = (self.seats.of(page), state.pool.place(&pass)) else {
             // Not that it could be: the page is in a frame, and the pass out.
-            let _ = state.pool.give_back(&pass);
+            let _ = state.pool.unfix_by(&pass);
             return Err(Error::UnknownPass);
         };
         let seat = self.seats.seat(number);
         if seat.is_pinned() {
             // All pins of a page share one pass.
-            let _ = state.pool.give_back(&pass);
+            let _ = state.pool.unfix_by(&pass);
             state.joined += seat.add();
         } else {
             let (bytes, serial) = (bytes.cast(), pass.serial());
@@ -226,7 +226,7 @@ impl Part {
         if let Some(joined) = seat.end() {
             let pass = state.pool.pass_of(seat.page(), seat.pinned().serial);
             // A pass of this pool that is out is always taken.
-            let _ = state.pool.give_back(&pass);
+            let _ = state.pool.unfix_by(&pass);
             state.joined += joined;
         }
         if state.for_pins > 0 {
@@ -281,7 +281,7 @@ impl Part {
         }
         if let Ok(Fix::Here(pass)) = self.ask(state, page) {
             // A pass of this pool that is out is always taken.
-            let _ = state.pool.give_back(&pass);
+            let _ = state.pool.unfix_by(&pass);
         }
     }
 

@@ -5,7 +5,7 @@ ghost use Rattle.bp_page.specs.declared.refusals.Refusal.TheVariants as Refusal;
 ghost use Rattle.bp_trail.specs.declared.scripts.Step.TheVariants as Step;
 ghost use Rattle.bp_trail.specs.Fits.{StepFits};
 ghost use Rattle.bp_trail.specs.Pieces.{outcome_of};
-ghost use Rattle.bp_trail.specs.Script.{give_back, held_passes, latest_pass};
+ghost use Rattle.bp_trail.specs.Script.{unfix_of, held_passes, latest_pass};
 ghost use Rattle.bp_shared.specs.Sessions.{DoesWorkSaid};
 ghost use Rattle.bp_workers.specs.Steps.{as_fault, Stays, StepSaid, StepWork};
 
@@ -14,7 +14,7 @@ use bp_core::{PassNote, Step};
 use bp_device::HeldList;
 use bp_page::{Bytes, Lsn, PageNo, Refusal};
 use bp_ports::Port;
-use bp_shared::{LogWriter, PoolName, Session, SharedPool, give_back};
+use bp_shared::{LogWriter, PoolName, Session, SharedPool};
 use std::sync::Wait;
 
 /// A pass that its client holds and the pool does not know is a fault of the run.
@@ -29,7 +29,7 @@ fn as_fault(refusal: Refusal) -> Refusal
 
 /// Gives a pass back. `Disagree` is that the session does not know the pass, or that its ring is
 /// full, though it was emptied.
-fn post<N: PoolName, R: Wait>(
+fn unfix_note<N: PoolName, R: Wait>(
     rt: &R,
     pool: &SharedPool<N>,
     session: &mut Session<N>,
@@ -38,11 +38,11 @@ fn post<N: PoolName, R: Wait>(
     ensures client { session.new.client ≡ session.old.client }
     ensures before { session.new.before ≡ session.old.before }
     ensures posted { OnOk result ((note.client ≡ session.old.client) ×
-        (session.new.said ≡ give_back note ∷ session.old.said)) }
+        (session.new.said ≡ unfix_of note ∷ session.old.said)) }
     ensures refused { OnErr result ((result ≡ Err Refusal.Disagree) ×
         (session.new.said ≡ session.old.said)) }
 {
-    match give_back(rt, pool, session, note.pass()) {
+    match pool.unfix_draining(rt, session, note.pass()) {
         Ok(()) => Ok(()),
         Err((pass, _)) => {
             pass.note();
@@ -183,7 +183,7 @@ fn unfix<N: PoolName, P: Port, R: Wait>(
     if !held.serials_rise() {
         return Err(Refusal::Disagree);
     }
-    post(rt, pool, &mut client.session, note)?;
+    unfix_note(rt, pool, &mut client.session, note)?;
     held.take_latest(client.session.client(), page);
     Ok(())
 }
