@@ -1,4 +1,4 @@
-//! The passes that a script's clients hold, as notes in the order taken.
+//! Gives back the passes that a script's clients hold.
 ghost use Rattle.std.specs.Prelude.{IfNone, IfSome, All, Any, List, true, not, ◌==◌, filter};
 ghost use Rattle.std.specs.Prelude.{◌≡◌, ◌≤◌, []};
 ghost use Rattle.bp_trail.specs.declared.entries.Call.TheVariants as Call;
@@ -11,7 +11,6 @@ ghost use Rattle.bp_device.specs.Rows.{EndsIn, SerialsDiffer, GoingBack, GaveBac
 
 use bp_core::{Keeper, PassNote, PoolCore};
 
-/// Whether the note is of a pass that this client took.
 fn is_taken_by(note: &PassNote, client: u8) -> bool
     ensures { result ≡ (note.now.client == client) }
 {
@@ -30,7 +29,7 @@ pub(crate) fn unfix_note<K: Keeper>(core: &mut PoolCore<K>, note: PassNote)
     }
 }
 
-/// That no two of the passes that a core's newest entries leave out have one serial number. It does nothing.
+/// A lemma, which does nothing: no two of the passes that a core's newest entries leave out have one serial number.
 pub(crate) fn serials_differ<K: Keeper>(core: &PoolCore<K>)
     ensures { (held : List Grant) → EndsIn core.now held → SerialsDiffer held }
 {
@@ -38,7 +37,7 @@ pub(crate) fn serials_differ<K: Keeper>(core: &PoolCore<K>)
     core.keeps_the_rules();
 }
 
-/// The lowest client that holds a pass.
+/// Returns the lowest client that holds a pass.
 fn lowest_client(held: &[PassNote]) -> Option<u8>
     ensures none { IfNone result (held.now ≡ []) }
     ensures least { IfSome result (λ lowest. All (λ g. lowest ≤ g.client) held.now) }

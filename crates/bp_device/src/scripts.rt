@@ -1,4 +1,4 @@
-//! A whole script over a core that has one owner.
+//! `drive_all`: runs a whole script over a core that has one owner.
 ghost use Rattle.std.specs.Prelude.{OnErr, All, reverse, ◌+◌, ◌≡◌, ◌<◌, ◌≤◌, ◌++◌, [], IfOk};
 ghost use Rattle.std.specs.Prelude.{length, vec_len, vec_capacity};
 ghost use Rattle.bp_trail.specs.Fits.{RowFits};
@@ -32,7 +32,6 @@ pub fn note_refused(refused: &mut Vec<Refused>, row: u64, outcome: Result<(), Re
     }
 }
 
-/// Drives the rows in order.
 fn drive_rows<K: Keeper, P: Port, R: Wait>(
     rt: &R,
     core: &mut PoolCore<K>,
@@ -60,7 +59,7 @@ fn drive_rows<K: Keeper, P: Port, R: Wait>(
 }
 
 /// Runs the rows in order over a core that nobody else uses, and gives back the passes that are then held: client by
-/// client, from the lowest, in the order taken. The refused rows come back, in order, each with the number of its
+/// client, from the lowest, in the order taken. Returns the refused rows, in order, each with the number of its
 /// refusal: 20 only where the core then lacked the room, 21 where the clock would have passed its limit, and 22 where
 /// the row takes memory.
 ///
