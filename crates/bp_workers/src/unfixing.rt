@@ -1,4 +1,4 @@
-//! How the passes that a worker still holds go back.
+//! `unfix_all`: gives back the passes that a worker still holds when it returns.
 ghost use Rattle.std.specs.Prelude.{◌≡◌, ◌↔◌, IsTrue, []};
 ghost use Rattle.bp_trail.specs.Script.{held_passes};
 ghost use Rattle.bp_workers.specs.Giving.{GoBack};
@@ -26,7 +26,7 @@ fn unfix_oldest<N: PoolName, K: ListKeeper, R: Wait>(
     }
 }
 
-/// Gives back all passes that a session holds, in the order taken. Whether it could.
+/// Gives back all passes that a session holds, in the order taken. Returns true if none is left.
 pub(crate) fn unfix_all<N: PoolName, K: ListKeeper, R: Wait>(
     rt: &R,
     pool: &SharedPool<N, K>,

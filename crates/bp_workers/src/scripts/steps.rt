@@ -1,4 +1,4 @@
-//! What each step of a script does.
+//! `step`: the call on a shared pool that each step of a script makes.
 ghost use Rattle.std.specs.Prelude.{◌≡◌, ◌≢◌, ◌+◌, ◌≤◌, ◌<◌, OnOk, OnErr, Err};
 ghost use Rattle.std.specs.Prelude.{◌∷◌, length};
 ghost use Rattle.bp_page.specs.declared.refusals.Refusal.TheVariants as Refusal;
@@ -27,8 +27,8 @@ fn as_fault(refusal: Refusal) -> Refusal
     }
 }
 
-/// Gives a pass back. `Disagree` is that the session does not know the pass, or that its ring is
-/// full, though it was emptied.
+/// Gives a pass back. `Disagree` where the session does not know the pass, or where its ring is full, though it was
+/// emptied.
 fn unfix_note<N: PoolName, R: Wait>(
     rt: &R,
     pool: &SharedPool<N>,
@@ -91,7 +91,7 @@ fn flush<N: PoolName, P: Port, R: Wait>(
     Ok(())
 }
 
-/// The pass of the page that the client took latest and still holds.
+/// Returns the pass of the page that the client took latest and still holds.
 fn latest<N: PoolName, P: Port>(
     client: &Client<N, P>,
     held: &HeldList,
@@ -218,9 +218,9 @@ fn purge<N: PoolName, P: Port, R: Wait>(
     Ok(())
 }
 
-/// Does what a step asks for, with the passes that the client holds at hand. A log row raises the mark. Only client 0
-/// has the log. `UnknownTicket` and `Disagree` are that the pool does not know what it gave, or gave passes whose
-/// numbers do not rise: then the run is at fault. Every other refusal is the row's.
+/// Makes the call that a step asks for, with the passes that the client holds at hand. A log row raises the mark. Only
+/// client 0 has the log. `UnknownTicket` and `Disagree` are faults of the run: the pool does not know what it gave, or
+/// gave passes whose numbers do not rise. Every other refusal is the row's.
 pub(crate) fn step<N: PoolName, P: Port, R: Wait>(
     rt: &R,
     pool: &SharedPool<N>,
