@@ -67,8 +67,8 @@ fn one_if(holds: bool) -> usize
 impl FrameTable {
     ghost use Rattle.bp_frames.specs.Tables.{IsSlotIn, with_changed};
 
-    /// Makes room for `capacity` frames, at most 65,536, none of which is made yet, and takes 4 bytes and little more than
-    /// a bit for each page of the file. It fails by want of memory alone.
+    /// Makes room for `capacity` frames, at most 65,536, none of which is made yet, and takes 4 bytes and little more
+    /// than a bit for each page of the file. It fails by want of memory alone.
     pub fn with_capacity(
         alloc: Global,
         capacity: usize,
