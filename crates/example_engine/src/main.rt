@@ -24,12 +24,12 @@ type Own<N, P> = Client<N, P, SilentKeeper>;
 struct Log {
     file: fs::File,
     last: Lsn,
-    /// How many clients still add.
+    /// The number of clients that still add.
     adders: u64,
 }
 
 impl Log {
-    /// Appends a record. Its LSN.
+    /// Appends a record, and returns its LSN.
     fn append(&mut self, page: PageNo) -> Result<Lsn, Refusal> {
         let place = self.last.number().wrapping_mul(8);
         let written = self.file.write_all_at(&page.number().to_le_bytes(), place);
