@@ -1,4 +1,4 @@
-//! What a scenario made, and which of it is called.
+//! `World`, what a scenario made in one way, and the judgement of its trails.
 ghost use Rattle.std.specs.Prelude.{◌<◌, OnOk, vec_len, vec_capacity};
 
 use bp_check::{Setup, first_unlawful};
@@ -13,7 +13,6 @@ use std::marker::Sync;
 use std::sync::Wait;
 use std::thread::Threads;
 
-/// What a line made.
 #[derive(Drop)]
 enum Made {
     Kept(Pool<RecordingKeeper>),
@@ -24,7 +23,7 @@ enum Made {
     Ran(Ran),
 }
 
-/// Whether a call asks of the trail, which is another one in the ways beside the first.
+/// Returns true if a call asks for the trail, which is different in the ways after the first.
 fn asks_the_trail(verb: Verb) -> bool {
     matches!(
         verb,
@@ -32,7 +31,7 @@ fn asks_the_trail(verb: Verb) -> bool {
     )
 }
 
-/// Makes room for one thing more. Where memory for it is refused, it is asked for once more.
+/// Reserves room for one thing more. Where memory is refused, it tries again.
 fn make_room(made: &mut Vec<Made>) -> Result<(), AllocError>
     ensures { OnOk result (vec_len made.new < vec_capacity made.new) }
 {
@@ -42,7 +41,7 @@ fn make_room(made: &mut Vec<Made>) -> Result<(), AllocError>
     }
 }
 
-/// What a line makes. Where memory may have been refused, the line is read once more.
+/// Parses a line that makes something. Where memory may have been refused, it tries again.
 fn made_again(alloc: Global, line: &str) -> Option<(Thing, Shape)> {
     match maker_of(alloc, line) {
         Some(made) => Some(made),
@@ -50,22 +49,21 @@ fn made_again(alloc: Global, line: &str) -> Option<(Thing, Shape)> {
     }
 }
 
-/// What a scenario made in one of the ways.
 #[derive(Drop)]
 pub struct World {
     alloc: Global,
     way: Way,
     made: Vec<Made>,
-    /// The place of what is called.
+    /// The place of the one that is called.
     at: usize,
-    /// A line made what there is not in this way, which then has nothing. The rest of the scenario passes it over.
+    /// Whether a line made something that this way does not have. Then the rest of the scenario is skipped.
     is_out: bool,
-    /// How many calls were refused memory, and made once more.
+    /// The number of calls that were refused memory, and made again.
     pub again: u64,
 }
 
-/// Whether what a line makes is there in this way. What has no core, or names how its core keeps its trail, is there in
-/// the first alone.
+/// Returns true if this way has what the line makes. Only the first way has things without a core, and those whose line
+/// says how they keep their trail.
 fn is_there(way: Way, thing: Thing, keeps: Keeps) -> bool {
     match (way, thing, keeps) {
         (Way::Whole, _, _) => true,
@@ -74,7 +72,6 @@ fn is_there(way: Way, thing: Thing, keeps: Keeps) -> bool {
     }
 }
 
-/// What a line makes.
 fn new_made(alloc: Global, way: Way, thing: Thing, shape: &Shape) -> Result<Made, Refusal> {
     match (thing, way, shape.keeps) {
         (Thing::Histories, _, _) => Ok(Made::Histories(new_timed(alloc, shape)?)),
@@ -99,7 +96,7 @@ impl Made {
         }
     }
 
-    /// One number of what is told without a call.
+    /// Returns a hash of what it tells without a call.
     fn told(&self) -> u64 {
         match self {
             Made::Kept(core) => core.told(),
@@ -110,7 +107,7 @@ impl Made {
     }
 }
 
-/// What the lines of a pool leave that clients share, if they leave something.
+/// Plays the lines of a pool of sessions or client threads, and returns what is left, if the pool was made.
 fn played<R: Threads + Wait + Sync>(
     rt: &R,
     alloc: Global,
@@ -150,7 +147,7 @@ impl World {
         }
     }
 
-    /// Has what was made, which is called from here on.
+    /// Adds what was made. It is called from here on.
     fn have(&mut self, made: Made) -> Answer {
         let Ok(()) = make_room(&mut self.made) else {
             return Answer::Refused(Refusal::OutOfMemory);
@@ -160,7 +157,7 @@ impl World {
         Answer::Reply(Reply::Done)
     }
 
-    /// Whether what a line makes is there in this way. Else the rest of the scenario is passed over.
+    /// Returns true if this way has what the line makes. Else the rest of the scenario is skipped.
     fn goes_on(&mut self, thing: Thing, shape: &Shape) -> bool {
         if !is_there(self.way, thing, shape.keeps) {
             self.is_out = true;
@@ -201,8 +198,8 @@ impl World {
         Some(answer)
     }
 
-    /// Plays the lines of a pool after the one that makes it, of which the last ends it. What they leave is called from
-    /// here on. None where this way passes them over.
+    /// Plays the lines of a pool after the one that makes it; the last of them ends it. What they leave is called from
+    /// here on. It returns None where this way skips them.
     pub fn play<R: Threads + Wait + Sync>(
         &mut self,
         rt: &R,
@@ -265,8 +262,8 @@ impl World {
         }
     }
 
-    /// Does what a line asks for. None where this way passes it over. What was refused memory is to have changed
-    /// nothing that is told, but for a flush of all, and is asked for once more.
+    /// Does what a line asks for. It returns None where this way skips it. A call that was refused memory must have
+    /// changed nothing that can be told, except for a flush of all pages, and is made again.
     pub fn take(&mut self, rt: &impl Wait, line: &str) -> Option<Answer> {
         if self.is_out {
             return None;
@@ -292,7 +289,7 @@ impl World {
         Some(answer)
     }
 
-    /// Gathers the entries of its cores.
+    /// Cuts the rest of the trails.
     pub fn gather(&mut self) {
         for at in 0..self.made.len() {
             if let Some(Made::Kept(core)) = self.made.get_mut(at) {
@@ -301,7 +298,6 @@ impl World {
         }
     }
 
-    /// Lets go what was made.
     pub fn clear(&mut self) {
         self.made.clear();
         self.at = 0;
@@ -310,20 +306,19 @@ impl World {
     }
 }
 
-/// What the trails of a scenario's cores come to.
 #[derive(Clone, Copy)]
 pub enum Verdict {
     Good,
-    /// The number of the first entry that is not lawful, from 1.
+    /// The number of the first unlawful entry, from 1.
     Unlawful(u64),
-    /// The pieces of a trail, joined, are not the trail that was kept whole.
+    /// The joined pieces of a trail are not the trail that was kept whole.
     Torn,
-    /// What only counts its entries counted others.
+    /// A core that only counts its entries has another count.
     Miscounted,
     NoMemory,
 }
 
-/// The place of the first entry that is not lawful. Where memory is refused, it is looked for once more.
+/// Returns the place of the first unlawful entry. Where memory is refused, it tries again.
 fn unlawful(alloc: Global, setup: &Setup, trail: &[Entry]) -> Result<Option<usize>, AllocError> {
     match first_unlawful(alloc, setup, trail) {
         Ok(place) => Ok(place),
@@ -331,7 +326,6 @@ fn unlawful(alloc: Global, setup: &Setup, trail: &[Entry]) -> Result<Option<usiz
     }
 }
 
-/// What the judge says of a trail.
 fn judged(alloc: Global, setup: &Setup, trail: &[Entry]) -> Verdict {
     match unlawful(alloc, setup, trail) {
         Ok(None) => Verdict::Good,
@@ -340,7 +334,7 @@ fn judged(alloc: Global, setup: &Setup, trail: &[Entry]) -> Verdict {
     }
 }
 
-/// What the cores beside one tell of its entries: the one that was cut after each call, and the one that only counts.
+/// Compares a core's entries with those of the same core in the other ways: cut after each call, and only counted.
 fn beside(core: &Pool<RecordingKeeper>, pieces: Option<&Made>, counted: Option<&Made>) -> Verdict {
     match (pieces, counted) {
         (Some(Made::Kept(pieces)), _) if !core.is_joined(pieces) => Verdict::Torn,
@@ -349,7 +343,7 @@ fn beside(core: &Pool<RecordingKeeper>, pieces: Option<&Made>, counted: Option<&
     }
 }
 
-/// What became of a core, and of those beside it, where there are some.
+/// Judges a core's trail, and compares it with the other ways, if they have the core.
 fn verdict_of(
     alloc: Global,
     core: &Pool<RecordingKeeper>,
@@ -365,9 +359,9 @@ fn verdict_of(
     }
 }
 
-/// Judges what a scenario made, after all its entries were gathered. Each trail goes to the judge, its pieces are
-/// compared with it where all of its cores were cut after each call too, and its entries are counted where a core only
-/// counts them. The first verdict that is not good is given.
+/// Judges what a scenario made, once all its trails are cut. Each trail goes to the judge, is compared with its pieces
+/// where all ways have the core, and with the count of the core that only counts. It returns the first verdict that is
+/// not good.
 pub fn judge(alloc: Global, whole: &World, pieces: &World, counted: &World) -> Verdict {
     let mut verdict = Verdict::Good;
     for (at, made) in whole.made.iter().enumerate() {
