@@ -1,4 +1,4 @@
-//! What client 0 does besides: it cuts the trail. And a ring that is full.
+//! The upkeep of client 0, which cuts the trail; and a ring that is full.
 ghost use Rattle.std.specs.Prelude.{◌≡◌};
 
 use crate::making::{config, ports};
@@ -11,10 +11,10 @@ use std::sync::Wait;
 use test_support::judging::{setup_of, unlawful};
 use test_support::pools::{fix, unfix_draining};
 
-/// Passes of one page at a time: one more than a ring has places.
+/// The passes of one page at the same time: one more than a ring holds.
 const PASSES: usize = 33;
 
-/// Takes passes of page 0, gives them back one after the other, and cuts the trail where it can.
+/// Fixes page 0 many times, gives the passes back one after the other, and cuts the trail if it can.
 #[derive(Drop)]
 struct Hoarder {
     taken: usize,
@@ -83,8 +83,8 @@ impl<P: Port> Worker<P, RecordingKeeper> for Hoarder {
     }
 }
 
-/// The last of the passes finds the ring full, which is then emptied. What client 0 cut meanwhile and what is left are,
-/// together, as many entries as all lists have, and a legal trail.
+/// The last pass finds the ring full, which is then emptied. What client 0 cut, with the rest, has as many entries as
+/// all lists, and is a lawful trail.
 #[test]
 fn full_ring_is_emptied(rt: HostRuntime) {
     let rt = &rt;
