@@ -10,9 +10,8 @@
 ghost use Rattle.std.specs.Prelude.{◌≡◌, ◌+◌, ◌<◌, ◌≤◌, IfOk, length};
 ghost use Rattle.bench_long_run.specs.declared.TheConstants.{PAGES};
 
-use bp_core::{Entry, Keeper, Pass, PoolCore, RecordingKeeper, SilentKeeper};
+use bp_core::{Entry, Keeper, Pass, PoolCore, RecordingKeeper, Settings, SilentKeeper};
 use bp_device::{MemDevice, MemPort, drive_fix};
-use bp_lruk::Settings;
 use bp_page::{Bytes, Geometry, Lsn, PageNo, Refusal};
 use bp_trail::Totals;
 use std::alloc::Global;

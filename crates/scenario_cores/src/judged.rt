@@ -2,7 +2,7 @@
 
 use crate::lists::{LOST, Lists, new_lists};
 use bp_check::{Setup, first_unlawful};
-use bp_lruk::Settings;
+use bp_core::Settings;
 use bp_page::{Bytes, Geometry, Image, Lsn, PageNo, Refusal};
 use bp_trail::{Call, Entry, Grant, Reply};
 use scenario_words::{Answer, Said, Shape, Verb, filled, named, reply_of};

@@ -6,10 +6,9 @@ ghost use Rattle.std.specs.Prelude.{◌≡◌, []};
 ghost use Rattle.bp_trail.specs.Parameters.{Parameters};
 ghost use Rattle.bp_page.specs.declared.limits.Geometry.{Geometry as AGeometry};
 
-use bp_core::{Call, Entry, PassNote, PoolCore};
+use bp_core::{Call, Entry, PassNote, PoolCore, Settings};
 use bp_device::{Flushed, MemDevice, Port};
 use bp_keeper::{ListKeeper, RecordingKeeper};
-use bp_lruk::Settings;
 use bp_mark::LogEnd;
 use bp_page::{Bytes, Geometry, Image, Lsn, Refusal};
 use bp_shared::{Parts, PoolName, Session, SharedPool, Taker};

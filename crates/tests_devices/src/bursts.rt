@@ -1,8 +1,7 @@
 //! Random references in bursts of every length, compared with a plain list: the victim of each load is the page that
 //! the list has first. Between two loads the order of the frames may so be behind by any number of pages.
-use bp_core::SilentKeeper;
+use bp_core::{Settings, SilentKeeper};
 use bp_device::{MemDevice, MemPort, OwnedPool};
-use bp_lruk::Settings;
 use bp_page::{Geometry, PageNo, Refusal};
 use std::process::Abort;
 use std::rt::HostRuntime;

@@ -1,8 +1,8 @@
 //! Shared by the tests: four pages of 16 bytes, one frame, and ports of which one call fails.
 ghost use Rattle.std.specs.Prelude.{◌≡◌, All, vec_len};
 
+use bp_core::Settings;
 use bp_device::{FusePort, MemDevice, MemPort, Port};
-use bp_lruk::Settings;
 use bp_page::{Geometry, Image, Lsn, PageNo};
 use bp_workers::{Config, Outcome, run_clients, scripts_fit};
 use std::marker::Sync;

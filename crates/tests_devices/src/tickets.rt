@@ -1,8 +1,7 @@
 //! A ticket that is given to another core.
 ghost use Rattle.std.specs.Prelude.{◌≡◌, length};
 
-use bp_core::{Core, EndRefusal, Fix, ReadTicket};
-use bp_lruk::Settings;
+use bp_core::{Core, EndRefusal, Fix, ReadTicket, Settings};
 use bp_page::{Geometry, Image, PageNo};
 use std::process::Abort;
 

@@ -1,9 +1,8 @@
 //! Reports of the trail of the write-ahead rule, in pieces, and to writers that fail.
 use crate::rows::{rows_of_the_rule, sixteen_pages};
 use crate::writers::Limited;
-use bp_core::{Core, Entry, Refused};
+use bp_core::{Core, Entry, Refused, Settings};
 use bp_device::{MemDevice, Port, drive_all};
-use bp_lruk::Settings;
 use bp_trace::{ReportRun, report, report_rows};
 use std::io;
 use std::io::Write;

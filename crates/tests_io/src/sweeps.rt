@@ -1,6 +1,6 @@
 //! A sweep whose device fails. No run of the program can show this.
+use bp_core::Settings;
 use bp_device::{FusePort, MemDevice, Port};
-use bp_lruk::Settings;
 use bp_page::Geometry;
 use bp_sweep::{Totals, count_references};
 use std::process::Abort;

@@ -2,9 +2,8 @@
 ghost use Rattle.std.specs.Prelude.{◌≡◌};
 
 use crate::answers::expect_counted;
-use bp_core::{Core, Refused, Row};
+use bp_core::{Core, Refused, Row, Settings};
 use bp_device::{MemDevice, MemPort, drive_all};
-use bp_lruk::Settings;
 use bp_page::{Geometry, Refusal};
 use std::process::Abort;
 use std::sync::Wait;

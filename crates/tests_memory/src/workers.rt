@@ -3,10 +3,9 @@ ghost use Rattle.std.specs.Prelude.{◌≡◌};
 
 use crate::devices::{device, port_of};
 use crate::telling::all_went_back;
-use bp_core::{RecordingKeeper, SilentKeeper};
+use bp_core::{RecordingKeeper, Settings, SilentKeeper};
 use bp_device::{MemPort, Port};
 use bp_keeper::ListKeeper;
-use bp_lruk::Settings;
 use bp_page::{Geometry, Refusal};
 use bp_shared::{PoolName, SharedPool};
 use bp_trail::agrees;

@@ -1,6 +1,6 @@
 //! Shared by the tests: pools of four pages of 16 bytes, and ports to them.
+use bp_core::Settings;
 use bp_device::{MemDevice, MemPort};
-use bp_lruk::Settings;
 use bp_page::Geometry;
 use bp_workers::Config;
 use std::process::Abort;
