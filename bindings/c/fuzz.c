@@ -289,7 +289,7 @@ static uint8_t model_write_end(const hz_grant *ticket, bool is_good)
     model_page *page = &m.pages[ticket->page];
     page->is_writing = false;
     if (is_good)
-        page->is_dirty = page->is_written_since;
+        page->is_unsaved = page->is_written_since;
     else
         page->first = least(page->first_out, page->first);
     page->first_out = UINT64_MAX;
@@ -297,7 +297,7 @@ static uint8_t model_write_end(const hz_grant *ticket, bool is_good)
     ++*(is_good ? &m.counted.writes : &m.counted.failed);
     stale = *ticket;
     take_back(&m.writes, ticket);
-    return is_good ? page->is_dirty : ODD;
+    return is_good ? page->is_unsaved : ODD;
 }
 
 static void try_write_end(void)
@@ -415,7 +415,7 @@ static void try_write(void)
         return;
     model_page *page = &m.pages[grant.page];
     memcpy(page->image + offset, bytes, len);
-    page->is_dirty = page->is_written_since = true;
+    page->is_unsaved = page->is_written_since = true;
     page->lsn = lsn > page->lsn ? lsn : page->lsn;
     page->first = least(page->first, lsn);
     m.entries++;

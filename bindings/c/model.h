@@ -13,7 +13,7 @@ typedef struct burst {
 } burst;
 
 typedef struct model_page {
-    bool is_here, is_reading, is_writing, is_dirty, is_written_since;
+    bool is_here, is_reading, is_writing, is_unsaved, is_written_since;
     unsigned pins, bursts;
     uint64_t lsn;                /* the page LSN */
     uint64_t first_out, first;   /* the least LSN of the writes in the image on its way out, and of those in no image */
@@ -208,7 +208,7 @@ static answer model_fix(uint8_t client, uint64_t number, size_t len)
         m.entries++;
         return refused(HZ_NO_VICTIM, client, number, 0);
     }
-    return m.pages[gone].is_dirty ? model_write_out(client, number, gone) : model_load(client, number, gone);
+    return m.pages[gone].is_unsaved ? model_write_out(client, number, gone) : model_load(client, number, gone);
 }
 
 static answer model_flush(uint8_t client, uint64_t number, size_t len)
@@ -217,7 +217,7 @@ static answer model_flush(uint8_t client, uint64_t number, size_t len)
     if (why)
         return refused(why, client, number, 0);
     model_page *page = &m.pages[number];
-    if (page->is_here && !page->is_writing && page->is_dirty)
+    if (page->is_here && !page->is_writing && page->is_unsaved)
         return model_write_out(client, number, number);
     m.entries++;
     answer a = refused(page->is_reading || page->is_writing ? HZ_BUSY : 0, client, number, 0);
@@ -242,7 +242,7 @@ static hz_unsaved model_next_unsaved(uint64_t from)
 {
     for (uint64_t i = from; i < PAGES; i++) {
         const model_page *page = &m.pages[i];
-        if (page->is_dirty)
+        if (page->is_unsaved)
             return (hz_unsaved){.page = i, .lsn = page->lsn, .first_lsn = least(page->first_out, page->first),
                                 .has_page = 1};
     }
@@ -265,7 +265,7 @@ static hz_stats model_stats(void)
         const model_page *page = &m.pages[i];
         stats.resident += page->is_here;
         stats.pinned += page->pins > 0;
-        stats.unsaved += page->is_dirty;
+        stats.unsaved += page->is_unsaved;
         stats.loading += page->is_reading;
         stats.writing += page->is_writing;
     }

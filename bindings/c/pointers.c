@@ -88,9 +88,9 @@ uint16_t hz_write_end(hz_core *core, const hz_grant *ticket, bool is_good, uint8
     if (!core || !ticket || !is_still_dirty)
         return HZ_NULL;
     hz_grant own = *ticket;
-    uint8_t is_dirty = *is_still_dirty;
-    uint16_t number = proved_hz_write_end(core, &own, is_good, &is_dirty);
-    *is_still_dirty = is_dirty;
+    uint8_t still = *is_still_dirty;
+    uint16_t number = proved_hz_write_end(core, &own, is_good, &still);
+    *is_still_dirty = still;
     return number;
 }
 

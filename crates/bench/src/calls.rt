@@ -2,9 +2,8 @@
 ghost use Rattle.std.specs.Prelude.{◌≡◌, ◌+◌, ◌<◌, ◌≤◌, length};
 
 use crate::tell;
-use bp_core::{Core, EndRefusal, Entry, Fix, Flush, Pass, PassNote, ReadTicket};
+use bp_core::{Core, EndRefusal, Entry, Fix, Flush, Pass, PassNote, ReadTicket, Settings};
 use bp_page::{Bytes, Geometry, Image, Lsn, PageNo, Refusal};
-use bp_replacer::Settings;
 use std::alloc::Global;
 use std::mem;
 use std::rt::Runtime;

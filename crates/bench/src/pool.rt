@@ -2,11 +2,9 @@
 ghost use Rattle.std.specs.Prelude.{◌≡◌, ◌<◌, ◌≤◌};
 
 use crate::next;
-use bp_core::{Entry, Keeper, PoolCore, RecordingKeeper, SilentKeeper};
+use bp_core::{Entry, Keeper, MAX_PERIOD, PoolCore, RecordingKeeper, Settings, SilentKeeper};
 use bp_device::{FilePort, OpenFault, Port, drive_fix};
 use bp_page::{Format, PageNo, Refusal};
-use bp_replacer::Settings;
-use bp_replacer::settings::MAX_PERIOD;
 use std::alloc::Global;
 use std::fs::File;
 use std::mem;

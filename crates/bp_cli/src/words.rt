@@ -55,7 +55,7 @@ pub struct RunWords<'a> {
     /// The version of a page file at a path.
     pub format: Format,
     pub order: Order,
-    /// Whether only the totals are reported.
+    /// True if the report has no lines of events: totals and refused rows alone.
     pub totals: bool,
 }
 

@@ -24,7 +24,7 @@
 //!    tells where the block of its page is (`placed`).
 //! 6. The next pass and the next ticket have numbers above all that are out (`numbers`).
 //! 7. For each read that is out the list of passes has room for the pass that its end gives (`pass_room`).
-//! 8. For each read that is out a frame waits, with an image of the page size. There are as many frames at most, and
+//! 8. For each read that is out a frame is empty, with an image of the page size. There are as many frames at most, and
 //!    as many places of pages, as the core was made with (`frame_room`).
 #![tactic(auto)]
 
@@ -36,6 +36,7 @@ pub mod stats;
 
 pub use bp_keeper::{GhostTrail as Before, Keeper, RecordingKeeper, SilentKeeper};
 pub use bp_replacer::Settings;
+pub use bp_replacer::settings::{MAX_PERIOD, MAX_STAMPS};
 pub use bp_trail::{Call, Ended, Entry, Flushed, NotFlushed, Refused, Reply, Row, Step};
 pub use config::Config;
 pub use passes::{EndRefusal, Fix, Flush, Pass, PassNote, ReadTicket, WriteTicket};

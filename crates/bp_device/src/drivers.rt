@@ -154,7 +154,8 @@ pub fn drive_new<K: Keeper, P: Port, R: Wait>(
     }
 }
 
-/// Writes a page out where it is unsaved, over a core that nobody else uses, and returns the result.
+/// Writes a page out where it is unsaved, over a core that nobody else uses, and returns how it left the
+/// page.
 ///
 /// Refused as `Core::flush` is, then with nothing changed except for that entry; with `WriteFailed` where the page
 /// could not be written, which then stays, unsaved.

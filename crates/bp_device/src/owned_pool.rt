@@ -18,10 +18,9 @@ ghost use Rattle.bp_device.specs.Owned.{IsDeviceOf, Opens, ForPage, ForPart, Own
 use crate::drivers::drive_flush;
 use crate::flush_all::drive_flush_all;
 use crate::owner::{OWNER, fix_as_owner, fix_new_as_owner, look_by};
-use bp_core::{Flushed, Keeper, NotFlushed, Pass, PoolCore};
+use bp_core::{Flushed, Keeper, NotFlushed, Pass, PoolCore, Settings};
 use bp_page::{Lsn, PageNo, PortFault, Refusal};
 use bp_ports::Port;
-use bp_replacer::Settings;
 use std::alloc::Global;
 use std::marker::Model;
 use std::sync::Wait;
@@ -141,7 +140,7 @@ impl<K: Keeper, P: Port> OwnedPool<K, P> {
     /// is to go back by `unfix`.
     ///
     /// `OutOfPage` where the file has no such page, which changes nothing, else `TrailFull` or `ClockFull` where the
-    /// clock can't move, which changes nothing either, else as `drive_fix`, before which the clock has moved.
+    /// clock can't move, which changes nothing either, else as `drive_fix`, with the clock moved if ticking is on.
     pub fn fix<R: Wait>(&mut self, rt: &R, page: PageNo) -> Result<Pass, Refusal>
         ensures outcome { ForPage self.old.core.parameters page self.old result self.new
             (OwnerFixes self.old.is_ticking self.old.core page result self.new.core) }

@@ -31,7 +31,7 @@ same-lsn o m n one other = ap (λ (p : Option (ℕ × ℕ)). (unwrap_or p (0, 0)
 pub read-place : (ws : List ℕ) (page slot n place : ℕ) → get_or ws page 0 ≡ slot + 1 → n ≡ page → place ≡ get_or ws n place → place ≡ slot + 1
 read-place ws page slot n place here is read = read ∙ ap (λ m. get_or ws m place) is ∙ sym (get_or_default ws page 0 place (page-within ws page slot here)) ∙ here
 
-module _ (size capacity : ℕ) (slots : List Frame) (ws free_frames : List ℕ) (t : IsTable size capacity slots (places_from 0 ws) free_frames) (pinned : ℕ) (unsaved : Unsaved) (a : IsAccount capacity slots ws pinned unsaved) where
+module _ (size capacity : ℕ) (slots : List Frame) (ws empty_frames : List ℕ) (t : IsTable size capacity slots (places_from 0 ws) empty_frames) (pinned : ℕ) (unsaved : Unsaved) (a : IsAccount capacity slots ws pinned unsaved) where
   abbrev entries : List Candidate
   entries = seated_in unsaved.order.seats
 

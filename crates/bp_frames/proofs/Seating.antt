@@ -81,9 +81,9 @@ nobody-seated zero = refl
 nobody-seated (suc n) = nobody-seated n
 
 -- ---- the seat of a page's slot
-module _ (size capacity : ℕ) (slots : List Frame) (ws free_frames : List ℕ) (t : IsTable size capacity slots (places_from 0 ws) free_frames) (seats : List (Option Candidate)) (s : IsSeating capacity ws seats) (page slot : ℕ) (here : get_or ws page 0 ≡ slot + 1) (lt : slot < capacity) where
+module _ (size capacity : ℕ) (slots : List Frame) (ws empty_frames : List ℕ) (t : IsTable size capacity slots (places_from 0 ws) empty_frames) (seats : List (Option Candidate)) (s : IsSeating capacity ws seats) (page slot : ℕ) (here : get_or ws page 0 ≡ slot + 1) (lt : slot < capacity) where
   own-entry : (e : Candidate) → seat_at seats slot ≡ Some e → e.2 ≡ page
-  own-entry e is = one-page size capacity slots ws free_frames t e.2 page slot (s.own slot e is) here
+  own-entry e is = one-page size capacity slots ws empty_frames t e.2 page slot (s.own slot e is) here
 
   pub seat-empty : find_entry (seated_in seats) page ≡ None → seat_at seats slot ≡ None
   seat-empty none = go (seat_at seats slot) refl

@@ -60,8 +60,8 @@ pub some-counted : (o : Option ℕ) (n : ℕ) → cond (is_some o) 1 0 ≤ n →
 some-counted None n le is = absurd (true≢false (sym is))
 some-counted (Some k) n le is = omega (arith, le)
 
-pub count-few : (size capacity : ℕ) (slots : List Frame) (ws free_frames : List ℕ) → IsTable size capacity slots (places_from 0 ws) free_frames → (p : Frame → Bool) → count p (frames_of slots (places_from 0 ws)) ≤ capacity
-count-few size capacity slots ws free_frames t p =
+pub count-few : (size capacity : ℕ) (slots : List Frame) (ws empty_frames : List ℕ) → IsTable size capacity slots (places_from 0 ws) empty_frames → (p : Frame → Bool) → count p (frames_of slots (places_from 0 ws)) ≤ capacity
+count-few size capacity slots ws empty_frames t p =
     let frames = frames_of slots (places_from 0 ws) in
     omega (arith, length-split p frames, length-mapped (frame_at slots) (places_from 0 ws), t.whole, t.few)
 
@@ -72,13 +72,13 @@ page-within (w ∷ ws) zero slot here = omega arith
 page-within (w ∷ ws) (suc page) slot here = omega (arith, page-within ws page slot here)
 
 -- ---- a slot more, which waits
-module _ (size capacity : ℕ) (slots : List Frame) (ws free_frames : List ℕ) (t : IsTable size capacity slots (places_from 0 ws) free_frames) (pinned : ℕ) (unsaved : Unsaved) (a : IsAccount capacity slots ws pinned unsaved) where
+module _ (size capacity : ℕ) (slots : List Frame) (ws empty_frames : List ℕ) (t : IsTable size capacity slots (places_from 0 ws) empty_frames) (pinned : ℕ) (unsaved : Unsaved) (a : IsAccount capacity slots ws pinned unsaved) where
   pub within-slots : (page slot : ℕ) → get_or ws page 0 ≡ slot + 1 → slot < length slots
   within-slots page slot here = subst (λ (p : Place). p.slot < length slots) (at-place ws page slot here (place_at page slot)) (t.within (rank ws page) (place_at page slot) (place-stands ws page slot here).in_range)
 
   pub account-provided : (next : Frame) → IsAccount capacity (slots ++ next ∷ []) ws pinned unsaved
   account-provided next =
-      let same = frames-provided size capacity slots (places_from 0 ws) free_frames t next in
+      let same = frames-provided size capacity slots (places_from 0 ws) empty_frames t next in
       record {
         pinned_is = a.pinned_is ∙ ap (count is_pinned) (sym same);
         unsaved_is = a.unsaved_is ∙ ap (count is_to_save) (sym same);
@@ -131,7 +131,7 @@ module _ (size capacity : ℕ) (slots : List Frame) (ws free_frames : List ℕ) 
         }
 
 -- ---- the frame of a page
-module _ (size capacity : ℕ) (slots : List Frame) (ws free_frames : List ℕ) (t : IsTable size capacity slots (places_from 0 ws) free_frames) (slot : FrameSlot) (here : get_or ws slot.page 0 ≡ slot.index + 1) (f : Frame) (f_is : f ≡ get_or slots slot.index f) where
+module _ (size capacity : ℕ) (slots : List Frame) (ws empty_frames : List ℕ) (t : IsTable size capacity slots (places_from 0 ws) empty_frames) (slot : FrameSlot) (here : get_or ws slot.page 0 ≡ slot.index + 1) (f : Frame) (f_is : f ≡ get_or slots slot.index f) where
   abbrev pub places : List Place
   places = places_from 0 ws
 
@@ -154,14 +154,14 @@ module _ (size capacity : ℕ) (slots : List Frame) (ws free_frames : List ℕ) 
   frame-is d = get_or_default slots slot.index d f in-slots ∙ sym f_is
 
   elsewhere : (k : ℕ) (e : Place) → k < length places → k ≢ at → (get_or places k e).slot ≢ slot.index
-  elsewhere k e lt other is = own-slot size capacity slots places free_frames t slot.page at stands k e own lt other (is ∙ ap (λ (p : Place). p.slot) (sym (own-is own)))
+  elsewhere k e lt other is = own-slot size capacity slots places empty_frames t slot.page at stands k e own lt other (is ∙ ap (λ (p : Place). p.slot) (sym (own-is own)))
 
   -- after a change of it
   module _ (next : Frame) where
     abbrev pub changed : List Frame
     changed = set slots slot.index next
 
-    pub table-changed : next.page ≡ f.page → length next.image ≡ length f.image → IsTable size capacity changed places free_frames
+    pub table-changed : next.page ≡ f.page → length next.image ≡ length f.image → IsTable size capacity changed places empty_frames
     table-changed page image = record {
       rising = t.rising;
       within = λ k d lt. omega (arith, t.within k d lt, length-set slots slot.index next);
@@ -171,8 +171,8 @@ module _ (size capacity : ℕ) (slots : List Frame) (ws free_frames : List ℕ) 
             ∙ ap (λ (g : Frame). g.page) (sym (frame-is no_frame) ∙ ap (λ s. get_or slots s no_frame) (sym same)) ∙ t.points k d lt
         | inr other ↦ ap (λ (g : Frame). g.page) (get_or-set_other slots slot.index (get_or places k d).slot next no_frame other) ∙ t.points k d lt
       ];
-      free_within = λ j d lt. omega (arith, t.free_within j d lt, length-set slots slot.index next);
-      free_once = t.free_once;
+      empty_within = λ j d lt. omega (arith, t.empty_within j d lt, length-set slots slot.index next);
+      empty_once = t.empty_once;
       apart = t.apart;
       sized = All-set (λ (g : Frame). length g.image ≡ size) slots slot.index next (image ∙ ap (λ (g : Frame). length g.image) f_is ∙ t.sized slot.index f in-slots) t.sized;
       whole = omega (arith, t.whole, length-set slots slot.index next);
@@ -205,7 +205,7 @@ module _ (size capacity : ℕ) (slots : List Frame) (ws free_frames : List ℕ) 
         seating = seating;
         seated = λ p s there. elim (cases_eq s slot.index) [
           | inl same ↦
-              let p_is : p ≡ slot.page = one-page size capacity slots ws free_frames t p slot.page slot.index (there ∙ ap (λ n. n + 1) same) here in
+              let p_is : p ≡ slot.page = one-page size capacity slots ws empty_frames t p slot.page slot.index (there ∙ ap (λ n. n + 1) same) here in
               ap (seat_at unsaved'.order.seats) same ∙ this
               ∙ ap (λ (g : Frame). seat_for slot.page g.first_lsn) (sym (ap (λ n. get_or changed n no_frame) same ∙ get_or-set_same slots slot.index next no_frame in-slots))
               ∙ ap (λ n. seat_for n (get_or changed s no_frame).first_lsn) (sym p_is)
@@ -218,7 +218,7 @@ module _ (size capacity : ℕ) (slots : List Frame) (ws free_frames : List ℕ) 
               ap (has unsaved'.pages) same ∙ own_page ∙ sym (ap (λ n. is_to_save (get_or changed n no_frame)) s_is ∙ ap is_to_save (get_or-set_same slots slot.index next no_frame in-slots))
           | inr other ↦
               other_pages p other ∙ a.here p s there
-              ∙ ap is_to_save (sym (get_or-set_other slots slot.index s next no_frame (λ same. other (one-page size capacity slots ws free_frames t p slot.page slot.index (there ∙ ap (λ n. n + 1) same) here))))
+              ∙ ap is_to_save (sym (get_or-set_other slots slot.index s next no_frame (λ same. other (one-page size capacity slots ws empty_frames t p slot.page slot.index (there ∙ ap (λ n. n + 1) same) here))))
         ];
         away = λ p none. other_pages p (λ same. absurd (omega (arith, none, ap (λ n. get_or ws n 0) same, here))) ∙ a.away p none;
       }
@@ -227,8 +227,8 @@ module _ (size capacity : ℕ) (slots : List Frame) (ws free_frames : List ℕ) 
       in-seats = omega (arith, in-slots, t.few, a.seating.seats_is)
 
       put-seating : (o : Option ℕ) → IsSeating capacity ws (set unsaved.order.seats slot.index (seat_for slot.page o))
-      put-seating None = seating-left size capacity slots ws free_frames t unsaved.order.seats a.seating slot.page slot.index here (omega (arith, in-slots, t.few))
-      put-seating (Some lsn) = seating-entered size capacity slots ws free_frames t unsaved.order.seats a.seating slot.page slot.index here (omega (arith, in-slots, t.few)) lsn 0
+      put-seating None = seating-left size capacity slots ws empty_frames t unsaved.order.seats a.seating slot.page slot.index here (omega (arith, in-slots, t.few))
+      put-seating (Some lsn) = seating-entered size capacity slots ws empty_frames t unsaved.order.seats a.seating slot.page slot.index here (omega (arith, in-slots, t.few)) lsn 0
 
       -- what is unsaved is noted
       pub account-changed : (unsaved' : Unsaved) → is_pinned next ≡ is_pinned f → unsaved'.count + cond (is_to_save f) 1 0 ≡ unsaved.count + cond (is_to_save next) 1 0 → unsaved'.order ≡ with_seat unsaved.order slot.index (seat_for slot.page next.first_lsn) → unsaved'.pages.limit ≡ unsaved.pages.limit → ((q : ℕ) → has unsaved'.pages q ≡ (if q == slot.page then is_to_save next else has unsaved.pages q)) → IsAccount capacity changed ws pinned unsaved'
@@ -301,13 +301,13 @@ module _ (size capacity : ℕ) (slots : List Frame) (ws free_frames : List ℕ) 
       unsaved_is = omega (arith, a.unsaved_is, firsts, count-vacated is_to_save, ap {B = ℕ} (λ ps. count is_to_save (frames_of slots ps)) gone);
       at_once = ap (λ (o : Seated). o.correlated) order ∙ a.at_once;
       seating = subst (IsSeating capacity (set ws slot.page 0)) (sym seats)
-          (seating-vacated capacity ws (set unsaved.order.seats slot.index None) (seating-left size capacity slots ws free_frames t unsaved.order.seats a.seating slot.page slot.index here few) slot.page
-          (left-here size capacity slots ws free_frames t unsaved.order.seats a.seating slot.page slot.index here few));
+          (seating-vacated capacity ws (set unsaved.order.seats slot.index None) (seating-left size capacity slots ws empty_frames t unsaved.order.seats a.seating slot.page slot.index here few) slot.page
+          (left-here size capacity slots ws empty_frames t unsaved.order.seats a.seating slot.page slot.index here few));
       seated = λ p s there. elim (cases_eq p slot.page) [
         | inl same ↦ absurd (omega (arith, there, ap (λ n. get_or (set ws slot.page 0) n 0) same, get_or-set_same ws slot.page 0 0 in-pages))
         | inr other ↦
             let was : get_or ws p 0 ≡ s + 1 = sym (get_or-set_other ws slot.page p 0 0 other) ∙ there in
-            ap (λ ss. seat_at ss s) seats ∙ get_or-set_other unsaved.order.seats slot.index s None None (λ same. other (one-page size capacity slots ws free_frames t p slot.page slot.index (was ∙ ap (λ n. n + 1) same) here)) ∙ a.seated p s was
+            ap (λ ss. seat_at ss s) seats ∙ get_or-set_other unsaved.order.seats slot.index s None None (λ same. other (one-page size capacity slots ws empty_frames t p slot.page slot.index (was ∙ ap (λ n. n + 1) same) here)) ∙ a.seated p s was
       ];
       pages_is = limits ∙ a.pages_is ∙ sym (length-set ws slot.page 0);
       here = λ p s there. elim (cases_eq p slot.page) [

@@ -11,12 +11,12 @@ use Rattle.bp_frames.specs.Frames.{changed_at, is_pinned, is_to_save, seat_for}
 use Rattle.bp_frames.specs.PageSets.{has}
 use Rattle.bp_frames.specs.Rising.{IsRisingBy}
 
--- the frames of pages, in the order of page numbers; how many wait for a page; the bytes of an
--- image; how many frames there may be; how many pages the file has; for each of these one more than
+-- the frames of pages, in the order of page numbers; how many have no page; the bytes of an image;
+-- how many frames there may be; how many pages the file has; for each of these one more than
 -- the slot of its frame, or 0 where it has none; and the candidates for replacement
 pub record Table : Type 0 where
   pub frames : List Frame
-  pub free_frames : ℕ
+  pub empty_frames : ℕ
   pub size : ℕ
   pub capacity : ℕ
   pub pages : ℕ
@@ -66,10 +66,10 @@ abbrev pub frames_of : List Frame → List Place → List Frame
 frames_of slots places = map (frame_at slots) places
 
 abbrev pub table_of : ℕ → ℕ → List Frame → List Place → List ℕ → List ℕ → Entered → Table
-table_of size capacity slots places free_frames whereabouts candidates =
+table_of size capacity slots places empty_frames whereabouts candidates =
     record {
       frames = frames_of slots places;
-      free_frames = length free_frames;
+      empty_frames = length empty_frames;
       size = size;
       capacity = capacity;
       pages = length whereabouts;
@@ -77,27 +77,27 @@ table_of size capacity slots places free_frames whereabouts candidates =
       candidates = candidates;
     }
 
--- each slot has one page or waits for one, and each place is where its page's frame is
+-- each slot has one page or is empty, and each place is where its page's frame is
 pub record IsTable (size capacity : ℕ) (slots : List Frame) (places : List Place)
-    (free_frames : List ℕ) : Type 0 where
+    (empty_frames : List ℕ) : Type 0 where
   pub rising : IsRisingBy (λ (p : Place). p.page) places
   pub within : (k : ℕ) (d : Place) → k < length places
       → (slice_index_or places k d).slot < length slots
   pub points : (k : ℕ) (d : Place) → k < length places
       → (frame_at slots (slice_index_or places k d)).page ≡ (slice_index_or places k d).page
-  pub free_within : (j d : ℕ) → j < length free_frames → slice_index_or free_frames j d < length slots
-  pub free_once : (i j d : ℕ) → i < j → j < length free_frames
-      → slice_index_or free_frames i d ≢ slice_index_or free_frames j d
-  pub apart : (k j : ℕ) (d : Place) (e : ℕ) → k < length places → j < length free_frames
-      → (slice_index_or places k d).slot ≢ slice_index_or free_frames j e
+  pub empty_within : (j d : ℕ) → j < length empty_frames → slice_index_or empty_frames j d < length slots
+  pub empty_once : (i j d : ℕ) → i < j → j < length empty_frames
+      → slice_index_or empty_frames i d ≢ slice_index_or empty_frames j d
+  pub apart : (k j : ℕ) (d : Place) (e : ℕ) → k < length places → j < length empty_frames
+      → (slice_index_or places k d).slot ≢ slice_index_or empty_frames j e
   pub sized : All (λ (f : Frame). length f.image ≡ size) slots
-  pub whole : length slots ≡ length places + length free_frames
+  pub whole : length slots ≡ length places + length empty_frames
   pub few : length slots ≤ capacity
 
-pub record HasTableRoom (capacity slots_capacity free_capacity : ℕ) : Type 0 where
+pub record HasTableRoom (capacity slots_capacity empty_capacity : ℕ) : Type 0 where
   pub small : capacity ≤ 65536
   pub for_slots : capacity ≤ slots_capacity
-  pub for_free : capacity ≤ free_capacity
+  pub for_empty : capacity ≤ empty_capacity
 
 -- each slot has a seat, where its page alone may stand
 pub record IsSeating (capacity : ℕ) (whereabouts : List ℕ)

@@ -1,5 +1,5 @@
 //! One frame: a page in memory, and how it is used.
-ghost use Rattle.std.specs.Prelude.{◌≡◌, ◌+◌, ◌^◌, ◌<◌, ◌≤◌, length, Some};
+ghost use Rattle.std.specs.Prelude.{◌≡◌, ◌+◌, ◌≤◌, length, Some};
 ghost use Rattle.bp_trail.specs.Lists.{or_less};
 
 use bp_page::{Image, Lsn, PageNo};
@@ -10,7 +10,7 @@ use std::mem;
 #[derive(Drop)]
 pub struct Frame {
     pub page: PageNo,
-    /// The block of the page's references, as it was given with the page. None where it waits for its first page.
+    /// The block of the page's references, as it was given with the page. None before its first page.
     pub block: Option<BlockNo>,
     /// The number of passes of the page that are out.
     pub pins: u64,
@@ -30,7 +30,8 @@ pub struct Frame {
     pub image: Image,
 }
 
-/// The slot of a page's frame, as `FrameTable::find` gives it. It is valid as long as the page is in its frame.
+/// The slot of a page's frame, as `FrameTable::find` and `install` give it. It is valid as long as the page is in its
+/// frame.
 #[derive(Clone, Copy)]
 pub struct FrameSlot {
     pub(crate) page: PageNo,
@@ -56,11 +57,10 @@ fn least(lsn: Lsn, before: Option<Lsn>) -> Option<Lsn>
 }
 
 impl Frame {
-    ghost use Rattle.bp_frames.specs.Frames.{is_unused, loaded_with, pinned, unpinned, written_on};
-    ghost use Rattle.bp_frames.specs.Frames.{saving, saved, not_saved};
+    ghost use Rattle.bp_frames.specs.Frames.{is_unused, loaded_with, written_on};
 
-    /// Makes a frame that waits for a page, with this image until then.
-    pub(crate) fn waiting(image: Image) -> Frame
+    /// Makes an empty frame. The image makes way for that of its first page.
+    pub(crate) fn empty(image: Image) -> Frame
         ensures { result.image ≡ image }
     {
         Frame {
@@ -95,20 +95,6 @@ impl Frame {
         mem::replace(&mut self.image, image)
     }
 
-    pub(crate) fn pin(&mut self)
-        requires { self.old.pins < 2 ^ 63 }
-        ensures { self.new ≡ pinned self.old }
-    {
-        self.pins += 1;
-    }
-
-    pub(crate) fn unpin(&mut self)
-        requires { 0 < self.old.pins }
-        ensures { self.new ≡ unpinned self.old }
-    {
-        self.pins -= 1;
-    }
-
     /// Returns true if nobody uses the page: no pass of it is out, and no write-out of it is under way.
     pub fn is_unused(&self) -> bool
         ensures { result ≡ is_unused self.now }
@@ -127,30 +113,5 @@ impl Frame {
         self.rewritten_lsn = least(lsn, self.rewritten_lsn);
         self.page_lsn = lsn.max(self.page_lsn);
         self.image.patch(offset, bytes);
-    }
-
-    /// Notes that a write-out begins.
-    pub(crate) fn begin_write_out(&mut self)
-        ensures { self.new ≡ saving self.old }
-    {
-        self.is_rewritten = false;
-        self.rewritten_lsn = None;
-        self.is_writing = true;
-    }
-
-    /// Notes that the write-out ended well: what was not written since is saved.
-    pub(crate) fn end_write_out(&mut self)
-        ensures { self.new ≡ saved self.old }
-    {
-        self.is_unsaved = self.is_rewritten;
-        self.first_lsn = self.rewritten_lsn;
-        self.is_writing = false;
-    }
-
-    /// Notes that the write-out failed.
-    pub(crate) fn fail_write_out(&mut self)
-        ensures { self.new ≡ not_saved self.old }
-    {
-        self.is_writing = false;
     }
 }

@@ -29,8 +29,8 @@ pub struct FrameTable {
     slots: Vec<Frame>,
     /// For each page of the file one more than the slot of its frame, or 0 where it has none.
     places: Vec<u32>,
-    /// The slots whose frame waits for a page.
-    free_frames: Vec<usize>,
+    /// The slots whose frame is empty: it holds no page, and has the image for the next one.
+    empty_frames: Vec<usize>,
     /// The pages that may be replaced, at the seats of their slots.
     candidates: Candidates,
     /// The number of resident pages with a pass out.
@@ -47,12 +47,12 @@ impl Model for FrameTable {
     ghost Value = { Table };
 
     ghost view = { λ t. table_of t.geometry.size t.capacity t.slots.items
-        (places_from 0 t.places.items) t.free_frames.items t.places.items
+        (places_from 0 t.places.items) t.empty_frames.items t.places.items
         (entered t.candidates) };
 
     ghost invariant = { λ t. IsTable t.geometry.size t.capacity t.slots.items
-        (places_from 0 t.places.items) t.free_frames.items
-        × HasTableRoom t.capacity (vec_capacity t.slots) (vec_capacity t.free_frames)
+        (places_from 0 t.places.items) t.empty_frames.items
+        × HasTableRoom t.capacity (vec_capacity t.slots) (vec_capacity t.empty_frames)
         × IsSeating t.capacity t.places.items t.candidates.seats
         × IsAccount t.capacity t.slots.items t.places.items t.pinned t.unsaved };
 }
@@ -78,7 +78,7 @@ impl FrameTable {
         requires { capacity ≤ 65536 }
         ensures { IfOk result (λ t. t ≡ record {
           frames = [];
-          free_frames = 0;
+          empty_frames = 0;
           size = geometry.size;
           capacity
               = capacity;
@@ -94,18 +94,18 @@ impl FrameTable {
             capacity,
             slots: Vec::with_capacity(alloc, capacity)?,
             places: vec![in alloc; 0; pages]?,
-            free_frames: Vec::with_capacity(alloc, capacity)?,
+            empty_frames: Vec::with_capacity(alloc, capacity)?,
             candidates: Candidates::new(alloc, capacity, settings)?,
             pinned: 0,
             unsaved: Unsaved::new(alloc, capacity, pages, settings)?,
         })
     }
 
-    /// Returns the number of resident pages. Frames that wait for a page are not counted.
+    /// Returns the number of resident pages. Empty frames are not counted.
     pub fn len(&self) -> usize
         ensures { result ≡ length self.now.frames }
     {
-        self.slots.len() - self.free_frames.len()
+        self.slots.len() - self.empty_frames.len()
     }
 
     /// Returns the number of pages with a pass out, in O(1).
@@ -155,7 +155,7 @@ impl FrameTable {
     {
         let frame = &mut self.slots[slot.index];
         self.pinned += one_if(frame.pins == 0);
-        frame.pin();
+        frame.pins += 1;
     }
 
     /// Counts one pass fewer of the page. Its frame must have a pass out.
@@ -166,7 +166,7 @@ impl FrameTable {
     {
         let frame = &mut self.slots[slot.index];
         self.pinned -= one_if(frame.pins == 1);
-        frame.unpin();
+        frame.pins -= 1;
     }
 
     /// Writes bytes into the page's image from the offset on, and raises its page LSN to `lsn` if that is greater. The
@@ -189,7 +189,10 @@ impl FrameTable {
         requires { IsSlotIn self.old slot.now }
         ensures { self.new ≡ with_changed self.old slot.now.page saving }
     {
-        self.slots[slot.index].begin_write_out();
+        let frame = &mut self.slots[slot.index];
+        frame.is_rewritten = false;
+        frame.rewritten_lsn = None;
+        frame.is_writing = true;
     }
 
     /// Notes that a write-out of the page ended well: it is saved, except for writes since that began.
@@ -199,7 +202,9 @@ impl FrameTable {
     {
         let frame = &mut self.slots[slot.index];
         let before = frame.first_lsn;
-        frame.end_write_out();
+        frame.is_unsaved = frame.is_rewritten;
+        frame.first_lsn = frame.rewritten_lsn;
+        frame.is_writing = false;
         self.unsaved.note(slot, before, frame.first_lsn);
     }
 
@@ -208,66 +213,66 @@ impl FrameTable {
         requires { IsSlotIn self.old slot.now }
         ensures { self.new ≡ with_changed self.old slot.now.page not_saved }
     {
-        self.slots[slot.index].fail_write_out();
+        self.slots[slot.index].is_writing = false;
     }
 
-    /// Makes a frame, unless more than `reads` frames wait for a page; `reads` or more must wait. It fails by want of
-    /// memory alone, and then changes nothing.
-    pub fn make_spare_frame(&mut self, alloc: Global, reads: usize) -> Result<(), AllocError>
+    /// Makes an empty frame, unless there are more than `reads` already. At least `reads` there must be: one for each
+    /// read that is out. It fails by want of memory alone, and then changes nothing.
+    pub fn make_empty_frame(&mut self, alloc: Global, reads: usize) -> Result<(), AllocError>
         requires room { length self.old.frames + reads < self.old.capacity }
-        requires waiting { reads ≤ self.old.free_frames }
+        requires waiting { reads ≤ self.old.empty_frames }
         ensures frames { self.new.frames ≡ self.old.frames }
         ensures size { self.new.size ≡ self.old.size }
         ensures capacity { self.new.capacity ≡ self.old.capacity }
         ensures pages { self.new.pages ≡ self.old.pages }
         ensures places { self.new.places ≡ self.old.places }
         ensures candidates { self.new.candidates ≡ self.old.candidates }
-        ensures enough { OnOk result (reads < self.new.free_frames) }
-        ensures more { self.old.free_frames ≤ self.new.free_frames }
+        ensures enough { OnOk result (reads < self.new.empty_frames) }
+        ensures more { self.old.empty_frames ≤ self.new.empty_frames }
         ensures unchanged { OnErr result (self.new ≡ self.old) }
     {
-        if reads < self.free_frames.len() {
+        if reads < self.empty_frames.len() {
             return Ok(());
         }
         let image = Image::blank(alloc, &self.geometry)?;
-        self.free_frames.push_reserved(self.slots.len());
-        self.slots.push_reserved(Frame::waiting(image));
+        self.empty_frames.push_reserved(self.slots.len());
+        self.slots.push_reserved(Frame::empty(image));
         Ok(())
     }
 
-    /// Puts a page of the file that was read, and has no frame, into a frame that waits, with one pass out. The frame
+    /// Puts a page of the file that was read, and has no frame, into an empty frame, with one pass out. The frame
     /// keeps the number of the block of its references and the image itself. Returns the slot, and the image that the
     /// frame had before, whose bytes mean nothing. It takes no memory.
     pub fn install(&mut self, page: PageNo, block: BlockNo, image: Image) -> (FrameSlot, Image)
         requires absent { some (is_frame_of page) self.old.frames ≡ false }
         requires in_range { page < self.old.pages }
-        requires free_frames { 0 < self.old.free_frames }
+        requires empty_frames { 0 < self.old.empty_frames }
         requires size { length image ≡ self.old.size }
         ensures at { IsSlotIn self.new result.0 }
         ensures page { result.0.page ≡ page }
         ensures left { length result.1 ≡ self.old.size }
         ensures frames { IsPermutation (loaded_with page block image ∷
             self.old.frames) self.new.frames }
-        ensures free_frames { self.new.free_frames + 1 ≡ self.old.free_frames }
+        ensures empty_frames { self.new.empty_frames + 1 ≡ self.old.empty_frames }
         ensures size { self.new.size ≡ self.old.size }
         ensures capacity { self.new.capacity ≡ self.old.capacity }
         ensures pages { self.new.pages ≡ self.old.pages }
         ensures candidates { self.new.candidates ≡ self.old.candidates }
     {
-        let index = self.free_frames.pop().unwrap();
+        let index = self.empty_frames.pop().unwrap();
         let left = self.slots[index].load(page, block, image);
         self.places[page.number() as usize] = index as u32 + 1;
         self.pinned += 1;
         (FrameSlot { page, index }, left)
     }
 
-    /// Takes a page that is no candidate out of its frame, which then waits for another.
+    /// Takes a page that is no candidate out of its frame, which is empty then.
     pub fn vacate(&mut self, slot: &FrameSlot)
         requires at { IsSlotIn self.old slot.now }
         requires apart { entry_of self.old.candidates slot.now.page ≡ None }
         ensures { self.new ≡ record self.old {
           frames = without_page slot.now.page self.old.frames;
-          free_frames = self.old.free_frames + 1;
+          empty_frames = self.old.empty_frames + 1;
           places = self.new.places;
         } }
     {
@@ -275,7 +280,7 @@ impl FrameTable {
         self.pinned -= one_if(frame.pins > 0);
         self.unsaved.note(slot, frame.first_lsn, None);
         self.places[slot.page.number() as usize] = 0;
-        self.free_frames.push_reserved(slot.index);
+        self.empty_frames.push_reserved(slot.index);
     }
 
     /// Enters the page among the candidates, where it is not yet, with its K-th stamp and the time of its newest

@@ -6,7 +6,7 @@
 //! [`GrantList`] holds the passes, or the tickets of one kind, that are out. Neither knows of a trail: `specs` has a
 //! model of each, which the core above ties to its entries.
 //!
-//! Memory is taken by `FrameTable::with_capacity` and `make_spare_frame`, and by `GrantList::with_capacity` and
+//! Memory is taken by `FrameTable::with_capacity` and `make_empty_frame`, and by `GrantList::with_capacity` and
 //! `reserve`; by nothing else.
 #![tactic(auto)]
 

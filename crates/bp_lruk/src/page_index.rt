@@ -39,7 +39,7 @@ impl Model for PageIndex {
 }
 
 impl PageIndex {
-    /// Makes an empty list for so many candidates. No other call takes memory.
+    /// Makes an empty list for so many candidates. It fails by want of memory alone; no other call takes any.
     pub fn new(alloc: Global, frames: usize) -> Result<PageIndex, AllocError>
         ensures frames { IfOk result (λ p. p.frames ≡ frames) }
         ensures empty { IfOk result (λ p. p.entries ≡ []) }

@@ -12,7 +12,7 @@ use std::marker::Model;
 
 /// The word that a log end raises and readers look at, shared among threads by reference.
 ///
-/// Contracts see it as its name, by which it is told from every other mark. Each call on a log end or a reader needs it
+/// Contracts see it as its name, which sets it apart from every other mark. Each call on a log end or a reader needs it
 /// to be of the mark that is passed, so no value of one mark is ever taken for another's.
 #[derive(Drop)]
 pub struct Mark {

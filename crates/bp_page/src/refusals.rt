@@ -25,7 +25,7 @@ pub enum Refusal {
     /// The page has a change whose log record, this LSN, lies beyond the durable mark.
     #[error("the log must first be durable up to {0}")]
     NeedLog(Lsn),
-    /// A read of the page is out, or for a flush a write-out of it, be it the caller's own.
+    /// A read of the page is out, or for a flush a write-out of it, even if it is the caller's own.
     #[error("a device operation on the page is under way")]
     Busy,
     /// The core did not give this pass, or has taken it back.
@@ -119,7 +119,7 @@ impl Refusal {
 /// Why a device operation failed.
 #[derive(Clone, Copy, PartialEq, Eq, Debug, Error)]
 pub enum PortFault {
-    /// The device failed. It does not say what it did before.
+    /// The device failed. How much of the operation it did is not known.
     #[error("the device failed")]
     Device,
     /// The memory of a page's bytes could not be had; the device itself did not fail.

@@ -1,6 +1,6 @@
 //! `Progress`: a caller's view of how far a migration has come.
 
-/// Is told how far a migration has come.
+/// Hears how far a migration has come.
 pub trait Progress {
     /// Called after each page: `done` of the pages are written.
     fn written(&mut self, done: u64, pages: u64);

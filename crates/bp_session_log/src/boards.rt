@@ -9,7 +9,7 @@ use std::marker::{Model, Send};
 /// A list of entries for each of its lines, newest first. The lists stand in proofs alone, and take no memory.
 #[derive(Drop)]
 pub struct Board {
-    /// The number by which it is told from every other board.
+    /// The number that sets it apart from every other board.
     pub ghost name: { ℕ },
     /// The list of each line, by the line's number. Each has its newest entry first.
     pub ghost lists: { List Trail },

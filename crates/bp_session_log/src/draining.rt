@@ -15,7 +15,7 @@ pub const ALL: u64 = u64::MAX;
 
 /// Gives the front pass of a client's ring back, and takes it out of the ring. Returns false where it is not this
 /// client's, or is not out: then it stays in the ring, and nothing changes.
-fn give_front_back<K: Keeper>(
+fn unfix_front<K: Keeper>(
     core: &mut PoolCore<K>,
     client: usize,
     consumer: &mut Consumer<PassNote>,
@@ -59,7 +59,7 @@ pub fn drain_known<K: Keeper>(
         if consumer.cached_slots() == 0 {
             return;
         }
-        if !give_front_back(core, client, consumer) {
+        if !unfix_front(core, client, consumer) {
             return;
         }
     }

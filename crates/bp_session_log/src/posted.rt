@@ -7,13 +7,13 @@ const FEW: u8 = 16;
 /// A bit for each client that posted passes since the rings were last drained, where there are so many that one word is
 /// cheaper to look at than each ring.
 ///
-/// A client tells after its pass is in the ring, and the word is taken under the lock. So a section asks each ring
-/// whose passes were told before it; a pass that is told later is drained by the next one, or by whatever drains all
-/// rings.
+/// A client announces a pass once it is in the ring, and the word is taken under the lock. So a section asks each ring
+/// whose passes were announced before it. A pass that is announced later is drained by the next one, or by whatever
+/// drains all rings.
 #[derive(Drop)]
 pub struct Posted {
     has_many: bool,
-    /// Bit c: client c told of a pass.
+    /// Bit c: client c announced a pass.
     told: AtomicU64,
 }
 
@@ -34,7 +34,7 @@ impl Posted {
         }
     }
 
-    /// Takes the rings that a section is to ask, bit c for client c: those told of since the last time, or all where
+    /// Takes the rings that a section is to ask, bit c for client c: those announced since the last time, or all where
     /// there are few.
     pub fn take(&self) -> u64 {
         if !self.has_many {

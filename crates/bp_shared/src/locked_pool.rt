@@ -17,7 +17,7 @@ mod observing;
 mod turns;
 
 /// The pool as one thread sees it while it holds the lock. Its trail is legal, by the core's own type; the reader is
-/// the mark's, and has seen every LSN that the core was told.
+/// the mark's, and has seen every LSN that the core has marked.
 #[derive(Drop)]
 pub(crate) struct LockedPool<N: PoolName, K: ListKeeper> {
     core: PoolCore<K>,
@@ -123,7 +123,7 @@ impl<N: PoolName, K: ListKeeper> LockedPool<N, K> {
 
     /// Gives each pass back that waits in the client's own ring. Each of them is out: the list gave it back while it
     /// held it.
-    fn take_back_posted(&mut self, book: &Book<K>, producer: &mut Producer<PassNote>)
+    fn drain_own(&mut self, book: &Book<K>, producer: &mut Producer<PassNote>)
         requires client_in { book.now.client < N.parameters.clients }
         requires ring { slice_index_or N.ring.rings book.now.client (ring_of producer.old)
             ≡ ring_of producer.old }
@@ -163,7 +163,7 @@ impl<N: PoolName, K: ListKeeper> LockedPool<N, K> {
         } = session;
         self.board.write::<Book<K>, Told>(&mut line, &book);
         self.seen.write::<PoolCore<K>, Past>(&mut seen, &self.core);
-        self.take_back_posted(&book, &mut producer);
+        self.drain_own(&book, &mut producer);
         book
     }
 

@@ -109,7 +109,7 @@ impl<N: PoolName, K: ListKeeper> SharedPool<N, K> {
     ghost use Rattle.bp_shared.specs.Telling.{GoesOnFrom};
 
     /// Makes a pool over a core, one session for each client, in order, and the taker of its trail. The reader is the
-    /// mark's, and has seen what the core was told.
+    /// mark's, and has seen all LSNs that the core has marked.
     ///
     /// `BadClient` where the rings are not made for as many clients as the core has; else `OutOfMemory`. All that was
     /// given is dropped then.
@@ -194,11 +194,11 @@ impl<N: PoolName, K: ListKeeper> SharedPool<N, K> {
         posted
     }
 
-    /// Gives a pass back as `unfix` does. Where the session's ring is full all rings are drained first, for which the
-    /// lock is taken once.
+    /// Gives a pass back as `unfix` does. Where the session's ring is full it takes the lock once, for which it may
+    /// wait, drains all rings and tries again. It takes no memory.
     ///
-    /// `UnknownPass` as from `unfix`; `RingFull` where the ring is full even then. Both hand the pass back and change
-    /// nothing that the session tells.
+    /// `UnknownPass` as from `unfix`; `RingFull` where the ring is full even then, which is not known to happen. Both
+    /// hand the pass back and leave the session as it was; passes that waited in rings may have gone back to the core.
     pub fn unfix_draining<R: Wait>(
         &self,
         rt: &R,
@@ -219,12 +219,13 @@ impl<N: PoolName, K: ListKeeper> SharedPool<N, K> {
         }
     }
 
-    /// Drains the rings, by which the passes that wait there go back to the core. It takes no memory.
+    /// Takes the lock, for which it may wait, and drains all rings: the passes that wait there go back to the core. It
+    /// takes no memory.
     pub fn settle<R: Wait>(&self, rt: &R) {
         locked(rt, &self.state).drain(ALL);
     }
 
-    /// Takes the lock, and drains the rings that clients told of, and those in which a pass is known to wait. The
+    /// Takes the lock, and drains the rings that clients announced, and those in which a pass is known to wait. The
     /// critical section of each event begins so.
     fn lock_and_drain<R: Wait>(&self, rt: &R) -> MutexGuard<'_, LockedPool<N, K>>
         ensures { IsDrained (mutex_guard_value result) }

@@ -17,7 +17,7 @@ use std::marker::Model;
 
 /// The rings of a pool, made before it: one with room for one piece of a trail, and one for the passes that each client
 /// posts. Contracts see their names, and those of the boards on which the pool's sessions will show their lists and
-/// what they saw of the trail, by which they are told from all others.
+/// what they saw of the trail, which sets them apart from all others.
 #[derive(Drop)]
 pub struct TrailRing {
     pub(crate) pieces: Producer<Vec<Entry>>,

@@ -12,10 +12,9 @@ ghost use Rattle.bp_sweep.specs.Referring.{AreFrames, CellRefused, EndsCell, Fix
 ghost use Rattle.bp_sweep.specs.Referring.{IsTallied, is_passed_over};
 
 use crate::progress::{Progress, Turn, Unwatched, tell};
-use bp_core::{EndRefusal, Fix, Pass, ReadTicket, Reply, SilentCore};
+use bp_core::{EndRefusal, Fix, Pass, ReadTicket, Reply, Settings, SilentCore};
 use bp_page::{Image, PageNo, PortFault, Refusal};
 use bp_ports::Port;
-use bp_replacer::Settings;
 use bp_trail::Totals;
 use std::alloc::Global;
 use std::sync::Wait;
@@ -136,7 +135,7 @@ fn refer<P: Port, R: Wait>(
     core.tick(0, 1)
 }
 
-/// Makes all references, in order. `progress` is told after each 65,536 of them.
+/// Makes all references, in order. `progress` hears of each 65,536 of them.
 fn refer_all<P: Port, R: Wait, G: Progress>(
     rt: &R,
     core: &mut SilentCore,

@@ -1,4 +1,4 @@
-//! `Progress`, which is told how far a sweep has come.
+//! `Progress`, which hears how far a sweep has come.
 
 pub trait Progress {
     /// Tells that so many of the references are counted in this cell, from 1, of so many cells. It is called before

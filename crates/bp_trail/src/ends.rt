@@ -38,7 +38,7 @@ impl Ended {
     }
 }
 
-/// The result of a flush.
+/// How a flush left the page: saved before, in no frame, saved by it, or unsaved again.
 #[derive(Clone, Copy, PartialEq, Eq, Debug, Drop)]
 pub enum Flushed {
     /// No write of the page was left to save.

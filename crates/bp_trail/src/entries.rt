@@ -61,7 +61,8 @@ pub enum Call {
     },
     /// The page is to be written out, if it is unsaved.
     Flush(PageNo),
-    /// The references of pages that are away are forgotten, where they are older than the retained period.
+    /// Forgets the references of pages that are neither resident nor loading and were last referenced more than the
+    /// retained period ago.
     Purge,
 }
 

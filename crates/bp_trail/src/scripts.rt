@@ -34,7 +34,8 @@ pub enum Step {
     Flush(PageNo),
     /// Moves the clock on by so many ticks.
     Tick(u64),
-    /// Forgets the references of pages that are away, where they are older than the retained period.
+    /// Forgets the references of pages that are neither resident nor loading and were last referenced more than the
+    /// retained period ago.
     Purge,
     /// Marks the log durable up to this LSN.
     Log(Lsn),

@@ -9,7 +9,7 @@ use Rattle.bp_trail.specs.declared.entries.Reply.TheVariants.{Done}
 use Rattle.bp_trail.specs.Trail.{Trail}
 use Rattle.bp_trail.specs.Pieces.{by}
 
--- by a fix of a page, and by a tick of so many steps, with this answer to the client
+-- by a fix of a page, and by a tick of so many ticks, with this answer to the client
 abbrev pub Fixes : Type 1
 Fixes = ℕ → ℕ → Result Pass Refusal → Trail → Trail → Type 0
 

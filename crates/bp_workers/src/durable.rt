@@ -28,7 +28,7 @@ pub trait Asked<N: PoolName, K: ListKeeper> {
 
     // A fix of a page gives a client an answer, and leads from its list, as it was, to it, as it is.
     ghost fixes: { Fixes };
-    // The same of a tick of so many steps.
+    // The same of a tick of so many ticks.
     ghost ticks: { Ticks };
 
     /// Returns the pool itself, by which its mark is raised.
@@ -181,7 +181,7 @@ pub struct Patience {
     pub rounds: u32,
     /// The ticks by which the clock is moved, once, where no page may leave. More than the correlated period lets each
     /// page leave that nobody has pinned.
-    pub steps: u64,
+    pub ticks: u64,
     /// The longest time of each later wait for a pass to go back.
     pub pause: Duration,
 }
@@ -209,9 +209,9 @@ fn overcome<N: PoolName, K: ListKeeper, A: Asked<N, K>, L: DurableLog<N>, R: Wai
     ensures lent { L.lent log.new ≡ L.lent log.old }
     ensures raises { RaisesWithin (L.durable_to log.old) (L.raised_to log.old)
         (L.durable_to log.new) (L.raised_to log.new) }
-    ensures goes_on { OnOk result (GoesOn session.old.client patience.steps
+    ensures goes_on { OnOk result (GoesOn session.old.client patience.ticks
         (L.raised_to log.new) why is_ticked.old is_ticked.new session.old.said session.new.said) }
-    ensures gives_up { IfErr result (λ last. GivesUp A.ticks session.old.client patience.steps
+    ensures gives_up { IfErr result (λ last. GivesUp A.ticks session.old.client patience.ticks
         (L.durable_to log.new) why is_ticked.old last session.old.said session.new.said) }
 {
     match why {
@@ -228,7 +228,7 @@ fn overcome<N: PoolName, K: ListKeeper, A: Asked<N, K>, L: DurableLog<N>, R: Wai
                 return Ok(());
             }
             *is_ticked = true;
-            pool.ask_tick(rt, session, patience.steps)
+            pool.ask_tick(rt, session, patience.ticks)
         }
         _ => Err(why),
     }
@@ -237,7 +237,7 @@ fn overcome<N: PoolName, K: ListKeeper, A: Asked<N, K>, L: DurableLog<N>, R: Wai
 /// Fixes a page as `SharedPool::fix` does, and tries again where the log or a victim is wanted: up to `rounds` times.
 ///
 /// Where the log is not durable far enough, which is `NeedLog`, the log is made durable first. Where no page may leave,
-/// which is `NoVictim`, the clock is moved on by `steps`, once; after that each try waits for `pause` before it.
+/// which is `NoVictim`, the clock is moved on by `ticks`, once; after that each try waits for `pause` before it.
 ///
 /// Each try adds what a fix adds. One that is refused so adds an entry, and one more where the durable mark has risen,
 /// one for each wait for another client's device work, and two for each victim that went out before. The clock's move
@@ -264,7 +264,7 @@ pub fn fix_durably<N: PoolName, P: Port, K: ListKeeper, A: Asked<N, K>, L: Durab
     ensures lent { L.lent log.new ≡ L.lent log.old }
     ensures raises { RaisesWithin (L.durable_to log.old) (L.raised_to log.old)
         (L.durable_to log.new) (L.raised_to log.new) }
-    ensures outcome { Tries A.fixes A.ticks client.old.session.client page patience.steps
+    ensures outcome { Tries A.fixes A.ticks client.old.session.client page patience.ticks
         (L.durable_to log.new) (L.raised_to log.new) patience.rounds false result
         client.old.session.said client.new.session.said }
     ensures work { result ≢ Err Refusal.UnknownTicket → DoesWorkSaid P.read_gives P.write_gives

@@ -150,7 +150,7 @@ fn run_pool<
     let (upkeep, left) = all_left(&mut pool, jobs, left);
     let Upkeep { log, taker } = upkeep;
     let (core, mark, reader) = pool.into_core(taker);
-    // The mark's last word bounds what its reader has seen, and so what the core was told.
+    // The mark's last word bounds what its reader has seen, and so the LSNs that the core has marked.
     mark.close(log.into_log_end(), reader);
     Ok(Run { core, left })
 }

@@ -4,10 +4,9 @@
 
 ghost use Rattle.std.specs.Prelude.{◌≡◌, ◌<◌};
 
-use bp_core::Core;
+use bp_core::{Core, Settings};
 use bp_device::{MemDevice, MemPort, Port, drive_fix, drive_flush};
 use bp_page::{Geometry, Lsn, PageNo, Refusal};
-use bp_replacer::Settings;
 use std::alloc::Global;
 use std::rt::Runtime;
 use std::sync::Wait;

@@ -9,13 +9,10 @@ pub use bp_page::{
     Bytes, Format, Geometry, Image, Lsn, PageNo, PortFault, Refusal, explanation_of,
 };
 
-// K and the periods of LRU-K.
-pub use bp_replacer::Settings;
-
-// Cores, keepers, entries of trails, passes and tickets.
+// Cores with K and the periods of LRU-K, keepers, entries of trails, passes and tickets.
 pub use bp_core::{
     Config, Core, EndRefusal, Ended, Fix, Flush, NotFlushed, Pass, PassNote, PoolCore, ReadTicket,
-    SilentCore, Stats, WriteTicket,
+    Settings, SilentCore, Stats, WriteTicket,
 };
 pub use bp_keeper::{Keeper, ListKeeper, RecordingKeeper, SilentKeeper};
 pub use bp_trail::{Call, Entry, Flushed, Grant, Reply, Totals, agrees};

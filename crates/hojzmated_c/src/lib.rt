@@ -127,7 +127,8 @@ pub extern "C" fn proved_hz_mark(alloc: Global, core: &mut HzCore, client: u8, l
     code(&marked)
 }
 
-/// Forgets pages that are in no frame and have not been referenced for the retained period, and counts them.
+/// Forgets the references of pages that are neither resident nor loading and were last referenced more than the
+/// retained period ago, and counts these pages.
 #[unsafe(no_mangle)]
 pub extern "C" fn proved_hz_purge(
     alloc: Global,
@@ -240,10 +241,10 @@ pub extern "C" fn proved_hz_write_end(
     core: &mut HzCore,
     ticket: &HzGrant,
     is_good: bool,
-    is_dirty: &mut u8,
+    is_still_dirty: &mut u8,
 ) -> u16
-    ensures { WriteEnded core.old.seal.pool core.new.seal.pool ticket.now is_good is_dirty.old
-        is_dirty.new result }
+    ensures { WriteEnded core.old.seal.pool core.new.seal.pool ticket.now is_good is_still_dirty.old
+        is_still_dirty.new result }
 {
     let Some(mut pool) = core.take(alloc) else {
         return NO_CORE;
@@ -252,11 +253,11 @@ pub extern "C" fn proved_hz_write_end(
     *core = HzCore::of(pool);
     match ended {
         Ok(Ended::Cleaned) => {
-            *is_dirty = 0;
+            *is_still_dirty = 0;
             0
         }
         Ok(Ended::StillDirty) => {
-            *is_dirty = 1;
+            *is_still_dirty = 1;
             0
         }
         Err(EndRefusal::Failed(why)) => why.number(),

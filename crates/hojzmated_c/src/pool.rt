@@ -7,9 +7,8 @@ mod fixing;
 mod queries;
 
 use crate::forms::HzConfig;
-use bp_core::SilentCore;
+use bp_core::{Settings, SilentCore};
 use bp_page::{Geometry, Image, Lsn, Refusal};
-use bp_replacer::Settings;
 use std::alloc::Global;
 use std::marker::Model;
 

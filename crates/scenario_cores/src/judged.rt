@@ -8,7 +8,7 @@ use bp_trail::{Call, Entry, Grant, Reply};
 use scenario_words::{Answer, Said, Shape, Verb, filled, named, reply_of};
 use std::alloc::Global;
 
-/// A lawful list of entries, and the passes and tickets that they gave.
+/// A legal list of entries, and the passes and tickets that they gave.
 #[derive(Drop)]
 pub struct Judged {
     alloc: Global,

@@ -99,7 +99,7 @@ fn fuses<R: Abort + AllocGlobal>(
     ports
 }
 
-/// Runs the rows of a text by so many clients over the device. The judge finds the trail lawful.
+/// Runs the rows of a text by so many clients over the device. The judge finds the trail legal.
 pub(crate) fn run<R: Threads + Wait + Sync + Abort + AllocGlobal>(
     rt: &R,
     config: Config,

@@ -230,7 +230,7 @@ fn tally_of<N: PoolName>(pieces: &Pieces, left: usize, runners: &[Runner<N>]) ->
     tally
 }
 
-// Returns all entries of a pool: the joined pieces, and the rest. The judge finds them lawful.
+// Returns all entries of a pool: the joined pieces, and the rest. The judge finds them legal.
 fn legal_entries<R: Abort + AllocGlobal>(rt: &R, pieces: Pieces, core: Core) -> Vec<Entry> {
     let setup = setup_of(&core);
     let mut entries = pieces.kept;
@@ -334,7 +334,7 @@ fn a_million_entries_in_little_room(rt: HostRuntime) {
     assert_eq!(rt; tally.capacity, 4096);
 }
 
-/// The joined pieces are lawful. The run is a hundredth of the one above, which the judge would take too long over.
+/// The joined pieces are legal. The run is a hundredth of the one above, which the judge would take too long over.
 #[test]
 fn pieces_that_threads_cut_are_legal(rt: HostRuntime) {
     let plan = Plan {

@@ -210,7 +210,7 @@ fn look_again<N: PoolName, R: Wait + Abort>(
     }
 }
 
-/// Ends the pool, and returns the totals of all its entries. The judge finds them lawful.
+/// Ends the pool, and returns the totals of all its entries. The judge finds them legal.
 fn end<N: PoolName, R: Abort + AllocGlobal>(
     rt: &R,
     pool: SharedPool<N>,

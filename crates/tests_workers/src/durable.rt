@@ -67,7 +67,7 @@ struct Waiter {
     log: Notes,
     rounds: u32,
     /// The ticks by which a durable fix moves the clock on.
-    steps: u64,
+    ticks: u64,
     /// Whether it keeps the pass of page 0.
     holds: bool,
     is_fixed: bool,
@@ -125,7 +125,7 @@ impl<P: Port> Worker<P, RecordingKeeper> for Waiter {
         };
         let patience = Patience {
             rounds: self.rounds,
-            steps: self.steps,
+            ticks: self.ticks,
             pause: Duration::from_millis(1),
         };
         let writer = &mut upkeep.log;
@@ -137,11 +137,11 @@ impl<P: Port> Worker<P, RecordingKeeper> for Waiter {
     }
 }
 
-/// Runs one waiter over one frame, and asserts that its trail is lawful.
+/// Runs one waiter over one frame, and asserts that its trail is legal.
 fn run<R: Abort + AllocGlobal + Threads + Wait + Sync>(
     rt: &R,
     rounds: u32,
-    steps: u64,
+    ticks: u64,
     holds: bool,
     is_broken: bool,
 ) -> Left<MemPort, Waiter> {
@@ -155,7 +155,7 @@ fn run<R: Abort + AllocGlobal + Threads + Wait + Sync>(
             is_broken,
         },
         rounds,
-        steps,
+        ticks,
         holds,
         is_fixed: false,
         refused: None,

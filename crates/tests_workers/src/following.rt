@@ -82,7 +82,7 @@ impl Sharer {
         let page = client.port.geometry().page(1).ok_or(Refusal::OutOfPage)?;
         let patience = Patience {
             rounds: 10,
-            steps: 1,
+            ticks: 1,
             pause: Duration::from_millis(1),
         };
         let pass = fix_durably(rt, pool, client, &mut self.following, page, patience)?;

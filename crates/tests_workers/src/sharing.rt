@@ -12,7 +12,7 @@ use std::sync::Wait;
 use std::thread::Threads;
 use test_support::judging::unlawful_in;
 
-/// Runs so many workers, which keep a pass where `keeps` is true. The judge finds the trail lawful.
+/// Runs so many workers, which keep a pass where `keeps` is true. The judge finds the trail legal.
 fn run<R: Abort + AllocGlobal + Threads + Wait + Sync>(
     rt: &R,
     frames: usize,
@@ -41,8 +41,8 @@ fn count_marks(trail: &[Entry]) -> usize {
     marks
 }
 
-/// Asserts that each list is its client's part of the trail, that all passes went back, and that the mark was raised
-/// once.
+/// Asserts that each list is its client's part of the trail, that all passes went back, and that the trail has
+/// one mark.
 fn expect_shared<R: Abort + AllocGlobal + Threads + Wait + Sync>(
     rt: &R,
     frames: usize,

@@ -84,7 +84,7 @@ impl<P: Port> Worker<P, RecordingKeeper> for Hoarder {
 }
 
 /// The last pass finds the ring full, which is then emptied. What client 0 cut, with the rest, has as many entries as
-/// all lists, and is a lawful trail.
+/// all lists, and is a legal trail.
 #[test]
 fn full_ring_is_emptied(rt: HostRuntime) {
     let rt = &rt;

@@ -53,7 +53,7 @@ use std::time::{Duration, Instant};
 /// assert_eq!(pager.read(7)?[0], 4);
 /// // Each page that was written to goes out, its log record first.
 /// pager.checkpoint()?;
-/// assert_eq!(pager.stats().dirty, 0);
+/// assert_eq!(pager.stats().unsaved, 0);
 /// # Ok(())
 /// # }
 /// ```

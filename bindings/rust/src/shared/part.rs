@@ -11,7 +11,7 @@ use std::sync::{Condvar, Mutex, MutexGuard, PoisonError, RwLockReadGuard, TryLoc
 use std::time::Duration;
 
 /// A proved pool under a lock, with the latches of the pages in its frames. It has cache lines of
-/// its own. While the lock is held there is no device work, and nobody waits.
+/// its own. No thread does device work or waits while it holds the lock.
 #[repr(align(128))]
 pub(super) struct Part {
     state: Mutex<State>,

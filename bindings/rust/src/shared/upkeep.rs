@@ -22,7 +22,7 @@ pub struct Stats {
     /// Pages that are pinned.
     pub pinned: usize,
     /// Pages that were written to since they were saved.
-    pub dirty: usize,
+    pub unsaved: usize,
     /// The number of times that a thread slept until a page was read, written out or unpinned.
     /// Waits for latches are not counted.
     pub waits: u64,
@@ -56,7 +56,7 @@ impl<F> SharedPager<F> {
             stats.memory += (state.free.most() + SPARE_IMAGES) * config.page_size;
             stats.resident += counts.resident;
             stats.pinned += counts.pinned;
-            stats.dirty += counts.unsaved;
+            stats.unsaved += counts.unsaved;
             stats.waits += state.waits;
             stats.totals.add(&counts.totals);
             stats.totals.hits += state.joined;

@@ -76,7 +76,7 @@ fn shared_pager_without_memory() {
         let (times, has_come) = refusing(refused + 1, || use_pages(&pager));
         assert_eq!(times, u32::from(has_come), "request {}", refused + 1);
         let stats = pager.stats();
-        assert_eq!((stats.pinned, stats.dirty), (0, 0));
+        assert_eq!((stats.pinned, stats.unsaved), (0, 0));
         let pages = pager.into_io().0.into_inner();
         assert_eq!(pages.map(|page| page[1]), [7, 8, 9, 11]);
         if !has_come {

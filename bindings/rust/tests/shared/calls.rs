@@ -112,7 +112,7 @@ fn pages_in_frames() {
 #[test]
 fn counts() {
     let pager = pager(2);
-    assert_eq!((pager.stats().resident, pager.stats().dirty), (0, 0));
+    assert_eq!((pager.stats().resident, pager.stats().unsaved), (0, 0));
     put(&pager, 1, 7, 1);
     let page = pager.read(1).unwrap();
     let other = pager.read(1).unwrap();
@@ -129,13 +129,13 @@ fn counts() {
         refused: 0,
     };
     assert_eq!(stats.totals, totals);
-    let few = (stats.resident, stats.pinned, stats.dirty, stats.waits);
+    let few = (stats.resident, stats.pinned, stats.unsaved, stats.waits);
     assert_eq!(few, (2, 1, 1, 0));
     assert!(stats.memory >= 2 * SIZE);
     drop((page, other));
     pager.flush(1).unwrap();
     let stats = pager.stats();
-    assert_eq!((stats.totals.writes, stats.pinned, stats.dirty), (1, 0, 0));
+    assert_eq!((stats.totals.writes, stats.pinned, stats.unsaved), (1, 0, 0));
     assert_eq!(stats.totals.hits, 2);
 }
 

@@ -214,7 +214,7 @@ impl Engine {
             assert_eq!(device.kept(page), newest, "page {page}");
         }
         let stats = self.pager.stats();
-        assert_eq!((stats.dirty, self.pager.redo_from()), (0, None));
+        assert_eq!((stats.unsaved, self.pager.redo_from()), (0, None));
         assert_eq!(stats.totals.writes, device.writes.load(Ordering::Relaxed));
         assert!(stats.totals.faults >= device.reads.load(Ordering::Relaxed));
     }

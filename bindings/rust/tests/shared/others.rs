@@ -121,7 +121,7 @@ fn failing_reads(device: Device, lsn: u64) -> (usize, usize) {
         catch_unwind(AssertUnwindSafe(|| pager.read(page).map(drop).unwrap())).is_err()
     });
     let failing = reads.filter(|is_failing| *is_failing).count();
-    (failing, pager.stats().dirty)
+    (failing, pager.stats().unsaved)
 }
 
 #[test]
@@ -174,7 +174,7 @@ fn clean_goes_on_after_a_page() {
             let cleaned = catch_unwind(AssertUnwindSafe(|| pager.clean(100)));
             assert!(!matches!(cleaned, Ok(Ok(count)) if count > 100));
         }
-        assert_eq!(pager.stats().dirty, 1);
+        assert_eq!(pager.stats().unsaved, 1);
     }
 }
 
@@ -193,7 +193,7 @@ fn clean_and_checkpoint_of_many_pages() {
     pager.io().written.lock().unwrap().clear();
     assert_eq!(pager.checkpoint().unwrap(), None);
     assert!((0..100).eq(pager.io().written.lock().unwrap().drain(..)));
-    assert_eq!(pager.stats().dirty, 0);
+    assert_eq!(pager.stats().unsaved, 0);
 }
 
 #[test]
@@ -226,7 +226,7 @@ fn cleaner_ends_while_the_device_waits() {
     let began = Instant::now();
     drop(cleaner);
     assert!(began.elapsed() < Duration::from_secs(30));
-    assert_eq!(pager.stats().dirty, 0);
+    assert_eq!(pager.stats().unsaved, 0);
 }
 
 #[test]

@@ -54,7 +54,7 @@ fn reads_and_write_outs_overlap() {
         put(&pager, 2, 8, 0);
         gate.open();
     });
-    assert_eq!((pager.stats().dirty, pager.stats().totals.writes), (1, 2));
+    assert_eq!((pager.stats().unsaved, pager.stats().totals.writes), (1, 2));
 }
 
 #[test]

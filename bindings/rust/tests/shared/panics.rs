@@ -32,7 +32,7 @@ fn panic_of_a_write_out() {
     panics(&pager, || pager.flush(1));
     panics(&pager, || pager.checkpoint());
     panics(&pager, || pager.clean(1));
-    assert_eq!((pager.stats().dirty, pager.redo_from()), (1, Some(5)));
+    assert_eq!((pager.stats().unsaved, pager.redo_from()), (1, Some(5)));
     put(&pager, 3, 7, 4);
     assert_eq!(pager.read(1).unwrap()[0], 9);
     assert_eq!(pager.checkpoint().unwrap(), None);

@@ -185,7 +185,7 @@ fn failed_write_out() {
         let error = call(&pager).unwrap_err();
         assert!(matches!(error, PagerError::Write { page: 1, .. }));
         assert_eq!(pager.io().asked(), [Asked::Write(1, 9, 5)]);
-        assert_eq!((pager.stats().dirty, pager.redo_from()), (1, Some(5)));
+        assert_eq!((pager.stats().unsaved, pager.redo_from()), (1, Some(5)));
         assert_eq!(pager.read(1).unwrap()[0], 9);
     }
     pager.flush(1).unwrap();
@@ -233,7 +233,7 @@ fn checkpoint_that_breaks_off() {
         pager.io().asked(),
         [Asked::Write(1, 9, 5), Asked::Write(2, 20, 6)]
     );
-    assert_eq!((pager.stats().dirty, pager.redo_from()), (2, Some(4)));
+    assert_eq!((pager.stats().unsaved, pager.redo_from()), (2, Some(4)));
 }
 
 #[test]

@@ -68,7 +68,7 @@ fn checkpoint_counts_what_is_written_meanwhile() {
     assert_eq!(pager.checkpoint().unwrap(), Some(7));
     let asked = pager.io().asked();
     assert_eq!(asked[asked.len() - 2..], [Asked::Read(3), Asked::Sync]);
-    assert_eq!((pager.stats().dirty, pager.redo_from()), (3, Some(7)));
+    assert_eq!((pager.stats().unsaved, pager.redo_from()), (3, Some(7)));
     // At the next one all go out. The log is asked for once.
     assert_eq!(pager.checkpoint().unwrap(), None);
     let asked = [
@@ -94,7 +94,7 @@ fn checkpoint_counts_what_goes_out_during_its_sync() {
     });
     put(&pager, 2, 20, 6);
     assert_eq!(pager.checkpoint().unwrap(), Some(7));
-    assert_eq!((pager.stats().dirty, pager.redo_from()), (0, None));
+    assert_eq!((pager.stats().unsaved, pager.redo_from()), (0, None));
     assert_eq!(pager.checkpoint().unwrap(), None);
 }
 
@@ -114,7 +114,7 @@ fn checkpoint_waits_for_a_write_out() {
     thread::scope(|threads| {
         threads.spawn(|| pager.flush(1).unwrap());
         gate.wait_for(1);
-        assert_eq!((pager.stats().dirty, pager.redo_from()), (1, Some(5)));
+        assert_eq!((pager.stats().unsaved, pager.redo_from()), (1, Some(5)));
         let checkpoint = threads.spawn(|| pager.checkpoint().unwrap());
         while pager.stats().waits == 0 {
             thread::yield_now();
@@ -172,7 +172,7 @@ fn flush_beside_a_look() {
     thread::scope(|threads| {
         threads.spawn(|| pager.flush(1).unwrap());
     });
-    assert_eq!((page[0], pager.stats().dirty), (9, 0));
+    assert_eq!((page[0], pager.stats().unsaved), (9, 0));
 }
 
 // A change without a record is none that redo needs, on a page of its own and on one that has others.
@@ -180,16 +180,16 @@ fn flush_beside_a_look() {
 fn redo_beside_changes_without_a_record() {
     let pager = pager(4);
     put(&pager, 3, 30, 0);
-    assert_eq!((pager.stats().dirty, pager.redo_from()), (1, None));
+    assert_eq!((pager.stats().unsaved, pager.redo_from()), (1, None));
     for (page, lsn) in [(1, 0), (1, 8), (2, 9), (1, 0)] {
         put(&pager, page, 10, lsn);
     }
-    assert_eq!((pager.stats().dirty, pager.redo_from()), (3, Some(8)));
+    assert_eq!((pager.stats().unsaved, pager.redo_from()), (3, Some(8)));
     pager.flush(1).unwrap();
     assert_eq!(pager.redo_from(), Some(9));
     put(&pager, 1, 10, 0);
     pager.flush(2).unwrap();
-    assert_eq!((pager.stats().dirty, pager.redo_from()), (2, None));
+    assert_eq!((pager.stats().unsaved, pager.redo_from()), (2, None));
     assert_eq!(pager.checkpoint().unwrap(), None);
 }
 
@@ -216,7 +216,7 @@ fn clean_leaves_what_is_in_use() {
     assert_eq!(pager.clean(0).unwrap(), 0);
     assert_eq!(pager.clean(2).unwrap(), 2);
     assert_eq!(pager.clean(usize::MAX).unwrap(), 1);
-    assert_eq!((pager.stats().dirty, pager.io().asked().len()), (0, 3));
+    assert_eq!((pager.stats().unsaved, pager.io().asked().len()), (0, 3));
 }
 
 // Each part has its share of them.
@@ -241,7 +241,7 @@ fn clean_of_many_parts() {
 /// Waits until so many pages are unsaved.
 fn wait_for_dirty(pager: &SharedPager<Device>, count: usize) {
     let began = Instant::now();
-    while pager.stats().dirty != count {
+    while pager.stats().unsaved != count {
         assert!(began.elapsed() < Duration::from_secs(30), "not cleaned");
         thread::yield_now();
     }

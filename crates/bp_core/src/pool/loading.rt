@@ -37,7 +37,7 @@ impl<K: Keeper> PoolCore<K> {
         ensures memory { TakesMemory (Call.Fix page) self.old }
     {
         let reads = self.state.reads.len();
-        self.state.frames.make_spare_frame(self.alloc, reads)?;
+        self.state.frames.make_empty_frame(self.alloc, reads)?;
         reserve_for_read(
             &mut self.state.passes,
             &mut self.state.reads,
@@ -139,8 +139,8 @@ impl<K: Keeper> PoolCore<K> {
         }
     }
 
-    /// Ends a read that went well, if its ticket is out: the page is resident, with one pass out.
-    fn end_load(
+    /// Ends a read that went well, as `read_end_by` does.
+    pub fn end_load(
         &mut self,
         ticket: Grant,
         image: Image,

@@ -15,8 +15,8 @@ use bp_page::PageNo;
 use bp_trail::{Call, Grant, Reply};
 
 impl<K: Keeper> PoolCore<K> {
-    /// Returns the number of free entries: the room, less the entries so far, and less those that will end the passes
-    /// and tickets that are out.
+    /// Returns the number of free entries: the room, less the entries since the last cut, and less those that will end
+    /// the passes and tickets that are out.
     pub fn free(&self) -> usize
         ensures { EachPast self.now (λ past. result ≡ room_after self.now past) }
     {

@@ -19,7 +19,7 @@ use bp_mark::{Mark, Reader};
 use bp_page::{Image, Lsn, PageNo, Refusal};
 
 impl<K: ListKeeper> Book<K> {
-    /// Looks at the mark once, and marks what it sees where that is above what the core was told: the trail and the
+    /// Looks at the mark once, and marks what it sees where that is above the mark of the core: the trail and the
     /// list get the entry. `TrailFull`, where the trail has no room for the mark, adds none.
     #[tactic(auto, using(crate::proofs::Asking::mark_refused))]
     pub fn look(

@@ -38,7 +38,7 @@ impl<K: ListKeeper> Book<K> {
         let given = self.grant(page, serial);
         let ended = self.grant(page, serial);
         let copy = copied::<K>(&mut self.blanks, &image);
-        match core.read_end_by(given, Ok(image), &mut self.left) {
+        match core.end_load(given, image, &mut self.left) {
             Ok(pass) => {
                 let note = pass.note();
                 self.said.record_load(ended, note.serial(), copy);

@@ -13,8 +13,8 @@ use bp_keeper::RecordingKeeper;
 use bp_page::Refusal;
 
 impl<N: PoolName> LockedPool<N, RecordingKeeper> {
-    /// Hands the trail to the taker. The core goes on in the spare's memory, and takes none. `ClockFull` where more than
-    /// 2^62 passes or tickets were given, which changes nothing.
+    /// Hands the trail to the taker. The core goes on in the spare's memory, and takes none. `ClockFull` where more
+    /// than 2^62 passes or tickets were given, which changes nothing.
     pub(crate) fn cut(
         &mut self,
         taker: &mut Taker<N>,

@@ -10,7 +10,7 @@ use bp_trail::{Entry, Totals};
 use std::io;
 use std::io::{ErrorKind, Write};
 
-/// The end of time in a report.
+/// The greatest time of a report, in ticks.
 const TIME_END: u128 = 1 << 62;
 
 const ENTRIES_END: u128 = 1 << 64;

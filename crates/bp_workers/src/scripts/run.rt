@@ -136,8 +136,8 @@ fn joined<P: Port>(
 /// At `Ok` the trail is one legal history of at most `config.room` entries, by the rules of the pool; each client's
 /// list is the trail's entries of that client and follows its script; no mark is ahead of the log rows of client 0; and
 /// each port, which comes back, did the work that its client's list tells and nothing else. `BadSettings` where the
-/// frames are not 1 to 65,536 or the room not 1 to 16,777,216, before any thread starts. `OutOfMemory` where there is
-/// not the memory that is wanted outside a row. `Disagree` where a client was given what the pool did not know, or what
+/// frames are not 1 to 65,536 or the room not 1 to 16,777,216, before any thread starts. `OutOfMemory` where memory is
+/// refused outside a row. `Disagree` where a client was given what the pool did not know, or what
 /// it saw is not what the trail has of it. Threads have ended at every return.
 pub fn run_clients<P: Port + Send, R: Threads + Wait + Sync>(
     rt: &R,

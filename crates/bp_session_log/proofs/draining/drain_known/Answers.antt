@@ -9,9 +9,9 @@ loop-init g c = record { parameters = refl; before = refl; takes = takes_none _ 
 pub loop-preserved : goal.loop-preserved
 loop-preserved g c =
     let i = c.loop.invariant in
-    let one = c.give_front_back.ensures in
+    let one = c.unfix_front.ensures in
     record {
       parameters = one.parameters ∙ i.parameters;
       before = one.before ∙ i.before;
-      takes = takes_more _ _ _ _ _ _ _ _ _ i.takes refl c.if-not-give_front_back.ensures.front;
+      takes = takes_more _ _ _ _ _ _ _ _ _ i.takes refl c.if-not-unfix_front.ensures.front;
     }

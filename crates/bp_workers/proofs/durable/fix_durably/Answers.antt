@@ -52,7 +52,7 @@ returns-in_err-overcome-in-Err-clause-work g c =
     let i = c.loop-round.invariant in
     let ends = rw (c.ask_fix.ensures.client ∙ i.client) at c.in_err-overcome-in-Err.ensures.gives_up in
     let client = c.args.client.now.session.client in
-    let steps = c.args.patience.steps in
+    let steps = c.args.patience.ticks in
     let is = err_from_is_err_and c.from_residual.result c.from_residual.ensures.1 in
     λ known. gives-up-work _ _ g.A.Asked.ticks client steps _ _ _ _ _ _ _ _ _ (work-on _ _ _ _ _ _ _ _ i.work (c.in-Err.ensures.work (gives-up-known g.A.Asked.ticks client steps _ _ _ _ _ _ ends (λ unknown. known (is.1 ∙ ap Err is.2 ∙ unknown))))) ends
 

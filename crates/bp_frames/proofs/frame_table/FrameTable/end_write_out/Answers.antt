@@ -1,4 +1,4 @@
-use Rattle.std.proofs.Common.{length, ap, arith}
+use Rattle.std.proofs.Common.{◌≡◌, length, ap, refl, arith}
 use Rattle.bp_frames.specs.declared.frame.Frame.{Frame}
 use Rattle.bp_frames.specs.Frames.{saved, is_pinned, is_to_save}
 use Rattle.bp_frames.proofs.Tables.{slot-here, slot-shown, changed-shown}
@@ -9,7 +9,7 @@ pub index_mut-frame-requires : goal.index_mut-frame-requires
 index_mut-frame-requires c = let lt = slot-shown _ _ _ _ _ c.self.invariant.0 _ _ c.self.view_is c.args.slot.now c.requires in omega (arith, lt)
 
 pub returns : goal.returns
-returns c = changed-shown _ _ _ _ _ c.self.invariant.0 _ _ c.self.view_is c.args.slot.now c.requires c.index_mut-frame.result.now c.index_mut-frame.ensures.value saved c.end_write_out.new.self c.end_write_out.ensures
+returns c = changed-shown _ _ _ _ _ c.self.invariant.0 _ _ c.self.view_is c.args.slot.now c.requires c.index_mut-frame.result.now c.index_mut-frame.ensures.value saved (saved c.index_mut-frame.result.now) refl
 
 pub note-requires-clause-seat : goal.note-requires-clause-seat
 note-requires-clause-seat c =
@@ -51,8 +51,8 @@ invariant_of-self c =
     let f = c.index_mut-frame.result.now in
     let f_is = c.index_mut-frame.ensures.value in
     let here = slot-here _ _ _ _ _ v.0 _ _ c.self.view_is c.args.slot.now c.requires in
-    let next = c.end_write_out.new.self in
-    let is = c.end_write_out.ensures in (
+    let next = saved f in
+    let is : next ≡ saved f = refl in (
       table-changed _ _ _ _ _ v.0 c.args.slot.now here f f_is next (ap (λ (g : Frame). g.page) is) (ap (λ (g : Frame). length g.image) is),
       v.1,
       v.2,

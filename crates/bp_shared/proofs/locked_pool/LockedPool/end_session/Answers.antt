@@ -12,8 +12,8 @@ invariant_of-self g c = (
   earlier_seen _ _ _ _ _ _ c.self.invariant.5 c.write-2.ensures,
 )
 
-pub take_back_posted-requires-clause-theirs : goal.take_back_posted-requires-clause-theirs
-take_back_posted-requires-clause-theirs g c = told_by _ _ _ _ _ _ _ _ _ _ c.self.invariant.2 c.session.invariant.3 c.write.ensures
+pub drain_own-requires-clause-theirs : goal.drain_own-requires-clause-theirs
+drain_own-requires-clause-theirs g c = told_by _ _ _ _ _ _ _ _ _ _ c.self.invariant.2 c.session.invariant.3 c.write.ensures
 
 pub returns-clause-seen : goal.returns-clause-seen
-returns-clause-seen g c = rw (← c.session.view_is) (goes_on_taken _ _ _ _ (line_earlier _ _ _ _ _ _ _ c.self.invariant.5 c.write-2.ensures) c.take_back_posted.ensures.takes)
+returns-clause-seen g c = rw (← c.session.view_is) (goes_on_taken _ _ _ _ (line_earlier _ _ _ _ _ _ _ c.self.invariant.5 c.write-2.ensures) c.drain_own.ensures.takes)

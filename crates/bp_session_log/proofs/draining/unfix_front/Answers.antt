@@ -2,7 +2,7 @@
 use Rattle.std.proofs.Common.{refl, ap, inr}
 use Rattle.bp_core.specs.CoreView.{CoreView}
 use Rattle.bp_session_log.proofs.Drains.{stopped_at}
-use Rattle.bp_session_log.proofs.draining.give_front_back.Goals as goal
+use Rattle.bp_session_log.proofs.draining.unfix_front.Goals as goal
 
 pub returns-in-Err-clause-front : goal.returns-in-Err-clause-front
 returns-in-Err-clause-front g c =

@@ -6,7 +6,7 @@ use Rattle.bp_shared.specs.Posting.{IsPosted}
 use Rattle.bp_shared.proofs.Posting.{meets}
 use Rattle.bp_shared.proofs.Waiting.{settles}
 use Rattle.bp_shared.proofs.Telling.{earlier_drained, shown_drained, went_back}
-use Rattle.bp_shared.proofs.locked_pool.LockedPool.take_back_posted.Goals as goal
+use Rattle.bp_shared.proofs.locked_pool.LockedPool.drain_own.Goals as goal
 
 pub slots_beside-waiting-requires : goal.slots_beside-waiting-requires
 slots_beside-waiting-requires g c =
