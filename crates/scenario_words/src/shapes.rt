@@ -30,6 +30,8 @@ pub enum Thing {
     Core,
     /// A core with a device of its own.
     Driven,
+    /// A pool with one owner, and a device of its own.
+    Owned,
     /// A pool that sessions use in turn.
     Pool,
     /// A pool that client threads use.
@@ -131,6 +133,7 @@ fn thing_of(word: &str) -> Option<Thing> {
     match word {
         "core" => Some(Thing::Core),
         "driven" => Some(Thing::Driven),
+        "owned" => Some(Thing::Owned),
         "pool" => Some(Thing::Pool),
         "run" => Some(Thing::Run),
         "histories" => Some(Thing::Histories),

@@ -5,23 +5,35 @@ use bp_check::{Setup, first_unlawful};
 use bp_core::{RecordingKeeper, SilentKeeper};
 use bp_page::Refusal;
 use bp_trail::{Entry, Reply};
-use scenario_cores::{Judged, Pool, Ranked, Timed, new_judged, new_pool, new_ranked, new_timed};
+use scenario_cores::{
+    Judged, Owned, Pool, Ranked, Timed, new_judged, new_owned, new_pool, new_ranked, new_timed,
+    owned_of,
+};
 use scenario_sessions::{Answers, Ran, play_pool, play_run};
 use scenario_words::{Answer, Keeps, Said, Shape, Thing, Verb, Way, call_of, maker_of};
 use std::alloc::{AllocError, Global};
 use std::marker::Sync;
+use std::mem;
 use std::sync::Wait;
 use std::thread::Threads;
+
+const NOTHING: Answer = Answer::Word("nothing to call");
+
+const DONE: Answer = Answer::Reply(Reply::Done);
 
 /// What a line made.
 #[derive(Drop)]
 enum Made {
     Kept(Pool<RecordingKeeper>),
     Counted(Pool<SilentKeeper>),
+    Owned(Owned<RecordingKeeper>),
+    OwnedCounted(Owned<SilentKeeper>),
     Histories(Timed),
     Candidates(Ranked),
     Judged(Judged),
     Ran(Ran),
+    /// It was refused, and is dropped.
+    Dropped,
 }
 
 /// Whether a call asks of the trail, which is another one in the ways beside the first.
@@ -65,24 +77,30 @@ pub struct World {
 }
 
 /// Whether what a line makes is there in this way. What has no core, or names how its core keeps its trail, is there in
-/// the first alone.
+/// the first alone. A core with an owner has nobody else to cut its trail.
 fn is_there(way: Way, thing: Thing, keeps: Keeps) -> bool {
     match (way, thing, keeps) {
-        (Way::Whole, _, _) => true,
+        (Way::Whole, _, _) | (Way::Counted, Thing::Owned, Keeps::Each) => true,
         (_, Thing::Core | Thing::Driven | Thing::Pool, Keeps::Each) => true,
         _ => false,
     }
 }
 
+/// Whether the core of a line only counts its entries, in this way.
+fn only_counts(way: Way, keeps: Keeps) -> bool {
+    matches!((way, keeps), (Way::Counted, _) | (_, Keeps::Counted))
+}
+
 /// What a line makes.
 fn new_made(alloc: Global, way: Way, thing: Thing, shape: &Shape) -> Result<Made, Refusal> {
-    match (thing, way, shape.keeps) {
-        (Thing::Histories, _, _) => Ok(Made::Histories(new_timed(alloc, shape)?)),
-        (Thing::Candidates, _, _) => Ok(Made::Candidates(new_ranked(alloc, shape)?)),
-        (Thing::Judged, _, _) => Ok(Made::Judged(new_judged(alloc, shape)?)),
-        (_, Way::Counted, _) | (_, _, Keeps::Counted) => {
-            Ok(Made::Counted(new_pool(alloc, thing, shape)?))
-        }
+    let counts = only_counts(way, shape.keeps);
+    match thing {
+        Thing::Histories => Ok(Made::Histories(new_timed(alloc, shape)?)),
+        Thing::Candidates => Ok(Made::Candidates(new_ranked(alloc, shape)?)),
+        Thing::Judged => Ok(Made::Judged(new_judged(alloc, shape)?)),
+        Thing::Owned if counts => Ok(Made::OwnedCounted(new_owned(alloc, shape)?)),
+        Thing::Owned => Ok(Made::Owned(new_owned(alloc, shape)?)),
+        _ if counts => Ok(Made::Counted(new_pool(alloc, thing, shape)?)),
         _ => Ok(Made::Kept(new_pool(alloc, thing, shape)?)),
     }
 }
@@ -92,10 +110,42 @@ impl Made {
         match self {
             Made::Kept(core) => core.ask(rt, call),
             Made::Counted(core) => core.call(rt, call),
+            Made::Owned(owned) => owned.call(rt, call),
+            Made::OwnedCounted(owned) => owned.call(rt, call),
             Made::Histories(timed) => timed.call(call),
             Made::Candidates(ranked) => ranked.call(call),
             Made::Ran(ran) => ran.call(rt, call),
             Made::Judged(_) => Answer::BadLine,
+            Made::Dropped => NOTHING,
+        }
+    }
+
+    fn is_owned(&self) -> bool {
+        matches!(self, Made::Owned(_) | Made::OwnedCounted(_))
+    }
+
+    /// A pool with one owner is its core then, with its device. All else stays as it is.
+    fn apart(self) -> Made {
+        match self {
+            Made::Owned(owned) => Made::Kept(owned.into_pool()),
+            Made::OwnedCounted(owned) => Made::Counted(owned.into_pool()),
+            made => made,
+        }
+    }
+
+    /// Takes a pool with one owner apart, or gives a core one.
+    fn turned(self, call: &Said) -> (Made, Answer) {
+        match (call.verb, self) {
+            (Verb::Own, Made::Kept(core)) => match owned_of(core, call) {
+                Ok(owned) => (Made::Owned(owned), DONE),
+                Err(refusal) => (Made::Dropped, Answer::Refused(refusal)),
+            },
+            (Verb::Own, Made::Counted(core)) => match owned_of(core, call) {
+                Ok(owned) => (Made::OwnedCounted(owned), DONE),
+                Err(refusal) => (Made::Dropped, Answer::Refused(refusal)),
+            },
+            (Verb::Parts, made) if made.is_owned() => (made.apart(), DONE),
+            (_, made) => (made, Answer::BadLine),
         }
     }
 
@@ -104,8 +154,10 @@ impl Made {
         match self {
             Made::Kept(core) => core.told(),
             Made::Counted(core) => core.told(),
+            Made::Owned(owned) => owned.told(),
+            Made::OwnedCounted(owned) => owned.told(),
             Made::Histories(timed) => timed.told(),
-            Made::Candidates(_) | Made::Judged(_) | Made::Ran(_) => 0,
+            Made::Candidates(_) | Made::Judged(_) | Made::Ran(_) | Made::Dropped => 0,
         }
     }
 }
@@ -126,7 +178,7 @@ fn played<R: Threads + Wait + Sync>(
             None => None,
         };
     }
-    if matches!((way, shape.keeps), (Way::Counted, _) | (_, Keeps::Counted)) {
+    if only_counts(way, shape.keeps) {
         return match play_pool::<SilentKeeper, R>(rt, alloc, way, &shape, lines, answers) {
             Some(pool) => Some(Made::Counted(pool)),
             None => None,
@@ -157,7 +209,7 @@ impl World {
         };
         self.at = self.made.len();
         self.made.push_reserved(made);
-        Answer::Reply(Reply::Done)
+        DONE
     }
 
     /// Whether what a line makes is there in this way. Else the rest of the scenario is passed over.
@@ -181,15 +233,15 @@ impl World {
 
     fn go_on(&mut self, at: u64) -> Answer {
         if at as usize >= self.made.len() {
-            return Answer::Word("nothing to call");
+            return NOTHING;
         }
         self.at = at as usize;
-        Answer::Reply(Reply::Done)
+        DONE
     }
 
     fn call(&mut self, rt: &impl Wait, call: &Said) -> Option<Answer> {
         let Some(made) = self.made.get_mut(self.at) else {
-            return Some(Answer::Word("nothing to call"));
+            return Some(NOTHING);
         };
         let answer = match (self.way, call.verb) {
             (Way::Pieces | Way::Counted, verb) if asks_the_trail(verb) => return None,
@@ -199,6 +251,16 @@ impl World {
             core.gather();
         }
         Some(answer)
+    }
+
+    /// Takes a pool with one owner apart, or gives a core one.
+    fn turn(&mut self, call: &Said) -> Answer {
+        let Some(place) = self.made.get_mut(self.at) else {
+            return NOTHING;
+        };
+        let (made, answer) = mem::replace(place, Made::Dropped).turned(call);
+        *place = made;
+        answer
     }
 
     /// Plays the lines of a pool after the one that makes it, of which the last ends it. What they leave is called from
@@ -252,6 +314,7 @@ impl World {
         match call_of(self.alloc, line) {
             Some(call) => match call.verb {
                 Verb::On => Some(self.go_on(call.numbers.list[0])),
+                Verb::Parts | Verb::Own => Some(self.turn(&call)),
                 _ => self.call(rt, &call),
             },
             None => Some(Answer::BadLine),
@@ -292,10 +355,11 @@ impl World {
         Some(answer)
     }
 
-    /// Gathers the entries of its cores.
+    /// Gathers the entries of its cores. One that has an owner has none from here on.
     pub fn gather(&mut self) {
-        for at in 0..self.made.len() {
-            if let Some(Made::Kept(core)) = self.made.get_mut(at) {
+        for place in self.made.iter_mut() {
+            *place = mem::replace(place, Made::Dropped).apart();
+            if let Made::Kept(core) = place {
                 core.gather();
             }
         }
