@@ -120,32 +120,25 @@ impl Made {
         }
     }
 
-    fn is_owned(&self) -> bool {
-        matches!(self, Made::Owned(_) | Made::OwnedCounted(_))
-    }
-
-    /// A pool with one owner is its core then, with its device. All else stays as it is.
-    fn apart(self) -> Made {
-        match self {
-            Made::Owned(owned) => Made::Kept(owned.into_pool()),
-            Made::OwnedCounted(owned) => Made::Counted(owned.into_pool()),
-            made => made,
+    /// A core gets an owner, unless that is refused, which drops it. All else stays as it is.
+    fn with_owner(self, call: &Said) -> (Made, Answer) {
+        let owned = match self {
+            Made::Kept(core) => owned_of(core, call).map(Made::Owned),
+            Made::Counted(core) => owned_of(core, call).map(Made::OwnedCounted),
+            made => return (made, Answer::BadLine),
+        };
+        match owned {
+            Ok(made) => (made, DONE),
+            Err(refusal) => (Made::Dropped, Answer::Refused(refusal)),
         }
     }
 
-    /// Takes a pool with one owner apart, or gives a core one.
-    fn turned(self, call: &Said) -> (Made, Answer) {
-        match (call.verb, self) {
-            (Verb::Own, Made::Kept(core)) => match owned_of(core, call) {
-                Ok(owned) => (Made::Owned(owned), DONE),
-                Err(refusal) => (Made::Dropped, Answer::Refused(refusal)),
-            },
-            (Verb::Own, Made::Counted(core)) => match owned_of(core, call) {
-                Ok(owned) => (Made::OwnedCounted(owned), DONE),
-                Err(refusal) => (Made::Dropped, Answer::Refused(refusal)),
-            },
-            (Verb::Parts, made) if made.is_owned() => (made.apart(), DONE),
-            (_, made) => (made, Answer::BadLine),
+    /// A pool with one owner becomes its core, with its device. All else stays as it is.
+    fn without_owner(self) -> (Made, Answer) {
+        match self {
+            Made::Owned(owned) => (Made::Kept(owned.into_pool()), DONE),
+            Made::OwnedCounted(owned) => (Made::Counted(owned.into_pool()), DONE),
+            made => (made, Answer::BadLine),
         }
     }
 
@@ -258,7 +251,11 @@ impl World {
         let Some(place) = self.made.get_mut(self.at) else {
             return NOTHING;
         };
-        let (made, answer) = mem::replace(place, Made::Dropped).turned(call);
+        let made = mem::replace(place, Made::Dropped);
+        let (made, answer) = match call.verb {
+            Verb::Own => made.with_owner(call),
+            _ => made.without_owner(),
+        };
         *place = made;
         answer
     }
@@ -355,10 +352,11 @@ impl World {
         Some(answer)
     }
 
-    /// Gathers the entries of its cores. One that has an owner has none from here on.
+    /// Gathers the entries of its cores. One that has an owner loses it.
     pub fn gather(&mut self) {
         for place in self.made.iter_mut() {
-            *place = mem::replace(place, Made::Dropped).apart();
+            let (made, _) = mem::replace(place, Made::Dropped).without_owner();
+            *place = made;
             if let Made::Kept(core) = place {
                 core.gather();
             }
