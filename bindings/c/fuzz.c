@@ -68,7 +68,7 @@ static uint64_t *count;
 static const uint8_t **bytes_at;
 static uint8_t *flag;
 
-static uint64_t came[NUMBERS], kinds[HZ_ABSENT + 1], calls; /* how often each number and kind came */
+static uint64_t came[NUMBERS], kinds[HZ_ABSENT + 1], calls; /* the counts of each number and kind */
 static hz_grant stale;                                      /* the newest grant that went back */
 
 /* What went well while a page was lent. */
@@ -99,7 +99,7 @@ static void prepare(void)
     flag = before_the_end(1);
 }
 
-/* Which handle a call takes, and which of its pointers is null. */
+/* The handle of a call, and the index of its pointer that is null. */
 typedef struct how {
     hz_core *core;
     unsigned null;
@@ -115,7 +115,7 @@ static how picked(unsigned pointers)
 
 #define UNLESS(place, pointer) (h.null == (place) ? NULL : (pointer))
 
-/* The number that comes before the core is asked, or 0. A null buffer of no bytes is none of a null pointer. */
+/* Returns the refusal before the core is asked, or 0. The pointer of an empty buffer may be null. */
 static uint16_t early(how h, bool is_empty_buffer)
 {
     if (h.null != NO_NULL && !is_empty_buffer)
@@ -154,7 +154,7 @@ static size_t a_number(size_t most)
     return one_in(40) ? others[below(4)] : below(most + 1);
 }
 
-/* One of the grants of a list, or what may be none of them. */
+/* Returns a grant of a list, or one that may not be in it. */
 static hz_grant a_grant(const grants *list)
 {
     hz_grant grant = stale;
@@ -175,7 +175,7 @@ static hz_grant a_grant(const grants *list)
     }
 }
 
-/* Memory of so many bytes, all of them odd; of a length beyond a block, as many as there are. */
+/* Returns memory of so many bytes, each of them ODD; at most a block. */
 static uint8_t *odd_buffer(size_t len)
 {
     len = len < BLOCK ? len : BLOCK;
@@ -283,7 +283,7 @@ static void try_read_failed(void)
     SAME(wanted ? wanted : HZ_UNKNOWN_TICKET, number);
 }
 
-/* Ends a write-out in the model, and tells what is_still_dirty gets. */
+/* Ends a write-out in the model, and returns is_still_dirty. */
 static uint8_t model_write_end(const hz_grant *ticket, bool is_good)
 {
     model_page *page = &m.pages[ticket->page];
@@ -333,7 +333,7 @@ static void try_unfix(void)
     take_back(&m.passes, &given_back);
 }
 
-/* Why a part of a page is neither read nor written, or 0. */
+/* Returns the refusal of a read or a write of a part of a page, or 0. */
 static uint16_t part_refused(const hz_grant *grant, size_t offset, size_t len)
 {
     if (offset > m.config.page_size || len > m.config.page_size - offset)
@@ -376,7 +376,7 @@ static void try_page(void)
     *lent = *bytes_at;
 }
 
-/* Each page that is lent has the model's bytes. Returns how many there are. */
+/* Checks that each lent page has the model's bytes. Returns the number of lent pages. */
 static unsigned look_at_what_is_lent(void)
 {
     unsigned lent = 0;
@@ -423,7 +423,7 @@ static void try_write(void)
         note_write(&grant);
 }
 
-/* Why a call of a client is refused that needs room for one entry, or 0. */
+/* Returns the refusal of a client's call that needs room for one entry, or 0. */
 static uint16_t step_refused(how h, uint8_t client)
 {
     uint16_t first = early(h, false);
@@ -547,7 +547,7 @@ static void try_is_resident(void)
     SAME(wanted ? ODD : m.pages[page].is_here, *flag);
 }
 
-/* All that the core tells of its pages without a pass. */
+/* Checks all that the core tells of its pages without a pass. */
 static void look_at_all_that_is_told(void)
 {
     hz_stats counts = model_stats();
@@ -568,7 +568,7 @@ static void look_at_all_that_is_told(void)
     }
 }
 
-/* The text of a number: as much as there is room for, and no more. */
+/* Checks that the text of a number is written as far as there is room, and no further. */
 static void try_text(void)
 {
     uint8_t whole[128];
@@ -585,7 +585,7 @@ static void try_text(void)
 
 /* --- Cores --- */
 
-/* A core is made where there is none, by numbers that are within their limits. */
+/* Checks that a core is made only where there is none, by numbers within their limits. */
 static void try_new(void)
 {
     how h = {.core = one_in(3) ? live : none, .null = one_in(16) ? (unsigned)below(2) : NO_NULL};
@@ -618,7 +618,7 @@ static void try_new(void)
     SAME(false, none->is_live);
 }
 
-/* A fresh core, and a fresh model of it. */
+/* Makes a new core, and a new model of it. */
 static void begin(void)
 {
     memset(&m, 0, sizeof m);
@@ -637,7 +637,7 @@ static void begin(void)
     SAME(0, noted(hz_core_new(config, live)));
 }
 
-/* A core that is freed, with what is out, leaves a handle of none. */
+/* Frees the core, with all that is out, and checks that the handle then has none. */
 static void end(void)
 {
     SAME(HZ_NO_CORE, noted(hz_core_free(none)));
@@ -649,7 +649,7 @@ static void end(void)
     SAME(false, live->is_live);
 }
 
-/* Whether to end or use one of these: mostly where there is one. */
+/* Returns true if one of these is to be ended or used: mostly where there is one. */
 static bool is_worth(const grants *list)
 {
     return list->count > 0 || one_in(8);
@@ -657,7 +657,7 @@ static bool is_worth(const grants *list)
 
 typedef void trial(void);
 
-/* One of the calls that only tell. */
+/* Returns one of the calls that change nothing. */
 static trial *a_teller(void)
 {
     static trial *const tellers[] = {try_page_lsn, try_next_unsaved, try_redo_from, try_stats, try_is_resident};
@@ -697,7 +697,7 @@ static void call(void)
         try_unfix();
 }
 
-/* A call, and then a look at all that is lent, and now and then at what is told. */
+/* Makes a call, checks all that is lent, and sometimes all that the core tells. */
 static void step(void)
 {
     hz_stats before = m.counted;
@@ -736,8 +736,8 @@ int LLVMFuzzerTestOneInput(const uint8_t *bytes, size_t len)
 }
 #else
 
-/* Each number that a call may have came, and each kind, but for 22, which takes a memory that is full. All that must
- * leave lent pages where they are came while some were lent. */
+/* Checks that each number came, and each kind, except for 22, which needs memory that is full; and that each call that
+ * must leave lent pages in place came while some were lent. */
 static void look_whether_all_came(void)
 {
     static const uint8_t numbers[] = {0, 1, 2, 11, 12, 13, 14, 16, 17, 18, 19, 20, 21, 41, 45, 50, 51, 52};

@@ -1,5 +1,5 @@
-/* A simple model of the pool, for fuzz.c: what each call answers and leaves, from the header and the definitions of
- * LRU-K alone. It keeps each page's bursts of references, and looks through all pages for a victim.
+/* A simple model of the pool, for fuzz.c: the answer and the new state of each call, written from the header and the
+ * definition of LRU-K only. It keeps each page's bursts of references, and searches all pages for a victim.
  */
 #include "hojzmated.h"
 #include <string.h>
@@ -23,9 +23,9 @@ typedef struct model_page {
 
 typedef struct grants {
     hz_grant out[OUT];
-    const uint8_t *lent[OUT]; /* of a pass: where hz_page said that its page is, or null where it was not asked */
+    const uint8_t *lent[OUT]; /* of a pass: the place that hz_page told, or null before that */
     unsigned count;
-    uint64_t ever; /* how many were given, which is the next serial number */
+    uint64_t ever; /* the number given, which is the next serial number */
 } grants;
 
 static struct {
@@ -41,7 +41,7 @@ static bool is_same(const hz_grant *a, const hz_grant *b)
     return a->page == b->page && a->serial == b->serial && a->client == b->client;
 }
 
-/* The place of a grant in a list, or how many there are. */
+/* Returns the index of a grant in a list, or the length of the list. */
 static unsigned place_of(const grants *list, const hz_grant *grant)
 {
     unsigned place = 0;
@@ -107,7 +107,7 @@ static uint64_t stamp_of(const model_page *page)
     return stamp;
 }
 
-/* The page that LRU-K replaces, or PAGES: of least stamp, then of least last reference, then of least number. */
+/* Returns the victim of LRU-K, or PAGES: least stamp, then least last reference, then least number. */
 static unsigned victim(void)
 {
     unsigned best = PAGES;
@@ -130,9 +130,9 @@ static bool has_free_frame(void)
     return taken < m.config.frames;
 }
 
-/* --- What a call answers and leaves by the model --- */
+/* --- The calls of the model --- */
 
-/* What a fix or a flush gives, its number, and the image that goes out or null. */
+/* The answer of a fix or a flush, its number, and the image to write out or null. */
 typedef struct answer {
     uint16_t number;
     hz_fixed out;
@@ -174,7 +174,7 @@ static answer model_load(uint8_t client, uint64_t number, unsigned gone)
     return a;
 }
 
-/* Why a fix or a flush is not looked at, or 0. */
+/* Returns the refusal of a fix or a flush whatever the state of the page, or 0. */
 static uint16_t misfit(uint8_t client, uint64_t page, size_t len, uint64_t room)
 {
     if (client >= m.config.clients)
@@ -226,7 +226,7 @@ static answer model_flush(uint8_t client, uint64_t number, size_t len)
     return a;
 }
 
-/* Whether a purge forgets the page. */
+/* Returns true if a purge forgets the page. */
 static bool is_old(const model_page *page)
 {
     return page->bursts && !page->is_here && !page->is_reading && m.config.retained < m.clock - last_of(page);
@@ -237,7 +237,7 @@ static uint64_t least(uint64_t one, uint64_t other)
     return one < other ? one : other;
 }
 
-/* The first page from this number on that is unsaved. */
+/* Returns the first unsaved page from this number on. */
 static hz_unsaved model_next_unsaved(uint64_t from)
 {
     for (uint64_t i = from; i < PAGES; i++) {
@@ -249,7 +249,7 @@ static hz_unsaved model_next_unsaved(uint64_t from)
     return (hz_unsaved){.has_page = 0};
 }
 
-/* The least LSN of all that is not saved; UINT64_MAX also where all is saved. */
+/* Returns the least LSN of all unsaved writes, or UINT64_MAX where all is saved. */
 static uint64_t model_redo_from(void)
 {
     uint64_t from = UINT64_MAX;

@@ -22,11 +22,11 @@ What this module's own code does is tested, not proved. Below it is the library 
     False 7
     Stats(hits=0, faults=2, evictions=1, writes=0, failed=0, refused=0, resident=1, pinned=0)
 
-The pool moves no bytes here: each page is taken for read as soon as it is asked for, and none is written to. An engine
+The pool moves no bytes here: each page counts as read as soon as it is asked for, and none is written to. An engine
 calls the library itself.
 
-The library is looked for where HOJZMATED_PREFIX says ($HOJZMATED_PREFIX/lib), then in the checkout that this file
-stands in (`make -C bindings/c`), and then where the system's loader looks.
+The library is looked for in $HOJZMATED_PREFIX/lib, then in the checkout of this file (`make -C bindings/c`), and then
+where the system's loader looks.
 """
 import collections
 import ctypes
@@ -74,7 +74,7 @@ class _Stats(ctypes.Structure):
 
 _CORE, _GRANT, _BYTES = ctypes.POINTER(_Core), ctypes.POINTER(_Grant), ctypes.POINTER(ctypes.c_uint8)
 _NUMBER, _SIZE, _U64, _U8 = ctypes.c_uint16, ctypes.c_size_t, ctypes.c_uint64, ctypes.c_uint8
-# What each function returns and takes. Only those are here that the module calls.
+# The result and the arguments of each function that the module calls.
 _FUNCTIONS = {
     "hz_core_new": (_NUMBER, ctypes.POINTER(_Config), _CORE),
     "hz_core_free": (_NUMBER, _CORE),
@@ -124,9 +124,9 @@ def _text_of(number):
 
 
 class Refused(Exception):
-    """The pool refused a call. Nothing changed, but that 11, 12 and 13 count as calls.
+    """A refusal of the pool. It changes nothing, except that 11, 12 and 13 count as calls.
 
-    `number` is the refusal's, which `hojzmated.h` lists."""
+    `number` is its number in `hojzmated.h`."""
 
     def __init__(self, number):
         super().__init__(f"{_text_of(number)} (refusal {number})")
@@ -139,13 +139,13 @@ def _check(number):
 
 
 def version():
-    """The version of the library, as (major, minor, patch)."""
+    """Returns the version of the library, as (major, minor, patch)."""
     number = _hz.hz_version()
     return number // 10_000, number // 100 % 100, number % 100
 
 
 def _number(name, value, end=1 << 64):
-    """The value as a whole number, which the library's field has room for: ctypes would cut it short."""
+    """Returns the value as an integer that fits the library's field: ctypes would cut it off."""
     number = operator.index(value)
     if not 0 <= number < end:
         raise ValueError(f"{name} is {number}, and has to be from 0 to {end - 1}")
@@ -155,7 +155,7 @@ def _number(name, value, end=1 << 64):
 # ---- A pool
 
 Stats = collections.namedtuple("Stats", "hits faults evictions writes failed refused resident pinned")
-Stats.__doc__ = """What was counted since the pool was made, and how many pages are in frames and pinned now."""
+Stats.__doc__ = """The counts since the pool was made, and the present numbers of resident and of pinned pages."""
 Stats.hit_ratio = property(lambda it: _ratio(it.hits, it.hits + it.faults), doc="Hits over hits and faults.")
 
 
@@ -166,8 +166,8 @@ def _ratio(part, whole):
 class Page:
     """A page that is pinned: it stays in its frame until `unfix`, or until the end of a `with`.
 
-    `number` is the page, `client` who fixed it, `is_hit` whether it was in a frame, and `evicted` the page that left
-    its frame for it, or None.
+    `number` is the page, `client` the client that fixed it, `is_hit` whether it was in a frame, and `evicted` the page
+    that was evicted for it, or None.
     """
 
     def __init__(self, pool, fixed, grant):
@@ -177,7 +177,7 @@ class Page:
         self.evicted = fixed.evicted if fixed.has_evicted else None
 
     def unfix(self):
-        """Unpins the page. A second time is refused, with 14."""
+        """Unpins the page. A second call is refused with 14."""
         self._pool.unfix(self)
 
     def __enter__(self):
@@ -193,12 +193,12 @@ class Page:
 class Pool:
     """A pool of `frames` frames over pages 0 to `pages` - 1, which replaces pages by LRU-K.
 
-    Its clock begins at 1, and moves by `tick` alone. A page may leave its frame once nobody has pinned it and the clock
-    has moved by more than `correlated` since its newest reference. References within that period count as one. `purge`
-    forgets pages that have been away for more than `retained`.
+    Its clock begins at 1, and moves only by `tick`. A page can be evicted once it is unpinned and the clock has moved
+    by more than `correlated` since its newest reference. References within that period count as one. `purge` forgets
+    pages in no frame whose newest reference is older than `retained`.
 
-    Numbers out of their limits are refused with 1 or 2: 1,048,576 pages, 65,536 frames, K 16, 64 clients, and periods
-    of 2^62 are the most. Threads may share a pool.
+    Numbers out of their limits are refused with 1 or 2: at most 1,048,576 pages, 65,536 frames, K 16, 64 clients, and
+    periods of 2^62 ticks. Threads may share a pool.
     """
 
     def __init__(self, pages, frames, k=2, correlated=0, retained=LARGEST_PERIOD, clients=1):
@@ -212,9 +212,9 @@ class Pool:
         _check(_hz.hz_core_new(config, self._core))
 
     def fix(self, page, client=0):
-        """Brings a page into a frame and pins it. Gives a `Page`, which has to be unfixed.
+        """Brings a page into a frame and pins it. Returns a `Page`, which must be unfixed.
 
-        Refused: 41 for a client that is not one, 45 for a page that is not one, 11 where no page may leave its frame.
+        Refused: 41 for a client that is not one, 45 for a page that is not one, 11 where no page can be evicted.
         """
         page, client = _number("page", page), _number("client", client, BYTE)
         with self._lock:
@@ -222,8 +222,8 @@ class Pool:
         return Page(self, fixed, grant)
 
     def _fix(self, page, client):
-        """The answer of a fix, and the pass. A page that is not in a frame is read at once; none is ever unsaved, so
-        that no page has to be written out first."""
+        """Returns the answer of a fix, and the pass. A page that is not in a frame counts as read at once; no page is
+        ever unsaved, so none has to be written out first."""
         fixed, grant = _Fixed(), _Grant()
         _check(_hz.hz_fix(self._core, client, page, self._image, LEAST_PAGE, fixed))
         if fixed.kind == HIT:
@@ -232,7 +232,7 @@ class Pool:
         return fixed, grant
 
     def unfix(self, page):
-        """Unpins what `fix` gave. Refused: 14 where it is not pinned by that any more, or is another pool's."""
+        """Unpins the page that `fix` returned. Refused: 14 where it was unfixed already, or is another pool's."""
         with self._lock:
             _check(_hz.hz_unfix(self._core, page._grant))
 
@@ -243,8 +243,8 @@ class Pool:
             _check(_hz.hz_tick(self._core, client, n))
 
     def purge(self, client=0):
-        """Forgets the references of pages that have been away for more than the retained period. Gives how many pages
-        these are."""
+        """Forgets the references of pages in no frame whose newest reference is older than the retained period. Returns
+        the number of these pages."""
         client = _number("client", client, BYTE)
         forgotten = ctypes.c_uint64()
         with self._lock:
@@ -252,21 +252,21 @@ class Pool:
         return forgotten.value
 
     def is_resident(self, page):
-        """Whether a page is in a frame. Refused: 45 for a page that is not one."""
+        """Returns True if the page is in a frame. Refused: 45 for a page that is not one."""
         page, is_resident = _number("page", page), ctypes.c_uint8()
         with self._lock:
             _check(_hz.hz_is_resident(self._core, page, is_resident))
         return bool(is_resident.value)
 
     def stats(self):
-        """What was counted since the pool was made, and how many pages are in frames and pinned."""
+        """Returns the counts since the pool was made, and the present numbers of resident and of pinned pages."""
         stats = _Stats()
         with self._lock:
             _check(_hz.hz_stats_of(self._core, stats))
         return Stats(*(getattr(stats, name) for name in Stats._fields))
 
     def close(self):
-        """Frees the pool. Each call after that is refused with 50; closing it again does nothing."""
+        """Frees the pool. Each further call is refused with 50; closing it again does nothing."""
         with self._lock:
             _hz.hz_core_free(self._core)
 
@@ -277,7 +277,7 @@ class Pool:
         self.close()
 
     def __del__(self):
-        # A pool that could not be made may lack a lock, and one has no core.
+        # A pool whose making failed may have no lock, or no core.
         if hasattr(self, "_lock"):
             self.close()
 
@@ -285,15 +285,15 @@ class Pool:
 # ---- Lists of references
 
 Counts = collections.namedtuple("Counts", "fixes hits faults evictions refused")
-Counts.__doc__ = """What a list of references came to: `refused` are those for which no page could leave its frame."""
+Counts.__doc__ = """The counts of a list of references. `refused` are those for which no page could be evicted."""
 Counts.hit_ratio = property(lambda it: _ratio(it.hits, it.fixes), doc="Hits over references.")
 
 SweepLine = collections.namedtuple("SweepLine", "frames k counts")
-SweepLine.__doc__ = """One line of a sweep."""
+SweepLine.__doc__ = """The counts for one number of frames and one K."""
 
 
 def _dense(references):
-    """The references as pages, numbered from 0 in the order in which they first come, and how many pages there are."""
+    """Returns the references as pages, numbered from 0 in the order of first reference, and the number of pages."""
     pages = {}
     return [pages.setdefault(it, len(pages)) for it in references], len(pages)
 
@@ -316,16 +316,16 @@ def _count_pages(pages, different, frames, k, correlated):
 
 
 def count(references, frames, k=2, correlated=0):
-    """What a list of references comes to in a pool that is empty at first, as `bpool sweep` counts it.
+    """Counts a list of references in a new pool, as `bpool sweep` does.
 
-    A reference is anything that can be a key of a dict: equal ones are one page. The clock moves by one after each, and
-    each page is given back before the next one comes. There may be 1,048,576 different ones.
+    A reference is anything that can be a key of a dict; equal ones are references to the same page. Each page is
+    unfixed before the next reference, and the clock moves on by one. There may be 1,048,576 different ones.
     """
     return _count_pages(*_dense(references), frames, k, correlated)
 
 
 def sweep(references, frames, k=(1, 2), correlated=0):
-    """A line for each number of frames and each K, in their order, each as soon as it is counted."""
+    """Yields a line for each number of frames and each K, in order, each as soon as it is counted."""
     pages, different = _dense(references)
     for some_frames in frames:
         for some_k in k:

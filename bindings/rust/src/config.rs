@@ -1,6 +1,6 @@
-/// What a pool is made with.
+/// The settings of a pool.
 ///
-/// [`Config::new`] fills in what a pool over a file needs, and each field may be set otherwise:
+/// [`Config::new`] sets all fields for a pool over a file, and each field may be changed:
 ///
 /// ```
 /// use hojzmated::Config;
@@ -10,37 +10,38 @@
 /// ```
 #[derive(Clone, Debug, PartialEq, Eq)]
 pub struct Config {
-    /// How many pages the file has, whose numbers begin at 0: 1 to 1,048,576.
+    /// The number of pages of the file, which are numbered from 0: 1 to 1,048,576.
     pub pages: u64,
-    /// 16 to 65,536 bytes, a multiple of 16.
+    /// The page size in bytes: 16 to 65,536, a multiple of 16.
     pub page_size: usize,
-    /// How many pages are in memory at most: 1 to 65,536.
+    /// The most pages in memory: 1 to 65,536.
     pub frames: usize,
-    /// How many calls the pool may answer in all: 1 to 2^61. See
+    /// The number of calls that the pool may answer in all: 1 to 2^61. See
     /// [`Error::TrailFull`](crate::Error::TrailFull).
     pub room: usize,
-    /// For so many ticks after its newest reference a page stays, and references to it count as
-    /// one: 0 to 2^62. Where (`correlated` + 1) times the fixes between two ticks, plus the other
-    /// pages that are pinned or in flight, is more than `frames`, all pages may be too young to
-    /// leave ([`Error::NoVictim`](crate::Error::NoVictim)). A [`Pager`](crate::Pager) ticks at each
-    /// fix.
+    /// The correlated reference period in ticks: 0 to 2^62. So long after its newest reference a
+    /// page is not evicted, and further references to it count as the same one. Where
+    /// (`correlated` + 1) times the fixes between two ticks, plus the other pages that are pinned or
+    /// in flight, is more than `frames`, all pages may be too young to be evicted
+    /// ([`Error::NoVictim`](crate::Error::NoVictim)). A [`Pager`](crate::Pager) ticks at each fix.
     pub correlated: u64,
-    /// References are kept for so many ticks after their page has left its frame, until the next
-    /// [`purge`](crate::Pool::purge): 0 to 2^62.
+    /// The retained information period in ticks: 0 to 2^62. The references of a page in no frame
+    /// are kept so long after its newest one, and then until the next
+    /// [`purge`](crate::Pool::purge).
     pub retained: u64,
     /// The K of LRU-K: 1 to 16. 1 is LRU.
     pub k: u8,
-    /// How many clients there are, whose numbers begin at 0: 1 to 64.
+    /// The number of clients, which are numbered from 0: 1 to 64.
     pub clients: u8,
 }
 
 impl Config {
-    /// One client, K 2, a correlated period of an eighth of the frames, a retained period and room
-    /// without end.
+    /// One client, K 2, a correlated period of an eighth of the frames, and a retained period and
+    /// room without end.
     ///
-    /// With K 2 and no correlated period, a page that was met once leaves first, often before its
-    /// log record is durable. An eighth of the frames is for a tick at each fix. An engine that
-    /// ticks more seldom sets a shorter period.
+    /// With K 2 and no correlated period, a page that was referenced once is evicted first, often
+    /// before its log record is durable. An eighth of the frames suits a tick at each fix. An
+    /// engine that ticks less often sets a shorter period.
     pub const fn new(pages: u64, page_size: usize, frames: usize) -> Config {
         Config {
             pages,

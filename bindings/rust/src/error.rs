@@ -2,11 +2,11 @@ use crate::sys;
 use std::fmt;
 use std::result;
 
-/// Why the pool refused a call. A refusal changes nothing, but that 11, 12 and 13 count as calls,
-/// and 17, 18 and 19 end the ticket.
+/// A refusal of the pool. It changes nothing, except that 11, 12 and 13 count as calls, and 17, 18
+/// and 19 end the ticket.
 ///
-/// Each but [`Lent`](Error::Lent), which is this crate's own, has the number that `hojzmated.h`
-/// gives it, and its text, which [`Display`](fmt::Display) shows.
+/// Each has the number of `hojzmated.h` and its text, which [`Display`](fmt::Display) shows, except
+/// for [`Lent`](Error::Lent), which is this crate's own.
 #[derive(Clone, Copy, Debug, PartialEq, Eq, Hash)]
 #[non_exhaustive]
 pub enum Error {
@@ -14,12 +14,12 @@ pub enum Error {
     BadGeometry,
     /// 2: another setting of the pool is out of its limits.
     BadSettings,
-    /// 11: no page may leave its frame. Each is being read, pinned, being written out, or was
-    /// referenced within the correlated period.
+    /// 11: no page can be evicted. Each is being read, pinned, being written out, or was referenced
+    /// within the correlated period.
     NoVictim,
-    /// 12: the log has to be durable as far as this LSN first.
+    /// 12: the log must be durable up to this LSN first.
     NeedLog {
-        /// How far the log has to be durable.
+        /// The LSN up to which the log must be durable.
         lsn: u64,
     },
     /// 13: the page is being read or written out.
@@ -32,10 +32,10 @@ pub enum Error {
     ReadFailed,
     /// 18: the page could not be written.
     WriteFailed,
-    /// 19: the page's place in its file has another page.
+    /// 19: another page was found in the page's place in the file.
     WrongPage,
-    /// 20: the pool has answered nearly as many calls as [`Config::room`](crate::Config::room)
-    /// says. What is left is kept for the passes and tickets that are out.
+    /// 20: the pool has answered nearly as many calls as [`Config::room`](crate::Config::room).
+    /// What is left is kept for the passes and tickets that are out.
     TrailFull,
     /// 21: the clock would pass its end.
     ClockFull,
@@ -43,8 +43,8 @@ pub enum Error {
     OutOfMemory,
     /// 41: no client has this number here.
     BadClient,
-    /// 45: the page is not of the file, or the bytes are not within the page, or the buffer has
-    /// another size than a page.
+    /// 45: the file has no such page, or the bytes are not within the page, or the buffer does not
+    /// have the page size.
     OutOfPage,
     /// 50: the handle has no core. No call of this crate gives it.
     NoCore,
@@ -61,7 +61,7 @@ pub enum Error {
     Other(u16),
 }
 
-/// What a call of the pool gives.
+/// The result of a call of the pool.
 pub type Result<T, E = Error> = result::Result<T, E>;
 
 /// Each refusal of the library that has a number of its own.
@@ -87,7 +87,7 @@ static NUMBERED: [Error; 18] = [
 ];
 
 impl Error {
-    /// The number that `hojzmated.h` gives it; of [`Lent`](Error::Lent) one beyond those.
+    /// Returns the number of `hojzmated.h`. That of [`Lent`](Error::Lent) is beyond those.
     pub const fn number(self) -> u16 {
         match self {
             Error::BadGeometry => 1,
@@ -113,10 +113,10 @@ impl Error {
         }
     }
 
-    /// The refusal with this number. Of one that needs the log, `lsn` is how far.
+    /// Returns the refusal with this number. For [`NeedLog`](Error::NeedLog) `lsn` is its LSN.
     ///
-    /// It is inlined and its search is not: a function that is called with the place of the result
-    /// would keep what a call gives, such as a guard, out of registers.
+    /// It is inlined and its search is not: a function that gets the place of the result would keep
+    /// the value of a call, such as a guard, out of registers.
     #[inline]
     fn numbered(number: u16, lsn: u64) -> Error {
         match NUMBERED.get(Error::place_of(number)) {
@@ -126,7 +126,7 @@ impl Error {
         }
     }
 
-    /// Where the refusal with this number stands in the list, or the end of the list.
+    /// Returns the place in the list of the refusal with this number, or the end of the list.
     #[cold]
     #[inline(never)]
     fn place_of(number: u16) -> usize {
@@ -134,13 +134,13 @@ impl Error {
         place.unwrap_or(NUMBERED.len())
     }
 
-    /// What a call came to that answered with this number.
+    /// Returns the refusal of a call that answered this number, if it is one.
     #[inline]
     pub(crate) fn check(number: u16) -> Result<()> {
         Error::check_with(number, 0)
     }
 
-    /// The same of a call that also tells how far the log has to be durable.
+    /// Returns the same for a call that also tells the LSN that the log needs.
     #[inline]
     pub(crate) fn check_with(number: u16, lsn: u64) -> Result<()> {
         match number {
@@ -170,25 +170,25 @@ impl fmt::Display for Error {
 
 impl std::error::Error for Error {}
 
-/// A refusal of a call that would have taken a pass or a ticket. It comes back, and is still out
-/// where it was.
+/// A refusal of a call that would have taken a pass or a ticket, which comes back. Where it was
+/// given it is still out.
 #[derive(Debug, PartialEq, Eq)]
 pub struct Refused<T> {
     /// Why the call was refused.
     pub error: Error,
-    /// What the call would have taken.
+    /// The pass or ticket of the call.
     pub token: T,
 }
 
 impl<T> Refused<T> {
-    /// What a call came to that takes a token.
+    /// Returns the token with the refusal of a call that would have taken it.
     #[inline]
     pub(crate) fn check<D>(done: Result<D>, token: T) -> Result<D, Refused<T>> {
         done.map_err(|error| Refused { error, token })
     }
 }
 
-/// The token is lost then, and stays out where it was.
+/// Drops the token, which is still out where it was given.
 impl<T> From<Refused<T>> for Error {
     fn from(refused: Refused<T>) -> Error {
         refused.error
@@ -209,7 +209,7 @@ mod tests {
     use crate::sys::tests::refusals_in_header;
 
     /// The numbers here are those of the header's `enum hz_refusal`, all of them and in its order.
-    /// The header's names are those here, in its way of writing.
+    /// So are the names, in the header's spelling.
     #[test]
     fn numbers() {
         let here: Vec<(String, u16)> = NUMBERED
@@ -227,7 +227,7 @@ mod tests {
         assert_eq!(Error::check(0), Ok(()));
     }
 
-    /// `BadGeometry` as `HZ_BAD_GEOMETRY`.
+    /// Returns `HZ_BAD_GEOMETRY` for `BadGeometry`.
     fn name_in_c(error: Error) -> String {
         let shown = format!("{error:?}");
         let mut name = String::from("HZ");

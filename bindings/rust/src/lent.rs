@@ -3,7 +3,7 @@ use std::cell::RefCell;
 use std::fmt;
 use std::ops::{Deref, Range};
 
-/// Each [`PageBytes`] of a pool that is there. A page that is lent twice stands here twice.
+/// The live [`PageBytes`] of a pool. A page that is lent twice is here twice.
 #[derive(Default)]
 pub(crate) struct LentPages(RefCell<Vec<Look>>);
 
@@ -14,12 +14,12 @@ struct Look {
 
 /// The bytes of a page, lent in place: a `[u8]` of the page size, without a copy.
 ///
-/// They stay as they are while this is there. A write to the page is refused with
-/// [`Error::Lent`] then, by whichever guard or pass. The page can be read and flushed, and other
-/// pages written to, loaded and written out.
+/// It does not change while this exists: a write to the page is then refused with [`Error::Lent`],
+/// by any guard or pass. The page can be read and flushed, and other pages written to, loaded and
+/// written out.
 ///
-/// It borrows the pool and the guard or pass that it was made of, so the page stays in its frame:
-/// a program that gives the pass back before is refused by the compiler.
+/// It borrows the pool and the guard or pass that it was made of, so the page stays in its frame: a
+/// program that gives the pass back earlier does not compile.
 ///
 /// ```
 /// # use hojzmated::{Config, Error, Fixed, Pool};
@@ -41,16 +41,16 @@ struct Look {
 /// ```
 ///
 /// Without a name it lasts to the end of its statement. So a write is refused whose arguments look
-/// at its page, or that stands in an arm of `match page.bytes()?[0]`.
+/// at its page, or that is in an arm of `match page.bytes()?[0]`.
 ///
-/// It stays in its thread. The slice may be looked at by others, such as scoped threads. Where it
-/// is forgotten ([`std::mem::forget`]), its page counts as lent as long as there is the pool: it
-/// can be read, flushed and replaced, but not written to.
+/// It stays in its thread, but other threads may look at the slice, such as scoped threads. If it
+/// is forgotten ([`std::mem::forget`]), its page counts as lent as long as the pool exists: it can
+/// be read, flushed and replaced, but not written to.
 //
-// Why no plain reference: which guards are of one page is known at run time alone. The compiler
-// could keep writes away from all pages at once, by a write that takes `&mut Pool`, or if a page
-// had one guard at a time. But an engine copies from page to page, and has a cursor on a page that
-// it writes to. So the end of a look is noted, of each page, as a `RefCell` does.
+// Why it is no plain reference: only at run time is it known which guards are of the same page. The
+// compiler could keep writes away from all pages at once, by a write that takes `&mut Pool`, or if
+// a page had one guard at a time. But an engine copies from page to page, and has a cursor on a
+// page that it writes to. So the end of each look is noted, as a `RefCell` does.
 //
 // The pointer is no reference, as in `std::cell::Ref`: a reference in an argument would have to
 // stay true to the end of the function, which may drop this and write then.
@@ -62,14 +62,14 @@ pub struct PageBytes<'a> {
 }
 
 impl LentPages {
-    /// Whether bytes of the page are lent.
+    /// Returns true if bytes of the page are lent.
     #[inline]
     pub(crate) fn has(&self, page: u64) -> bool {
         self.0.borrow().iter().any(|it| it.page == page)
     }
 
-    /// Whether a part begins where bytes are lent. It may do so without being of them where a look
-    /// was forgotten and its page is gone.
+    /// Returns true if these bytes begin where bytes are lent. Where a look was forgotten and its
+    /// page has left its frame, they may be other bytes.
     #[inline]
     pub(crate) fn hold(&self, part: &[u8]) -> bool {
         let address = part.as_ptr().addr();
@@ -104,7 +104,7 @@ impl LentPages {
     #[inline]
     fn take_back(&self, page: u64) {
         let mut looks = self.0.borrow_mut();
-        // The newest is most often the first to go. It is not moved then, as `swap_remove` would.
+        // The newest look most often ends first. Then it is not moved, as `swap_remove` would.
         if looks.last().is_some_and(|it| it.page == page) {
             looks.pop();
         } else {
@@ -113,7 +113,7 @@ impl LentPages {
     }
 }
 
-/// Room for one look more. Most looks find it there, so it is kept out of them, as the next is.
+/// Makes room for one more look. It is seldom called, and so not inlined.
 #[cold]
 #[inline(never)]
 fn make_room(looks: &mut Vec<Look>) -> Result<()> {

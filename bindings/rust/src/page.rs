@@ -2,13 +2,14 @@ use crate::sys::hz_grant;
 use crate::{PageBytes, Pool, Result};
 use std::mem;
 
-/// A grant of the library, and whose it is: two pools give grants of the same numbers. If one
-/// pool's pass did for another's, a page could leave its frame while its bytes are lent.
+/// A grant of the library, and the pool that gave it: two pools give grants with the same numbers.
+/// If a pass of one pool were taken by another, a page could leave its frame while its bytes are
+/// lent.
 ///
-/// It is four words, of which each call makes an [`hz_grant`] anew. A guard is moved just after the
-/// library wrote its pass, and a load that is larger than the stores before it waits until these
-/// are in the cache, and so until all that was before them is done. In this order no two of them
-/// stand side by side as in an [`hz_grant`], so the compiler makes one of them at a time.
+/// It has four words, and each call makes a new [`hz_grant`] from them. A guard is moved just after
+/// the library wrote its pass. A load that is larger than the stores before it waits until they are
+/// in the cache, and so until all work before them is done. In this order no two fields are
+/// adjacent as in an [`hz_grant`], so the compiler loads one at a time.
 #[derive(Debug, PartialEq, Eq)]
 pub(crate) struct Grant {
     /// A `u8`, as a word.
@@ -99,7 +100,7 @@ pub struct PageGuard<'pool> {
 }
 
 impl Pass {
-    /// The page that it is for.
+    /// The page that it pins.
     pub fn page(&self) -> u64 {
         self.grant.page
     }
@@ -109,7 +110,7 @@ impl Pass {
         self.grant.client()
     }
 
-    /// Its number among the passes of the pool, which begins at 0.
+    /// Its serial number among the passes of the pool, which are numbered from 0.
     pub fn serial(&self) -> u64 {
         self.grant.serial
     }
@@ -126,7 +127,7 @@ impl ReadTicket {
         self.grant.client()
     }
 
-    /// Its number among the tickets of the pool, which begins at 0.
+    /// Its serial number among the tickets of the pool, which are numbered from 0.
     pub fn serial(&self) -> u64 {
         self.grant.serial
     }
@@ -143,7 +144,7 @@ impl WriteTicket {
         self.grant.client()
     }
 
-    /// Its number among the tickets of the pool, which begins at 0.
+    /// Its serial number among the tickets of the pool, which are numbered from 0.
     pub fn serial(&self) -> u64 {
         self.grant.serial
     }
@@ -161,7 +162,7 @@ impl PageGuard<'_> {
         self.pass.page()
     }
 
-    /// The pass that it has.
+    /// The pass that the guard gives back when it is dropped.
     pub fn pass(&self) -> &Pass {
         &self.pass
     }
@@ -176,21 +177,21 @@ impl PageGuard<'_> {
         self.pool.bytes(&self.pass)
     }
 
-    /// Copies a part of the page from the offset on, as much as `into` has room for.
+    /// Copies a part of the page from the offset on, into all of `into`.
     ///
     /// # Errors
-    /// Those of [`Pool::read`]. `into` stays as it was then.
+    /// Those of [`Pool::read`]. `into` is then unchanged.
     #[inline]
     pub fn read(&self, offset: usize, into: &mut [u8]) -> Result<()> {
         self.pool.read(&self.pass, offset, into)
     }
 
-    /// Puts bytes into the page from the offset on, under the log record with this LSN. The page
-    /// does not go out before the log is durable so far.
+    /// Writes bytes into the page from the offset on, under the log record with this LSN. The page
+    /// is not written out before the log is durable up to this LSN.
     ///
     /// # Errors
     /// Those of [`Pool::write`], such as [`Lent`](crate::Error::Lent) while bytes of the page are
-    /// lent, by this guard or another. The page stays as it was then.
+    /// lent, by this guard or another. The page is then unchanged.
     #[inline]
     pub fn write(&self, offset: usize, bytes: &[u8], lsn: u64) -> Result<()> {
         self.pool.write(&self.pass, offset, bytes, lsn)
@@ -204,8 +205,8 @@ impl PageGuard<'_> {
         self.pool.page_lsn(&self.pass)
     }
 
-    /// The pass, with which the page stays pinned. [`Pool::guard`] makes a guard of it again, and
-    /// [`Pool::unfix`] gives it back.
+    /// Returns the pass, which keeps the page pinned. [`Pool::guard`] makes a guard of it again,
+    /// and [`Pool::unfix`] gives it back.
     pub fn into_pass(self) -> Pass {
         let grant = Grant { ..self.pass.grant };
         mem::forget(self);
@@ -218,6 +219,6 @@ impl Drop for PageGuard<'_> {
     fn drop(&mut self) {
         // A pass of this pool always goes back. One of another pool is refused, which changes
         // nothing.
-        let _ = self.pool.give_back(&self.pass);
+        let _ = self.pool.unfix_by(&self.pass);
     }
 }

@@ -7,43 +7,43 @@ use std::{error, fmt, io};
 
 /// An engine's device and log, as a [`Pager`] or a [`SharedPager`](crate::SharedPager) uses them.
 ///
-/// The functions take `&self`: what they have to change goes into a `Cell` or a `RefCell`, or with
-/// several threads under a lock. A file can be read and written through `&File`. A `SharedPager`
-/// calls them from several threads at once. None of its locks is held meanwhile, but a thread that
-/// calls may have latches of pages. So [`make_log_durable`](PageIo::make_log_durable) wants no lock
-/// that a thread has while it waits for a page.
+/// The functions take `&self`: what they change is in a `Cell` or a `RefCell`, or with several
+/// threads under a lock. A file can be read and written through `&File`. A `SharedPager` calls them
+/// from several threads at once. It holds none of its locks meanwhile, but a calling thread may
+/// hold latches of pages. So [`make_log_durable`](PageIo::make_log_durable) must not need a lock
+/// that a thread holds while it waits for a page.
 pub trait PageIo {
-    /// Fills the image, which has the page size, with the page.
+    /// Reads the page into the image, which has the page size.
     ///
     /// # Errors
-    /// Where it fails the page is not in the pool, and the image may have anything.
+    /// After an error the page is not in the pool, and the image may hold anything.
     fn read_page(&self, page: u64, image: &mut [u8]) -> Result<(), ReadFault>;
 
-    /// Writes the image, which has the page size, to the page's place. Its page LSN is `lsn`, and
-    /// the log is durable so far.
+    /// Writes the image, which has the page size, to the page's place. `lsn` is its page LSN, and
+    /// the log is durable up to it.
     ///
-    /// The image is a copy of the page, and may be changed: the page LSN and a checksum can be put
-    /// where they belong in it. The page in the pool does not change by that. It has them once it
-    /// was read again.
+    /// The image is a copy of the page, and may be changed: the page LSN and a checksum can be
+    /// written into it. The page in the pool does not change by that; it has them once it is read
+    /// again.
     ///
-    /// The pool takes the page as saved where this goes well. A checkpoint has to see to it that
-    /// the device has it too, as by [`File::sync_data`](std::fs::File::sync_data).
+    /// Where this succeeds the pool counts the page as saved. A checkpoint must also sync the
+    /// device, as by [`File::sync_data`](std::fs::File::sync_data).
     ///
     /// # Errors
-    /// Where it fails the page stays unsaved, in its frame.
+    /// After an error the page is still unsaved, in its frame.
     fn write_page(&self, page: u64, image: &mut [u8], lsn: u64) -> io::Result<()>;
 
-    /// Makes the log durable as far as this LSN at least.
+    /// Makes the log durable at least up to this LSN.
     ///
     /// # Errors
-    /// Where it fails nothing is written out.
+    /// After an error nothing is written out.
     fn make_log_durable(&self, lsn: u64) -> io::Result<()>;
 
-    /// Has the device keep what was written to it, as by
-    /// [`File::sync_data`](std::fs::File::sync_data). A checkpoint calls it, before the log is cut.
+    /// Makes all writes to the device durable, as by [`File::sync_data`](std::fs::File::sync_data).
+    /// A checkpoint calls it, before the log is cut.
     ///
     /// # Errors
-    /// Where it fails, what was written since the last good call may be lost.
+    /// After an error, all that was written since the last sync without one may be lost.
     fn sync(&self) -> io::Result<()>;
 }
 
@@ -52,7 +52,7 @@ pub trait PageIo {
 pub enum ReadFault {
     /// The device failed.
     Device(io::Error),
-    /// Another page was found in the page's place, as its own bytes tell.
+    /// Another page was found in the page's place, as its bytes tell.
     WrongPage,
 }
 
@@ -62,50 +62,50 @@ impl From<io::Error> for ReadFault {
     }
 }
 
-/// Why a [`Pager`] could not do what was asked.
+/// The fault of a call of a [`Pager`].
 #[derive(Debug)]
 #[non_exhaustive]
 pub enum PagerError {
-    /// The pool refused it.
+    /// The pool refused the call.
     Refused(Error),
-    /// The pool refused to write a page out, where all that are unsaved should go out.
+    /// The pool refused to write this page out, when all unsaved pages were to be written out.
     RefusedPage {
         /// The page.
         page: u64,
-        /// Why.
+        /// The refusal.
         error: Error,
     },
     /// A page could not be read.
     Read {
         /// The page.
         page: u64,
-        /// What the device said.
+        /// The fault of the device.
         source: io::Error,
     },
     /// A page could not be written out, and is still unsaved.
     Write {
-        /// The page, which is another one than was asked for where it had to make way.
+        /// The page. It is a victim, where the call asked for another page.
         page: u64,
-        /// What the device said.
+        /// The fault of the device.
         source: io::Error,
     },
     /// The log could not be made durable.
     Log {
-        /// How far it has to be.
+        /// The LSN up to which it must be durable.
         lsn: u64,
-        /// What the log said.
+        /// The fault of the log.
         source: io::Error,
     },
-    /// The device could not keep what was written to it.
+    /// The device could not be synced.
     Sync {
-        /// What the device said.
+        /// The fault of the device.
         source: io::Error,
     },
 }
 
 impl PagerError {
-    /// The refusal that says the same, with its number: 17 for a read, 18 for a write-out or a sync,
-    /// 12 for the log.
+    /// Returns the refusal for this fault: 17 for a read, 18 for a write-out or a sync, 12 for the
+    /// log.
     pub fn refusal(&self) -> Error {
         match *self {
             PagerError::Refused(error) | PagerError::RefusedPage { error, .. } => error,
@@ -156,18 +156,18 @@ impl error::Error for PagerError {
     }
 }
 
-/// A pool with its device and log: it reads and writes pages where a call needs it, and makes the
-/// log durable first where the write-ahead rule asks for that.
+/// A pool with its device and log: it reads and writes pages where a call needs that, and first
+/// makes the log durable where the write-ahead rule requires it.
 ///
-/// Its clock moves on by one at each fix, so that the periods of [`Config`] count fixes. Where it
-/// is dropped, pages that were not written out are lost.
+/// Its clock moves on by one at each fix, so the periods of [`Config`] count fixes. Where it is
+/// dropped, pages that were not written out are lost.
 ///
-/// Several threads take turns with it, behind a mutex. Nobody else uses the pool while it reads or
-/// writes then; an engine that wants that calls a [`Pool`] itself.
+/// Several threads can take turns with it, behind a mutex. Then no thread can use the pool while
+/// another reads or writes; an engine that needs that calls a [`Pool`] itself.
 pub struct Pager<F> {
     pool: Pool,
     io: F,
-    /// An image of the page size, for the next call. A call that comes while another has it makes
+    /// A buffer of the page size, for the next call. A call that comes while another uses it makes
     /// its own.
     spare: Cell<Vec<u8>>,
 }
@@ -200,33 +200,33 @@ impl<F: PageIo> Pager<F> {
         self.io
     }
 
-    /// Fixes a page for a client, and reads it where it is in no frame. Other pages may be written
-    /// out for that.
+    /// Fixes a page for a client, and reads it if it is in no frame. Other pages may be written out
+    /// for that.
     ///
     /// # Errors
     /// [`PagerError::Read`], [`PagerError::Write`] and [`PagerError::Log`] where the device or the
-    /// log failed. [`PagerError::Refused`] for the other refusals of [`Pool::tick`],
-    /// [`Pool::fix`] and [`Pool::mark`], and where the page's place has another page. Pages
-    /// that were written out before that are saved.
+    /// log failed. [`PagerError::Refused`] for the other refusals of [`Pool::tick`], [`Pool::fix`]
+    /// and [`Pool::mark`], and where the page's place has another page. Pages that were written out
+    /// before are saved.
     pub fn fix(&self, client: u8, page: u64) -> Result<PageGuard<'_>, PagerError> {
         self.pool.tick(client, 1)?;
         self.with_image(|image| self.fix_by(client, page, image, false))
     }
 
-    /// Fixes a page that was never written: its bytes are zeros, and it is not read. Where it is in
-    /// a frame it is as it is there.
+    /// Fixes a page that was never written: its bytes are zeros, and it is not read. If it is in a
+    /// frame, it is as it is there.
     ///
-    /// Write something there: until then the page counts as saved, and it may leave its frame
-    /// without going out.
+    /// Write to it: until then the page counts as saved, and it may leave its frame without being
+    /// written out.
     ///
     /// # Errors
-    /// Those of [`Pager::fix`], but for [`PagerError::Read`].
+    /// Those of [`Pager::fix`], except for [`PagerError::Read`].
     pub fn new_page(&self, client: u8, page: u64) -> Result<PageGuard<'_>, PagerError> {
         self.pool.tick(client, 1)?;
         self.with_image(|image| self.fix_by(client, page, image, true))
     }
 
-    /// Writes a page out where it is unsaved.
+    /// Writes a page out if it is unsaved.
     ///
     /// # Errors
     /// [`PagerError::Write`] and [`PagerError::Log`] where the device or the log failed.
@@ -255,17 +255,17 @@ impl<F: PageIo> Pager<F> {
             })
     }
 
-    /// Writes out each page that is unsaved, as [`flush_all`](Pager::flush_all) does, and then has
-    /// the device keep them, by [`PageIo::sync`].
+    /// Writes out all unsaved pages, as [`flush_all`](Pager::flush_all) does, and then syncs the
+    /// device, by [`PageIo::sync`].
     ///
-    /// It gives the LSN from which redo has to begin. None where all is saved, as it is unless the
-    /// engine's own functions write to a page meanwhile. A record that has no write yet is not
-    /// known to the pager: cut the log at the less of both.
+    /// It returns the LSN from which redo must begin. It is None where all is saved, as it is
+    /// unless the engine's own functions write to a page meanwhile. The pager does not know a
+    /// record that has no write yet: cut the log at the lesser of both.
     ///
     /// # Errors
-    /// Those of [`flush_all`](Pager::flush_all); [`PagerError::Sync`] where the sync failed. What
-    /// was written out since the last good one may be lost then, and later checkpoints do not count
-    /// it: end the pager, and redo from the log.
+    /// Those of [`flush_all`](Pager::flush_all); [`PagerError::Sync`] where the sync failed. Then
+    /// all that was written out since the last successful sync may be lost, and later checkpoints
+    /// do not count it: end the pager, and redo from the log.
     pub fn checkpoint(&self, client: u8) -> Result<Option<u64>, PagerError> {
         self.flush_all(client)?;
         // Before the sync: what goes out during it may not be kept by it.
@@ -275,18 +275,18 @@ impl<F: PageIo> Pager<F> {
         Ok(redo)
     }
 
-    /// From where redo has to begin: the least LSN of all writes that are in no image on the device,
-    /// one of LSN 0 too. None where there is no such write.
+    /// Returns the LSN from which redo must begin: the least LSN of all writes that are in no image
+    /// on the device, also if it is 0. It is None where there is no such write.
     pub fn redo_from(&self) -> Option<u64> {
         self.pool.redo_from()
     }
 
-    /// What the pool counts. A new page counts as read.
+    /// The counters of the pool. A new page counts as read.
     pub fn stats(&self) -> PoolStats {
         self.pool.stats()
     }
 
-    /// Does something with an image of the page size.
+    /// Calls `work` with a buffer of the page size.
     fn with_image<T>(&self, work: impl FnOnce(&mut [u8]) -> T) -> T {
         let mut image = self.spare.take();
         image.resize(self.pool.config().page_size, 0);
@@ -313,7 +313,8 @@ impl<F: PageIo> Pager<F> {
         }
     }
 
-    /// Writes a page out. Where its log is not durable, that is made so as far as `log_to` at least.
+    /// Writes a page out. If its log record is not durable, the log is first made durable at least
+    /// up to `log_to`.
     fn flush_by(
         &self,
         client: u8,
@@ -379,9 +380,8 @@ impl<F> fmt::Debug for Pager<F> {
     }
 }
 
-/// A read that is under way. It is ended as failed where nothing else was said of it: also where
-/// the engine's code panicked, and where there was no memory for the page. So no frame waits for
-/// ever.
+/// A read that is under way. If it is dropped before its end it ends as failed, also where the
+/// engine's code panicked or memory for the page was refused. So no frame waits for ever.
 struct Reading<'pool> {
     pool: &'pool Pool,
     ticket: Option<ReadTicket>,
@@ -419,7 +419,7 @@ impl Drop for Reading<'_> {
     }
 }
 
-/// A write-out that is under way. It is ended as failed where nothing else was said of it.
+/// A write-out that is under way. If it is dropped before its end it ends as failed.
 struct Writing<'pool> {
     pool: &'pool Pool,
     ticket: Option<WriteTicket>,

@@ -10,13 +10,13 @@ use std::iter;
 use std::ptr;
 use std::sync::atomic::{AtomicU64, Ordering};
 
-/// A buffer pool, which tells what is to be read and written. It does no input or output itself: a
+/// A buffer pool, which tells what must be read and written. It does no input or output itself: a
 /// [`Pager`](crate::Pager) does.
 ///
-/// The calls take `&self`, so that several guards may be out at once. It may go from thread to
-/// thread, but no two threads use it at the same time (`Pool` is `Send` and not `Sync`): behind a
-/// mutex they take turns. A pass and a ticket borrow nothing, so a thread may keep one while the
-/// mutex is open. One that is of another pool is refused, and changes nothing.
+/// The calls take `&self`, so several guards can be out at once. It can be sent to another thread,
+/// but no two threads can use it at the same time (`Pool` is `Send` and not `Sync`): behind a mutex
+/// they take turns. A pass and a ticket borrow nothing, so a thread may keep one while the mutex is
+/// unlocked. One of another pool is refused, which changes nothing.
 ///
 /// Where it is dropped, pages that were not written out are lost.
 ///
@@ -45,46 +45,46 @@ use std::sync::atomic::{AtomicU64, Ordering};
 /// # }
 /// ```
 pub struct Pool {
-    /// One handle, which stays where it is, since no copy of it may be used. It always has a core.
+    /// One handle, which is never moved, since no copy of it may be used. It always has a core.
     core: Box<[UnsafeCell<hz_core>]>,
     config: Config,
     /// A number that no other pool of this process has or had. Its passes and tickets have it too.
     number: u64,
     lent: LentPages,
-    /// Room for a page: see [`Pool::apart`].
+    /// A buffer for a page: see [`Pool::apart`].
     spare: RefCell<Vec<u8>>,
 }
 
 static NUMBERS: AtomicU64 = AtomicU64::new(0);
 
 // SAFETY: the library keeps nothing of a thread: a core may be used by any thread, one at a time.
-// There is no second way to the handle, and nobody but `Pool` has its pointers.
+// There is no other way to the handle, and only `Pool` has its pointers.
 unsafe impl Send for Pool {}
 
-/// What a fix gave.
+/// The answer of a fix.
 #[derive(Debug)]
 #[must_use = "a ticket has to be ended"]
 pub enum Fixed<'pool> {
-    /// The page is here.
+    /// The page is resident.
     Hit(PageGuard<'pool>),
-    /// The page is to be read, and then [`Pool::end_read`] or [`Pool::fail_read`] is due.
+    /// The page is to be read. Then call [`Pool::end_read`] or [`Pool::fail_read`].
     Load {
-        /// To read the page that was asked for.
+        /// The ticket to read the page that was asked for.
         ticket: ReadTicket,
-        /// The page that left its frame for it.
+        /// The page that was evicted for it.
         evicted: Option<u64>,
     },
-    /// Another page has to be written out first, and its image is in the buffer.
-    /// [`Pool::end_write`] or [`Pool::fail_write`] is due then, and after that the fix again.
+    /// Another page must be written out first, and its image is in the buffer. Then call
+    /// [`Pool::end_write`] or [`Pool::fail_write`], and after that fix again.
     WriteFirst(WriteTicket),
 }
 
-/// What a flush gave.
+/// The answer of a flush.
 #[derive(Debug, PartialEq, Eq)]
 #[must_use = "a ticket has to be ended"]
 pub enum Flushed {
-    /// The page is to be written out, and its image is in the buffer. [`Pool::end_write`] or
-    /// [`Pool::fail_write`] is due then.
+    /// The page is to be written out, and its image is in the buffer. Then call [`Pool::end_write`]
+    /// or [`Pool::fail_write`].
     WriteFirst(WriteTicket),
     /// The page has nothing to write.
     Clean,
@@ -92,7 +92,7 @@ pub enum Flushed {
     Absent,
 }
 
-/// What a write-out left.
+/// The state of a page after its write-out.
 #[derive(Clone, Copy, Debug, PartialEq, Eq)]
 pub enum Saved {
     /// The page has nothing to write.
@@ -101,7 +101,7 @@ pub enum Saved {
     StillDirty,
 }
 
-/// What was counted since the pool was made.
+/// The counts since the pool was made.
 #[derive(Clone, Copy, Debug, Default, PartialEq, Eq)]
 pub struct Totals {
     /// Fixes that found their page in a frame.
@@ -119,11 +119,11 @@ pub struct Totals {
     pub refused: u64,
 }
 
-/// What a [`Pool`] counts: what was counted since it was made, and how many pages there are of each
-/// kind now.
+/// The counters of a [`Pool`]: the counts since it was made, and the present numbers of pages of
+/// each kind.
 #[derive(Clone, Copy, Debug, Default, PartialEq, Eq)]
 pub struct PoolStats {
-    /// What was counted.
+    /// The counts since the pool was made.
     pub totals: Totals,
     /// Pages that are in frames.
     pub resident: usize,
@@ -140,16 +140,16 @@ pub struct PoolStats {
 /// A page with writes that are in no image on the device.
 #[derive(Clone, Copy, Debug, PartialEq, Eq)]
 pub struct UnsavedPage {
-    /// Its number.
+    /// The number of the page.
     pub page: u64,
-    /// Its page LSN: the greatest LSN of its writes since it was read.
+    /// The page LSN: the greatest LSN of its writes since it was read.
     pub lsn: u64,
     /// The least LSN of those writes.
     pub first_lsn: u64,
 }
 
 impl Totals {
-    /// Counts others too.
+    /// Adds other counts.
     pub(crate) fn add(&mut self, others: &Totals) {
         let of_others = [
             (&mut self.hits, others.hits),
@@ -207,20 +207,20 @@ impl Pool {
         Ok(pool)
     }
 
-    /// What it was made with.
+    /// The settings that it was made with.
     pub fn config(&self) -> &Config {
         &self.config
     }
 
     /// The handle, for one call. `Pool` is not `Sync` and the library calls nothing back: so no
-    /// other call on the handle is under way, and no reference leads into it.
+    /// other call on the handle is under way, and no reference points into it.
     #[inline]
     fn core(&self) -> *mut hz_core {
         UnsafeCell::raw_get(self.core.as_ptr())
     }
 
-    /// Does something with bytes, or with a copy where they are lent: the library wants none of its
-    /// own memory. What is longer than a page is not lent.
+    /// Calls `work` with the bytes, or with a copy where they are lent: the library does not accept
+    /// its own memory. Bytes that are more than a page are not lent.
     #[inline]
     fn apart<T>(&self, bytes: &[u8], work: impl FnOnce(&[u8]) -> T) -> T {
         if !self.lent.hold(bytes) {
@@ -240,8 +240,8 @@ impl Pool {
         Grant::new(self.number, raw)
     }
 
-    /// The library's own grant. One that another pool gave is refused as unknown here: the library
-    /// would take it where it has the numbers of one that is out.
+    /// Returns the library's own grant. A grant of another pool is refused as unknown here: the
+    /// library would accept it where it has the numbers of one that is out.
     #[inline]
     fn own(&self, grant: &Grant, unknown: Error) -> Result<hz_grant> {
         let is_own = grant.pool == self.number;
@@ -292,8 +292,8 @@ impl Pool {
         })
     }
 
-    /// Asks that a page be written out if it is unsaved. The buffer has the page size, and is
-    /// written to only where the answer is [`Flushed::WriteFirst`].
+    /// Flushes a page: it is to be written out if it is unsaved. The buffer has the page size, and
+    /// is written to only where the answer is [`Flushed::WriteFirst`].
     ///
     /// # Errors
     /// The first that has cause:
@@ -346,7 +346,7 @@ impl Pool {
         Ok(pass)
     }
 
-    /// Ends a read that failed. The frame is free again, and the page may be fixed anew.
+    /// Ends a read that failed. The frame is free again, and the page may be fixed again.
     ///
     /// # Errors
     /// [`UnknownTicket`](Error::UnknownTicket) for a ticket of another pool, which comes back.
@@ -371,7 +371,7 @@ impl Pool {
         }
     }
 
-    /// Ends a write-out that went well.
+    /// Ends a write-out that succeeded.
     ///
     /// # Errors
     /// [`UnknownTicket`](Error::UnknownTicket) for a ticket of another pool, which comes back.
@@ -403,15 +403,16 @@ impl Pool {
         })
     }
 
-    /// The page of a pass, which the guard gives back when it is dropped.
+    /// Makes a guard of a pass. The guard gives the pass back when it is dropped.
     ///
-    /// The calls of a guard with a pass of another pool are refused, and the pass is lost with it.
+    /// The calls of a guard with a pass of another pool are refused, and the pass is lost with the
+    /// guard.
     #[inline]
     pub fn guard(&self, pass: Pass) -> PageGuard<'_> {
         PageGuard { pool: self, pass }
     }
 
-    /// The pass of client 0 with this number, which is out for this page.
+    /// Returns the pass of client 0 with this serial number, which is out for this page.
     #[inline]
     pub(crate) fn pass_of(&self, page: u64, serial: u64) -> Pass {
         let raw = hz_grant {
@@ -434,19 +435,19 @@ impl Pool {
     /// # Errors
     /// [`UnknownPass`](Error::UnknownPass) for a pass of another pool, which comes back.
     pub fn unfix(&self, pass: Pass) -> Result<(), Refused<Pass>> {
-        Refused::check(self.give_back(&pass), pass)
+        Refused::check(self.unfix_by(&pass), pass)
     }
 
-    /// Gives a pass back that its owner lets go then.
+    /// Gives a pass back, which its owner then drops.
     #[inline]
-    pub(crate) fn give_back(&self, pass: &Pass) -> Result<()> {
+    pub(crate) fn unfix_by(&self, pass: &Pass) -> Result<()> {
         let grant = self.own_pass(pass)?;
         // SAFETY: the handle is free, and the pass a grant.
         Error::check(unsafe { sys::hz_unfix(self.core(), &grant) })
     }
 
-    /// Lends the bytes of a pass's page, in place. They stay as they are while the [`PageBytes`] is
-    /// there, which borrows the pass: what would write to the page is refused meanwhile.
+    /// Lends the bytes of a pass's page, in place. They do not change while the [`PageBytes`]
+    /// exists, which borrows the pass: a write to the page is refused meanwhile.
     ///
     /// ```
     /// # use hojzmated::{Config, Fixed, Pool};
@@ -477,7 +478,7 @@ impl Pool {
         unsafe { self.lent.lend(pass.page(), bytes) }
     }
 
-    /// Where the bytes of a pass's page are, as long as the pass is out.
+    /// Returns where the bytes of a pass's page are, as long as the pass is out.
     #[inline(always)]
     pub(crate) fn place(&self, pass: &Pass) -> Result<*const [u8]> {
         let grant = self.own_pass(pass)?;
@@ -503,15 +504,14 @@ impl Pool {
         Error::check(unsafe { sys::hz_read(self.core(), &grant, offset, bytes, len) })
     }
 
-    /// Puts bytes into a pass's page from the offset on, under the log record with this LSN. The
-    /// page does not go out before the log is durable so far. The bytes may be those of another
-    /// page, as [`Pool::bytes`] lends them; they are copied once more then.
+    /// Writes bytes into a pass's page from the offset on, under the log record with this LSN. The
+    /// page is not written out before the log is durable up to this LSN. The bytes may be those of
+    /// another page, as [`Pool::bytes`] lends them; then they are copied twice.
     ///
     /// # Errors
-    /// The first that has cause, and the page stays as it was:
-    /// [`UnknownPass`](Error::UnknownPass) for a pass of another pool;
-    /// [`Lent`](Error::Lent) while bytes of the page are lent, by whichever guard or pass;
-    /// [`OutOfPage`](Error::OutOfPage) where the bytes are not within the page;
+    /// The first that has cause, and the page is unchanged: [`UnknownPass`](Error::UnknownPass) for
+    /// a pass of another pool; [`Lent`](Error::Lent) while bytes of the page are lent, by any guard
+    /// or pass; [`OutOfPage`](Error::OutOfPage) where the bytes are not within the page;
     /// [`TrailFull`](Error::TrailFull).
     #[inline]
     pub fn write(&self, pass: &Pass, offset: usize, bytes: &[u8], lsn: u64) -> Result<()> {
@@ -527,8 +527,8 @@ impl Pool {
         })
     }
 
-    /// Moves the clock on by `n`. A page may leave its frame once the clock has moved by more than
-    /// the correlated period since its newest reference.
+    /// Moves the clock on by `n`. A page can be evicted once the clock has moved by more than the
+    /// correlated period since its newest reference.
     ///
     /// # Errors
     /// [`BadClient`](Error::BadClient); [`TrailFull`](Error::TrailFull);
@@ -539,7 +539,7 @@ impl Pool {
         Error::check(unsafe { sys::hz_tick(self.core(), client, n) })
     }
 
-    /// Notes that the log is durable as far as this LSN.
+    /// Notes that the log is durable up to this LSN.
     ///
     /// # Errors
     /// [`BadClient`](Error::BadClient); [`TrailFull`](Error::TrailFull).
@@ -548,8 +548,8 @@ impl Pool {
         Error::check(unsafe { sys::hz_mark(self.core(), client, lsn) })
     }
 
-    /// Forgets the references of pages that are in no frame and whose newest is older than the
-    /// retained period. Gives how many pages these are.
+    /// Forgets the references of pages that are in no frame and whose newest reference is older
+    /// than the retained period. It returns the number of these pages.
     ///
     /// # Errors
     /// [`BadClient`](Error::BadClient); [`TrailFull`](Error::TrailFull).
@@ -571,8 +571,8 @@ impl Pool {
         Ok(lsn)
     }
 
-    /// The first page from this number on, in the order of the file, that has writes which are in
-    /// no image on the device.
+    /// Returns the first page from this number on, in the order of the file, that has writes which
+    /// are in no image on the device.
     pub fn next_unsaved(&self, from: u64) -> Option<UnsavedPage> {
         let mut out = hz_unsaved::default();
         // SAFETY: the handle is free, and `out` may be written to. It is refused only where the
@@ -585,8 +585,8 @@ impl Pool {
         })
     }
 
-    /// All such pages from this number on. Each is looked for when it is asked for, so the pool may
-    /// be used between.
+    /// Iterates over all such pages from this number on. Each is looked for when it is asked for,
+    /// so the pool may be used in between.
     pub fn unsaved(&self, mut from: u64) -> impl Iterator<Item = UnsavedPage> {
         iter::from_fn(move || {
             let next = self.next_unsaved(from)?;
@@ -595,8 +595,8 @@ impl Pool {
         })
     }
 
-    /// From where redo has to begin: the least LSN of all writes that are in no image on the device,
-    /// one of LSN 0 too. None where there is no such write.
+    /// Returns the LSN from which redo must begin: the least LSN of all writes that are in no image
+    /// on the device, also if it is 0. It is None where there is no such write.
     pub fn redo_from(&self) -> Option<u64> {
         let (mut lsn, mut has_lsn) = (0, 0);
         // SAFETY: the handle is free, and both may be written to. It is refused only where the
@@ -605,7 +605,7 @@ impl Pool {
         (has_lsn != 0).then_some(lsn)
     }
 
-    /// Whether a page is in a frame.
+    /// Returns true if the page is in a frame.
     ///
     /// # Errors
     /// [`OutOfPage`](Error::OutOfPage) where the file has no such page.
@@ -616,7 +616,7 @@ impl Pool {
         Ok(is_resident != 0)
     }
 
-    /// What it counts.
+    /// The counters of the pool.
     pub fn stats(&self) -> PoolStats {
         let mut out = hz_stats::default();
         // SAFETY: the handle is free, and `out` may be written to. It is refused only where the
@@ -639,7 +639,7 @@ impl Pool {
         }
     }
 
-    /// What was counted.
+    /// The counts since the pool was made.
     pub fn totals(&self) -> Totals {
         self.stats().totals
     }
@@ -665,8 +665,8 @@ impl fmt::Debug for Pool {
 mod tests {
     use super::*;
 
-    // The library gets bytes of its own memory as a copy, and others as they are: also such as are
-    // longer than a page.
+    // Bytes of the library's own memory are copied before the library gets them. Other bytes are
+    // not, also where they are more than a page.
     #[test]
     fn bytes_of_the_library_are_copied() -> Result<()> {
         let pool = Pool::new(&Config::new(4, 16, 1))?;

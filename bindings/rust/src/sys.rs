@@ -1,4 +1,4 @@
-//! The calls of `hojzmated.h`, and its structs, as they stand there.
+//! The calls and structs of `hojzmated.h`, as the header has them.
 #![allow(non_camel_case_types)]
 
 use std::ffi::c_void;
@@ -80,9 +80,10 @@ pub(crate) struct hz_stats {
     pub(crate) writing: usize,
 }
 
-// Each call but `hz_text` and `hz_version` requires: `core` is zero, or as these calls left it, and
-// no other call on it is under way; each pointer leads to memory of its type, with so many elements
-// where a length follows it, and may be written to where it is `*mut`; no two of a call overlap.
+// Each call except `hz_text` and `hz_version` requires: `core` is zero, or as these calls left it,
+// and no other call on it is under way; each pointer leads to memory of its type, with so many
+// elements where a length follows it, and may be written to where it is `*mut`; no two of a call
+// overlap.
 unsafe extern "C" {
     pub(crate) fn hz_core_new(config: *const hz_config, core: *mut hz_core) -> u16;
     pub(crate) fn hz_core_free(core: *mut hz_core) -> u16;
@@ -157,12 +158,12 @@ pub(crate) mod tests {
     const HEADER: &str = include_str!("../../../include/hojzmated.h");
     const LAYOUT: &str = include_str!("../../../peers/c/layout.c");
 
-    /// The size of a field that a struct of this type has.
+    /// Returns the size of a field of this struct.
     const fn len_of<S, F>(_: fn(&S) -> &F) -> usize {
         size_of::<F>()
     }
 
-    /// The lines that `layout.c` has for a struct: its size, and where each field lies.
+    /// The lines of `layout.c` for a struct: its size, and the offset of each field.
     macro_rules! lines_of {
         ($type:ident: $($field:ident)*) => {{
             let size = format!("HOLDS(sizeof({}) == {});", stringify!($type), size_of::<$type>());
@@ -177,7 +178,7 @@ pub(crate) mod tests {
         }};
     }
 
-    /// Each struct has its size, and each field its place, as the header has them: in the order of
+    /// Each struct has the size, and each field the offset, of the header, in the order of
     /// `layout.c`.
     #[test]
     fn layout() {
@@ -198,7 +199,7 @@ pub(crate) mod tests {
         assert_eq!(here, there);
     }
 
-    /// The names of the functions that lines declare: in each, what stands before the bracket.
+    /// Returns the names of the functions that lines declare: what is before the bracket in each.
     fn names_in<'a>(lines: impl Iterator<Item = &'a str>) -> Vec<&'a str> {
         let mut names: Vec<&str> = lines
             .filter_map(|line| line.split_once('('))
@@ -209,8 +210,8 @@ pub(crate) mod tests {
         names
     }
 
-    /// Each function of the header is declared here, and no other. In the header each stands at the
-    /// start of a line.
+    /// Each function of the header is declared here, and no other. In the header each begins a
+    /// line.
     #[test]
     fn functions() {
         let declared = include_str!("sys.rs")
@@ -226,7 +227,7 @@ pub(crate) mod tests {
         assert_eq!(names_in(here), names_in(there));
     }
 
-    /// The names and numbers of an enum of the header, in its order.
+    /// Returns the names and numbers of an enum of the header, in its order.
     fn enum_in_header(name: &str) -> Vec<(String, u16)> {
         let begin = format!("enum {name} {{\n");
         let block = HEADER
@@ -241,7 +242,7 @@ pub(crate) mod tests {
             .collect()
     }
 
-    /// The refusals of the header, without `HZ_DONE`, which is 0.
+    /// Returns the refusals of the header, without `HZ_DONE`, which is 0.
     pub(crate) fn refusals_in_header() -> Vec<(String, u16)> {
         let mut found = enum_in_header("hz_refusal");
         found.retain(|(_, number)| *number != 0);

@@ -1,4 +1,4 @@
-//! Times the calls of LRU-K that take the number of a page's block, on pages at random.
+//! Times the calls of LRU-K that take the number of a page's block, on random pages.
 ghost use Rattle.std.specs.Prelude.{◌≡◌, ℕ, ◌+◌, ◌^◌, ◌<◌, IfOk, OnOk, false, length, vec_len};
 ghost use Rattle.bp_replacer.specs.Histories.{is_held, last_of};
 ghost use Rattle.bench.specs.Loads.{IsLoaded, IsTable};
@@ -14,7 +14,7 @@ const PAGES: u64 = 1048576;
 
 const CALLS: u64 = 4000000;
 
-// Gives each page one reference at time 1. The blocks come back, as a frame has that of its page.
+// Gives each page one reference at time 1, and returns the pages' blocks, as frames keep them.
 #[tactic(auto, unfolding(bp_replacer::specs::Histories::KeepsPlaces))]
 fn load_table(alloc: Global, histories: &mut Histories, pages: u64) -> Result<Vec<BlockNo>, Refusal>
     requires nothing_held { (page : ℕ) → is_held histories.old page ≡ false }
@@ -35,7 +35,7 @@ fn load_table(alloc: Global, histories: &mut Histories, pages: u64) -> Result<Ve
     Ok(blocks)
 }
 
-// Hits pages at random by their blocks, each a tick after the one before.
+// Hits random pages by their blocks, each a tick after the one before.
 #[tactic(auto, unfolding(bp_replacer::specs::Histories::KeepsPlaces))]
 fn hit_table(histories: &mut Histories, blocks: &[BlockNo], calls: u64)
     requires some { 0 < length blocks.now }
@@ -54,7 +54,7 @@ fn hit_table(histories: &mut Histories, blocks: &[BlockNo], calls: u64)
     }
 }
 
-// Ranks pages at random by their blocks.
+// Ranks random pages by their blocks.
 fn rank_table(histories: &Histories, blocks: &[BlockNo], calls: u64) -> u64
     requires some { 0 < length blocks.now }
     requires table { IsTable histories.now blocks.now }

@@ -35,7 +35,7 @@ enum Call {
     Cut,
 }
 
-/// What is timed in a round, in this order.
+/// The calls of a round, in the order in which they are timed.
 const CALLS: [(Call, &str); 17] = [
     (Call::Fix, "fix that loads, and read_end"),
     (Call::Unfix, "unfix"),
@@ -56,14 +56,14 @@ const CALLS: [(Call, &str); 17] = [
     (Call::Cut, "cut"),
 ];
 
-/// A core for one client, with the passes of the newest fixes and the piece that was cut last.
+/// A core for one client, with the passes of the newest fixes and the piece of the trail that was cut last.
 #[derive(Drop)]
 struct Bench {
     alloc: Global,
     core: Core,
     pages: u64,
     bytes: Bytes,
-    /// What was read or looked at last.
+    /// The bytes that were read last.
     into: [u8; 16],
     passes: Vec<PassNote>,
     spare: Vec<Entry>,
@@ -73,8 +73,8 @@ struct Bench {
     ghost into_fits: { 0 + 16 ≤ core.parameters.size },
 }
 
-/// A core of K 2 and no correlated period, which forgets what is older than a tick. It has twice as many pages as
-/// frames.
+/// Makes a core with K 2 and no correlated period, which forgets what is older than a tick, and with twice as many
+/// pages as frames.
 fn new_bench(alloc: Global, frames: u64) -> Result<Bench, Refusal>
     requires { frames ≤ MAX_FRAMES }
 {
@@ -110,7 +110,7 @@ impl Bench {
         }
     }
 
-    /// Fixes a page, which is read where it is away.
+    /// Fixes a page, and ends its read if there is one.
     fn fix(&mut self, page: u64) {
         if page >= self.pages {
             return;
@@ -125,7 +125,7 @@ impl Bench {
         }
     }
 
-    /// Writes a page out where it is unsaved, to no device.
+    /// Writes a page out if it is unsaved, to no device.
     fn flush(&mut self, page: u64) {
         if page >= self.pages {
             return;
@@ -142,7 +142,7 @@ impl Bench {
         }
     }
 
-    /// Looks at the first byte of a page that is lent.
+    /// Looks at the first byte of a lent page.
     fn look(&mut self, pass: &Pass) {
         if let Some([first, ..]) = self.core.page(pass) {
             self.into[0] = *first;
@@ -180,7 +180,7 @@ impl Bench {
         pass.note();
     }
 
-    /// Hands out the trail, and goes on in the memory of the piece before.
+    /// Cuts the trail, and leaves it the memory of the piece before.
     fn cut(&mut self) {
         let spare = mem::replace(&mut self.spare, Vec::new(self.alloc));
         if let Ok(piece) = self.core.cut_into(spare) {
@@ -188,7 +188,7 @@ impl Bench {
         }
     }
 
-    /// Makes one call of many, and keeps what it tells.
+    /// Makes one call, and keeps what it tells.
     fn make(&mut self, call: Call, page: u64, place: u64) {
         match call {
             Call::Fix => self.fix(page),
@@ -214,7 +214,8 @@ impl Bench {
         }
     }
 
-    /// Makes so many calls, of the pages from one on or of the passes of the newest fixes. One purge or cut is enough.
+    /// Makes so many calls, with the pages from one on or the passes of the newest fixes. A purge or a cut is made
+    /// once.
     fn make_all(&mut self, call: Call, from: u64, calls: u64) {
         match call {
             Call::Purge => {
@@ -242,7 +243,7 @@ fn time_round(
 ) -> Result<(), anyhow::Error>
     requires { 0 < frames }
 {
-    // The pages of the round before may leave once the clock has moved.
+    // The pages of the round before may be evicted once the clock has moved.
     bench.make_all(Call::Tick, 0, 1);
     for (call, name) in &CALLS {
         let calls = if let Call::Cut = call { 1 } else { frames };
@@ -268,7 +269,7 @@ fn time_rounds(
     Ok(())
 }
 
-/// Times the calls of a core with so many frames, if it may have as many.
+/// Times the calls of a core with so many frames, if that is within the limits.
 pub(crate) fn time_calls(
     rt: &(impl Runtime<A = Global> + CpuClock),
     frames: u64,

@@ -1,11 +1,12 @@
-//! Times a pool, where its first argument says what; with none it does nothing. docs/BENCHMARKS.md has its numbers.
+//! Times the calls of a core or a pool, as its first argument says; without one it does nothing. docs/BENCHMARKS.md has
+//! the results.
 //!
 //!     bench calls FRAMES               each call of a core of so many frames
 //!     bench pool FILE [ROOM | silent]  fixes and unfixes over a page file
 //!     bench blocks                     the calls of LRU-K that take the number of a page's block
 //!
-//! With a room the trail is cut each time it is half full, into the memory of the piece before; without one it is never
-//! cut. With `silent` the core only counts its entries.
+//! With a room the trail is cut each time it is half full, and continues in the memory of the piece before; without one
+//! it is never cut. With `silent` the core only counts its entries.
 #![tactic(auto)]
 
 ghost use Rattle.std.specs.Prelude.{◌<◌};

@@ -1,4 +1,4 @@
-//! Times fixes and unfixes of pages at random, over a page file.
+//! Times fixes and unfixes of random pages over a page file.
 ghost use Rattle.std.specs.Prelude.{◌≡◌, ◌<◌, ◌≤◌};
 
 use crate::next;
@@ -18,34 +18,35 @@ const SIZE: usize = 1024;
 
 const PAGES_A_FRAME: u64 = 4;
 
-// The clock moves once in so many fixes: a page may leave only once it was last referenced before the present tick.
+// The clock moves on once in so many fixes: a page may be evicted only once it was last referenced before the present
+// tick.
 const FIXES_A_TICK: u64 = 16;
 
-/// How many frames there are, and how many fixes are timed over as many pages and over more.
+/// The frames, the fixes that are timed over as many pages, and those over more pages.
 const POOLS: [(usize, u64, u64); 3] = [
     (256, 4000000, 400000),
     (4096, 4000000, 400000),
     (65536, 400000, 400000),
 ];
 
-/// How a long trail is cut.
+/// Cuts a trail each time it is long.
 #[derive(Drop)]
 pub(crate) struct Cuts {
     alloc: Global,
     at: usize,
-    /// The piece that was cut last: the trail goes on in its memory.
+    /// The piece that was cut last. The next cut leaves its memory to the trail.
     spare: Vec<Entry>,
 }
 
-/// A keeper whose room does not run out.
+/// A keeper whose trail does not fill its room.
 pub(crate) trait Tended: Keeper {
-    /// Makes room where a long trail stands in memory.
+    /// Makes room if the trail is in memory and long.
     fn tend(core: &mut PoolCore<Self>, cuts: &mut Cuts)
         ensures same { core.new.parameters ≡ core.old.parameters };
 }
 
 impl Tended for RecordingKeeper {
-    // Hands out a long trail, and drops the piece before.
+    // Cuts a long trail, and drops the piece before.
     fn tend(core: &mut PoolCore<RecordingKeeper>, cuts: &mut Cuts) {
         if core.trail().len() < cuts.at {
             return;
@@ -61,7 +62,7 @@ impl Tended for SilentKeeper {
     fn tend(_core: &mut PoolCore<SilentKeeper>, _cuts: &mut Cuts) {}
 }
 
-/// A core for one client over a page file, and how many of the pages are used.
+/// A core for one client over a page file, and the number of pages that are used.
 #[derive(Drop)]
 struct Bench<K: Tended> {
     core: PoolCore<K>,
@@ -74,7 +75,6 @@ struct Bench<K: Tended> {
     ghost pages_in: { pages ≤ core.parameters.pages },
 }
 
-/// A core of K 2 and no periods.
 fn new_bench<K: Tended>(
     rt: &(impl Runtime<A = Global> + Files<File = File>),
     path: &str,
@@ -111,13 +111,13 @@ fn new_bench<K: Tended>(
 }
 
 impl<K: Tended> Bench<K> {
-    /// Moves the clock, and cuts a long trail.
+    /// Moves the clock on, and cuts a long trail.
     fn tick(&mut self) {
         let _ = self.core.tick(0, 1);
         K::tend(&mut self.core, &mut self.cuts);
     }
 
-    /// Fixes the page of a number, and gives it back. Tells whether it was not refused.
+    /// Fixes a page and gives it back. It returns true if it was not refused.
     fn use_page(&mut self, rt: &impl Wait, number: u64) -> bool {
         let page = PageNo::new(number % self.pages);
         match drive_fix(rt, &mut self.core, &mut self.port, 0, page) {
@@ -132,7 +132,7 @@ impl<K: Tended> Bench<K> {
         }
     }
 
-    /// Uses pages, in turn or at random. Counts those that were not refused.
+    /// Uses pages, in turn or at random, and returns how many uses were not refused.
     fn use_pages(&mut self, rt: &impl Wait, calls: u64, is_random: bool) -> u64 {
         let mut state = 1;
         let mut good = 0u64;
@@ -149,7 +149,7 @@ impl<K: Tended> Bench<K> {
     }
 }
 
-/// Times uses of so many pages at random, once each frame has a page.
+/// Times uses of so many random pages, once each frame has a page.
 fn time_pages<K: Tended>(
     rt: &(impl Runtime<A = Global> + CpuClock + Wait),
     bench: &mut Bench<K>,
@@ -172,7 +172,7 @@ fn time_pages<K: Tended>(
     Ok(())
 }
 
-/// Times uses of so many pages of a file by a pool of its own.
+/// Times uses of so many pages of a file by a new pool.
 fn time_pool<K: Tended>(
     rt: &(impl Runtime<A = Global> + CpuClock + Files<File = File> + Wait),
     path: &str,

@@ -1,17 +1,17 @@
-//! Two long runs. One core makes ten million entries in a room of 4,096: its trail is cut as it goes, and goes on in
-//! the memory of the piece before. Another only counts its entries, while two gigabytes of images go by; what the
-//! program has in memory at the end is told. The file `stdout` was worked out by hand.
+//! Two long runs. In the first a core makes ten million entries in a room of 4,096: its trail is cut as it goes, and
+//! continues in the memory of the piece before. In the second a core only counts its entries, while it reads and writes
+//! two gigabytes of images; at the end the program prints how much memory it has. The file `stdout` was worked out by
+//! hand.
 //!
-//! With the word `cut` it makes the first run alone, with `uncut` the same in a room for all entries. With `silent`, a
-//! number of rounds and the bytes of a page it makes such a second run.
+//! With the argument `cut` it makes only the first run, and with `uncut` the same in a room for all entries. With
+//! `silent`, a number of rounds and a page size in bytes it makes such a second run.
 #![tactic(auto)]
 
 ghost use Rattle.std.specs.Prelude.{◌≡◌, ◌+◌, ◌<◌, ◌≤◌, IfOk, length};
 ghost use Rattle.bench_long_run.specs.declared.TheConstants.{PAGES};
 
-use bp_core::{Entry, Keeper, Pass, PoolCore, RecordingKeeper, SilentKeeper};
+use bp_core::{Entry, Keeper, Pass, PoolCore, RecordingKeeper, Settings, SilentKeeper};
 use bp_device::{MemDevice, MemPort, drive_fix};
-use bp_lruk::Settings;
 use bp_page::{Bytes, Geometry, Lsn, PageNo, Refusal};
 use bp_trail::Totals;
 use std::alloc::Global;
@@ -19,36 +19,36 @@ use std::rt::{Files, Runtime};
 use std::sync::Wait;
 use std::{env, fs};
 
-// The pages that a round uses.
+// The number of pages that a round uses.
 const PAGES: u64 = 4;
 
 // A round has ten entries where each page has a frame: a fix and an unfix of each, a tick and a mark.
 const ROUNDS: u64 = 1000000;
 
-// Each has 4,000 entries, and the first has twelve more.
+// Each piece has 4,000 entries, and the first twelve more.
 const PIECES: u64 = 2500;
 
 const ROOM: usize = 4096;
 
-// For all entries.
+// Room for all entries.
 const GREAT_ROOM: usize = 10500000;
 
 const SILENT_ROUNDS: u64 = 2500;
 
-// The greatest size of a page.
+// The greatest page size, in bytes.
 const SILENT_SIZE: usize = 65536;
 
-// So much of 64 MiB, in blocks of 4 KiB.
+// 64 MiB in blocks of 4 KiB. The program stays below that.
 const FEW_BLOCKS: u64 = 16384;
 
-/// A core for one client over a device in memory, and the uses of its pages.
+/// A core for one client over a device in memory, and the counts of the uses of pages.
 #[derive(Drop)]
 struct Pool<K: Keeper> {
     core: PoolCore<K>,
     port: MemPort,
-    /// Whether a page that is used is read and written.
+    /// Whether each use of a page reads and writes it.
     is_changed: bool,
-    /// What is written next.
+    /// The bytes that the next write has.
     bytes: Bytes,
     used: u64,
     as_written: u64,
@@ -60,12 +60,11 @@ struct Pool<K: Keeper> {
     ghost one_fits: { 1 ≤ core.parameters.size },
 }
 
-/// The byte that a round writes to each page.
 fn byte_of(round: u64) -> u8 {
     (round % 251) as u8
 }
 
-/// The port of a device in memory.
+/// Makes a port to a device in memory.
 fn new_port(alloc: Global, geometry: Geometry) -> Result<MemPort, Refusal>
     ensures { IfOk result (λ port. port.device ≡ geometry) }
 {
@@ -96,7 +95,7 @@ fn new_pool<K: Keeper>(
 }
 
 impl<K: Keeper> Pool<K> {
-    /// Reads the page of a pass, and writes to it. Tells whether it was as the round before wrote it.
+    /// Reads the page of a pass, and writes to it. It returns true if the page was as the round before wrote it.
     fn change(&mut self, pass: &Pass, round: u64) -> Result<bool, Refusal> {
         let image = self.core.read(pass)?;
         self.core.write(pass, 0, &self.bytes, Lsn::new(round))?;
@@ -104,7 +103,7 @@ impl<K: Keeper> Pool<K> {
         Ok(image.bytes().first() == Some(&before))
     }
 
-    /// Fixes a page and gives it back.
+    /// Fixes a page, changes it if pages are changed, and gives it back.
     fn use_page(&mut self, rt: &impl Wait, page: u64, round: u64) -> Result<bool, Refusal>
         requires { page < PAGES }
     {
@@ -132,13 +131,13 @@ impl<K: Keeper> Pool<K> {
         }
     }
 
-    /// The clock moves, and the log is durable as far as what was written.
+    /// Marks the log durable as far as what was written, and moves the clock on.
     fn go_on(&mut self, round: u64) {
         let _ = self.core.mark(0, Lsn::new(round));
         let _ = self.core.tick(0, 1);
     }
 
-    /// Uses each page. Where pages are changed, time goes on after each, so that the next may take its frame.
+    /// Uses each page. Where pages are changed, the clock moves on after each, so that the next may take its frame.
     fn run_round(&mut self, rt: &impl Wait, round: u64) {
         for page in 0..PAGES {
             let used = self.use_page(rt, page, round);
@@ -160,11 +159,11 @@ impl<K: Keeper> Pool<K> {
     }
 }
 
-/// What the pieces of a trail have.
+/// The counts of the pieces of a trail.
 #[derive(Clone, Copy)]
 struct Cut {
     entries: u64,
-    // The pieces that have more or less memory than the room needs.
+    // The pieces whose capacity is not the room.
     odd_pieces: u64,
     totals: Totals,
 }
@@ -181,8 +180,8 @@ impl Cut {
     }
 }
 
-/// Brings in each page, and then runs all rounds. The trail is cut so many times, each time into the memory of the
-/// piece before.
+/// Loads each page, and then runs all rounds. The trail is cut so many times, each time into the memory of the piece
+/// before.
 fn run_cut(
     rt: &(impl AllocGlobal + Wait),
     pool: &mut Pool<RecordingKeeper>,
@@ -211,7 +210,7 @@ fn run_cut(
     Ok(cut)
 }
 
-/// The first run over this pool. Its entries are told of.
+/// Makes the first run over this pool, and prints the counts.
 fn tell_recorded(
     rt: &(impl Runtime<A = Global> + Wait),
     pool: &mut Pool<RecordingKeeper>,
@@ -238,7 +237,6 @@ fn tell_recorded(
     print_end(rt, pool)
 }
 
-/// The first run.
 fn run_recorded(
     rt: &(impl Runtime<A = Global> + Wait),
     pieces: u64,
@@ -259,13 +257,12 @@ fn print_end<K: Keeper>(
     Ok(())
 }
 
-/// The second number of a line.
 fn second_number(line: &str) -> Option<u64> {
     let word = line.split_whitespace().nth(1)?;
     word.parse::<u64>().ok()
 }
 
-/// How many blocks of 4 KiB the program has in memory, as the system tells it.
+/// Returns the program's memory in blocks of 4 KiB, as the system tells it, or None where it does not.
 fn resident(rt: &(impl Runtime<A = Global> + Files)) -> Option<u64> {
     match fs::read_to_string(rt, "/proc/self/statm") {
         Ok(line) => second_number(line.as_str()),
@@ -282,7 +279,7 @@ fn print_resident(rt: &(impl Runtime<A = Global> + Files)) -> Result<(), anyhow:
     Ok(())
 }
 
-/// The second run over this pool.
+/// Makes the second run over this pool, and prints the counts.
 fn tell_silent(
     rt: &(impl Runtime<A = Global> + Files + Wait),
     pool: &mut Pool<SilentKeeper>,
@@ -297,7 +294,8 @@ fn tell_silent(
     print_resident(rt)
 }
 
-/// The second run, in half as many frames as pages: each fix brings its page in, and another that was changed goes out.
+/// Makes the second run, with half as many frames as pages: each fix loads its page, and evicts another one that was
+/// changed.
 fn run_silent(
     rt: &(impl Runtime<A = Global> + Files + Wait),
     rounds: u64,

@@ -1,4 +1,4 @@
-//! What each thread does: it fixes pages at random and gives them back, and cuts as it goes.
+//! The work of each thread: it fixes random pages and gives them back, and cuts as it goes.
 ghost use Rattle.std.specs.Prelude.{◌≡◌, ◌<◌, ◌≤◌};
 ghost use Rattle.bench_threads.specs.declared.TheConstants.{FILE_PAGES};
 
@@ -7,20 +7,20 @@ use crate::{FILE_PAGES, FRAMES};
 use bp_core::Entry;
 use bp_device::Port;
 use bp_page::PageNo;
-use bp_shared::{PoolName, Session, SharedPool, Taker, give_back};
+use bp_shared::{PoolName, Session, SharedPool, Taker};
 use std::alloc::Global;
 use std::sync::{Mutex, Wait};
 use std::thread;
 use std::thread::Threads;
 
-// The clock moves once in so many fixes of a thread: a page may leave only once it was last referenced before the
-// present tick.
+// The clock moves on once in so many fixes of a thread: a page may be evicted only once it was last referenced before
+// the present tick.
 const FIXES_A_TICK: u64 = 16;
 
-// The fixes of a thread between two of its cuts, where its pool is cut. Four threads then stay within the trail's room.
+// The fixes of a thread between two of its cuts, where its pool is cut: so four threads stay within the trail's room.
 const FIXES_A_CUT: u64 = 1024;
 
-/// So many threads, each with so many fixes over the first pages.
+/// The number of threads, of their fixes each, and of the pages that are used.
 #[derive(Clone, Copy)]
 pub(crate) struct Work {
     pub(crate) threads: u8,
@@ -31,25 +31,23 @@ pub(crate) struct Work {
     ghost short: { calls ≤ 1000000 },
 }
 
-/// What is taken of the trail, by whichever thread comes to it.
+/// The pieces of the trail, for whichever thread cuts it.
 #[derive(Drop)]
 pub(crate) struct Takings<N: PoolName> {
     pub(crate) taker: Taker<N>,
-    /// The piece that was taken last: the trail goes on in its memory.
+    /// The piece that was cut last. The next cut leaves its memory to the trail.
     pub(crate) spare: Vec<Entry>,
 }
 
-/// One client.
 #[derive(Drop)]
 pub(crate) struct Job<N: PoolName, P: Port, K: Kind> {
     pub(crate) alloc: Global,
     pub(crate) session: Session<N, K>,
     pub(crate) port: P,
-    /// The state of its generator of numbers.
+    /// The state of the generator of random numbers.
     pub(crate) state: u64,
-    /// The fixes that were not refused.
     pub(crate) done: u64,
-    /// The list that was cut last: the session's goes on in its memory.
+    /// The list that was cut last. The next cut leaves its memory to the session's list.
     pub(crate) spare: Vec<Entry>,
     ghost port_is: { (P.geometry_of port).size ≡ N.parameters.size },
     ghost pages_are: { N.parameters.pages ≡ FILE_PAGES },
@@ -65,7 +63,7 @@ fn next(state: u64) -> u64 {
 impl<N: PoolName, P: Port, K: Kind> Job<N, P, K> {
     ghost use Rattle.std.specs.Prelude.{◌≡◌, ◌<◌, ◌≤◌};
 
-    // Moves the clock and lets go of entries, where these are due.
+    // Moves the clock on, and lets go of entries, where they are due.
     fn keep_up<R: Wait>(
         &mut self,
         rt: &R,
@@ -88,19 +86,19 @@ impl<N: PoolName, P: Port, K: Kind> Job<N, P, K> {
         }
     }
 
-    // Fixes a page, and gives it back. Counts that where it was not refused.
+    // Fixes a page and gives it back. It is counted where it was not refused.
     fn use_page<R: Wait>(&mut self, rt: &R, pool: &SharedPool<N, K>, page: PageNo)
         requires page_in { page < N.parameters.pages }
     {
         if let Ok(pass) = pool.fix(rt, &mut self.session, &mut self.port, page) {
-            if let Err((pass, _)) = give_back(rt, pool, &mut self.session, pass) {
+            if let Err((pass, _)) = pool.unfix_draining(rt, &mut self.session, pass) {
                 pass.note();
             }
             self.done = self.done.saturating_add(1);
         }
     }
 
-    /// Brings in the first pages, one for each frame.
+    /// Loads the first pages, one for each frame.
     pub(crate) fn fill<R: Wait>(
         &mut self,
         rt: &R,
@@ -114,7 +112,7 @@ impl<N: PoolName, P: Port, K: Kind> Job<N, P, K> {
         self.done = 0;
     }
 
-    // Fixes pages at random.
+    // Fixes random pages.
     fn run<R: Wait>(
         &mut self,
         rt: &R,
@@ -130,7 +128,7 @@ impl<N: PoolName, P: Port, K: Kind> Job<N, P, K> {
     }
 }
 
-/// One thread for each job. All have ended at the return.
+/// Runs each job in a thread of its own, and returns when all have ended.
 pub(crate) fn run_jobs<
     N: PoolName + Send + Sync,
     P: Port + Send,
@@ -149,7 +147,7 @@ pub(crate) fn run_jobs<
     }
 }
 
-/// How many fixes were not refused.
+/// Returns the number of fixes that were not refused.
 pub(crate) fn done_by<N: PoolName, P: Port, K: Kind>(jobs: &[Job<N, P, K>]) -> u64 {
     let mut done: u64 = 0;
     for job in jobs {

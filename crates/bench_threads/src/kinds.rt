@@ -1,4 +1,4 @@
-//! The kinds of pool, and what a client does so that the room of each lasts.
+//! `Kind`, the two kinds of pool, and how a client keeps within the room of each.
 
 use crate::jobs::Takings;
 use bp_core::{Entry, Keeper};
@@ -13,7 +13,7 @@ use std::sync::{Mutex, Wait};
 // The room of a trail in memory.
 const RECORDING_ROOM: usize = 65536;
 
-/// A kind of pool. What its keeper works with may go to another thread, and is named for that.
+/// A kind of pool. The types that its keeper works with are named here, since they must be `Send`.
 pub(crate) trait Kind: ListKeeper<
     SpareImage = <Self as Kind>::SentImage,
     SpareBytes = <Self as Kind>::SentBytes,
@@ -26,10 +26,8 @@ pub(crate) trait Kind: ListKeeper<
 
     type SentBlank: Drop + Send;
 
-    /// What it is called.
     fn name() -> &'static str;
 
-    /// How many entries the trail may have.
     fn room() -> usize;
 
     /// Lets go of the entries of the trail and of the session's list, where they are in memory.
@@ -58,7 +56,7 @@ impl Kind for RecordingKeeper {
         RECORDING_ROOM
     }
 
-    // Drops the last piece of each, and takes the next in its memory.
+    // Cuts both, and leaves each the memory of its last piece, whose entries are dropped.
     fn let_go<N: PoolName, R: Wait>(
         rt: &R,
         alloc: Global,
@@ -100,7 +98,7 @@ impl Kind for SilentKeeper {
     ) {}
 }
 
-// Drops the last piece of the trail, and takes the next.
+// Cuts the trail, and leaves it the memory of the last piece, whose entries are dropped.
 fn cut_trail<N: PoolName, R: Wait>(
     rt: &R,
     alloc: Global,

@@ -1,7 +1,6 @@
-//! Times fix and unfix of client threads over one shared pool, where its argument is the path of a page file. The pool
-//! has its trail and its lists in memory, but only counts their entries where a second argument is `silent`. With no
-//! argument four threads use a pool of each kind for a moment, over pages in memory. docs/BENCHMARKS.md has the
-//! numbers.
+//! Times fix and unfix of client threads over one shared pool. The first argument is the path of a page file. The pool
+//! keeps its trail and its lists, or only counts their entries where a second argument is `silent`. Without arguments
+//! four threads use a pool of each kind for a moment, over pages in memory. docs/BENCHMARKS.md has the results.
 #![tactic(auto)]
 
 ghost use Rattle.std.specs.Prelude.{◌≡◌, ◌<◌, ◌≤◌, []};
@@ -27,7 +26,7 @@ const FRAMES: usize = 4096;
 
 const FILE_PAGES: u64 = 16384;
 
-// How many calls a second these are, or 0 where they took no time.
+// Returns the calls a second, or 0 where they took no time.
 fn calls_a_second(nanos: u128, calls: u64) -> u128 {
     if nanos == 0 {
         return 0;
@@ -35,7 +34,7 @@ fn calls_a_second(nanos: u128, calls: u64) -> u128 {
     calls as u128 * 1000000000 / nanos
 }
 
-// Times threads over pages of a file.
+// Times threads over the pages of a file.
 fn time_work<K: Kind, R: Runtime<A = Global> + Clock + Files<File = File> + Threads + Wait + Sync>(
     rt: &R,
     path: &str,
@@ -75,7 +74,7 @@ fn time_threads<
     time_work::<K, R>(rt, path, evictions)
 }
 
-// Says how many fixes of four threads were not refused.
+// Prints how many fixes of four threads were not refused.
 fn try_threads<K: Kind, R: Runtime<A = Global> + Clock + Threads + Wait + Sync>(
     rt: &R,
 ) -> Result<(), anyhow::Error> {

@@ -1,4 +1,4 @@
-//! Pools, their clients and their ports.
+//! Makes pools with their clients and ports, and times threads over them.
 ghost use Rattle.std.specs.Prelude.{◌≡◌, []};
 ghost use Rattle.bench_threads.specs.declared.TheConstants.{FILE_PAGES};
 ghost use Rattle.bench_threads.specs.declared.pools.TheConstants.{SIZE};
@@ -22,7 +22,6 @@ use std::time::Instant;
 
 const SIZE: usize = 1024;
 
-/// What a pool is made of.
 struct Made<K: Kind> {
     core: PoolCore<K>,
     parts: Parts,
@@ -31,7 +30,7 @@ struct Made<K: Kind> {
     ghost size_is: { core.parameters.size ≡ SIZE },
 }
 
-// A core of K 2 and no periods for so many clients.
+// Makes a core with K 2 and no periods, and its parts, for so many clients.
 fn make<K: Kind>(alloc: Global, clients: u8) -> Result<Made<K>, Refusal> {
     let geometry = Geometry::new(FILE_PAGES, SIZE)?;
     let settings = Settings::new(2, 0, MAX_PERIOD)?;
@@ -40,16 +39,15 @@ fn make<K: Kind>(alloc: Global, clients: u8) -> Result<Made<K>, Refusal> {
     Ok(Made { core, parts })
 }
 
-/// What threads came to.
+/// The time and the count of a run of threads.
 #[derive(Drop)]
 pub(crate) struct Outcome {
-    /// The time from the first one's start to the last one's end.
+    /// The time from the start of the first thread to the end of the last.
     pub(crate) nanos: u128,
-    /// The fixes that were not refused.
     pub(crate) done: u64,
 }
 
-// A job of this session, whose port has pages of the pool's size.
+// Makes the job of this session, whose port has pages of the pool's size.
 fn job_of<N: PoolName, P: Port, K: Kind>(
     alloc: Global,
     session: Session<N, K>,
@@ -71,7 +69,7 @@ fn job_of<N: PoolName, P: Port, K: Kind>(
     }
 }
 
-// A job for each session. `BadLength` where there are fewer, since a port lacks or has pages of another size.
+// Makes a job for each session. It is `BadLength` where a port is missing, or has pages of another size.
 fn make_jobs<N: PoolName, P: Port, K: Kind>(
     alloc: Global,
     sessions: Vec<Session<N, K>>,
@@ -97,7 +95,7 @@ fn make_jobs<N: PoolName, P: Port, K: Kind>(
     }
 }
 
-// Times the jobs, from when the frames are full.
+// Fills the frames, and then times the jobs.
 fn time_jobs<
     N: PoolName + Send + Sync,
     P: Port + Send,
@@ -122,7 +120,7 @@ fn time_jobs<
     })
 }
 
-// Times threads over this pool, each with one of its sessions and of the ports.
+// Times threads over this pool, each with a session and a port.
 fn time_sessions<
     N: PoolName + Send + Sync,
     P: Port + Send,
@@ -171,7 +169,7 @@ fn time_work<
     time_sessions(rt, &pool, &takings, sessions, ports, work)
 }
 
-/// Times threads over a pool of their own, each with one of the ports.
+/// Times threads over a new pool, each with one of the ports.
 pub(crate) fn run_work<
     K: Kind,
     P: Port + Send,
@@ -181,7 +179,7 @@ pub(crate) fn run_work<
     time_work::<Brand, P, K, R>(rt, made, ports, work)
 }
 
-/// Ports of one device in memory.
+/// Makes ports to one device in memory.
 pub(crate) fn memory_ports(alloc: Global, count: u8) -> Result<Vec<MemPort>, Refusal> {
     let geometry = Geometry::new(FILE_PAGES, SIZE)?;
     let device = MemDevice::new(alloc, geometry)?;
@@ -195,7 +193,7 @@ pub(crate) fn memory_ports(alloc: Global, count: u8) -> Result<Vec<MemPort>, Ref
     Ok(ports)
 }
 
-/// Ports of one page file.
+/// Opens a page file once for each port.
 pub(crate) fn file_ports<R: Runtime<A = Global> + Files<File = File>>(
     rt: &R,
     path: &str,

@@ -9,7 +9,6 @@ use crate::scale::{LEFT, Scale, WIDTH};
 use std::io;
 use std::io::Write;
 
-/// Writes the grid line of a hit ratio of so many tenths, and the ratio beside it.
 #[tactic(auto, unfolding(crate::specs::Axis::tenth_text))]
 fn write_tenth<W: Write>(down: u128, tenths: u64, writer: &mut W) -> io::Result<()>
     ensures { OnOk result (Appends (W.contents writer.old) (W.contents writer.new)
@@ -23,7 +22,7 @@ fn write_tenth<W: Write>(down: u128, tenths: u64, writer: &mut W) -> io::Result<
     )
 }
 
-/// Writes a grid line and the ratio for each tenth of a hit ratio, from 0 to 1.
+/// Writes a grid line and its label for each tenth of a hit ratio, from 0 to 1.
 pub(crate) fn write_tenths<W: Write>(writer: &mut W) -> io::Result<()>
     ensures { OnOk result (Appends (W.contents writer.old) (W.contents writer.new)
         (tenths_text 11)) }
@@ -34,7 +33,7 @@ pub(crate) fn write_tenths<W: Write>(writer: &mut W) -> io::Result<()>
     Ok(())
 }
 
-/// How far right the axis is after so many doublings.
+/// Returns the place of the axis after this many doublings, in tenths of a pixel from the left.
 fn tick_at(scale: &Scale, step: u32) -> u128
     requires { IsScale scale.now }
     ensures { result ≡ tick_at scale.now step }
@@ -42,7 +41,7 @@ fn tick_at(scale: &Scale, step: u32) -> u128
     LEFT + WIDTH * u128::from(step) / u128::from(scale.doublings)
 }
 
-/// How many frames the axis has there.
+/// Returns the number of frames at that place.
 fn frames_at(scale: &Scale, step: u32) -> u128
     requires sound { IsScale scale.now }
     requires on { step ≤ scale.now.doublings }
@@ -51,7 +50,7 @@ fn frames_at(scale: &Scale, step: u32) -> u128
     2u128.pow(scale.low + step)
 }
 
-/// Writes a grid line, and the number of frames under it.
+/// Writes a grid line, with the number of frames under it.
 #[tactic(auto, unfolding(crate::specs::Axis::tick_text))]
 fn write_tick<W: Write>(right: u128, frames: u128, writer: &mut W) -> io::Result<()>
     ensures { OnOk result (Appends (W.contents writer.old) (W.contents writer.new)
@@ -63,7 +62,7 @@ fn write_tick<W: Write>(right: u128, frames: u128, writer: &mut W) -> io::Result
     )
 }
 
-/// Writes a grid line and a number for each power of two on the axis.
+/// Writes a grid line and a label for each power of two on the axis.
 pub(crate) fn write_ticks<W: Write>(scale: &Scale, writer: &mut W) -> io::Result<()>
     requires { IsScale scale.now }
     ensures { OnOk result (Appends (W.contents writer.old) (W.contents writer.new)

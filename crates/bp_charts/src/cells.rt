@@ -1,20 +1,18 @@
-//! The lines of a table of cells.
+//! The lines of a chart, made from the cells of a table.
 ghost use Rattle.std.specs.Prelude.{◌≡◌, ◌++◌, IfOk, OnOk};
 ghost use Rattle.bp_charts.specs.Cells.{AreLines, IsLine, is_own, own_point};
 
 use crate::curves::{Curve, Point, Which};
 use std::alloc::{AllocError, Global};
 
-/// A cell of a table: what the references came to over one pool, and which line shows it.
+/// A cell of a table: the counts of one pool, and the line of the chart that shows it.
 #[derive(Clone, Copy)]
 pub struct Cell {
-    /// The line that shows it.
     pub which: Which,
-    /// What they came to.
     pub point: Point,
 }
 
-/// Whether this line shows the cell.
+/// Returns true if this line shows the cell.
 fn is_own(which: Which, cell: &Cell) -> bool
     ensures { result ≡ is_own which cell.now.which }
 {
@@ -30,7 +28,7 @@ fn is_own(which: Which, cell: &Cell) -> bool
     }
 }
 
-/// Adds the point of the cell, if this line shows it.
+/// Adds the cell's point if this line shows the cell.
 fn add_point(points: &mut Vec<Point>, which: Which, cell: &Cell) -> Result<(), AllocError>
     ensures { OnOk result (points.new.items ≡ points.old.items ++ own_point which cell.now) }
 {
@@ -40,7 +38,7 @@ fn add_point(points: &mut Vec<Point>, which: Which, cell: &Cell) -> Result<(), A
     Ok(())
 }
 
-/// The line that shows its cells of these.
+/// Returns the line with the points of those cells that it shows.
 fn line_of(alloc: Global, which: Which, cells: &[Cell]) -> Result<Curve, AllocError>
     ensures { IfOk result (λ line. IsLine cells.now which line) }
 {
@@ -51,8 +49,8 @@ fn line_of(alloc: Global, which: Which, cells: &[Cell]) -> Result<Curve, AllocEr
     Ok(Curve { which, points })
 }
 
-/// The lines of a table: one for each of the names, in order, with the points of the cells that it shows, in order.
-/// `AllocError` where there is no memory.
+/// Returns a line for each of the names, in order, with the points of the cells that it shows, in order. It is
+/// `AllocError` where memory is refused.
 pub fn lines_of(alloc: Global, names: &[Which], cells: &[Cell]) -> Result<Vec<Curve>, AllocError>
     ensures { IfOk result (λ lines. AreLines cells.now names.now lines.items) }
 {

@@ -1,4 +1,4 @@
-//! The picture.
+//! `write_chart`, which draws hit ratios over frames as SVG.
 ghost use Rattle.std.specs.Prelude.{◌≡◌, OnOk};
 ghost use Rattle.std.specs.Io.KnownBytes.{Appends};
 ghost use Rattle.bp_charts.specs.Scale.{IsScale};
@@ -13,14 +13,13 @@ use crate::scale::{Scale, scale_of};
 use std::io;
 use std::io::Write;
 
-/// Writes a text.
 fn write_text<W: Write>(text: &str, writer: &mut W) -> io::Result<()>
     ensures { OnOk result (Appends (W.contents writer.old) (W.contents writer.new) text.now) }
 {
     writer.write_all(text.as_bytes())
 }
 
-/// Writes the line with this number.
+/// Writes one line with its marks and its row of the legend.
 fn write_line<W: Write>(
     scale: &Scale,
     number: usize,
@@ -40,7 +39,6 @@ fn write_line<W: Write>(
     write_legend(line.which, number, writer)
 }
 
-/// Writes the lines, in order.
 fn write_lines<W: Write>(scale: &Scale, lines: &[Curve], writer: &mut W) -> io::Result<()>
     requires { IsScale scale.now }
     ensures { OnOk result (Appends (W.contents writer.old) (W.contents writer.new)
@@ -54,16 +52,14 @@ fn write_lines<W: Write>(scale: &Scale, lines: &[Curve], writer: &mut W) -> io::
     Ok(())
 }
 
-/// Writes a picture of hit ratios over frames: SVG, 940 by 520 pixels. It has a grid, a line and marks for each of the
-/// lines, in a colour and a dash of its own, and a legend. The axis of frames goes from a power of two to a power of
-/// two round all points, and each doubling has the same width; hit ratios go from 0 to 1. With no lines it has the axes
-/// alone.
+/// Writes a picture of hit ratios over frames: SVG, 940 by 520 pixels. It has a grid, a legend, and each line with
+/// marks, a colour and a dash of its own. The axis of frames begins and ends at powers of two around all points, and
+/// each doubling has the same width; hit ratios go from 0 to 1. With no lines it has only the axes.
 ///
-/// There is room for 18 lines in the legend, and no limit on points. The hits of a point should be no more than its
-/// fixes: more are drawn as a ratio of 1. A point with no fixes is drawn at a ratio of 0, and one with no frames as one
-/// with one frame.
+/// The legend has room for 18 lines; points have no limit. A point with more hits than fixes is drawn at a ratio of 1,
+/// one without fixes at 0, and one without frames as one with one frame.
 ///
-/// A fault of the writer is passed on; how much of the picture the writer then holds is not told.
+/// A fault of the writer is passed on; the writer may then hold any part of the picture.
 pub fn write_chart<W: Write>(lines: &[Curve], writer: &mut W) -> io::Result<()>
     ensures { OnOk result (Appends (W.contents writer.old) (W.contents writer.new)
         (chart_text lines.now)) }

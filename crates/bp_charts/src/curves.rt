@@ -1,30 +1,28 @@
-//! What a chart shows.
+//! `Curve`, a line of a chart, and its points.
 
-/// Whose hit ratios a line shows.
+/// The policy whose hit ratios a line shows.
 #[derive(Clone, Copy)]
 pub enum Which {
-    /// LRU-K's for this K; 1 is LRU.
+    /// LRU-K with this K; 1 is LRU.
     K(usize),
-    /// Belady's optimum, which knows the references to come.
+    /// Belady's optimum, which knows the future references.
     Optimum,
 }
 
-/// What the references came to over one pool.
+/// The hits and fixes of the references over one pool.
 #[derive(Clone, Copy)]
 pub struct Point {
-    /// How many frames the pool has.
     pub frames: usize,
-    /// How many fixes found their page in a frame.
+    /// The fixes that found their page in a frame.
     pub hits: u64,
-    /// How many fixes there were.
     pub fixes: u64,
 }
 
-/// A curve of a chart, drawn from point to point in their order.
+/// A line of a chart, drawn from point to point in their order.
 #[derive(Drop)]
 pub struct Curve {
-    /// What the legend calls it.
+    /// The policy, which the legend names.
     pub which: Which,
-    /// Its points, by growing frames.
+    /// The points, by increasing number of frames.
     pub points: Vec<Point>,
 }

@@ -1,10 +1,10 @@
-//! When each page is due.
+//! For each reference, the time of the next reference of the same page.
 ghost use Rattle.std.specs.Prelude.{◌≡◌, ◌+◌, ◌<◌, ◌≤◌, ℕ, All, IfOk, length, slice_index, vec_len};
 ghost use Rattle.bp_charts.specs.Due.{AreDue, BeginsDue};
 
 use std::alloc::{AllocError, Global};
 
-/// One more than the greatest page number.
+/// Returns one more than the greatest page number, or 0 where there are no references.
 pub(crate) fn page_bound(references: &[u32]) -> usize
     ensures pages { All (λ page. page < result) references.now }
     ensures few { result ≤ 4294967296 }
@@ -16,7 +16,7 @@ pub(crate) fn page_bound(references: &[u32]) -> usize
     bound
 }
 
-/// When pages are due that do not come again, where so many references came.
+/// Returns for each page a time after all of the `count` references, no two the same: `count` plus the page's number.
 fn after_all(alloc: Global, pages: usize, count: usize) -> Result<Vec<u64>, AllocError>
     requires pages { pages ≤ 4294967296 }
     requires count { count ≤ 2305843009213693952 }
@@ -29,8 +29,8 @@ fn after_all(alloc: Global, pages: usize, count: usize) -> Result<Vec<u64>, Allo
     Ok(latest)
 }
 
-/// For each reference, when its page is due next: the index of the next reference of the same page, or the number of
-/// references and the page's number where there is none.
+/// Returns for each reference when its page is referenced next: the index of that reference, or, where there is none,
+/// the number of references plus the page's number.
 pub(crate) fn next_due(
     alloc: Global,
     references: &[u32],

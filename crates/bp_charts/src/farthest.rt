@@ -1,4 +1,4 @@
-//! The policy that lets the page go that is due last.
+//! `count_optimum`, which counts the replies of Belady's optimal policy.
 ghost use Rattle.std.specs.Prelude.{◌≡◌, ◌≢◌, ◌+◌, ◌<◌, ◌≤◌, ◌^◌, false, IfOk, OnOk, length};
 ghost use Rattle.bp_charts.specs.Optimum.{IsOptimum, nobody_counted, with_one};
 ghost use Rattle.bp_charts.specs.Keys.{DropsLast, Steps, keys_of};
@@ -7,19 +7,17 @@ use crate::due::{next_due, page_bound};
 use std::alloc::{AllocError, Global};
 use std::collections::BTreeSet;
 
-/// How many replies of each kind the optimum has.
+/// The counts of the optimum.
 #[derive(Clone, Copy, Drop)]
 pub struct Optimum {
-    /// References whose page was in a frame.
+    /// References to a page in a frame.
     pub hits: u64,
-    /// Pages that were brought in.
+    /// Pages that were read into a frame.
     pub faults: u64,
-    /// Pages that left a frame.
     pub evictions: u64,
 }
 
 impl Optimum {
-    /// Of no references.
     fn none() -> Optimum
         ensures { result ≡ nobody_counted }
     {
@@ -31,7 +29,7 @@ impl Optimum {
     }
 }
 
-/// A page comes in, which is due at this time.
+/// Brings in a page whose next reference is at this time.
 fn add_key(held: &mut BTreeSet<u64>, key: u64) -> Result<(), AllocError>
     requires fresh { (keys_of held.old).has key ≡ false }
     ensures { OnOk result (keys_of held.new ≡ with_one key (keys_of held.old)) }
@@ -42,7 +40,7 @@ fn add_key(held: &mut BTreeSet<u64>, key: u64) -> Result<(), AllocError>
     }
 }
 
-/// The page goes that is due last.
+/// Evicts the page whose next reference is the last.
 fn drop_last(held: &mut BTreeSet<u64>)
     requires { 0 < (keys_of held.old).count }
     ensures { DropsLast (keys_of held.old) (keys_of held.new) }
@@ -52,8 +50,8 @@ fn drop_last(held: &mut BTreeSet<u64>)
     };
 }
 
-/// One reference, at the time `now`, to a page that is due next at `next`. A page in a frame is known by when it is
-/// due.
+/// Makes one reference at the time `now`, to a page whose next reference is at `next`. `held` has the next reference of
+/// each page in a frame.
 fn refer(
     held: &mut BTreeSet<u64>,
     frames: usize,
@@ -87,12 +85,12 @@ fn refer(
     Ok(())
 }
 
-/// Counts what a pool of so many frames does with the references where the page that leaves is the one that is due
-/// last: of all pages in frames, its next reference is the farthest. Each page is brought in where it is referred to.
-/// No other choice of the pages that leave gives fewer faults, as Belady found; that is not proved here.
+/// Counts the replies of a pool of so many frames which evicts the page whose next reference is the farthest in the
+/// future. Each page is brought in where it is referenced. No other choice of victims gives fewer faults, as Belady
+/// found; that is not proved here.
 ///
 /// It takes eight bytes of memory for each reference, eight for each page up to the greatest, and a tree of the pages
-/// in frames. `AllocError` where there is no memory.
+/// in frames. It is `AllocError` where memory is refused.
 pub fn count_optimum(
     alloc: Global,
     references: &[u32],

@@ -1,6 +1,6 @@
-//! What is the same in each picture. Lengths are in tenths of a pixel.
+//! The parts of a picture that never change. Lengths are in tenths of a pixel.
 
-/// The picture's head: its looks, and what both axes show.
+/// The head of the picture: its styles, and the fixed parts of both axes.
 pub(crate) const HEAD: &str = "\
 <svg xmlns='http://www.w3.org/2000/svg' viewBox='0 0 9400 5200' width='940' height='520' role='img'>
 <title>Hit ratio over frames</title>

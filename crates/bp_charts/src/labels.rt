@@ -1,4 +1,4 @@
-//! What tells the lines of a chart apart: names, colours and dashes.
+//! The names, colours and dashes that distinguish the lines of a chart.
 ghost use Rattle.std.specs.Prelude.{◌≡◌, OnOk};
 ghost use Rattle.std.specs.Io.KnownBytes.{Appends};
 ghost use Rattle.bp_charts.specs.Labels.{legend_text, name_of_k, name_text, row_of, sample_text, style_text};
@@ -7,7 +7,6 @@ use crate::curves::Which;
 use std::io;
 use std::io::Write;
 
-/// Writes the name of LRU-K.
 fn write_k<W: Write>(k: usize, writer: &mut W) -> io::Result<()>
     ensures { OnOk result (Appends (W.contents writer.old) (W.contents writer.new) (name_of_k k)) }
 {
@@ -18,7 +17,7 @@ fn write_k<W: Write>(k: usize, writer: &mut W) -> io::Result<()>
     }
 }
 
-/// Writes what the legend calls a line.
+/// Writes the name of a line in the legend.
 fn write_name<W: Write>(which: Which, writer: &mut W) -> io::Result<()>
     ensures { OnOk result (Appends (W.contents writer.old) (W.contents writer.new)
         (name_text which)) }
@@ -29,7 +28,7 @@ fn write_name<W: Write>(which: Which, writer: &mut W) -> io::Result<()>
     }
 }
 
-/// Begins the line with this number: its colour and dash. The optimum's line is black.
+/// Opens the group of the line with this number: its colour and dash. The optimum's line is black.
 pub(crate) fn write_style<W: Write>(which: Which, number: usize, writer: &mut W) -> io::Result<()>
     ensures { OnOk result (Appends (W.contents writer.old) (W.contents writer.new)
         (style_text which number)) }
@@ -44,14 +43,14 @@ pub(crate) fn write_style<W: Write>(which: Which, number: usize, writer: &mut W)
     }
 }
 
-/// How far down the legend has the line with this number.
+/// Returns the place of this line's row in the legend, in tenths of a pixel from the top.
 fn row_of(number: usize) -> u128
     ensures { result ≡ row_of number }
 {
     500 + 210 * number as u128
 }
 
-/// Writes a piece of a line into a row of the legend, and begins its name.
+/// Writes a sample of a line into a row of the legend, and opens its name.
 #[tactic(auto, unfolding(crate::specs::Labels::sample_text))]
 fn write_sample<W: Write>(row: u128, writer: &mut W) -> io::Result<()>
     ensures { OnOk result (Appends (W.contents writer.old) (W.contents writer.new)
@@ -63,7 +62,7 @@ fn write_sample<W: Write>(row: u128, writer: &mut W) -> io::Result<()>
     )
 }
 
-/// Writes the legend's row of the line with this number, and ends the line.
+/// Writes this line's row of the legend, and closes the group of the line.
 pub(crate) fn write_legend<W: Write>(which: Which, number: usize, writer: &mut W) -> io::Result<()>
     ensures { OnOk result (Appends (W.contents writer.old) (W.contents writer.new)
         (legend_text which number)) }

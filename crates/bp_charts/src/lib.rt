@@ -1,4 +1,4 @@
-//! What references come to over pools: the optimum of Belady, the table of a sweep, and its picture.
+//! The replies of Belady's optimum, the table of a sweep, and its picture as SVG.
 #![tactic(auto)]
 
 mod axis;

@@ -1,4 +1,4 @@
-//! Where points stand.
+//! The places of points in the picture, and their marks.
 ghost use Rattle.std.specs.Prelude.{◌≡◌, flat_map, OnOk};
 ghost use Rattle.std.specs.Io.KnownBytes.{Appends};
 ghost use Rattle.bp_charts.specs.Scale.{IsScale};
@@ -9,10 +9,10 @@ use crate::scale::{LEFT, Scale, WIDTH, halvings};
 use std::io;
 use std::io::Write;
 
-/// Where a hit ratio of 0 stands, in tenths of a pixel from the picture's top.
+/// The place of a hit ratio of 0, in tenths of a pixel from the picture's top.
 const BOTTOM: u128 = 4400;
 
-/// How much higher one of 1 stands.
+/// A hit ratio of 1 is so much higher, in tenths of a pixel.
 const HEIGHT: u128 = 4000;
 
 /// A place, in tenths of a pixel from the picture's left and from its top.
@@ -22,7 +22,7 @@ pub(crate) struct Place {
     down: u128,
 }
 
-/// How far right so many frames stand.
+/// Returns the place of a number of frames, in tenths of a pixel from the left. Between powers of two it is linear.
 fn right_of(scale: &Scale, frames: usize) -> u128
     requires { IsScale scale.now }
     ensures { result ≡ right_of scale.now frames }
@@ -34,7 +34,7 @@ fn right_of(scale: &Scale, frames: usize) -> u128
     LEFT + WIDTH * (whole + rest) / (u128::from(scale.doublings) * power)
 }
 
-/// How far down the ratio of so many hits to so many fixes stands.
+/// Returns the place of a hit ratio, in tenths of a pixel from the top.
 pub(crate) fn down_of(hits: u64, fixes: u64) -> u128
     ensures { result ≡ down_of hits fixes }
 {
@@ -42,7 +42,6 @@ pub(crate) fn down_of(hits: u64, fixes: u64) -> u128
     BOTTOM - HEIGHT * found / u128::from(fixes.max(1))
 }
 
-/// Where a point stands.
 fn place_of(scale: &Scale, point: &Point) -> Place
     requires { IsScale scale.now }
     ensures { result ≡ place_of scale.now point.now }
@@ -53,7 +52,7 @@ fn place_of(scale: &Scale, point: &Point) -> Place
     }
 }
 
-/// Writes a place that a stroke goes through.
+/// Writes a place of the path of a stroke.
 #[tactic(auto, unfolding(crate::specs::Places::place_text))]
 fn write_place<W: Write>(place: Place, writer: &mut W) -> io::Result<()>
     ensures { OnOk result (Appends (W.contents writer.old) (W.contents writer.new)
@@ -64,7 +63,6 @@ fn write_place<W: Write>(place: Place, writer: &mut W) -> io::Result<()>
     write!(writer, "{right},{down} ")
 }
 
-/// Writes the places of the points, in their order.
 pub(crate) fn write_places<W: Write>(
     scale: &Scale,
     points: &[Point],
@@ -80,7 +78,7 @@ pub(crate) fn write_places<W: Write>(
     Ok(())
 }
 
-/// Writes the mark of a point at its place, with the numbers that are shown where it is pointed at.
+/// Writes the mark of a point at its place. Its numbers are shown on hover.
 #[tactic(auto, unfolding(crate::specs::Places::mark_text))]
 fn write_mark<W: Write>(place: Place, point: &Point, writer: &mut W) -> io::Result<()>
     ensures { OnOk result (Appends (W.contents writer.old) (W.contents writer.new)
@@ -97,7 +95,6 @@ fn write_mark<W: Write>(place: Place, point: &Point, writer: &mut W) -> io::Resu
     )
 }
 
-/// Writes the marks of the points, in their order.
 pub(crate) fn write_marks<W: Write>(
     scale: &Scale,
     points: &[Point],

@@ -1,18 +1,17 @@
-//! A part of a whole, with four decimals.
+//! `Ratio`, a part of a whole that prints with four decimals.
 ghost use Rattle.std.specs.Prelude.{◌≡◌};
 ghost use Rattle.bp_charts.specs.Ratio.{ten_thousandths};
 
 use std::fmt;
 
-/// A part of a whole, in ten-thousandths, rounded down: `1.0000` is shown of a part that is the whole, and of no
-/// smaller one. Of a whole of 0 any part is `0.0000`.
+/// A part of a whole, in ten-thousandths, rounded down: only a part that is the whole, or is more, is shown as `1.0000`
+/// or above. A part of a whole of 0 is `0.0000`.
 #[derive(Clone, Copy, Drop)]
 pub struct Ratio {
     ten_thousandths: u128,
 }
 
 impl Ratio {
-    /// The part of the whole that it is.
     pub fn of(part: u64, whole: u64) -> Ratio
         ensures { result.ten_thousandths ≡ ten_thousandths part whole }
     {

@@ -7,26 +7,24 @@ use crate::curves::{Curve, Point};
 /// Where the axis begins, in tenths of a pixel from the picture's left.
 pub(crate) const LEFT: u128 = 800;
 
-/// How wide it is.
+/// The width of the axis, in tenths of a pixel.
 pub(crate) const WIDTH: u128 = 6400;
 
-/// From which number of frames to which.
+/// The least and the greatest number of frames.
 #[derive(Clone, Copy)]
 pub(crate) struct Span {
     least: usize,
     greatest: usize,
 }
 
-/// An axis of frames.
+/// An axis of frames, from `2^low` to `2^(low + doublings)`.
 #[derive(Clone, Copy)]
 pub(crate) struct Scale {
-    /// It begins at two to this.
     pub(crate) low: u32,
-    /// How many doublings it has.
     pub(crate) doublings: u32,
 }
 
-/// How often a number can be halved before it is below two.
+/// Returns how often a number can be halved before it is below two.
 pub(crate) fn halvings(frames: usize) -> u32
     ensures count { result ≡ halvings frames }
     ensures few { result ≤ 63 }
@@ -34,7 +32,7 @@ pub(crate) fn halvings(frames: usize) -> u32
     63u32.saturating_sub(frames.leading_zeros())
 }
 
-/// The span, with these points in it.
+/// Widens the span to contain these points.
 fn widen(span: Span, points: &[Point]) -> Span
     ensures { result ≡ fold and_point span points.now }
 {
@@ -48,7 +46,7 @@ fn widen(span: Span, points: &[Point]) -> Span
     wide
 }
 
-/// From which number of frames to which the points of all lines go.
+/// Returns the span of the points of all lines.
 fn span_of(lines: &[Curve]) -> Span
     ensures { result ≡ span_of lines.now }
 {
@@ -62,7 +60,7 @@ fn span_of(lines: &[Curve]) -> Span
     span
 }
 
-/// The axis over a span: at least one doubling.
+/// Returns the axis over a span: at least one doubling.
 fn scale_over(span: Span) -> Scale
     ensures scale { result ≡ scale_over span }
     ensures sound { IsScale result }
@@ -75,7 +73,7 @@ fn scale_over(span: Span) -> Scale
     }
 }
 
-/// The axis over the points of all lines.
+/// Returns the axis over the points of all lines.
 pub(crate) fn scale_of(lines: &[Curve]) -> Scale
     ensures scale { result ≡ scale_over (span_of lines.now) }
     ensures sound { IsScale result }

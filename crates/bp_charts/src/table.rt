@@ -1,4 +1,4 @@
-//! The lines of the table.
+//! `write_table`, which prints the lines of a sweep as CSV.
 ghost use Rattle.std.specs.Prelude.{◌≡◌, OnOk, None, Some};
 ghost use Rattle.std.specs.Io.KnownBytes.{Appends};
 ghost use Rattle.bp_charts.specs.Table.{counts_text, line_text, lines_text, table_text};
@@ -7,20 +7,17 @@ use crate::ratio::Ratio;
 use std::io;
 use std::io::Write;
 
-/// A line of the table: a pool, and how many replies of each kind it gave.
+/// A line of the table: a pool, and the counts of its replies.
 #[derive(Clone, Copy, Drop)]
 pub struct Line {
-    /// How many frames the pool has.
     pub frames: usize,
-    /// The K of LRU-K, or none where the line is of the optimum.
+    /// The K of LRU-K, or None where the line is of the optimum.
     pub k: Option<usize>,
-    /// Fixes that were asked for.
     pub fixes: u64,
     /// Fixes that found their page in a frame.
     pub hits: u64,
-    /// Pages that were brought into a frame.
+    /// Pages that were read into a frame.
     pub faults: u64,
-    /// Pages that left a frame.
     pub evictions: u64,
     /// Write-outs that ended well. The optimum writes nothing out.
     pub writes: u64,
@@ -30,7 +27,7 @@ pub struct Line {
     pub refused: u64,
 }
 
-/// Writes the columns of counts that both kinds of line have.
+/// Writes the columns that both kinds of line have.
 fn write_counts<W: Write>(line: &Line, out: &mut W) -> io::Result<()>
     ensures { OnOk result (Appends (W.contents out.old) (W.contents out.new)
         (counts_text line.now)) }
@@ -46,7 +43,6 @@ fn write_counts<W: Write>(line: &Line, out: &mut W) -> io::Result<()>
     write!(out, ",{fixes},{hits},{faults},{ratio},{evictions}")
 }
 
-/// Writes the line of a pool with this K.
 fn write_pool<W: Write>(line: &Line, k: usize, out: &mut W) -> io::Result<()>
     requires { line.now.k ≡ Some k }
     ensures { OnOk result (Appends (W.contents out.old) (W.contents out.new) (line_text line.now)) }
@@ -63,7 +59,6 @@ fn write_pool<W: Write>(line: &Line, k: usize, out: &mut W) -> io::Result<()>
     writeln!(out, ",{writes},{failed},{refused}")
 }
 
-/// Writes the line of the optimum.
 fn write_optimum<W: Write>(line: &Line, out: &mut W) -> io::Result<()>
     requires { line.now.k ≡ None }
     ensures { OnOk result (Appends (W.contents out.old) (W.contents out.new) (line_text line.now)) }
@@ -74,7 +69,6 @@ fn write_optimum<W: Write>(line: &Line, out: &mut W) -> io::Result<()>
     writeln!(out, ",,,")
 }
 
-/// Writes a line.
 fn write_line<W: Write>(line: &Line, out: &mut W) -> io::Result<()>
     ensures { OnOk result (Appends (W.contents out.old) (W.contents out.new) (line_text line.now)) }
 {
@@ -84,7 +78,6 @@ fn write_line<W: Write>(line: &Line, out: &mut W) -> io::Result<()>
     }
 }
 
-/// Writes the lines, one after the other.
 fn write_lines<W: Write>(lines: &[Line], out: &mut W) -> io::Result<()>
     ensures { OnOk result (Appends (W.contents out.old) (W.contents out.new)
         (lines_text lines.now)) }
@@ -95,13 +88,12 @@ fn write_lines<W: Write>(lines: &[Line], out: &mut W) -> io::Result<()>
     Ok(())
 }
 
-/// Writes the table: a header, and then the lines in their order, each number in decimal digits, with a comma between
-/// columns and a line feed at the end. The columns are
+/// Writes the table as CSV: a header, and then the lines in their order, with `\n` at the end of each. The columns are
 /// `frames,k,fixes,hits,faults,hit_ratio,evictions,writes,failed,refused`.
 ///
-/// `hit_ratio` is of hits over fixes, with four decimals, rounded down, and `0.0000` where there are no fixes. In a
-/// line of the optimum `k` is `opt`, and the last three columns are empty. A fault of the writer is passed on; how much
-/// of the table it then holds is not told.
+/// `hit_ratio` is hits over fixes, rounded down to four decimals, and `0.0000` where there are no fixes. In a line of
+/// the optimum `k` is `opt`, and the last three columns are empty. A fault of the writer is passed on; the writer may
+/// then hold any part of the table.
 pub fn write_table<W: Write>(lines: &[Line], out: &mut W) -> io::Result<()>
     ensures { OnOk result (Appends (W.contents out.old) (W.contents out.new)
         (table_text lines.now)) }

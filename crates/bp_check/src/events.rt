@@ -1,4 +1,5 @@
-//! What one entry does. Each function has the name of its definition.
+//! Functions of one entry: the pass or ticket that it gives or ends, the page that it loads, evicts or writes to. Each
+//! function has the name of its definition.
 ghost use Rattle.std.specs.Prelude.{◌≡◌, ℕ, ◌==◌};
 ghost use Rattle.bp_trail.specs.Event as event;
 ghost use Rattle.bp_trail.specs.Passes as passes;
@@ -145,7 +146,7 @@ pub(crate) fn well_ended(call: &Call) -> Option<u64>
     }
 }
 
-/// Whether a write-out with this ticket begins.
+/// Returns true if a write-out with this ticket begins.
 pub(crate) fn begins(ticket: u64, reply: &Reply) -> bool
     ensures { result ≡ event.begins ticket reply.now }
 {
@@ -155,7 +156,7 @@ pub(crate) fn begins(ticket: u64, reply: &Reply) -> bool
     }
 }
 
-/// Whether a read of the page ends well.
+/// Returns true if a read of the page ends well.
 pub(crate) fn loads(page: PageNo, e: &Entry) -> bool
     ensures { result ≡ event.loads page e.now }
 {
@@ -182,7 +183,7 @@ pub(crate) fn evicted(reply: &Reply) -> Option<PageNo>
     }
 }
 
-/// Whether the page is written to.
+/// Returns true if the page is written to.
 pub(crate) fn writes(page: PageNo, e: &Entry) -> bool
     ensures { result ≡ event.writes page e.now }
 {

@@ -1,4 +1,4 @@
-//! The passes or the tickets of a kind that are out.
+//! `Grants`: the passes, or the tickets of one kind, that are out.
 ghost use Rattle.std.specs.Prelude.{◌≡◌, [], length, OnOk};
 ghost use Rattle.bp_trail.specs.Event as event;
 ghost use Rattle.bp_trail.specs.Event.{grant};
@@ -12,7 +12,7 @@ use bp_trail::Grant;
 use std::alloc::{AllocError, Global};
 use std::marker::Model;
 
-/// The grants of a kind that are out, the newest last.
+/// The grants of one kind that are out, the newest last.
 #[derive(Drop)]
 pub(crate) struct Grants {
     out: Vec<Grant>,
@@ -27,7 +27,7 @@ impl Model for Grants {
     ghost view = { λ g. reverse g.out.items };
 }
 
-/// Whether both are the same: by client, page and serial number.
+/// Returns true if both are the same: by client, page and serial number.
 fn same_grant(a: &Grant, b: &Grant) -> bool
     ensures { result ≡ event.same_grant a.now b.now }
 {
@@ -49,7 +49,6 @@ impl Grants {
         self.out.len()
     }
 
-    /// Whether this grant is out.
     pub(crate) fn has(&self, client: u8, page: PageNo, serial: u64) -> bool
         ensures { result ≡ is_out (grant client page serial) self.now }
     {
@@ -66,7 +65,7 @@ impl Grants {
         false
     }
 
-    /// Whether some grant of the page is out.
+    /// Returns true if some grant of the page is out.
     pub(crate) fn has_of(&self, page: PageNo) -> bool
         ensures { result ≡ some (is_of page) self.now }
     {
@@ -78,7 +77,7 @@ impl Grants {
         false
     }
 
-    /// How many grants of the page are out.
+    /// Returns the number of grants of the page that are out.
     pub(crate) fn count_of(&self, page: PageNo) -> usize
         ensures { result ≡ count (is_of page) self.now }
     {
@@ -91,7 +90,8 @@ impl Grants {
         count
     }
 
-    /// The grant with the number that ends goes, and then the one that is given comes.
+    /// Removes the grant with the number `ends`, and then adds the grant `gives`, each where it is there. It fails by
+    /// want of memory alone.
     pub(crate) fn pass_on(
         &mut self,
         ends: Option<u64>,

@@ -1,10 +1,10 @@
-//! An independent judge of trails: it tells of a list of entries whether each could be made after those before it and
-//! has a lawful reply, or which one is the first that is not so.
+//! An independent judge of trails: `first_unlawful` says whether each entry of a list could be made after those before
+//! it and has a lawful reply, or which is the first that does not.
 //!
-//! It follows the definitions of `bp_trail` in the order of time, and shares no code with the core. What folds (the
-//! clock, the durable mark, the counts, the passes, tickets and pages that are there, the spans of the bursts) is kept
-//! from entry to entry; what is asked of one page (its image, its page LSN, whether it is unsaved) is looked for in the
-//! entries.
+//! It follows the definitions of `bp_trail` in the order of time, and shares no code with the core. The clock, the
+//! durable mark, the counts, the passes, tickets and pages that are there, and the spans of the bursts are updated at
+//! each entry. What is asked of one page (its image, its page LSN, whether it is unsaved) is computed from the entries
+//! when it is asked.
 #![tactic(auto)]
 
 mod events;

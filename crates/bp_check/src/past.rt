@@ -1,4 +1,4 @@
-//! The entries so far, and what they say.
+//! `Past`: the entries so far, which are legal, and the state that they lead to.
 ghost use Rattle.std.specs.Prelude.{◌≡◌, [], IfOk};
 ghost use Rattle.bp_check.specs.Setups.{parameters_of};
 
@@ -17,22 +17,22 @@ use bp_trail::Entry;
 use std::alloc::{AllocError, Global};
 use std::marker::Model;
 
-/// The entries so far, which are legal, with what folds over them.
+/// The entries so far, which are legal, with the part of their state that is updated at each entry.
 #[derive(Drop)]
 pub(crate) struct Past<'a> {
     setup: Setup,
     entries: &'a [Entry],
     clock: u64,
     durable: Lsn,
-    /// How many passes were given, which is the next serial number.
+    /// The number of passes given, which is the next serial number.
     passes: u64,
     passes_out: Grants,
     reads_out: Grants,
     writes_out: Grants,
     residents: Residents,
-    /// By tickets of both kinds, whether the write-out with it ended well.
+    /// For each ticket of both kinds, true if the write-out with it ended well.
     ended: Vec<bool>,
-    /// By pages, the spans of the bursts of its references.
+    /// For each page, the spans of the bursts of its references.
     spans: Vec<Vec<Span>>,
 }
 
@@ -59,7 +59,7 @@ impl<'a> Past<'a> {
     ghost use Rattle.bp_trail.specs.Saved as saved;
     ghost use Rattle.bp_trail.specs.Images as images;
 
-    /// No entries.
+    /// Starts with no entries. It takes memory for an empty list of each page of the file.
     pub(crate) fn new(
         alloc: Global,
         setup: &Setup,
@@ -85,49 +85,49 @@ impl<'a> Past<'a> {
         })
     }
 
-    /// How many tickets of both kinds were given, which is the next serial number.
+    /// The number of tickets of both kinds given, which is the next serial number.
     fn tickets(&self) -> u64
         ensures { result ≡ passes.tickets self.now.past }
     {
         self.ended.len() as u64
     }
 
-    /// Whether a read of the page is under way.
+    /// Returns true if a read of the page is under way.
     fn loading(&self, page: PageNo) -> bool
         ensures { result ≡ places.loading self.now.past page }
     {
         self.reads_out.has_of(page)
     }
 
-    /// Whether a write-out of the page is under way.
+    /// Returns true if a write-out of the page is under way.
     fn writing(&self, page: PageNo) -> bool
         ensures { result ≡ places.writing self.now.past page }
     {
         self.writes_out.has_of(page)
     }
 
-    /// Whether the page's read ended well and no later entry evicts it.
+    /// Returns true if the page's read ended well and no later entry evicts it.
     fn resident(&self, page: PageNo) -> bool
         ensures { result ≡ places.resident self.now.past page }
     {
         self.residents.has(page)
     }
 
-    /// How many passes of the page are out.
+    /// The number of passes of the page that are out.
     fn pins(&self, page: PageNo) -> usize
         ensures { result ≡ passes.pins self.now.past page }
     {
         self.passes_out.count_of(page)
     }
 
-    /// Whether some write of the page has no good write-out of it that began after it.
+    /// Returns true if some write of the page has no good write-out of it that began after it.
     fn unsaved(&self, page: PageNo) -> bool
         ensures { result ≡ saved.unsaved self.now.past page }
     {
         scans::unsaved(self.entries, &self.ended, page)
     }
 
-    /// Whether a write of the page stands after the begin of the write-out with this ticket.
+    /// Returns true if a write of the page stands after the begin of the write-out with this ticket.
     fn written_since(&self, ticket: u64, page: PageNo) -> bool
         ensures { result ≡ saved.written_since self.now.past ticket page }
     {

@@ -1,4 +1,4 @@
-//! The pages that are resident.
+//! `Residents`: the resident pages.
 ghost use Rattle.std.specs.Prelude.{◌≡◌, ℕ, ◌<◌, ◌==◌, [], length, slice_index_or, OnOk};
 ghost use Rattle.bp_trail.specs.Lists.{some, and_given, without};
 
@@ -43,7 +43,6 @@ impl Residents {
         self.pages[self.pages.len() - 1 - place]
     }
 
-    /// Whether the page is one of them.
     pub(crate) fn has(&self, page: PageNo) -> bool
         ensures { result ≡ some (λ q. q == page) self.now }
     {
@@ -55,7 +54,8 @@ impl Residents {
         false
     }
 
-    /// The page that leaves goes, and then the one that is loaded comes.
+    /// Removes the page that leaves, and then adds the one that is loaded, each where it is there. It fails by want of
+    /// memory alone.
     pub(crate) fn pass_on(
         &mut self,
         leaves: Option<PageNo>,

@@ -1,4 +1,4 @@
-//! What is asked of one page, looked for in the entries so far. These are in the order of time.
+//! Questions about one page, each answered by a scan of the entries so far. These are oldest first.
 ghost use Rattle.std.specs.Prelude.{◌≡◌, max, unwrap_or, false, reverse, slice_index_or, OnOk, IfOk};
 ghost use Rattle.bp_page.specs.Patched.{patched};
 ghost use Rattle.bp_trail.specs.Trail.{Trail};
@@ -12,7 +12,7 @@ use bp_page::{Lsn, PageNo};
 use bp_trail::{Call, Entry, Reply};
 use std::alloc::{AllocError, Global};
 
-/// Whether the write-out with this ticket ended well, by a list with a place for each ticket.
+/// Returns true if the write-out with this ticket ended well, by a list with a place for each ticket.
 fn has_ended(ended: &[bool], ticket: u64) -> bool
     ensures { result ≡ slice_index_or ended.now ticket false }
 {
@@ -20,7 +20,7 @@ fn has_ended(ended: &[bool], ticket: u64) -> bool
     at < ended.len() && ended[at]
 }
 
-/// Whether a write-out of the page begins that has ended well.
+/// Returns true if a write-out of the page begins that has ended well.
 fn began_saving(ended: &[bool], page: PageNo, reply: &Reply) -> bool
     ensures { (past : Trail) → AreEnded past ended.now →
         result ≡ saved.began_saving past page reply.now }
@@ -35,7 +35,7 @@ fn began_saving(ended: &[bool], page: PageNo, reply: &Reply) -> bool
     }
 }
 
-/// Whether some write of the page has no good write-out of it that began after it.
+/// Returns true if some write of the page has no good write-out of it that began after it.
 pub(crate) fn unsaved(past: &[Entry], ended: &[bool], page: PageNo) -> bool
     requires { AreEnded (reverse past.now) ended.now }
     ensures { result ≡ saved.unsaved (reverse past.now) page }
@@ -48,7 +48,7 @@ pub(crate) fn unsaved(past: &[Entry], ended: &[bool], page: PageNo) -> bool
     is_unsaved
 }
 
-/// Whether a write of the page stands after the begin of the write-out with this ticket.
+/// Returns true if a write of the page stands after the begin of the write-out with this ticket.
 pub(crate) fn written_since(past: &[Entry], ticket: u64, page: PageNo) -> bool
     ensures { result ≡ saved.written_since (reverse past.now) ticket page }
 {
@@ -60,7 +60,7 @@ pub(crate) fn written_since(past: &[Entry], ticket: u64, page: PageNo) -> bool
     is_written
 }
 
-/// The greater of an LSN and of one that may be there.
+/// The greater of the two, or `reached` where there is no `lsn`.
 pub(crate) fn at_least(lsn: Option<Lsn>, reached: Lsn) -> Lsn
     ensures { result ≡ max (unwrap_or lsn 0) reached }
 {
@@ -85,7 +85,7 @@ pub(crate) fn page_lsn(past: &[Entry], page: PageNo) -> Lsn
     page_lsn
 }
 
-/// Puts the image that a read brought in, or none, in place of this one.
+/// Replaces the image by that of a read end, or by no bytes where the read brought none.
 fn read_into(image: &mut Vec<u8>, call: &Call) -> Result<(), AllocError>
     ensures { OnOk result (image.new.items ≡ event.image_read call.now) }
 {
@@ -100,7 +100,7 @@ fn read_into(image: &mut Vec<u8>, call: &Call) -> Result<(), AllocError>
     Ok(())
 }
 
-/// Puts the bytes in place of as many from the offset on, and those past the end of the image after it.
+/// Overwrites the bytes from the offset on. Where the new bytes end past the image, it ends with them afterwards.
 fn patch(image: &mut Vec<u8>, offset: usize, bytes: &[u8]) -> Result<(), AllocError>
     ensures { OnOk result (image.new.items ≡ patched offset bytes.now image.old.items) }
 {
@@ -114,7 +114,7 @@ fn patch(image: &mut Vec<u8>, offset: usize, bytes: &[u8]) -> Result<(), AllocEr
     Ok(())
 }
 
-/// Makes of the image of the page before an entry the one after it.
+/// Applies an entry to the image of the page: a write of the page changes it, and no other entry does.
 fn write_into(image: &mut Vec<u8>, page: PageNo, e: &Entry) -> Result<(), AllocError>
     ensures { OnOk result (image.new.items ≡ event.written page e.now image.old.items) }
 {

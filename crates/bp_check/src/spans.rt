@@ -94,7 +94,7 @@ fn refer(known: &mut Vec<Span>, correlated: u64, by_hit: bool, now: u64) -> Resu
     Ok(())
 }
 
-/// No references, of so many pages.
+/// Returns an empty list of spans for each of so many pages. It fails by want of memory alone.
 pub(crate) fn no_references(alloc: Global, pages: usize) -> Result<Vec<Vec<Span>>, AllocError>
     ensures count { IfOk result (λ table. vec_len table ≡ pages) }
     ensures none { IfOk result (λ table. (p : ℕ) → spans_at table.items p ≡ []) }
@@ -106,7 +106,6 @@ pub(crate) fn no_references(alloc: Global, pages: usize) -> Result<Vec<Vec<Span>
     Ok(table)
 }
 
-/// Adds a reference of the page.
 pub(crate) fn refer_at(
     table: &mut [Vec<Span>],
     page: PageNo,
@@ -126,7 +125,7 @@ pub(crate) fn refer_at(
     Ok(())
 }
 
-/// Whether a purge at this time forgets a page with these references.
+/// Returns true if a purge at this time forgets a page with these references.
 fn outdated(
     known: &[Span],
     page: PageNo,
@@ -142,7 +141,7 @@ fn outdated(
         && retained < now.saturating_sub(last_of(known))
 }
 
-/// How many pages a purge at this time forgets.
+/// Returns the number of pages that a purge at this time forgets.
 pub(crate) fn forgotten(
     table: &[Vec<Span>],
     retained: u64,

@@ -1,4 +1,4 @@
-//! Whether a list of entries is a legal trail.
+//! `first_unlawful`: judges whether a list of entries is a legal trail.
 ghost use Rattle.std.specs.Prelude.{◌≡◌, ◌↔◌, ℕ, None, reverse, IfOk, IfSome};
 ghost use Rattle.bp_trail.specs.Legal.{Legal};
 ghost use Rattle.bp_check.specs.Setups.{parameters_of};
@@ -9,8 +9,8 @@ use crate::setup::Setup;
 use bp_trail::Entry;
 use std::alloc::{AllocError, Global};
 
-/// The place of the first entry that is not lawful after those before it, or `None` where the entries are a legal
-/// trail. They are in the order of time, from the first on that a pool made. What room the pool had doesn't matter.
+/// Returns the place of the first entry that is not lawful after those before it, or `None` where the entries are a
+/// legal trail. They are oldest first, from the first entry of a pool on. The room of that pool doesn't matter.
 ///
 /// It fails by want of memory alone. It takes memory for an empty list of each page of the file, and then for what is
 /// out, for the references that no purge forgot, and for an image or two at a time. An entry takes time in proportion

@@ -1,4 +1,4 @@
-//! The command line of the program: its words, options, limits and help.
+//! `bpool_command`, the command line of the program: its words, options, limits and help.
 ghost use Rattle.std.specs.Prelude.{◌≡◌, map, false, IfOk, All};
 ghost use Rattle.clap.specs.Words.{app_of, rule_of, shape_of};
 ghost use Rattle.clap.specs.declared.builder.command.Command.TheViews.{out-Command as fields_of};
@@ -11,14 +11,13 @@ use clap::builder::ValueParser;
 use clap::{Arg, ArgAction, Command, value_parser};
 use std::alloc::{AllocError, Global};
 
-/// What the statuses of a run mean.
+/// The end of the help of `bpool run`.
 const STATUSES: &str = "\
 Without tick rows nothing leaves a frame. --retained acts at purge rows alone. bpool --help shows
 a trace, and what each number says.
 Status 0: all rows were accepted. Status 1: some row was refused; the report says which, and why.
 Status 2: one line on standard error says why there is no report, or only a part of it.";
 
-/// What the commands are for.
 const PURPOSES: &str = "\
 A buffer pool with LRU-K replacement
 
@@ -27,7 +26,7 @@ A buffer pool with LRU-K replacement
   bpool migrate  gives a page file page numbers, by which a read of a wrong place is seen
   bpool explain  says what the number of a refusal stands for";
 
-/// The words and options of the commands, what the program does without words, a trace, and what each number says.
+/// The end of `bpool --help`: the commands and their options, the default run, a trace, and each number.
 const SUMMARY: &str = "\
 bpool run TRACE PAGEFILE [--frames N] [--k N] [--correlated N] [--retained N] [--page-size N]
           [--format N] [--order ORDER] [--totals]
@@ -108,7 +107,7 @@ Status 0: all rows were accepted, a table or NEW was made, or the words asked fo
 Status 1: some row was refused.
 Status 2: one line on standard error says why there is no report, or only a part of it.";
 
-/// How a migration goes, and what its statuses mean.
+/// The end of the help of `bpool migrate`.
 const MIGRATION: &str = "\
 Each page gets its number and LSN 0. NEW is written beside itself as NEW.migrating, and takes its
 name once it is whole. Status 0: NEW is made. Status 2: one line on standard error says why it is
@@ -152,10 +151,9 @@ const SVG: &str = "Draws hit ratio over frames into this file: a path";
 
 const NUMBER: &str = "The number of a refusal, as in row 3 refused 11";
 
-/// Where all numbers stand.
 const NUMBERS: &str = "All numbers: bpool --help";
 
-/// What a sweep reads and prints, an example, and what its statuses mean.
+/// The end of the help of `bpool sweep`.
 const SWEEPING: &str = "\
 REFERENCES has a number of up to 2^62 a line, as a block number or an address; equal numbers are
 references of one page. With --column a first record is a header if its field is there and is not
@@ -172,42 +170,42 @@ it is the file of REFERENCES.
 Status 0: all lines are printed, and FILE is made. Status 2: one line on standard error says why
 there is no table, or only a part of it, or no picture.";
 
-/// How many frames a pool may have, and which field of a record may be named.
+/// The limits of a number of frames, and of a column.
 fn up_to_65536<'a>() -> ValueParser<'a>
     ensures { result ≡ ValueParser.Unsigned 1 65536 }
 {
     value_parser!(usize).range(1..=65_536)
 }
 
-/// How many stamps a page may have.
+/// The limits of K.
 fn stamp_counts<'a>() -> ValueParser<'a>
     ensures { result ≡ ValueParser.Unsigned 1 16 }
 {
     value_parser!(usize).range(1..=16)
 }
 
-/// How many bytes a page may have. That they are a multiple of 16 is looked at later.
+/// The limits of a page size. That it is a multiple of 16 is checked later.
 fn page_sizes<'a>() -> ValueParser<'a>
     ensures { result ≡ ValueParser.Unsigned 16 65536 }
 {
     value_parser!(usize).range(16..=65_536)
 }
 
-/// Which versions of page files there are.
+/// The versions of page files.
 fn versions<'a>() -> ValueParser<'a>
     ensures { result ≡ ValueParser.Unsigned 1 2 }
 {
     value_parser!(usize).range(1..=2)
 }
 
-/// How long a period may be.
+/// The limits of a period, in ticks or references.
 fn periods<'a>() -> ValueParser<'a>
     ensures { result ≡ ValueParser.Unsigned 0 4611686018427387904 }
 {
     value_parser!(u64).range(0..=4_611_686_018_427_387_904)
 }
 
-/// A word that must be there.
+/// Returns an argument that must be there.
 fn positional<'a>(alloc: Global, id: &'a str, shown: &'a str, help: &'a str) -> Arg<'a>
     ensures rule { rule_of result ≡ spec.positional id.entry.now }
     ensures local { result.global ≡ false }
@@ -218,7 +216,7 @@ fn positional<'a>(alloc: Global, id: &'a str, shown: &'a str, help: &'a str) -> 
         .help(help)
 }
 
-/// An option that takes a number.
+/// Returns an option that takes a number, with a default.
 fn number_option<'a>(
     alloc: Global,
     id: &'a str,
@@ -238,7 +236,7 @@ fn number_option<'a>(
         .help(help)
 }
 
-/// An option without a default that takes a number.
+/// Returns an option that takes a number, without a default.
 fn bare_number<'a>(
     alloc: Global,
     id: &'a str,
@@ -258,7 +256,7 @@ fn bare_number<'a>(
         .help(help)
 }
 
-/// An option without a default that takes a word. What the word names is looked at later.
+/// Returns an option that takes a word, without a default. The word is checked later.
 fn bare_word<'a>(alloc: Global, id: &'a str, must: bool, shown: &'a str, help: &'a str) -> Arg<'a>
     ensures rule { rule_of result ≡ spec.bare_word id.entry.now must }
     ensures local { result.global ≡ false }
@@ -270,7 +268,7 @@ fn bare_word<'a>(alloc: Global, id: &'a str, must: bool, shown: &'a str, help: &
         .help(help)
 }
 
-/// An option without a value.
+/// Returns an option without a value.
 fn flag<'a>(alloc: Global, id: &'a str, help: &'a str) -> Arg<'a>
     ensures rule { rule_of result ≡ spec.flag id.entry.now }
     ensures local { result.global ≡ false }
@@ -281,7 +279,7 @@ fn flag<'a>(alloc: Global, id: &'a str, help: &'a str) -> Arg<'a>
         .help(help)
 }
 
-/// An option that takes a word. That it is one of those that the option knows is looked at later.
+/// Returns an option that takes a word, with a default. The word is checked later.
 fn word_option<'a>(
     alloc: Global,
     id: &'a str,
@@ -299,7 +297,6 @@ fn word_option<'a>(
         .help(help)
 }
 
-/// The words and options of a run.
 fn run_arguments<'a>(alloc: Global) -> Result<Vec<Arg<'a>>, AllocError>
     ensures rules { IfOk result (λ arguments. map rule_of arguments.items ≡ run_rules) }
     ensures local { IfOk result (λ arguments. All (λ a. a.global ≡ false) arguments.items) }
@@ -319,7 +316,6 @@ fn run_arguments<'a>(alloc: Global) -> Result<Vec<Arg<'a>>, AllocError>
     Ok(arguments)
 }
 
-/// The command `run`.
 fn run_command<'a>(alloc: Global) -> Result<Command<'a>, AllocError>
     ensures shape { IfOk result (λ c. shape_of c ≡ run_shape) }
     ensures local { IfOk result (λ c. (fields_of c).has_globals ≡ false) }
@@ -332,7 +328,6 @@ fn run_command<'a>(alloc: Global) -> Result<Command<'a>, AllocError>
     Ok(command)
 }
 
-/// The words and options of a migration.
 fn migrate_arguments<'a>(alloc: Global) -> Result<Vec<Arg<'a>>, AllocError>
     ensures rules { IfOk result (λ arguments. map rule_of arguments.items ≡ migrate_rules) }
     ensures local { IfOk result (λ arguments. All (λ a. a.global ≡ false) arguments.items) }
@@ -345,7 +340,6 @@ fn migrate_arguments<'a>(alloc: Global) -> Result<Vec<Arg<'a>>, AllocError>
     Ok(arguments)
 }
 
-/// The command `migrate`.
 fn migrate_command<'a>(alloc: Global) -> Result<Command<'a>, AllocError>
     ensures shape { IfOk result (λ c. shape_of c ≡ migrate_shape) }
     ensures local { IfOk result (λ c. (fields_of c).has_globals ≡ false) }
@@ -358,7 +352,6 @@ fn migrate_command<'a>(alloc: Global) -> Result<Command<'a>, AllocError>
     Ok(command)
 }
 
-/// The words and options of a sweep.
 fn sweep_arguments<'a>(alloc: Global) -> Result<Vec<Arg<'a>>, AllocError>
     ensures rules { IfOk result (λ arguments. map rule_of arguments.items ≡ sweep_rules) }
     ensures local { IfOk result (λ arguments. All (λ a. a.global ≡ false) arguments.items) }
@@ -374,7 +367,6 @@ fn sweep_arguments<'a>(alloc: Global) -> Result<Vec<Arg<'a>>, AllocError>
     Ok(arguments)
 }
 
-/// The command `sweep`.
 fn sweep_command<'a>(alloc: Global) -> Result<Command<'a>, AllocError>
     ensures shape { IfOk result (λ c. shape_of c ≡ sweep_shape) }
     ensures local { IfOk result (λ c. (fields_of c).has_globals ≡ false) }
@@ -387,7 +379,6 @@ fn sweep_command<'a>(alloc: Global) -> Result<Command<'a>, AllocError>
     Ok(command)
 }
 
-/// The words of an explanation.
 fn explain_arguments<'a>(alloc: Global) -> Result<Vec<Arg<'a>>, AllocError>
     ensures rules { IfOk result (λ arguments. map rule_of arguments.items ≡ explain_rules) }
     ensures local { IfOk result (λ arguments. All (λ a. a.global ≡ false) arguments.items) }
@@ -396,7 +387,6 @@ fn explain_arguments<'a>(alloc: Global) -> Result<Vec<Arg<'a>>, AllocError>
     Ok(arguments)
 }
 
-/// The command `explain`.
 fn explain_command<'a>(alloc: Global) -> Result<Command<'a>, AllocError>
     ensures shape { IfOk result (λ c. shape_of c ≡ explain_shape) }
     ensures local { IfOk result (λ c. (fields_of c).has_globals ≡ false) }
@@ -409,7 +399,7 @@ fn explain_command<'a>(alloc: Global) -> Result<Command<'a>, AllocError>
     Ok(command)
 }
 
-/// The program without its commands. Its words leave out the program's name.
+/// Returns the program without its commands. The words that it parses do not have the program's name.
 fn program_command<'a>(alloc: Global) -> Result<Command<'a>, AllocError>
     ensures { IfOk result (λ c. app_of c ≡ program_app) }
 {
@@ -424,7 +414,7 @@ fn program_command<'a>(alloc: Global) -> Result<Command<'a>, AllocError>
     )
 }
 
-/// The command line of the program, whose words leave out the program's name.
+/// Returns the command line of the program. The words that it parses do not have the program's name.
 pub fn bpool_command<'a>(alloc: Global) -> Result<Command<'a>, AllocError>
     ensures { IfOk result (λ c. app_of c ≡ bpool_app) }
 {

@@ -1,4 +1,4 @@
-//! How the program goes on after its words.
+//! `decide`, which turns the words of the command line into a task, or into the end of the program.
 ghost use Rattle.std.specs.Prelude.{◌≡◌, IfErr, IfOk};
 ghost use Rattle.clap.specs.Walk.{texts};
 ghost use Rattle.clap.specs.Values.{kind_of};
@@ -15,14 +15,13 @@ use clap::Error;
 use clap::error::ErrorKind;
 use std::alloc::{AllocError, Global};
 
-/// The words of the default run.
 fn default_words<'a>() -> &'a [&'a str]
     ensures { texts result.now ≡ spec.default_words }
 {
     &["run", "stdin", "mem:16", "--frames", "2", "--k", "1"]
 }
 
-/// The words again, if a page may have as many bytes as they say. It is looked at before any page file is opened.
+/// Passes the task on if its page size is allowed. It is checked here, before any page file is opened.
 fn check_size(task: Task<'_>) -> Result<Task<'_>, Ending>
     requires { AreInLimits (asked_of task) }
     ensures accepted { IfOk result (λ same. (asked_of same ≡ asked_of task.entry) ×
@@ -39,7 +38,7 @@ fn check_size(task: Task<'_>) -> Result<Task<'_>, Ending>
     }
 }
 
-/// The words with a question mark in place of each control character.
+/// Replaces each control character of the words with a question mark.
 fn plain_words(alloc: Global, words: &[&str]) -> Result<Vec<String>, AllocError> {
     let mut shown = Vec::new(alloc);
     for word in words {
@@ -48,7 +47,7 @@ fn plain_words(alloc: Global, words: &[&str]) -> Result<Vec<String>, AllocError>
     Ok(shown)
 }
 
-/// What clap says of words, if it refuses them by this kind.
+/// Returns the text of the fault that clap finds in the words, if its kind is this one.
 fn text_by_kind(
     alloc: Global,
     words: &[&str],
@@ -66,8 +65,8 @@ fn text_by_kind(
     }
 }
 
-/// What clap says of words that it refuses. It quotes a word as it is, with its control characters, which may end a
-/// line; so it is asked again about plain words.
+/// Returns the text of the fault that clap found in the words. clap quotes a word as it is, with its control
+/// characters, which may end a line; so it parses again, with plain words.
 fn text_of(alloc: Global, words: &[&str], error: &Error) -> Result<String, AllocError> {
     let shown = plain_words(alloc, words)?;
     let again: Vec<&str> = shown.iter().map(|word| word.as_str()).collect(alloc)?;
@@ -77,7 +76,7 @@ fn text_of(alloc: Global, words: &[&str], error: &Error) -> Result<String, Alloc
     }
 }
 
-/// What a refusal of the words by clap comes to.
+/// Returns how the program ends where clap refused the words.
 fn refused(alloc: Global, words: &[&str], error: &Error) -> Ending
     ensures { IsRefusal (kind_of error.now) result }
 {
@@ -100,7 +99,7 @@ fn refused(alloc: Global, words: &[&str], error: &Error) -> Ending
     }
 }
 
-/// Decides by words that are not left out.
+/// Decides by words that are not empty.
 fn decide_by<'a>(alloc: Global, words: &'a [&'a str]) -> Result<Task<'a>, Ending>
     ensures { IsDecision (texts words.now) result }
 {
@@ -110,11 +109,11 @@ fn decide_by<'a>(alloc: Global, words: &'a [&'a str]) -> Result<Task<'a>, Ending
     }
 }
 
-/// Decides by the words of the command line, which leave out the program's name, what is to be done. No words at all
-/// are those of the default run.
+/// Decides by the words of the command line, without the program's name, what is to be done. No words are those of the
+/// default run.
 ///
-/// An `Err` is how the program ends otherwise: with help, with the version, with the first fault of the words, or
-/// with a page size that no page file has.
+/// An `Err` is how the program ends otherwise: with help, with the version, with the first fault of the words, or with
+/// a page size that no page file has.
 pub fn decide<'a>(alloc: Global, words: &'a [&'a str]) -> Result<Task<'a>, Ending>
     ensures { IsDecision (words_or_default (texts words.now)) result }
 {

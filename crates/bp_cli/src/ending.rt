@@ -1,4 +1,4 @@
-//! How the program ends where it makes no report.
+//! `Ending`, how the program ends where it makes no report.
 ghost use Rattle.std.specs.Prelude.{◌≡◌, ◌<◌, true, false, OnOk};
 ghost use Rattle.std.specs.Io.KnownBytes.{Appends};
 ghost use Rattle.bp_cli.specs.Ending.{is_help, message_of, on_err, on_out, status_of};
@@ -10,42 +10,36 @@ use bp_trace::{InputFault, TraceFault};
 use std::io::Write;
 use std::{fmt, io};
 
-/// The version of the program.
 pub const VERSION: &str = "0.10.0";
 
-/// How the program ends where it makes no report. Its `Display` is what is said.
+/// How the program ends where it makes no report. `Display` prints its message.
 #[derive(Drop)]
 pub enum Ending {
     /// The words ask for help, which is this text.
     Help(String),
     /// The words ask for the version.
     Version,
-    /// A word is not text in UTF-8.
+    /// A word is not UTF-8.
     WordsNotText,
     /// The words have this fault.
     CommandLine(Line),
-    /// The page file can't be opened.
     PageFileNotOpened,
-    /// No pool can be over this page file: its pages are of a wrong size or number, or there is no memory for them.
+    /// No pool can be made over this page file: its pages have a wrong size or number, or memory is refused.
     PageFileRefused(Refusal),
-    /// The file of the trace can't be opened.
     TraceNotOpened,
     /// The trace has no script.
     TraceRefused(TraceFault),
-    /// The run could not be begun, or not be ended.
+    /// The run could not begin, or not end.
     RunRefused(Refusal),
-    /// Not all of the output was written.
     OutputFailed,
-    /// The file of the references can't be opened.
     ReferencesNotOpened,
-    /// A line of the references is at fault. Line 0 is the list as a whole.
+    /// A line of the references has a fault. Line 0 is the list as a whole.
     ReferenceRefused {
-        /// The number of the line from 1, of the record where a column is read, or 0.
+        /// The number of the line from 1, in CSV of the record, or 0.
         line: u64,
-        /// What is wrong with it.
         why: InputFault,
     },
-    /// The picture of a table was not written. The table was.
+    /// The picture of a table was not written, but the table was.
     PictureNotWritten,
 }
 
@@ -84,21 +78,21 @@ impl fmt::Display for Ending {
 }
 
 impl Ending {
-    /// Whether it is an answer to the words: help, or the version.
+    /// Returns true for help and for the version.
     pub fn is_help(&self) -> bool
         ensures { result ≡ is_help self.now }
     {
         matches!(self, Ending::Help(_) | Ending::Version)
     }
 
-    /// The status that the program ends with: 0 for help and for the version, and else 2.
+    /// Returns the exit status: 0 for help and for the version, else 2.
     pub fn status(&self) -> u8
         ensures { result ≡ status_of self.now }
     {
         if self.is_help() { 0 } else { 2 }
     }
 
-    /// Writes help and the version on `out`, and anything else as one line on `err`.
+    /// Writes help and the version to `out`, and anything else as one line to `err`.
     pub fn say<W: Write, E: Write>(&self, out: &mut W, err: &mut E) -> io::Result<()>
         ensures out { OnOk result (Appends (W.contents out.old) (W.contents out.new)
             (on_out self.now)) }
@@ -116,10 +110,10 @@ impl Ending {
         }
     }
 
-    /// Says it, and gives the status that the program ends with.
+    /// Writes its message, and returns the exit status.
     ///
-    /// A fault of `err` changes nothing. Where help or the version can't be written the output failed: that is said,
-    /// with status 2.
+    /// A fault of `err` is ignored. Where help or the version can't be written, `output failed` is written to `err`,
+    /// and the status is 2.
     pub fn finish<W: Write, E: Write>(&self, out: &mut W, err: &mut E) -> u8
         ensures help { result ≡ 0 → (is_help self.now ≡ true) ×
             Appends (W.contents out.old) (W.contents out.new) (message_of self.now) }

@@ -1,4 +1,4 @@
-//! What the definitions of the words come to.
+//! Examples of the definitions of the words. Each function does nothing: its contract is the law.
 ghost use Rattle.std.specs.Prelude.{◌≡◌, [], ◌∷◌, codes, false, true, None, Some};
 ghost use Rattle.bp_cli.specs.Words.{fault_in, words_or_default};
 ghost use Rattle.bp_cli.specs.Words.TraceAt.{from_stdin, at_path};
@@ -9,7 +9,7 @@ use crate::words::Order;
 use bp_page::Format;
 use clap::error::ErrorKind;
 
-/// What some words name, as the definition computes.
+/// Some command lines, and the tasks that they name.
 pub fn words_by_example()
     ensures none { asked_by (words_or_default []) ≡ Some
         (a_run (record {

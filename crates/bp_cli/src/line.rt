@@ -1,18 +1,18 @@
-//! A text as one line.
+//! `Line`, a text of one line without control characters.
 ghost use Rattle.std.specs.Prelude.{◌≡◌, IfOk, string_bytes, true, map};
 ghost use Rattle.bp_cli.specs.Line.{is_line, plain_char};
 ghost use Rattle.bp_cli.specs.Line as spec;
 
 use std::alloc::{AllocError, Global};
 
-/// A line without the white space at its start.
+/// Returns a line without the white space at its start.
 fn unindented(line: &str) -> &str
     ensures { result.now ≡ spec.unindented line.now }
 {
     line.trim_ascii_start()
 }
 
-/// The lines of a text before the first blank one.
+/// Returns the lines of a text before the first blank one, without the white space at their start.
 fn first_lines<'a>(alloc: Global, text: &'a str) -> Result<Vec<&'a str>, AllocError>
     ensures { IfOk result (λ lines. map (λ line. line.now) lines.items
         ≡ spec.first_lines text.entry.now) }
@@ -23,7 +23,7 @@ fn first_lines<'a>(alloc: Global, text: &'a str) -> Result<Vec<&'a str>, AllocEr
         .collect(alloc)
 }
 
-/// The first paragraph of a text, as one line.
+/// Returns the first paragraph of a text as one line.
 fn first_paragraph(alloc: Global, text: &str) -> Result<String, AllocError>
     ensures { IfOk result (λ line. string_bytes line ≡ spec.first_paragraph text.now) }
 {
@@ -32,14 +32,14 @@ fn first_paragraph(alloc: Global, text: &str) -> Result<String, AllocError>
     Ok(line)
 }
 
-/// The character, or a question mark in place of a control character.
+/// Returns the character, or a question mark for a control character.
 fn plain_char(c: char) -> char
     ensures { result ≡ plain_char c }
 {
     if c.is_control() { '?' } else { c }
 }
 
-/// A text with a question mark in place of each control character.
+/// Replaces each control character of a text with a question mark.
 pub(crate) fn plain(alloc: Global, text: &str) -> Result<String, AllocError>
     ensures { IfOk result (λ plain. string_bytes plain ≡ spec.plain text.now) }
 {
@@ -55,8 +55,8 @@ pub struct Line {
 }
 
 impl Line {
-    /// The first paragraph of a text: its lines before the first blank one, with a space between two, and with a
-    /// question mark in place of each control character.
+    /// Returns the first paragraph of a text: its lines before the first blank one, joined by spaces, with a question
+    /// mark for each control character.
     pub fn of(alloc: Global, text: &str) -> Result<Line, AllocError>
         ensures { IfOk result (λ line. string_bytes line.text
             ≡ spec.plain (spec.first_paragraph text.now)) }
@@ -66,7 +66,6 @@ impl Line {
         Ok(Line { text })
     }
 
-    /// The text of the line.
     pub fn as_str(&self) -> &str
         ensures { result.now ≡ string_bytes self.now.text }
     {

@@ -1,4 +1,4 @@
-//! What the words of a command line name.
+//! `read_words`, which parses the words of a command line, and the tasks that they may name.
 ghost use Rattle.std.specs.Prelude.{◌≡◌, ◌<◌, ◌^◌, option_map, Some, IfOk};
 ghost use Rattle.clap.specs.Walk.{texts};
 ghost use Rattle.clap.specs.Values.{kind_of};
@@ -20,15 +20,12 @@ use clap::error::ErrorKind;
 use clap::{ArgMatches, Error};
 use std::alloc::{AllocError, Global};
 
-/// The most frames of a pool.
 const MAX_FRAMES: usize = 65_536;
 
-/// Where a run reads its trace, or a sweep its references.
+/// The input of a run or of a sweep: a trace or references.
 #[derive(Clone, Copy)]
 pub enum TraceSource<'a> {
-    /// Standard input.
     Stdin,
-    /// The file at this path.
     Path(&'a str),
 }
 
@@ -37,78 +34,71 @@ pub enum TraceSource<'a> {
 pub enum Order {
     /// That of the trace.
     Trace,
-    /// Any that keeps each client's own: the clients are threads of one pool.
+    /// Any order that keeps the rows of each client in order: each client is a thread.
     Free,
 }
 
-/// What the words of a run name.
+/// The words of `bpool run`.
 #[derive(Clone, Copy)]
 pub struct RunWords<'a> {
-    /// Where the trace is read.
     pub trace: TraceSource<'a>,
     /// The word of the page file: `mem:N`, or a path.
     pub page_file: &'a str,
-    /// How many frames the pool has.
     pub frames: usize,
-    /// K of LRU-K.
     pub k: usize,
-    /// The correlated reference period, in ticks.
+    /// The correlated reference period of LRU-K, in ticks.
     pub correlated: u64,
-    /// The retained information period, in ticks.
+    /// The retained information period of LRU-K, in ticks.
     pub retained: u64,
-    /// How many bytes a page has.
+    /// The size of a page in bytes.
     pub page_size: usize,
-    /// How pages stand in a page file at a path.
+    /// The version of a page file at a path.
     pub format: Format,
-    /// In which order the rows are run.
     pub order: Order,
-    /// Whether the report has no lines of events.
+    /// Whether only the totals are reported.
     pub totals: bool,
 }
 
-/// What the words of a migration name.
+/// The words of `bpool migrate`.
 #[derive(Clone, Copy)]
 pub struct MigrationWords<'a> {
     /// The path of the page file of version 1.
     pub old: &'a str,
-    /// The path of the page file of version 2 that is made of it.
+    /// The path of the new page file of version 2.
     pub new: &'a str,
-    /// How many bytes a page has.
+    /// The size of a page in bytes.
     pub page_size: usize,
 }
 
-/// What the words of a sweep name: it runs each number of frames with each K.
+/// The words of `bpool sweep`: each number of frames is run with each K.
 #[derive(Drop)]
 pub struct SweepWords<'a> {
-    /// Where the references are read.
     pub references: TraceSource<'a>,
-    /// How many frames the pools have: 1 to 64 different numbers from 1 to 65,536.
+    /// The numbers of frames: 1 to 64 different numbers from 1 to 65,536.
     pub frames: Vec<usize>,
-    /// K of LRU-K: 1 to 16 different numbers from 1 to 16.
+    /// The K of LRU-K: 1 to 16 different numbers from 1 to 16.
     pub ks: Vec<usize>,
-    /// The correlated reference period, in references.
+    /// The correlated reference period of LRU-K, in references.
     pub correlated: u64,
-    /// Which field of a record the number is in, from 1 to 65,536, where each line is a record. Else each is a number.
+    /// The column of the references, from 1 to 65,536, where the input is CSV. Without one each line is a number.
     pub column: Option<usize>,
-    /// The path of the picture that is drawn of the table, if there is to be one. It is not where the references are.
+    /// The path of the picture of the table, if one is to be drawn. It is not the path of the references.
     pub svg: Option<&'a str>,
 }
 
-/// What the words of a command line ask for.
+/// The task that a command line names.
 #[derive(Drop)]
 pub enum Task<'a> {
-    /// A run of a trace.
     Run(RunWords<'a>),
-    /// A page file of version 1 written anew in version 2.
+    /// Writes a page file of version 1 again in version 2.
     Migrate(MigrationWords<'a>),
-    /// A table of what references come to, by frames and K.
+    /// Counts the replies to references, for numbers of frames and K.
     Sweep(SweepWords<'a>),
-    /// Says this text.
     Explain(&'a str),
 }
 
 impl Task<'_> {
-    /// How many bytes a page has, where there are pages.
+    /// Returns the size of a page in bytes, or None where the task has no pages of a file.
     pub fn page_size(&self) -> Option<usize>
         ensures { result ≡ size_asked (asked_of self.now) }
     {
@@ -140,7 +130,7 @@ fn order_of(word: &str) -> Option<Order>
     }
 }
 
-/// The version of page files with this number, of 1 and 2.
+/// Returns the version of page files with this number, 1 or 2.
 fn format_of(number: usize) -> Format
     ensures { result ≡ format_of number }
 {
@@ -151,21 +141,19 @@ fn format_of(number: usize) -> Format
     }
 }
 
-/// The count that an option names.
 fn count_at(matches: &ArgMatches<'_>, id: &str) -> Option<usize>
     ensures { result ≡ number_at id.now (rows_of (found_of matches.now)) }
 {
     matches.get_one::<usize>(id)
 }
 
-/// The period that an option names.
 fn period_at(matches: &ArgMatches<'_>, id: &str) -> Option<u64>
     ensures { result ≡ number_at id.now (rows_of (found_of matches.now)) }
 {
     matches.get_one::<u64>(id)
 }
 
-/// The word that stands for an argument.
+/// Returns the word of an argument, or None where it is left out and has no default.
 fn word_at<'a>(matches: &ArgMatches<'a>, id: &str) -> Option<&'a str>
     ensures { option_map (λ word. word.now) result ≡ first_of id.now
         (rows_of (found_of matches.now)) }
@@ -173,7 +161,7 @@ fn word_at<'a>(matches: &ArgMatches<'a>, id: &str) -> Option<&'a str>
     matches.get_str(id)
 }
 
-/// What the number that the matches name says.
+/// Returns the explanation of the number that the words name, or None where no refusal has it.
 fn explanation_at(matches: &ArgMatches<'_>) -> Option<&'static str>
     ensures { option_map (λ text. text.now) result
         ≡ explanation_at (rows_of (found_of matches.now)) }
@@ -183,7 +171,7 @@ fn explanation_at(matches: &ArgMatches<'_>) -> Option<&'static str>
     explanation_of(number)
 }
 
-/// Whether an option without a value is there.
+/// Returns true if an option without a value is there.
 fn flag_at(matches: &ArgMatches<'_>, id: &str) -> bool
     ensures { result ≡ flag_at id.now (rows_of (found_of matches.now)) }
 {
@@ -193,7 +181,7 @@ fn flag_at(matches: &ArgMatches<'_>, id: &str) -> bool
     }
 }
 
-/// The numbers of an option's list, each from `low` to `high`.
+/// Returns the numbers of an option's list, or None where it is no list of numbers from `low` to `high`.
 fn list_at(
     alloc: Global,
     matches: &ArgMatches<'_>,
@@ -211,7 +199,7 @@ fn list_at(
     }
 }
 
-/// Whether the picture of a sweep would go into its references: their words are the same.
+/// Returns true if a sweep's picture has the same path as its references.
 fn draws_over(matches: &ArgMatches<'_>) -> bool
     ensures { result ≡ draws_over (rows_of (found_of matches.now)) }
 {
@@ -224,7 +212,7 @@ fn draws_over(matches: &ArgMatches<'_>) -> bool
     }
 }
 
-/// The order that the matches of a run name.
+/// Returns the order that a run names, or None where its word is no order.
 fn order_at(matches: &ArgMatches<'_>) -> Option<Order>
     ensures { result ≡ order_at (rows_of (found_of matches.now)) }
 {
@@ -232,7 +220,6 @@ fn order_at(matches: &ArgMatches<'_>) -> Option<Order>
     order_of(word)
 }
 
-/// What the matches of a run name.
 fn run_words<'a>(matches: &ArgMatches<'a>) -> Option<RunWords<'a>>
     ensures { option_map options_of result ≡ options_by_rows (rows_of (found_of matches.now)) }
 {
@@ -259,7 +246,6 @@ fn run_words<'a>(matches: &ArgMatches<'a>) -> Option<RunWords<'a>>
     })
 }
 
-/// What the matches of a migration name.
 fn migration_words<'a>(matches: &ArgMatches<'a>) -> Option<MigrationWords<'a>>
     ensures { option_map migration_of result ≡ migration_by_rows (rows_of (found_of matches.now)) }
 {
@@ -273,7 +259,7 @@ fn migration_words<'a>(matches: &ArgMatches<'a>) -> Option<MigrationWords<'a>>
     })
 }
 
-/// What the matches of a sweep name, with these numbers of frames and these K.
+/// Returns the words of a sweep, with these numbers of frames and these K.
 fn sweep_with<'a>(
     matches: &ArgMatches<'a>,
     frames: Vec<usize>,
@@ -294,7 +280,6 @@ fn sweep_with<'a>(
     })
 }
 
-/// What the matches of a sweep name.
 fn sweep_words<'a>(
     alloc: Global,
     matches: &ArgMatches<'a>,
@@ -314,7 +299,7 @@ fn sweep_words<'a>(
     Ok(sweep_with(matches, frames, ks))
 }
 
-/// What the matches of the program ask for.
+/// Returns the task that the words name, or None where the word of an option names nothing.
 fn task_in<'a>(alloc: Global, matches: &ArgMatches<'a>) -> Result<Option<Task<'a>>, AllocError>
     ensures { IfOk result (λ task. option_map asked_of task
         ≡ asked_in (subcommand_rows_of matches.now)) }
@@ -346,7 +331,7 @@ fn task_in<'a>(alloc: Global, matches: &ArgMatches<'a>) -> Result<Option<Task<'a
     }
 }
 
-/// A fault of an option whose word names nothing.
+/// Returns the fault of an option whose word names nothing.
 fn invalid(alloc: Global, said: &str) -> Result<Error, AllocError>
     ensures { IfOk result (λ e. kind_of e ≡ ErrorKind.InvalidValue) }
 {
@@ -354,7 +339,7 @@ fn invalid(alloc: Global, said: &str) -> Result<Error, AllocError>
     command.error(ErrorKind::InvalidValue, said)
 }
 
-/// The fault of a run that names no order.
+/// Returns the fault of a run whose word for the order names none.
 fn no_order(alloc: Global, run: &ArgMatches<'_>) -> Result<Error, AllocError>
     ensures { IfOk result (λ e. kind_of e ≡ ErrorKind.InvalidValue) }
 {
@@ -365,7 +350,7 @@ fn no_order(alloc: Global, run: &ArgMatches<'_>) -> Result<Error, AllocError>
     invalid(alloc, said.as_str())
 }
 
-/// The fault of an option whose word is no list of numbers up to `high`.
+/// Returns the fault of an option whose word is no list of numbers up to `high`.
 fn no_list(
     alloc: Global,
     sweep: &ArgMatches<'_>,
@@ -381,7 +366,7 @@ fn no_list(
     invalid(alloc, said.as_str())
 }
 
-/// The fault of a sweep: its frames are no list, or else its K are none, or else its picture goes into its references.
+/// Returns the fault of a sweep: its frames are no list, or else its K are none, or else its picture is its references.
 fn no_sweep(alloc: Global, sweep: &ArgMatches<'_>) -> Result<Error, AllocError>
     ensures { IfOk result (λ e. kind_of e ≡ ErrorKind.InvalidValue) }
 {
@@ -398,7 +383,7 @@ fn no_sweep(alloc: Global, sweep: &ArgMatches<'_>) -> Result<Error, AllocError>
     invalid(alloc, said.as_str())
 }
 
-/// The fault of a number that no refusal has.
+/// Returns the fault of a number that no refusal has.
 fn no_number(alloc: Global, explain: &ArgMatches<'_>) -> Result<Error, AllocError>
     ensures { IfOk result (λ e. kind_of e ≡ ErrorKind.InvalidValue) }
 {
@@ -407,7 +392,7 @@ fn no_number(alloc: Global, explain: &ArgMatches<'_>) -> Result<Error, AllocErro
     invalid(alloc, said.as_str())
 }
 
-/// The fault of words that clap lets through, with an option whose word names nothing.
+/// Returns the fault of words that clap accepts, with an option whose word names nothing.
 fn names_nothing(alloc: Global, matches: &ArgMatches<'_>) -> Result<Error, AllocError>
     ensures { IfOk result (λ e. kind_of e ≡ ErrorKind.InvalidValue) }
 {
@@ -423,9 +408,9 @@ fn names_nothing(alloc: Global, matches: &ArgMatches<'_>) -> Result<Error, Alloc
     }
 }
 
-/// Reads the words of a command line, which leave out the program's name.
+/// Parses the words of a command line, without the program's name.
 ///
-/// An `Err` is by the kind of the words' first fault: a mistake, a call for help, or want of memory.
+/// An `Err` has the kind of the words' first fault: a mistake, a call for help or the version, or refused memory.
 pub fn read_words<'a>(alloc: Global, words: &'a [&'a str]) -> Result<Task<'a>, Error>
     ensures told { IfOk result (λ task. asked_by (texts words.now) ≡ Some (asked_of task)) }
     ensures limits { IfOk result (λ task. AreInLimits (asked_of task)) }

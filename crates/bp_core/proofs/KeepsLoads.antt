@@ -75,10 +75,10 @@ module _ (c : Parameters) (trail : Kept) (x : State) (core : IsCore c trail x) (
 
   -- ---- a read begins
   module _ (client : who < v.parameters.clients) (page : p < v.parameters.pages) (idle : EachPast v (λ past. loading past p ≡ false)) (away : EachPast v (λ past. resident past p ≡ false)) (room : HasRoomFor 3 v) (ps : Given) (same : ps.out ≡ x.passes.out) (more : GivesAsMuch x.passes ps) (ready : length x.reads.out + 1 ≤ ps.room) (rs : Given) (same_reads : rs.out ≡ x.reads.out) where
-    pub keeps-load : EachPast v (λ past. has_free_frame v.parameters past ≡ true) → (fs : Table) → fs.frames ≡ x.frames.frames → fs.size ≡ x.frames.size → fs.limit ≡ x.frames.limit → fs.pages ≡ x.frames.pages → fs.candidates ≡ x.frames.candidates → length x.reads.out < fs.spare
+    pub keeps-load : EachPast v (λ past. has_free_frame v.parameters past ≡ true) → (fs : Table) → fs.frames ≡ x.frames.frames → fs.size ≡ x.frames.size → fs.capacity ≡ x.frames.capacity → fs.pages ≡ x.frames.pages → fs.candidates ≡ x.frames.candidates → length x.reads.out < fs.free_frames
         → (h : Blocks) → SameSettings x.histories h → SameStampsAt x.histories h p → ((q : ℕ) → q ≢ p → SameAt x.histories h q) → is_held h p ≡ true → KeepsPlaces x.histories h → IsSome (place_of h p)
         → IsCore c (with_next trail who (Fix p) (Load x.tickets_given None)) (record x { tickets_given = x.tickets_given + 1; reads = with_grant rs who p x.tickets_given; passes = ps; frames = fs; histories = h })
-    keeps-load frame fs frames size limit in_file same_candidates spare h settings stamps others kept places place =
+    keeps-load frame fs frames size capacity in_file same_candidates free_frames h settings stamps others kept places place =
         let next = agrees-load c trail.past (parts_of x) core.agrees who p (lt-ltb who c.clients (given (λ q. who < q.clients) client)) (lt-ltb p c.pages (given (λ q. p < q.pages) page))
         (at (λ q past. loading past p ≡ false) idle) (at (λ q past. resident past p ≡ false) away) h settings (unprepared x.histories h p stamps others)
         (at (λ q past. has_free_frame q past ≡ true) frame) kept (λ q n. (others q n).held) in
@@ -91,7 +91,7 @@ module _ (c : Parameters) (trail : Kept) (x : State) (core : IsCore c trail x) (
           placed = placed-prepared x.histories h p others places core.placed place;
           numbers = record { of_pass = omega (arith, more.next, core.numbers.of_pass); of_read = omega arith; of_write = omega (arith, core.numbers.of_write) };
           pass_room = record { reserved = omega (arith, ready, ap length same_reads) };
-          frame_room = record { few = core.frame_room.few; reserved = omega (arith, spare, ap length same_reads); size_is = omega (arith, size, core.frame_room.size_is); limit_is = omega (arith, limit, core.frame_room.limit_is); pages_is = omega (arith, in_file, core.frame_room.pages_is) };
+          frame_room = record { few = core.frame_room.few; reserved = omega (arith, free_frames, ap length same_reads); size_is = omega (arith, size, core.frame_room.size_is); capacity_is = omega (arith, capacity, core.frame_room.capacity_is); pages_is = omega (arith, in_file, core.frame_room.pages_is) };
         }
 
     pub keeps-replace : (gone : ℕ) (ws : List ℕ) → EachPast v (λ past. has_free_frame v.parameters past ≡ false) → EachPast v (λ past. victim v.parameters past ≡ Some gone) → EachPast v (λ past. unsaved past gone ≡ false)
@@ -99,7 +99,7 @@ module _ (c : Parameters) (trail : Kept) (x : State) (core : IsCore c trail x) (
         → (g h : Blocks) → SameSettings x.histories g → SameStampsAt x.histories g p → ((q : ℕ) → q ≢ p → SameAt x.histories g q) → is_held g p ≡ true → KeepsPlaces x.histories g → IsSome (place_of g p)
         → SameSettings g h → SameStampsAt g h gone → ((q : ℕ) → q ≢ gone → SameAt g h q) → is_held h gone ≡ false → KeepsPlaces g h
         → IsCore c (with_next trail who (Fix p) (Load x.tickets_given (Some gone)))
-        (record x { tickets_given = x.tickets_given + 1; reads = with_grant rs who p x.tickets_given; passes = ps; frames = record x.frames { frames = without_page gone x.frames.frames; spare = x.frames.spare + 1; places = ws; candidates = e }; histories = h })
+        (record x { tickets_given = x.tickets_given + 1; reads = with_grant rs who p x.tickets_given; passes = ps; frames = record x.frames { frames = without_page gone x.frames.frames; free_frames = x.frames.free_frames + 1; places = ws; candidates = e }; histories = h })
     keeps-replace gone ws full chosen saved e limits pages leaves out g h g_settings g_stamps g_others g_kept g_places g_place h_settings h_stamps h_others h_gone h_places =
         let apart = victim-apart gone chosen away in
         let first = unprepared x.histories g p g_stamps g_others in
@@ -121,7 +121,7 @@ module _ (c : Parameters) (trail : Kept) (x : State) (core : IsCore c trail x) (
           placed = placed-after g h h_places (placed-prepared x.histories g p g_others g_places core.placed g_place) (held-before g h gone h_others ((g_others gone apart).held ∙ victim-held gone chosen));
           numbers = record { of_pass = omega (arith, more.next, core.numbers.of_pass); of_read = omega arith; of_write = omega (arith, core.numbers.of_write) };
           pass_room = record { reserved = omega (arith, ready, ap length same_reads) };
-          frame_room = record { few = core.frame_room.few; reserved = omega (arith, core.frame_room.reserved, ap length same_reads); size_is = core.frame_room.size_is; limit_is = core.frame_room.limit_is; pages_is = core.frame_room.pages_is };
+          frame_room = record { few = core.frame_room.few; reserved = omega (arith, core.frame_room.reserved, ap length same_reads); size_is = core.frame_room.size_is; capacity_is = core.frame_room.capacity_is; pages_is = core.frame_room.pages_is };
         }
 
   -- ---- a read ends
@@ -160,14 +160,14 @@ module _ (c : Parameters) (trail : Kept) (x : State) (core : IsCore c trail x) (
           placed = placed-after x.histories h places core.placed (held-before x.histories h p others held-now);
           numbers = record { of_pass = core.numbers.of_pass; of_read = omega (arith, more.next, core.numbers.of_read); of_write = core.numbers.of_write };
           pass_room = record { reserved = omega (arith, core.pass_room.reserved, fewer-kept, ap length left) };
-          frame_room = record { few = core.frame_room.few; reserved = omega (arith, core.frame_room.reserved, fewer-kept, ap length left); size_is = core.frame_room.size_is; limit_is = core.frame_room.limit_is; pages_is = core.frame_room.pages_is };
+          frame_room = record { few = core.frame_room.few; reserved = omega (arith, core.frame_room.reserved, fewer-kept, ap length left); size_is = core.frame_room.size_is; capacity_is = core.frame_room.capacity_is; pages_is = core.frame_room.pages_is };
         }
 
-    pub keeps-end_load : (rs : Given) → rs.out ≡ filter (λ g. not (g.serial == t)) x.reads.out → GivesAsMuch x.reads rs → (block : ℕ) → place_of x.histories p ≡ Some block → (image : List ℕ) → length image ≡ v.parameters.size → (fs : Table) → IsPermutation (loaded_with p block image ∷ x.frames.frames) fs.frames → fs.spare + 1 ≡ x.frames.spare → fs.size ≡ x.frames.size → fs.limit ≡ x.frames.limit → fs.pages ≡ x.frames.pages → fs.candidates ≡ x.frames.candidates
+    pub keeps-end_load : (rs : Given) → rs.out ≡ filter (λ g. not (g.serial == t)) x.reads.out → GivesAsMuch x.reads rs → (block : ℕ) → place_of x.histories p ≡ Some block → (image : List ℕ) → length image ≡ v.parameters.size → (fs : Table) → IsPermutation (loaded_with p block image ∷ x.frames.frames) fs.frames → fs.free_frames + 1 ≡ x.frames.free_frames → fs.size ≡ x.frames.size → fs.capacity ≡ x.frames.capacity → fs.pages ≡ x.frames.pages → fs.candidates ≡ x.frames.candidates
         → (h : Blocks) → SameSettings x.histories h → ((refs : List Reference) → IsTimed refs → HasStampsOf x.histories p refs → HasStampsOf h p (fault x.clock ∷ refs)) → ((q : ℕ) → q ≢ p → SameAt x.histories h q) → is_held h p ≡ true → KeepsPlaces x.histories h
         → IsCore c (with_next trail who (ReadEnd t p (Some image)) (Fixed x.passes_given))
         (record x { passes_given = x.passes_given + 1; passes = with_grant x.passes who p x.passes_given; reads = rs; frames = fs; histories = h })
-    keeps-end_load rs left more block place image fits fs moved spare size limit in_file same_candidates h settings stamps others kept places =
+    keeps-end_load rs left more block place image fits fs moved free_frames size capacity in_file same_candidates h settings stamps others kept places =
         let a = core.agrees in
         let refs = references c trail.past p in
         let stamped = subst (λ u. HasStampsOf h p (fault u ∷ refs)) a.observed.clock_is (stamps refs (references-timed c trail.past p).timed (a.observed.stamps_are p)) in
@@ -181,5 +181,5 @@ module _ (c : Parameters) (trail : Kept) (x : State) (core : IsCore c trail x) (
           placed = placed-after x.histories h places core.placed was;
           numbers = record { of_pass = omega arith; of_read = omega (arith, more.next, core.numbers.of_read); of_write = core.numbers.of_write };
           pass_room = record { reserved = omega (arith, core.pass_room.reserved, fewer-kept, ap length left) };
-          frame_room = record { few = core.frame_room.few; reserved = omega (arith, core.frame_room.reserved, fewer-kept, spare, ap length left); size_is = omega (arith, size, core.frame_room.size_is); limit_is = omega (arith, limit, core.frame_room.limit_is); pages_is = omega (arith, in_file, core.frame_room.pages_is) };
+          frame_room = record { few = core.frame_room.few; reserved = omega (arith, core.frame_room.reserved, fewer-kept, free_frames, ap length left); size_is = omega (arith, size, core.frame_room.size_is); capacity_is = omega (arith, capacity, core.frame_room.capacity_is); pages_is = omega (arith, in_file, core.frame_room.pages_is) };
         }

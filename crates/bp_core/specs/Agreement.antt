@@ -170,11 +170,11 @@ pub record HasPassRoom (reads room : ℕ) : Type 0 where
   pub reserved : reads ≤ room
 
 -- and a frame for each read
-pub record HasFrameRoom (c : Parameters) (reads spare size limit pages : ℕ) : Type 0 where
+pub record HasFrameRoom (c : Parameters) (reads free_frames size capacity pages : ℕ) : Type 0 where
   pub few : c.frames ≤ 65536
-  pub reserved : reads ≤ spare
+  pub reserved : reads ≤ free_frames
   pub size_is : size ≡ c.size
-  pub limit_is : limit ≡ c.frames
+  pub capacity_is : capacity ≡ c.frames
   pub pages_is : pages ≡ c.pages
 
 -- the next pass and the next ticket have numbers from which each list may give
@@ -207,7 +207,7 @@ pub record IsCore (c : Parameters) (trail : Kept) (x : State) : Type 0 where
       HasNextNumbers x.passes.next x.reads.next x.writes.next x.passes_given x.tickets_given
   pub pass_room : HasPassRoom (length x.reads.out) x.passes.room
   pub frame_room :
-      HasFrameRoom c (length x.reads.out) x.frames.spare x.frames.size x.frames.limit x.frames.pages
+      HasFrameRoom c (length x.reads.out) x.frames.free_frames x.frames.size x.frames.capacity x.frames.pages
 
 abbrev pub view_of : Parameters → Kept → CoreView
 view_of c trail = record { parameters = c; before = trail.before; past = trail.past }
@@ -227,9 +227,9 @@ pub record IsFirst (c : Parameters) (x : State) : Type 0 where
       x.frames
       ≡ record {
         frames = [];
-        spare = 0;
+        free_frames = 0;
         size = c.size;
-        limit = c.frames;
+        capacity = c.frames;
         pages = c.pages;
         places = replicate c.pages 0;
         candidates = record { frames = c.frames; correlated = c.correlated; entries = [] };

@@ -48,7 +48,7 @@ impl Model for PassNote {
     ghost inverse = { λ g. record { client = g.client; page = g.page; serial = g.serial } };
 }
 
-/// What `fix` gave.
+/// The result of `fix`.
 pub enum Fix {
     /// The page is in a frame: the pass of it.
     Hit(Pass),
@@ -59,7 +59,7 @@ pub enum Fix {
     WriteFirst(WriteTicket),
 }
 
-/// What `flush` gave.
+/// The result of `flush`.
 pub enum Flush {
     /// The page is in a frame and not unsaved: nothing is to be written.
     Clean,
@@ -78,28 +78,25 @@ pub enum EndRefusal<T, R> {
 }
 
 impl Pass {
-    /// The client that the pass was given to.
     pub fn client(&self) -> u8
         ensures { result ≡ self.now.client }
     {
         self.client
     }
 
-    /// The page that it is for.
     pub fn page(&self) -> PageNo
         ensures { result ≡ self.now.page }
     {
         self.page
     }
 
-    /// Its serial number.
     pub fn serial(&self) -> u64
         ensures { result ≡ self.now.serial }
     {
         self.serial
     }
 
-    /// What it was given as.
+    /// The grant of the pass, as plain data.
     pub(crate) fn grant(&self) -> Grant
         ensures { result ≡ grant self.now.client self.now.page self.now.serial }
     {
@@ -110,7 +107,7 @@ impl Pass {
         }
     }
 
-    /// A note of the pass, in its place. No core is asked.
+    /// Spends the pass and returns its note. No core is asked: the page stays pinned.
     pub fn note(self) -> PassNote
         ensures { result ≡ grant self.client self.page self.serial }
     {
@@ -124,7 +121,7 @@ impl Pass {
 }
 
 impl PassNote {
-    /// A note of the pass with this client, page and serial number. Whether it was given, a core tells.
+    /// Makes a note of these numbers. No core is asked whether it gave such a pass.
     pub fn of(client: u8, page: PageNo, serial: u64) -> PassNote
         ensures { result ≡ grant client page serial }
     {
@@ -135,28 +132,25 @@ impl PassNote {
         }
     }
 
-    /// The client that the pass was given to.
     pub fn client(&self) -> u8
         ensures { result ≡ self.now.client }
     {
         self.client
     }
 
-    /// The page of that pass.
     pub fn page(&self) -> PageNo
         ensures { result ≡ self.now.page }
     {
         self.page
     }
 
-    /// The serial number of that pass.
     pub fn serial(&self) -> u64
         ensures { result ≡ self.now.serial }
     {
         self.serial
     }
 
-    /// The pass again. Whether a core knows it, that core tells.
+    /// Makes a pass of the note. A core where it is not out refuses it as `UnknownPass`.
     pub fn pass(self) -> Pass
         ensures client { result.client ≡ self.client }
         ensures page { result.page ≡ self.page }
@@ -171,21 +165,18 @@ impl PassNote {
 }
 
 impl ReadTicket {
-    /// The client that the ticket was given to.
     pub fn client(&self) -> u8
         ensures { result ≡ self.now.client }
     {
         self.client
     }
 
-    /// The page that it is for.
     pub fn page(&self) -> PageNo
         ensures { result ≡ self.now.page }
     {
         self.page
     }
 
-    /// Its serial number.
     pub fn serial(&self) -> u64
         ensures { result ≡ self.now.serial }
     {
@@ -203,42 +194,38 @@ impl ReadTicket {
 }
 
 impl WriteTicket {
-    /// The client that the ticket was given to.
     pub fn client(&self) -> u8
         ensures { result ≡ self.now.client }
     {
         self.client
     }
 
-    /// The page that it is for.
     pub fn page(&self) -> PageNo
         ensures { result ≡ self.now.page }
     {
         self.page
     }
 
-    /// Its serial number.
     pub fn serial(&self) -> u64
         ensures { result ≡ self.now.serial }
     {
         self.serial
     }
 
-    /// The image to write.
     pub fn image(&self) -> &Image
         ensures { result.now ≡ self.now.image }
     {
         &self.image
     }
 
-    /// The page LSN when the write-out began.
+    /// Returns the page LSN when the write-out began.
     pub fn lsn(&self) -> Lsn
         ensures { result ≡ self.now.lsn }
     {
         self.lsn
     }
 
-    /// Spends the ticket as `forfeit` does, and gives its image, so that the caller frees that memory where it likes.
+    /// Spends the ticket as `forfeit` does, and returns its image, so that the caller frees that memory where it likes.
     pub fn into_image(self) -> Image
         ensures { result ≡ self.image }
     {

@@ -1,4 +1,4 @@
-//! The core itself: its trail, and what the trail's entries come to.
+//! `PoolCore`: the core itself, which is its trail and the state that the trail's entries lead to.
 ghost use Rattle.bp_core.specs.Agreement.{parameters_of, parameters_with};
 ghost use Rattle.bp_core.specs.Outcomes.{NewOutcome};
 
@@ -42,9 +42,9 @@ impl<K: Keeper> Model for PoolCore<K> {
 }
 
 impl<K: Keeper> PoolCore<K> {
-    /// A core with empty frames, the clock at 1 and nothing durable. `BadSettings` where the frames are not 1 to
+    /// Makes a core with empty frames, the clock at 1 and nothing durable. `BadSettings` where the frames are not 1 to
     /// 65,536, the clients not 1 to 64 or the room not 1 to its keeper's most, which is 16,777,216 entries in memory,
-    /// or a count of 2^61; `OutOfMemory` where the lists can't be reserved.
+    /// or a count of 2^61; `OutOfMemory` where there is no memory for the lists.
     pub fn new(
         alloc: Global,
         geometry: Geometry,
@@ -72,7 +72,7 @@ impl<K: Keeper> PoolCore<K> {
             trail,
         })
     }
-    /// A core of this configuration for so many clients, as `new` makes it.
+    /// Makes a core of this configuration for so many clients, as `new` does.
     pub fn with_config(alloc: Global, config: &Config, clients: u8) -> Result<PoolCore<K>, Refusal>
         ensures outcome { NewOutcome K.MOST_ROOM (parameters_with config.now clients) result }
     {

@@ -1,4 +1,4 @@
-//! What a core keeps beside its trail.
+//! `State`: what a core keeps beside its trail.
 ghost use Rattle.std.specs.Prelude.{◌≡◌, ◌≢◌, ℕ, ◌+◌, ◌^◌, ◌<◌, ◌≤◌, Some, None, IfOk};
 ghost use Rattle.bp_replacer.specs.Histories.{place_of};
 ghost use Rattle.bp_references.specs.Candidates.{entry_of, NoPageTwice, SameLimits};
@@ -11,7 +11,7 @@ use bp_page::{Lsn, PageNo};
 use bp_replacer::{BlockNo, Histories};
 use std::alloc::{AllocError, Global};
 
-/// What the entries of a trail come to.
+/// The state that the entries of a trail lead to.
 #[derive(Drop)]
 pub(crate) struct State {
     pub(crate) clock: u64,
@@ -32,7 +32,8 @@ impl State {
     ghost use Rattle.bp_frames.specs.GrantLists.{with_grant};
     ghost use Rattle.bp_core.specs.Agreement.{parameters_of, EndsUse, IsFirst, TellBlocks};
 
-    /// What no entries come to, with the room for as many reads and frames as it may have.
+    /// Makes the state before any entry, with room for as many reads and frames as there may be. It fails by want of
+    /// memory alone.
     pub(crate) fn new(alloc: Global, config: &CoreConfig) -> Result<State, AllocError>
         requires { config.now.frames ≤ 65536 }
         ensures { IfOk result (IsFirst (parameters_of config.now)) }
@@ -55,7 +56,7 @@ impl State {
         })
     }
 
-    /// The block of the page in a frame, which the frame tells.
+    /// Returns the number of the block of the page's references, with no look-up by the page.
     pub(crate) fn block(&self, slot: &FrameSlot) -> BlockNo
         requires at { IsSlotIn self.now.frames slot.now }
         requires told { TellBlocks self.now.histories self.now.frames.frames }

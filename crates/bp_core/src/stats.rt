@@ -1,16 +1,15 @@
-//! What a core counts.
+//! `Stats`: the counters of a core.
 use bp_trail::Totals;
 
-/// What a core counted since it was made, and how many pages there are of each kind now.
+/// The number of replies of each kind since the core was made, and of pages in each state now.
 #[derive(Clone, Copy, Drop)]
 pub struct Stats {
-    /// How many replies of each kind its entries have, with the entries that cuts handed out.
+    /// Replies of each kind, also those of entries that cuts handed out.
     pub totals: Totals,
     /// Pages in frames.
     pub resident: usize,
     /// Pages of which a pass is out. Of a shared pool also those whose pass still waits in a ring.
     pub pinned: usize,
-    /// Pages that are unsaved.
     pub unsaved: usize,
     /// Pages that are being read, or made anew.
     pub loading: usize,

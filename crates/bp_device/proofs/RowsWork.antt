@@ -10,7 +10,7 @@ use Rattle.bp_trail.specs.Event.{Grant}
 use Rattle.bp_trail.specs.Pieces.{Outcome, OneCall}
 use Rattle.bp_trail.specs.Pieces.Manner.{driver}
 use Rattle.bp_trail.specs.Pieces.Outcome.{accepted, refused}
-use Rattle.bp_trail.specs.Script.{latest_pass, WithPass, RowPiece, GivesBack, give_back}
+use Rattle.bp_trail.specs.Script.{latest_pass, WithPass, RowPiece, GivesBack, unfix_of}
 use Rattle.bp_trail.specs.Script.GivesBack.{none_held, next}
 use Rattle.bp_trail.specs.Trail.{Trail}
 use Rattle.bp_core.specs.CoreView.{CoreView}
@@ -72,11 +72,11 @@ module _ {A : Type 0} (reads : Reads A) (writes : Writes A) where
   goes-back : (past after : Trail) (port : A) → GivesBack past after → GoesBack past after port
   goes-back past _ port (none_held none) = record { back = []; grows = refl; through = λ older. refl }
   goes-back past after port (next g first rest) =
-      let r = goes-back (give_back g ∷ past) after port rest in
+      let r = goes-back (unfix_of g ∷ past) after port rest in
       record {
-        back = r.back ++ give_back g ∷ [];
-        grows = r.grows ∙ sym (append_assoc r.back (give_back g ∷ []) past);
-        through = λ older. through-append older r.back (give_back g ∷ []) port port port (port, refl, refl) (r.through (give_back g ∷ older));
+        back = r.back ++ unfix_of g ∷ [];
+        grows = r.grows ∙ sym (append_assoc r.back (unfix_of g ∷ []) past);
+        through = λ older. through-append older r.back (unfix_of g ∷ []) port port port (port, refl, refl) (r.through (unfix_of g ∷ older));
       }
 
   pub gave-back-work : (old new : CoreView) (port : A) (held : List Grant) → EndsIn old held → GaveBack old held new → DoesWork reads writes old port new port

@@ -15,7 +15,7 @@ use Rattle.bp_trail.specs.Legal.{is_out}
 use Rattle.bp_core.specs.CoreView.{CoreView, with_entry}
 use Rattle.bp_trail.specs.Pieces.{Outcome}
 use Rattle.bp_trail.specs.Pieces.Manner.{driver}
-use Rattle.bp_trail.specs.Script.{refused_row, FollowsBy, GivesBack, first_to_go_back, give_back}
+use Rattle.bp_trail.specs.Script.{refused_row, FollowsBy, GivesBack, first_to_go_back, unfix_of}
 use Rattle.bp_trail.specs.Script.GivesBack.{none_held, next as gives_next}
 use Rattle.bp_trail.proofs.Lists.{some-append, some-mono}
 use Rattle.bp_trail.proofs.Counting.{reverse-push, filter-reverse}
@@ -96,7 +96,7 @@ going-join old mid new held left fewer first second = record {
 pub going-next : (old mid new : CoreView) (held left fewer : List Grant) (g : Grant) → GoingBack old held left mid → first_to_go_back left ≡ Some g → new ≡ with_entry mid g.client (Unfix g.serial g.page) Done
     → fewer ≡ filter (λ h. not (h.serial == g.serial)) left → GoingBack old held fewer new
 going-next old mid new held left fewer g going found is kept = record {
-  back = give_back g ∷ going.back;
+  back = unfix_of g ∷ going.back;
   is = is ∙ ap (λ core. with_entry core g.client (Unfix g.serial g.page) Done) going.is;
   are_held = λ said are. kept ∙ ap (filter (λ h. not (h.serial == g.serial))) (going.are_held said are) ∙ sym (filter-reverse (λ h. not (h.serial == g.serial)) (passes_out (going.back ++ said)));
   onwards = λ said are after gives. going.onwards said are after (gives_next g (ap first_to_go_back (sym (going.are_held said are)) ∙ found) gives);

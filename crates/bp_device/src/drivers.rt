@@ -1,4 +1,5 @@
-//! A fix, also of a new page, and a flush over a core that has one owner, with the reads and writes of its device.
+//! `drive_fix`, `drive_new` and `drive_flush`: calls on a core that has one owner, with the reads and writes of the
+//! device that they need.
 ghost use Rattle.std.specs.Prelude.{◌≡◌, ◌<◌, IfErr, IfOk, length};
 ghost use Rattle.std.specs.Result.{is_ok};
 ghost use Rattle.bp_trail.specs.declared.entries.Call.TheVariants as call;
@@ -79,9 +80,9 @@ fn fix_saving_victim<K: Keeper, P: Port, R: Wait>(
 /// that is unsaved. The device does this and nothing else: each read is of the page, each write of the ticket's page,
 /// with its image and its page LSN, and the entries have what the port answered.
 ///
-/// Refused as `Core::fix` is, then with nothing changed but the entries of its steps so far; with `ReadFailed` where
-/// the page could not be read, and `WrongPage` where another page was found in its place, which is then not resident;
-/// with `WriteFailed` where the victim could not be written, which then stays, unsaved.
+/// Refused as `Core::fix` is, then with nothing changed except by the entries of its steps so far; with `ReadFailed`
+/// where the page could not be read, and `WrongPage` where another page was found in its place, which is then not
+/// resident; with `WriteFailed` where the victim could not be written, which then stays, unsaved.
 pub fn drive_fix<K: Keeper, P: Port, R: Wait>(
     rt: &R,
     core: &mut PoolCore<K>,
@@ -107,7 +108,7 @@ pub fn drive_fix<K: Keeper, P: Port, R: Wait>(
     }
 }
 
-/// An image of zeros, of the page size. `Memory` where it can't be had.
+/// Returns an image of zeros, of the page size. `Memory` where there is no memory for it.
 fn blank_image(alloc: Global, geometry: &Geometry) -> Result<Image, PortFault>
     ensures blank { IsBlank geometry.now.size result }
     ensures size { IfOk result (λ image. length image ≡ geometry.now.size) }
@@ -118,13 +119,13 @@ fn blank_image(alloc: Global, geometry: &Geometry) -> Result<Image, PortFault>
     }
 }
 
-/// Fixes a page that is new, over a core that nobody else uses: as `drive_fix`, but where the page is away its image is
-/// zeros, and the device is not asked to read it. So it is for a page that was never written, or whose bytes on the
-/// device are to be lost, which nobody but the caller knows. A page that is in a frame keeps its bytes there. The zeros
-/// are not unsaved: they reach the device only with a write of the page.
+/// Fixes a page that is new, over a core that nobody else uses: as `drive_fix`, except that where the page is away its
+/// image is zeros, and the device is not asked to read it. So it is for a page that was never written, or whose bytes
+/// on the device are to be lost, which nobody but the caller knows. A page that is in a frame keeps its bytes there.
+/// The zeros are not unsaved: they reach the device only with a write of the page.
 ///
-/// Refused as `drive_fix` is, but never with `WrongPage`; with `ReadFailed` where the memory for the image can't be
-/// had, and the page is then not resident.
+/// Refused as `drive_fix` is, but never with `WrongPage`; with `ReadFailed` where there is no memory for the image, and
+/// the page is then not resident.
 pub fn drive_new<K: Keeper, P: Port, R: Wait>(
     rt: &R,
     alloc: Global,
@@ -153,10 +154,10 @@ pub fn drive_new<K: Keeper, P: Port, R: Wait>(
     }
 }
 
-/// Writes a page out where it is unsaved, over a core that nobody else uses, and tells how it came to be saved.
+/// Writes a page out where it is unsaved, over a core that nobody else uses, and returns the result.
 ///
-/// Refused as `Core::flush` is, then with nothing changed but that entry; with `WriteFailed` where the page could not
-/// be written, which then stays, unsaved.
+/// Refused as `Core::flush` is, then with nothing changed except for that entry; with `WriteFailed` where the page
+/// could not be written, which then stays, unsaved.
 pub fn drive_flush<K: Keeper, P: Port, R: Wait>(
     rt: &R,
     core: &mut PoolCore<K>,

@@ -1,4 +1,4 @@
-//! A flush of each unsaved page of a core that has one owner.
+//! `drive_flush_all`: writes out each unsaved page of a core that has one owner.
 ghost use Rattle.std.specs.Prelude.{◌≡◌, ◌<◌, IfErr};
 ghost use Rattle.bp_trail.specs.declared.entries.Call.TheVariants as call;
 ghost use Rattle.bp_core.specs.Work.{DoesWork};
@@ -14,7 +14,7 @@ use std::sync::Wait;
 /// file is unsaved.
 ///
 /// It ends at the first page whose flush is refused, as `drive_flush` is, and names it. That page is then unsaved
-/// still, the pages before it are saved, and the pages after it are as they were. A later call begins anew.
+/// still, the pages before it are saved, and the pages after it are as they were. A later call begins again at page 0.
 pub fn drive_flush_all<K: Keeper, P: Port, R: Wait>(
     rt: &R,
     core: &mut PoolCore<K>,

@@ -1,4 +1,4 @@
-//! The passes that a script's clients hold, with the latest of each client and page at hand.
+//! `HeldList`: the passes that a script's clients hold, with the latest of each client and page at hand.
 ghost use Rattle.std.specs.Prelude.{◌≡◌, ◌≤◌, ◌<◌, ◌+◌, ◌++◌, ◌∷◌, [], ◌==◌, ℕ, not, find, filter, reverse};
 ghost use Rattle.std.specs.Prelude.{length, if◌then◌else◌, vec_len, vec_capacity};
 ghost use Rattle.std.specs.Prelude.{IfNone, IfSome, IsSome, IsTrue, OnOk};
@@ -21,9 +21,9 @@ type Key = (u8, u64);
 #[derive(Clone, Copy)]
 struct Slot {
     note: PassNote,
-    /// Whether it did not go back.
+    /// True as long as it is held.
     is_held: bool,
-    /// Where the pass stands that was its client's latest of the page before it.
+    /// The place of the pass that was its client's latest of the page before it.
     previous: Option<usize>,
 }
 
@@ -35,9 +35,9 @@ struct Slot {
 #[derive(Drop)]
 pub struct HeldList {
     slots: Vec<Slot>,
-    /// Where the pass stands that a client took latest of a page and holds.
+    /// For each client and page, the place of the latest pass that it took and holds.
     latest: HashMap<Key, usize>,
-    /// Whether each slot has a greater serial number than the one before it.
+    /// True if each slot has a greater serial number than the one before it.
     is_rising: bool,
 }
 
@@ -60,21 +60,21 @@ impl Model for HeldList {
         × (h.is_rising ≡ rise (serials_in h.slots.items)) };
 }
 
-/// Whose pass it is and of which page.
+/// The client and the page of the pass.
 fn key_of(note: &PassNote) -> Key
     ensures { result ≡ (note.now.client, note.now.page) }
 {
     (note.client(), note.page().number())
 }
 
-/// Where the pass stands that was taken latest by this key.
+/// The place of the latest pass of a client and page.
 fn place_of(latest: &HashMap<Key, usize>, key: Key) -> Option<usize>
     ensures { result ≡ get same_key latest.now key }
 {
     latest.get(&key).copied()
 }
 
-/// Notes where the pass stands that is now the latest of this key, if there is one.
+/// Changes the place of the latest pass of a client and page, or removes it.
 fn relink(latest: &mut HashMap<Key, usize>, key: Key, place: Option<usize>)
     requires there { IsSome (get same_key latest.old key) }
     ensures places { (q : ℕ × ℕ) → get same_key latest.new q ≡
@@ -93,7 +93,7 @@ fn relink(latest: &mut HashMap<Key, usize>, key: Key, place: Option<usize>)
     }
 }
 
-/// Whether the numbers rise with one note more.
+/// Returns true if the numbers rise with one note more.
 fn rises_with(slots: &[Slot], is_rising: bool, note: &PassNote) -> bool
     requires { is_rising ≡ rise (serials_in slots.now) }
     ensures { result ≡ rise (serials_in slots.now ++ note.now.serial ∷ []) }
@@ -128,7 +128,7 @@ fn copy_held(slots: &[Slot], notes: &mut Vec<PassNote>)
 }
 
 impl HeldList {
-    /// None. It takes no memory.
+    /// Makes an empty list. It takes no memory.
     pub fn new(alloc: Global) -> HeldList
         ensures passes { result.passes ≡ [] }
         ensures serials { result.serials ≡ [] }
@@ -140,7 +140,7 @@ impl HeldList {
         }
     }
 
-    /// Room for so many more. Where memory is refused the passes stay, with no less room.
+    /// Makes room for so many more. Where memory is refused the passes stay, with no less room.
     pub fn reserve(&mut self, more: usize) -> Result<(), AllocError>
         ensures passes { self.new.passes ≡ self.old.passes }
         ensures serials { self.new.serials ≡ self.old.serials }
@@ -151,8 +151,8 @@ impl HeldList {
         self.latest.reserve(more)
     }
 
-    /// Whether each pass had a greater serial number than the one taken before it, as those of one core have. Then no
-    /// two have the same.
+    /// Returns true if each pass had a greater serial number than the one taken before it, as those of one core have.
+    /// Then no two have the same.
     pub fn serials_rise(&self) -> bool
         ensures rise { result ≡ rise self.now.serials }
         ensures differ { IsTrue result → SerialsDiffer self.now.passes }
@@ -160,7 +160,7 @@ impl HeldList {
         self.is_rising
     }
 
-    /// The pass of the page that the client took latest.
+    /// Returns the pass of the page that the client took latest and holds.
     pub fn latest(&self, client: u8, page: PageNo) -> Option<PassNote>
         ensures { result ≡ find (is_pass_of client page) (reverse self.now.passes) }
     {
@@ -170,7 +170,7 @@ impl HeldList {
         Some(self.slots[place].note)
     }
 
-    /// Adds the pass taken latest, which takes no memory.
+    /// Adds the pass taken latest. There must be room: it takes no memory.
     pub fn push(&mut self, note: PassNote)
         requires room { 0 < self.old.room }
         ensures passes { self.new.passes ≡ self.old.passes ++ note ∷ [] }
@@ -189,7 +189,7 @@ impl HeldList {
         });
     }
 
-    /// Takes out the pass of the page that the client took latest, and gives its note. Where the client holds none of
+    /// Takes out the pass of the page that the client took latest, and returns its note. Where the client holds none of
     /// the page, nothing changes.
     pub fn take_latest(&mut self, client: u8, page: PageNo) -> Option<PassNote>
         requires differ { SerialsDiffer self.old.passes }

@@ -1,4 +1,4 @@
-//! The passes that a script's clients hold, as notes in the order taken.
+//! Gives back the passes that a script's clients hold.
 ghost use Rattle.std.specs.Prelude.{IfNone, IfSome, All, Any, List, true, not, ◌==◌, filter};
 ghost use Rattle.std.specs.Prelude.{◌≡◌, ◌≤◌, []};
 ghost use Rattle.bp_trail.specs.declared.entries.Call.TheVariants as Call;
@@ -11,7 +11,6 @@ ghost use Rattle.bp_device.specs.Rows.{EndsIn, SerialsDiffer, GoingBack, GaveBac
 
 use bp_core::{Keeper, PassNote, PoolCore};
 
-/// Whether the note is of a pass that this client took.
 fn is_taken_by(note: &PassNote, client: u8) -> bool
     ensures { result ≡ (note.now.client == client) }
 {
@@ -19,7 +18,7 @@ fn is_taken_by(note: &PassNote, client: u8) -> bool
 }
 
 /// Gives the pass back. Its note stays.
-pub(crate) fn give<K: Keeper>(core: &mut PoolCore<K>, note: PassNote)
+pub(crate) fn unfix_note<K: Keeper>(core: &mut PoolCore<K>, note: PassNote)
     requires known { EachPast core.old (λ past. is_out note (passes_out past) ≡ true) }
     ensures entry { core.new ≡ with_entry core.old note.client
         (Call.Unfix note.serial note.page) Reply.Done }
@@ -30,7 +29,7 @@ pub(crate) fn give<K: Keeper>(core: &mut PoolCore<K>, note: PassNote)
     }
 }
 
-/// That no two of the passes that a core's newest entries leave out have one serial number. It does nothing.
+/// A lemma, which does nothing: no two of the passes that a core's newest entries leave out have one serial number.
 pub(crate) fn serials_differ<K: Keeper>(core: &PoolCore<K>)
     ensures { (held : List Grant) → EndsIn core.now held → SerialsDiffer held }
 {
@@ -38,7 +37,7 @@ pub(crate) fn serials_differ<K: Keeper>(core: &PoolCore<K>)
     core.keeps_the_rules();
 }
 
-/// The lowest client that holds a pass.
+/// Returns the lowest client that holds a pass.
 fn lowest_client(held: &[PassNote]) -> Option<u8>
     ensures none { IfNone result (held.now ≡ []) }
     ensures least { IfSome result (λ lowest. All (λ g. lowest ≤ g.client) held.now) }
@@ -48,7 +47,7 @@ fn lowest_client(held: &[PassNote]) -> Option<u8>
 }
 
 /// Gives back the passes that this client holds, in the order taken, where no lower client holds any. Their notes stay.
-fn give_back_of<K: Keeper>(core: &mut PoolCore<K>, held: &[PassNote], client: u8)
+fn unfix_all_of<K: Keeper>(core: &mut PoolCore<K>, held: &[PassNote], client: u8)
     requires ends_in { EndsIn core.old held.now }
     requires least { All (λ g. client ≤ g.client) held.now }
     ensures outcome { GoingBack core.old held.now (filter
@@ -57,18 +56,18 @@ fn give_back_of<K: Keeper>(core: &mut PoolCore<K>, held: &[PassNote], client: u8
     serials_differ(core);
     for note in held {
         if is_taken_by(note, client) {
-            give(core, *note);
+            unfix_note(core, *note);
         }
     }
 }
 
 /// Gives back all passes that are held: client by client, from the lowest, in the order taken.
-pub(crate) fn give_back_all<K: Keeper>(core: &mut PoolCore<K>, held: &mut Vec<PassNote>)
+pub(crate) fn unfix_all<K: Keeper>(core: &mut PoolCore<K>, held: &mut Vec<PassNote>)
     requires ends_in { EndsIn core.old held.old.items }
     ensures outcome { GaveBack core.old held.old.items core.new }
 {
     while let Some(client) = lowest_client(held) {
-        give_back_of(core, held, client);
+        unfix_all_of(core, held, client);
         held.retain(|note| !is_taken_by(note, client));
     }
 }

@@ -1,4 +1,5 @@
-//! Drivers of a core that has one owner, and the ways to a device, which are those of `bp_ports`.
+//! Calls on a core that has one owner, with their device work done: the drivers, `OwnedPool` and scripts. The ports are
+//! those of `bp_ports`.
 #![tactic(auto)]
 
 pub mod drivers;

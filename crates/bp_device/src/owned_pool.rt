@@ -1,4 +1,4 @@
-//! A pool for one owner: a core, its port and client 0 in one.
+//! `OwnedPool`: a pool for one owner, which is a core and a port in one.
 ghost use Rattle.std.specs.Prelude.{◌≡◌, ◌≢◌, ◌+◌, ◌<◌, ◌≤◌, ◌↔◌, true, false, IsTrue, IsOk, IfOk, OnErr, IfErr, IfSome, IfNone, length};
 ghost use Rattle.std.specs.Fn.{FnOnceReturnsAt};
 ghost use Rattle.bp_trail.specs.declared.entries.Call.TheVariants as call;
@@ -29,8 +29,8 @@ use std::sync::Wait;
 /// A pool for one owner: a core of which nobody else is a client, and the port to its device. What the owner does is
 /// done as client 0, and each call ends with its device work done.
 ///
-/// The clock moves on by one at each fix, so that no page stays within the correlated period for ever. An owner who
-/// ticks as he likes turns that off, by `set_ticking`.
+/// The clock moves on by one at each fix, so that no page stays within the correlated period for ever. An owner that
+/// moves the clock itself turns that off, by `set_ticking`.
 #[derive(Drop)]
 pub struct OwnedPool<K: Keeper, P: Port> {
     alloc: Global,
@@ -49,7 +49,7 @@ impl<K: Keeper, P: Port> Model for OwnedPool<K, P> {
 }
 
 impl<K: Keeper, P: Port> OwnedPool<K, P> {
-    /// A pool of this core over this port, whose clock moves at each fix. What the core did before goes on.
+    /// Makes a pool of this core over this port, whose clock moves at each fix. What the core did before goes on.
     /// `BadSettings` where the port's pages are not as many as the core's, or of another size, or the core has no
     /// client; both are then dropped.
     pub fn new(alloc: Global, core: PoolCore<K>, port: P) -> Result<OwnedPool<K, P>, Refusal>
@@ -75,8 +75,8 @@ impl<K: Keeper, P: Port> OwnedPool<K, P> {
         })
     }
 
-    /// A pool over this port with a new core, as `PoolCore::new` makes it, of the port's pages and for one client.
-    /// `BadSettings` and `OutOfMemory` as from there; the port is then dropped.
+    /// Makes a pool over this port with a new core, as `PoolCore::new` makes it, of the port's pages and for one
+    /// client. `BadSettings` and `OutOfMemory` as from there; the port is then dropped.
     pub fn over(
         alloc: Global,
         port: P,
@@ -97,21 +97,19 @@ impl<K: Keeper, P: Port> OwnedPool<K, P> {
         OwnedPool::new(alloc, core, port)
     }
 
-    /// Its core, to look at.
     pub fn core(&self) -> &PoolCore<K>
         ensures { result.now ≡ self.now.core }
     {
         &self.core
     }
 
-    /// Its port, to look at.
     pub fn port(&self) -> &P
         ensures { result.now ≡ self.now.port }
     {
         &self.port
     }
 
-    /// Its core and its port, for who goes on with them otherwise. Passes that are out stay out.
+    /// Ends the pool and returns its core and its port. Passes that are out stay out.
     pub fn into_parts(self) -> (PoolCore<K>, P)
         ensures core { result.0 ≡ self.core }
         ensures port { result.1 ≡ self.port }
@@ -125,25 +123,25 @@ impl<K: Keeper, P: Port> OwnedPool<K, P> {
         (core, port)
     }
 
-    /// Says whether the clock moves on by one at each fix.
+    /// Sets whether the clock moves on by one at each fix.
     pub fn set_ticking(&mut self, is_ticking: bool)
         ensures { self.new ≡ record self.old { is_ticking = is_ticking } }
     {
         self.is_ticking = is_ticking;
     }
 
-    /// Whether the file has a page.
+    /// Returns true if the file has this page.
     fn has(&self, page: PageNo) -> bool
         ensures { IsTrue result ↔ (page < self.now.core.parameters.pages) }
     {
         page.number() < self.core.geometry().pages
     }
 
-    /// Fixes a page as `drive_fix` does, after the clock has moved on. The pass is to go back by `unfix`.
+    /// Moves the clock on by one, unless `set_ticking` turned that off, and fixes a page as `drive_fix` does. The pass
+    /// is to go back by `unfix`.
     ///
     /// `OutOfPage` where the file has no such page, which changes nothing, else `TrailFull` or `ClockFull` where the
-    /// clock can't move, which changes nothing either, else as `drive_fix`. After any other refusal the clock has
-    /// moved.
+    /// clock can't move, which changes nothing either, else as `drive_fix`, before which the clock has moved.
     pub fn fix<R: Wait>(&mut self, rt: &R, page: PageNo) -> Result<Pass, Refusal>
         ensures outcome { ForPage self.old.core.parameters page self.old result self.new
             (OwnerFixes self.old.is_ticking self.old.core page result self.new.core) }
@@ -158,8 +156,8 @@ impl<K: Keeper, P: Port> OwnedPool<K, P> {
         fix_as_owner(rt, &mut self.core, &mut self.port, self.is_ticking, page)
     }
 
-    /// Fixes a page that is new as `drive_new` does, after the clock has moved on: where the page is away its image is
-    /// zeros, and nothing is read. Refused as `fix` is.
+    /// Fixes a page that is new as `drive_new` does, and moves the clock on before as `fix` does: where the page is
+    /// away its image is zeros, and nothing is read. Refused as `fix` is.
     pub fn fix_new<R: Wait>(&mut self, rt: &R, page: PageNo) -> Result<Pass, Refusal>
         ensures outcome { ForPage self.old.core.parameters page self.old result self.new
             (OwnerFixes self.old.is_ticking self.old.core page result self.new.core) }
@@ -182,7 +180,7 @@ impl<K: Keeper, P: Port> OwnedPool<K, P> {
         )
     }
 
-    /// The bytes of the page of a pass, lent by the core as it is now. None where the pass is not out here.
+    /// Lends the bytes of the page of a pass as they are now. `None` where the pass is not out here.
     pub fn page(&self, pass: &Pass) -> Option<&[u8]>
         ensures known { IfSome result (λ bytes. KnowsPass self.now.core pass.now) }
         ensures held { IfSome result (λ bytes. EachPast self.now.core
@@ -213,8 +211,8 @@ impl<K: Keeper, P: Port> OwnedPool<K, P> {
         Ok(look_by(&mut self.core, pass, f))
     }
 
-    /// Copies so many bytes of the page of a pass, from the offset on. `OutOfPage` where they do not lie within the
-    /// page, and else as `PoolCore::read_into`. A refusal changes nothing.
+    /// Copies bytes of the page of a pass, from the offset on, as many as `into` has. `OutOfPage` where they do not lie
+    /// within the page, and else as `PoolCore::read_into`. A refusal changes nothing.
     pub fn read_into(&mut self, pass: &Pass, offset: u32, into: &mut [u8]) -> Result<(), Refusal>
         ensures outcome { ForPart self.old.core.parameters offset (length into.old)
             self.old result self.new
@@ -229,7 +227,7 @@ impl<K: Keeper, P: Port> OwnedPool<K, P> {
         self.core.read_into(pass, offset, into)
     }
 
-    /// Puts bytes into the page of a pass, from the offset on, and raises the page LSN to `lsn` if that is greater.
+    /// Writes bytes into the page of a pass, from the offset on, and raises the page LSN to `lsn` if that is greater.
     /// `OutOfPage` where they do not lie within the page, and else as `PoolCore::write_from`. A refusal changes
     /// nothing.
     pub fn write_from(
@@ -251,7 +249,8 @@ impl<K: Keeper, P: Port> OwnedPool<K, P> {
         self.core.write_from(pass, offset, bytes, lsn)
     }
 
-    /// Gives a pass back. Where it is not out here it comes back, which is `UnknownPass`, and nothing changes.
+    /// Gives a pass back, by which its page has one pin fewer. A pass that is not out here comes back as `Err`, which
+    /// stands for `UnknownPass`, and nothing changes.
     pub fn unfix(&mut self, pass: Pass) -> Result<(), Pass>
         ensures outcome { UnfixOutcome self.old.core pass result self.new.core }
         ensures port { KeepsPort self.old self.new }
@@ -287,8 +286,8 @@ impl<K: Keeper, P: Port> OwnedPool<K, P> {
         drive_flush_all(rt, &mut self.core, &mut self.port, OWNER)
     }
 
-    /// From where redo has to begin, as `PoolCore::redo_from` says. A page is saved once it was written out, which `sync`
-    /// makes durable: so ask first, sync then, and note the LSN last.
+    /// Returns the LSN from which redo has to begin, as `PoolCore::redo_from` does. A page is saved once it was written
+    /// out, which `sync` makes durable: so ask first, sync then, and note the LSN last.
     pub fn redo_from(&mut self) -> Option<Lsn>
         ensures same { self.new ≡ self.old }
         ensures least { EachPast self.old.core (λ past. IsRedoFrom past result) }
@@ -308,7 +307,7 @@ impl<K: Keeper, P: Port> OwnedPool<K, P> {
         self.port.sync(rt)
     }
 
-    /// Moves the clock on. Refused as `PoolCore::tick` is.
+    /// Moves the clock on by `n` ticks. Refused as `PoolCore::tick` is.
     pub fn tick(&mut self, n: u64) -> Result<(), Refusal>
         ensures outcome { TickOutcome self.old.core 0 n result self.new.core }
         ensures port { KeepsPort self.old self.new }
@@ -324,14 +323,14 @@ impl<K: Keeper, P: Port> OwnedPool<K, P> {
         self.core.mark(OWNER, lsn)
     }
 
-    /// The greatest LSN marked, else 0.
+    /// Returns the greatest LSN marked, else 0.
     pub fn durable(&self) -> Lsn
         ensures { EachPast self.now.core (λ past. result ≡ durable past) }
     {
         self.core.durable()
     }
 
-    /// Forgets old references, and counts their pages. Refused as `PoolCore::purge` is.
+    /// Forgets old references, and returns the number of their pages. Refused as `PoolCore::purge` is.
     pub fn purge(&mut self) -> Result<u64, Refusal>
         ensures outcome { PurgeOutcome self.old.core 0 result self.new.core }
         ensures port { KeepsPort self.old self.new }

@@ -1,4 +1,4 @@
-//! What the owner of a core does in one call, as its client 0.
+//! The calls of an owner, as client 0 of its core: the tick before a fix, and a look at a page.
 ghost use Rattle.std.specs.Prelude.{◌≡◌, ◌<◌, IfOk, OnErr, OnOk};
 ghost use Rattle.std.specs.Fn.{FnOnceReturnsAt};
 ghost use Rattle.bp_trail.specs.Images.{held};
@@ -73,7 +73,7 @@ pub(crate) fn fix_new_as_owner<K: Keeper, P: Port, R: Wait>(
     drive_new(rt, alloc, core, port, OWNER, page)
 }
 
-/// What `f` returns of the bytes of a page, whose pass then goes back.
+/// Returns what `f` returns of the bytes of a page, and gives the pass back.
 pub(crate) fn look_by<K: Keeper, T, F: FnOnce(&[u8]) -> T>(
     core: &mut PoolCore<K>,
     pass: Pass,

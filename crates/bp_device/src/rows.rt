@@ -1,4 +1,4 @@
-//! What each row of a script does.
+//! `drive_row`: the call on a core that each row of a script makes.
 ghost use Rattle.std.specs.Prelude.{◌+◌, ◌≡◌, ◌<◌, ◌≤◌, IfErr, length};
 ghost use Rattle.bp_trail.specs.declared.scripts.Step.TheVariants as Step;
 ghost use Rattle.bp_trail.specs.Fits.{RowFits};
@@ -8,7 +8,7 @@ ghost use Rattle.bp_core.specs.Work.{DoesWork};
 
 use crate::drivers::{drive_fix, drive_flush};
 use crate::held_list::HeldList;
-use crate::held_passes::{give, serials_differ};
+use crate::held_passes::{serials_differ, unfix_note};
 use bp_core::{Keeper, PoolCore, Row, Step};
 use bp_page::{Bytes, Lsn, PageNo, Refusal};
 use bp_ports::Port;
@@ -80,7 +80,7 @@ fn unfix_row<K: Keeper>(
     let Some(note) = held.take_latest(client, page) else {
         return Err(Refusal::UnknownPass);
     };
-    give(core, note);
+    unfix_note(core, note);
     Ok(())
 }
 
@@ -110,7 +110,6 @@ fn fix_row<K: Keeper, P: Port, R: Wait>(
     Ok(())
 }
 
-/// Writes the page out.
 fn flush_row<K: Keeper, P: Port, R: Wait>(
     rt: &R,
     core: &mut PoolCore<K>,
@@ -131,7 +130,6 @@ fn flush_row<K: Keeper, P: Port, R: Wait>(
     Ok(())
 }
 
-/// Moves the clock.
 fn tick_row<K: Keeper>(
     core: &mut PoolCore<K>,
     held: &HeldList,
@@ -146,7 +144,6 @@ fn tick_row<K: Keeper>(
     core.tick(client, n)
 }
 
-/// Forgets old references.
 fn purge_row<K: Keeper>(core: &mut PoolCore<K>, held: &HeldList, client: u8) -> Result<(), Refusal>
     requires client_in { client < core.old.parameters.clients }
     ensures outcome { DrivesRow core.old client Step.Purge
@@ -157,7 +154,6 @@ fn purge_row<K: Keeper>(core: &mut PoolCore<K>, held: &HeldList, client: u8) -> 
     Ok(())
 }
 
-/// Marks the log durable as far as the row says.
 fn log_row<K: Keeper>(
     core: &mut PoolCore<K>,
     held: &HeldList,
@@ -172,7 +168,7 @@ fn log_row<K: Keeper>(
     core.mark(client, lsn)
 }
 
-/// Does what a row asks for, by its client.
+/// Makes the call that a row asks for, by its client.
 pub(crate) fn drive_row<K: Keeper, P: Port, R: Wait>(
     rt: &R,
     core: &mut PoolCore<K>,

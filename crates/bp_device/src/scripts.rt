@@ -1,4 +1,4 @@
-//! A whole script over a core that has one owner.
+//! `drive_all`: runs a whole script over a core that has one owner.
 ghost use Rattle.std.specs.Prelude.{OnErr, All, reverse, ◌+◌, ◌≡◌, ◌<◌, ◌≤◌, ◌++◌, [], IfOk};
 ghost use Rattle.std.specs.Prelude.{length, vec_len, vec_capacity};
 ghost use Rattle.bp_trail.specs.Fits.{RowFits};
@@ -8,7 +8,7 @@ ghost use Rattle.bp_device.specs.Rows.{AddsScript, DrivesRowsCaused, ScriptCause
 ghost use Rattle.bp_core.specs.Work.{DoesWork};
 
 use crate::held_list::HeldList;
-use crate::held_passes::give_back_all;
+use crate::held_passes::unfix_all;
 use crate::rows::drive_row;
 use bp_core::{Keeper, PoolCore, Refused, Row};
 use bp_page::Refusal;
@@ -32,7 +32,6 @@ pub fn note_refused(refused: &mut Vec<Refused>, row: u64, outcome: Result<(), Re
     }
 }
 
-/// Drives the rows in order.
 fn drive_rows<K: Keeper, P: Port, R: Wait>(
     rt: &R,
     core: &mut PoolCore<K>,
@@ -60,7 +59,7 @@ fn drive_rows<K: Keeper, P: Port, R: Wait>(
 }
 
 /// Runs the rows in order over a core that nobody else uses, and gives back the passes that are then held: client by
-/// client, from the lowest, in the order taken. The refused rows come back, in order, each with the number of its
+/// client, from the lowest, in the order taken. Returns the refused rows, in order, each with the number of its
 /// refusal: 20 only where the core then lacked the room, 21 where the clock would have passed its limit, and 22 where
 /// the row takes memory.
 ///
@@ -88,6 +87,6 @@ pub fn drive_all<K: Keeper, P: Port, R: Wait>(
     let mut refused = Vec::with_capacity(alloc, rows.len())?;
     drive_rows(rt, core, port, &mut held, &mut refused, rows);
     held.copy_to(&mut left);
-    give_back_all(core, &mut left);
+    unfix_all(core, &mut left);
     Ok(refused)
 }

@@ -15,7 +15,7 @@ none-and : {X : Type 0} (p r : X → Bool) (xs : List X) → some p xs ≡ false
 none-and p r [] none = refl
 none-and p r (x ∷ xs) none = let parts = or_parts (p x) (some p xs) none in (λ i. (parts.0 i && r x) || some (λ y. p y && r y) xs) ∙ none-and p r xs parts.1
 
-module _ (size limit : ℕ) (slots : List Frame) (ws spare : List ℕ) (t : IsTable size limit slots (places_from 0 ws) spare) (pinned : ℕ) (unsaved : Unsaved) (a : IsAccount limit slots ws pinned unsaved) where
+module _ (size capacity : ℕ) (slots : List Frame) (ws free_frames : List ℕ) (t : IsTable size capacity slots (places_from 0 ws) free_frames) (pinned : ℕ) (unsaved : Unsaved) (a : IsAccount capacity slots ws pinned unsaved) where
   abbrev pub frames : List Frame
   frames = frames_of slots (places_from 0 ws)
 
@@ -23,7 +23,7 @@ module _ (size limit : ℕ) (slots : List Frame) (ws spare : List ℕ) (t : IsTa
   noted-is page = go (get_or ws page 0) refl
     where
       go : (w : ℕ) → get_or ws page 0 ≡ w → has_unsaved frames page ≡ has unsaved.pages page
-      go zero away = none-and (is_frame_of page) is_to_save frames (no-frame size limit slots (places_from 0 ws) spare t page (stands-no-place ws page away)) ∙ sym (a.away page away)
+      go zero away = none-and (is_frame_of page) is_to_save frames (no-frame size capacity slots (places_from 0 ws) free_frames t page (stands-no-place ws page away)) ∙ sym (a.away page away)
       go (suc slot) w_is =
           let here : get_or ws page 0 ≡ slot + 1 = w_is ∙ omega arith in
           let own = place_at page slot in
@@ -32,10 +32,10 @@ module _ (size limit : ℕ) (slots : List Frame) (ws spare : List ℕ) (t : IsTa
           let place = at-place ws page slot here own in
           some-alone (λ f. is_frame_of page f && is_to_save f) frames (rank ws page) no_frame in_range (λ k e lt other.
           let within : k < length (places_from 0 ws) = omega (arith, lt, length-mapped (frame_at slots) (places_from 0 ws)) in
-          ap (λ f. is_frame_of page f && is_to_save f) (frame-in size limit slots (places_from 0 ws) spare t k e own within)
-          ∙ ap (λ b. b && is_to_save (frame_at slots (get_or (places_from 0 ws) k own))) (page-at size limit slots (places_from 0 ws) spare t k own page within ∙ ne_eqb (get_or (places_from 0 ws) k own).page page (stands.alone k own within other)))
-          ∙ ap (λ f. is_frame_of page f && is_to_save f) (frame-in size limit slots (places_from 0 ws) spare t (rank ws page) no_frame own stands.in_range)
-          ∙ ap (λ b. b && is_to_save (frame_at slots (get_or (places_from 0 ws) (rank ws page) own))) (is-frame size limit slots (places_from 0 ws) spare t page (rank ws page) stands own)
+          ap (λ f. is_frame_of page f && is_to_save f) (frame-in size capacity slots (places_from 0 ws) free_frames t k e own within)
+          ∙ ap (λ b. b && is_to_save (frame_at slots (get_or (places_from 0 ws) k own))) (page-at size capacity slots (places_from 0 ws) free_frames t k own page within ∙ ne_eqb (get_or (places_from 0 ws) k own).page page (stands.alone k own within other)))
+          ∙ ap (λ f. is_frame_of page f && is_to_save f) (frame-in size capacity slots (places_from 0 ws) free_frames t (rank ws page) no_frame own stands.in_range)
+          ∙ ap (λ b. b && is_to_save (frame_at slots (get_or (places_from 0 ws) (rank ws page) own))) (is-frame size capacity slots (places_from 0 ws) free_frames t page (rank ws page) stands own)
           ∙ ap (λ (p : Place). is_to_save (frame_at slots p)) place
           ∙ sym (a.here page slot here)
 

@@ -31,7 +31,7 @@ same-lsn o m n one other = ap (λ (p : Option (ℕ × ℕ)). (unwrap_or p (0, 0)
 pub read-place : (ws : List ℕ) (page slot n place : ℕ) → get_or ws page 0 ≡ slot + 1 → n ≡ page → place ≡ get_or ws n place → place ≡ slot + 1
 read-place ws page slot n place here is read = read ∙ ap (λ m. get_or ws m place) is ∙ sym (get_or_default ws page 0 place (page-within ws page slot here)) ∙ here
 
-module _ (size limit : ℕ) (slots : List Frame) (ws spare : List ℕ) (t : IsTable size limit slots (places_from 0 ws) spare) (pinned : ℕ) (unsaved : Unsaved) (a : IsAccount limit slots ws pinned unsaved) where
+module _ (size capacity : ℕ) (slots : List Frame) (ws free_frames : List ℕ) (t : IsTable size capacity slots (places_from 0 ws) free_frames) (pinned : ℕ) (unsaved : Unsaved) (a : IsAccount capacity slots ws pinned unsaved) where
   abbrev entries : List Candidate
   entries = seated_in unsaved.order.seats
 
@@ -51,7 +51,7 @@ module _ (size limit : ℕ) (slots : List Frame) (ws spare : List ℕ) (t : IsTa
 
   -- an unsaved page is found, and may come first
   entry-is : (page slot m : ℕ) → get_or ws page 0 ≡ slot + 1 → first_at slot ≡ Some m → find_entry entries page ≡ Some (m, 0)
-  entry-is page slot m here first = entry-at limit ws unsaved.order.seats a.seating slot (m, 0, page) (a.seated page slot here ∙ ap (seat_for page) first)
+  entry-is page slot m here first = entry-at capacity ws unsaved.order.seats a.seating slot (m, 0, page) (a.seated page slot here ∙ ap (seat_for page) first)
 
   eligible-is : (page m : ℕ) → find_entry entries page ≡ Some (m, 0) → is_eligible (entered unsaved.order) 1 page ≡ true
   eligible-is page m found = ap (λ o. option_map_or (λ (e : ℕ × ℕ). nat_lt unsaved.order.correlated (1 - e.1)) o false) found ∙ ap (λ c. nat_lt c 1) a.at_once

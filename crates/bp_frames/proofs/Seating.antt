@@ -38,7 +38,7 @@ others-put (Some a ∷ seats) (suc k) v q was comes = elim (cases_eq a.2 q) [
   | inr other ↦ find-tail a (seated_in (set seats k v)) q other ∙ others-put seats k v q was comes ∙ sym (find-tail a (seated_in seats) q other)
 ]
 
-module _ (limit : ℕ) (ws : List ℕ) (seats : List (Option Candidate)) (s : IsSeating limit ws seats) where
+module _ (capacity : ℕ) (ws : List ℕ) (seats : List (Option Candidate)) (s : IsSeating capacity ws seats) where
   pub once : NoPageTwice (seated_in seats)
   once = once-from seats (λ i j a b x y page. omega (arith, s.own i a x, s.own j b y, ap (λ p. get_or ws p 0) page))
 
@@ -49,13 +49,13 @@ module _ (limit : ℕ) (ws : List ℕ) (seats : List (Option Candidate)) (s : Is
   entry-none page nowhere = find_nowhere (seated_in seats) page (λ x there. let at = in_seated seats x there in nowhere at.0 x at.2)
 
   -- a page more, and a page fewer
-  pub seating-filled : (page slot : ℕ) → get_or ws page 0 ≡ 0 → IsSeating limit (set ws page (slot + 1)) seats
+  pub seating-filled : (page slot : ℕ) → get_or ws page 0 ≡ 0 → IsSeating capacity (set ws page (slot + 1)) seats
   seating-filled page slot away = record {
     seats_is = s.seats_is;
     own = λ k e is. get_or-set_other ws page e.2 (slot + 1) 0 (λ same. absurd (omega (arith, s.own k e is, ap (λ p. get_or ws p 0) same, away))) ∙ s.own k e is;
   }
 
-  pub seating-vacated : (page : ℕ) → find_entry (seated_in seats) page ≡ None → IsSeating limit (set ws page 0) seats
+  pub seating-vacated : (page : ℕ) → find_entry (seated_in seats) page ≡ None → IsSeating capacity (set ws page 0) seats
   seating-vacated page none = record {
     seats_is = s.seats_is;
     own = λ k e is. get_or-set_other ws page e.2 0 0 (λ same. none-some (e.0, e.1) (sym none ∙ ap (find_entry (seated_in seats)) (sym same) ∙ entry-at k e is)) ∙ s.own k e is;
@@ -65,10 +65,10 @@ pub length-replicated : {X : Type 0} (n : ℕ) (x : X) → length (replicate n x
 length-replicated zero x = refl
 length-replicated (suc n) x = ap suc (length-replicated n x)
 
-pub no-seats : (limit : ℕ) (ws : List ℕ) → IsSeating limit ws (replicate limit None)
-no-seats limit ws = record {
-  seats_is = length-replicated limit None;
-  own = λ k e is. absurd (none-some e (sym (empty limit k) ∙ is));
+pub no-seats : (capacity : ℕ) (ws : List ℕ) → IsSeating capacity ws (replicate capacity None)
+no-seats capacity ws = record {
+  seats_is = length-replicated capacity None;
+  own = λ k e is. absurd (none-some e (sym (empty capacity k) ∙ is));
 }
   where
     empty : (n k : ℕ) → seat_at (replicate n None) k ≡ None
@@ -81,18 +81,18 @@ nobody-seated zero = refl
 nobody-seated (suc n) = nobody-seated n
 
 -- ---- the seat of a page's slot
-module _ (size limit : ℕ) (slots : List Frame) (ws spare : List ℕ) (t : IsTable size limit slots (places_from 0 ws) spare) (seats : List (Option Candidate)) (s : IsSeating limit ws seats) (page slot : ℕ) (here : get_or ws page 0 ≡ slot + 1) (lt : slot < limit) where
+module _ (size capacity : ℕ) (slots : List Frame) (ws free_frames : List ℕ) (t : IsTable size capacity slots (places_from 0 ws) free_frames) (seats : List (Option Candidate)) (s : IsSeating capacity ws seats) (page slot : ℕ) (here : get_or ws page 0 ≡ slot + 1) (lt : slot < capacity) where
   own-entry : (e : Candidate) → seat_at seats slot ≡ Some e → e.2 ≡ page
-  own-entry e is = one-page size limit slots ws spare t e.2 page slot (s.own slot e is) here
+  own-entry e is = one-page size capacity slots ws free_frames t e.2 page slot (s.own slot e is) here
 
   pub seat-empty : find_entry (seated_in seats) page ≡ None → seat_at seats slot ≡ None
   seat-empty none = go (seat_at seats slot) refl
     where
       go : (o : Option Candidate) → seat_at seats slot ≡ o → seat_at seats slot ≡ None
       go None is = is
-      go (Some e) is = absurd (none-some (e.0, e.1) (sym none ∙ ap (find_entry (seated_in seats)) (sym (own-entry e is)) ∙ entry-at limit ws seats s slot e is))
+      go (Some e) is = absurd (none-some (e.0, e.1) (sym none ∙ ap (find_entry (seated_in seats)) (sym (own-entry e is)) ∙ entry-at capacity ws seats s slot e is))
 
-  pub seating-entered : (h l : ℕ) → IsSeating limit ws (set seats slot (Some (h, l, page)))
+  pub seating-entered : (h l : ℕ) → IsSeating capacity ws (set seats slot (Some (h, l, page)))
   seating-entered h l = record {
     seats_is = length-set seats slot (Some (h, l, page)) ∙ s.seats_is;
     own = λ k e is. elim (cases_eq k slot) [
@@ -103,7 +103,7 @@ module _ (size limit : ℕ) (slots : List Frame) (ws spare : List ℕ) (t : IsTa
     ];
   }
 
-  pub seating-left : IsSeating limit ws (set seats slot None)
+  pub seating-left : IsSeating capacity ws (set seats slot None)
   seating-left = record {
     seats_is = length-set seats slot None ∙ s.seats_is;
     own = λ k e is. elim (cases_eq k slot) [
@@ -113,13 +113,13 @@ module _ (size limit : ℕ) (slots : List Frame) (ws spare : List ℕ) (t : IsTa
   }
 
   pub entered-here : (h l : ℕ) → find_entry (seated_in (set seats slot (Some (h, l, page)))) page ≡ Some (h, l)
-  entered-here h l = entry-at limit ws (set seats slot (Some (h, l, page))) (seating-entered h l) slot (h, l, page) (get_or-set_same seats slot (Some (h, l, page)) None (omega (arith, s.seats_is, lt)))
+  entered-here h l = entry-at capacity ws (set seats slot (Some (h, l, page))) (seating-entered h l) slot (h, l, page) (get_or-set_same seats slot (Some (h, l, page)) None (omega (arith, s.seats_is, lt)))
 
   pub entered-others : (h l : ℕ) → (q : ℕ) → q ≢ page → find_entry (seated_in (set seats slot (Some (h, l, page)))) q ≡ find_entry (seated_in seats) q
   entered-others h l q other = others-put seats slot (Some (h, l, page)) q (λ e is same. other (sym same ∙ own-entry e is)) (λ e is same. other (sym same ∙ ap (λ (x : Candidate). x.2) (sym (same_Some (h, l, page) e is))))
 
   pub left-here : find_entry (seated_in (set seats slot None)) page ≡ None
-  left-here = entry-none limit ws (set seats slot None) seating-left page (λ k e is page_is.
+  left-here = entry-none capacity ws (set seats slot None) seating-left page (λ k e is page_is.
       let k_is : k ≡ slot = omega (arith, seating-left.own k e is, ap (λ p. get_or ws p 0) page_is, here) in
       none-some e (sym (get_or-set_same seats slot None None (omega (arith, s.seats_is, lt))) ∙ ap (seat_at (set seats slot None)) (sym k_is) ∙ is))
 

@@ -39,7 +39,7 @@ pub map-both : {X Y Z : Type 0} (g : Y → Z) (f : X → Y) (xs : List X) → ma
 map-both g f [] = refl
 map-both g f (x ∷ xs) = ap (λ ys. g (f x) ∷ ys) (map-both g f xs)
 
-module _ (size limit : ℕ) (slots : List Frame) (places : List Place) (spare : List ℕ) (t : IsTable size limit slots places spare) where
+module _ (size capacity : ℕ) (slots : List Frame) (places : List Place) (free_frames : List ℕ) (t : IsTable size capacity slots places free_frames) where
   -- the frame at a place is of the place's page
   pub page-at : (k : ℕ) (d : Place) (page : ℕ) → k < length places → is_frame_of page (frame_at slots (get_or places k d)) ≡ ((get_or places k d).page == page)
   page-at k d page lt = ap (λ n. n == page) (t.points k d lt)
@@ -104,7 +104,7 @@ module _ (size limit : ℕ) (slots : List Frame) (places : List Place) (spare : 
           ∙ sym (map-both (λ f. cond (is_frame_of page f) (change f) f) (frame_at slots) places)
 
   -- ---- what a caller sees of the frame of one page
-  module _ (whereabouts : List ℕ) (candidates : Entered) (v : Table) (is : table_of size limit slots places spare whereabouts candidates ≡ v) (page : ℕ) where
+  module _ (whereabouts : List ℕ) (candidates : Entered) (v : Table) (is : table_of size capacity slots places free_frames whereabouts candidates ≡ v) (page : ℕ) where
     pub none-seen : StandsNowhere page_of places page → some (is_frame_of page) v.frames ≡ false
     none-seen nowhere = sym (ap (λ (u : Table). some (is_frame_of page) u.frames) is) ∙ no-frame page nowhere
 
@@ -119,9 +119,9 @@ module _ (size limit : ℕ) (slots : List Frame) (places : List Place) (spare : 
           let here = stands-in page at stands pl pl_is f f_is in
           subst P here.1 (subst (λ (u : Table). All P u.frames) (sym is) all at f here.0)
 
-      pub changed-seen : (change : Frame → Frame) (next : Frame) → next ≡ change f → table_of size limit (set slots pl.slot next) places spare whereabouts candidates ≡ with_changed v page change
+      pub changed-seen : (change : Frame → Frame) (next : Frame) → next ≡ change f → table_of size capacity (set slots pl.slot next) places free_frames whereabouts candidates ≡ with_changed v page change
       changed-seen change next same =
-          ap (λ fs. record (table_of size limit slots places spare whereabouts candidates) { frames = fs }) (frames-changed page at stands pl pl_is f f_is change next same)
+          ap (λ fs. record (table_of size capacity slots places free_frames whereabouts candidates) { frames = fs }) (frames-changed page at stands pl pl_is f f_is change next same)
           ∙ ap (λ u. with_changed u page change) is
 
   -- ---- a page more, in a slot that waited, and a page fewer
@@ -151,9 +151,9 @@ module _ (size limit : ℕ) (slots : List Frame) (places : List Place) (spare : 
   frames-provided next = map-same (frame_at (slots ++ next ∷ [])) (frame_at slots) places (λ k d lt. get-left slots (next ∷ []) (get_or places k d).slot no_frame (t.within k d lt))
 
 -- ---- by the list that has an entry for each page
-module _ (size limit : ℕ) (slots : List Frame) (ws spare : List ℕ) (t : IsTable size limit slots (places_from 0 ws) spare) (candidates : Entered) (v : Table) (is : table_of size limit slots (places_from 0 ws) spare ws candidates ≡ v) where
+module _ (size capacity : ℕ) (slots : List Frame) (ws free_frames : List ℕ) (t : IsTable size capacity slots (places_from 0 ws) free_frames) (candidates : Entered) (v : Table) (is : table_of size capacity slots (places_from 0 ws) free_frames ws candidates ≡ v) where
   pub none-shown : (page : ℕ) → get_or ws page 0 ≡ 0 → some (is_frame_of page) v.frames ≡ false
-  none-shown page away = none-seen size limit slots (places_from 0 ws) spare t ws candidates v is page (stands-no-place ws page away)
+  none-shown page away = none-seen size capacity slots (places_from 0 ws) free_frames t ws candidates v is page (stands-no-place ws page away)
 
   -- ---- of the page in a slot
   module _ (slot : FrameSlot) (at : IsSlotIn v slot) where
@@ -169,26 +169,26 @@ module _ (size limit : ℕ) (slots : List Frame) (ws spare : List ℕ) (t : IsTa
     pub slot-shown : slot.index < length slots
     slot-shown = subst (λ (p : Place). p.slot < length slots) (at-place ws slot.page slot.index slot-here (place_at slot.page slot.index)) (t.within (rank ws slot.page) (place_at slot.page slot.index) stands.in_range)
 
-    pub slot-few : slot.index < limit
+    pub slot-few : slot.index < capacity
     slot-few = omega (arith, slot-shown, t.few)
 
     module _ (f : Frame) (f_is : f ≡ get_or slots slot.index f) where
       pub frame-page : is_frame_of slot.page f ≡ true
-      frame-page = of-page size limit slots (places_from 0 ws) spare t slot.page (rank ws slot.page) stands (place_at slot.page slot.index) own f f_is
+      frame-page = of-page size capacity slots (places_from 0 ws) free_frames t slot.page (rank ws slot.page) stands (place_at slot.page slot.index) own f f_is
 
       pub frame-size : length f.image ≡ size
-      frame-size = sized-at size limit slots (places_from 0 ws) spare t slot.page (rank ws slot.page) stands (place_at slot.page slot.index) own f f_is
+      frame-size = sized-at size capacity slots (places_from 0 ws) free_frames t slot.page (rank ws slot.page) stands (place_at slot.page slot.index) own f f_is
 
       pub frame-shown : Contains v.frames f
       frame-shown =
-          let here = stands-in size limit slots (places_from 0 ws) spare t slot.page (rank ws slot.page) stands (place_at slot.page slot.index) own f f_is in
+          let here = stands-in size capacity slots (places_from 0 ws) free_frames t slot.page (rank ws slot.page) stands (place_at slot.page slot.index) own f f_is in
           subst (λ (u : Table). Contains u.frames f) is (rank ws slot.page, here.0, here.1)
 
       pub at-shown : (P : Frame → Type 0) → All P v.frames → P f
-      at-shown P all = at-seen size limit slots (places_from 0 ws) spare t ws candidates v is slot.page (rank ws slot.page) stands (place_at slot.page slot.index) own f f_is P all
+      at-shown P all = at-seen size capacity slots (places_from 0 ws) free_frames t ws candidates v is slot.page (rank ws slot.page) stands (place_at slot.page slot.index) own f f_is P all
 
-      pub changed-shown : (change : Frame → Frame) (next : Frame) → next ≡ change f → table_of size limit (set slots slot.index next) (places_from 0 ws) spare ws candidates ≡ with_changed v slot.page change
-      changed-shown change next same = changed-seen size limit slots (places_from 0 ws) spare t ws candidates v is slot.page (rank ws slot.page) stands (place_at slot.page slot.index) own f f_is change next same
+      pub changed-shown : (change : Frame → Frame) (next : Frame) → next ≡ change f → table_of size capacity (set slots slot.index next) (places_from 0 ws) free_frames ws candidates ≡ with_changed v slot.page change
+      changed-shown change next same = changed-seen size capacity slots (places_from 0 ws) free_frames t ws candidates v is slot.page (rank ws slot.page) stands (place_at slot.page slot.index) own f f_is change next same
 
     pub some-shown : some (is_frame_of slot.page) v.frames ≡ true
     some-shown =
@@ -205,11 +205,11 @@ module _ (size limit : ℕ) (slots : List Frame) (ws spare : List ℕ) (t : IsTa
       go zero w_is = w_is
       go (suc index) w_is =
           let there = place-stands ws page index (w_is ∙ omega arith) in
-          absurd (nowhere-seen size limit slots (places_from 0 ws) spare t ws candidates v is page none (rank ws page) (place_at page index) there.in_range (there.here (place_at page index)))
+          absurd (nowhere-seen size capacity slots (places_from 0 ws) free_frames t ws candidates v is page none (rank ws page) (place_at page index) there.in_range (there.here (place_at page index)))
 
 -- no two pages have one slot
-pub one-page : (size limit : ℕ) (slots : List Frame) (ws spare : List ℕ) → IsTable size limit slots (places_from 0 ws) spare → (p q slot : ℕ) → get_or ws p 0 ≡ slot + 1 → get_or ws q 0 ≡ slot + 1 → p ≡ q
-one-page size limit slots ws spare t p q slot here there = sym (page p here) ∙ page q there
+pub one-page : (size capacity : ℕ) (slots : List Frame) (ws free_frames : List ℕ) → IsTable size capacity slots (places_from 0 ws) free_frames → (p q slot : ℕ) → get_or ws p 0 ≡ slot + 1 → get_or ws q 0 ≡ slot + 1 → p ≡ q
+one-page size capacity slots ws free_frames t p q slot here there = sym (page p here) ∙ page q there
   where
     page : (r : ℕ) → get_or ws r 0 ≡ slot + 1 → (get_or slots slot no_frame).page ≡ r
     page r is =

@@ -60,8 +60,8 @@ pub some-counted : (o : Option ℕ) (n : ℕ) → cond (is_some o) 1 0 ≤ n →
 some-counted None n le is = absurd (true≢false (sym is))
 some-counted (Some k) n le is = omega (arith, le)
 
-pub count-few : (size limit : ℕ) (slots : List Frame) (ws spare : List ℕ) → IsTable size limit slots (places_from 0 ws) spare → (p : Frame → Bool) → count p (frames_of slots (places_from 0 ws)) ≤ limit
-count-few size limit slots ws spare t p =
+pub count-few : (size capacity : ℕ) (slots : List Frame) (ws free_frames : List ℕ) → IsTable size capacity slots (places_from 0 ws) free_frames → (p : Frame → Bool) → count p (frames_of slots (places_from 0 ws)) ≤ capacity
+count-few size capacity slots ws free_frames t p =
     let frames = frames_of slots (places_from 0 ws) in
     omega (arith, length-split p frames, length-mapped (frame_at slots) (places_from 0 ws), t.whole, t.few)
 
@@ -72,13 +72,13 @@ page-within (w ∷ ws) zero slot here = omega arith
 page-within (w ∷ ws) (suc page) slot here = omega (arith, page-within ws page slot here)
 
 -- ---- a slot more, which waits
-module _ (size limit : ℕ) (slots : List Frame) (ws spare : List ℕ) (t : IsTable size limit slots (places_from 0 ws) spare) (pinned : ℕ) (unsaved : Unsaved) (a : IsAccount limit slots ws pinned unsaved) where
+module _ (size capacity : ℕ) (slots : List Frame) (ws free_frames : List ℕ) (t : IsTable size capacity slots (places_from 0 ws) free_frames) (pinned : ℕ) (unsaved : Unsaved) (a : IsAccount capacity slots ws pinned unsaved) where
   pub within-slots : (page slot : ℕ) → get_or ws page 0 ≡ slot + 1 → slot < length slots
   within-slots page slot here = subst (λ (p : Place). p.slot < length slots) (at-place ws page slot here (place_at page slot)) (t.within (rank ws page) (place_at page slot) (place-stands ws page slot here).in_range)
 
-  pub account-provided : (next : Frame) → IsAccount limit (slots ++ next ∷ []) ws pinned unsaved
+  pub account-provided : (next : Frame) → IsAccount capacity (slots ++ next ∷ []) ws pinned unsaved
   account-provided next =
-      let same = frames-provided size limit slots (places_from 0 ws) spare t next in
+      let same = frames-provided size capacity slots (places_from 0 ws) free_frames t next in
       record {
         pinned_is = a.pinned_is ∙ ap (count is_pinned) (sym same);
         unsaved_is = a.unsaved_is ∙ ap (count is_to_save) (sym same);
@@ -99,14 +99,14 @@ module _ (size limit : ℕ) (slots : List Frame) (ws spare : List ℕ) (t : IsTa
     nobody None is = is
     nobody (Some e) is = absurd (nobody's e.2 (a.seating.own slot e is))
 
-    pub account-filled : (at : ℕ) (next : Frame) → frames_of (set slots slot next) (places_from 0 (set ws page (slot + 1))) ≡ insert (frames_of slots (places_from 0 ws)) at next → next.pins ≡ 1 → next.first_lsn ≡ None → IsAccount limit (set slots slot next) (set ws page (slot + 1)) (pinned + 1) unsaved
+    pub account-filled : (at : ℕ) (next : Frame) → frames_of (set slots slot next) (places_from 0 (set ws page (slot + 1))) ≡ insert (frames_of slots (places_from 0 ws)) at next → next.pins ≡ 1 → next.first_lsn ≡ None → IsAccount capacity (set slots slot next) (set ws page (slot + 1)) (pinned + 1) unsaved
     account-filled at next is pins firsts =
         let frames = frames_of slots (places_from 0 ws) in
         record {
           pinned_is = omega (arith, a.pinned_is, ap (count is_pinned) is, count-insert is_pinned frames at next, ap {B = ℕ} (λ n. cond (nat_lt 0 n) 1 0) pins);
           unsaved_is = omega (arith, a.unsaved_is, ap (count is_to_save) is, count-insert is_to_save frames at next, ap {B = ℕ} (λ o. cond (is_some o) 1 0) firsts);
           at_once = a.at_once;
-          seating = seating-filled limit ws unsaved.order.seats a.seating page slot away;
+          seating = seating-filled capacity ws unsaved.order.seats a.seating page slot away;
           seated = λ p s here. elim (cases_eq p page) [
             | inl same ↦
                 let s_is : s ≡ slot = omega (arith, here, ap (λ n. get_or (set ws page (slot + 1)) n 0) same, get_or-set_same ws page (slot + 1) 0 in_pages) in
@@ -131,7 +131,7 @@ module _ (size limit : ℕ) (slots : List Frame) (ws spare : List ℕ) (t : IsTa
         }
 
 -- ---- the frame of a page
-module _ (size limit : ℕ) (slots : List Frame) (ws spare : List ℕ) (t : IsTable size limit slots (places_from 0 ws) spare) (slot : FrameSlot) (here : get_or ws slot.page 0 ≡ slot.index + 1) (f : Frame) (f_is : f ≡ get_or slots slot.index f) where
+module _ (size capacity : ℕ) (slots : List Frame) (ws free_frames : List ℕ) (t : IsTable size capacity slots (places_from 0 ws) free_frames) (slot : FrameSlot) (here : get_or ws slot.page 0 ≡ slot.index + 1) (f : Frame) (f_is : f ≡ get_or slots slot.index f) where
   abbrev pub places : List Place
   places = places_from 0 ws
 
@@ -154,14 +154,14 @@ module _ (size limit : ℕ) (slots : List Frame) (ws spare : List ℕ) (t : IsTa
   frame-is d = get_or_default slots slot.index d f in-slots ∙ sym f_is
 
   elsewhere : (k : ℕ) (e : Place) → k < length places → k ≢ at → (get_or places k e).slot ≢ slot.index
-  elsewhere k e lt other is = own-slot size limit slots places spare t slot.page at stands k e own lt other (is ∙ ap (λ (p : Place). p.slot) (sym (own-is own)))
+  elsewhere k e lt other is = own-slot size capacity slots places free_frames t slot.page at stands k e own lt other (is ∙ ap (λ (p : Place). p.slot) (sym (own-is own)))
 
   -- after a change of it
   module _ (next : Frame) where
     abbrev pub changed : List Frame
     changed = set slots slot.index next
 
-    pub table-changed : next.page ≡ f.page → length next.image ≡ length f.image → IsTable size limit changed places spare
+    pub table-changed : next.page ≡ f.page → length next.image ≡ length f.image → IsTable size capacity changed places free_frames
     table-changed page image = record {
       rising = t.rising;
       within = λ k d lt. omega (arith, t.within k d lt, length-set slots slot.index next);
@@ -171,8 +171,8 @@ module _ (size limit : ℕ) (slots : List Frame) (ws spare : List ℕ) (t : IsTa
             ∙ ap (λ (g : Frame). g.page) (sym (frame-is no_frame) ∙ ap (λ s. get_or slots s no_frame) (sym same)) ∙ t.points k d lt
         | inr other ↦ ap (λ (g : Frame). g.page) (get_or-set_other slots slot.index (get_or places k d).slot next no_frame other) ∙ t.points k d lt
       ];
-      spare_within = λ j d lt. omega (arith, t.spare_within j d lt, length-set slots slot.index next);
-      spare_once = t.spare_once;
+      free_within = λ j d lt. omega (arith, t.free_within j d lt, length-set slots slot.index next);
+      free_once = t.free_once;
       apart = t.apart;
       sized = All-set (λ (g : Frame). length g.image ≡ size) slots slot.index next (image ∙ ap (λ (g : Frame). length g.image) f_is ∙ t.sized slot.index f in-slots) t.sized;
       whole = omega (arith, t.whole, length-set slots slot.index next);
@@ -192,12 +192,12 @@ module _ (size limit : ℕ) (slots : List Frame) (ws spare : List ℕ) (t : IsTa
           count-but_one (λ pl. p (frame_at changed pl)) (λ pl. p (frame_at slots pl)) places at own stands.in_range (λ k e lt other. ap p (get_or-set_other slots slot.index (get_or places k e).slot next no_frame (elsewhere k e lt other))),
         )
 
-    module _ (pinned : ℕ) (unsaved : Unsaved) (a : IsAccount limit slots ws pinned unsaved) where
+    module _ (pinned : ℕ) (unsaved : Unsaved) (a : IsAccount capacity slots ws pinned unsaved) where
       renewed : (pinned' : ℕ) (unsaved' : Unsaved) → pinned' + cond (is_pinned f) 1 0 ≡ pinned + cond (is_pinned next) 1 0 → unsaved'.count + cond (is_to_save f) 1 0 ≡ unsaved.count + cond (is_to_save next) 1 0
-          → unsaved'.order.correlated ≡ 0 → IsSeating limit ws unsaved'.order.seats
+          → unsaved'.order.correlated ≡ 0 → IsSeating capacity ws unsaved'.order.seats
           → seat_at unsaved'.order.seats slot.index ≡ seat_for slot.page next.first_lsn → ((s : ℕ) → s ≢ slot.index → seat_at unsaved'.order.seats s ≡ seat_at unsaved.order.seats s)
           → unsaved'.pages.limit ≡ unsaved.pages.limit → has unsaved'.pages slot.page ≡ is_to_save next → ((q : ℕ) → q ≢ slot.page → has unsaved'.pages q ≡ has unsaved.pages q)
-          → IsAccount limit changed ws pinned' unsaved'
+          → IsAccount capacity changed ws pinned' unsaved'
       renewed pinned' unsaved' pins firsts at_once seating this others limits own_page other_pages = record {
         pinned_is = omega (arith, a.pinned_is, pins, count-changed is_pinned);
         unsaved_is = omega (arith, a.unsaved_is, firsts, count-changed is_to_save);
@@ -205,7 +205,7 @@ module _ (size limit : ℕ) (slots : List Frame) (ws spare : List ℕ) (t : IsTa
         seating = seating;
         seated = λ p s there. elim (cases_eq s slot.index) [
           | inl same ↦
-              let p_is : p ≡ slot.page = one-page size limit slots ws spare t p slot.page slot.index (there ∙ ap (λ n. n + 1) same) here in
+              let p_is : p ≡ slot.page = one-page size capacity slots ws free_frames t p slot.page slot.index (there ∙ ap (λ n. n + 1) same) here in
               ap (seat_at unsaved'.order.seats) same ∙ this
               ∙ ap (λ (g : Frame). seat_for slot.page g.first_lsn) (sym (ap (λ n. get_or changed n no_frame) same ∙ get_or-set_same slots slot.index next no_frame in-slots))
               ∙ ap (λ n. seat_for n (get_or changed s no_frame).first_lsn) (sym p_is)
@@ -218,7 +218,7 @@ module _ (size limit : ℕ) (slots : List Frame) (ws spare : List ℕ) (t : IsTa
               ap (has unsaved'.pages) same ∙ own_page ∙ sym (ap (λ n. is_to_save (get_or changed n no_frame)) s_is ∙ ap is_to_save (get_or-set_same slots slot.index next no_frame in-slots))
           | inr other ↦
               other_pages p other ∙ a.here p s there
-              ∙ ap is_to_save (sym (get_or-set_other slots slot.index s next no_frame (λ same. other (one-page size limit slots ws spare t p slot.page slot.index (there ∙ ap (λ n. n + 1) same) here))))
+              ∙ ap is_to_save (sym (get_or-set_other slots slot.index s next no_frame (λ same. other (one-page size capacity slots ws free_frames t p slot.page slot.index (there ∙ ap (λ n. n + 1) same) here))))
         ];
         away = λ p none. other_pages p (λ same. absurd (omega (arith, none, ap (λ n. get_or ws n 0) same, here))) ∙ a.away p none;
       }
@@ -226,29 +226,29 @@ module _ (size limit : ℕ) (slots : List Frame) (ws spare : List ℕ) (t : IsTa
       in-seats : slot.index < length unsaved.order.seats
       in-seats = omega (arith, in-slots, t.few, a.seating.seats_is)
 
-      put-seating : (o : Option ℕ) → IsSeating limit ws (set unsaved.order.seats slot.index (seat_for slot.page o))
-      put-seating None = seating-left size limit slots ws spare t unsaved.order.seats a.seating slot.page slot.index here (omega (arith, in-slots, t.few))
-      put-seating (Some lsn) = seating-entered size limit slots ws spare t unsaved.order.seats a.seating slot.page slot.index here (omega (arith, in-slots, t.few)) lsn 0
+      put-seating : (o : Option ℕ) → IsSeating capacity ws (set unsaved.order.seats slot.index (seat_for slot.page o))
+      put-seating None = seating-left size capacity slots ws free_frames t unsaved.order.seats a.seating slot.page slot.index here (omega (arith, in-slots, t.few))
+      put-seating (Some lsn) = seating-entered size capacity slots ws free_frames t unsaved.order.seats a.seating slot.page slot.index here (omega (arith, in-slots, t.few)) lsn 0
 
       -- what is unsaved is noted
-      pub account-changed : (unsaved' : Unsaved) → is_pinned next ≡ is_pinned f → unsaved'.count + cond (is_to_save f) 1 0 ≡ unsaved.count + cond (is_to_save next) 1 0 → unsaved'.order ≡ with_seat unsaved.order slot.index (seat_for slot.page next.first_lsn) → unsaved'.pages.limit ≡ unsaved.pages.limit → ((q : ℕ) → has unsaved'.pages q ≡ (if q == slot.page then is_to_save next else has unsaved.pages q)) → IsAccount limit changed ws pinned unsaved'
+      pub account-changed : (unsaved' : Unsaved) → is_pinned next ≡ is_pinned f → unsaved'.count + cond (is_to_save f) 1 0 ≡ unsaved.count + cond (is_to_save next) 1 0 → unsaved'.order ≡ with_seat unsaved.order slot.index (seat_for slot.page next.first_lsn) → unsaved'.pages.limit ≡ unsaved.pages.limit → ((q : ℕ) → has unsaved'.pages q ≡ (if q == slot.page then is_to_save next else has unsaved.pages q)) → IsAccount capacity changed ws pinned unsaved'
       account-changed unsaved' pins firsts order limits pages =
           let seats = ap (λ (o : Seated). o.seats) order in
-          renewed pinned unsaved' (ap {B = ℕ} (λ b. pinned + cond b 1 0) (sym pins)) firsts (ap (λ (o : Seated). o.correlated) order ∙ a.at_once) (subst (IsSeating limit ws) (sym seats) (put-seating next.first_lsn))
+          renewed pinned unsaved' (ap {B = ℕ} (λ b. pinned + cond b 1 0) (sym pins)) firsts (ap (λ (o : Seated). o.correlated) order ∙ a.at_once) (subst (IsSeating capacity ws) (sym seats) (put-seating next.first_lsn))
           (ap (λ ss. seat_at ss slot.index) seats ∙ get_or-set_same unsaved.order.seats slot.index (seat_for slot.page next.first_lsn) None in-seats)
           (λ s other. ap (λ ss. seat_at ss s) seats ∙ get_or-set_other unsaved.order.seats slot.index s (seat_for slot.page next.first_lsn) None other)
           limits (pages slot.page ∙ ap (λ b. if b then is_to_save next else has unsaved.pages slot.page) (eq-eqb slot.page slot.page refl))
           (λ q other. pages q ∙ ap (λ b. if b then is_to_save next else has unsaved.pages q) (ne_eqb q slot.page other))
 
       -- a change that leaves what is unsaved
-      pub account-pinned : (pinned' : ℕ) → pinned' + cond (is_pinned f) 1 0 ≡ pinned + cond (is_pinned next) 1 0 → next.first_lsn ≡ f.first_lsn → IsAccount limit changed ws pinned' unsaved
+      pub account-pinned : (pinned' : ℕ) → pinned' + cond (is_pinned f) 1 0 ≡ pinned + cond (is_pinned next) 1 0 → next.first_lsn ≡ f.first_lsn → IsAccount capacity changed ws pinned' unsaved
       account-pinned pinned' pins firsts =
           renewed pinned' unsaved pins (ap {B = ℕ} (λ o. unsaved.count + cond (is_some o) 1 0) (sym firsts)) a.at_once a.seating
           (a.seated slot.page slot.index here ∙ ap (seat_for slot.page) (ap (λ (g : Frame). g.first_lsn) (frame-is no_frame) ∙ sym firsts)) (λ s other. refl)
           refl (a.here slot.page slot.index here ∙ ap is_to_save (frame-is no_frame) ∙ sym (ap is_some firsts)) (λ q other. refl)
 
       -- and whether it has a pass out
-      pub account-kept : is_pinned next ≡ is_pinned f → next.first_lsn ≡ f.first_lsn → IsAccount limit changed ws pinned unsaved
+      pub account-kept : is_pinned next ≡ is_pinned f → next.first_lsn ≡ f.first_lsn → IsAccount capacity changed ws pinned unsaved
       account-kept pins firsts = account-pinned pinned (ap {B = ℕ} (λ b. pinned + cond b 1 0) (sym pins)) firsts
 
   -- the frame is one of those that are counted
@@ -276,7 +276,7 @@ module _ (size limit : ℕ) (slots : List Frame) (ws spare : List ℕ) (t : IsTa
         ap {B = ℕ} (λ b. cond b 1 0) (ap p (get_or-map (frame_at slots) places at own no_frame stands.in_range ∙ ap (frame_at slots) (own-is own) ∙ frame-is no_frame)),
       )
 
-  module _ (pinned : ℕ) (unsaved : Unsaved) (a : IsAccount limit slots ws pinned unsaved) where
+  module _ (pinned : ℕ) (unsaved : Unsaved) (a : IsAccount capacity slots ws pinned unsaved) where
     pub pinned-least : cond (is_pinned f) 1 0 ≤ pinned
     pinned-least = omega (arith, a.pinned_is, counted is_pinned)
 
@@ -295,19 +295,19 @@ module _ (size limit : ℕ) (slots : List Frame) (ws spare : List ℕ) (t : IsTa
     pub seat-was : seat_at unsaved.order.seats slot.index ≡ seat_for slot.page f.first_lsn
     seat-was = a.seated slot.page slot.index here ∙ ap (λ (g : Frame). seat_for slot.page g.first_lsn) (frame-is no_frame)
 
-    pub account-vacated : (unsaved' : Unsaved) → unsaved'.count + cond (is_to_save f) 1 0 ≡ unsaved.count → unsaved'.order ≡ with_seat unsaved.order slot.index None → unsaved'.pages.limit ≡ unsaved.pages.limit → ((q : ℕ) → has unsaved'.pages q ≡ (if q == slot.page then false else has unsaved.pages q)) → IsAccount limit slots (set ws slot.page 0) (pinned - cond (is_pinned f) 1 0) unsaved'
+    pub account-vacated : (unsaved' : Unsaved) → unsaved'.count + cond (is_to_save f) 1 0 ≡ unsaved.count → unsaved'.order ≡ with_seat unsaved.order slot.index None → unsaved'.pages.limit ≡ unsaved.pages.limit → ((q : ℕ) → has unsaved'.pages q ≡ (if q == slot.page then false else has unsaved.pages q)) → IsAccount capacity slots (set ws slot.page 0) (pinned - cond (is_pinned f) 1 0) unsaved'
     account-vacated unsaved' firsts order limits pages = record {
       pinned_is = omega (arith, a.pinned_is, count-vacated is_pinned, ap {B = ℕ} (λ ps. count is_pinned (frames_of slots ps)) gone);
       unsaved_is = omega (arith, a.unsaved_is, firsts, count-vacated is_to_save, ap {B = ℕ} (λ ps. count is_to_save (frames_of slots ps)) gone);
       at_once = ap (λ (o : Seated). o.correlated) order ∙ a.at_once;
-      seating = subst (IsSeating limit (set ws slot.page 0)) (sym seats)
-          (seating-vacated limit ws (set unsaved.order.seats slot.index None) (seating-left size limit slots ws spare t unsaved.order.seats a.seating slot.page slot.index here few) slot.page
-          (left-here size limit slots ws spare t unsaved.order.seats a.seating slot.page slot.index here few));
+      seating = subst (IsSeating capacity (set ws slot.page 0)) (sym seats)
+          (seating-vacated capacity ws (set unsaved.order.seats slot.index None) (seating-left size capacity slots ws free_frames t unsaved.order.seats a.seating slot.page slot.index here few) slot.page
+          (left-here size capacity slots ws free_frames t unsaved.order.seats a.seating slot.page slot.index here few));
       seated = λ p s there. elim (cases_eq p slot.page) [
         | inl same ↦ absurd (omega (arith, there, ap (λ n. get_or (set ws slot.page 0) n 0) same, get_or-set_same ws slot.page 0 0 in-pages))
         | inr other ↦
             let was : get_or ws p 0 ≡ s + 1 = sym (get_or-set_other ws slot.page p 0 0 other) ∙ there in
-            ap (λ ss. seat_at ss s) seats ∙ get_or-set_other unsaved.order.seats slot.index s None None (λ same. other (one-page size limit slots ws spare t p slot.page slot.index (was ∙ ap (λ n. n + 1) same) here)) ∙ a.seated p s was
+            ap (λ ss. seat_at ss s) seats ∙ get_or-set_other unsaved.order.seats slot.index s None None (λ same. other (one-page size capacity slots ws free_frames t p slot.page slot.index (was ∙ ap (λ n. n + 1) same) here)) ∙ a.seated p s was
       ];
       pages_is = limits ∙ a.pages_is ∙ sym (length-set ws slot.page 0);
       here = λ p s there. elim (cases_eq p slot.page) [
@@ -323,7 +323,7 @@ module _ (size limit : ℕ) (slots : List Frame) (ws spare : List ℕ) (t : IsTa
         gone : places_from 0 (set ws slot.page 0) ≡ remove places at
         gone = unplaced 0 ws slot.page slot.index (here ∙ omega arith)
 
-        few : slot.index < limit
+        few : slot.index < capacity
         few = omega (arith, in-slots, t.few)
 
         seats : unsaved'.order.seats ≡ set unsaved.order.seats slot.index None

@@ -16,9 +16,9 @@ use Rattle.bp_frames.specs.Rising.{IsRisingBy}
 -- the slot of its frame, or 0 where it has none; and the candidates for replacement
 pub record Table : Type 0 where
   pub frames : List Frame
-  pub spare : ℕ
+  pub free_frames : ℕ
   pub size : ℕ
-  pub limit : ℕ
+  pub capacity : ℕ
   pub pages : ℕ
   pub places : List ℕ
   pub candidates : Entered
@@ -66,53 +66,53 @@ abbrev pub frames_of : List Frame → List Place → List Frame
 frames_of slots places = map (frame_at slots) places
 
 abbrev pub table_of : ℕ → ℕ → List Frame → List Place → List ℕ → List ℕ → Entered → Table
-table_of size limit slots places spare whereabouts candidates =
+table_of size capacity slots places free_frames whereabouts candidates =
     record {
       frames = frames_of slots places;
-      spare = length spare;
+      free_frames = length free_frames;
       size = size;
-      limit = limit;
+      capacity = capacity;
       pages = length whereabouts;
       places = whereabouts;
       candidates = candidates;
     }
 
 -- each slot has one page or waits for one, and each place is where its page's frame is
-pub record IsTable (size limit : ℕ) (slots : List Frame) (places : List Place)
-    (spare : List ℕ) : Type 0 where
+pub record IsTable (size capacity : ℕ) (slots : List Frame) (places : List Place)
+    (free_frames : List ℕ) : Type 0 where
   pub rising : IsRisingBy (λ (p : Place). p.page) places
   pub within : (k : ℕ) (d : Place) → k < length places
       → (slice_index_or places k d).slot < length slots
   pub points : (k : ℕ) (d : Place) → k < length places
       → (frame_at slots (slice_index_or places k d)).page ≡ (slice_index_or places k d).page
-  pub spare_within : (j d : ℕ) → j < length spare → slice_index_or spare j d < length slots
-  pub spare_once : (i j d : ℕ) → i < j → j < length spare
-      → slice_index_or spare i d ≢ slice_index_or spare j d
-  pub apart : (k j : ℕ) (d : Place) (e : ℕ) → k < length places → j < length spare
-      → (slice_index_or places k d).slot ≢ slice_index_or spare j e
+  pub free_within : (j d : ℕ) → j < length free_frames → slice_index_or free_frames j d < length slots
+  pub free_once : (i j d : ℕ) → i < j → j < length free_frames
+      → slice_index_or free_frames i d ≢ slice_index_or free_frames j d
+  pub apart : (k j : ℕ) (d : Place) (e : ℕ) → k < length places → j < length free_frames
+      → (slice_index_or places k d).slot ≢ slice_index_or free_frames j e
   pub sized : All (λ (f : Frame). length f.image ≡ size) slots
-  pub whole : length slots ≡ length places + length spare
-  pub few : length slots ≤ limit
+  pub whole : length slots ≡ length places + length free_frames
+  pub few : length slots ≤ capacity
 
-pub record HasTableRoom (limit slots_capacity spare_capacity : ℕ) : Type 0 where
-  pub small : limit ≤ 65536
-  pub for_slots : limit ≤ slots_capacity
-  pub for_spare : limit ≤ spare_capacity
+pub record HasTableRoom (capacity slots_capacity free_capacity : ℕ) : Type 0 where
+  pub small : capacity ≤ 65536
+  pub for_slots : capacity ≤ slots_capacity
+  pub for_free : capacity ≤ free_capacity
 
 -- each slot has a seat, where its page alone may stand
-pub record IsSeating (limit : ℕ) (whereabouts : List ℕ)
+pub record IsSeating (capacity : ℕ) (whereabouts : List ℕ)
     (seats : List (Option Candidate)) : Type 0 where
-  pub seats_is : length seats ≡ limit
+  pub seats_is : length seats ≡ capacity
   pub own : (seat : ℕ) (e : Candidate) → slice_index_or seats seat None ≡ Some e
       → slice_index whereabouts e.2 ≡ seat + 1
 
 -- what is counted of the frames of pages: how many have a pass out, and which are unsaved
-pub record IsAccount (limit : ℕ) (slots : List Frame) (whereabouts : List ℕ) (pinned : ℕ)
+pub record IsAccount (capacity : ℕ) (slots : List Frame) (whereabouts : List ℕ) (pinned : ℕ)
     (unsaved : Unsaved) : Type 0 where
   pub pinned_is : pinned ≡ count is_pinned (frames_of slots (places_from 0 whereabouts))
   pub unsaved_is : unsaved.count ≡ count is_to_save (frames_of slots (places_from 0 whereabouts))
   pub at_once : unsaved.order.correlated ≡ 0
-  pub seating : IsSeating limit whereabouts unsaved.order.seats
+  pub seating : IsSeating capacity whereabouts unsaved.order.seats
   pub seated : (page slot : ℕ) → slice_index whereabouts page ≡ slot + 1
       → slice_index_or unsaved.order.seats slot None
       ≡ seat_for page (slice_index_or slots slot no_frame).first_lsn

@@ -20,7 +20,7 @@ impl Model for BitRow {
     ghost view = { λ row. row.words.items };
 }
 
-// A word with one bit as it is told.
+// The word with one bit set or cleared.
 fn with_bit(word: u64, bit: usize, is_in: bool) -> u64
     requires { bit < 64 }
     ensures { (i : ℕ) → i < 64 → is_set result i ≡ (if i == bit then is_in else is_set word i) }
@@ -30,7 +30,7 @@ fn with_bit(word: u64, bit: usize, is_in: bool) -> u64
 }
 
 impl BitRow {
-    /// So many words, with no bit set.
+    /// Makes a row of so many words with no bit set. It fails by want of memory alone; no other call takes any.
     pub fn new(alloc: Global, words: usize) -> Result<BitRow, AllocError>
         ensures { IfOk result (λ row. row ≡ replicate words 0) }
     {
@@ -38,7 +38,7 @@ impl BitRow {
         Ok(BitRow { words })
     }
 
-    /// Whether a word has any bit.
+    /// Returns true if a word has a bit set.
     pub fn has_any(&self, word: usize) -> bool
         requires { word < length self.now }
         ensures { result ≡ holds_any self.now word }
@@ -63,7 +63,7 @@ impl BitRow {
         self.words[at / 64] = with_bit(self.word(at / 64), at % 64, is_in);
     }
 
-    /// The first bit from a number on that is set, in the word of that number.
+    /// Returns the first set bit from a number on, in the word of that number alone.
     pub fn first_in(&self, from: usize) -> Option<usize>
         ensures not_before { IfSome result (λ q. from ≤ q) }
         ensures same_word { IfSome result (λ q. q / 64 ≡ from / 64) }

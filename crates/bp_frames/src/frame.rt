@@ -9,17 +9,16 @@ use std::mem;
 /// A frame with the page that it holds. A [`FrameTable`](crate::FrameTable) makes and changes it; others read it.
 #[derive(Drop)]
 pub struct Frame {
-    /// The page that it holds.
     pub page: PageNo,
     /// The block of the page's references, as it was given with the page. None where it waits for its first page.
     pub block: Option<BlockNo>,
-    /// How many passes of the page are out.
+    /// The number of passes of the page that are out.
     pub pins: u64,
-    /// Whether some write is not yet saved.
+    /// True if some write is not yet saved.
     pub is_unsaved: bool,
-    /// Whether it was written since the newest write-out began.
+    /// True if it was written since the newest write-out began.
     pub is_rewritten: bool,
-    /// Whether a write-out is under way.
+    /// True if a write-out is under way.
     pub is_writing: bool,
     /// The least LSN of the writes that are not yet saved. None where it is saved.
     pub first_lsn: Option<Lsn>,
@@ -31,7 +30,7 @@ pub struct Frame {
     pub image: Image,
 }
 
-/// Where the frame of a page is, as a look-up of the page finds it. It stays right as long as the page is in its frame.
+/// The slot of a page's frame, as `FrameTable::find` gives it. It is valid as long as the page is in its frame.
 #[derive(Clone, Copy)]
 pub struct FrameSlot {
     pub(crate) page: PageNo,
@@ -39,7 +38,6 @@ pub struct FrameSlot {
 }
 
 impl FrameSlot {
-    /// The page that is there.
     pub fn page(&self) -> PageNo
         ensures { result ≡ self.now.page }
     {
@@ -47,7 +45,7 @@ impl FrameSlot {
     }
 }
 
-/// The least of an LSN and those before it, if there are any.
+/// The lesser of an LSN and the least before it, if there is one.
 fn least(lsn: Lsn, before: Option<Lsn>) -> Option<Lsn>
     ensures { result ≡ or_less (Some lsn) before }
 {
@@ -61,7 +59,7 @@ impl Frame {
     ghost use Rattle.bp_frames.specs.Frames.{is_unused, loaded_with, pinned, unpinned, written_on};
     ghost use Rattle.bp_frames.specs.Frames.{saving, saved, not_saved};
 
-    /// A frame that waits for a page, with this image until then.
+    /// Makes a frame that waits for a page, with this image until then.
     pub(crate) fn waiting(image: Image) -> Frame
         ensures { result.image ≡ image }
     {
@@ -79,8 +77,8 @@ impl Frame {
         }
     }
 
-    /// Takes a page that was read, whose references are in this block, with one pass out. It keeps the image itself, and
-    /// hands out the one that it had.
+    /// Puts a page that was read into the frame, with one pass out. The frame keeps the image itself, and returns the
+    /// one that it had.
     pub(crate) fn load(&mut self, page: PageNo, block: BlockNo, image: Image) -> Image
         ensures loaded { self.new ≡ loaded_with page block image }
         ensures left { result ≡ self.old.image }
@@ -97,7 +95,6 @@ impl Frame {
         mem::replace(&mut self.image, image)
     }
 
-    /// Counts one more pass.
     pub(crate) fn pin(&mut self)
         requires { self.old.pins < 2 ^ 63 }
         ensures { self.new ≡ pinned self.old }
@@ -105,7 +102,6 @@ impl Frame {
         self.pins += 1;
     }
 
-    /// Counts one pass fewer.
     pub(crate) fn unpin(&mut self)
         requires { 0 < self.old.pins }
         ensures { self.new ≡ unpinned self.old }
@@ -113,14 +109,14 @@ impl Frame {
         self.pins -= 1;
     }
 
-    /// Whether nobody uses the page: no pass of it is out, and no write-out of it is under way.
+    /// Returns true if nobody uses the page: no pass of it is out, and no write-out of it is under way.
     pub fn is_unused(&self) -> bool
         ensures { result ≡ is_unused self.now }
     {
         self.pins == 0 && !self.is_writing
     }
 
-    /// Puts bytes into the image.
+    /// Writes bytes into the image from the offset on, which leaves the page unsaved, and notes their LSN.
     pub(crate) fn write(&mut self, offset: usize, bytes: &[u8], lsn: Lsn)
         requires { offset + length bytes.now ≤ length self.old.image }
         ensures { self.new ≡ written_on offset bytes.now lsn self.old }

@@ -1,4 +1,4 @@
-//! The frames, where the frame of each page is, and which of their pages may be replaced.
+//! `FrameTable`: the frames of a core, the frame of each resident page, and the candidates for replacement.
 ghost use Rattle.std.specs.Prelude.{◌≡◌, ◌≢◌, ℕ, ◌+◌, ◌^◌, ◌<◌, ◌≤◌, ◌∷◌, [], All, Contains};
 ghost use Rattle.std.specs.Prelude.{IsFalse, Some, None, is_some, true, false, length, replicate};
 ghost use Rattle.std.specs.Prelude.{IfOk, OnOk, OnErr, IfSome, IfNone, if◌then◌else◌};
@@ -19,23 +19,22 @@ use bp_replacer::{BlockNo, Settings};
 use std::alloc::{AllocError, Global};
 use std::marker::Model;
 
-/// The frames of a core, at most `limit`, with an image of the geometry's size in each. A frame is made once, when a
+/// The frames of a core, at most `capacity`, with an image of the geometry's size in each. A frame is made once, when a
 /// load first needs it, and serves one page after another. A page's frame is found in one step, and then known by its
 /// slot.
 #[derive(Drop)]
 pub struct FrameTable {
     geometry: Geometry,
-    limit: usize,
+    capacity: usize,
     slots: Vec<Frame>,
     /// For each page of the file one more than the slot of its frame, or 0 where it has none.
     places: Vec<u32>,
     /// The slots whose frame waits for a page.
-    spare: Vec<usize>,
+    free_frames: Vec<usize>,
     /// The pages that may be replaced, at the seats of their slots.
     candidates: Candidates,
-    /// How many frames of pages have a pass out.
+    /// The number of resident pages with a pass out.
     pinned: usize,
-    /// The pages that are unsaved.
     unsaved: Unsaved,
 }
 
@@ -47,18 +46,18 @@ impl Model for FrameTable {
 
     ghost Value = { Table };
 
-    ghost view = { λ t. table_of t.geometry.size t.limit t.slots.items
-        (places_from 0 t.places.items) t.spare.items t.places.items
+    ghost view = { λ t. table_of t.geometry.size t.capacity t.slots.items
+        (places_from 0 t.places.items) t.free_frames.items t.places.items
         (entered t.candidates) };
 
-    ghost invariant = { λ t. IsTable t.geometry.size t.limit t.slots.items
-        (places_from 0 t.places.items) t.spare.items
-        × HasTableRoom t.limit (vec_capacity t.slots) (vec_capacity t.spare)
-        × IsSeating t.limit t.places.items t.candidates.seats
-        × IsAccount t.limit t.slots.items t.places.items t.pinned t.unsaved };
+    ghost invariant = { λ t. IsTable t.geometry.size t.capacity t.slots.items
+        (places_from 0 t.places.items) t.free_frames.items
+        × HasTableRoom t.capacity (vec_capacity t.slots) (vec_capacity t.free_frames)
+        × IsSeating t.capacity t.places.items t.candidates.seats
+        × IsAccount t.capacity t.slots.items t.places.items t.pinned t.unsaved };
 }
 
-// What a count changes by where something holds.
+// 1 where it holds, and else 0.
 fn one_if(holds: bool) -> usize
     ensures { result ≡ (if holds then 1 else 0) }
 {
@@ -68,62 +67,62 @@ fn one_if(holds: bool) -> usize
 impl FrameTable {
     ghost use Rattle.bp_frames.specs.Tables.{IsSlotIn, with_changed};
 
-    /// Room for `limit` frames, at most 65,536, none of which is made yet, and for each page of the file 4 bytes and
-    /// little more than a bit. It fails by want of memory alone.
+    /// Makes room for `capacity` frames, at most 65,536, none of which is made yet, and takes 4 bytes and little more
+    /// than a bit for each page of the file. It fails by want of memory alone.
     pub fn with_capacity(
         alloc: Global,
-        limit: usize,
+        capacity: usize,
         geometry: Geometry,
         settings: Settings,
     ) -> Result<FrameTable, AllocError>
-        requires { limit ≤ 65536 }
+        requires { capacity ≤ 65536 }
         ensures { IfOk result (λ t. t ≡ record {
           frames = [];
-          spare = 0;
+          free_frames = 0;
           size = geometry.size;
-          limit
-              = limit;
+          capacity
+              = capacity;
           pages = geometry.pages;
           places = replicate geometry.pages 0;
           candidates = record
-              { frames = limit; correlated = settings.correlated; entries = [] };
+              { frames = capacity; correlated = settings.correlated; entries = [] };
         }) }
     {
         let pages = geometry.pages as usize;
         Ok(FrameTable {
             geometry,
-            limit,
-            slots: Vec::with_capacity(alloc, limit)?,
+            capacity,
+            slots: Vec::with_capacity(alloc, capacity)?,
             places: vec![in alloc; 0; pages]?,
-            spare: Vec::with_capacity(alloc, limit)?,
-            candidates: Candidates::new(alloc, limit, settings)?,
+            free_frames: Vec::with_capacity(alloc, capacity)?,
+            candidates: Candidates::new(alloc, capacity, settings)?,
             pinned: 0,
-            unsaved: Unsaved::new(alloc, limit, pages, settings)?,
+            unsaved: Unsaved::new(alloc, capacity, pages, settings)?,
         })
     }
 
-    /// How many pages have frames. Frames that wait for a page are not counted.
+    /// Returns the number of resident pages. Frames that wait for a page are not counted.
     pub fn len(&self) -> usize
         ensures { result ≡ length self.now.frames }
     {
-        self.slots.len() - self.spare.len()
+        self.slots.len() - self.free_frames.len()
     }
 
-    /// How many pages have passes out, in one step: the number is kept, and not counted anew.
+    /// Returns the number of pages with a pass out, in O(1).
     pub fn pinned(&self) -> usize
         ensures { result ≡ count is_pinned self.now.frames }
     {
         self.pinned
     }
 
-    /// How many pages are unsaved, in one step: the number is kept, and not counted anew.
+    /// Returns the number of unsaved pages, in O(1).
     pub fn unsaved(&self) -> usize
         ensures { result ≡ count is_to_save self.now.frames }
     {
         self.unsaved.len()
     }
 
-    /// Where the frame of a page is, if it has one. Of a page beyond the file there is none.
+    /// Returns the slot of a page's frame, in O(1). `None` where it has none; a page beyond the file has none.
     pub fn find(&self, page: PageNo) -> Option<FrameSlot>
         ensures here { is_some result ≡ some (is_frame_of page) self.now.frames }
         ensures found { IfSome result (λ slot. IsSlotIn self.now slot × (slot.page ≡ page)) }
@@ -140,7 +139,6 @@ impl FrameTable {
         Some(FrameSlot { page, index })
     }
 
-    /// The frame in a slot that was found.
     pub fn frame(&self, slot: &FrameSlot) -> &Frame
         requires { IsSlotIn self.now slot.now }
         ensures here { Contains self.now.frames result.now }
@@ -171,9 +169,9 @@ impl FrameTable {
         frame.unpin();
     }
 
-    /// Puts bytes into the page's image from the offset on, and raises its page LSN to `lsn` if that is greater. The
-    /// bytes must end within the image. It takes its place among the unsaved pages in O(log frames), and where it was
-    /// unsaved, and from no greater LSN on, it keeps the one that it has.
+    /// Writes bytes into the page's image from the offset on, and raises its page LSN to `lsn` if that is greater. The
+    /// bytes must end within the image. Beside the copy it costs O(log frames) where the least LSN of the page's
+    /// unsaved writes changes, and else O(1).
     pub fn write(&mut self, slot: &FrameSlot, offset: usize, bytes: &[u8], lsn: Lsn)
         requires at { IsSlotIn self.old slot.now }
         requires fits { offset + length bytes.now ≤ self.old.size }
@@ -194,7 +192,7 @@ impl FrameTable {
         self.slots[slot.index].begin_write_out();
     }
 
-    /// Notes that a write-out of the page ended well: it is saved but for writes since that began.
+    /// Notes that a write-out of the page ended well: it is saved, except for writes since that began.
     pub fn end_write_out(&mut self, slot: &FrameSlot)
         requires { IsSlotIn self.old slot.now }
         ensures { self.new ≡ with_changed self.old slot.now.page saved }
@@ -213,50 +211,50 @@ impl FrameTable {
         self.slots[slot.index].fail_write_out();
     }
 
-    /// Sees to it that more than `reads` frames wait for a page, where that many wait or more. It may take memory, for
-    /// one frame; where that is refused nothing changes.
+    /// Makes a frame, unless more than `reads` frames wait for a page; `reads` or more must wait. It fails by want of
+    /// memory alone, and then changes nothing.
     pub fn make_spare_frame(&mut self, alloc: Global, reads: usize) -> Result<(), AllocError>
-        requires room { length self.old.frames + reads < self.old.limit }
-        requires waiting { reads ≤ self.old.spare }
+        requires room { length self.old.frames + reads < self.old.capacity }
+        requires waiting { reads ≤ self.old.free_frames }
         ensures frames { self.new.frames ≡ self.old.frames }
         ensures size { self.new.size ≡ self.old.size }
-        ensures limit { self.new.limit ≡ self.old.limit }
+        ensures capacity { self.new.capacity ≡ self.old.capacity }
         ensures pages { self.new.pages ≡ self.old.pages }
         ensures places { self.new.places ≡ self.old.places }
         ensures candidates { self.new.candidates ≡ self.old.candidates }
-        ensures enough { OnOk result (reads < self.new.spare) }
-        ensures more { self.old.spare ≤ self.new.spare }
+        ensures enough { OnOk result (reads < self.new.free_frames) }
+        ensures more { self.old.free_frames ≤ self.new.free_frames }
         ensures unchanged { OnErr result (self.new ≡ self.old) }
     {
-        if reads < self.spare.len() {
+        if reads < self.free_frames.len() {
             return Ok(());
         }
         let image = Image::blank(alloc, &self.geometry)?;
-        self.spare.push_reserved(self.slots.len());
+        self.free_frames.push_reserved(self.slots.len());
         self.slots.push_reserved(Frame::waiting(image));
         Ok(())
     }
 
-    /// Puts a page of the file that was read, and has no frame, into a frame that waits, with the number of the block
-    /// of its references, and with one pass out. The frame keeps the image itself. Returns where it is, and the image
-    /// that it had before, whose bytes mean nothing. It takes no memory.
+    /// Puts a page of the file that was read, and has no frame, into a frame that waits, with one pass out. The frame
+    /// keeps the number of the block of its references and the image itself. Returns the slot, and the image that the
+    /// frame had before, whose bytes mean nothing. It takes no memory.
     pub fn install(&mut self, page: PageNo, block: BlockNo, image: Image) -> (FrameSlot, Image)
         requires absent { some (is_frame_of page) self.old.frames ≡ false }
         requires in_range { page < self.old.pages }
-        requires spare { 0 < self.old.spare }
+        requires free_frames { 0 < self.old.free_frames }
         requires size { length image ≡ self.old.size }
         ensures at { IsSlotIn self.new result.0 }
         ensures page { result.0.page ≡ page }
         ensures left { length result.1 ≡ self.old.size }
         ensures frames { IsPermutation (loaded_with page block image ∷
             self.old.frames) self.new.frames }
-        ensures spare { self.new.spare + 1 ≡ self.old.spare }
+        ensures free_frames { self.new.free_frames + 1 ≡ self.old.free_frames }
         ensures size { self.new.size ≡ self.old.size }
-        ensures limit { self.new.limit ≡ self.old.limit }
+        ensures capacity { self.new.capacity ≡ self.old.capacity }
         ensures pages { self.new.pages ≡ self.old.pages }
         ensures candidates { self.new.candidates ≡ self.old.candidates }
     {
-        let index = self.spare.pop().unwrap();
+        let index = self.free_frames.pop().unwrap();
         let left = self.slots[index].load(page, block, image);
         self.places[page.number() as usize] = index as u32 + 1;
         self.pinned += 1;
@@ -269,7 +267,7 @@ impl FrameTable {
         requires apart { entry_of self.old.candidates slot.now.page ≡ None }
         ensures { self.new ≡ record self.old {
           frames = without_page slot.now.page self.old.frames;
-          spare = self.old.spare + 1;
+          free_frames = self.old.free_frames + 1;
           places = self.new.places;
         } }
     {
@@ -277,7 +275,7 @@ impl FrameTable {
         self.pinned -= one_if(frame.pins > 0);
         self.unsaved.note(slot, frame.first_lsn, None);
         self.places[slot.page.number() as usize] = 0;
-        self.spare.push_reserved(slot.index);
+        self.free_frames.push_reserved(slot.index);
     }
 
     /// Enters the page among the candidates, where it is not yet, with its K-th stamp and the time of its newest
@@ -310,7 +308,8 @@ impl FrameTable {
         self.candidates.leave(slot.index);
     }
 
-    /// The candidate to replace at the time `t`, in ticks, if one is old enough.
+    /// Returns the victim at the time `t`, in ticks. `None` where no candidate was last referenced more than the
+    /// correlated period before.
     pub fn victim(&mut self, t: u64) -> Option<PageNo>
         ensures same { self.new ≡ self.old }
         ensures found { IfSome result (λ page. IsVictim self.old.candidates t page) }
@@ -320,7 +319,7 @@ impl FrameTable {
         self.candidates.victim(t)
     }
 
-    /// The least LSN of all writes that are not saved, None where all pages are saved. The unsaved pages stand in the
+    /// Returns the least LSN of all unsaved writes, or `None` where all pages are saved. The unsaved pages stand in the
     /// order of their least LSNs, in a tree that may lag behind any of them: it takes what a look for a victim takes
     /// with no correlated period. It changes nothing that a caller sees.
     pub fn least_unsaved(&mut self) -> Option<Lsn>
@@ -332,8 +331,8 @@ impl FrameTable {
         self.slots[place as usize - 1].first_lsn
     }
 
-    /// The first page from this number on that is unsaved. It looks at one or two words of each of at most four rows
-    /// of bits, however many pages and frames there are.
+    /// Returns the first unsaved page from this number on. It looks at one or two words of each of at most four rows of
+    /// bits, however many pages and frames there are.
     pub fn next_unsaved(&self, from: u64) -> Option<PageNo>
         ensures found { IfSome result (IsNext (has_unsaved self.now.frames) from) }
         ensures none { IfNone result (NoneFrom (has_unsaved self.now.frames) from) }

@@ -1,4 +1,4 @@
-//! The passes or tickets that are out.
+//! `GrantList`: the passes, or the tickets of one kind, that are out.
 ghost use Rattle.std.specs.Prelude.{◌≡◌, ◌<◌, ◌≤◌, ◌+◌, ◌^◌, ◌==◌, ◌&&◌, ◌++◌, ◌∷◌, [], not, All, filter, length};
 ghost use Rattle.std.specs.Prelude.{IsTrue, IsFalse, IfOk, OnOk, IsOk, reverse, slice_get};
 ghost use Rattle.bp_trail.specs.Event.{Grant, grant, same_grant};
@@ -27,17 +27,17 @@ struct Slot {
 /// and `take_back` take O(log n) for n slots, `len`, `give` and `add` O(1). None of them moves a grant or takes memory:
 /// a grant that is taken back leaves its slot, which keeps the order. A slot that was left goes once it is the oldest
 /// or the newest, at most two of each at a call; so a list that is taken back from its ends alone has no such slots.
-/// Once a number did not rise, and until the list is empty, `has` and `take_back` look at all slots, and the latter closes
-/// those that were left.
+/// Once a number did not rise, and until the list is empty, `has` and `take_back` look at all slots, and the latter
+/// closes those that were left.
 ///
 /// `reserve` alone may move grants, and takes O(1) on average. Where room is wanted it first closes the slots that were
 /// left, if they are half of all or more; where that is not enough, the list grows to at least twice its size.
 #[derive(Drop)]
 pub struct GrantList {
     slots: VecDeque<Slot>,
-    /// How many are out.
+    /// The number of grants that are out.
     count: usize,
-    /// Whether each slot has a greater number than the one before it.
+    /// True if each slot has a greater number than the one before it.
     is_rising: bool,
 }
 
@@ -53,7 +53,7 @@ impl Model for GrantList {
     ghost invariant = { λ g. AreInOrder g.slots.items g.count g.is_rising };
 }
 
-/// Where the slot of this number stands or would stand, found by halving.
+/// The place at which the slot of this number stands or would stand, by binary search.
 fn place_for(slots: &VecDeque<Slot>, serial: u64) -> usize
     requires { IsRisingBy (λ (s : Slot). s.grant.serial) slots.now.items }
     ensures { IsPlaceFor (λ (s : Slot). s.grant.serial) slots.now.items serial result }
@@ -61,7 +61,7 @@ fn place_for(slots: &VecDeque<Slot>, serial: u64) -> usize
     slots.partition_point(|slot| slot.grant.serial < serial)
 }
 
-/// Where the slot of this number stands, if it is there.
+/// The place of the slot of this number, or `None` where it is not there.
 fn find(slots: &VecDeque<Slot>, serial: u64) -> Option<usize>
     requires { IsRisingBy (λ (s : Slot). s.grant.serial) slots.now.items }
     ensures { IsPlaceOf (λ (s : Slot). s.grant.serial) slots.now.items serial result }
@@ -74,7 +74,7 @@ fn find(slots: &VecDeque<Slot>, serial: u64) -> Option<usize>
     }
 }
 
-/// Whether the grant of a slot is out, and was given to this client for this page.
+/// Returns true if the grant of a slot is out, and was given to this client for this page.
 fn is_out_as(slot: &Slot, client: u8, page: PageNo) -> bool
     ensures { result ≡ (slot.now.is_out
         && ((client == slot.now.grant.client) && (page == slot.now.grant.page))) }
@@ -82,7 +82,7 @@ fn is_out_as(slot: &Slot, client: u8, page: PageNo) -> bool
     slot.is_out && client == slot.grant.client && page == slot.grant.page
 }
 
-/// Whether this grant is out, found by a look at each slot.
+/// Returns true if this grant is out, found by a look at each slot.
 fn is_among(slots: &VecDeque<Slot>, client: u8, page: PageNo, serial: u64) -> bool
     ensures { result ≡ some (λ s. s.is_out && same_grant (grant client page serial) s.grant)
         slots.now.items }
@@ -90,7 +90,7 @@ fn is_among(slots: &VecDeque<Slot>, client: u8, page: PageNo, serial: u64) -> bo
     slots.iter().any(|slot| is_this(slot, client, page, serial))
 }
 
-/// Whether the grant of a slot is out, and is this one.
+/// Returns true if the grant of a slot is out, and is this one.
 fn is_this(slot: &Slot, client: u8, page: PageNo, serial: u64) -> bool
     ensures { result ≡ (slot.now.is_out
         && same_grant (grant client page serial) slot.now.grant) }
@@ -98,14 +98,14 @@ fn is_this(slot: &Slot, client: u8, page: PageNo, serial: u64) -> bool
     is_out_as(slot, client, page) && serial == slot.grant.serial
 }
 
-/// Whether the grant of a slot is out, and has another number.
+/// Returns true if the grant of a slot is out, and has another number.
 fn is_another(slot: &Slot, serial: u64) -> bool
     ensures { result ≡ (slot.now.is_out && not (slot.now.grant.serial == serial)) }
 {
     slot.is_out && slot.grant.serial != serial
 }
 
-/// Whether the numbers rise with one slot more.
+/// Returns true if the numbers rise with one slot more.
 fn rises_with(slots: &VecDeque<Slot>, is_rising: bool, serial: u64) -> bool
     requires { MayRise is_rising slots.now.items }
     ensures { (slot : Slot) → slot.grant.serial ≡ serial →
@@ -117,7 +117,7 @@ fn rises_with(slots: &VecDeque<Slot>, is_rising: bool, serial: u64) -> bool
     }
 }
 
-/// Where the first slot stands whose grant is out, or the end.
+/// The place of the first slot whose grant is out, or the number of slots.
 fn first_out(slots: &VecDeque<Slot>) -> usize
     ensures { IsFirstOut slots.now.items result }
 {
@@ -131,14 +131,14 @@ fn first_out(slots: &VecDeque<Slot>) -> usize
 impl GrantList {
     ghost use Rattle.bp_frames.specs.GrantLists.{with_grant, GivesAsMuch};
 
-    /// No grants, and no room. It takes no memory.
+    /// Makes an empty list with no room. It takes no memory.
     pub fn new(alloc: Global) -> GrantList
         ensures empty { result.out ≡ [] }
         ensures room { result.room ≡ 0 }
         ensures next { result.next ≡ 0 }
     {
         let mut slots = VecDeque::new(alloc);
-        // Only of this does std say that it leaves no memory.
+        // This is the only call of std that promises to leave no memory.
         slots.shrink_to_fit();
         GrantList {
             slots,
@@ -147,7 +147,7 @@ impl GrantList {
         }
     }
 
-    /// Room for so many. It fails by want of memory alone.
+    /// Makes an empty list with room for so many grants. It fails by want of memory alone.
     pub fn with_capacity(alloc: Global, room: usize) -> Result<GrantList, AllocError>
         ensures empty { IfOk result (λ g. g.out ≡ []) }
         ensures room { IfOk result (λ g. room ≤ g.room) }
@@ -160,7 +160,6 @@ impl GrantList {
         })
     }
 
-    /// How many are out.
     pub fn len(&self) -> usize
         ensures count { result ≡ length self.now.out }
         ensures small { result < 2 ^ 63 }
@@ -168,7 +167,8 @@ impl GrantList {
         self.count
     }
 
-    /// The one that was given first. It takes O(1) where no slots were left before it: see `trim_front`.
+    /// Returns the grant that was given first, or `None` where none is out. It takes O(1) where no slots were left
+    /// before it: see `trim_front`.
     pub fn oldest(&self) -> Option<Grant>
         ensures { result ≡ slice_get (reverse self.now.out) 0 }
     {
@@ -180,7 +180,8 @@ impl GrantList {
         }
     }
 
-    /// Whether this grant, of all three numbers, is out. It is found by halving as long as numbers rise.
+    /// Returns true if the grant with this client, page and serial number is out. It is found by binary search as long
+    /// as numbers rise, and else by a look at each slot.
     pub fn has(&self, client: u8, page: PageNo, serial: u64) -> bool
         ensures { result ≡ is_out (grant client page serial) self.now.out }
     {
@@ -193,7 +194,7 @@ impl GrantList {
         }
     }
 
-    /// Takes memory for so many more, if there is not the room. Where it is refused the grants stay as they are.
+    /// Makes room for so many more. It fails by want of memory alone, and then the grants stay as they are.
     pub fn reserve(&mut self, additional: usize) -> Result<(), AllocError>
         ensures out { self.new.out ≡ self.old.out }
         ensures room { OnOk result (additional ≤ self.new.room) }
@@ -211,7 +212,7 @@ impl GrantList {
         self.slots.reserve(growth)
     }
 
-    /// How many more may be given with no memory taken.
+    /// The number of grants that may be added without memory.
     fn free(&self) -> usize
         ensures { result ≡ self.now.room }
     {
@@ -226,7 +227,7 @@ impl GrantList {
         self.slots.retain(|slot| slot.is_out);
     }
 
-    /// Adds the newest grant, whose number must be above all that were given, which takes no memory.
+    /// Adds the newest grant, whose number must be above all that were given. There must be room: it takes no memory.
     pub fn give(&mut self, client: u8, page: PageNo, serial: u64)
         requires newest { self.old.next ≤ serial }
         requires room { 0 < self.old.room }
@@ -244,7 +245,7 @@ impl GrantList {
         self.count += 1;
     }
 
-    /// Adds the newest grant, whatever its number, which takes no memory.
+    /// Adds the newest grant, whatever its number. There must be room: it takes no memory.
     pub fn add(&mut self, grant: Grant)
         requires room { 0 < self.old.room }
         ensures out { self.new.out ≡ grant ∷ self.old.out }
@@ -258,8 +259,9 @@ impl GrantList {
         self.count += 1;
     }
 
-    /// Takes this grant, of all three numbers, out, and tells whether it was. That leaves no less room; where it was not
-    /// out nothing changes. It is found by halving as long as numbers rise; where they do not, all of its number go.
+    /// Takes back the grant with this client, page and serial number. Returns true if it was out; else nothing changes.
+    /// It leaves no less room. The grant is found by binary search as long as numbers rise; where they do not, all of
+    /// its number go.
     pub fn take_back(&mut self, client: u8, page: PageNo, serial: u64) -> bool
         ensures was { result ≡ is_out (grant client page serial) self.old.out }
         ensures out { IsTrue result → self.new.out
@@ -275,7 +277,7 @@ impl GrantList {
         true
     }
 
-    /// Takes this grant out, and tells whether it was. It looks at each slot, and closes those that were left.
+    /// `take_back` where the numbers do not rise. It looks at each slot, and closes those that were left.
     fn remove_each(&mut self, client: u8, page: PageNo, serial: u64) -> bool
         ensures was { result ≡ is_out (grant client page serial) self.old.out }
         ensures out { IsTrue result → self.new.out
@@ -291,7 +293,7 @@ impl GrantList {
         true
     }
 
-    /// Marks this grant as taken back, or removes it where the numbers do not rise, and tells whether it was out.
+    /// Marks this grant as taken back, or removes it where the numbers do not rise, and returns true if it was out.
     fn mark(&mut self, client: u8, page: PageNo, serial: u64) -> bool
         ensures was { result ≡ is_out (grant client page serial) self.old.out }
         ensures out { IsTrue result → self.new.out
@@ -313,8 +315,8 @@ impl GrantList {
         true
     }
 
-    /// Drops the slots that were left before the first grant that is out. It takes O(1) on average, since each slot goes
-    /// once.
+    /// Drops the slots that were left before the first grant that is out. It takes O(1) on average, since each slot
+    /// goes once.
     pub fn trim_front(&mut self)
         ensures out { self.new.out ≡ self.old.out }
         ensures more { GivesAsMuch self.old self.new }

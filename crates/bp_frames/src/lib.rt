@@ -3,8 +3,8 @@
 //! A [`FrameTable`] holds the images of the pages that are in memory, and knows which pages may be replaced and which
 //! of them goes first. It finds a page's frame in one step, as a [`FrameSlot`], and other calls go on by that. It knows
 //! which pages are unsaved, which of them comes next, and which LSN is the least of their unsaved writes. A
-//! [`GrantList`] holds the passes, or the tickets of one kind, that are out. Neither knows of a trail: what each is
-//! seen as is said in `specs`, and the core above ties that to its entries.
+//! [`GrantList`] holds the passes, or the tickets of one kind, that are out. Neither knows of a trail: `specs` has a
+//! model of each, which the core above ties to its entries.
 //!
 //! Memory is taken by `FrameTable::with_capacity` and `make_spare_frame`, and by `GrantList::with_capacity` and
 //! `reserve`; by nothing else.

@@ -1,4 +1,4 @@
-//! A set of page numbers that tells which of them comes next.
+//! `PageSet`: a set of page numbers that finds the first of them from a number on.
 ghost use Rattle.std.specs.Prelude.{◌≡◌, ℕ, ◌+◌, ◌*◌, ◌/◌, ◌==◌, ◌^◌, ◌<◌, ◌≤◌, IfOk, IfSome, IfNone, true, false};
 ghost use Rattle.std.specs.Prelude.{length, if◌then◌else◌};
 ghost use Rattle.bp_frames.specs.PageSets.{IsNext, NoneFrom, has, holds, row_at, AreSummed, AreShaped};
@@ -51,7 +51,7 @@ fn put(rows: &mut [BitRow], level: usize, at: usize, is_in: bool)
     }
 }
 
-// The first bit of a row from a number on that is set.
+// The first set bit of a row from a number on.
 fn first_from(rows: &[BitRow], level: usize, from: usize) -> Option<usize>
     requires shaped { AreShaped rows.now }
     requires summed { AreSummed rows.now level }
@@ -70,7 +70,7 @@ fn first_from(rows: &[BitRow], level: usize, from: usize) -> Option<usize>
 }
 
 impl PageSet {
-    /// None of the numbers below the limit. It fails by want of memory alone; no other call takes any.
+    /// Makes an empty set of numbers below the limit. It fails by want of memory alone; no other call takes any.
     pub fn with_capacity(alloc: Global, limit: usize) -> Result<PageSet, AllocError>
         requires { limit ≤ 2 ^ 32 }
         ensures limit { IfOk result (λ s. s.limit ≡ limit) }
@@ -86,7 +86,6 @@ impl PageSet {
         Ok(PageSet { limit, rows })
     }
 
-    /// Puts a number into the set.
     pub fn insert(&mut self, number: usize)
         requires { number < self.old.limit }
         ensures limit { self.new.limit ≡ self.old.limit }
@@ -95,7 +94,6 @@ impl PageSet {
         put(&mut self.rows, 0, number, true);
     }
 
-    /// Takes a number out of the set.
     pub fn remove(&mut self, number: usize)
         requires { number < self.old.limit }
         ensures limit { self.new.limit ≡ self.old.limit }
@@ -104,7 +102,7 @@ impl PageSet {
         put(&mut self.rows, 0, number, false);
     }
 
-    /// The first number in the set from another on.
+    /// Returns the first number of the set that is `from` or greater.
     pub fn next(&self, from: usize) -> Option<usize>
         ensures found { IfSome result (IsNext (has self.now) from) }
         ensures none { IfNone result (NoneFrom (has self.now) from) }

@@ -1,4 +1,4 @@
-//! The pages that are unsaved, as a table of frames keeps account of them.
+//! `Unsaved`: the unsaved pages of a frame table, in the order of the least LSNs of their unsaved writes.
 ghost use Rattle.std.specs.Prelude.{◌≡◌, ℕ, ◌+◌, ◌^◌, ◌<◌, ◌≤◌, ◌==◌, IsTrue, IsFalse, IfOk, IfSome, IfNone, Some};
 ghost use Rattle.std.specs.Prelude.{None, true, false, is_some, length, replicate, if◌then◌else◌};
 ghost use Rattle.bp_references.specs.Candidates.{is_eligible, IsVictim, NoPageTwice};
@@ -13,19 +13,18 @@ use bp_replacer::Settings;
 use bp_replacer::seats::Candidates;
 use std::alloc::{AllocError, Global};
 
-/// Which pages are unsaved, how many they are, and in which order their oldest unsaved writes came.
+/// The unsaved pages, their number, and their order by the least LSN of their unsaved writes.
 #[derive(Drop)]
 pub(crate) struct Unsaved {
     count: usize,
     /// The unsaved pages at the seats of their slots, from the least LSN on.
     order: Candidates,
-    /// Their numbers.
     pages: PageSet,
 }
 
 impl Unsaved {
-    /// No page of a file with so many is unsaved, in as many frames. It fails by want of memory alone; no other call
-    /// takes any.
+    /// Starts with no page unsaved, of a file of so many pages and in so many frames. It fails by want of memory alone;
+    /// no other call takes any.
     pub fn new(
         alloc: Global,
         frames: usize,
@@ -56,15 +55,14 @@ impl Unsaved {
         })
     }
 
-    /// How many are unsaved.
     pub fn len(&self) -> usize
         ensures { result ≡ self.now.count }
     {
         self.count
     }
 
-    /// Notes the least LSN of the unsaved writes of the page in a slot, and that before; None where it is saved. It
-    /// costs a compare where they are the same, and else O(log frames).
+    /// Changes the least LSN of the unsaved writes of the page in a slot from `before` to `after`, of which `None`
+    /// stands for a saved page. It costs a compare where they are the same, and else O(log frames).
     pub fn note(&mut self, slot: &FrameSlot, before: Option<Lsn>, after: Option<Lsn>)
         requires seat { slot.now.index < length self.old.order.seats }
         requires was { seat_of self.old.order slot.now.index ≡ seat_for slot.now.page before }
@@ -92,7 +90,7 @@ impl Unsaved {
         }
     }
 
-    // The page is unsaved from now on.
+    // Enters a page that was saved before.
     fn enter(&mut self, slot: &FrameSlot, lsn: Lsn)
         requires seat { slot.now.index < length self.old.order.seats }
         requires empty { seat_of self.old.order slot.now.index ≡ None }
@@ -110,7 +108,7 @@ impl Unsaved {
         self.pages.insert(slot.page.number() as usize);
     }
 
-    // The page is saved.
+    // Takes out a page that is saved now.
     fn leave(&mut self, slot: &FrameSlot)
         requires seat { slot.now.index < length self.old.order.seats }
         requires page { slot.now.page < self.old.pages.limit }
@@ -126,7 +124,7 @@ impl Unsaved {
         self.pages.remove(slot.page.number() as usize);
     }
 
-    // The page is unsaved from another LSN on.
+    // Changes the least LSN of a page that stays unsaved.
     fn change(&mut self, slot: &FrameSlot, lsn: Lsn)
         requires seat { slot.now.index < length self.old.order.seats }
         ensures count { self.new.count ≡ self.old.count }
@@ -138,7 +136,7 @@ impl Unsaved {
         self.order.enter(slot.index, slot.page, lsn.number(), 0);
     }
 
-    /// The page whose oldest unsaved write came first.
+    /// Returns the page with the least LSN of an unsaved write, or `None` where all pages are saved.
     pub fn first(&mut self) -> Option<PageNo>
         requires { NoPageTwice (seated_in self.old.order.seats) }
         ensures same { self.new ≡ self.old }
@@ -149,7 +147,7 @@ impl Unsaved {
         self.order.victim(1)
     }
 
-    /// The first page from this number on that is unsaved.
+    /// Returns the number of the first unsaved page from this number on.
     pub fn next(&self, from: usize) -> Option<usize>
         ensures found { IfSome result (IsNext (has self.now.pages) from) }
         ensures none { IfNone result (NoneFrom (has self.now.pages) from) }

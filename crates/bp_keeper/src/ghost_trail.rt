@@ -25,7 +25,6 @@ use std::marker::{Model, Send};
 /// Entries, newest first. They stand in proofs alone, and take no memory.
 #[derive(Drop)]
 pub struct GhostTrail {
-    /// The entries.
     pub ghost past: { Trail },
 }
 
@@ -39,7 +38,6 @@ unsafe impl Send for GhostTrail {}
 /// The bytes of an image. They stand in proofs alone, and take no memory.
 #[derive(Drop)]
 pub struct GhostImage {
-    /// The bytes.
     pub ghost bytes: { List ℕ },
 }
 
@@ -68,21 +66,21 @@ pub(crate) enum Event {
 impl GhostTrail {
     ghost use Rattle.bp_keeper.specs.Shown.{shown_entry};
 
-    /// No entries.
+    /// Begins a list with no entries.
     pub fn nothing() -> GhostTrail
         ensures { result.past ≡ [] }
     {
         GhostTrail {}
     }
 
-    /// And these entries after it, of which the list has the oldest first.
+    /// The list with these entries after it, of which the vector has the oldest first.
     pub fn then(&self, _entries: &Vec<Entry>) -> GhostTrail
         ensures { result.past ≡ reverse _entries.now.items ++ self.now.past }
     {
         GhostTrail {}
     }
 
-    /// And this entry after it.
+    /// The list with this entry after it.
     #[inline(always)]
     pub(crate) fn then_one(&self, _entry: &Entry) -> GhostTrail
         ensures { result.past ≡ _entry.now ∷ self.now.past }
@@ -90,7 +88,7 @@ impl GhostTrail {
         GhostTrail {}
     }
 
-    /// And after it this entry, whose bytes someone else keeps.
+    /// The list with this entry after it, whose bytes someone else keeps.
     #[inline(always)]
     pub(crate) fn then_shown(&self, _shown: &Shown<'_>) -> GhostTrail
         ensures { result.past ≡ shown_entry _shown.now ∷ self.now.past }

@@ -1,4 +1,4 @@
-//! What a core asks of the keeper of its trail.
+//! `Keeper`: the interface by which a core adds entries to its trail.
 ghost use Rattle.std.specs.Prelude.{◌≡◌, ℕ, ◌^◌, ◌<◌, ◌≤◌, Bool, false, List, length, IsOk, IfOk};
 ghost use Rattle.bp_trail.specs.declared.entries.Reply.TheVariants.{Done, Content, Fixed};
 ghost use Rattle.bp_trail.specs.Totals.{totals_of};
@@ -26,40 +26,40 @@ pub trait Keeper: Drop {
 
     const MOST_ROOM: usize;
 
-    /// Whether what it asks for may be refused. One that asks for no memory refuses nothing.
+    /// True if it may refuse for want of memory. A keeper that takes no memory refuses nothing.
     ghost REFUSES: { Bool };
 
-    /// The entries, newest first, and how many there may be.
+    /// The entries, newest first, and the room for them.
     ghost kept: { Self → Kept };
 
-    /// It will do for an entry with this image.
+    /// The spare suffices for an entry with this image.
     ghost serves_image: { Self.SpareImage → List ℕ → Type 0 };
 
-    /// It will do for an entry with these bytes.
+    /// The spare suffices for an entry with these bytes.
     ghost serves_bytes: { Self.SpareBytes → List ℕ → Type 0 };
 
-    /// No entries, and room for so many.
+    /// Makes a keeper with no entries and room for so many. It fails by want of memory alone.
     fn with_capacity(alloc: Global, room: usize) -> Result<Self, AllocError>
         ensures empty { IfOk result (λ t. IsEmpty (kept t)) }
         ensures room { IfOk result (λ t. room ≤ (kept t).capacity) }
         ensures memory { REFUSES ≡ false → IsOk result };
 
-    /// What an entry with this image will need. It fails by want of memory alone.
+    /// Takes what an entry with this image will need. It fails by want of memory alone.
     fn spare_image(alloc: Global, image: &Image) -> Result<Self::SpareImage, AllocError>
         ensures serves { IfOk result (λ spare. serves_image spare image.now) }
         ensures memory { REFUSES ≡ false → IsOk result };
 
-    /// What an entry with these bytes will need. It fails by want of memory alone.
+    /// Takes what an entry with these bytes will need. It fails by want of memory alone.
     fn spare_bytes(alloc: Global, bytes: &[u8]) -> Result<Self::SpareBytes, AllocError>
         ensures serves { IfOk result (λ spare. serves_bytes spare bytes.now) }
         ensures memory { REFUSES ≡ false → IsOk result };
 
-    /// How many there are since the last cut.
+    /// Returns the number of entries since the last cut.
     fn len(&self) -> usize
         ensures { result ≡ (kept self.now).len };
 
-    /// How many replies of each kind there were, since the trail was begun, cut or not. Right as long as these are
-    /// fewer than 2^64 entries.
+    /// Returns the number of replies of each kind since the trail was begun, cut or not. It is right as long as these
+    /// are fewer than 2^64 entries.
     fn totals(&self) -> Totals
         ensures { length (kept self.now).past < 2 ^ 64 → result ≡ totals_of (kept self.now).past };
 

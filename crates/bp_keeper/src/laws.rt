@@ -1,4 +1,4 @@
-//! What a silent keeper promises more than other keepers.
+//! The law that a silent keeper refuses nothing.
 ghost use Rattle.std.specs.Prelude.{IsOk};
 
 use crate::keeper::Keeper;

@@ -1,4 +1,4 @@
-//! Who keeps the entries of a core's trail, and those of a client's own list: in memory, or for the proofs alone.
+//! The keepers of a core's trail and of a client's own list, which have the entries in memory, or for the proofs alone.
 //!
 //! A core is generic over its [`Keeper`], and a client's list over its [`ListKeeper`]. [`RecordingKeeper`] has the
 //! entries in memory, and can hand them out. [`SilentKeeper`] counts them, and has no bytes of them; what is promised

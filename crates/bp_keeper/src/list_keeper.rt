@@ -1,4 +1,4 @@
-//! What a client of a shared pool asks of the keeper of its own list.
+//! `ListKeeper`: the interface by which a client of a shared pool adds entries to its own list.
 ghost use Rattle.std.specs.Prelude.{◌≡◌, ℕ, ◌+◌, ◌^◌, ◌<◌, ◌≤◌, false, List, length, Some, IsOk, IfOk, OnOk};
 ghost use Rattle.bp_trail.specs.declared.entries.Reply.TheVariants.{Fixed};
 
@@ -12,7 +12,7 @@ use std::alloc::{AllocError, Global};
 pub trait ListKeeper: Keeper {
     ghost use Rattle.bp_keeper.specs.Kept.{Kept, IsEmpty, with_next, with_capacity, read_end};
 
-    /// What becomes a spare once its image is known.
+    /// What becomes a spare for an image, which is not known yet.
     type Blank: Drop;
 
     /// It becomes a spare for an image of so many bytes.
@@ -21,12 +21,12 @@ pub trait ListKeeper: Keeper {
     /// The image that a spare will do for.
     ghost image_of: { Self.SpareImage → List ℕ };
 
-    /// No entries, and room for none. It takes no memory.
+    /// Makes a keeper with no entries and no room. It takes no memory.
     fn empty(alloc: Global) -> Self
         ensures empty { IsEmpty (Self.kept result) }
         ensures room { (Self.kept result).capacity ≡ 0 };
 
-    /// Room for so many more. Where memory is refused there is no less room than before.
+    /// Makes room for so many more. Where memory is refused there is no less room than before.
     fn reserve(&mut self, more: usize) -> Result<(), AllocError>
         ensures same { Self.kept self.new
             ≡ with_capacity (Self.kept self.old) (Self.kept self.new).capacity }
@@ -36,18 +36,18 @@ pub trait ListKeeper: Keeper {
         ensures memory { Self.REFUSES ≡ false → (Self.kept self.old).len + more < 2 ^ 64
             → IsOk result };
 
-    /// A blank for an image of a page. It fails by want of memory alone.
+    /// Makes a blank for an image of a page. It fails by want of memory alone.
     fn blank(alloc: Global, geometry: &Geometry) -> Result<Self::Blank, AllocError>
         ensures fits { IfOk result (λ blank. fits blank geometry.now.size) }
         ensures memory { Self.REFUSES ≡ false → IsOk result };
 
-    /// The spare for this image, which takes no memory.
+    /// Makes of a blank the spare for this image. It takes no memory.
     fn fill(blank: Self::Blank, image: &Image) -> Self::SpareImage
         requires { fits blank (length image.now) }
         ensures serves { Self.serves_image result image.now }
         ensures image { image_of result ≡ image.now };
 
-    /// A spare that was not wanted is a blank again.
+    /// Makes of a spare that was not used a blank again.
     fn clear(spare: Self::SpareImage) -> Self::Blank
         ensures { fits result (length (image_of spare)) };
 

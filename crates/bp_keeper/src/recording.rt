@@ -1,4 +1,4 @@
-//! The entries in memory, in room that was reserved once.
+//! `RecordingKeeper`: a keeper that has the entries in memory, and can hand them out.
 ghost use Rattle.std.specs.Prelude.{◌≡◌, ◌≤◌, ◌++◌, IsOk, IfOk, OnErr, reverse, vec_len, vec_capacity};
 
 use crate::ghost_trail::GhostTrail;
@@ -17,7 +17,7 @@ pub struct RecordingKeeper {
     entries: Vec<Entry>,
     /// Of all entries, with those that cuts have handed out.
     totals: Totals,
-    /// Whether they begin where no entries lead.
+    /// True if the entries begin at the standing of an empty trail.
     is_fresh: bool,
 }
 
@@ -198,29 +198,30 @@ impl ListKeeper for RecordingKeeper {
 }
 
 impl RecordingKeeper {
-    /// All of them since the last cut, the oldest first.
+    /// Returns the entries since the last cut, the oldest first.
     pub fn entries(&self) -> &[Entry]
         ensures { reverse result.now ++ self.now.before ≡ self.now.past }
     {
         &self.entries
     }
 
-    /// Gives all of them since the last cut, the oldest first.
+    /// Ends the keeper and returns the entries since the last cut, the oldest first.
     pub fn into_entries(self) -> Vec<Entry>
         ensures { reverse result.items ++ self.before ≡ self.past }
     {
         self.entries
     }
 
-    /// Whether they begin where no entries lead.
+    /// Returns true if the entries begin at the standing of an empty trail.
     pub fn is_fresh(&self) -> bool
         ensures { result ≡ self.now.fresh }
     {
         self.is_fresh
     }
 
-    /// Hands out all of them, the oldest first, and begins anew in the spare's memory, which is taken to so much
-    /// room. What the spare has is dropped.
+    /// Hands out the entries since the last cut, the oldest first, and goes on with none in the spare's memory, which
+    /// is taken to so much room. What the spare has is dropped. It fails by want of memory alone, and then the keeper
+    /// stays as it was.
     pub fn cut(
         &mut self,
         spare: Vec<Entry>,

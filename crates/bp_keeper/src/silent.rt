@@ -1,4 +1,4 @@
-//! The entries for the proofs alone.
+//! `SilentKeeper`: a keeper that counts the entries, and has the list of them in proofs alone.
 
 use crate::ghost_trail::{Event, GhostImage, GhostTrail, Shown};
 use crate::keeper::Keeper;
@@ -8,8 +8,8 @@ use bp_trail::{Call, Entry, Grant, Reply, Totals};
 use std::alloc::{AllocError, Global};
 use std::marker::Model;
 
-/// How many entries there are, how many there may be, and how many replies of each kind. The list of them stands in the
-/// proofs alone.
+/// The number of entries, the room for them, and the number of replies of each kind. The list of them stands in proofs
+/// alone.
 #[derive(Drop)]
 pub struct SilentKeeper {
     count: usize,

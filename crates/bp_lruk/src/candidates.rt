@@ -1,4 +1,4 @@
-//! Candidates for replacement, in the order in which LRU-K replaces them.
+//! `Candidates`: the pages that may be replaced, in a list in the order in which LRU-K replaces them.
 ghost use Rattle.std.specs.Prelude.{◌≡◌, ◌≢◌, ℕ, ◌+◌, ◌-◌, ◌<◌, ◌≤◌, ◌↔◌, nat_lt, [], IsTrue, IsFalse, IsSome, Some, None, IfOk, OnErr, IfSome, IfNone, length, find, Contains, AllPairs, slice_index_or};
 ghost use Rattle.bp_references.specs.Candidates.{Candidate, entry_of, find_entry, is_before, is_entered, is_eligible, IsVictim, NoPageTwice, SameLimits};
 ghost use Rattle.bp_lruk.specs.Index.{IsInOrder, IsPlaceFor};
@@ -44,8 +44,8 @@ impl Model for Candidates {
 }
 
 impl Candidates {
-    /// Room for as many candidates as there are frames, and none entered. It fails by want of memory alone, as
-    /// `OutOfMemory`; no other call takes any.
+    /// Makes room for as many candidates as there are frames. It fails by want of memory alone, as `OutOfMemory`; no
+    /// other call takes any.
     pub fn new(alloc: Global, frames: usize, settings: Settings) -> Result<Self, Refusal>
         ensures frames { IfOk result (λ c. c.frames ≡ frames) }
         ensures correlated { IfOk result (λ c. c.correlated ≡ settings.correlated) }
@@ -62,14 +62,13 @@ impl Candidates {
         })
     }
 
-    /// Whether the page is entered.
     pub fn contains(&self, page: PageNo) -> bool
         ensures { result ≡ is_entered self.now page }
     {
         self.pages.find(page).is_some()
     }
 
-    /// Whether as many pages are entered as there are frames.
+    /// Returns true if as many pages are entered as there are frames.
     pub fn is_full(&self) -> bool
         ensures full { IsTrue result ↔ (length self.now.entries ≡ self.now.frames) }
         ensures few { length self.now.entries ≤ self.now.frames }
@@ -93,7 +92,6 @@ impl Candidates {
         self.pages.enter(page, hist_k, last);
     }
 
-    /// Takes a page out.
     pub fn leave(&mut self, page: PageNo)
         requires { IsSome (entry_of self.old page) }
         ensures left { entry_of self.new page ≡ None }
@@ -107,8 +105,9 @@ impl Candidates {
         self.order.remove(at);
     }
 
-    /// The page to replace at the time `t`: of those last referenced more than the correlated period before, the first
-    /// by K-th stamp, then by last time, then by page number.
+    /// Returns the victim at the time `t`: of the pages last referenced more than the correlated period before, the
+    /// first by K-th stamp, then by last time, then by page number. `None` where no page was last referenced so long
+    /// ago.
     pub fn victim(&self, t: u64) -> Option<PageNo>
         ensures found { IfSome result (λ page. IsVictim self.now t page) }
         ensures none { IfNone result ((page : ℕ) → IsFalse (is_eligible self.now t page)) }
@@ -117,7 +116,7 @@ impl Candidates {
         Some(first.2)
     }
 
-    /// All entries as (K-th stamp, last time, page), from the one that is replaced first.
+    /// Returns all entries as (K-th stamp, last time, page), in the order of replacement.
     pub fn ordered(&self) -> &[(u64, u64, PageNo)]
         ensures all { (e : Candidate) → (entry_of self.now e.2 ≡ Some
             (e.0, e.1)) ↔ Contains result.now e }
@@ -128,7 +127,7 @@ impl Candidates {
     }
 }
 
-// Where an entry stands or would go in the order of replacement.
+// The place at which an entry stands or would go.
 fn order_place(entries: &[(u64, u64, PageNo)], entry: &(u64, u64, PageNo)) -> usize
     requires { IsInOrder entries.now }
     ensures { IsPlaceFor entries.now entry.now result }

@@ -1,4 +1,4 @@
-//! What each candidate was entered with, found by its page number.
+//! `PageIndex`: the K-th stamp and the last time with which each candidate was entered, found by its page number.
 ghost use Rattle.std.specs.Prelude.{◌≡◌, ◌≢◌, ℕ, ◌+◌, ◌<◌, ◌≤◌, [], IsSome, Some, None, IfOk, IfErr, length, slice_index_or, vec_len};
 ghost use Rattle.std.specs.Vec.{vec_capacity};
 ghost use Rattle.bp_references.specs.Candidates.{find_entry, NoPageTwice};
@@ -15,9 +15,9 @@ pub struct PageEntry {
     entered: Option<(u64, u64)>,
 }
 
-/// What each candidate was entered with, in the order of page numbers. A page that leaves keeps its place, since a hot
-/// page comes back soon, and nothing has then to move. The places of such pages are given up together once the list is
-/// full, which has room for twice the candidates.
+/// The K-th stamp and the last time with which each candidate was entered, in the order of page numbers. A page that
+/// leaves keeps its place, since a hot page comes back soon, and nothing has then to move. The places of such pages are
+/// given up together once the list is full, which has room for twice the candidates.
 #[derive(Drop)]
 pub struct PageIndex {
     frames: usize,
@@ -39,7 +39,7 @@ impl Model for PageIndex {
 }
 
 impl PageIndex {
-    /// An empty list for so many candidates.
+    /// Makes an empty list for so many candidates. No other call takes memory.
     pub fn new(alloc: Global, frames: usize) -> Result<PageIndex, AllocError>
         ensures frames { IfOk result (λ p. p.frames ≡ frames) }
         ensures empty { IfOk result (λ p. p.entries ≡ []) }
@@ -53,7 +53,7 @@ impl PageIndex {
         })
     }
 
-    /// What the page is entered with.
+    /// Returns the K-th stamp and the last time of a page, or `None` where it is not entered.
     pub fn find(&self, page: PageNo) -> Option<(u64, u64)>
         ensures { result ≡ find_entry self.now.entries page }
     {
@@ -63,7 +63,6 @@ impl PageIndex {
         }
     }
 
-    /// Enters a page.
     pub fn enter(&mut self, page: PageNo, hist_k: u64, last: u64)
         requires apart { find_entry self.old.entries page ≡ None }
         requires room { length self.old.entries < self.old.frames }
@@ -84,7 +83,7 @@ impl PageIndex {
         }
     }
 
-    /// Takes a page out, and tells what it was entered with.
+    /// Takes a page out. Returns the K-th stamp and the last time with which it was entered.
     pub fn leave(&mut self, page: PageNo) -> (u64, u64)
         requires { IsSome (find_entry self.old.entries page) }
         ensures told { find_entry self.old.entries page ≡ Some result }
@@ -101,7 +100,7 @@ impl PageIndex {
     }
 }
 
-// Where the page has its entry, or where an entry of it would go.
+// The place of the page's entry, or as `Err` the place at which it would go.
 fn place(entries: &[PageEntry], page: PageNo) -> Result<usize, usize>
     requires { IsByPage entries.now }
     ensures in_range { IfOk result (λ at. at < length entries.now) }

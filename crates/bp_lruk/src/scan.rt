@@ -37,8 +37,8 @@ impl Model for Candidates {
 }
 
 impl Candidates {
-    /// Room for as many candidates as there are frames, and none entered. It fails by want of memory alone, as
-    /// `OutOfMemory`; no other call takes any.
+    /// Makes room for as many candidates as there are frames. It fails by want of memory alone, as `OutOfMemory`; no
+    /// other call takes any.
     pub fn new(alloc: Global, frames: usize, settings: Settings) -> Result<Self, Refusal>
         ensures frames { IfOk result (λ c. c.frames ≡ frames) }
         ensures correlated { IfOk result (λ c. c.correlated ≡ settings.correlated) }
@@ -53,14 +53,13 @@ impl Candidates {
         })
     }
 
-    /// Whether the page is entered.
     pub fn contains(&self, page: PageNo) -> bool
         ensures { result ≡ is_entered self.now page }
     {
         has_entry(&self.entries, page)
     }
 
-    /// Whether as many pages are entered as there are frames.
+    /// Returns true if as many pages are entered as there are frames.
     pub fn is_full(&self) -> bool
         ensures full { IsTrue result ↔ (length self.now.entries ≡ self.now.frames) }
         ensures few { length self.now.entries ≤ self.now.frames }
@@ -81,7 +80,6 @@ impl Candidates {
         self.entries.push_reserved((hist_k, last, page));
     }
 
-    /// Takes a page out.
     pub fn leave(&mut self, page: PageNo)
         requires { IsSome (entry_of self.old page) }
         ensures left { entry_of self.new page ≡ None }
@@ -94,8 +92,9 @@ impl Candidates {
         self.entries.remove(at);
     }
 
-    /// The page to replace at the time `t`: of those last referenced more than the correlated period before, the first
-    /// by K-th stamp, then by last time, then by page number.
+    /// Returns the victim at the time `t`: of the pages last referenced more than the correlated period before, the
+    /// first by K-th stamp, then by last time, then by page number. `None` where no page was last referenced so long
+    /// ago.
     pub fn victim(&self, t: u64) -> Option<PageNo>
         ensures found { IfSome result (λ page. IsVictim self.now t page) }
         ensures none { IfNone result ((page : ℕ) → IsFalse (is_eligible self.now t page)) }
@@ -105,14 +104,12 @@ impl Candidates {
     }
 }
 
-// Whether the page has an entry.
 fn has_entry(entries: &[(u64, u64, PageNo)], page: PageNo) -> bool
     ensures { result ≡ list_any (λ e. e.2 == page) entries.now }
 {
     entries.iter().any(|entry| entry.2 == page)
 }
 
-// The place of the page's entry.
 fn place(entries: &[(u64, u64, PageNo)], page: PageNo) -> Option<usize>
     ensures { result ≡ position (λ e. e.2 == page) entries.now }
 {

@@ -1,4 +1,4 @@
-//! The seat that raises the mark.
+//! `LogEnd`: the seat of the log writer, which alone raises the mark.
 ghost use Rattle.std.specs.Prelude.{◌≡◌, max};
 
 use crate::marks::Mark;
@@ -26,7 +26,7 @@ impl Model for LogEnd {
 }
 
 impl LogEnd {
-    /// The greatest LSN raised, else 0.
+    /// Returns the greatest LSN raised, else 0.
     pub fn frontier(&self) -> Lsn
         ensures { result ≡ self.now.frontier }
     {

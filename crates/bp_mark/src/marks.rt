@@ -1,4 +1,4 @@
-//! The mark, from its first word to its last.
+//! `Mark`: the shared word that says up to which LSN the log is durable, from where it is made to where it ends.
 ghost use Rattle.std.specs.Prelude.{◌≡◌, ◌≤◌, IfOk, OnErr};
 ghost use Rattle.bp_mark.specs.Rule.{Fits};
 
@@ -31,7 +31,7 @@ impl Model for Mark {
         × (m.table.shared.table_id.slots ≡ 0) };
 }
 
-// The word at the end, which the seat's view fits.
+// Frees the table and returns its last word, which the seat's view fits.
 fn last_word(table: Word, seat: WordSeat) -> u64
     requires seat { seat.table_id ≡ table.shared.table_id }
     requires one_word { (table.shared.table_id.words ≡ 1) × (table.shared.table_id.slots ≡ 0) }
@@ -44,7 +44,7 @@ fn last_word(table: Word, seat: WordSeat) -> u64
 }
 
 impl Mark {
-    /// A mark at 0, with its log end, which is the only one that it ever has, and its first reader.
+    /// Makes a mark at 0, with its log end, which is the only one that it ever has, and its first reader.
     ///
     /// No other call of this crate takes memory. Where there is none the answer is `OutOfMemory`, and nothing is made.
     #[tactic(auto, using(crate::proofs::KeepsRule::split_kept))]
@@ -62,7 +62,7 @@ impl Mark {
         Ok((Mark { table }, end, Reader { seat: first }))
     }
 
-    /// Ends the mark and answers its frontier: the greatest LSN raised, else 0. The reader has seen no more than that.
+    /// Ends the mark and returns its frontier: the greatest LSN raised, else 0. The reader has seen no more than that.
     ///
     /// A reader that was split off has a bound here only where it was joined to this one before.
     #[tactic(auto, using(crate::proofs::KeepsRule::join_kept))]

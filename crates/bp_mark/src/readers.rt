@@ -1,4 +1,4 @@
-//! The seats that look at the mark.
+//! `Reader`: a seat from which a thread looks at the mark.
 ghost use Rattle.std.specs.Prelude.{◌≡◌, ◌≤◌, max};
 
 use crate::marks::Mark;
@@ -28,7 +28,7 @@ impl Model for Reader {
 }
 
 impl Reader {
-    /// Looks at the mark, and answers the LSN up to which the log is durable: at least what this reader saw before.
+    /// Looks at the mark, and returns the LSN up to which the log is durable: at least what this reader saw before.
     ///
     /// It is one load, and neither waits nor takes memory.
     pub fn look(&mut self, mark: &Mark) -> Lsn
@@ -40,7 +40,7 @@ impl Reader {
         Lsn::new(mark.table.shared.load::<Look>(&mut self.seat, 0))
     }
 
-    /// Two readers in place of one. Each has seen what this one has.
+    /// Splits the reader in two. Each has seen what this one has.
     #[tactic(auto, using(crate::proofs::KeepsRule::split_kept))]
     pub fn split(self, mark: &Mark) -> (Reader, Reader)
         requires { self.mark ≡ mark.now }
@@ -52,7 +52,7 @@ impl Reader {
         (Reader { seat }, Reader { seat: second })
     }
 
-    /// One reader in place of two. It has seen the greater of what both have.
+    /// Joins two readers into one, which has seen the greater of what both have.
     #[tactic(auto, using(crate::proofs::KeepsRule::join_kept))]
     pub fn join(self, mark: &Mark, other: Reader) -> Reader
         requires first { self.mark ≡ mark.now }

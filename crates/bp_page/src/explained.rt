@@ -1,8 +1,8 @@
-//! What the numbers of refusals say. Faults of traces and of lists of references have numbers of the same series.
+//! The text of each refusal number. Faults of traces and of lists of references have numbers of the same series.
 ghost use Rattle.std.specs.Prelude.{◌≡◌, option_map};
 ghost use Rattle.bp_page.specs.Explained.{explanation_of};
 
-/// What the refusal or fault with this number says, in one line without its end. `None` where none has the number.
+/// Returns the text of the refusal or fault with this number: one line without its end. `None` where none has it.
 pub fn explanation_of(number: u64) -> Option<&'static str>
     ensures { option_map (λ text. text.now) result ≡ explanation_of number }
 {

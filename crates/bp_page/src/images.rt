@@ -1,4 +1,4 @@
-//! The bytes of a page, and the bytes that a write puts there.
+//! `Image`, the bytes of a page, and `Bytes`, those that a write puts there.
 ghost use Rattle.std.specs.Prelude.{◌≡◌, ℕ, ◌+◌, ◌≤◌, List, IfOk, length, replicate, take, drop};
 ghost use Rattle.std.specs.Str.{bytes_eq};
 ghost use Rattle.std.specs.Cmp.Rules.{comparing};
@@ -9,10 +9,10 @@ use crate::limits::Geometry;
 use std::alloc::{AllocError, Global};
 use std::marker::Model;
 
-/// The bytes of one page, its own copy. Two images are equal where their bytes are.
+/// The bytes of one page, owned. Two images are equal where their bytes are.
 #[derive(Debug, Drop)]
 pub struct Image {
-    // With no box between: who has the image is one step from its bytes.
+    // No box between: a read of the bytes follows one pointer.
     bytes: Vec<u8>,
 }
 
@@ -37,7 +37,7 @@ impl Eq for Image {
 }
 
 impl Image {
-    /// An image of these bytes. It fails by want of memory alone.
+    /// Copies these bytes into an image. It fails by want of memory alone.
     pub fn of(alloc: Global, bytes: &[u8]) -> Result<Image, AllocError>
         ensures { IfOk result (λ image. image ≡ bytes.now) }
     {
@@ -45,14 +45,15 @@ impl Image {
         Ok(Image { bytes })
     }
 
-    /// An image of these bytes, in the memory that they have. It takes none.
+    /// Makes an image of these bytes in place. It takes no memory.
     pub fn from_vec(bytes: Vec<u8>) -> Image
         ensures { result ≡ bytes.items }
     {
         Image { bytes }
     }
 
-    /// An image of these bytes, in the memory of the spare where that has as many. It fails by want of memory alone.
+    /// Copies these bytes into the spare image where that has the same length, and else into new memory. It fails by
+    /// want of memory alone.
     pub fn of_with(alloc: Global, spare: Option<Image>, bytes: &[u8]) -> Result<Image, AllocError>
         ensures { IfOk result (λ image. image ≡ bytes.now) }
     {
@@ -65,7 +66,7 @@ impl Image {
         }
     }
 
-    /// An image of zeros, of the page size. It fails by want of memory alone.
+    /// Returns an image of zeros, of the page size. It fails by want of memory alone.
     pub fn blank(alloc: Global, geometry: &Geometry) -> Result<Image, AllocError>
         ensures { IfOk result (λ image. image ≡ replicate geometry.now.size 0) }
     {
@@ -73,14 +74,13 @@ impl Image {
         Ok(Image { bytes })
     }
 
-    /// Its bytes.
     pub fn bytes(&self) -> &[u8]
         ensures { result.now ≡ self.now }
     {
         &self.bytes
     }
 
-    /// Copies so many of its bytes, from the offset on. It takes no memory.
+    /// Copies the bytes from the offset on, as many as `into` has. It takes no memory.
     pub fn copy_to(&self, offset: usize, into: &mut [u8])
         requires { offset + length into.old ≤ length self.now }
         ensures { into.new ≡ take (length into.old) (drop offset self.now) }
@@ -99,7 +99,7 @@ impl Image {
         self.bytes.copy_from_slice(&other.bytes);
     }
 
-    /// Puts the bytes in place of as many from the offset on. It takes no memory.
+    /// Overwrites the bytes from the offset on with these. It takes no memory.
     pub fn patch(&mut self, offset: usize, bytes: &[u8])
         requires { offset + length bytes.now ≤ length self.old }
         ensures { self.new ≡ patched offset bytes.now self.old }
@@ -110,7 +110,7 @@ impl Image {
         self.bytes[offset..end].copy_from_slice(bytes);
     }
 
-    /// A new image with the bytes in place of as many from the offset on. It fails by want of memory alone.
+    /// Returns a copy in which these bytes stand from the offset on. It fails by want of memory alone.
     pub fn patched(&self, alloc: Global, offset: usize, bytes: &[u8]) -> Result<Image, AllocError>
         requires { offset + length bytes.now ≤ length self.now }
         ensures { IfOk result (λ image. image ≡ patched offset bytes.now self.now) }
@@ -121,7 +121,7 @@ impl Image {
     }
 }
 
-/// A list of bytes, its own copy. Two lists are equal where their bytes are.
+/// A list of bytes, owned. Two lists are equal where their bytes are.
 #[derive(Debug, Drop)]
 pub struct Bytes {
     // One word, so that an entry is small.
@@ -149,7 +149,7 @@ impl Eq for Bytes {
 }
 
 impl Bytes {
-    /// A list of these bytes. It fails by want of memory alone.
+    /// Copies these bytes into a list. It fails by want of memory alone.
     pub fn of(alloc: Global, bytes: &[u8]) -> Result<Bytes, AllocError>
         ensures { IfOk result (λ list. list ≡ bytes.now) }
     {
@@ -160,7 +160,6 @@ impl Bytes {
         })
     }
 
-    /// Its bytes.
     pub fn bytes(&self) -> &[u8]
         ensures { result.now ≡ self.now }
     {

@@ -1,4 +1,5 @@
-//! Pages, log sequence numbers, page images, and why a call is refused.
+//! The types that all other crates share: page numbers, LSNs, page images, the geometry of a file, its formats, and the
+//! reasons for which a call is refused.
 #![tactic(auto)]
 
 mod explained;

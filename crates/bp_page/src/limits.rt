@@ -1,4 +1,4 @@
-//! How many pages a file may have, and of what size.
+//! `Geometry`: the number of pages of a file and their size, within limits.
 ghost use Rattle.std.specs.Prelude.{◌≡◌, ◌+◌, ◌<◌, ◌≤◌, ◌↔◌, IsTrue, IsOk, IsSome, IfOk, IfSome, OnErr};
 ghost use Rattle.bp_page.specs.Limits.{IsGeometry};
 
@@ -8,25 +8,26 @@ use crate::refusals::Refusal;
 /// The most pages of a file.
 pub const MAX_PAGES: u64 = 1048576;
 
-/// The bytes of the smallest page, of which every page size is a multiple.
+/// The size in bytes of the smallest page, of which every page size is a multiple.
 pub const MIN_PAGE_SIZE: usize = 16;
 
-/// The bytes of the largest page.
+/// The size in bytes of the largest page.
 pub const MAX_PAGE_SIZE: usize = 65536;
 
-/// How many pages a file has, and the bytes of each.
+/// The number of pages of a file, and the size of each in bytes.
 #[derive(Clone, Copy, Debug)]
 pub struct Geometry {
-    /// How many pages, 1 to 1,048,576.
+    /// From 1 to 1,048,576.
     pub pages: u64,
-    /// The bytes of each page, 16 to 65,536 and a multiple of 16.
+    /// In bytes: from 16 to 65,536, and a multiple of 16.
     pub size: usize,
     /// Both are within these limits.
     pub ghost in_limits: { IsGeometry pages size },
 }
 
 impl Geometry {
-    /// A file of 1 to 1,048,576 pages of 16 to 65,536 bytes, a multiple of 16. Anything else is `BadGeometry`.
+    /// Makes the geometry of a file of 1 to 1,048,576 pages of 16 to 65,536 bytes, a multiple of 16. Anything else is
+    /// `BadGeometry`.
     pub fn new(pages: u64, size: usize) -> Result<Geometry, Refusal>
         ensures accepted { IsOk result ↔ IsGeometry pages size }
         ensures refused { OnErr result (result ≡ Err Refusal.BadGeometry) }
@@ -44,7 +45,7 @@ impl Geometry {
         Ok(Geometry { pages, size })
     }
 
-    /// The page with this number, if the file has it.
+    /// Returns the page with this number, or `None` where the file has no such page.
     pub fn page(&self, number: u64) -> Option<PageNo>
         ensures in_range { IsSome result ↔ (number < self.now.pages) }
         ensures same { IfSome result (λ page. page ≡ number) }
@@ -56,7 +57,7 @@ impl Geometry {
         }
     }
 
-    /// Whether so many bytes from the offset on lie within a page.
+    /// Returns true if `len` bytes from the offset on lie within a page.
     pub fn fits(&self, offset: usize, len: usize) -> bool
         ensures { IsTrue result ↔ (offset + len ≤ self.now.size) }
     {

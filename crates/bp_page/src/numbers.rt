@@ -1,4 +1,4 @@
-//! The numbers of pages and of log records.
+//! `PageNo` and `Lsn`, the numbers of pages and of log records.
 ghost use Rattle.std.specs.Prelude.{◌≡◌, ℕ, max};
 
 use std::fmt;
@@ -19,14 +19,13 @@ impl Model for PageNo {
 }
 
 impl PageNo {
-    /// The page with this number. Whether a file has it, its geometry tells.
+    /// Takes any number: `Geometry::page` tells whether a file has the page.
     pub fn new(number: u64) -> PageNo
         ensures { result ≡ number }
     {
         PageNo { number }
     }
 
-    /// Its number.
     pub fn number(self) -> u64
         ensures { result ≡ self }
     {
@@ -57,21 +56,18 @@ impl Model for Lsn {
 }
 
 impl Lsn {
-    /// The place with this number in the log.
     pub fn new(number: u64) -> Lsn
         ensures { result ≡ number }
     {
         Lsn { number }
     }
 
-    /// Its number.
     pub fn number(self) -> u64
         ensures { result ≡ self }
     {
         self.number
     }
 
-    /// The greater of the two.
     pub fn max(self, other: Lsn) -> Lsn
         ensures { result ≡ max self other }
     {

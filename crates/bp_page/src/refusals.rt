@@ -1,4 +1,4 @@
-//! Why a call is refused, and why a device operation failed.
+//! `Refusal`, why a call is refused, with its number; and `PortFault`, why a device operation failed.
 ghost use Rattle.std.specs.Prelude.{◌≡◌};
 ghost use Rattle.bp_page.specs.Refusals.{needed_by, number_of};
 
@@ -6,7 +6,7 @@ use crate::numbers::Lsn;
 use std::alloc::AllocError;
 use thiserror::Error;
 
-/// Why a call of this workspace was refused. What holds afterwards, the call itself says.
+/// Why a call was refused. The comment of the call says what holds afterwards.
 #[derive(Clone, Copy, PartialEq, Eq, Debug, Error)]
 pub enum Refusal {
     /// The file has no page or more than 1,048,576, or the bytes of a page are no multiple of 16 from 16 to 65,536.
@@ -25,7 +25,7 @@ pub enum Refusal {
     /// The page has a change whose log record, this LSN, lies beyond the durable mark.
     #[error("the log must first be durable up to {0}")]
     NeedLog(Lsn),
-    /// A read of the page is out, or for a flush a write-out of it. Whosever it is: one's own counts too.
+    /// A read of the page is out, or for a flush a write-out of it, be it the caller's own.
     #[error("a device operation on the page is under way")]
     Busy,
     /// The core did not give this pass, or has taken it back.
@@ -78,7 +78,7 @@ impl From<AllocError> for Refusal {
 }
 
 impl Refusal {
-    /// Its number, which reports and messages print.
+    /// Returns the number that reports and messages print.
     pub fn number(self) -> u16
         ensures { result ≡ number_of self }
     {
@@ -104,8 +104,8 @@ impl Refusal {
         }
     }
 
-    /// The LSN up to which the log must be durable before the call is made again. `NeedLog` names one, and no other
-    /// refusal does.
+    /// Returns the LSN up to which the log must be durable before the call is made again: that of `NeedLog`, and else
+    /// `None`.
     pub fn needed(self) -> Option<Lsn>
         ensures { result ≡ needed_by self }
     {
@@ -119,7 +119,7 @@ impl Refusal {
 /// Why a device operation failed.
 #[derive(Clone, Copy, PartialEq, Eq, Debug, Error)]
 pub enum PortFault {
-    /// The device failed: what it did, it does not say.
+    /// The device failed. It does not say what it did before.
     #[error("the device failed")]
     Device,
     /// The memory of a page's bytes could not be had; the device itself did not fail.

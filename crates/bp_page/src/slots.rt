@@ -1,4 +1,4 @@
-//! The bytes of a page in its file.
+//! The two formats of a page file, and the bytes of a page's slot in each.
 ghost use Rattle.std.specs.Prelude.{◌≡◌, ◌≢◌, ◌+◌, ◌<◌, ◌≤◌, ◌^◌, ◌++◌, ◌↔◌, ℕ, List, length, drop, IfOk, IfErr, OnErr};
 ghost use Rattle.byteorder.specs.Endian.{little_number, little_bytes};
 ghost use Rattle.bp_page.specs.Slots.{raw_slot, headed_slot, page_in, slot_size};
@@ -12,7 +12,7 @@ use std::alloc::Global;
 /// The bytes before the image in a slot of version 2.
 pub const HEADER: usize = 16;
 
-/// How the pages of a file stand in it, one after the other.
+/// The format of the slots of a file, which stand one after the other.
 #[derive(Clone, Copy)]
 pub enum Format {
     /// Version 1: a page's bytes.
@@ -22,7 +22,7 @@ pub enum Format {
 }
 
 impl Format {
-    /// The bytes of a slot, for pages of this size.
+    /// Returns the bytes of a slot, for pages of this size.
     pub fn slot_size(self, size: usize) -> usize
         requires { size ≤ 65536 }
         ensures { result ≡ slot_size self size }
@@ -34,7 +34,7 @@ impl Format {
     }
 }
 
-/// The bytes of an image in a page file of version 1. `OutOfMemory` where they can't be had.
+/// Returns the slot of an image in a page file of version 1. `OutOfMemory` where there is no memory for it.
 pub fn slot(alloc: Global, image: &Image) -> Result<Vec<u8>, Refusal>
     ensures bytes { IfOk result (λ slot. slot.items ≡ raw_slot image.now) }
     ensures memory { OnErr result (result ≡ Err Refusal.OutOfMemory) }
@@ -42,7 +42,7 @@ pub fn slot(alloc: Global, image: &Image) -> Result<Vec<u8>, Refusal>
     Ok(Vec::from_slice(alloc, image.bytes())?)
 }
 
-/// The image whose bytes these are in a page file of version 1. `Memory` where it can't be had.
+/// Returns the image in a slot of version 1. `Memory` where there is no memory for it.
 pub fn unslot(alloc: Global, slot: &[u8]) -> Result<Image, PortFault>
     ensures image { IfOk result (λ image. slot.now ≡ raw_slot image) }
     ensures memory { OnErr result (result ≡ Err PortFault.Memory) }
@@ -53,7 +53,7 @@ pub fn unslot(alloc: Global, slot: &[u8]) -> Result<Image, PortFault>
     }
 }
 
-/// The bytes before the image in a slot of version 2: the page number and the page LSN, little end first.
+/// The header: the page number and the page LSN, 8 bytes each, little-endian.
 fn header_of(page: PageNo, lsn: Lsn) -> [u8; HEADER]
     ensures { result ≡ little_bytes 8 page ++ little_bytes 8 lsn }
 {
@@ -63,8 +63,8 @@ fn header_of(page: PageNo, lsn: Lsn) -> [u8; HEADER]
     header
 }
 
-/// The bytes of a page's image in a page file of version 2, after the page's number and its page LSN. `OutOfMemory`
-/// where they can't be had.
+/// Returns the slot of a page in a page file of version 2: the header, then the image. `OutOfMemory` where there is no
+/// memory for it.
 #[tactic(auto, unfolding(crate::specs::Slots::headed_slot))]
 pub fn slot2(alloc: Global, page: PageNo, lsn: Lsn, image: &Image) -> Result<Vec<u8>, Refusal>
     ensures bytes { IfOk result (λ slot. slot.items ≡ headed_slot page lsn image.now) }
@@ -76,7 +76,7 @@ pub fn slot2(alloc: Global, page: PageNo, lsn: Lsn, image: &Image) -> Result<Vec
     Ok(slot)
 }
 
-/// Puts the bytes of `slot2` in place of as many. It takes no memory.
+/// Overwrites a slot with the bytes that `slot2` gives. It takes no memory.
 #[tactic(auto, unfolding(crate::specs::Slots::headed_slot))]
 pub fn fill_slot2(slot: &mut [u8], page: PageNo, lsn: Lsn, image: &Image)
     requires { length slot.old ≡ 16 + length image.now }
@@ -87,7 +87,6 @@ pub fn fill_slot2(slot: &mut [u8], page: PageNo, lsn: Lsn, image: &Image)
     slot[HEADER..].copy_from_slice(image.bytes());
 }
 
-/// The page number and the page LSN that stand in a slot of version 2.
 fn numbers_in(slot: &[u8]) -> (PageNo, Lsn)
     requires { 16 ≤ length slot.now }
     ensures page { result.0 ≡ page_in slot.now }
@@ -98,17 +97,17 @@ fn numbers_in(slot: &[u8]) -> (PageNo, Lsn)
     (PageNo::new(page), Lsn::new(lsn))
 }
 
-/// The page LSN and the image of a page, whose bytes these are in a page file of version 2. They need to be 16 at
-/// least. `WrongPage` where the slot has the number of another page, and `Memory` where the image can't be had.
+/// Returns the page LSN and the image in a slot of version 2, of 16 bytes or more. `WrongPage` where the slot has the
+/// number of another page, and `Memory` where there is no memory for the image.
 pub fn unslot2(alloc: Global, page: PageNo, slot: &[u8]) -> Result<(Lsn, Image), PortFault>
     requires { 16 ≤ length slot.now }
-    // A slot of another page is told, and no other slot is taken for one.
+    // `WrongPage` comes exactly where the slot has another page's number.
     ensures wrong { (result ≡ Err PortFault.WrongPage) ↔ (page_in slot.now ≢ page) }
     ensures memory { IfErr result (λ fault. fault ≢ PortFault.WrongPage →
         fault ≡ PortFault.Memory) }
     ensures found { IfOk result (λ found. slot.now ≡ headed_slot page found.0 found.1) }
     ensures size { IfOk result (λ found. length slot.now ≡ 16 + length found.1) }
-    // What was written so is read so.
+    // What `slot2` wrote is read back.
     ensures written { (lsn : ℕ) (image : List ℕ) → lsn < 2 ^ 64 →
         slot.now ≡ headed_slot page lsn image
         → IfOk result (λ found. (found.0 ≡ lsn) × (found.1 ≡ image)) ×

@@ -1,11 +1,11 @@
-//! Counting the failures of a device.
+//! `Failures`: a port's count of the failures of its device.
 ghost use Rattle.std.specs.Prelude.{◌≡◌, ℕ};
 ghost use Rattle.bp_ports.specs.Ports.{Counts, IsCounted};
 
 use bp_page::PortFault;
 use std::marker::Model;
 
-/// How many failures were counted, up to 2^64 − 1, where it stays.
+/// The number of failures, up to 2^64 − 1, where it stays.
 #[derive(Drop)]
 pub(crate) struct Failures {
     count: u64,
@@ -18,21 +18,19 @@ impl Model for Failures {
 }
 
 impl Failures {
-    /// None yet.
     pub(crate) fn none() -> Failures
         ensures { result ≡ 0 }
     {
         Failures { count: 0 }
     }
 
-    /// How many there are.
     pub(crate) fn count(&self) -> u64
         ensures { result ≡ self.now }
     {
         self.count
     }
 
-    /// Counts one more, and tells the fault.
+    /// Counts one more failure, and returns its fault, `Device`.
     pub(crate) fn add(&mut self) -> PortFault
         ensures fault { result ≡ PortFault.Device }
         ensures counted { IsCounted self.old self.new }
@@ -43,7 +41,7 @@ impl Failures {
         PortFault::Device
     }
 
-    /// Counts a failure of another port as one of this one.
+    /// Passes on the outcome of a call on another port, and counts a `Device` fault as one of this port.
     pub(crate) fn count_failure<T>(&mut self, outcome: Result<T, PortFault>) -> Result<T, PortFault>
         ensures same { result ≡ outcome }
         ensures counts { Counts result self.old self.new }

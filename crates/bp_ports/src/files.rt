@@ -1,4 +1,4 @@
-//! A page file, and the port on it.
+//! `FilePort`: a port to a page file, of version 1 or 2, or to another store.
 ghost use Rattle.std.specs.Prelude.{◌≡◌, ◌≢◌, ◌<◌, ◌≤◌, ◌+◌, ◌*◌, ◌↔◌, ℕ, true, false, IsOk, IfOk, IfErr, OnErr, IsSome, IfSome, length, vec_len};
 ghost use Rattle.bp_page.specs.Limits.{IsGeometry};
 ghost use Rattle.bp_page.specs.Slots.{slot_size};
@@ -29,8 +29,8 @@ pub enum OpenFault {
     Port(PortFault),
 }
 
-/// A client's way to a page file: to a file, or to another store where one is named. In version 1 page p stands as its
-/// bytes, at byte p · size; in version 2 after its number and its page LSN, at byte p · (size + 16).
+/// A client's port to a page file, or to another store where one is named. In version 1 page p stands as its bytes, at
+/// byte p · size; in version 2 after its number and its page LSN, at byte p · (size + 16).
 #[derive(Drop)]
 pub struct FilePort<S: Store = File> {
     alloc: Global,
@@ -54,8 +54,8 @@ impl<S: Store> Model for FilePort<S> {
     } };
 }
 
-/// The geometry of a page file of so many bytes and this version, with pages of this size. `BadLength` where they are
-/// no whole slots, none, or more than 1,048,576.
+/// Returns the geometry of a page file of so many bytes and this version, with pages of this size. `BadLength` where
+/// they are no whole slots, none, or more than 1,048,576.
 pub fn geometry_of_file(bytes: u64, size: usize, format: Format) -> Result<Geometry, Refusal>
     requires size { IsGeometry 1 size }
     ensures accepted { IsOk result ↔ IsFileLength (slot_size format size) bytes }
@@ -78,8 +78,8 @@ impl FilePort {
     /// many pages it has.
     ///
     /// `Refused(BadLength)` where it is no positive number of whole slots of pages of this size, or more than
-    /// 1,048,576; `Port(Device)` where it can't be opened, and `Port(Memory)` where the bytes of a slot of version 2
-    /// can't be had.
+    /// 1,048,576; `Port(Device)` where it can't be opened, and `Port(Memory)` where there is no memory for a slot of
+    /// version 2.
     pub fn open<R: Files<File = File>, P: AsPath>(
         rt: &R,
         alloc: Global,
@@ -106,8 +106,8 @@ impl FilePort {
 }
 
 impl<S: Store> FilePort<S> {
-    /// A port to the pages of this geometry and version in a store. `Port(Memory)` where the bytes of a slot of version
-    /// 2 can't be had; version 1 takes none.
+    /// Makes a port to the pages of this geometry and version in a store. `Port(Memory)` where there is no memory for a
+    /// slot of version 2; version 1 takes none.
     pub fn over(
         alloc: Global,
         store: S,
@@ -137,7 +137,7 @@ impl<S: Store> FilePort<S> {
         })
     }
 
-    /// The byte at which a page's slot begins, if the file has the page.
+    /// Returns the byte at which a page's slot begins, or `None` where the file has no such page.
     fn start(&self, page: PageNo) -> Option<u64>
         ensures in_range { IsSome result ↔ (page < self.now.device.pages) }
         ensures start { IfSome result (λ start. start ≡ place_of self.now page) }
@@ -146,8 +146,8 @@ impl<S: Store> FilePort<S> {
     }
 }
 
-/// Reads the slot of version 1 that begins at this byte, as the image itself. `Memory` where the image can't be had,
-/// and then nothing is read.
+/// Reads the slot of version 1 that begins at this byte, as the image itself. `Memory` where there is no memory for the
+/// image, and then nothing is read.
 fn read_plain<S: Store>(
     store: &mut S,
     alloc: Global,
@@ -168,7 +168,7 @@ fn read_plain<S: Store>(
 }
 
 /// Reads the slot of version 2 that begins at this byte. `WrongPage` exactly where it was read and has the number of
-/// another page, else `Memory` where the image can't be had.
+/// another page, else `Memory` where there is no memory for the image.
 fn read_headed<S: Store>(
     store: &mut S,
     alloc: Global,

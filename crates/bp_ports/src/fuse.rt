@@ -1,4 +1,4 @@
-//! A port that fails once, for tests of what a failing device leaves.
+//! `FusePort`: a port that fails once, for tests of what a failing device leaves.
 ghost use Rattle.std.specs.Prelude.{◌≡◌, ◌≢◌, true, ◌-◌, ◌↔◌, IsTrue, IfOk, OnErr, length, replicate};
 ghost use Rattle.bp_ports.specs.Ports.{Counts, FailsOrPasses, IsUnasked};
 ghost use Rattle.bp_ports.specs.Fuses.{FailsSpoiling, IsNext, spoiled_page};
@@ -9,20 +9,21 @@ use bp_page::{Geometry, Image, Lsn, PageNo, PortFault, Refusal};
 use std::alloc::Global;
 use std::sync::Wait;
 
-/// A port over another one, to which it passes each call but one: that call fails, and is counted.
+/// A port over another one, which passes on each call except one: that call fails, and is counted.
 #[derive(Drop)]
 pub struct FusePort<P: Port> {
     inner: P,
     /// The calls up to the one that fails, or 0 where it has failed.
     left: u64,
-    /// What a failing write leaves on the device, if anything.
+    /// The image that a failing write puts on the device, if any.
     spoiled: Option<Image>,
     count: Failures,
 }
 
 impl<P: Port> FusePort<P> {
-    /// A port whose n-th call of `read`, `write` or `sync`, from 1, fails. With `spoil`, a write that fails first puts a
-    /// page of bytes 255 on the device. `OutOfMemory` where that page can't be had.
+    /// Makes a port whose n-th call of `read`, `write` or `sync`, from 1, fails; with 0 none does. With `spoil`, a
+    /// write that fails first puts a page of bytes 255 on the device. `OutOfMemory` where there is no memory for that
+    /// page.
     pub fn new(alloc: Global, inner: P, n: u64, spoil: bool) -> Result<FusePort<P>, Refusal>
         ensures inner { IfOk result (λ port. port.inner ≡ inner) }
         ensures left { IfOk result (λ port. port.left ≡ n) }
@@ -44,7 +45,7 @@ impl<P: Port> FusePort<P> {
         })
     }
 
-    /// Whether this call fails. Counts the call down.
+    /// Counts a call, and returns true if it is the one that fails.
     fn blows(&mut self) -> bool
         ensures now { IsTrue result ↔ (self.old.left ≡ 1) }
         ensures next { IsNext self.old.left self.old.spoiled self.new.left self.new.spoiled }
@@ -57,7 +58,6 @@ impl<P: Port> FusePort<P> {
     }
 }
 
-/// A page of bytes 255.
 fn page_of_ones(alloc: Global, size: usize) -> Result<Image, Refusal>
     ensures ones { IfOk result (λ page. page ≡ replicate size 255) }
     ensures memory { OnErr result (result ≡ Err Refusal.OutOfMemory) }

@@ -1,4 +1,4 @@
-//! Ports in pairs that wait for one another, for tests that the device work of two clients overlaps.
+//! `GatePort`: ports in pairs that wait for one another, for tests that the device work of two clients overlaps.
 ghost use Rattle.std.specs.Prelude.{◌≡◌, ◌≢◌, ◌⊎◌, true, ◌<◌, IsTrue, IfOk, OnErr, length};
 ghost use Rattle.bp_ports.specs.Ports.{Counts, IsUnasked};
 
@@ -12,7 +12,7 @@ use std::thread;
 /// A flag that two ports share. It is raised once, and stays up.
 type Flag = Arc<Mutex<bool>, Global>;
 
-/// A flag that is down, for each of the two that share it. `OutOfMemory` where it can't be had.
+/// Makes a flag that is down, and returns it for each of the two that share it. It fails as `OutOfMemory` alone.
 fn shared_flag(alloc: Global) -> Result<(Flag, Flag), Refusal>
     ensures { OnErr result (result ≡ Err Refusal.OutOfMemory) }
 {
@@ -31,7 +31,7 @@ struct Gate {
 }
 
 impl Gate {
-    /// Both sides of a gate to which nobody has come. `OutOfMemory` where they can't be had.
+    /// Makes both sides of a gate to which nobody has come. It fails as `OutOfMemory` alone.
     fn sides(alloc: Global) -> Result<(Gate, Gate), Refusal>
         ensures { OnErr result (result ≡ Err Refusal.OutOfMemory) }
     {
@@ -48,8 +48,8 @@ impl Gate {
         Ok((one, other))
     }
 
-    /// Comes to this side, and looks at the other one, up to so many times, until somebody has come there. It tells
-    /// whether somebody was seen.
+    /// Comes to this side, and looks at the other one, up to so many times, until somebody has come there. Returns true
+    /// if somebody was seen.
     fn opens<R: Wait>(&self, rt: &R, turns: u64) -> bool
         ensures looked { IsTrue result → 0 < turns }
     {
@@ -70,7 +70,7 @@ impl Gate {
 #[derive(Drop)]
 pub struct GatePort<P: Port> {
     inner: P,
-    /// How often a call looks for the other port's.
+    /// The number of times that a call looks for one of its kind at the other port.
     turns: u64,
     reads: Gate,
     writes: Gate,
@@ -78,7 +78,6 @@ pub struct GatePort<P: Port> {
 }
 
 impl<P: Port> GatePort<P> {
-    /// A port behind these gates.
     fn behind(inner: P, turns: u64, reads: Gate, writes: Gate) -> GatePort<P>
         ensures inner { result.inner ≡ inner }
         ensures turns { result.turns ≡ turns }
@@ -93,11 +92,11 @@ impl<P: Port> GatePort<P> {
         }
     }
 
-    /// A pair of ports. Each call looks up to `turns` times whether one of its kind has begun at the other port, and
-    /// lets other threads run in between. Where none is seen, as always with 0 turns, the call fails with `Device`, is
-    /// counted, and never gets to the port below.
+    /// Makes a pair of ports. Each call looks up to `turns` times whether one of its kind has begun at the other port,
+    /// and lets other threads run in between. Where none is seen, as always with 0 turns, the call fails with `Device`,
+    /// is counted, and never gets to the port below.
     ///
-    /// `OutOfMemory` where the pair's flags can't be had; `a` and `b` are then dropped.
+    /// `OutOfMemory` where there is no memory for the pair's flags; `a` and `b` are then dropped.
     pub fn pair(
         alloc: Global,
         a: P,

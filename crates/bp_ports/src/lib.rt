@@ -1,4 +1,5 @@
-//! The ways to a device: a port for each client, to pages in memory or to a page file.
+//! The interface `Port` by which a client reads and writes the pages of a device, and its ports: to a page file, to a
+//! device in memory, and two for tests. Also how page files are made, and migrated to version 2.
 #![tactic(auto)]
 
 mod failures;

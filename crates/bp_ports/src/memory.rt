@@ -1,4 +1,4 @@
-//! A device in memory, and the ports on it.
+//! `MemDevice`, a device in memory, and `MemPort`, a client's port to it.
 ghost use Rattle.std.specs.Prelude.{◌≡◌, ◌*◌, false, Ok, IfOk, OnErr, replicate};
 ghost use Rattle.bp_page.specs.declared.limits.Geometry.{Geometry};
 ghost use Rattle.bp_ports.specs.Ports.{PortView, ReadsPage, WritesPage, new_port};
@@ -26,7 +26,7 @@ impl Model for MemDevice {
 }
 
 impl MemDevice {
-    /// A device of so many pages, all bytes 0. `OutOfMemory` where they can't be had.
+    /// Makes a device of so many pages, all bytes 0. `OutOfMemory` where there is no memory for them.
     pub fn new(alloc: Global, geometry: Geometry) -> Result<MemDevice, Refusal>
         ensures geometry { IfOk result (λ made. made ≡ geometry) }
         ensures memory { OnErr result (result ≡ Err Refusal.OutOfMemory) }
@@ -42,7 +42,7 @@ impl MemDevice {
         })
     }
 
-    /// A port of its own for a client. `OutOfMemory` where the device can't be shared once more.
+    /// Makes a port for one more client. `OutOfMemory` where the device can't be shared once more.
     pub fn port(&self) -> Result<MemPort, Refusal>
         ensures port { IfOk result (λ port. port ≡ new_port self.now) }
         ensures memory { OnErr result (result ≡ Err Refusal.OutOfMemory) }
@@ -57,14 +57,13 @@ impl MemDevice {
     }
 }
 
-/// So many bytes 0. It fails by want of memory alone.
 fn zero_bytes(alloc: Global, length: usize) -> Result<Vec<u8>, AllocError>
     ensures { IfOk result (λ bytes. bytes.items ≡ replicate length 0) }
 {
     vec![in alloc; 0u8; length]
 }
 
-/// A client's way to a device in memory. It waits while another port reads or writes there.
+/// A client's port to a device in memory. A call waits while another port reads or writes there.
 #[derive(Drop)]
 pub struct MemPort {
     alloc: Global,
@@ -152,7 +151,7 @@ impl Port for MemPort {
         }
     }
 
-    // Pages in memory are where they are kept as soon as they are written.
+    // There is nothing to sync: a page is kept nowhere else than in this memory.
     fn sync<R: Wait>(&mut self, _rt: &R) -> Result<(), PortFault> {
         Ok(())
     }

@@ -1,4 +1,4 @@
-//! From the pages of a file of version 1 to a file of version 2.
+//! `migrate_with`: copies a page file of version 1 to one of version 2.
 ghost use Rattle.std.specs.Prelude.{OnOk, IfErr};
 ghost use Rattle.std.specs.Io.KnownBytes.{Consumes};
 ghost use Rattle.bp_ports.specs.WholeFiles.{Migrates, MigratesPage};
@@ -52,7 +52,7 @@ fn migrate_page<I: Read, W: Write>(
     }
 }
 
-/// As `migrate_with`, and tells how far it has come after each page.
+/// Migrates as `migrate_with` does, and calls `progress` after each page.
 pub fn migrate_watched<I: Read, W: Write, P: Progress>(
     alloc: Global,
     reader: &mut I,
@@ -81,8 +81,8 @@ pub fn migrate_watched<I: Read, W: Write, P: Progress>(
 /// pages.
 ///
 /// `Read` where the reader fails or ends before. `Write` where the writer fails, which is after a page was read: then
-/// all that was read is whole pages. `Memory` where a page's bytes can't be had. What was written until then is no page
-/// file.
+/// all that was read is whole pages. `Memory` where there is no memory for a page. What was written until then is no
+/// page file.
 pub fn migrate_with<I: Read, W: Write>(
     alloc: Global,
     reader: &mut I,

@@ -1,4 +1,4 @@
-//! Page files that are made.
+//! `create_page_file`: makes a page file of blank pages.
 ghost use Rattle.std.specs.Prelude.{◌≡◌, ◌⊎◌, OnOk, IfOk, IfErr};
 ghost use Rattle.bp_ports.specs.Files.{IsOpenFault};
 ghost use Rattle.bp_ports.specs.WholeFiles.{WritesBlank};
@@ -71,8 +71,8 @@ fn fill<R: Files<File = File> + Wait>(
 /// port has counted no failure.
 ///
 /// `Port(Device)` where something stands at the path, which is then left as it is, or where the file can't be made, be
-/// written or be synced. `Port(Memory)` where a page's bytes can't be had, and `Refused(BadLength)` where somebody else
-/// changed its length meanwhile. No other fault comes, and a file that was begun is removed.
+/// written or be synced. `Port(Memory)` where there is no memory for a page, and `Refused(BadLength)` where somebody
+/// else changed its length meanwhile. No other fault comes, and a file that was begun is removed.
 pub fn create_page_file<R: Files<File = File> + Wait>(
     rt: &R,
     alloc: Global,

@@ -1,9 +1,9 @@
-//! Where a page stands among the bytes of its device.
+//! The place of a page's slot among the bytes of its device.
 ghost use Rattle.std.specs.Prelude.{◌≡◌, ◌*◌, ◌<◌, ◌≤◌, ◌↔◌, IsSome, IfSome};
 
 use bp_page::{Geometry, PageNo};
 
-/// The byte at which a page's slot begins, if the device has the page, for slots of so many bytes.
+/// Returns the byte at which a page's slot of so many bytes begins, or `None` where the device has no such page.
 pub(crate) fn start_of(geometry: &Geometry, slot: usize, page: PageNo) -> Option<u64>
     requires { slot ≤ 65552 }
     ensures in_range { IsSome result ↔ (page < geometry.now.pages) }

@@ -1,9 +1,10 @@
-//! A client's way to the pages of a device.
+//! `Port`: the interface by which a client reads, writes and syncs the pages of a device.
 
 use bp_page::{Geometry, Image, Lsn, PageNo, PortFault};
 use std::sync::Wait;
 
-/// A client's way to the pages of a device. What a read finds there, no port promises.
+/// The interface by which a client reads, writes and syncs the pages of a device. No port promises what a read finds
+/// there.
 ///
 /// A fault is `Device` only where the port counts a failure in that call (the count stays at 2^64 − 1 once it is
 /// there), and `Memory` only where the image's memory was refused. A page that the device does not have, or an image of
@@ -18,11 +19,11 @@ pub trait Port: Drop {
     ghost use Rattle.bp_page.specs.declared.refusals.PortFault.{PortFault as Fault};
     ghost use Rattle.bp_ports.specs.Ports.{Counts};
 
-    // How many pages the device has, and of what size.
+    // The number of the device's pages, and their size.
     ghost geometry_of: { Self → Geometry };
-    // How many failures it has counted.
+    // The number of failures that it has counted.
     ghost failures_of: { Self → ℕ };
-    // Whether its pages stand with their numbers.
+    // True if each page stands with its number, as in a page file of version 2.
     ghost is_headed: { Self → Bool };
     // A read of a page gives a result, and leaves the port so.
     ghost read_gives: { Self → ℕ → Result (List ℕ) Fault → Self → Type 0 };
@@ -31,11 +32,11 @@ pub trait Port: Drop {
     // A sync gives a result, and leaves the port so.
     ghost sync_gives: { Self → Result (Unit {0}) Fault → Self → Type 0 };
 
-    /// How many pages the device has, and of what size.
+    /// Returns the number of the device's pages, and their size.
     fn geometry(&self) -> Geometry
         ensures { result ≡ geometry_of self.now };
 
-    /// How many failures of the device this port has counted.
+    /// Returns the number of failures of the device that this port has counted.
     fn failures(&self) -> u64
         ensures { result ≡ failures_of self.now };
 

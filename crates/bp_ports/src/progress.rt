@@ -1,12 +1,12 @@
-//! How far a migration has come.
+//! `Progress`: a caller's view of how far a migration has come.
 
-/// Somebody who is told how far a migration has come.
+/// Is told how far a migration has come.
 pub trait Progress {
-    /// So many of the pages are written.
+    /// Called after each page: `done` of the pages are written.
     fn written(&mut self, done: u64, pages: u64);
 }
 
-/// Nobody is told.
+/// Ignores how far the migration has come.
 #[derive(Clone, Copy)]
 pub struct Unwatched;
 

@@ -1,10 +1,10 @@
-//! What the bytes of a page file stand in.
+//! `Store`: what the bytes of a page file stand in, such as a file.
 
 use std::fs::OpenFile;
 use std::io;
 use std::os::unix::fs::FileExt;
 
-/// What the bytes of a page file stand in: a file, or else what gives and takes bytes at a place.
+/// What the bytes of a page file stand in: a file, or something else that reads and writes bytes at a place.
 ///
 /// A store says by three relations of its own which calls led from it, as it was, to it, as it is. What is promised by
 /// them of any store can be kept only by these calls.
@@ -26,7 +26,7 @@ pub trait Store: Drop {
     fn write_slot(&mut self, start: u64, bytes: &[u8]) -> io::Result<()>
         ensures { writes self.old start bytes.now (is_ok result) self.new };
 
-    /// Makes durable the bytes that were written.
+    /// Makes durable all bytes that were written.
     fn sync_slots(&mut self) -> io::Result<()>
         ensures { syncs self.old (is_ok result) self.new };
 }

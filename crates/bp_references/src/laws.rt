@@ -22,8 +22,8 @@ pub fn lesser_stamp_is_farther()
         (backward_distance t b) ≡ nat_lt a b }
 {}
 
-/// Where each candidate is one of some pages, and one of these is no candidate, there are fewer candidates than pages.
-/// So who enters pages out of as many as there are frames has room.
+/// Where the candidates are all among some pages, and one of these pages is no candidate, there are fewer candidates
+/// than pages. So a candidate index with a place for each frame has room for one more resident page.
 pub fn one_more_has_room()
     ensures { (entries : List Candidate) (pages : List ℕ) (page : ℕ) → NoPageTwice entries →
         ((q : ℕ) → IsSome (find_entry entries q) → Contains pages q) → Contains pages page →

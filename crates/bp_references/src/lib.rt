@@ -1,5 +1,5 @@
-//! The definitions of LRU-K over the references of pages, and their laws. No code stands here: what the others compute
-//! is compared with these.
+//! The definitions of LRU-K over the references of pages, in `specs/`, and their laws. No code stands here: the
+//! contracts of other crates compare their code with these.
 #![tactic(auto)]
 
 pub mod laws;

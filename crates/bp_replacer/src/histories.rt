@@ -1,4 +1,4 @@
-//! The reference stamps of each page.
+//! `Histories`: what LRU-K keeps of each page's references, its K stamps and LAST.
 ghost use Rattle.std.specs.Prelude.{◌≡◌, ◌≢◌, ℕ, ◌+◌, ◌-◌, ◌^◌, ◌<◌, ◌≤◌, [], IsTrue, IsFalse, true, false, is_some, IsSome, IfOk, OnOk, OnErr, slice_index};
 ghost use Rattle.bp_references.specs.Shift.{IsShifted};
 ghost use Rattle.bp_references.specs.Burst.Reference.{hit, fault};
@@ -13,8 +13,8 @@ use std::alloc::Global;
 use std::collections::HashMap;
 use std::marker::Model;
 
-/// What is kept of a page: whether it may not be forgotten, whether the queue has it, the time of its newest reference,
-/// and its stamps, newest first.
+/// What is kept of a page: whether it is held and so may not be forgotten, whether it stands in the queue of pages to
+/// purge, the time of its newest reference, and its stamps, newest first.
 #[derive(Clone, Copy)]
 pub struct Block {
     held: bool,
@@ -23,8 +23,8 @@ pub struct Block {
     stamps: [u64; MAX_STAMPS],
 }
 
-/// The number of a page's block. It stays the same while the page is held, so who keeps it finds the block without a
-/// look-up.
+/// The number of a page's block. It stays the same while the page is held, so a caller that keeps it finds the block
+/// without a look-up.
 #[derive(Clone, Copy, Drop)]
 pub struct BlockNo {
     number: u32,
@@ -39,7 +39,6 @@ impl Model for BlockNo {
 }
 
 impl BlockNo {
-    // Its slot.
     fn slot(self) -> usize
         ensures { result ≡ self }
     {
@@ -48,9 +47,9 @@ impl BlockNo {
 }
 
 /// What LRU-K knows of each page (figure 2.1 of "The LRU-K Page Replacement Algorithm", SIGMOD 1993): the stamps
-/// HIST(1) to HIST(K), newest first, with correlated references discounted, and LAST, the time of its newest
-/// reference of any kind. A stamp of 0 is absent. A page has a block while it is held or has a reference, and a purge
-/// forgets pages that are not held.
+/// HIST(1) to HIST(K), newest first, with correlated references discounted, and LAST, the time of its newest reference
+/// of any kind. A stamp of 0 is absent. A page has a block while it is held or has a reference, and a purge forgets
+/// pages that are not held.
 ///
 /// Times are counted from 1 and never fall. The blocks, of 152 bytes, stand in numbered slots, and a hash map has the
 /// number of each page's block. A call by a page looks its number up; one by a block's number, whose name ends in
@@ -58,9 +57,9 @@ impl BlockNo {
 /// with the number of pages.
 ///
 /// A page that is let go waits in a queue, by the time of its newest reference. A purge takes out those whose time is
-/// past the retained period: it forgets them, but for those that were held or referenced since they were let go, each
-/// of which it meets once for that. So it costs what it forgets, and no more than a few steps a page, whatever else
-/// is kept.
+/// past the retained period: it forgets them, except those that were held or referenced since they were let go, each of
+/// which it meets once for that. So its cost grows with the pages that it forgets or meets so, and not with those that
+/// are kept.
 ///
 /// A `prepare` that finds the slots, the map's table or the queue full doubles them. Only it takes memory.
 #[derive(Drop)]
@@ -91,7 +90,7 @@ impl Model for Histories {
         IsQueued h.blocks.slots h.places.entries h.waiting };
 }
 
-// Moves each stamp one place on, adds the width to those that are there, and puts t in front.
+// Moves each stamp one place on, adds the width to those that are not absent, and puts `t` in front.
 fn shift(stamps: &mut [u64; MAX_STAMPS], k: usize, width: u64, t: u64)
     requires positive { 1 ≤ k }
     requires in_range { k ≤ 16 }
@@ -108,7 +107,7 @@ fn shift(stamps: &mut [u64; MAX_STAMPS], k: usize, width: u64, t: u64)
 }
 
 impl Histories {
-    /// No page is held, and none has a reference.
+    /// Makes empty histories: no page is held, and none has a reference. It takes no memory.
     pub fn new(alloc: Global, settings: Settings) -> Self
         ensures k { result.k ≡ settings.k }
         ensures correlated { result.correlated ≡ settings.correlated }
@@ -125,7 +124,7 @@ impl Histories {
         }
     }
 
-    /// The number of a page's block, which each page has that is held or has a reference.
+    /// Returns the number of the page's block, or `None` where the page is not held and has no reference.
     pub fn place(&self, page: PageNo) -> Option<BlockNo>
         ensures place { result ≡ place_of self.now page }
         ensures some { is_some result ≡ has_block self.now page }
@@ -134,21 +133,21 @@ impl Histories {
         self.places.get(&page.number()).copied()
     }
 
-    /// LAST: the time of the page's newest reference, or 0 where it has none.
+    /// Returns LAST, the time of the page's newest reference, or 0 where it has none.
     pub fn last(&self, page: PageNo) -> u64
         ensures { result ≡ last_of self.now page }
     {
         self.rank(page, 1).1
     }
 
-    /// HIST(i): the page's i-th stamp, from 1 for the newest to K, or 0 where it has none.
+    /// Returns HIST(i), the page's i-th stamp, from 1 for the newest to K, or 0 where it has none.
     pub fn stamp(&self, page: PageNo, i: usize) -> u64
         ensures { result ≡ stamp_of self.now page i }
     {
         self.rank(page, i).0
     }
 
-    /// HIST(i) and LAST of a page, by one look-up.
+    /// Returns HIST(i) and LAST of a page, by one look-up.
     pub fn rank(&self, page: PageNo, i: usize) -> (u64, u64)
         ensures stamp { result.0 ≡ stamp_of self.now page i }
         ensures last { result.1 ≡ last_of self.now page }
@@ -159,7 +158,7 @@ impl Histories {
         }
     }
 
-    /// Whether the page is held, and so may not be forgotten.
+    /// Returns true if the page is held, and so may not be forgotten.
     pub fn holds(&self, page: PageNo) -> bool
         ensures { result ≡ is_held self.now page }
     {
@@ -185,7 +184,7 @@ impl Histories {
     }
 
     /// Holds a page that is not held, and takes the memory of its block, if it has none. Its stamps stay. It fails by
-    /// want of memory alone, or past 2^32 blocks, as `OutOfMemory`, and leaves all as it was.
+    /// want of memory alone, or past 2^32 blocks, as `OutOfMemory`, and then changes nothing.
     pub fn prepare(&mut self, page: PageNo) -> Result<(), Refusal>
         requires { is_held self.old page ≡ false }
         ensures held { OnOk result (is_held self.new page ≡ true) }
@@ -201,7 +200,7 @@ impl Histories {
         Ok(())
     }
 
-    /// `prepare`, which tells the number of the page's block.
+    /// `prepare`, which returns the number of the page's block.
     pub fn prepare_block(&mut self, page: PageNo) -> Result<BlockNo, Refusal>
         requires { is_held self.old page ≡ false }
         ensures held { OnOk result (is_held self.new page ≡ true) }
@@ -239,8 +238,8 @@ impl Histories {
         Ok(block)
     }
 
-    /// Lets a page go that is held: its read failed, or it leaves its frame. Its stamps stay, and a block without
-    /// stamps vanishes.
+    /// Lets a held page go, because its read failed or it leaves its frame. Its stamps stay; a block without stamps is
+    /// dropped.
     pub fn unprepare(&mut self, page: PageNo)
         requires { is_held self.old page ≡ true }
         ensures held { is_held self.new page ≡ false }
@@ -280,8 +279,8 @@ impl Histories {
         }
     }
 
-    /// A held page was read from the device, and is referenced at the time `t`: each stamp moves by one place, with no
-    /// width, and `t` is the newest.
+    /// Adds the reference by which a held page is read from the device at the time `t`: each stamp moves by one place,
+    /// with no width, and `t` is the newest.
     pub fn fault(&mut self, page: PageNo, t: u64)
         requires held { is_held self.old page ≡ true }
         requires now { IsNow self.old t }
@@ -304,9 +303,9 @@ impl Histories {
         kept.last = t;
     }
 
-    /// A held page that has a reference is referenced again at the time `t`. Where more than the correlated period has
-    /// gone by since the newest reference, each stamp moves by one place, later by the width of the burst of references
-    /// that ended there, absent stamps stay absent, and `t` is the newest. Else no stamp changes.
+    /// Adds a reference at the time `t` to a held page that has one. Where more than the correlated period has gone by
+    /// since the newest reference, each stamp moves by one place, later by the width of the burst of references that
+    /// ended there, absent stamps stay absent, and `t` is the newest. Else no stamp changes.
     pub fn hit(&mut self, page: PageNo, t: u64)
         requires held { is_held self.old page ≡ true }
         requires known { 0 < last_of self.old page }
@@ -335,8 +334,8 @@ impl Histories {
         kept.last = t;
     }
 
-    /// Forgets each page that is not held and was last referenced more than the retained period before the time `t`,
-    /// and counts them.
+    /// Forgets each page that is not held and was last referenced more than the retained period before the time `t`.
+    /// Returns how many these were.
     pub fn purge(&mut self, t: u64) -> u64
         requires { IsNow self.old t }
         ensures forgotten { (page : ℕ) → IsTrue (forgets self.old t page) →

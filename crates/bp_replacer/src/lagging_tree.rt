@@ -1,4 +1,5 @@
-//! Who stands at each seat, and who comes first of them, by a tree that may lag behind.
+//! `LaggingTree`: the candidate at each seat, and the first of them in the order of replacement, by a tree of winners
+//! that is brought up to date only where a look needs it.
 ghost use Rattle.std.specs.Prelude.{◌≡◌, ◌⊎◌, ◌<◌, IsTrue, Some, None, IfOk, length, replicate, set};
 ghost use Rattle.bp_replacer.specs.Seats.{seat_at, same_seat, Lags, LagsBehind, IsFirst};
 
@@ -8,27 +9,27 @@ use crate::tournament::{Seat, Tournament, precedes};
 use std::alloc::{AllocError, Global};
 use std::marker::Model;
 
-/// How many walks one look takes at most where a pass is less.
+/// The most walks of one look before a pass may take their place.
 const FEW_WALKS: usize = 8;
 
-/// A pass is less where the tree lags behind one of so many seats.
+/// A pass may take the place of walks where the tree lags behind at least one seat in so many.
 const SEATS_A_WALK: usize = 16;
 
-/// Who stands at each seat, and a tree of winners over them.
+/// The candidate at each seat, and a tree of winners over them.
 ///
-/// The tree may lag behind a seat: it may know somebody there who has left, or who comes before whoever stands there
-/// now and was last referenced before. So who comes first in the tree does so of all, or the tree lags behind that
-/// seat. A page that is referenced again only falls in the order: it stays where it was in the tree until it would come
-/// first there, and is put in its place then, by a walk up the tree from its seat.
+/// The tree may lag behind a seat: it may still have a candidate that left the seat, or one that comes before the one
+/// that stands there now and was last referenced before it. So the first of the tree is the first of all, or the tree
+/// lags behind its seat. A page that is referenced again only falls in the order: it stays where it was in the tree
+/// until it would come first there, and is put in its place then, by a walk up the tree from its seat.
 ///
-/// Where one look took 8 walks already, and the tree may lag behind one in 16 of the seats, there is a pass in place of
-/// the next walk: the tree gets who stands at each seat, and each node is found out anew once. So a pass comes to less
-/// than 32 nodes for each seat that was changed since the pass before.
+/// Where one look took 8 walks already, and the tree may lag behind one in 16 of the seats, a pass takes the place of
+/// the next walk: the tree copies all seats, and each node is computed once from scratch. So a pass comes to less than
+/// 32 nodes for each seat that was changed since the pass before.
 #[derive(Drop)]
 pub struct LaggingTree {
     seats: SeatList,
     tree: Tournament,
-    /// At which seats the tree may know another: it lags behind no other seat.
+    /// The seats that the tree may lag behind: it lags behind no other.
     behind: Marks,
 }
 
@@ -44,7 +45,7 @@ impl Model for LaggingTree {
     ghost invariant = { λ s. LagsBehind s.tree s.seats };
 }
 
-// Whether a tree that knows one at a seat may lag behind another there.
+// Returns true if a tree that has the first at a seat may lag behind the second there.
 fn may_lag(known: &Seat, entry: &Seat) -> bool
     ensures { IsTrue result → Lags known.now entry.now }
 {
@@ -55,7 +56,7 @@ fn may_lag(known: &Seat, entry: &Seat) -> bool
     }
 }
 
-// Whether the same stands at two seats.
+// Returns true if both seats are empty, or have the same candidate with the same times.
 fn same_seat(a: &Seat, b: &Seat) -> bool
     ensures { result ≡ same_seat a.now b.now }
 {
@@ -66,7 +67,7 @@ fn same_seat(a: &Seat, b: &Seat) -> bool
     }
 }
 
-// Has the tree know who stands at a seat, by a walk, or at all seats, by a pass.
+// Brings the tree up to date at one seat, by a walk, or at all seats, by a pass.
 fn settle(tree: &mut Tournament, seats: &SeatList, behind: &mut Marks, seat: usize, all: bool)
     requires as_many { length tree.old ≡ length seats.now }
     requires seat { seat < length seats.now }
@@ -82,7 +83,7 @@ fn settle(tree: &mut Tournament, seats: &SeatList, behind: &mut Marks, seat: usi
 }
 
 impl LaggingTree {
-    /// So many seats, and nobody on them.
+    /// Makes `size` empty seats. It fails by want of memory alone; no other call takes any.
     pub fn new(alloc: Global, size: usize) -> Result<LaggingTree, AllocError>
         ensures { IfOk result (λ s. s ≡ replicate size None) }
     {
@@ -96,7 +97,7 @@ impl LaggingTree {
         })
     }
 
-    /// Changes who stands at a seat. The tree lags behind it where it may.
+    /// Puts a candidate on a seat, or empties it. The tree is left to lag behind the seat where it may.
     pub fn put(&mut self, seat: usize, entry: Seat)
         requires { seat < length self.old }
         ensures { self.new ≡ set self.old seat entry }
@@ -110,8 +111,9 @@ impl LaggingTree {
         }
     }
 
-    /// Who comes first of those that were last referenced before a time. The tree catches up with each seat that comes
-    /// first in it wrongly, until one does so rightly. After a pass the next look finds the one.
+    /// Returns the first candidate of those last referenced before a time, or `None` where there is none. The tree
+    /// catches up with each seat that comes first in it wrongly, until one comes first rightly. After a pass the next
+    /// look finds it.
     pub fn first_before(&mut self, time: u64) -> Seat
         ensures same { self.new ≡ self.old }
         ensures first { IsFirst self.new (λ e. e.1 < time) result }

@@ -1,7 +1,8 @@
-//! Which of the numbered seats have a mark, and how many.
+//! `Marks`: a flag for each seat, and the number of flags that are set.
 use std::alloc::{AllocError, Global};
 
-/// A mark at each of some seats, and their count. It serves to choose what is less work, and no answer hangs on it.
+/// A mark at each of some seats, and their count. It serves to choose the cheaper way to catch up, and no answer
+/// depends on it.
 #[derive(Drop)]
 pub struct Marks {
     is_marked: Vec<bool>,
@@ -9,7 +10,7 @@ pub struct Marks {
 }
 
 impl Marks {
-    /// No mark at so many seats: a byte a seat.
+    /// Makes `size` seats with no mark: a byte a seat.
     pub fn new(alloc: Global, size: usize) -> Result<Marks, AllocError> {
         let is_marked = vec![in alloc; false; size]?;
         Ok(Marks {
@@ -18,12 +19,12 @@ impl Marks {
         })
     }
 
-    /// How many seats have one.
+    /// Returns the number of marked seats.
     pub fn count(&self) -> usize {
         self.count
     }
 
-    /// Marks a seat.
+    /// Marks a seat. A number past the seats is ignored, here and in `unset`.
     pub fn set(&mut self, seat: usize) {
         if seat < self.is_marked.len() && !self.is_marked[seat] {
             self.is_marked[seat] = true;
@@ -31,7 +32,6 @@ impl Marks {
         }
     }
 
-    /// Takes the mark from a seat.
     pub fn unset(&mut self, seat: usize) {
         if seat < self.is_marked.len() && self.is_marked[seat] {
             self.is_marked[seat] = false;
@@ -39,7 +39,6 @@ impl Marks {
         }
     }
 
-    /// Takes the mark from each seat.
     pub fn unset_all(&mut self) {
         self.is_marked.fill(false);
         self.count = 0;

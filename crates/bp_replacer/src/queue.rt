@@ -1,4 +1,4 @@
-//! Pages that wait, the one of the least time first.
+//! `Queue`: the pages that wait to be purged, the one of the least time first.
 ghost use Rattle.std.specs.Prelude.{◌≡◌, ◌<◌, ◌≤◌, [], ◌∷◌, All, IfSome, IfNone, OnOk, length};
 ghost use Rattle.std.specs.List.Sorted.{IsPermutation};
 
@@ -32,7 +32,7 @@ impl Model for Queue {
 }
 
 impl Queue {
-    /// Nobody waits.
+    /// Makes an empty queue. It takes no memory.
     pub(crate) fn new(alloc: Global) -> Queue
         ensures { result.pages ≡ [] }
     {
@@ -41,7 +41,7 @@ impl Queue {
         }
     }
 
-    /// Makes room for so many pages in all.
+    /// Makes room for `room` pages in all. It fails by want of memory alone, and then the pages stay.
     pub(crate) fn reserve(&mut self, room: usize) -> Result<(), AllocError>
         ensures pages { self.new.pages ≡ self.old.pages }
         ensures grows { self.old.room ≤ self.new.room }
@@ -50,7 +50,7 @@ impl Queue {
         self.pages.reserve(room.saturating_sub(self.pages.len()))
     }
 
-    /// Lets a page wait, which takes no memory.
+    /// Adds a page; a page that waits already is added again. It takes no memory.
     pub(crate) fn push(&mut self, time: u64, page: u64)
         requires { length self.old.pages < self.old.room }
         ensures pages { IsPermutation ((time, page) ∷ self.old.pages) self.new.pages }
@@ -61,7 +61,7 @@ impl Queue {
         };
     }
 
-    /// Takes out the page of the least time, if that is below the bound.
+    /// Takes out the (time, page) of the least time, if that time is below the bound. Else returns `None`.
     pub(crate) fn pop_below(&mut self, bound: u64) -> Option<(u64, u64)>
         ensures below { IfSome result (λ e. e.0 < bound) }
         ensures taken { IfSome result (λ e. IsPermutation self.old.pages (e ∷ self.new.pages)) }

@@ -1,4 +1,4 @@
-//! Numbered seats, and who stands at each.
+//! `SeatList`: numbered seats, each empty or with a candidate.
 ghost use Rattle.std.specs.Prelude.{◌≡◌, ◌<◌, Some, None, IfOk, length, replicate, set};
 ghost use Rattle.std.specs.Option.{is_some};
 ghost use Rattle.bp_replacer.specs.Seats.{seat_at, IsTaken};
@@ -8,8 +8,8 @@ use bp_page::PageNo;
 use std::alloc::{AllocError, Global};
 use std::marker::Model;
 
-/// Who stands at each seat. The candidates stand apart from what tells whether a seat is empty, so that one who is
-/// known to stand there is read with no second test: 25 bytes a seat.
+/// The candidate at each seat. The candidates stand apart from the flags that tell whether a seat is taken, so that a
+/// candidate that is known to be there is read with no second test: 25 bytes a seat.
 #[derive(Drop)]
 pub struct SeatList {
     taken: Vec<bool>,
@@ -29,7 +29,7 @@ impl Model for SeatList {
 }
 
 impl SeatList {
-    /// So many seats, and nobody there.
+    /// Makes `size` empty seats. It fails by want of memory alone; no other call takes any.
     pub fn new(alloc: Global, size: usize) -> Result<SeatList, AllocError>
         ensures { IfOk result (λ s. s ≡ replicate size None) }
     {
@@ -38,14 +38,12 @@ impl SeatList {
         Ok(SeatList { taken, entries })
     }
 
-    /// How many seats there are.
     pub fn len(&self) -> usize
         ensures { result ≡ length self.now }
     {
         self.entries.len()
     }
 
-    /// Whether somebody stands at a seat.
     pub fn is_taken(&self, seat: usize) -> bool
         requires { seat < length self.now }
         ensures { result ≡ is_some (seat_at self.now seat) }
@@ -53,7 +51,7 @@ impl SeatList {
         self.taken[seat]
     }
 
-    /// Who stands at a seat that is taken, and nobody past the seats.
+    /// Returns the candidate at a seat that is known to be taken, and `None` for a number past the seats.
     pub fn at(&self, seat: usize) -> Seat
         requires { IsTaken self.now seat }
         ensures { result ≡ seat_at self.now seat }
@@ -65,7 +63,7 @@ impl SeatList {
         }
     }
 
-    /// Who stands at a seat.
+    /// Returns the candidate at a seat, or `None` where it is empty.
     pub fn find(&self, seat: usize) -> Seat
         requires { seat < length self.now }
         ensures { result ≡ seat_at self.now seat }
@@ -77,7 +75,7 @@ impl SeatList {
         }
     }
 
-    /// Changes who stands at a seat.
+    /// Puts a candidate on a seat, or empties it.
     pub fn put(&mut self, seat: usize, entry: Seat)
         requires { seat < length self.old }
         ensures { self.new ≡ set self.old seat entry }
@@ -88,7 +86,7 @@ impl SeatList {
         }
     }
 
-    /// Has at each seat who stands there in another list, of as many seats.
+    /// Copies all seats of another list, of as many seats.
     pub fn copy_from(&mut self, other: &SeatList)
         requires { length other.now ≡ length self.old }
         ensures { self.new ≡ other.now }

@@ -1,4 +1,4 @@
-//! Candidates for replacement that stand at seats, as their pages stand in frames.
+//! `Candidates`: the pages that may be replaced, each at the seat of its frame, and the victim among them.
 ghost use Rattle.std.specs.Prelude.{◌≡◌, ℕ, ◌<◌, IsFalse, Some, None, IfOk, IfSome, IfNone, length, replicate};
 ghost use Rattle.bp_references.specs.Candidates.{is_eligible, IsVictim, NoPageTwice};
 ghost use Rattle.bp_replacer.specs.Seats.{entered, seat_of, with_seat, seated_in};
@@ -11,18 +11,18 @@ use std::marker::Model;
 
 /// The pages that may be replaced, each at a seat of its own, with its K-th stamp and the time of its newest reference.
 ///
-/// A tree of winners stands over the seats, and lags behind those that were left, be they all. A page that enters again,
-/// and comes later in the order than the one that the tree knows there, stays where it was: so a page that is hit leaves
-/// and enters in O(1), with no walk up the tree. `victim` puts such a page in its place where it would come first
-/// otherwise, by a walk, or by a pass that does so at all seats at once. So a page takes one walk at most for all its
-/// hits since the walk or the pass before.
+/// A tree of winners stands over the seats, and may lag behind any of them. A page that enters again, and comes later
+/// in the order than the one that the tree knows there, stays where it was: so a page that is hit leaves and enters in
+/// O(1), with no walk up the tree. `victim` puts such a page in its place where it would come first otherwise, by a
+/// walk, or by a pass that does so at all seats at once. So a page takes one walk at most for all its hits since the
+/// walk or the pass before.
 ///
 /// A walk goes up as far as that changes what the tree knows, O(log frames) at most: `enter` takes one at most, and
 /// `leave` none. A pass looks at each seat and at two nodes for each, O(frames). `victim` takes 8 walks and a pass at
 /// most where the tree lags behind one in 16 of the seats, and else a walk for each seat that it lags behind. It looks
-/// again after each. With no correlated period, at a time that is not before any reference, the root knows who comes
-/// first. Else each look goes to O(log frames) nodes for each page that is still too young, and never to more than two
-/// for each frame. The memory is taken once, by `new`: 67 bytes a seat.
+/// again after each. With no correlated period, at a time that is not before any reference, the root knows the first.
+/// Else each look goes to O(log frames) nodes for each page that is still too young, and never to more than two for
+/// each frame. The memory is taken once, by `new`: 67 bytes a seat.
 #[derive(Drop)]
 pub struct Candidates {
     correlated: u64,
@@ -38,8 +38,7 @@ impl Model for Candidates {
 }
 
 impl Candidates {
-    /// Seats for as many candidates as there are frames, and nobody there. It fails by want of memory alone; no other
-    /// call takes any.
+    /// Makes as many empty seats as there are frames. It fails by want of memory alone; no other call takes any.
     pub fn new(alloc: Global, frames: usize, settings: Settings) -> Result<Candidates, AllocError>
         ensures { IfOk result (λ c. c ≡ record {
           correlated = settings.correlated;
@@ -63,7 +62,7 @@ impl Candidates {
         self.tree.put(seat, Some((hist_k, last, page)));
     }
 
-    /// Empties a seat.
+    /// Empties a seat, which may be empty already.
     pub fn leave(&mut self, seat: usize)
         requires { seat < length self.old.seats }
         ensures { self.new ≡ with_seat self.old seat None }
@@ -71,8 +70,9 @@ impl Candidates {
         self.tree.put(seat, None);
     }
 
-    /// The page to replace at the time `t`: of those last referenced more than the correlated period before, the first
-    /// by K-th stamp, then by last time, then by page number.
+    /// Returns the victim at the time `t`: of the pages last referenced more than the correlated period before, the
+    /// first by K-th stamp, then by last time, then by page number. `None` where no page was last referenced so long
+    /// ago.
     pub fn victim(&mut self, t: u64) -> Option<PageNo>
         requires { NoPageTwice (seated_in self.old.seats) }
         ensures same { self.new ≡ self.old }

@@ -1,21 +1,21 @@
-//! How many stamps a page has, and the two periods.
+//! `Settings`: K of LRU-K, and its correlated and retained periods, within limits.
 ghost use Rattle.std.specs.Prelude.{◌≡◌, ◌↔◌, IsOk, IfOk, OnErr};
 ghost use Rattle.bp_replacer.specs.Limits.{IsWithinLimits};
 
 use bp_page::Refusal;
 
-/// The most stamps that a page may have.
+/// The greatest K.
 pub const MAX_STAMPS: usize = 16;
 
 /// The longest correlated or retained period, in ticks.
 pub const MAX_PERIOD: u64 = 1 << 62;
 
 /// The K of LRU-K, with its correlated and its retained period in ticks. References of a page that come no more than
-/// the correlated period after one another count as one, and what is known of a page that is away is kept for the
-/// retained period after its newest reference.
+/// the correlated period after one another count as one, and a purge forgets what is known of a page that is away, once
+/// its newest reference is more than the retained period back.
 #[derive(Clone, Copy, Debug)]
 pub struct Settings {
-    /// How many stamps a page has, 1 to 16.
+    /// The number of stamps that are kept of a page: K, 1 to 16.
     pub k: usize,
     /// The correlated period, 0 to 2^62 ticks of the clock.
     pub correlated: u64,
@@ -26,7 +26,7 @@ pub struct Settings {
 }
 
 impl Settings {
-    /// K from 1 to 16, and periods from 0 to 2^62. Anything else is `BadSettings`.
+    /// Takes K from 1 to 16, and periods from 0 to 2^62 ticks. Anything else is `BadSettings`.
     pub fn new(k: usize, correlated: u64, retained: u64) -> Result<Settings, Refusal>
         ensures accepted { IsOk result ↔ IsWithinLimits k correlated retained }
         ensures refused { OnErr result (result ≡ Err Refusal.BadSettings) }

@@ -1,4 +1,4 @@
-//! A tree of winners over a number of seats.
+//! `Tournament`: a tree of winners over seats, which finds the first candidate that was last referenced before a time.
 ghost use Rattle.std.specs.Prelude.{◌≡◌, ◌⊎◌, ℕ, ◌*◌, ◌+◌, ◌-◌, ◌/◌, ◌^◌, ◌<◌, ◌≤◌, [], IsTrue, IsFalse, Some, None, IfOk, IfSome, IfNone, IsSome, length, replicate, set, slice_index_or};
 ghost use Rattle.bp_references.specs.Candidates.{Candidate, is_before};
 ghost use Rattle.bp_replacer.specs.Seats.{winner, seat_at, is_aged, aged_first, older_of, played, node, known_by, Has, IsOfBoth, IsTaken, AreTaken, IsFirst, IsFirstAt, IsFirstBelow, IsTournament, older_at};
@@ -9,30 +9,31 @@ use bp_page::PageNo;
 use std::alloc::{AllocError, Global};
 use std::marker::Model;
 
-/// Who stands at a seat, or nobody.
+/// A candidate as (K-th stamp, last time, page), or `None` for an empty seat.
 pub type Seat = Option<(u64, u64, PageNo)>;
 
-/// Whom a node knows of the seats below it, by the numbers of their seats: who comes first, and who comes first of
-/// those that were last referenced before that one. Where the node does not know the second, it has the first again.
-/// The number of seats stands for nobody.
+/// What a node knows of the seats below it, by the numbers of their seats: the first candidate, and the first of those
+/// that were last referenced before that one. Where the node does not know the second, it has the first again. The
+/// number of seats stands for no candidate.
 #[derive(Clone, Copy)]
 struct Winners {
     first: usize,
     older: usize,
 }
 
-/// Seats, and a tree over them that knows at each node who comes first of the seats below it.
+/// Seats, and a tree over them that knows at each node the first candidate of the seats below it.
 ///
 /// `put` goes up from its seat as far as it changes what a node knows, at most to the root: O(log seats). It ends at
-/// the first node that has the numbers it had, none of them that of the seat: nothing above knows who stood there or
-/// stands there now. So it takes one step where the seat, before and after the change, comes after its neighbour and
-/// was not last referenced before that one. `put_all` changes all seats at once, and finds out anew what each node
-/// knows, from the last one to the root: O(seats), and no walk.
+/// the first node that has the numbers it had, none of them that of the seat: no node above has the candidate that
+/// stood there or stands there now. So it takes one step where the seat, before and after the change, comes after its
+/// neighbour and was not last referenced before that one. `put_all` changes all seats at once, and computes each node
+/// from scratch, from the last one to the root: O(seats), and no walk.
 ///
-/// `first_before` asks the root, and then looks below those nodes that do not know. Below each of them stand two who
-/// were not last referenced before the time that is asked for, nor at the same time. So the root knows where nobody was
-/// referenced after that time, and else it looks at O(log seats) nodes for each who was not last referenced before it,
-/// and never at more than two for each seat. The memory is taken once, by `new`: 41 bytes a seat.
+/// `first_before` asks the root, and then looks below those nodes that do not know. Below each of them stand two that
+/// were not last referenced before the time that is asked for, nor at the same time. So the root knows the answer where
+/// no candidate was referenced after that time, and else `first_before` looks at O(log seats) nodes for each candidate
+/// that was not last referenced before it, and never at more than two for each seat. The memory is taken once, by
+/// `new`: 41 bytes a seat.
 #[derive(Drop)]
 pub struct Tournament {
     nodes: Vec<Winners>,
@@ -51,7 +52,7 @@ impl Model for Tournament {
     ghost invariant = { λ t. IsTournament t.nodes.items t.seats };
 }
 
-// Of two seats, the one that comes first.
+// Of two seats, the one whose candidate comes first.
 fn winner(seats: &SeatList, a: usize, b: usize) -> usize
     requires a { IsTaken seats.now a }
     requires b { IsTaken seats.now b }
@@ -65,7 +66,7 @@ fn winner(seats: &SeatList, a: usize, b: usize) -> usize
     }
 }
 
-// Whether nobody stands at a seat, or one who was last referenced before a time.
+// Returns true if a seat is empty, or its candidate was last referenced before a time.
 fn is_aged(seats: &SeatList, seat: usize, time: u64) -> bool
     requires { IsTaken seats.now seat }
     ensures { result ≡ is_aged time (seat_at seats.now seat) }
@@ -76,7 +77,8 @@ fn is_aged(seats: &SeatList, seat: usize, time: u64) -> bool
     }
 }
 
-// Who comes first of those last referenced before a time; one who was not where the node does not know.
+// The seat of the first candidate last referenced before a time. Where the node does not know it, a seat whose
+// candidate was not.
 fn aged_first(seats: &SeatList, winners: &Winners, time: u64) -> usize
     requires { AreTaken seats.now winners.now }
     ensures had { Has winners.now result }
@@ -89,7 +91,8 @@ fn aged_first(seats: &SeatList, winners: &Winners, time: u64) -> usize
     }
 }
 
-// Of the seats below two nodes, who comes first of those last referenced before the one that comes first of all.
+// Of the candidates below two nodes, the first of those last referenced before `first`, the first of all. Where the
+// nodes do not know it, `first` again.
 fn older_of(seats: &SeatList, a: &Winners, b: &Winners, first: usize) -> usize
     requires a { AreTaken seats.now a.now }
     requires b { AreTaken seats.now b.now }
@@ -109,7 +112,7 @@ fn older_of(seats: &SeatList, a: &Winners, b: &Winners, first: usize) -> usize
     }
 }
 
-// Plays two nodes against each other: whom the node above them knows.
+// Computes what the node above two others knows.
 fn play(seats: &SeatList, a: &Winners, b: &Winners) -> Winners
     requires a { AreTaken seats.now a.now }
     requires b { AreTaken seats.now b.now }
@@ -122,7 +125,7 @@ fn play(seats: &SeatList, a: &Winners, b: &Winners) -> Winners
     Winners { first, older }
 }
 
-// The node at a place: the seats stand below the others, and an empty one knows nobody.
+// The node at a place: the seats stand below the others, and an empty one knows no candidate.
 fn node(nodes: &[Winners], seats: &SeatList, at: usize) -> Winners
     requires as_many { length nodes.now ≡ length seats.now }
     requires in_range { at < 2 * length nodes.now }
@@ -142,7 +145,7 @@ fn node(nodes: &[Winners], seats: &SeatList, at: usize) -> Winners
     }
 }
 
-// The node beside another, below the same one.
+// The sibling of a node.
 fn beside(at: usize) -> usize
     requires positive { 1 ≤ at }
     requires fits { at + 1 < 2 ^ 64 }
@@ -151,7 +154,7 @@ fn beside(at: usize) -> usize
     if at % 2 == 0 { at + 1 } else { at - 1 }
 }
 
-// Whether a node has these numbers already, and none of them is the seat's.
+// Returns true if a node has these numbers already, and neither is that of the seat.
 fn is_settled(winners: &Winners, found: &Winners, seat: usize) -> bool
     ensures same { IsTrue result → winners.now ≡ found.now }
     ensures apart { IsTrue result → Has found.now seat → ⊥ }
@@ -160,7 +163,7 @@ fn is_settled(winners: &Winners, found: &Winners, seat: usize) -> bool
     is_same && found.first != seat && found.older != seat
 }
 
-// Finds out anew whom the nodes above a seat that was changed know, up to the first that is settled.
+// Recomputes the nodes above a changed seat, up to the first that is settled.
 fn replay(nodes: &mut [Winners], seats: &SeatList, seat: usize)
     requires seat { seat < length seats.now }
     requires changed { IsWonUpTo nodes.old seats.now seat (length seats.now + seat) }
@@ -179,7 +182,7 @@ fn replay(nodes: &mut [Winners], seats: &SeatList, seat: usize)
     }
 }
 
-// Finds out anew whom each node knows, from the last one to the root: so each comes after the two below it.
+// Recomputes each node, from the last one to the root: so each comes after the two below it.
 fn replay_all(nodes: &mut [Winners], seats: &SeatList)
     requires { length nodes.old ≡ length seats.now }
     ensures won { IsTournament nodes.new seats.now }
@@ -193,7 +196,8 @@ fn replay_all(nodes: &mut [Winners], seats: &SeatList)
     }
 }
 
-// Who comes first of those below a node that were last referenced before a time; it looks below nodes that do not know.
+// The seat of the first candidate below a node that was last referenced before a time. It looks below nodes that do not
+// know it.
 fn first_below(nodes: &[Winners], seats: &SeatList, at: usize, time: u64) -> usize
     requires won { IsTournament nodes.now seats.now }
     requires positive { 1 ≤ at }
@@ -211,7 +215,7 @@ fn first_below(nodes: &[Winners], seats: &SeatList, at: usize, time: u64) -> usi
 }
 
 impl Tournament {
-    /// So many seats, and nobody on them.
+    /// Makes `size` empty seats. It fails by want of memory alone; no other call takes any.
     pub fn new(alloc: Global, size: usize) -> Result<Tournament, AllocError>
         ensures { IfOk result (λ t. t ≡ replicate size None) }
     {
@@ -224,7 +228,7 @@ impl Tournament {
         Ok(Tournament { nodes, seats })
     }
 
-    /// Who stands at a seat.
+    /// Returns the candidate at a seat, or `None` where it is empty.
     pub fn find(&self, seat: usize) -> Seat
         requires { seat < length self.now }
         ensures { result ≡ seat_at self.now seat }
@@ -232,7 +236,7 @@ impl Tournament {
         self.seats.find(seat)
     }
 
-    /// The seat of who comes first of those that were last referenced before a time.
+    /// Returns the seat of the first candidate of those last referenced before a time, or `None` where there is none.
     pub fn first_before(&self, time: u64) -> Option<usize>
         ensures found { IfSome result (IsFirstAt self.now (λ e. e.1 < time)) }
         ensures none { IfNone result (IsFirst self.now (λ e. e.1 < time) None) }
@@ -248,7 +252,7 @@ impl Tournament {
         }
     }
 
-    /// Changes who stands at a seat.
+    /// Puts a candidate on a seat, or empties it.
     pub fn put(&mut self, seat: usize, entry: Seat)
         requires { seat < length self.old }
         ensures { self.new ≡ set self.old seat entry }
@@ -257,7 +261,7 @@ impl Tournament {
         replay(&mut self.nodes, &self.seats, seat);
     }
 
-    /// Changes who stands at each seat, to who stands there in a list of as many.
+    /// Copies all seats of a list of as many.
     pub fn put_all(&mut self, seats: &SeatList)
         requires { length seats.now ≡ length self.old }
         ensures { self.new ≡ seats.now }
@@ -267,7 +271,7 @@ impl Tournament {
     }
 }
 
-/// Whether one candidate is replaced before another: by K-th stamp, then last time, then page.
+/// Returns true if candidate `a` is replaced before `b`: by K-th stamp, then last time, then page number.
 pub fn precedes(a: &(u64, u64, PageNo), b: &(u64, u64, PageNo)) -> bool
     ensures { result ≡ is_before a.now b.now }
 {

@@ -1,20 +1,19 @@
-//! Standard input, where it is a terminal.
+//! `Awaiting`, a reader that tells the user of a terminal that standard input is read.
 ghost use Rattle.std.specs.Prelude.{◌≡◌};
 
 use std::io;
 use std::io::{Read, Write};
 
-/// A reader of a trace or of references that tells, at the first read, that lines are awaited there. It reads what its
-/// input reads.
+/// A reader that writes a note before its first read. It reads what its input reads.
 #[derive(Drop)]
 pub struct Awaiting<I: Read, E: Write> {
     input: I,
-    /// Where it is told, until it was.
+    /// The output of the note, until the note is written.
     note: Option<E>,
 }
 
 impl<I: Read, E: Write + Drop> Awaiting<I, E> {
-    /// A reader over an input. It tells nothing where it has no output for that.
+    /// Makes a reader over an input. Without an output it writes no note.
     pub fn new(input: I, note: Option<E>) -> Awaiting<I, E>
         ensures { ⟦<Awaiting<I, E> as Read>⟧.remaining result ≡ I.remaining input }
     {
@@ -25,7 +24,7 @@ impl<I: Read, E: Write + Drop> Awaiting<I, E> {
 impl<I: Read, E: Write + Drop> Read for Awaiting<I, E> {
     ghost remaining = { λ awaiting. I.remaining awaiting.input };
 
-    // A fault of the output changes nothing.
+    // A fault of the output is ignored.
     fn read(&mut self, buf: &mut [u8]) -> io::Result<usize> {
         if let Some(mut note) = self.note.take() {
             let _ = writeln!(

@@ -1,14 +1,12 @@
-//! The picture of a sweep's table.
+//! `picture_of`, which draws the table of a sweep as SVG.
 ghost use Rattle.std.specs.Prelude.{◌≡◌, ◌++◌, map, IfOk, OnOk};
 ghost use Rattle.bp_run.specs.Drawing.{AreShown, Pictures, cell_of, if_among, names_of};
 
 use bp_charts::{Cell, Line, Point, Which, lines_of, write_chart};
 use std::alloc::{AllocError, Global};
 
-/// The greatest K of LRU-K.
 const MAX_K: usize = 16;
 
-/// What the picture shows of a line of the table.
 fn cell_of(line: &Line) -> Cell
     ensures { result ≡ cell_of line.now }
 {
@@ -26,7 +24,7 @@ fn cell_of(line: &Line) -> Cell
     }
 }
 
-/// The cells of a table, in its order.
+/// Returns the cells of a table, in its order.
 fn cells_in(alloc: Global, table: &[Line]) -> Result<Vec<Cell>, AllocError>
     ensures { IfOk result (λ cells. cells.items ≡ map cell_of table.now) }
 {
@@ -37,7 +35,7 @@ fn cells_in(alloc: Global, table: &[Line]) -> Result<Vec<Cell>, AllocError>
     Ok(cells)
 }
 
-/// The cells of a table, by growing frames.
+/// Returns the cells of a table, by increasing number of frames.
 fn cells_of(alloc: Global, table: &[Line]) -> Result<Vec<Cell>, AllocError>
     ensures { IfOk result (λ cells. AreShown table.now cells.items) }
 {
@@ -46,7 +44,7 @@ fn cells_of(alloc: Global, table: &[Line]) -> Result<Vec<Cell>, AllocError>
     Ok(cells)
 }
 
-/// Adds this K, if it is among these.
+/// Adds the name of this K, if it is among these.
 fn add_name(names: &mut Vec<Which>, ks: &[usize], k: usize) -> Result<(), AllocError>
     ensures { OnOk result (names.new.items ≡ names.old.items ++ if_among ks.now k) }
 {
@@ -56,7 +54,7 @@ fn add_name(names: &mut Vec<Which>, ks: &[usize], k: usize) -> Result<(), AllocE
     Ok(())
 }
 
-/// The lines of the picture: one for each of these K, the least first, and one for the optimum.
+/// Returns the names of the lines: one for each of these K, the least first, and one for the optimum.
 fn names_of(alloc: Global, ks: &[usize]) -> Result<Vec<Which>, AllocError>
     ensures { IfOk result (λ names. names.items ≡ names_of ks.now) }
 {
@@ -68,7 +66,7 @@ fn names_of(alloc: Global, ks: &[usize]) -> Result<Vec<Which>, AllocError>
     Ok(names)
 }
 
-/// The picture of a table over these K, as bytes.
+/// Returns the picture of a table over these K, as the bytes of an SVG file.
 pub(crate) fn picture_of(alloc: Global, ks: &[usize], table: &[Line]) -> Result<Vec<u8>, AllocError>
     ensures { IfOk result (λ bytes. Pictures ks.now table.now bytes.items) }
 {

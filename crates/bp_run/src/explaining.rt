@@ -1,11 +1,10 @@
-//! What the number of a refusal says.
+//! `explain`, which prints the text of a refusal's number.
 ghost use Rattle.std.specs.Prelude.{◌≡◌, ◌++◌, ◌∷◌, [], IfErr, OnOk};
 ghost use Rattle.std.specs.Io.KnownBytes.{Appends};
 
 use bp_cli::Ending;
 use std::io::Write;
 
-/// Writes the text as a line.
 pub(crate) fn explain<W: Write>(text: &str, out: &mut W) -> Result<(), Ending>
     ensures written { OnOk result (Appends (W.contents out.old) (W.contents out.new)
         (text.now ++ 10 ∷ [])) }

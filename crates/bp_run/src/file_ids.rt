@@ -1,10 +1,11 @@
-//! Which file a path leads to.
+//! `FileId`, which tells whether two paths lead to the same file.
 use std::fs;
 use std::fs::{Metadata, OpenFile};
 use std::os::unix::fs::MetadataExt;
 use std::rt::Files;
 
-/// A file, of all that the machine has. Two that are there at one time are one file exactly where these are equal.
+/// The identity of a file on this machine. Two files that exist at the same time are the same exactly where these are
+/// equal.
 #[derive(Clone, Copy, PartialEq, Eq)]
 pub(crate) struct FileId {
     device: u64,
@@ -12,7 +13,6 @@ pub(crate) struct FileId {
 }
 
 impl FileId {
-    /// The file with this metadata.
     pub(crate) fn with(metadata: &Metadata) -> FileId {
         FileId {
             device: metadata.dev(),
@@ -20,7 +20,7 @@ impl FileId {
         }
     }
 
-    /// An open file, if it can be looked at.
+    /// Returns the identity of an open file, or None where its metadata can't be read.
     pub(crate) fn of<F: OpenFile>(file: &F) -> Option<FileId> {
         match file.metadata() {
             Ok(metadata) => Some(FileId::with(&metadata)),
@@ -28,7 +28,7 @@ impl FileId {
         }
     }
 
-    /// The file at a path, with links followed, if there is one that can be looked at.
+    /// Returns the identity of the file at a path, following links, or None where its metadata can't be read.
     pub(crate) fn at<R: Files>(rt: &R, path: &str) -> Option<FileId> {
         match fs::metadata(rt, path) {
             Ok(metadata) => Some(FileId::with(&metadata)),

@@ -25,7 +25,6 @@ use std::marker::{Send, Sync};
 use std::sync::Wait;
 use std::thread::Threads;
 
-/// What the pool of a run in free order is made with.
 fn config_of(run: &RunWords<'_>, geometry: Geometry, rows: &[Row]) -> Config
     requires runnable { IsRunnable (options_of run.now) }
     ensures parameters { parameters_with result (clients_of rows.now) ≡ parameters_for Order.Free
@@ -41,7 +40,7 @@ fn config_of(run: &RunWords<'_>, geometry: Geometry, rows: &[Row]) -> Config
     }
 }
 
-/// Runs the rows by one thread for each client, each with the rows of its own over a port of its own.
+/// Runs the rows with one thread for each client. Each thread runs the rows of its client over a port of its own.
 fn run_threads<P: Port + Send, R: Threads + Wait + Sync>(
     rt: &R,
     alloc: Global,
@@ -72,8 +71,8 @@ fn run_threads<P: Port + Send, R: Threads + Wait + Sync>(
     }
 }
 
-/// Runs the rows by one thread for each client, and writes the report and the refused rows. Answers whether all rows
-/// were accepted.
+/// Runs the rows with one thread for each client, and writes the report and the refused rows. Returns true if no row
+/// was refused.
 pub(crate) fn run_free<P: Port + Send, R: Threads + Wait + Sync, W: Write>(
     rt: &R,
     alloc: Global,

@@ -1,7 +1,7 @@
-//! A run of the program: from the words of its command line and the bytes of a trace to the bytes of the report, or
-//! from those of references to the bytes of a table.
+//! Runs the program: from the words of its command line and the bytes of a trace to the bytes of a report, or from
+//! references to a table.
 //!
-//! The contract of `run_with` is the promise of the whole program.
+//! The contract of `run_with` is what is promised of the whole program.
 #![tactic(auto)]
 
 mod awaiting;

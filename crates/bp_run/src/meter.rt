@@ -1,16 +1,16 @@
-//! How far a migration or a sweep has come, on the error output.
+//! Meters, which show on the error output how far a migration or a sweep has come.
 
 use bp_ports::Progress;
 use std::io::Write;
 use std::time::{Clock, Duration, Instant};
 
-/// Takes the line of a meter away.
+/// Clears the line of a meter.
 pub(crate) fn clear_line<E: Write>(err: &mut E) {
     let _ = write!(err, "\r{:70}\r", "");
     let _ = err.flush();
 }
 
-/// Shows on one line, anew at each hundredth of the pages, how many of them are written.
+/// Shows the number of migrated pages on one line, again at each hundredth of the pages.
 #[derive(Drop)]
 pub(crate) struct Meter<'a, E: Write> {
     err: &'a mut E,
@@ -18,13 +18,12 @@ pub(crate) struct Meter<'a, E: Write> {
 }
 
 impl<'a, E: Write> Meter<'a, E> {
-    /// A meter that has shown nothing yet.
     pub(crate) fn new(err: &'a mut E) -> Meter<'a, E> {
         Meter { err, shown: 0 }
     }
 }
 
-// A fault of the error output changes nothing.
+// A fault of the error output is ignored.
 impl<E: Write> Progress for Meter<'_, E> {
     fn written(&mut self, done: u64, pages: u64) {
         let hundredths = done.saturating_mul(100) / pages.max(1);
@@ -36,25 +35,23 @@ impl<E: Write> Progress for Meter<'_, E> {
     }
 }
 
-/// Shows on one line, anew once a second has gone by, which cell of a sweep is counted, and how many references of it
-/// are.
+/// Shows the cell of a sweep and its counted references on one line, at most once a second.
 #[derive(Drop)]
 pub(crate) struct SweepMeter<'a, R: Clock, E: Write> {
     clock: &'a R,
     err: &'a mut E,
-    /// When the line was shown last, or else the sweep began. Without a clock nothing is shown.
+    /// The time when the line was shown last, or else when the sweep began. Without a clock nothing is shown.
     since: Option<Instant>,
 }
 
 impl<'a, R: Clock, E: Write> SweepMeter<'a, R, E> {
-    /// A meter that has shown nothing yet.
     pub(crate) fn new(clock: &'a R, err: &'a mut E) -> SweepMeter<'a, R, E> {
         let since = Instant::now(clock).ok();
         SweepMeter { clock, err, since }
     }
 }
 
-// A fault of the error output changes nothing. The spaces at the end are over what a longer line had there.
+// A fault of the error output is ignored. The spaces at the end clear the rest of a longer line.
 impl<R: Clock, E: Write> bp_sweep::Progress for SweepMeter<'_, R, E> {
     fn advanced(&mut self, cell: u64, cells: u64, counted: u64, references: u64) {
         let (Some(since), Ok(now)) = (self.since, Instant::now(self.clock)) else {

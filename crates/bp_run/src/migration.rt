@@ -1,4 +1,4 @@
-//! A page file of version 1 that is written anew in version 2.
+//! `migrate`, which writes a page file of version 1 again in version 2.
 ghost use Rattle.std.specs.Prelude.{◌≡◌, IfErr, false};
 ghost use Rattle.bp_cli.specs.Asked.{migration_of};
 ghost use Rattle.bp_cli.specs.Decision.{IsMigratable};
@@ -16,7 +16,6 @@ use std::fs::{File, OpenFile};
 use std::io::{BufReader, BufWriter, Read, Write};
 use std::rt::Files;
 
-/// How the program ends where a migration failed.
 fn ending_of(fault: MigrateFault) -> Ending
     ensures said { result ≡ ending_of_fault fault }
     ensures stops { StopsMigration result }
@@ -28,7 +27,7 @@ fn ending_of(fault: MigrateFault) -> Ending
     }
 }
 
-/// How the program ends where the words name page files between which there is no migration.
+/// Returns the end of the program where the two page files that the words name can't be migrated.
 fn words_refused(alloc: Global, why: &str) -> Ending
     ensures { StopsMigration result }
 {
@@ -38,7 +37,7 @@ fn words_refused(alloc: Global, why: &str) -> Ending
     }
 }
 
-/// Whether something other than a regular file has this name. A link is something else too.
+/// Returns true if something is at this path that is no regular file. A link is none.
 fn is_no_regular_file<R: Files>(rt: &R, path: &str) -> bool {
     match fs::symlink_metadata(rt, path) {
         Ok(metadata) => !metadata.is_file(),
@@ -46,7 +45,7 @@ fn is_no_regular_file<R: Files>(rt: &R, path: &str) -> bool {
     }
 }
 
-/// Copies the pages, and has the system bring all that was written to its device.
+/// Copies the pages, and syncs the new file.
 fn copy_pages<I: Read + Drop, W: Write + OpenFile + Drop, P: Progress>(
     alloc: Global,
     old: I,
@@ -73,8 +72,8 @@ fn copy_pages<I: Read + Drop, W: Write + OpenFile + Drop, P: Progress>(
     Ok(())
 }
 
-/// Makes a new file at a path of its own, which then takes the name of the new page file. Where that fails no file of
-/// these is left.
+/// Makes a new file at the path `beside`, and renames it to `new`. Where a step fails, the file that was made is
+/// removed.
 fn make_file<R: Files, P: Progress>(
     rt: &R,
     alloc: Global,
@@ -100,7 +99,7 @@ fn make_file<R: Files, P: Progress>(
     made
 }
 
-/// Opens the old page file to read it, and takes its geometry from its length. It is an error where the new one would
+/// Opens the old page file to read it, and returns the geometry of its length. It is an error where the new one would
 /// be the same file.
 fn open_old<R: Files>(
     rt: &R,
@@ -125,13 +124,13 @@ fn open_old<R: Files>(
     }
 }
 
-/// Writes the page file of version 1 that the words name anew in version 2, each page with its number and LSN 0. The
-/// new file is made beside its path, under its name with `.migrating` after it, and takes that path, and the place of a
-/// file that stood there, once it is whole. Where somebody watches, the error output shows how far it has come.
+/// Writes the page file of version 1 that the words name again in version 2, each page with its number and LSN 0. The
+/// new file is written at its path with `.migrating` appended, and is renamed once it is whole; it may replace a
+/// regular file. Where somebody watches, the error output shows how far it has come.
 ///
-/// It is an error where what stands at the new path is no regular file.
+/// It is an error where something else than a regular file is at the new path.
 ///
-/// An `Err` is how the program ends otherwise. The old file is as it was, and so is what stands at the new path.
+/// After an `Err` the old file and what is at the new path are unchanged.
 pub(crate) fn migrate<R: Files, E: Write>(
     rt: &R,
     alloc: Global,

@@ -1,39 +1,32 @@
-//! Page files that are open.
+//! Open page files, in memory or on disk.
 ghost use Rattle.std.specs.Prelude.{◌≡◌};
 ghost use Rattle.bp_ports.specs.Ports.{has_headers};
 
 use bp_page::{Format, Geometry};
 use bp_ports::{FilePort, MemDevice};
 
-/// Pages in memory.
 #[derive(Drop)]
 pub struct OpenMemory {
-    /// How many pages there are, and the bytes of each.
     pub geometry: Geometry,
-    /// The device that holds them.
     pub device: MemDevice,
     /// The device has this geometry.
     pub ghost same: { device ≡ geometry },
 }
 
-/// A page file at a path, with the port by which it was opened. It is opened again by the same path and version.
+/// A page file at a path, with the port that opened it. Further ports open it again by its path and version.
 #[derive(Drop)]
 pub struct OpenFile {
-    /// Where the file is.
     pub path: String,
-    /// The version of the file: whether each page stands after its number and its page LSN.
+    /// The version of the file: whether each page has a header with its number and its page LSN.
     pub format: Format,
-    /// The port by which it was opened.
+    /// The port that opened the file.
     pub first: FilePort,
-    /// The port reads and writes the file as this version.
+    /// The port reads and writes the file in this version.
     pub ghost headed: { first.headed ≡ has_headers format },
 }
 
-/// A page file that is open.
 #[derive(Drop)]
 pub enum OpenPages {
-    /// Pages in memory.
     Mem(OpenMemory),
-    /// Pages of a file.
     File(OpenFile),
 }

@@ -1,4 +1,4 @@
-//! Page files in memory and on disk.
+//! `PageFiles`, which opens page files in memory and on disk, and their ports.
 ghost use Rattle.std.specs.Prelude.{◌≡◌, ◌⊎◌, false, IfErr, IfOk, IfSome, string_bytes};
 ghost use Rattle.bp_page.specs.Limits.{IsGeometry};
 ghost use Rattle.bp_ports.specs.Ports.{has_headers};
@@ -17,12 +17,10 @@ use std::rt::Files;
 use std::sync::Wait;
 use std::{fs, io};
 
-/// A way to the pages of a run, wherever they stand.
+/// A port to pages in memory or to a page file.
 #[derive(Drop)]
 pub enum AnyPort {
-    /// Pages in memory.
     Mem(MemPort),
-    /// Pages of a file.
     File(FilePort),
 }
 
@@ -83,7 +81,7 @@ impl Port for AnyPort {
     }
 }
 
-/// The number of pages that a word names in memory, if it is no path.
+/// Returns the number of pages that a word names in memory, or None where it is a path.
 fn memory_named(word: &str) -> Option<u64>
     ensures { result ≡ memory_named word.now }
 {
@@ -92,7 +90,7 @@ fn memory_named(word: &str) -> Option<u64>
         .and_then(parse_number)
 }
 
-/// So many pages of zero bytes in memory.
+/// Makes so many pages of zeros in memory.
 fn open_memory(alloc: Global, pages: u64, size: usize) -> Result<OpenMemory, OpenFault>
     ensures pages { IfOk result (λ memory. memory.geometry.pages ≡ pages) }
     ensures size { IfOk result (λ memory. memory.geometry.size ≡ size) }
@@ -109,7 +107,7 @@ fn open_memory(alloc: Global, pages: u64, size: usize) -> Result<OpenMemory, Ope
     }
 }
 
-/// The page file at a path, opened once.
+/// Opens the page file at a path.
 fn open_path<R: Files<File = File>>(
     rt: &R,
     alloc: Global,
@@ -134,7 +132,7 @@ fn open_path<R: Files<File = File>>(
     })
 }
 
-/// Ports to a device in memory, one for each client.
+/// Returns ports to a device in memory, one for each client.
 fn memory_ports(
     alloc: Global,
     device: &MemDevice,
@@ -155,7 +153,7 @@ fn memory_ports(
     Ok(ports)
 }
 
-/// Opens the page file at a path once more. A file whose length has changed is as one that can't be opened.
+/// Opens the page file at a path again. Where its length has changed, it is as if it could not be opened.
 fn reopen<R: Files<File = File>>(
     rt: &R,
     alloc: Global,
@@ -173,7 +171,7 @@ fn reopen<R: Files<File = File>>(
     Ok(AnyPort::File(port))
 }
 
-/// The port that was opened first, where nobody has it yet, and else one more to the same page file.
+/// Returns the port that was opened first, where no client has it yet, and else opens one more.
 fn next_port<R: Files<File = File>>(
     rt: &R,
     alloc: Global,
@@ -193,8 +191,8 @@ fn next_port<R: Files<File = File>>(
     }
 }
 
-/// Ports to the page file at a path, which has this geometry, one for each client: the one that was opened first, and
-/// as many more as it takes.
+/// Returns ports to the page file at a path, one for each client: the one that was opened first, and as many more as
+/// needed.
 fn file_ports<R: Files<File = File>>(
     rt: &R,
     alloc: Global,
@@ -220,7 +218,7 @@ fn file_ports<R: Files<File = File>>(
     Ok(ports)
 }
 
-/// Ports to the page file at a path that is open.
+/// Returns ports to an open page file at a path, one for each client.
 fn connect_file<R: Files<File = File>>(
     rt: &R,
     alloc: Global,
@@ -240,17 +238,17 @@ fn connect_file<R: Files<File = File>>(
     file_ports(rt, alloc, path.as_str(), format, geometry, first, clients)
 }
 
-/// Opens the page files that words name.
+/// Opens page files, in memory and on disk.
 #[derive(Clone, Copy)]
 pub struct PageFiles {
     alloc: Global,
     is_watched: bool,
-    // The trace that was opened last.
+    // The trace that was opened last: no picture may overwrite it.
     trace: Option<FileId>,
 }
 
 impl PageFiles {
-    /// Page files whose pages in memory come from this allocator. Nobody watches.
+    /// Pages in memory come from this allocator. Nobody watches.
     pub fn new(alloc: Global) -> PageFiles {
         PageFiles {
             alloc,
@@ -259,8 +257,7 @@ impl PageFiles {
         }
     }
 
-    /// The same page files, told whether somebody watches the program. Where somebody does, how far a migration or a
-    /// sweep has come is shown on the error output.
+    /// Sets whether the progress of a migration or a sweep is shown on the error output.
     pub fn watched(self, is_watched: bool) -> PageFiles {
         PageFiles {
             alloc: self.alloc,

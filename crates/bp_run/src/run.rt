@@ -1,4 +1,5 @@
-//! A run: the rows of a trace over a new core and a page file, and the report of what it did.
+//! `run_with`, the whole program: it runs the rows of a trace over a new core and a page file, and reports, or does
+//! another task of its words.
 ghost use Rattle.std.specs.Prelude.{◌≡◌, ◌≢◌, ◌⊎◌, ◌++◌, ◌<◌, ◌≤◌, All, IfErr, IfOk, OnOk, [], if◌then◌else◌, vec_len};
 ghost use Rattle.std.specs.Io.KnownBytes.{Appends};
 ghost use Rattle.clap.specs.Walk.{texts};
@@ -38,10 +39,10 @@ use std::sync::Wait;
 use std::thread::Threads;
 use std::time::Clock;
 
-/// The most entries that a trail may have.
+/// The greatest room of a trail, in entries.
 const MAX_ROOM: usize = 16_777_216;
 
-/// The room of a trail for so many rows.
+/// Returns the room of the trail for so many rows, in entries.
 pub(crate) fn room_for(order: Order, rows: usize) -> usize
     ensures { result ≡ room_for order rows }
 {
@@ -52,7 +53,7 @@ pub(crate) fn room_for(order: Order, rows: usize) -> usize
     room.min(MAX_ROOM)
 }
 
-/// How many ports a run of these rows has: in free order one for each client, as each is a thread.
+/// Returns the number of ports of a run: in free order one for each client, as each is a thread, else 1.
 fn ports_for(order: Order, rows: &[Row]) -> usize
     ensures { result ≡ ports_for order rows.now }
 {
@@ -74,7 +75,7 @@ fn print_report<W: Write>(totals: bool, entries: &[Entry], out: &mut W) -> io::R
     }
 }
 
-/// Writes the report of the entries, or only its totals, and the refused rows.
+/// Writes the report of the entries, or only its totals, and then the refused rows.
 pub(crate) fn print_run<W: Write>(
     totals: bool,
     entries: &[Entry],
@@ -94,7 +95,7 @@ pub(crate) fn print_run<W: Write>(
     Ok(())
 }
 
-/// A core over such pages, for these rows in the order of the trace.
+/// Makes a core for these rows in the order of the trace.
 fn new_core(
     alloc: Global,
     run: &RunWords<'_>,
@@ -120,8 +121,8 @@ fn new_core(
     }
 }
 
-/// Runs the rows over a new core and the port, and writes the report and the refused rows. Answers whether all rows
-/// were accepted.
+/// Runs the rows over a core and the port, and writes the report and the refused rows. Returns true if no row was
+/// refused.
 fn drive_rows<P: Port, R: Wait, W: Write>(
     rt: &R,
     alloc: Global,
@@ -148,7 +149,7 @@ fn drive_rows<P: Port, R: Wait, W: Write>(
 }
 
 /// Runs the rows in the order of the trace over a new core and the port, and writes the report and the refused rows.
-/// Answers whether all rows were accepted.
+/// Returns true if no row was refused.
 fn run_rows<P: Port, R: Wait, W: Write>(
     rt: &R,
     alloc: Global,
@@ -169,7 +170,6 @@ fn run_rows<P: Port, R: Wait, W: Write>(
     drive_rows(rt, alloc, &mut core, port, run.totals, rows, out)
 }
 
-/// The rows of a trace over pages of this geometry.
 fn rows_from<I: Read>(
     alloc: Global,
     reader: &mut I,
@@ -186,7 +186,7 @@ fn rows_from<I: Read>(
     }
 }
 
-/// The rows of the trace: of standard input, or of the file at its path.
+/// Reads the rows of the trace from standard input, or from the file at its path.
 fn rows_of<I: Read, R, O: Ports<R>>(
     rt: &R,
     alloc: Global,
@@ -212,19 +212,18 @@ fn rows_of<I: Read, R, O: Ports<R>>(
     }
 }
 
-/// How the program ends where a page file is not opened.
+/// Returns the end of the program for a page file that is not opened.
 fn ending_of(fault: OpenFault) -> Ending
     ensures { result ≡ ending_of fault }
 {
     match fault {
         OpenFault::Refused(refusal) => Ending::PageFileRefused(refusal),
-        // No page is read yet, so that none is wrong.
+        // No page is read yet, so none is a wrong page.
         OpenFault::Port(PortFault::Device | PortFault::WrongPage) => Ending::PageFileNotOpened,
         OpenFault::Port(PortFault::Memory) => Ending::PageFileRefused(Refusal::OutOfMemory),
     }
 }
 
-/// The page file that the words name.
 fn open_file<R, O: Ports<R>>(rt: &R, ports: &mut O, run: &RunWords<'_>) -> Result<O::F, Ending>
     requires runnable { IsRunnable (options_of run.now) }
     ensures gave { IfOk result (λ file. O.ways.opens run.now.page_file.now run.now.page_size
@@ -239,7 +238,7 @@ fn open_file<R, O: Ports<R>>(rt: &R, ports: &mut O, run: &RunWords<'_>) -> Resul
     }
 }
 
-/// Ports to the page file, as many as a run of these rows has.
+/// Returns the ports to the page file that a run of these rows needs.
 fn connect<R, O: Ports<R>>(
     rt: &R,
     ports: &mut O,
@@ -261,8 +260,8 @@ fn connect<R, O: Ports<R>>(
     }
 }
 
-/// Runs the rows in the order that the words name over the opened ports, and writes the report and the refused rows.
-/// Answers whether all rows were accepted.
+/// Runs the rows in the order that the words name, and writes the report and the refused rows. Returns true if no row
+/// was refused.
 fn run_in_order<P: Port + Send, R: Threads + Wait + Sync, W: Write>(
     rt: &R,
     alloc: Global,
@@ -289,8 +288,8 @@ fn run_in_order<P: Port + Send, R: Threads + Wait + Sync, W: Write>(
     }
 }
 
-/// Opens the page file, then reads the trace, opens the page file for further clients, and runs the rows. Answers
-/// whether all were accepted.
+/// Opens the page file, then reads the trace, opens the page file for further clients, and runs the rows. Returns true
+/// if no row was refused.
 ///
 /// The trace is read whole first: where it has no script, nothing is written.
 fn run_as_asked<R: Threads + Wait + Sync, I: Read, O: Ports<R>, W: Write>(
@@ -315,20 +314,19 @@ fn run_as_asked<R: Threads + Wait + Sync, I: Read, O: Ports<R>, W: Write>(
     run_in_order(rt, alloc, run, opened, geometry, rows, out)
 }
 
-/// The status of a run: 0 where all rows were accepted, else 1.
 fn status_of_run(all_accepted: bool) -> u8
     ensures { result ≡ (if all_accepted then 0 else 1) }
 {
     if all_accepted { 0 } else { 1 }
 }
 
-/// Does what the words of the command line say, which leave out the program's name, and gives the status to end with.
-/// No words at all are those of the default run. It looks at the words first.
+/// Does what the words of the command line say, and returns the exit status. The words do not have the program's name;
+/// no words are those of the default run. They are checked first.
 ///
-/// An `Err` is how the program ends otherwise, by its cause. Nothing is said of it yet, and nothing is on `out`, but
+/// An `Err` is how the program ends otherwise, by its cause. It is not printed yet, and `out` is unchanged, except
 /// where a report, a table or an explanation was begun: then it is `OutputFailed`, or `PictureNotWritten` where the
-/// whole table is there. Where somebody watches a migration or a sweep, `err` shows how far it came; else `err` is as
-/// it was.
+/// whole table is there. Where somebody watches a migration or a sweep, `err` shows its progress; else `err` is
+/// unchanged.
 pub fn carry_out<
     R: Files + Clock + Threads + Wait + Sync,
     I: Read,
@@ -376,22 +374,21 @@ pub fn carry_out<
     }
 }
 
-/// Does what the words of the command line say, which leave out the program's name, and gives the status to end with.
-/// No words at all are those of the default run. It looks at the words first.
+/// Does what the words of the command line say, prints the end of the program, and returns the exit status. The words
+/// do not have the program's name; no words are those of the default run. They are checked first.
 ///
-/// For a run it then opens the page file by `ports`, and then reads the trace: from `reader` where its word is
-/// `stdin`, else from what `ports` opens at that path. In the order `trace` it runs the rows one after the other; in
-/// the order `free` each client is a thread, which runs its own rows over a port of its own. For a sweep it reads the
-/// references, from `reader` or from what `ports` opens at their path, and writes a table of what they come to in each
-/// pool; then `ports` writes the picture of the table, where one is asked for. For a migration it writes the page file
-/// of version 1 anew in version 2, and nothing on `out`. For an explanation it writes what the refusal with that number
-/// says, as one line.
+/// A run opens the page file by `ports`, and then reads the trace: from `reader` where its word is `stdin`, else from
+/// what `ports` opens at that path. In the order `trace` it runs the rows one after the other; in the order `free` each
+/// client is a thread, which runs its own rows over a port of its own. A sweep reads the references, from `reader` or
+/// from what `ports` opens at their path, and writes the table of each pool's replies; then `ports` saves the picture
+/// of the table, where one is asked for. A migration writes the page file of version 1 again in version 2, and nothing
+/// to `out`. An explanation writes the text of a refusal's number, as one line.
 ///
-/// Status 0: help, the version, an explanation, a table, a run whose rows were all accepted, or a migration. Status 1:
-/// a run with refused rows. Their report, and then the refused rows, are on `out`; `err` is as it was, but where
-/// somebody watches a migration or a sweep. Status 2: one line on `err` says why there is no report, no table or no new
-/// page file; `out` is as it was, but where the line is `output failed`, which comes after whatever was written, or
-/// `picture not written`, which comes after the whole table.
+/// Status 0: help, the version, an explanation, a table, a migration, or a run without refused rows. Status 1: a run
+/// with refused rows. Their report, and then the refused rows, are in `out`; `err` is unchanged, except for the
+/// progress of a watched migration or sweep. Status 2: one line in `err` says why there is no report, no table or no
+/// new page file; `out` is unchanged, except where the line is `output failed`, which comes after whatever was written,
+/// or `picture not written`, which comes after the whole table.
 pub fn run_with<R: Files + Clock + Threads + Wait + Sync, I: Read, O: Ports<R>, W: Write, E: Write>(
     rt: &R,
     alloc: Global,

@@ -1,4 +1,4 @@
-//! The scripts of the clients of a trace.
+//! `split`, which splits the rows of a trace into a script for each client.
 ghost use Rattle.std.specs.Prelude.{◌≡◌, ◌≢◌, ◌<◌, ◌++◌, ◌∷◌, ℕ, All, IfOk, OnOk, OnErr, [], length, vec_len};
 ghost use Rattle.bp_workers.specs.Scripts.{list_of, lists};
 ghost use Rattle.bp_run.specs.Scripts.{clients_of, scripts_for};
@@ -7,7 +7,7 @@ use bp_core::Row;
 use bp_page::Refusal;
 use std::alloc::Global;
 
-/// How many clients a run of the rows has: one more than the greatest client number.
+/// Returns the number of clients of a run: one more than the greatest client number.
 pub fn client_count(rows: &[Row]) -> usize
     ensures { result ≡ clients_of rows.now }
 {
@@ -18,7 +18,6 @@ pub fn client_count(rows: &[Row]) -> usize
     greatest as usize + 1
 }
 
-/// So many scripts without rows.
 fn empty_scripts(alloc: Global, clients: usize) -> Result<Vec<Vec<Row>>, Refusal>
     ensures count { IfOk result (λ scripts. vec_len scripts ≡ clients) }
     ensures empty { IfOk result (λ scripts. (c : ℕ) → list_of c (lists scripts.items) ≡ []) }
@@ -31,7 +30,7 @@ fn empty_scripts(alloc: Global, clients: usize) -> Result<Vec<Vec<Row>>, Refusal
     Ok(scripts)
 }
 
-/// Puts a row at the end of its client's script.
+/// Appends a row to its client's script.
 fn add_row(scripts: &mut [Vec<Row>], row: Row) -> Result<(), Refusal>
     requires { row.client < length scripts.old }
     ensures count { length scripts.new ≡ length scripts.old }
@@ -48,8 +47,8 @@ fn add_row(scripts: &mut [Vec<Row>], row: Row) -> Result<(), Refusal>
     Ok(())
 }
 
-/// The rows of each of so many clients, from client 0 on. Each client's stay in order. `OutOfMemory` where there is no
-/// memory for them.
+/// Splits the rows into a script for each of so many clients, from client 0 on. The rows of each client stay in order.
+/// It is `OutOfMemory` where memory is refused.
 pub fn split(alloc: Global, rows: Vec<Row>, clients: usize) -> Result<Vec<Vec<Row>>, Refusal>
     requires { All (λ row. row.client < clients) rows.items }
     ensures scripts { IfOk result (λ scripts.

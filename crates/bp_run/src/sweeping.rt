@@ -1,4 +1,5 @@
-//! A sweep: references over pools of several sizes and several K, the table of what they come to, and its picture.
+//! A sweep: counts the replies to references for several numbers of frames and several K, and writes the table and its
+//! picture.
 ghost use Rattle.std.specs.Prelude.{◌≡◌, ◌≢◌, false, true, IfErr, IfOk, IfSome, None, OnErr, OnOk};
 ghost use Rattle.std.specs.Io.KnownBytes.{Appends};
 ghost use Rattle.bp_charts.specs.Table.{table_text};
@@ -26,7 +27,7 @@ use std::io::{BufReader, Read, Write};
 use std::sync::Wait;
 use std::time::Clock;
 
-/// How the program ends where a list has no references.
+/// Returns the end of the program for a list that could not be read.
 fn no_references(fault: ReferenceFault) -> Ending
     ensures { result ≡ no_references fault }
 {
@@ -36,7 +37,7 @@ fn no_references(fault: ReferenceFault) -> Ending
     }
 }
 
-/// The references of a list with a number a line.
+/// Reads the references of a list with one number a line.
 fn references_in_lines<I: Read>(alloc: Global, reader: &mut I) -> Result<References, Ending>
     ensures read { IfOk result (AreReferencesOf None (I.remaining reader.old)) }
     ensures fault { IfErr result (HasNoReferences None (I.remaining reader.old)) }
@@ -50,7 +51,7 @@ fn references_in_lines<I: Read>(alloc: Global, reader: &mut I) -> Result<Referen
     }
 }
 
-/// The references of a list: of its lines, or of a column where its lines are records.
+/// Reads the references of a list: of its lines, or of a column where it is CSV.
 fn references_from<I: Read>(
     alloc: Global,
     column: Option<usize>,
@@ -69,7 +70,7 @@ fn references_from<I: Read>(
     }
 }
 
-/// The references of the list: of standard input, or of the file at its path.
+/// Reads the references from standard input, or from the file at their path.
 fn references_of<I: Read, R, O: Ports<R>>(
     rt: &R,
     alloc: Global,
@@ -94,7 +95,7 @@ fn references_of<I: Read, R, O: Ports<R>>(
     }
 }
 
-/// Counts the cells: for each number of frames that the words name a pool of each K, and the optimum.
+/// Counts the cells: each number of frames that the words name with each K, and with the optimum.
 fn count<R: Wait, G: Progress>(
     rt: &R,
     alloc: Global,
@@ -115,7 +116,7 @@ fn count<R: Wait, G: Progress>(
     }
 }
 
-/// Counts the cells. Where somebody watches, the error output shows how far it has come.
+/// Counts the cells. Where somebody watches, the error output shows the progress.
 fn count_watched<R: Wait + Clock, E: Write>(
     rt: &R,
     alloc: Global,
@@ -139,7 +140,6 @@ fn count_watched<R: Wait + Clock, E: Write>(
     }
 }
 
-/// Writes the table of these lines.
 fn print_table<W: Write>(lines: &[Line], out: &mut W) -> Result<(), Ending>
     ensures written { OnOk result (Appends (W.contents out.old) (W.contents out.new)
         (table_text lines.now)) }
@@ -151,7 +151,6 @@ fn print_table<W: Write>(lines: &[Line], out: &mut W) -> Result<(), Ending>
     Ok(())
 }
 
-/// Writes a picture into the file at its path.
 fn save<R, O: Ports<R>>(rt: &R, path: &str, bytes: &[u8], ports: &mut O) -> Result<(), Ending>
     ensures saved { OnOk result (O.ways.saves path.now bytes.now true) }
     ensures failed { OnErr result (O.ways.saves path.now bytes.now false) }
@@ -163,7 +162,7 @@ fn save<R, O: Ports<R>>(rt: &R, path: &str, bytes: &[u8], ports: &mut O) -> Resu
     }
 }
 
-/// Writes the table of these lines, and then their picture, where the words ask for one. The picture is made before
+/// Writes the table of these lines, and then their picture, where the words ask for one. The picture is drawn before
 /// anything is written.
 fn write_lines<R, O: Ports<R>, W: Write>(
     rt: &R,
@@ -192,7 +191,7 @@ fn write_lines<R, O: Ports<R>, W: Write>(
     save(rt, path, &picture, ports)
 }
 
-/// Counts the cells, and shows their lines once all are counted.
+/// Counts the cells, and writes the table and the picture once all are counted.
 fn show<R: Wait + Clock, O: Ports<R>, W: Write, E: Write>(
     rt: &R,
     alloc: Global,
@@ -215,13 +214,12 @@ fn show<R: Wait + Clock, O: Ports<R>, W: Write, E: Write>(
     write_lines(rt, alloc, words, &lines, ports, out)
 }
 
-/// Reads the references, counts a cell for each number of frames with each K and for the optimum, writes their table,
-/// and draws its picture where the words ask for one. Where somebody watches, the error output shows how far it has
-/// come.
+/// Reads the references, counts a cell for each number of frames with each K and with the optimum, writes the table,
+/// and draws its picture where the words ask for one. Where somebody watches, the error output shows the progress.
 ///
 /// All references are read before any cell is counted, all cells are counted before the table is written, and the
-/// picture is written last. `PictureNotWritten` comes only where that fails; want of memory for the picture is known
-/// before the table is written.
+/// picture is written last. `PictureNotWritten` comes only where that last step fails; memory for the picture is asked
+/// for before the table is written.
 pub(crate) fn sweep_as_asked<R: Wait + Clock, I: Read, O: Ports<R>, W: Write, E: Write>(
     rt: &R,
     alloc: Global,

@@ -8,7 +8,7 @@ use Rattle.bp_trail.specs.Event.{Grant}
 use Rattle.bp_trail.specs.Trail.{Trail}
 use Rattle.bp_trail.specs.Passes.{passes_out}
 use Rattle.bp_trail.specs.Legal.{is_out}
-use Rattle.bp_trail.specs.Script.{give_back}
+use Rattle.bp_trail.specs.Script.{unfix_of}
 
 -- the name by which a ring is told from every other
 pub record RingName : Type 0 where
@@ -53,7 +53,7 @@ pub record TakesFront (client : ℕ) (ring ring_after : RingView) (start past : 
   pub gave : ring_after.received ≡ ring.received ++ front ∷ []
   pub own : front.client ≡ client
   pub out : is_out front (passes_out start) ≡ true
-  pub back : past ≡ give_back front ∷ start
+  pub back : past ≡ unfix_of front ∷ start
 
 -- it did, or it cannot go back, and all is as it was
 abbrev pub FrontGoesBack : ℕ → RingView → RingView → Trail → Bool → Trail → Type 0
@@ -66,7 +66,7 @@ pub data GoBack (client : ℕ) (start : Trail) : List Grant → Trail → Type 0
   none_taken : GoBack client start [] start
   next_taken : {taken : List Grant} {past : Trail} (g : Grant) → GoBack client start taken past
       → g.client ≡ client → is_out g (passes_out past) ≡ true
-      → GoBack client start (g ∷ taken) (give_back g ∷ past)
+      → GoBack client start (g ∷ taken) (unfix_of g ∷ past)
 
 -- of the passes that are known to wait in a client's ring some went back, at most so many, in order;
 -- where they were fewer, no more can go back

@@ -1,4 +1,5 @@
-//! A board and its lines. What they own is ghost state: no body can pick a list, but by the calls here.
+//! `Board` and `Line`: ghost state that ties each client's list to what the board has of it. No body can change a list
+//! except by the calls here.
 ghost use Rattle.std.specs.Prelude.{◌≡◌, ℕ, List, []};
 ghost use Rattle.bp_trail.specs.Trail.{Trail};
 ghost use Rattle.bp_session_log.specs.Owned.{board_owns, line_owns};
@@ -33,12 +34,12 @@ impl Model for Line {
     ghost also_owns = { λ l. line_owns l.name l.number l.list };
 }
 
-// What they own says nothing of a thread.
+// The ghost state that they own is bound to no thread.
 unsafe impl Send for Board {}
 
 unsafe impl Send for Line {}
 
-/// Which list a value of T stands for, on a board.
+/// The list that a value of T stands for, on a board.
 pub trait Shows<T> {
     ghost shown: { T → Trail };
 }
@@ -47,14 +48,14 @@ impl Board {
     ghost use Rattle.std.specs.Prelude.{◌≡◌, []};
     ghost use Rattle.bp_session_log.specs.Boards.{Opens, Writes};
 
-    /// A board with no line.
+    /// Makes a board with no line.
     pub fn new() -> Board
         ensures { result.lists ≡ [] }
     {
         Board {}
     }
 
-    /// One line more, with no entries.
+    /// Opens one more line, with no entries.
     #[inline(always)]
     pub fn line(&mut self) -> Line
         ensures { Opens self.old self.new result }

@@ -1,4 +1,4 @@
-//! What a session keeps for itself: its own list of entries, with room for all that the list still owes.
+//! `Book`: a client's own list of entries, the passes that it holds, and room for all that the list still owes.
 ghost use Rattle.std.specs.Prelude.{◌≡◌, ◌≤◌, ◌<◌, ◌+◌, ◌-◌, ◌*◌, ◌^◌, ◌∷◌, ◌++◌, [], ◌==◌, true, false, not};
 ghost use Rattle.std.specs.Prelude.{filter, All, Some, None, length, reverse, slice_get, IsOk, IfOk, IsSome, IfSome};
 ghost use Rattle.std.specs.Prelude.{OnOk, OnErr, vec_len, vec_capacity};
@@ -27,7 +27,7 @@ use std::marker::Model;
 /// owes. The entries are with their keeper: in memory, or for the proofs alone.
 ///
 /// Contracts see the client, the bytes of a page, the list, newest first, with what cuts handed out of it, and how much
-/// more room there is than the list owes: for entries, for passes held, and for copies of images; and of a list that
+/// more room there is than the list owes: for entries, for passes held, and for copies of images; and, where the list
 /// takes no memory for its entries, what else may want some.
 #[derive(Drop)]
 pub struct Book<K: ListKeeper> {
@@ -91,7 +91,7 @@ fn make_blanks<K: ListKeeper>(
     Ok(())
 }
 
-/// A copy of an image, made of the last of some blanks.
+/// Copies an image into the last of the blanks, and takes that out.
 fn copied<K: ListKeeper>(blanks: &mut Vec<K::Blank>, image: &Image) -> K::SpareImage
     requires some { 0 < vec_len blanks.old }
     requires sized { All (λ b. K.fits b (length image.now)) blanks.old.items }
@@ -107,7 +107,8 @@ fn copied<K: ListKeeper>(blanks: &mut Vec<K::Blank>, image: &Image) -> K::SpareI
     K::fill(blank, image)
 }
 
-/// How many entries a list with these debts has to have room for before one more event with a mark.
+/// The number of entries for which a list has to have room before one more event with a mark, where it holds so many
+/// passes and tickets. `None` where that overflows.
 fn entries_wanted(held: usize, tickets: usize) -> Option<usize>
     ensures wanted { IfSome result (λ n. n ≡ held + 2 * tickets + 4) }
     ensures counted { held + 2 * tickets + 4 < 2 ^ 64 → IsSome result }
@@ -116,7 +117,7 @@ fn entries_wanted(held: usize, tickets: usize) -> Option<usize>
 }
 
 impl<K: ListKeeper> Book<K> {
-    /// An empty list of this client's, with room for nothing. It takes no memory.
+    /// Makes an empty list of this client, with no room. It takes no memory.
     pub fn new(alloc: Global, geometry: Geometry, client: u8) -> Book<K>
         ensures client { result.client ≡ client }
         ensures size { result.size ≡ geometry.size }
@@ -147,26 +148,25 @@ impl<K: ListKeeper> Book<K> {
         self.left = None;
     }
 
-    /// Where its memory comes from.
     pub fn alloc(&self) -> Global {
         self.alloc
     }
 
-    /// Whose list it is.
     pub fn client(&self) -> u8
         ensures { result ≡ self.now.client }
     {
         self.client
     }
 
-    /// How many passes the list leaves out.
+    /// Returns the number of passes that the list leaves out.
     pub fn held_count(&self) -> usize
         ensures { result ≡ length (held_passes self.now.said) }
     {
         self.held.len()
     }
 
-    /// Of the passes that the list leaves out, the one taken first. All are the client's own.
+    /// Returns the pass taken first of those that the list leaves out, or `None` where there is none. All are the
+    /// client's own.
     pub fn oldest_held(&self) -> Option<PassNote>
         ensures first { result ≡ slice_get (held_passes self.now.said) 0 }
         ensures own { All (λ g. g.client ≡ self.now.client) (held_passes self.now.said) }
@@ -205,7 +205,7 @@ impl<K: ListKeeper> Book<K> {
         Ok(())
     }
 
-    /// A copy of an image, made of a blank.
+    /// Copies an image into a blank.
     fn copy_of(&mut self, image: &Image) -> K::SpareImage
         requires size { length image.now ≡ self.old.size }
         requires room { 0 < self.old.copies }

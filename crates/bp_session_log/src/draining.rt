@@ -1,4 +1,4 @@
-//! The passes that clients posted by their rings go back to a core.
+//! `drain_all`: gives back to a core the passes that clients posted by their rings.
 ghost use Rattle.std.specs.Prelude.{◌≡◌, ◌<◌, map, length, true, IsTrue};
 ghost use Rattle.rtrb.specs.Ring.{known_items};
 ghost use Rattle.bp_trail.specs.Clock.{durable};
@@ -10,11 +10,11 @@ use rtrb::Consumer;
 /// The most passes that are taken from a ring at once, which is as many as it holds.
 pub const RING: usize = 32;
 
-/// The word by which each ring is asked.
+/// The word by which `drain_all` asks each ring.
 pub const ALL: u64 = u64::MAX;
 
-/// Gives the front pass of a client's ring back, and takes it out of the ring. One that is not this client's, or that is
-/// not out, stays in the ring, and nothing changes.
+/// Gives the front pass of a client's ring back, and takes it out of the ring. Returns false where it is not this
+/// client's, or is not out: then it stays in the ring, and nothing changes.
 fn give_front_back<K: Keeper>(
     core: &mut PoolCore<K>,
     client: usize,
@@ -94,8 +94,8 @@ fn drain_asked<K: Keeper>(
 }
 
 /// Drains each ring that is to be asked, and each in which a pass is known to wait, the first client's first, at most
-/// 32 passes each. Bit c of the word stands for the ring of client c. A pass leaves its ring only as it goes back to the
-/// core: one that is not that client's, or that is not out, stays there, with those behind it. It takes no memory.
+/// 32 passes each. Bit c of the word stands for the ring of client c. A pass leaves its ring only as it goes back to
+/// the core: one that is not that client's, or that is not out, stays there, with those behind it. It takes no memory.
 pub fn drain_all<K: Keeper>(
     core: &mut PoolCore<K>,
     consumers: &mut Vec<Consumer<PassNote>>,

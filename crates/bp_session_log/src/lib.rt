@@ -1,4 +1,4 @@
-//! What a client of a shared pool keeps for itself: a list of its own entries, with room for all that the list owes.
+//! A client's own list of its entries in a shared pool, with room for all that the list owes.
 //!
 //! A [`Book`] asks a core for one event at a time, and puts the entry that the core's trail gets into the client's list
 //! too. Device work that the event began is a [`PendingRead`] or a [`PendingWrite`], which only its end takes. The

@@ -1,4 +1,4 @@
-//! Device work that is under way, as a client of a shared pool has it.
+//! `PendingRead` and `PendingWrite`: a client's device work that is under way; and the results of a fix and of a flush.
 ghost use Rattle.std.specs.Prelude.{◌≡◌};
 
 use bp_core::{Pass, ReadTicket, WriteTicket};
@@ -32,7 +32,7 @@ impl Model for PendingWrite {
     ghost view = { λ p. p.ticket };
 }
 
-/// What a fix gave a client.
+/// The result of a fix.
 pub enum Fix {
     /// A pass of the page.
     Hit(Pass),
@@ -42,7 +42,7 @@ pub enum Fix {
     WriteFirst(PendingWrite),
 }
 
-/// What a flush gave a client.
+/// The result of a flush.
 pub enum Flush {
     /// The page is saved.
     Clean,
@@ -53,7 +53,6 @@ pub enum Flush {
 }
 
 impl PendingRead {
-    /// The page to read.
     pub fn page(&self) -> PageNo
         ensures { result ≡ self.now.page }
     {
@@ -62,21 +61,19 @@ impl PendingRead {
 }
 
 impl PendingWrite {
-    /// The page to write.
     pub fn page(&self) -> PageNo
         ensures { result ≡ self.now.page }
     {
         self.ticket.page()
     }
 
-    /// The image to write.
     pub fn image(&self) -> &Image
         ensures { result.now ≡ self.now.image }
     {
         self.ticket.image()
     }
 
-    /// The page LSN when the write-out began.
+    /// Returns the page LSN when the write-out began.
     pub fn lsn(&self) -> Lsn
         ensures { result ≡ self.now.lsn }
     {

@@ -1,4 +1,4 @@
-//! Which clients posted passes since the rings were last drained.
+//! `Posted`: the clients that posted passes since the rings were last drained.
 use std::sync::atomic::{AtomicU64, Ordering};
 
 /// Up to so many rings are looked at one by one.
@@ -18,7 +18,7 @@ pub struct Posted {
 }
 
 impl Posted {
-    /// Nobody posted. There are at most 64 clients.
+    /// Starts with no client that posted. There are at most 64 clients.
     pub fn nothing(clients: u8) -> Posted {
         Posted {
             has_many: clients > FEW,
@@ -26,7 +26,7 @@ impl Posted {
         }
     }
 
-    /// The client's ring has one more pass.
+    /// Tells that the client's ring has one more pass.
     pub fn tell(&self, client: u8) {
         if self.has_many {
             let bit = 1u64.wrapping_shl(u32::from(client));
@@ -34,8 +34,8 @@ impl Posted {
         }
     }
 
-    /// The rings that a section is to ask, bit c for client c: those told of since the last time, or all where there
-    /// are few.
+    /// Takes the rings that a section is to ask, bit c for client c: those told of since the last time, or all where
+    /// there are few.
     pub fn take(&self) -> u64 {
         if !self.has_many {
             return u64::MAX;

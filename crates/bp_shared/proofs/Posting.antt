@@ -12,7 +12,7 @@ use Rattle.rtrb.specs.Ring.{received}
 use Rattle.bp_trail.specs.Event.{Grant}
 use Rattle.bp_trail.specs.declared.entries.Entry.{Entry}
 use Rattle.bp_trail.specs.Trail.{Trail}
-use Rattle.bp_trail.specs.Script.{give_back}
+use Rattle.bp_trail.specs.Script.{unfix_of}
 use Rattle.bp_trail.specs.Clients.{of_client}
 use Rattle.bp_trail.proofs.Comparing.{of_client-append, of_client-hit, of_client-miss}
 use Rattle.bp_core.specs.CoreView.{CoreView}
@@ -45,31 +45,31 @@ grew_by_none piece said after grows same =
     nil_from_length (unfixes piece) (omega (arith, long, length-append (unfixes piece) (unfixes said)))
 
 -- ---- a ring was drained
-went : (k : ℕ) (start : Trail) (taken : List Grant) (past : Trail) → GoBack k start taken past → past ≡ map give_back taken ++ start
+went : (k : ℕ) (start : Trail) (taken : List Grant) (past : Trail) → GoBack k start taken past → past ≡ map unfix_of taken ++ start
 went k start _ _ none_taken = refl
-went k start _ _ (next_taken {taken} {past} g before own out) = ap (λ es. give_back g ∷ es) (went k start taken past before)
+went k start _ _ (next_taken {taken} {past} g before own out) = ap (λ es. unfix_of g ∷ es) (went k start taken past before)
 
 owned : (k : ℕ) (start : Trail) (taken : List Grant) (past : Trail) → GoBack k start taken past → All (λ (g : Grant). g.client ≡ k) taken
 owned k start _ _ none_taken = All-nil (λ (g : Grant). g.client ≡ k)
 owned k start _ _ (next_taken {taken} {past} g before own out) = All-cons (λ (g : Grant). g.client ≡ k) g taken own (owned k start taken past before)
 
-own_unfixed : (k : ℕ) (gs : List Grant) → All (λ (g : Grant). g.client ≡ k) gs → unfixed k (map give_back gs) ≡ gs
+own_unfixed : (k : ℕ) (gs : List Grant) → All (λ (g : Grant). g.client ≡ k) gs → unfixed k (map unfix_of gs) ≡ gs
 own_unfixed k [] own = refl
 own_unfixed k (g ∷ gs) own =
-    ap unfixes (of_client-hit k (give_back g) (map give_back gs) (All-head (λ (g : Grant). g.client ≡ k) g gs own))
+    ap unfixes (of_client-hit k (unfix_of g) (map unfix_of gs) (All-head (λ (g : Grant). g.client ≡ k) g gs own))
     ∙ ap (λ xs. g ∷ xs) (own_unfixed k gs (All-tail (λ (g : Grant). g.client ≡ k) g gs own))
 
-others_unfixed : (k c : ℕ) (gs : List Grant) → c ≢ k → All (λ (g : Grant). g.client ≡ k) gs → unfixed c (map give_back gs) ≡ []
+others_unfixed : (k c : ℕ) (gs : List Grant) → c ≢ k → All (λ (g : Grant). g.client ≡ k) gs → unfixed c (map unfix_of gs) ≡ []
 others_unfixed k c [] apart own = refl
 others_unfixed k c (g ∷ gs) apart own =
-    ap unfixes (of_client-miss c (give_back g) (map give_back gs) (λ is. apart (sym is ∙ All-head (λ (g : Grant). g.client ≡ k) g gs own)))
+    ap unfixes (of_client-miss c (unfix_of g) (map unfix_of gs) (λ is. apart (sym is ∙ All-head (λ (g : Grant). g.client ≡ k) g gs own)))
     ∙ others_unfixed k c gs apart (All-tail (λ (g : Grant). g.client ≡ k) g gs own)
 
 same_view : (old new : CoreView) (past : Trail) → new.parameters ≡ old.parameters → new.before ≡ old.before → new.past ≡ past → new ≡ record old { past = past }
 same_view old new past parameters before is = λ k. record { parameters = parameters k; before = before k; past = is k }
 
 pub takes_back : (k : ℕ) (old new : CoreView) (taken : List Grant) → new.parameters ≡ old.parameters → new.before ≡ old.before → GoBack k old.past taken new.past → TakesBack k old new
-takes_back k old new taken parameters before b = record { passes = taken; own = owned k old.past taken new.past b; is = same_view old new (map give_back taken ++ old.past) parameters before (went k old.past taken new.past b) }
+takes_back k old new taken parameters before b = record { passes = taken; own = owned k old.past taken new.past b; is = same_view old new (map unfix_of taken ++ old.past) parameters before (went k old.past taken new.past b) }
 
 -- ---- all rings were drained
 record Drew (first : ℕ) (rings rings_after : List RingView) (start past : Trail) : Type 0 where
@@ -100,8 +100,8 @@ one_drew : (first : ℕ) (ring ring_after : RingView) (rings rings_after : List 
     → GoBack first start taken mid → Drew (suc first) rings rings_after mid past → Drew first (ring ∷ rings) (ring_after ∷ rings_after) start past
 one_drew first ring ring_after rings rings_after taken start mid past same gave a b = record {
   names = ap (λ n. n ∷ map (λ (r : RingView). r.name) rings_after) same ∙ ap (λ ns. ring.name ∷ ns) b.names;
-  back = b.back ++ map give_back taken;
-  goes_on = b.goes_on ∙ ap (λ es. b.back ++ es) (went first start taken mid a) ∙ sym (append_assoc b.back (map give_back taken) start);
+  back = b.back ++ map unfix_of taken;
+  goes_on = b.goes_on ∙ ap (λ es. b.back ++ es) (went first start taken mid a) ∙ sym (append_assoc b.back (map unfix_of taken) start);
   out = out;
   came = λ c. came c (ℕ_discrete c first);
   all = λ c. all c (ℕ_discrete c first);
@@ -128,12 +128,12 @@ one_drew first ring ring_after rings rings_after taken start mid past same gave 
     mine c is = b.all c ∙ nil_front (b.out c) (came_out (suc first) rings c) (sym (b.came c) ∙ came_out_below rings_after (suc first) c (omega (arith, is)))
 
     -- so what it gave back it gave back by its own ring, and each other one by a later ring
-    all : (c : ℕ) → Dec (c ≡ first) → unfixed c (b.back ++ map give_back taken) ≡ out c
+    all : (c : ℕ) → Dec (c ≡ first) → unfixed c (b.back ++ map unfix_of taken) ≡ out c
     all c (yes is) =
-        unfixed-append c b.back (map give_back taken) ∙ ap (λ gs. gs ++ unfixed c (map give_back taken)) (mine c is)
-        ∙ ap (λ d. unfixed d (map give_back taken)) is ∙ own_unfixed first taken own ∙ sym (at c first taken (b.out c) is)
+        unfixed-append c b.back (map unfix_of taken) ∙ ap (λ gs. gs ++ unfixed c (map unfix_of taken)) (mine c is)
+        ∙ ap (λ d. unfixed d (map unfix_of taken)) is ∙ own_unfixed first taken own ∙ sym (at c first taken (b.out c) is)
     all c (no apart) =
-        unfixed-append c b.back (map give_back taken) ∙ ap (λ gs. unfixed c b.back ++ gs) (others_unfixed first c taken apart own) ∙ append-nil (unfixed c b.back)
+        unfixed-append c b.back (map unfix_of taken) ∙ ap (λ gs. unfixed c b.back ++ gs) (others_unfixed first c taken apart own) ∙ append-nil (unfixed c b.back)
         ∙ b.all c ∙ sym (not_at c first taken (b.out c) apart)
 
 drew : (most first : ℕ) (rings rings_after : List RingView) (start past : Trail) → DrainsRings most first rings rings_after start past → Drew first rings rings_after start past
@@ -227,9 +227,9 @@ unfixed_whole past client posted u = ap (unfixed client) (u.goes_on ∙ append-n
 -- what another client gives back
 pub unfixed_still : (start : Trail) (c client : ℕ) (old new : CoreView) (posted : List Grant) → client ≢ c → IsUnfixedBy start old.past client posted → TakesBack c old new → IsUnfixedBy start new.past client posted
 unfixed_still start c client old new posted apart u b = record {
-  since = map give_back b.passes ++ u.since;
-  goes_on = ap (λ (core : CoreView). core.past) b.is ∙ ap (λ es. map give_back b.passes ++ es) u.goes_on ∙ sym (append_assoc (map give_back b.passes) u.since start);
-  all = unfixed-append client (map give_back b.passes) u.since ∙ ap (λ gs. gs ++ unfixed client u.since) (others_unfixed c client b.passes apart b.own) ∙ u.all;
+  since = map unfix_of b.passes ++ u.since;
+  goes_on = ap (λ (core : CoreView). core.past) b.is ∙ ap (λ es. map unfix_of b.passes ++ es) u.goes_on ∙ sym (append_assoc (map unfix_of b.passes) u.since start);
+  all = unfixed-append client (map unfix_of b.passes) u.since ∙ ap (λ gs. gs ++ unfixed client u.since) (others_unfixed c client b.passes apart b.own) ∙ u.all;
 }
 
 -- rings as their taking ends see them
@@ -259,9 +259,9 @@ pub posted_one : (names : List RingName) (start : Trail) (rings : List RingView)
     → v.received ≡ (get_or rings i d).received ++ reverse taken → GoBack i past taken after → IsPosted names start (set rings i v) after
 posted_one names start rings past after i v d taken p below name received b = record {
   names_are = same_name_at rings i v d below name ∙ p.names_are;
-  since = map give_back taken ++ p.since;
-  goes_on = went i past taken after b ∙ ap (λ es. map give_back taken ++ es) p.goes_on ∙ sym (append_assoc (map give_back taken) p.since start);
-  all = λ c. unfixed-append c (map give_back taken) p.since ∙ ap (λ gs. unfixed c (map give_back taken) ++ gs) (p.all c) ∙ each c (ℕ_discrete c i);
+  since = map unfix_of taken ++ p.since;
+  goes_on = went i past taken after b ∙ ap (λ es. map unfix_of taken ++ es) p.goes_on ∙ sym (append_assoc (map unfix_of taken) p.since start);
+  all = λ c. unfixed-append c (map unfix_of taken) p.since ∙ ap (λ gs. unfixed c (map unfix_of taken) ++ gs) (p.all c) ∙ each c (ℕ_discrete c i);
 }
   where
     own : All (λ (g : Grant). g.client ≡ i) taken
@@ -277,8 +277,8 @@ posted_one names start rings past after i v d taken p below name received b = re
         ∙ ap (λ (r : RingView). reverse r.received) (sym (get_or-set_same rings i v d below))
         ∙ sym (out_at (set rings i v) (subst (λ n. i < n) (sym (length-set rings i v)) below))
 
-    each : (c : ℕ) → Dec (c ≡ i) → unfixed c (map give_back taken) ++ came_out 0 rings c ≡ came_out 0 (set rings i v) c
-    each c (yes is) = subst (λ n. unfixed n (map give_back taken) ++ came_out 0 rings n ≡ came_out 0 (set rings i v) n) (sym is) (ap (λ gs. gs ++ came_out 0 rings i) (own_unfixed i taken own) ∙ mine)
+    each : (c : ℕ) → Dec (c ≡ i) → unfixed c (map unfix_of taken) ++ came_out 0 rings c ≡ came_out 0 (set rings i v) c
+    each c (yes is) = subst (λ n. unfixed n (map unfix_of taken) ++ came_out 0 rings n ≡ came_out 0 (set rings i v) n) (sym is) (ap (λ gs. gs ++ came_out 0 rings i) (own_unfixed i taken own) ∙ mine)
     each c (no apart) = ap (λ gs. gs ++ came_out 0 rings c) (others_unfixed i c taken apart own) ∙ sym (other_came_out rings i 0 c v (λ is. apart (omega (arith, is))))
 
 -- a client's ring, by the number of the client

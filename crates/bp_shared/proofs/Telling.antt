@@ -14,7 +14,7 @@ use Rattle.bp_trail.specs.declared.entries.Entry.{Entry}
 use Rattle.bp_trail.specs.Event.{Grant}
 use Rattle.bp_trail.specs.Trail.{Trail}
 use Rattle.bp_trail.specs.Pieces.{by}
-use Rattle.bp_trail.specs.Script.{give_back}
+use Rattle.bp_trail.specs.Script.{unfix_of}
 use Rattle.bp_core.specs.declared.passes.Pass.{Pass}
 use Rattle.bp_core.specs.declared.passes.ReadTicket.{ReadTicket}
 use Rattle.bp_core.specs.declared.passes.WriteTicket.{WriteTicket}
@@ -79,7 +79,7 @@ more_unfixes start mid past a b = record {
 pub went_back : (client : ℕ) (start : Trail) (taken : List Grant) (past : Trail) → GoBack client start taken past → AddsUnfixes start past
 went_back client start _ _ none_taken = no_unfixes start
 went_back client start _ _ (next_taken {taken} {past} g before own out) =
-    more_unfixes start past (give_back g ∷ past) (went_back client start taken past before) (record { back = give_back g ∷ []; goes_on = refl; untold = refl })
+    more_unfixes start past (unfix_of g ∷ past) (went_back client start taken past before) (record { back = unfix_of g ∷ []; goes_on = refl; untold = refl })
 
 pub drained_unfixes : (most client : ℕ) (rings rings_after : List RingView) (start past : Trail) → DrainsRings most client rings rings_after start past → AddsUnfixes start past
 drained_unfixes most client _ _ start _ none_left = no_unfixes start
@@ -290,13 +290,13 @@ told_still start past after client said t d = record {
   theirs = ap (of_client client) (told-append d.back t.since ∙ ap (λ es. es ++ told t.since) d.untold) ∙ t.theirs;
 }
 
-pub backs_untold : (gs : List Grant) → told (map give_back gs) ≡ []
+pub backs_untold : (gs : List Grant) → told (map unfix_of gs) ≡ []
 backs_untold [] = refl
 backs_untold (g ∷ gs) = backs_untold gs
 
 pub told_taken_back : (start : Trail) (c client : ℕ) (old new : CoreView) (said : Trail) → IsToldBy start old.past client said → TakesBack c old new → IsToldBy start new.past client said
 told_taken_back start c client old new said t b =
-    told_still start old.past new.past client said t (record { back = map give_back b.passes; goes_on = ap (λ (core : CoreView). core.past) b.is; untold = backs_untold b.passes })
+    told_still start old.past new.past client said t (record { back = map unfix_of b.passes; goes_on = ap (λ (core : CoreView). core.past) b.is; untold = backs_untold b.passes })
 
 -- since a pool was made over a core that had said nothing, the whole trail was told
 pub told_whole : (past : Trail) (client : ℕ) (said : Trail) → IsToldBy [] past client said → of_client client (told past) ≡ told said
@@ -338,4 +338,4 @@ earlier_seen board old new had has past e w = record { board_is = w.name ∙ e.b
         subst (λ l. GoesOnFrom l past) (sym (ap (λ ls. get_or ls n []) w.lists ∙ get_or-set_other old.lists had.number n past [] apart)) (e.each n)
 
 pub goes_on_taken : (c : ℕ) (start : Trail) (old new : CoreView) → GoesOnFrom start old.past → TakesBack c old new → GoesOnFrom start new.past
-goes_on_taken c start old new s b = goes_on_more start old.past new.past (map give_back b.passes) s (ap (λ (core : CoreView). core.past) b.is)
+goes_on_taken c start old new s b = goes_on_more start old.past new.past (map unfix_of b.passes) s (ap (λ (core : CoreView). core.past) b.is)

@@ -7,7 +7,7 @@ use Rattle.bp_trail.specs.Event.{Grant}
 use Rattle.bp_trail.specs.Lists.{some}
 use Rattle.bp_trail.specs.Trail.{Trail}
 use Rattle.bp_trail.specs.Passes.{pass_of}
-use Rattle.bp_trail.specs.Script.{give_back}
+use Rattle.bp_trail.specs.Script.{unfix_of}
 use Rattle.bp_trail.specs.Clients.{of_client}
 use Rattle.bp_core.specs.CoreView.{CoreView}
 use Rattle.bp_session_log.specs.Books.{unfixes}
@@ -56,7 +56,7 @@ pub record IsUnfixedBy (start past : Trail) (client : ℕ) (posted : List Grant)
 pub record TakesBack (client : ℕ) (old new : CoreView) : Type 0 where
   pub passes : List Grant
   pub own : All (λ g. g.client ≡ client) passes
-  pub is : new ≡ record old { past = map give_back passes ++ old.past }
+  pub is : new ≡ record old { past = map unfix_of passes ++ old.past }
 
 -- the passes that a client holds by its list: those that it was given and did not give back
 abbrev pub held_by : Trail → List Grant

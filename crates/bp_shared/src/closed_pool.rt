@@ -1,4 +1,4 @@
-//! A pool that is shared no more.
+//! `ClosedPool`: a pool that is shared no more, at which sessions end before its core is taken out.
 use crate::locked_pool::LockedPool;
 use crate::names::PoolName;
 use crate::session::Session;
@@ -35,7 +35,7 @@ impl<N: PoolName, K: ListKeeper> ClosedPool<N, K> {
     ghost use Rattle.bp_shared.specs.Posting.{IsUnfixedBy, TakesBack};
     ghost use Rattle.bp_shared.specs.Telling.{GoesOnFrom, IsToldBy};
 
-    /// A pool whose state nobody else has.
+    /// Makes a closed pool of a state that nobody else has.
     pub(crate) fn new(mark: Mark, state: LockedPool<N, K>) -> ClosedPool<N, K>
         requires mark { mark ≡ N.mark }
         ensures core { result ≡ state.core }
@@ -43,20 +43,18 @@ impl<N: PoolName, K: ListKeeper> ClosedPool<N, K> {
         ClosedPool { mark, state }
     }
 
-    /// Ends a session and gives what it kept for itself, as [`Session::into_book`] does. It takes no memory.
+    /// Ends a session and returns its book, as [`Session::into_book`] does. It takes no memory.
     ///
-    /// What the session's list told is what the core's trail tells of its client since the pool was made, entry by
-    /// entry and with nothing between. Unfixes are left out of that: a pass is posted at once, and goes back when its
-    /// ring is next drained. Of these it says that the passes which went back are those that the client posted, all of
-    /// them, in that order, and no other. What still waits in the session's ring goes back here, and the core does
-    /// nothing else: in the trail of a pool whose sessions end one by one, each has its own, and no end adds to another
-    /// client's.
+    /// The session's list and the core's trail since the pool was made have the same entries of its client, in the same
+    /// order, except for unfixes: a pass is posted at once, and goes back when its ring is next drained. The passes
+    /// that went back are those that the client posted, all of them and no other, in that order. What still waits in
+    /// the session's ring goes back here, and the core does nothing else: no end adds to another client's entries.
     ///
-    /// What the session saw of the trail is the older part of it: so what `next_unsaved`, `redo_from` and `stats` told
-    /// is so of entries that the pool had, with all that the client had told by then.
+    /// What the session saw of the trail is the older part of it: so the answers of `next_unsaved`, `redo_from` and
+    /// `stats` hold of a trail that the pool had, with all entries of the client until then, except unfixes.
     ///
     /// So this core gave each answer that the list has, the client has no other entry, and a page is pinned while its
-    /// client's list holds a pass of it. A refusal that adds no entry is not bound by it.
+    /// client's list holds a pass of it. Nothing is promised of a refusal that adds no entry.
     pub fn end_session(&mut self, session: Session<N, K>) -> Book<K>
         ensures takes { TakesBack session.client self.old self.new }
         ensures client { result.client ≡ session.client }
@@ -69,8 +67,8 @@ impl<N: PoolName, K: ListKeeper> ClosedPool<N, K> {
         self.state.end_session(session)
     }
 
-    /// Gives back the core, the mark and its reader. It neither waits nor takes memory. The core's trail goes on from
-    /// all that the taker was handed, and from what it had when the pool was made.
+    /// Ends the pool and returns the core, the mark and its reader. It neither waits nor takes memory. The core's trail
+    /// goes on from all that the taker was handed, and from what it had when the pool was made.
     pub fn into_core(self, taker: Taker<N>) -> (PoolCore<K>, Mark, Reader)
         ensures core { result.0 ≡ self }
         ensures goes_on { GoesOnFrom N.past result.0.past }

@@ -1,4 +1,4 @@
-//! What the clauses of a session's calls come to. The functions do nothing: their contracts are the laws.
+//! Laws that follow from the clauses of a session's calls. The functions do nothing: their contracts are the laws.
 ghost use Rattle.std.specs.Prelude.{◌≡◌, ℕ, ◌<◌, true};
 ghost use Rattle.bp_trail.specs.Event.{Grant};
 ghost use Rattle.bp_trail.specs.Trail.{Trail};
@@ -24,8 +24,8 @@ pub fn held_pages_are_pinned()
         is_out g (held_by said) ≡ true → 0 < pins past g.page }
 {}
 
-/// A flush of all that ended well left out no page. Of each a flush was answered, which the list has, or the session saw
-/// a trail meanwhile in which it was not unsaved.
+/// A `flush_all` that ended well left out no page: the list has a flush of the page that was answered, or the session
+/// saw a trail meanwhile in which the page was not unsaved.
 pub fn flush_all_reaches_each_page()
     ensures each { (o : Pool) (old new : SessionValue) (page : ℕ) → FlushedAll o old new
         → page < o.parameters.pages → Reaches page old new }

@@ -4,13 +4,13 @@
 //! is done outside the lock (Gray and Reuter, chapter 13). A pass goes back through the session's own ring, with no
 //! lock.
 //!
-//! The lists of the sessions are bound to the trail of the core, whether some memory has them or not: a session that
-//! ends at a [`ClosedPool`] told what the trail tells of its client since the pool was made, and nothing else. An unfix
-//! may stand at another place in the two. So unfixes are compared by themselves, and are the same, in the same order.
+//! The lists of the sessions are bound to the trail of the core, whether some memory has them or not: when a session
+//! ends at a [`ClosedPool`], its list and the trail since the pool was made have the same entries of its client, in the
+//! same order. An unfix may stand at another place in the two: so unfixes are compared by themselves, and are the same,
+//! in the same order.
 #![tactic(auto)]
 
 pub mod closed_pool;
-mod giving;
 pub mod laws;
 mod locked_pool;
 mod locking;
@@ -25,7 +25,6 @@ mod trail_ring;
 use bp_keeper::SilentKeeper;
 pub use bp_trail::Flushed;
 pub use closed_pool::ClosedPool;
-pub use giving::give_back;
 pub use log_writer::LogWriter;
 pub use names::PoolName;
 pub use parts::Parts;

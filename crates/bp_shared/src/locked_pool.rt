@@ -1,4 +1,5 @@
-//! What lies under the lock: the core, its reader of the mark, and the ends of the rings at which passes come out.
+//! `LockedPool`: the core, its reader of the mark, and the ends of the rings at which passes come out, all under one
+//! lock.
 use crate::names::PoolName;
 use crate::session::{Past, Session, Told};
 use crate::taker::Taker;
@@ -15,21 +16,21 @@ mod cut_section;
 mod observing;
 mod turns;
 
-/// What lies under the lock. Its trail is legal, by the core's own type; the reader is the mark's, and has seen every
-/// LSN that the core was told.
+/// The pool as one thread sees it while it holds the lock. Its trail is legal, by the core's own type; the reader is
+/// the mark's, and has seen every LSN that the core was told.
 #[derive(Drop)]
 pub(crate) struct LockedPool<N: PoolName, K: ListKeeper> {
     core: PoolCore<K>,
     reader: Reader,
     /// The ring of each client.
     consumers: Vec<Consumer<PassNote>>,
-    /// How often device work ended.
+    /// The number of ends of device work, modulo 2^64.
     ends: u64,
-    /// Where the trail is handed out.
+    /// The ring's end at which pieces of the trail go in.
     pieces: Producer<Vec<Entry>>,
-    /// What each session's list told.
+    /// The entries of each session's list, except unfixes.
     board: Board,
-    /// What each session saw of the trail.
+    /// The trail as each session saw it last.
     seen: Board,
     of: PhantomData<N>,
 }
@@ -70,7 +71,7 @@ impl<N: PoolName, K: ListKeeper> LockedPool<N, K> {
     ghost use Rattle.bp_shared.specs.Taking.{IsEmptied};
     ghost use Rattle.bp_shared.specs.Telling.{AreEarlier, GoesOnFrom, IsShown, IsToldBy};
 
-    /// A core whose rings gave nothing yet.
+    /// Makes the locked state of a core, whose rings gave nothing yet.
     pub(crate) fn new(
         core: PoolCore<K>,
         reader: Reader,
@@ -106,7 +107,6 @@ impl<N: PoolName, K: ListKeeper> LockedPool<N, K> {
         }
     }
 
-    /// How often device work ended, modulo 2^64.
     pub(crate) fn ends(&self) -> u64
         ensures { result ≡ self.now.ends }
     {
@@ -121,8 +121,8 @@ impl<N: PoolName, K: ListKeeper> LockedPool<N, K> {
         drain_all(&mut self.core, &mut self.consumers, asked);
     }
 
-    /// Gives each pass back that waits in the client's own ring. By the list, which gave each back while it held it,
-    /// none of them is one that is not out.
+    /// Gives each pass back that waits in the client's own ring. Each of them is out: the list gave it back while it
+    /// held it.
     fn take_back_posted(&mut self, book: &Book<K>, producer: &mut Producer<PassNote>)
         requires client_in { book.now.client < N.parameters.clients }
         requires ring { slice_index_or N.ring.rings book.now.client (ring_of producer.old)
@@ -142,8 +142,8 @@ impl<N: PoolName, K: ListKeeper> LockedPool<N, K> {
         self.core.keeps_the_rules();
     }
 
-    /// Ends a session and gives its book. The passes that it posted have gone back then, and its list is what the trail
-    /// tells of its client.
+    /// Ends a session and returns its book. The passes that it posted have gone back then, and its list has the same
+    /// entries of its client as the trail.
     pub(crate) fn end_session(&mut self, session: Session<N, K>) -> Book<K>
         ensures takes { TakesBack session.client self.old.core self.new.core }
         ensures client { result.client ≡ session.client }
@@ -167,7 +167,7 @@ impl<N: PoolName, K: ListKeeper> LockedPool<N, K> {
         book
     }
 
-    /// The core and its reader. The taker has all that the core handed out.
+    /// Returns the core and its reader. The taker has all that the core handed out.
     pub(crate) fn into_parts(self, taker: Taker<N>) -> (PoolCore<K>, Reader)
         ensures before { result.0.before ≡ taker.past }
         ensures reader { result.1.mark ≡ N.mark }

@@ -1,4 +1,4 @@
-//! The one who says how far the log of a pool is durable.
+//! `LogWriter`: raises a pool's mark, up to which its log is durable.
 ghost use Rattle.std.specs.Prelude.{◌≡◌};
 
 use crate::names::PoolName;
@@ -28,7 +28,7 @@ impl<N: PoolName> Model for LogWriter<N> {
 impl<N: PoolName> LogWriter<N> {
     ghost use Rattle.std.specs.Prelude.{◌≡◌, max};
 
-    /// The writer over a log end of the pool's mark.
+    /// Makes the writer of a log end of the pool's mark.
     pub fn new(end: LogEnd) -> LogWriter<N>
         requires mark { end.mark ≡ N.mark }
         ensures { result ≡ end.frontier }
@@ -39,7 +39,7 @@ impl<N: PoolName> LogWriter<N> {
         }
     }
 
-    /// The greatest LSN that the mark was raised to, or 0.
+    /// Returns the greatest LSN that the mark was raised to, or 0.
     pub fn durable(&self) -> Lsn
         ensures { result ≡ self.now }
     {
@@ -57,7 +57,7 @@ impl<N: PoolName> LogWriter<N> {
         self.end.raise(pool.mark(), lsn);
     }
 
-    /// The log end, with which the pool's mark is to be closed.
+    /// Ends the writer and returns the log end, with which the pool's mark is to be closed.
     pub fn into_log_end(self) -> LogEnd
         ensures mark { result.mark ≡ N.mark }
         ensures frontier { result.frontier ≡ self }

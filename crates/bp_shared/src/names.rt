@@ -1,8 +1,8 @@
-//! What the parts of one pool agree on.
+//! `PoolName`: the ghost name by which the parts of one pool belong together.
 use std::marker::Brand;
 
-/// What the locked core, the sessions and the mark of one pool agree on. It has no functions: a program names `Brand`,
-/// and each call picks what it stands for.
+/// The name of one pool, on which its locked core, its sessions and its mark agree. It has no functions: a program
+/// names `Brand`, and each call picks what it stands for.
 pub trait PoolName {
     ghost use Rattle.bp_mark.specs.Marks.{MarkName};
     ghost use Rattle.bp_trail.specs.Parameters.{Parameters};
@@ -11,9 +11,9 @@ pub trait PoolName {
 
     // The mark.
     ghost mark: { MarkName };
-    // What the core was made with.
+    // The core's parameters.
     ghost parameters: { Parameters };
-    // What earlier cuts had handed out of the core's trail.
+    // The part of the core's trail that was handed out before the pool was made.
     ghost before: { Trail };
     // The core's trail when the pool was made.
     ghost past: { Trail };

@@ -1,4 +1,4 @@
-//! What a pool is made of besides its core.
+//! `Parts`: the mark and the rings that a pool needs besides its core.
 ghost use Rattle.std.specs.Prelude.{◌≡◌};
 
 use crate::trail_ring::TrailRing;
@@ -17,9 +17,7 @@ pub struct Parts {
     pub reader: Reader,
     /// The ring by which the trail goes to its taker, a piece at a time, and that of each session.
     pub ring: TrailRing,
-    /// The log end is of this mark.
     pub ghost end_is: { end.mark ≡ mark },
-    /// The reader is of this mark.
     pub ghost reader_is: { reader.mark ≡ mark },
 }
 
@@ -27,8 +25,8 @@ impl Parts {
     ghost use Rattle.std.specs.Prelude.{◌≡◌, IfOk, OnErr, length};
     ghost use Rattle.bp_page.specs.declared.refusals.Refusal.TheVariants as Refusal;
 
-    /// The parts of a pool of so many clients: a mark at 0, of which the reader has seen nothing, and rings that nothing
-    /// went through. Where there is no memory this is `OutOfMemory`, and nothing is made.
+    /// Makes the parts of a pool of so many clients: a mark at 0, of which the reader has seen nothing, and rings that
+    /// nothing went through. Where there is no memory this is `OutOfMemory`, and nothing is made.
     pub fn new(alloc: Global, clients: u8) -> Result<Parts, Refusal>
         ensures log_end { IfOk result (λ parts.
             parts.end ≡ record { mark = parts.mark; frontier = 0 }) }

@@ -1,4 +1,4 @@
-//! The pool: a core behind a lock, and the mark that it looks at.
+//! `SharedPool`: a core behind a lock, the mark that it looks at, and the calls of its sessions.
 ghost use Rattle.std.specs.Prelude.{◌≡◌, ◌≢◌, [], All, map, length, IfOk, OnOk, OnErr};
 ghost use Rattle.bp_page.specs.declared.refusals.Refusal.TheVariants as Refusal;
 ghost use Rattle.bp_session_log.specs.Rings.{ring_of};
@@ -32,7 +32,7 @@ mod pieces;
 mod single;
 mod source;
 
-/// A session for each client, with the next line of both boards and the posting end of its ring, in order.
+/// Makes a session for each client, with the next line of both boards and the posting end of its ring, in order.
 fn new_clients<N: PoolName, K: ListKeeper>(
     alloc: Global,
     geometry: Geometry,
@@ -83,9 +83,9 @@ pub struct SharedPool<N: PoolName, K: ListKeeper = RecordingKeeper> {
     state: Mutex<LockedPool<N, K>>,
     /// Where sessions wait for the end of device work.
     ended: Condvar,
-    /// Whose rings have passes that no section asked for.
+    /// The clients whose rings have passes that no section asked for.
     posted: Posted,
-    /// How many entries the trail may have.
+    /// The room of the core's trail, so that a cut can reserve it without the lock.
     room: usize,
 }
 
@@ -108,8 +108,8 @@ impl<N: PoolName, K: ListKeeper> SharedPool<N, K> {
     ghost use Rattle.bp_shared.specs.Sessions.{new_sessions, UnfixSaid};
     ghost use Rattle.bp_shared.specs.Telling.{GoesOnFrom};
 
-    /// A pool over a core, and one session for each client, in order. The reader is the mark's, and has seen what the
-    /// core was told.
+    /// Makes a pool over a core, one session for each client, in order, and the taker of its trail. The reader is the
+    /// mark's, and has seen what the core was told.
     ///
     /// `BadClient` where the rings are not made for as many clients as the core has; else `OutOfMemory`. All that was
     /// given is dropped then.
@@ -168,7 +168,7 @@ impl<N: PoolName, K: ListKeeper> SharedPool<N, K> {
         Ok((pool, sessions, Taker::new(taken)))
     }
 
-    /// The pool's mark, for the log writer to raise. It neither waits nor takes memory.
+    /// Lends the pool's mark, which the log writer raises. It neither waits nor takes memory.
     pub fn mark(&self) -> &Mark
         ensures { result.now ≡ N.mark }
     {
@@ -187,14 +187,39 @@ impl<N: PoolName, K: ListKeeper> SharedPool<N, K> {
         ensures outcome { UnfixSaid session.old pass result session.new }
     {
         let client = session.client();
-        let posted = session.post(pass);
+        let posted = session.unfix(pass);
         if posted.is_ok() {
             self.posted.tell(client);
         }
         posted
     }
 
-    /// Drains the rings, and does nothing else. It takes no memory.
+    /// Gives a pass back as `unfix` does. Where the session's ring is full all rings are drained first, for which the
+    /// lock is taken once.
+    ///
+    /// `UnknownPass` as from `unfix`; `RingFull` where the ring is full even then. Both hand the pass back and change
+    /// nothing that the session tells.
+    pub fn unfix_draining<R: Wait>(
+        &self,
+        rt: &R,
+        session: &mut Session<N, K>,
+        pass: Pass,
+    ) -> Result<(), (Pass, Refusal)>
+        ensures client { session.new.client ≡ session.old.client }
+        ensures before { session.new.before ≡ session.old.before }
+        ensures seen { session.new.seen ≡ session.old.seen }
+        ensures outcome { UnfixSaid session.old pass result session.new }
+    {
+        match self.unfix(session, pass) {
+            Err((pass, Refusal::RingFull)) => {
+                self.settle(rt);
+                self.unfix(session, pass)
+            }
+            outcome => outcome,
+        }
+    }
+
+    /// Drains the rings, by which the passes that wait there go back to the core. It takes no memory.
     pub fn settle<R: Wait>(&self, rt: &R) {
         locked(rt, &self.state).drain(ALL);
     }
@@ -242,9 +267,9 @@ impl<N: PoolName, K: ListKeeper> SharedPool<N, K> {
         ClosedPool::new(mark, state)
     }
 
-    /// Ends the pool, and with it what binds the lists of its sessions to its trail: closes it, and gives back the
-    /// core, the mark and its reader. It neither waits nor takes memory. The core's trail goes on from all that the
-    /// taker was handed.
+    /// Ends the pool, and with it what binds the lists of its sessions to its trail: closes it, and returns the core,
+    /// the mark and its reader. It neither waits nor takes memory. The core's trail goes on from all that the taker was
+    /// handed.
     pub fn finish(self, taker: Taker<N>) -> (PoolCore<K>, Mark, Reader)
         ensures goes_on { GoesOnFrom N.past result.0.past }
         ensures before { result.0.before ≡ taker.past }

@@ -1,4 +1,4 @@
-//! One client's end of a pool.
+//! `Session`: one client's end of a pool, with the client's own list of entries.
 mod list_pieces;
 
 use crate::names::PoolName;
@@ -10,7 +10,7 @@ use rtrb::{Producer, PushError};
 use std::alloc::Global;
 use std::marker::{Model, PhantomData};
 
-/// The list of a book as it stands on a pool's board.
+/// The list of a book as it stands on a pool's board: its entries, except unfixes.
 pub(crate) struct Told;
 
 impl<K: ListKeeper> Shows<Book<K>> for Told {
@@ -66,7 +66,7 @@ impl<N: PoolName, K: ListKeeper> Model for Session<N, K> {
     } };
 
     // The ring is the client's; the passes posted are those of the list's own unfixes, in order, each of which the list
-    // held; the line has what else the list told.
+    // held; the line has the other entries of the list.
     ghost invariant = { λ s. (s.book.client < N.parameters.clients)
         × (s.book.size ≡ N.parameters.size)
         × (sent s.producer ≡ reverse (unfixes s.book.said))
@@ -85,7 +85,7 @@ impl<N: PoolName, K: ListKeeper> Session<N, K> {
     ghost use Rattle.bp_shared.specs.Sessions.{UnfixSaid};
     ghost use Rattle.bp_shared.specs.Telling.{IsLineOf};
 
-    /// A session that said nothing yet.
+    /// Makes a session with an empty list.
     pub(crate) fn new(
         alloc: Global,
         geometry: Geometry,
@@ -121,21 +121,21 @@ impl<N: PoolName, K: ListKeeper> Session<N, K> {
         }
     }
 
-    /// Whose session it is.
     pub fn client(&self) -> u8
         ensures { result ≡ self.now.client }
     {
         self.book.client()
     }
 
-    /// How many passes the list gave and did not give back.
+    /// Returns the number of passes that the session holds: its list was given them and did not give them back.
     pub fn held_count(&self) -> usize
         ensures { result ≡ length (held_passes self.now.said) }
     {
         self.book.held_count()
     }
 
-    /// Of the passes that the list gave and did not give back, the one taken first. All are the client's own.
+    /// Returns the pass taken first of those that the session holds, or `None` where it holds none. All are the
+    /// client's own.
     pub fn oldest_held(&self) -> Option<PassNote>
         ensures first { result ≡ slice_get (held_passes self.now.said) 0 }
         ensures own { All (λ g. g.client ≡ self.now.client) (held_passes self.now.said) }
@@ -143,8 +143,7 @@ impl<N: PoolName, K: ListKeeper> Session<N, K> {
         self.book.oldest_held()
     }
 
-    /// Ends the session and gives what it kept for itself: its own list, and the passes that it holds. It takes no
-    /// memory.
+    /// Ends the session and returns its book: its own list, and the passes that it holds. It takes no memory.
     pub fn into_book(self) -> Book<K>
         ensures client { result.client ≡ self.client }
         ensures before { result.before ≡ self.before }
@@ -163,7 +162,7 @@ impl<N: PoolName, K: ListKeeper> Session<N, K> {
     /// Puts a pass on the ring, with no lock and no memory. Where the list does not give it, or gives it back already,
     /// this is `UnknownPass`; where the ring has 32 passes in it, `RingFull`. Both hand the pass back, and change
     /// nothing.
-    pub(crate) fn post(&mut self, pass: Pass) -> Result<(), (Pass, Refusal)>
+    pub(crate) fn unfix(&mut self, pass: Pass) -> Result<(), (Pass, Refusal)>
         ensures client { self.new.client ≡ self.old.client }
         ensures before { self.new.before ≡ self.old.before }
         ensures seen { self.new.seen ≡ self.old.seen }

@@ -1,12 +1,11 @@
-//! The one who takes a pool's trail, piece by piece.
+//! `Taker`: takes a pool's trail, piece by piece.
 use crate::names::PoolName;
 use bp_core::Entry;
 use rtrb::Consumer;
 use std::alloc::Global;
 use std::marker::{Model, PhantomData};
 
-/// The one who takes a pool's trail: each piece that it is handed goes on from the one before. Each pool has exactly
-/// one.
+/// Takes a pool's trail: each piece that it is handed goes on from the one before. Each pool has exactly one.
 #[derive(Drop)]
 pub struct Taker<N: PoolName> {
     pub(crate) taken: Consumer<Vec<Entry>>,
@@ -34,7 +33,7 @@ impl<N: PoolName> Taker<N> {
     ghost use Rattle.rtrb.specs.Ring.{received};
     ghost use Rattle.bp_session_log.specs.Rings.{ring_at};
 
-    /// The taker of a pool that handed out nothing yet.
+    /// Makes the taker of a pool that handed out nothing yet.
     pub(crate) fn new(taken: Consumer<Vec<Entry>>) -> Taker<N>
         requires ring { ring_at taken ≡ N.ring.trail }
         requires unused { received taken ≡ [] }

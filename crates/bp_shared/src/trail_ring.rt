@@ -1,4 +1,5 @@
-//! The rings of a pool, which are made before it: that by which its trail goes to its taker, and one for each session.
+//! `TrailRing`: the rings of a pool, which are made before it: that by which its trail goes to its taker, and one for
+//! each session.
 ghost use Rattle.std.specs.Prelude.{◌≡◌, ◌∷◌, ◌++◌, [], IfOk, OnErr, length};
 ghost use Rattle.bp_page.specs.declared.refusals.Refusal.TheVariants as Refusal;
 ghost use Rattle.rtrb.specs.Ring.{sent, received};
@@ -15,15 +16,15 @@ use std::alloc::Global;
 use std::marker::Model;
 
 /// The rings of a pool, made before it: one with room for one piece of a trail, and one for the passes that each client
-/// posts. Contracts see their names, and those of the boards on which the pool's sessions will show their lists and what
-/// they saw of the trail, by which they are told from all others.
+/// posts. Contracts see their names, and those of the boards on which the pool's sessions will show their lists and
+/// what they saw of the trail, by which they are told from all others.
 #[derive(Drop)]
 pub struct TrailRing {
     pub(crate) pieces: Producer<Vec<Entry>>,
     pub(crate) taken: Consumer<Vec<Entry>>,
     pub(crate) board: Board,
     pub(crate) seen: Board,
-    /// Where each client posts its passes, and where they come out.
+    /// The ends at which each client posts its passes, and those at which they come out.
     pub(crate) producers: Vec<Producer<PassNote>>,
     pub(crate) consumers: Vec<Consumer<PassNote>>,
 }
@@ -49,7 +50,7 @@ impl Model for TrailRing {
         × AreRings r.producers.items r.consumers.items };
 }
 
-/// The two ends of a ring for each of so many clients.
+/// Makes a ring for each of so many clients. Returns the ends at which passes go in, and those at which they come out.
 fn session_rings(
     alloc: Global,
     clients: u8,
@@ -76,8 +77,7 @@ impl TrailRing {
     ghost use Rattle.std.specs.Prelude.{◌≡◌, IfOk, OnErr, length};
     ghost use Rattle.bp_page.specs.declared.refusals.Refusal.TheVariants as Refusal;
 
-    /// The rings of a pool of so many clients, through which nothing went. Where there is no memory this is
-    /// `OutOfMemory`.
+    /// Makes the rings of a pool of so many clients. Where there is no memory this is `OutOfMemory`.
     pub fn new(alloc: Global, clients: u8) -> Result<TrailRing, Refusal>
         ensures count { IfOk result (λ ring. length ring.rings ≡ clients) }
         ensures refused { OnErr result (result ≡ Err Refusal.OutOfMemory) }

@@ -1,4 +1,4 @@
-//! One cell of a sweep: the references over one pool.
+//! `count_references`, which runs a list of references over one pool of LRU-K.
 ghost use Rattle.std.specs.Prelude.{◌≡◌, ℕ, ◌<◌, ◌≤◌, ◌^◌, ◌∷◌, ◌++◌, [], List, None, true, false};
 ghost use Rattle.std.specs.Prelude.{All, IfErr, IfOk, OnOk, length};
 ghost use Rattle.bp_core.specs.CoreView.{CoreView, EachPast, with_entry};
@@ -20,10 +20,9 @@ use bp_trail::Totals;
 use std::alloc::Global;
 use std::sync::Wait;
 
-/// The most entries that a core counts.
+/// The room of a cell's core.
 const ROOM: usize = 1 << 61;
 
-/// Ends the read of a page, and counts how it ended.
 fn end_load(
     core: &mut SilentCore,
     ticket: ReadTicket,
@@ -50,7 +49,7 @@ fn end_load(
     }
 }
 
-/// A fix that was refused: it is counted where it is an entry, after which the references go on.
+/// Counts a refused fix that is an entry, so that the references go on. Any other refusal is passed on.
 fn pass_over(refusal: Refusal, totals: &mut Totals) -> Result<Option<Pass>, Refusal>
     requires room { is_passed_over refusal ≡ true → HasRoom totals.old }
     ensures passed { IfOk result (λ pass. (pass ≡ None) × (is_passed_over refusal ≡ true)
@@ -66,7 +65,7 @@ fn pass_over(refusal: Refusal, totals: &mut Totals) -> Result<Option<Pass>, Refu
     }
 }
 
-/// Fixes a page, and counts the replies. There is no pass where the fix was refused or its read failed.
+/// Fixes a page, and counts the replies. It returns no pass where the fix was refused or the read failed.
 fn fix_page<P: Port, R: Wait>(
     rt: &R,
     core: &mut SilentCore,
@@ -96,14 +95,13 @@ fn fix_page<P: Port, R: Wait>(
             let read = port.read(rt, page);
             Ok(end_load(core, ticket, read, totals).ok())
         }
-        // No page was written to, so that none is unsaved.
+        // No page was written to, so no page is unsaved.
         Ok(Fix::WriteFirst(_ticket)) => unreachable!(),
         Err(refusal) => pass_over(refusal, totals),
     }
 }
 
-/// Gives a pass back.
-fn give_back(core: &mut SilentCore, pass: Pass)
+fn unfix(core: &mut SilentCore, pass: Pass)
     requires known { KnowsPass core.old pass }
     ensures entry { core.new ≡ with_entry core.old pass.client
         (call.Unfix pass.serial pass.page) reply.Done }
@@ -114,7 +112,7 @@ fn give_back(core: &mut SilentCore, pass: Pass)
     }
 }
 
-/// One reference: the page is fixed and given back, and the clock moves by one.
+/// Makes one reference: fixes the page, gives it back, and moves the clock on by one.
 fn refer<P: Port, R: Wait>(
     rt: &R,
     core: &mut SilentCore,
@@ -133,12 +131,12 @@ fn refer<P: Port, R: Wait>(
     ensures geometry { P.geometry_of port.new ≡ P.geometry_of port.old }
 {
     if let Some(pass) = fix_page(rt, core, port, page, totals)? {
-        give_back(core, pass);
+        unfix(core, pass);
     }
     core.tick(0, 1)
 }
 
-/// All references, one after the other. Somebody is told each 65,536.
+/// Makes all references, in order. `progress` is told after each 65,536 of them.
 fn refer_all<P: Port, R: Wait, G: Progress>(
     rt: &R,
     core: &mut SilentCore,
@@ -166,7 +164,7 @@ fn refer_all<P: Port, R: Wait, G: Progress>(
     Ok(())
 }
 
-/// Counts a cell as `count_references` does, and tells how far it is.
+/// Counts a cell as `count_references` does, and reports its progress.
 pub(crate) fn count_cell<P: Port, R: Wait, G: Progress>(
     rt: &R,
     alloc: Global,
@@ -192,10 +190,11 @@ pub(crate) fn count_cell<P: Port, R: Wait, G: Progress>(
 }
 
 /// Runs the references over a new pool with this many frames, one client and these settings, each as a fix, an unfix
-/// and a tick, and counts the replies. The port's pages are read and not written. The pool keeps none of its entries.
+/// and a tick, and counts the replies. The port is only read, never written. The pool counts its entries and keeps
+/// none.
 ///
-/// `BadSettings` where the frames are not 1 to 65,536. `OutOfMemory` where the pool can't have its memory; `TrailFull`
-/// and `ClockFull` after some 2^61 entries.
+/// It is `BadSettings` where the frames are not 1 to 65,536, `OutOfMemory` where the pool can't have its memory, and
+/// `TrailFull` or `ClockFull` after some 2^61 entries.
 pub fn count_references<P: Port, R: Wait>(
     rt: &R,
     alloc: Global,

@@ -1,4 +1,4 @@
-//! The cells of a sweep: the references over one pool after the other.
+//! `count_cells`, which counts the cells of a sweep: the references over one pool for each plan.
 ghost use Rattle.std.specs.Prelude.{◌≡◌, ◌≤◌, ◌^◌, IfErr, IfOk, max};
 ghost use Rattle.bp_replacer.specs.Limits.{IsWithinLimits};
 ghost use Rattle.bp_sweep.specs.Cells.{Counted, pool_parameters};
@@ -20,43 +20,41 @@ use std::alloc::Global;
 use std::sync::Wait;
 use thiserror::Error;
 
-/// The bytes of a page.
+/// The page size in bytes, the least there is: no cell looks at the bytes.
 const PAGE_SIZE: usize = 16;
 
-/// The pool of a cell.
+/// The frames and the policy of a cell.
 #[derive(Clone, Copy, Drop)]
 pub struct Plan {
-    /// How many frames the pool has, from 1 to 65,536.
+    /// The number of frames, from 1 to 65,536.
     pub frames: usize,
-    /// Which page leaves.
     pub policy: Policy,
 }
 
-/// Which page leaves where a page comes into a full pool.
+/// The policy that chooses the victim.
 #[derive(Clone, Copy, Drop)]
 pub enum Policy {
-    /// By LRU-K. No page's history is forgotten.
+    /// LRU-K. No page's history is forgotten.
     LruK {
         /// K, from 1 to 16. K 1 is LRU.
         k: usize,
         /// The correlated period in references, from 0 to 2^62.
         correlated: u64,
     },
-    /// The one whose next reference is the farthest, as in Belady's optimum.
+    /// Belady's optimum: the victim is the page whose next reference is the farthest.
     Optimum,
 }
 
-/// Which cell of a sweep was refused, and why.
+/// The first refused cell of a sweep, and the reason.
 #[derive(Clone, Copy, PartialEq, Eq, Debug, Error)]
 #[error("cell {cell}: {refusal}")]
 pub struct CellFault {
     /// The number of the cell, from 1.
     pub cell: u64,
-    /// Why it was refused.
     pub refusal: Refusal,
 }
 
-/// The K of LRU-K.
+/// Returns the K of LRU-K, or None for the optimum.
 fn k_of(policy: &Policy) -> Option<usize>
     ensures { result ≡ k_of policy.now }
 {
@@ -66,7 +64,7 @@ fn k_of(policy: &Policy) -> Option<usize>
     }
 }
 
-/// The line of a plan in the table.
+/// Returns the line of a plan in the table.
 fn line_of(fixes: u64, plan: &Plan, totals: Totals) -> Line
     ensures { result ≡ line_of fixes plan.now totals }
 {
@@ -83,7 +81,7 @@ fn line_of(fixes: u64, plan: &Plan, totals: Totals) -> Line
     }
 }
 
-/// The totals of an optimum, which writes nothing out, and of which nothing fails or is refused.
+/// Returns the totals of the optimum. It writes nothing out, and nothing fails or is refused.
 fn totals_of_best(best: Optimum) -> Totals
     ensures { result ≡ best_totals best }
 {
@@ -97,7 +95,7 @@ fn totals_of_best(best: Optimum) -> Totals
     }
 }
 
-/// A device in memory with a page for each different number, and one page at least.
+/// Makes a device in memory with a page for each different number, and at least one.
 fn device_for(alloc: Global, different: usize) -> Result<MemDevice, Refusal>
     requires few { different ≤ 1048576 }
     ensures pages { IfOk result (λ device. device.pages ≡ max 1 different) }
@@ -110,8 +108,8 @@ fn device_for(alloc: Global, different: usize) -> Result<MemDevice, Refusal>
     MemDevice::new(alloc, geometry)
 }
 
-/// Counts a cell of LRU-K. Its pages are in memory, so that a read fails for want of memory alone: then there are no
-/// totals.
+/// Counts a cell of LRU-K. Its pages are in memory, so a read fails only where memory is refused. Then this is refused
+/// too.
 fn count_pool<R: Wait, G: Progress>(
     rt: &R,
     alloc: Global,
@@ -147,7 +145,6 @@ fn count_pool<R: Wait, G: Progress>(
     Ok(totals)
 }
 
-/// Counts the cell of the optimum.
 fn count_best(alloc: Global, references: &References, frames: usize) -> Result<Totals, Refusal>
     ensures counted { IfOk result (CountsBest frames references.now.pages) }
     ensures fit { IfOk result (λ _. AreFrames frames) }
@@ -161,7 +158,6 @@ fn count_best(alloc: Global, references: &References, frames: usize) -> Result<T
     Ok(totals_of_best(best))
 }
 
-/// Counts the cell of a plan.
 fn count_plan<R: Wait, G: Progress>(
     rt: &R,
     alloc: Global,
@@ -184,14 +180,13 @@ fn count_plan<R: Wait, G: Progress>(
     }
 }
 
-/// Counts the cell of each plan, in order: the references over a new pool with its frames and policy, and the line that
-/// says what it came to. A pool of LRU-K is counted as by `count_references`, over a device in memory of its own, and
-/// the optimum as by `count_optimum`. In no line did a read fail.
+/// Counts the cell of each plan, in order: the references over a new pool with its frames and policy. It returns the
+/// line of each. LRU-K is counted by `count_references`, over a device in memory, and the optimum by `count_optimum`.
+/// No read failed in any line.
 ///
-/// It stops at the first plan that is refused: with `BadSettings` where its frames, K or correlated period are out of
-/// their limits, else as its cell was, with `OutOfMemory`, or `TrailFull` or `ClockFull` after some 2^61 entries.
-/// `OutOfMemory` it is too where a read of the cell failed, for a page in memory is read unless memory is refused; the
-/// cell is then counted to its end before.
+/// It stops at the first refused plan: with `BadSettings` where its frames, K or correlated period are out of their
+/// limits, `OutOfMemory`, or `TrailFull` or `ClockFull` after some 2^61 entries. A read of a page in memory fails only
+/// where memory is refused, so a failed read is `OutOfMemory` too; it is known once its cell is counted to the end.
 pub fn count_cells<R: Wait, G: Progress>(
     rt: &R,
     alloc: Global,

@@ -1,4 +1,4 @@
-//! References in a column of records.
+//! `read_column`, which reads references from a column of CSV records.
 ghost use Rattle.std.specs.Prelude.{◌≡◌, ◌&&◌, nat_eq, true, option_map, IfErr, IfOk, IfSome};
 ghost use Rattle.csv.specs.Reading.{ReadRecord, Ready, error_kind, reader_trim, took_first};
 ghost use Rattle.csv.specs.Records.{fields_of};
@@ -16,7 +16,7 @@ use csv::{ByteRecord, ErrorKind, Reader, ReaderBuilder};
 use std::alloc::Global;
 use std::io::Read;
 
-/// The field of a record in a column, from 1.
+/// Returns the field of a record in a column, counted from 1.
 fn field_in(row: &ByteRecord, column: u32) -> Option<&[u8]>
     ensures { option_map (λ field. field.now) result ≡ field_in column (fields_of row.now) }
 {
@@ -26,7 +26,7 @@ fn field_in(row: &ByteRecord, column: u32) -> Option<&[u8]>
     row.get(column as usize - 1)
 }
 
-/// What a record says in a column, from 1: a number, or why it says none.
+/// Returns the number in a column of a record, or why there is none.
 fn record_said(row: &ByteRecord, column: u32) -> Result<u64, InputFault>
     ensures { result ≡ record_said column (fields_of row.now) }
 {
@@ -36,7 +36,7 @@ fn record_said(row: &ByteRecord, column: u32) -> Result<u64, InputFault>
     }
 }
 
-/// A field without the sign that stands before it.
+/// Returns a field without its sign.
 fn without_sign(field: &[u8]) -> &[u8]
     ensures { result.now ≡ without_sign field.now }
 {
@@ -46,7 +46,7 @@ fn without_sign(field: &[u8]) -> &[u8]
     }
 }
 
-/// Whether a field is a numeral: decimal digits of any value, before which a sign may stand.
+/// Returns true for decimal digits of any value, with or without a sign before them.
 fn is_numeral(field: &[u8]) -> bool
     ensures { result ≡ is_numeral field.now }
 {
@@ -54,7 +54,7 @@ fn is_numeral(field: &[u8]) -> bool
     !digits.is_empty() && digits.iter().all(|byte| byte.is_ascii_digit())
 }
 
-/// Whether the record with this number is a header: it is the first one, and its field in the column is no numeral.
+/// Returns true for the first record if its field in the column is not a numeral.
 fn is_header(line: u64, row: &ByteRecord, column: u32) -> bool
     ensures { result ≡ (nat_eq line 1 && is_title (field_in column (fields_of row.now))) }
 {
@@ -65,7 +65,7 @@ fn is_header(line: u64, row: &ByteRecord, column: u32) -> bool
         }
 }
 
-/// What the record with this number says in a column, which the reader comes to now, and which is then in `row`.
+/// Reads the next record into `row`, and returns what its column says. It returns None at the end.
 fn next_record<R: Read>(
     records: &mut Reader<R>,
     row: &mut ByteRecord,
@@ -88,7 +88,7 @@ fn next_record<R: Read>(
     }
 }
 
-/// As `read_column`, but a read that was interrupted is a fault of the reader.
+/// Reads as `read_column` does, except that an interrupted read is a fault of the reader.
 fn read_records<R: Read + Drop>(
     alloc: Global,
     reader: R,
@@ -115,16 +115,16 @@ fn read_records<R: Read + Drop>(
     unreachable!()
 }
 
-/// The references of a list of CSV records, each the number in this column, from 1. The number is in decimal digits
-/// alone, up to 2^62. Fields are separated by commas and may be quoted, records may differ in length, and lines without
-/// a byte between records are passed over, as are a byte order mark and a header: a first record whose field in the
-/// column is there and is no numeral. A numeral is decimal digits of any value, before which a sign may stand.
+/// Reads references from CSV records: each is the number in this column, counted from 1, in decimal digits alone, up to
+/// 2^62. Fields are separated by commas and may be quoted, and records may differ in length. Empty lines between
+/// records, a byte order mark and a header are skipped. A header is a first record that has the column with no numeral
+/// in it; a numeral is decimal digits of any value, with or without a sign before them.
 ///
-/// A record without such a field is `BadShape`, and one whose field is no number `BadNumber`, where it is not a header;
-/// so is each `BadShape` in column 0, which no record has. The record with the 1,048,577th different number is
-/// `TooManyPages`, and the one after 268,435,456 references `TooLong`, whatever it says. A fault of the reader is
-/// `ReadFault`, and refused memory `OutOfMemory`. A fault tells the number of its record, from 1, the header among
-/// them. A read that was interrupted is made again.
+/// A record without the column is `BadShape`, as is any record for column 0. A field that is no number is `BadNumber`,
+/// where the record is no header. The record with the 1,048,577th different number is `TooManyPages`, and the one after
+/// 268,435,456 references `TooLong`, whatever it says. A fault of the reader is `ReadFault`, and refused memory
+/// `OutOfMemory`. Each fault has the number of its record, from 1, where a header counts. An interrupted read is made
+/// again.
 pub fn read_column<R: Read + Drop>(
     alloc: Global,
     reader: R,

@@ -1,4 +1,4 @@
-//! References whose numbers were made dense.
+//! `References`, a list of references whose pages are numbered from 0 without gaps.
 ghost use Rattle.std.specs.Prelude.{◌≡◌, ◌<◌, ◌≤◌, [], ℕ, List, All};
 ghost use Rattle.bp_sweep.specs.Dense.{IsIndex, PlacesNumber};
 ghost use Rattle.bp_sweep.specs.Gathering.{Gathers, Holds, IsGathered, pages_gathered};
@@ -9,14 +9,14 @@ use std::alloc::Global;
 use std::collections::HashMap;
 use std::marker::Model;
 
-/// The most references of a list.
+/// The most references that a list may have.
 pub const MAX_REFERENCES: usize = 268_435_456;
 
-/// The most different numbers of a list.
+/// The most different numbers that a list may have.
 pub const MAX_NUMBERS: usize = 1_048_576;
 
-/// A list of references to pages. The pages are numbered from 0 in the order in which they are first referred to, so
-/// that two references have one page exactly where the list had one number for both. It takes four bytes a reference.
+/// A list of references to pages. The pages are numbered from 0 in the order of their first references, so two
+/// references have the same page exactly where the list had the same number. It takes four bytes a reference.
 #[derive(Drop)]
 pub struct References {
     pages: Vec<u32>,
@@ -34,7 +34,6 @@ impl Model for References {
 }
 
 impl References {
-    /// The page of each reference, in their order.
     pub fn pages(&self) -> &[u32]
         ensures pages { result.now ≡ self.now.pages }
         ensures in_range { All (λ page. page < self.now.different) result.now }
@@ -42,7 +41,7 @@ impl References {
         self.pages.as_slice()
     }
 
-    /// How many different pages there are, 1,048,576 at most.
+    /// Returns the number of different pages, at most 1,048,576.
     pub fn different(&self) -> usize
         ensures count { result ≡ self.now.different }
         ensures few { result ≤ MAX_NUMBERS }
@@ -51,7 +50,7 @@ impl References {
     }
 }
 
-/// The page of a number, which gets the next one where it did not come before.
+/// Returns the page of a number. A new number gets the next page.
 fn place_number(places: &mut HashMap<u64, u32>, number: u64) -> Result<u32, InputFault>
     ensures { (seen : List ℕ) → IsIndex places.old seen →
         PlacesNumber number seen result places.new }
@@ -69,7 +68,7 @@ fn place_number(places: &mut HashMap<u64, u32>, number: u64) -> Result<u32, Inpu
     }
 }
 
-/// References while their numbers come in: the pages so far, and the page of each number.
+/// References that are still being read: the pages so far, and the page of each number.
 #[derive(Drop)]
 pub struct Gathered {
     pages: Vec<u32>,
@@ -77,7 +76,6 @@ pub struct Gathered {
 }
 
 impl Gathered {
-    /// Of no numbers.
     pub(crate) fn new(alloc: Global) -> Gathered
         ensures { Holds result [] [] }
     {
@@ -87,7 +85,7 @@ impl Gathered {
         }
     }
 
-    /// Adds the reference of the line with this number, which says a number or why it says none.
+    /// Adds the reference of a line, which says a number or why it says none. At a fault no reference is added.
     pub(crate) fn add(
         &mut self,
         line: u64,
@@ -113,7 +111,6 @@ impl Gathered {
         }
     }
 
-    /// The references of the numbers that came in.
     pub(crate) fn into_references(self) -> References
         requires { IsGathered self }
         ensures { result ≡ pages_gathered self }

@@ -2,8 +2,8 @@
 ghost use Rattle.std.specs.Prelude.{◌≡◌, ◌<◌, ◌↔◌, ℕ, List, All, length, slice_index};
 ghost use Rattle.bp_sweep.specs.Dense.{AreDense};
 
-/// Two references have one page exactly where their numbers are equal. Each has one that is below the number of
-/// different ones, and each page below that is some reference's: so there are as many as different numbers.
+/// Two references have the same page exactly where their numbers are equal. Each page is below the number of different
+/// pages, and each page below that occurs: so there are as many pages as different numbers.
 pub fn one_page_a_number()
     ensures same { (numbers pages seen : List ℕ) (i j : ℕ) → AreDense numbers pages seen →
         i < length numbers → j < length numbers →

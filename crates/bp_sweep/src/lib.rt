@@ -1,4 +1,4 @@
-//! A sweep: the same references over pools of several sizes, for several K of LRU-K, and the optimum beside them.
+//! A sweep: the same references over pools of several sizes, for several K of LRU-K, and for Belady's optimum.
 #![tactic(auto)]
 
 mod cell;

@@ -1,4 +1,4 @@
-//! A list of references: a number a line.
+//! `read_references`, which reads a list of references with one number a line.
 ghost use Rattle.std.specs.Prelude.{◌≡◌, IfErr, IfOk, IfSome};
 ghost use Rattle.std.specs.Io.BufRead.{DropsThrough, strip_last};
 ghost use Rattle.bp_sweep.specs.Lines.{FindsLine, IsList};
@@ -11,7 +11,7 @@ use bp_trace::decimal::parse_number;
 use std::alloc::Global;
 use std::io::{BufRead, ErrorKind};
 
-/// The bytes without the last, where that is this one.
+/// Returns the bytes without this last byte, where they end with it.
 fn without_last(bytes: &[u8], last: u8) -> &[u8]
     ensures { result.now ≡ strip_last last bytes.now }
 {
@@ -21,8 +21,8 @@ fn without_last(bytes: &[u8], last: u8) -> &[u8]
     }
 }
 
-/// What the line with this number says, which the reader comes to now: a number, or that it says none. `text` is used
-/// for its bytes.
+/// Reads the next line, whose number is `line`, and returns what it says. It returns None at the end. `text` is a
+/// buffer.
 fn next_line<I: BufRead>(
     reader: &mut I,
     text: &mut Vec<u8>,
@@ -47,13 +47,13 @@ fn next_line<I: BufRead>(
     }
 }
 
-/// The references of a list with a number a line, in decimal digits alone, up to 2^62. A line ends with `\n` or `\r\n`,
-/// or with the input. It is read line by line, and takes four bytes of memory a reference and a map of the different
-/// numbers. A list without lines has no references.
+/// Reads a list of references with one number a line, in decimal digits alone, up to 2^62. A line ends with `\n`,
+/// `\r\n` or the end of the input. It is read line by line, and takes four bytes of memory a reference and a map of the
+/// different numbers. An empty list has no references.
 ///
 /// The first line that is no number is `BadNumber`, the one with the 1,048,577th different number `TooManyPages`, and
 /// the one after 268,435,456 references `TooLong`, whatever it says. A fault of the reader is `ReadFault`, and refused
-/// memory `OutOfMemory`. After each of them it is not told how much more of the list the reader has taken.
+/// memory `OutOfMemory`. After a fault the reader may be anywhere in the list.
 pub fn read_references<I: BufRead>(
     alloc: Global,
     reader: &mut I,

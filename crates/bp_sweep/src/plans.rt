@@ -1,11 +1,11 @@
-//! The plans of a table, for each number of frames and each K.
+//! `plans_of`, the plans of a sweep: each number of frames with each K, and with the optimum.
 ghost use Rattle.std.specs.Prelude.{◌≡◌, ◌++◌, IfOk, OnOk};
 ghost use Rattle.bp_sweep.specs.Sweeping.{plans_of, plans_with};
 
 use crate::cells::{Plan, Policy};
 use std::alloc::{AllocError, Global};
 
-/// Adds the plans of one number of frames.
+/// Adds the plans for one number of frames.
 fn add_plans(
     plans: &mut Vec<Plan>,
     frames: usize,
@@ -28,9 +28,9 @@ fn add_plans(
     Ok(())
 }
 
-/// The plans of a table: for each number of frames, in order, a pool of LRU-K with each K, in order, and this
-/// correlated period in references, and then the optimum. `AllocError` where there is no memory. Limits are looked at
-/// where the cells are counted.
+/// Returns the plans of a table: for each number of frames, in order, LRU-K with each K, in order, with this correlated
+/// period in references, and then the optimum. It is `AllocError` where memory is refused. Limits are checked where the
+/// cells are counted.
 pub fn plans_of(
     alloc: Global,
     frames: &[usize],

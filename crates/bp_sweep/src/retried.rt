@@ -1,20 +1,19 @@
-//! Reads that are made again where they were interrupted.
+//! `Retried`, a reader that repeats interrupted reads.
 ghost use Rattle.std.specs.Prelude.{◌≡◌};
 
 use std::io;
 use std::io::{ErrorKind, Read};
 
-/// The most calls for one read.
+/// The most calls for one read; after them the read is interrupted.
 const MAX_CALLS: u32 = 134_217_728;
 
-/// A reader whose calls are made again where they were interrupted.
+/// A reader that repeats interrupted reads.
 #[derive(Drop)]
 pub(crate) struct Retried<R: Read + Drop> {
     reader: R,
 }
 
 impl<R: Read + Drop> Retried<R> {
-    /// The reader, with its calls made again.
     pub(crate) fn new(reader: R) -> Retried<R>
         ensures { result.reader ≡ reader }
     {

@@ -1,4 +1,4 @@
-//! What is wrong with a trace or a list of references, and why a trace has no script.
+//! `InputFault`, what is wrong with a trace or a list of references, and `TraceFault`, which adds the row.
 ghost use Rattle.std.specs.Prelude.{◌≡◌};
 ghost use Rattle.bp_trace.specs.Faults.{fault_number};
 ghost use Rattle.bp_trace.specs.Script.{fault};
@@ -6,32 +6,32 @@ ghost use Rattle.bp_trace.specs.Script.{fault};
 use std::alloc::AllocError;
 use thiserror::Error;
 
-/// What is wrong with a trace, or with a list of references: with a record or a line of it, or with the whole.
+/// What is wrong with a trace or a list of references: with one record or line, or with the whole.
 #[derive(Clone, Copy, PartialEq, Eq, Debug, Error)]
 pub enum InputFault {
     /// The references are of more than 1,048,576 different pages.
     #[error("the references are of too many different pages")]
     TooManyPages,
-    /// The memory that reading needs could not be had.
+    /// Memory was refused.
     #[error("out of memory")]
     OutOfMemory,
-    /// The record has not six fields, or one that its operation has no use for is not empty. Of references: it has no
-    /// such field.
+    /// The record does not have six fields, or a field that its operation does not use is not empty. In a list of
+    /// references: the record lacks the field.
     #[error("a record does not have the fields of its operation")]
     BadShape,
-    /// The client is no number from 0 to 63, or in a `log` row not 0.
+    /// The client is not a number from 0 to 63, or in a `log` row not 0.
     #[error("no client has this number here")]
     BadClient,
-    /// The word of the operation is none of the eight.
+    /// The word of the operation is not one of the eight.
     #[error("no operation has this name")]
     BadOp,
-    /// A page, offset, LSN, number of ticks or reference is no decimal number within its limits.
+    /// A page, offset, LSN, number of ticks or reference is not a decimal number within its limits.
     #[error("a field is not a number within the limits")]
     BadNumber,
-    /// The digits of the bytes are odd in number, or one of them is none of 0 to 9, a to f, A to F.
+    /// The number of hex digits is odd, or one of them is not 0 to 9, a to f or A to F.
     #[error("the bytes are not pairs of hexadecimal digits")]
     BadHex,
-    /// The file has no such page, or the last byte would stand past the end of the page.
+    /// The file has no such page, or the last byte would be past the end of the page.
     #[error("the page is not of the file, or the bytes are not within the page")]
     OutOfPage,
     /// The trace has more than 262,144 rows or 67,108,864 bytes, or the list more than 268,435,456 references.
@@ -53,7 +53,7 @@ impl From<AllocError> for InputFault {
 }
 
 impl InputFault {
-    /// Its number, which reports and messages print. What `Refusal` has too has one number in both.
+    /// Returns the number that reports and messages print. A fault that `Refusal` has too has the same number there.
     pub fn number(self) -> u16
         ensures { result ≡ fault_number self }
     {
@@ -72,8 +72,7 @@ impl InputFault {
     }
 }
 
-/// Why there is no script: the number of the fault, and the record that it is of, from 1. Row 0 is the trace as a
-/// whole.
+/// Why a trace has no script: the number of the fault, and the record with the fault.
 #[derive(Clone, Copy, PartialEq, Eq, Debug, Error)]
 #[error("trace row {row} refused {number}")]
 pub struct TraceFault {
@@ -84,7 +83,6 @@ pub struct TraceFault {
 }
 
 impl TraceFault {
-    /// The fault of a record, or of the trace as a whole where the row is 0.
     pub fn new(row: u64, why: InputFault) -> TraceFault
         ensures { result ≡ fault row why }
     {

@@ -1,4 +1,4 @@
-//! The fields of a record, and what one field says.
+//! `Fields`, the six fields of a record as text, and the calls that parse one field.
 ghost use Rattle.std.specs.Prelude.{◌≡◌, option_map};
 ghost use Rattle.csv.specs.Records.{fields_of};
 ghost use Rattle.bp_trace.specs.Fields.{Gives, bytes_wanted, client_in, number_wanted, page_in, six_of, texts_of};
@@ -10,27 +10,25 @@ use csv::ByteRecord;
 use hex::FromHexError;
 use std::alloc::Global;
 
-/// The greatest number of a client.
 const MAX_CLIENT: u64 = 63;
 
-/// The six fields of a record as they stand, unchecked. This is what each has in a good one, where it is not empty.
+/// The six fields of a record, not yet checked. Each comment says what a valid field holds where it is not empty.
 #[derive(Clone, Copy)]
 pub struct Fields<'a> {
     /// The client's number, 0 to 63 in decimal.
     pub client: &'a [u8],
-    /// The word of the op, in lower case.
+    /// The word of the operation, in lower case.
     pub op: &'a [u8],
-    /// The page's number, the ticks or the log's LSN, as the op has it, in decimal.
+    /// The page's number, the number of ticks or the LSN of the log, in decimal.
     pub number: &'a [u8],
-    /// Where in the page a write begins, in bytes and in decimal.
+    /// The offset of a write in its page, in bytes, in decimal.
     pub offset: &'a [u8],
     /// The bytes of a write, as pairs of hex digits.
     pub bytes: &'a [u8],
-    /// The LSN of a write, in decimal.
     pub lsn: &'a [u8],
 }
 
-/// The six fields of a record, if it has six.
+/// Returns the six fields of a record, or None where it does not have exactly six.
 pub fn six_fields(raw: &ByteRecord) -> Option<Fields<'_>>
     ensures { option_map texts_of result ≡ six_of (fields_of raw.now) }
 {
@@ -47,7 +45,7 @@ pub fn six_fields(raw: &ByteRecord) -> Option<Fields<'_>>
     })
 }
 
-/// The number of a client. Anything else is `BadClient`.
+/// Parses the number of a client. Anything else is `BadClient`.
 pub fn parse_client(text: &[u8]) -> Result<u8, InputFault>
     ensures { result ≡ client_in text.now }
 {
@@ -57,14 +55,15 @@ pub fn parse_client(text: &[u8]) -> Result<u8, InputFault>
     }
 }
 
-/// A number that the op needs. Anything else is `BadNumber`.
+/// Parses a number that the operation needs. Anything else is `BadNumber`.
 pub fn wanted_number(text: &[u8]) -> Result<u64, InputFault>
     ensures { result ≡ number_wanted text.now }
 {
     parse_number(text).ok_or(InputFault::BadNumber)
 }
 
-/// A page that the op needs. One that the file does not have is `OutOfPage`.
+/// Parses the number of a page that the operation needs. It is `BadNumber` where it is no number, and `OutOfPage` where
+/// the file has no such page.
 #[tactic(auto, unfolding(crate::specs::Fields::page_in))]
 pub fn wanted_page(geometry: &Geometry, text: &[u8]) -> Result<PageNo, InputFault>
     ensures { result ≡ page_in geometry.now text.now }
@@ -73,7 +72,8 @@ pub fn wanted_page(geometry: &Geometry, text: &[u8]) -> Result<PageNo, InputFaul
     geometry.page(number).ok_or(InputFault::OutOfPage)
 }
 
-/// Bytes as pairs of hex digits of either case. Anything else is `BadHex`, and a refused growth `OutOfMemory`.
+/// Parses bytes as pairs of hex digits of either case. Anything else is `BadHex`; it is `OutOfMemory` where memory is
+/// refused.
 pub fn wanted_bytes(alloc: Global, text: &[u8]) -> Result<Bytes, InputFault>
     ensures { Gives result (bytes_wanted text.now) }
 {

@@ -1,4 +1,4 @@
-//! The bytes of a trace.
+//! `read_all`, which reads the bytes of a trace into memory.
 ghost use Rattle.std.specs.Prelude.{IfSome, OnOk};
 ghost use Rattle.std.specs.Io.KnownBytes.{IsAtEnd};
 ghost use Rattle.bp_trace.specs.Input.{IsInput};
@@ -7,19 +7,17 @@ use crate::faults::{InputFault, TraceFault};
 use std::alloc::Global;
 use std::io::{ErrorKind, Read};
 
-/// The most bytes of a trace.
 const MAX_BYTES: usize = 67_108_864;
 
-/// The most read calls for a trace.
 const MAX_READS: u32 = 134_217_728;
 
-/// How many bytes one call asks for.
 const CHUNK: usize = 8192;
 
-/// All the bytes that a reader gives, taken into memory by at most 134,217,728 read calls.
+/// Reads all bytes of a reader into memory, with at most 134,217,728 read calls. A call that was interrupted is made
+/// again.
 ///
-/// More than 67,108,864 bytes are `TooLong`, a fault of the reader and too many calls `ReadFault`, and a refused growth
-/// `OutOfMemory`, each with row 0. A call that was interrupted is made again.
+/// It returns `TooLong` for more than 67,108,864 bytes, `ReadFault` where the reader fails or needs more calls, and
+/// `OutOfMemory` where memory is refused, each with row 0.
 pub fn read_all<R: Read>(alloc: Global, reader: &mut R) -> Result<Vec<u8>, TraceFault>
     ensures bytes { IfSome (R.remaining reader.old) (IsInput result) }
     ensures end { OnOk result (IsAtEnd (R.remaining reader.new)) }

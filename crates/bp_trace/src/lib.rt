@@ -1,5 +1,5 @@
-//! Traces and reports: the bytes of a trace to the rows of a script, and the entries of a trail to the lines of a
-//! report.
+//! Traces and reports: parses the bytes of a trace to the rows of a script, and prints the entries of a trail as the
+//! lines of a report.
 #![tactic(auto)]
 
 pub mod decimal;

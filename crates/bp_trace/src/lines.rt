@@ -1,4 +1,4 @@
-//! The lines of a report.
+//! The lines of a report: one for an eviction, a write-out or a read, and one for a refused row.
 ghost use Rattle.std.specs.Prelude.{◌≡◌, ◌≤◌, length, OnOk};
 ghost use Rattle.std.specs.Io.KnownBytes.{Appends};
 ghost use Rattle.hex.specs.Hex.{encode_lower};
@@ -9,10 +9,10 @@ use bp_trail::{Call, Entry, Refused, Reply};
 use std::io;
 use std::io::Write;
 
-/// How many bytes of an image a report shows.
+/// A report shows at most this many bytes of an image.
 const SHOWN: usize = 16;
 
-/// The number of the page that a call names, or 0 where it names none.
+/// Returns the number of the page that a call names, or 0 where it names none.
 fn page_of(call: &Call) -> u64
     ensures { result ≡ page_of call.now }
 {
@@ -28,7 +28,6 @@ fn page_of(call: &Call) -> u64
     }
 }
 
-/// Writes bytes in lower case hex.
 fn write_hex<W: Write>(bytes: &[u8], writer: &mut W) -> io::Result<()>
     requires { length bytes.now ≤ SHOWN }
     ensures { OnOk result (Appends (W.contents writer.old) (W.contents writer.new)
@@ -40,7 +39,7 @@ fn write_hex<W: Write>(bytes: &[u8], writer: &mut W) -> io::Result<()>
     writer.write_all(text)
 }
 
-/// Writes the line of a read: the client, the page and the first bytes of its image.
+/// Writes the line of a read: the client, the page and the first 16 bytes of its image.
 fn write_read<W: Write>(client: u8, page: u64, image: &[u8], writer: &mut W) -> io::Result<()>
     ensures { OnOk result (Appends (W.contents writer.old) (W.contents writer.new)
         (read_line client page image.now)) }
@@ -51,7 +50,7 @@ fn write_read<W: Write>(client: u8, page: u64, image: &[u8], writer: &mut W) -> 
     writeln!(writer)
 }
 
-/// Writes the line of an event at its time, where it has one. A fault of the writer is passed on.
+/// Writes the line of an entry at its time, or nothing where it has no line. A fault of the writer is passed on.
 pub fn write_event<W: Write>(time: u128, entry: &Entry, writer: &mut W) -> io::Result<()>
     ensures { OnOk result (Appends (W.contents writer.old) (W.contents writer.new)
         (event_line time entry.now)) }
@@ -71,7 +70,6 @@ pub fn write_event<W: Write>(time: u128, entry: &Entry, writer: &mut W) -> io::R
     }
 }
 
-/// Writes the line of a refused row. A fault of the writer is passed on.
 pub fn write_refused<W: Write>(refused: &Refused, writer: &mut W) -> io::Result<()>
     ensures { OnOk result (Appends (W.contents writer.old) (W.contents writer.new)
         (refused_line refused.now)) }

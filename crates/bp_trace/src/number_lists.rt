@@ -6,10 +6,10 @@ ghost use Rattle.bp_trace.specs.NumberLists.{numbers_between, numbers_listed, pa
 use crate::decimal::parse_number;
 use std::alloc::{AllocError, Global};
 
-/// The most numbers of a list.
+/// The most numbers that a list may have.
 pub const MAX_LISTED: usize = 64;
 
-/// The number that a text says, if it says one from `low` to `high`.
+/// Returns the number that a text says, or None where it says none from `low` to `high`.
 fn number_between(text: &str, low: usize, high: usize) -> Option<usize>
     ensures number { result ≡ number_between low high text.now }
     ensures most { IfSome result (λ n. n ≤ high) }
@@ -22,14 +22,13 @@ fn number_between(text: &str, low: usize, high: usize) -> Option<usize>
     }
 }
 
-/// The parts of a text between its commas.
 fn parts_of(alloc: Global, text: &str) -> Result<Vec<&str>, AllocError>
     ensures { IfOk result (λ parts. map (λ part. part.now) parts.items ≡ parts_of text.now) }
 {
     text.split(',').collect(alloc)
 }
 
-/// The numbers that texts say, if each says one from `low` to `high`.
+/// Returns the numbers that texts say, or None where one of them says none from `low` to `high`.
 fn numbers_between(
     alloc: Global,
     parts: &[&str],
@@ -49,7 +48,7 @@ fn numbers_between(
     Ok(Some(numbers))
 }
 
-/// Whether a number stands twice among these.
+/// Returns true if a number occurs twice.
 fn has_repeats(numbers: &[usize]) -> bool
     ensures { result ≡ has_repeats numbers.now }
 {
@@ -63,7 +62,8 @@ fn has_repeats(numbers: &[usize]) -> bool
     false
 }
 
-/// The numbers that a text says with a comma between two, if each says one from `low` to `high`, and no two are equal.
+/// Returns the numbers that a text says, with commas between them. It is None where one is not from `low` to `high`, or
+/// two are equal.
 fn with_commas(
     alloc: Global,
     text: &str,
@@ -86,14 +86,14 @@ fn with_commas(
     Ok(Some(listed))
 }
 
-/// What stands before the first dot of a text, and what stands after it.
+/// Splits a text at its first dot.
 fn cut(text: &str) -> Option<(&str, &str)>
     ensures { option_map (λ p. (p.0.now, p.1.now)) result ≡ cut text.now }
 {
     text.split_once('.')
 }
 
-/// What stands before and after the two dots of a range.
+/// Splits a range at its two dots.
 fn ends_of(text: &str) -> Option<(&str, &str)>
     ensures { option_map (λ p. (p.0.now, p.1.now)) result ≡ ends_of text.now }
 {
@@ -106,7 +106,8 @@ fn ends_of(text: &str) -> Option<(&str, &str)>
     }
 }
 
-/// The numbers from `first` on, each the double of the one before, as long as they are below `last`, and then `last`.
+/// Returns the numbers from `first` on, each the double of the one before, while they are below `last`, and then
+/// `last`.
 fn doubled(alloc: Global, first: usize, last: usize) -> Result<Vec<usize>, AllocError>
     requires { last < 2 ^ 63 }
     ensures { IfOk result (λ numbers. numbers.items ≡ doubled most_listed first last) }
@@ -124,8 +125,8 @@ fn doubled(alloc: Global, first: usize, last: usize) -> Result<Vec<usize>, Alloc
     Ok(numbers)
 }
 
-/// The numbers of a range with these ends, if each says one from `low` to `high`, the first is not 0, and the last is
-/// not below it.
+/// Returns the numbers of a range with these ends. It is None where an end is not from `low` to `high`, the first is 0,
+/// or the last is below the first.
 fn range_between(
     alloc: Global,
     first: &str,
@@ -150,13 +151,12 @@ fn range_between(
     Ok(Some(range))
 }
 
-/// The numbers that a list says, each from `low` to `high`, and no two equal. It is 1 to 64 of them with a comma
-/// between two, or a range `FIRST..LAST`, which says FIRST, its double, the double of that and so on as long as they
-/// are below LAST, and LAST. Each number that stands there has 1 to 19 decimal digits; signs and spaces may not stand
-/// there.
+/// Parses a list of different numbers, each from `low` to `high`. It is 1 to 64 numbers with commas between them, or a
+/// range `FIRST..LAST`: FIRST, its double, the double of that and so on while they are below LAST, and then LAST. Each
+/// number of the text has 1 to 19 decimal digits, without signs or spaces.
 ///
-/// `None` where the text is no such list: it or one of its parts is empty, a part is no number within the limits, there
-/// are too many, a number comes twice, FIRST is 0, or LAST is below FIRST.
+/// It is `None` where the text is no such list: it or a part is empty, a part is no number within the limits, there are
+/// too many numbers, one occurs twice, FIRST is 0, or LAST is below FIRST.
 pub fn numbers_listed(
     alloc: Global,
     text: &str,

@@ -1,4 +1,4 @@
-//! The report of a run.
+//! The report of a run: lines of events, totals, and the lines of refused rows.
 ghost use Rattle.std.specs.Prelude.{◌≡◌, [], IfOk, OnOk};
 ghost use Rattle.std.specs.Io.KnownBytes.{Appends};
 ghost use Rattle.bp_trace.specs.Totals.{totals_text};
@@ -14,7 +14,7 @@ pub use pieces::ReportRun;
 use std::io;
 use std::io::Write;
 
-/// By how many steps a call moves the clock.
+/// Returns the number of ticks by which a call moves the clock.
 fn steps_of(call: &Call) -> u64
     ensures { result ≡ steps_of call.now }
 {
@@ -24,7 +24,7 @@ fn steps_of(call: &Call) -> u64
     }
 }
 
-/// Writes the lines of the events, and counts their replies.
+/// Writes the lines of the entries, and counts their replies.
 fn write_events<W: Write>(entries: &[Entry], writer: &mut W) -> io::Result<Totals>
     ensures lines { OnOk result (Appends (W.contents writer.old) (W.contents writer.new)
         (lines_after [] entries.now)) }
@@ -44,7 +44,7 @@ fn write_events<W: Write>(entries: &[Entry], writer: &mut W) -> io::Result<Total
 /// Writes the report of the entries, oldest first: a line for each eviction, write-out and read, and then the six
 /// totals.
 ///
-/// A fault of the writer is passed on; how much of the report the writer then holds is not told.
+/// A fault of the writer is passed on; the writer may then hold any part of the report.
 pub fn report<W: Write>(entries: &[Entry], writer: &mut W) -> io::Result<()>
     ensures { OnOk result (Appends (W.contents writer.old) (W.contents writer.new)
         (report_text entries.now)) }
@@ -53,9 +53,9 @@ pub fn report<W: Write>(entries: &[Entry], writer: &mut W) -> io::Result<()>
     write_totals(&totals, writer)
 }
 
-/// Writes the six totals of the entries alone.
+/// Writes only the six totals of the entries.
 ///
-/// A fault of the writer is passed on; how much of the totals the writer then holds is not told.
+/// A fault of the writer is passed on; the writer may then hold any part of the totals.
 pub fn report_totals<W: Write>(entries: &[Entry], writer: &mut W) -> io::Result<()>
     ensures { OnOk result (Appends (W.contents writer.old) (W.contents writer.new)
         (totals_text (totals_of entries.now))) }
@@ -66,7 +66,7 @@ pub fn report_totals<W: Write>(entries: &[Entry], writer: &mut W) -> io::Result<
 
 /// Writes a line for each refused row, in the order of the list.
 ///
-/// A fault of the writer is passed on; how many of the lines the writer then holds is not told.
+/// A fault of the writer is passed on; the writer may then hold any part of the lines.
 pub fn report_rows<W: Write>(rows: &[Refused], writer: &mut W) -> io::Result<()>
     ensures { OnOk result (Appends (W.contents writer.old) (W.contents writer.new)
         (rows_text rows.now)) }

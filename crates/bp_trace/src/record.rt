@@ -1,4 +1,4 @@
-//! One record of a trace.
+//! `parse_row`, which turns one record of a trace into a row.
 ghost use Rattle.std.specs.Prelude.{◌≡◌};
 ghost use Rattle.csv.specs.Records.{fields_of};
 ghost use Rattle.bp_trace.specs.Fields.{Gives, texts_of};
@@ -11,7 +11,7 @@ use bp_trail::{Row, Step};
 use csv::ByteRecord;
 use std::alloc::Global;
 
-/// What a record asks for, by its word.
+/// The operation of a record.
 #[derive(Clone, Copy)]
 enum Op {
     Fix,
@@ -24,7 +24,7 @@ enum Op {
     Purge,
 }
 
-/// The op of a word in lower case. Any other word is `BadOp`.
+/// Returns the operation of a word in lower case. Any other word is `BadOp`.
 #[tactic(auto, unfolding(crate::specs::Record::op_in))]
 fn parse_op(text: &[u8]) -> Result<Op, InputFault>
     ensures { result ≡ op_in text.now }
@@ -50,14 +50,14 @@ fn parse_op(text: &[u8]) -> Result<Op, InputFault>
     }
 }
 
-/// Whether the op belongs to the one client that speaks for the log.
+/// Returns true for `log`, which only client 0 may ask for.
 fn is_log(op: Op) -> bool
     ensures { result ≡ is_log op }
 {
     matches!(op, Op::Log)
 }
 
-/// Whether a field that the op leaves empty is not empty.
+/// Returns true if a field that the operation does not use is not empty.
 fn has_extra(op: Op, fields: &Fields<'_>) -> bool
     ensures { result ≡ has_extra op (texts_of fields.now) }
 {
@@ -73,7 +73,7 @@ fn has_extra(op: Op, fields: &Fields<'_>) -> bool
     }
 }
 
-/// A write of these bytes, if it lies within a page of the file. Else it is `OutOfPage`.
+/// Returns a write of these bytes. It is `OutOfPage` where they do not lie within a page of the file.
 fn write_at(
     geometry: &Geometry,
     page: u64,
@@ -94,7 +94,6 @@ fn write_at(
     }
 }
 
-/// The write that the fields say, or the first fault.
 #[tactic(auto, unfolding(crate::specs::Record::write_in))]
 fn parse_write(alloc: Global, geometry: &Geometry, fields: &Fields<'_>) -> Result<Step, InputFault>
     ensures { Gives result (write_in geometry.now (texts_of fields.now)) }
@@ -106,7 +105,6 @@ fn parse_write(alloc: Global, geometry: &Geometry, fields: &Fields<'_>) -> Resul
     write_at(geometry, page, offset, bytes, lsn)
 }
 
-/// What the op asks for, by its own fields.
 #[tactic(auto, unfolding(crate::specs::Record::step_in))]
 fn parse_step(
     alloc: Global,
@@ -128,7 +126,7 @@ fn parse_step(
     }
 }
 
-/// The row that the six fields of the record say, or the first fault.
+/// Returns the row that six fields say, or their first fault.
 #[tactic(auto, unfolding(crate::specs::Record::texts_row))]
 fn parse_fields(
     alloc: Global,
@@ -150,7 +148,7 @@ fn parse_fields(
     Ok(Row { row, client, step })
 }
 
-/// The row that the record of this number says, or the first fault. A refused growth is `OutOfMemory`.
+/// Returns the row that a record says, or its first fault. It is `OutOfMemory` where memory is refused.
 #[tactic(auto, unfolding(crate::specs::Record::row_in))]
 pub fn parse_row(
     alloc: Global,

@@ -1,4 +1,4 @@
-//! The rows of a trace.
+//! `read_script`, which reads a trace whole and parses its rows.
 ghost use Rattle.std.specs.Prelude.{◌≡◌, ◌≤◌, ◌⊎◌, All, IfOk, IfSome, OnOk, length};
 ghost use Rattle.std.specs.Io.KnownBytes.{IsAtEnd};
 ghost use Rattle.csv.specs.Reading.{default_config, error_kind, records, strip_bom};
@@ -14,10 +14,9 @@ use csv::{ByteRecord, Error, ErrorKind, ReaderBuilder};
 use std::alloc::Global;
 use std::io::Read;
 
-/// The most records of a trace.
 const MAX_ROWS: u64 = 262_144;
 
-/// What a failed read of a record is: memory ran out, or the reader failed.
+/// Returns the fault of a record that could not be read: memory was refused, or the reader failed.
 fn fault_of(error: Error) -> TraceFault
     ensures { result ≡ fault 0 (fault_of_kind (error_kind error)) }
 {
@@ -27,7 +26,7 @@ fn fault_of(error: Error) -> TraceFault
     }
 }
 
-/// The fault of a record that says no row. A refused growth is of no record.
+/// Returns the fault of a record. `OutOfMemory` has row 0.
 fn fault_at(row: u64, why: InputFault) -> TraceFault
     ensures { result ≡ fault_at row why }
 {
@@ -37,7 +36,6 @@ fn fault_at(row: u64, why: InputFault) -> TraceFault
     }
 }
 
-/// The rows that the bytes of a trace say, or the first fault.
 fn rows_of(alloc: Global, bytes: &[u8], geometry: &Geometry) -> Result<Vec<Row>, TraceFault>
     ensures { Answers result (script_from geometry.now 1
         (records default_config (strip_bom bytes.now))) }
@@ -74,12 +72,11 @@ fn rows_of(alloc: Global, bytes: &[u8], geometry: &Geometry) -> Result<Vec<Row>,
     Ok(rows)
 }
 
-/// The rows of a trace, or the first fault. The trace is read whole before any record is looked at.
+/// Reads the rows of a trace, or returns the first fault. The trace is read whole before any record is parsed.
 ///
-/// A record is refused by its number from 1, with `BadShape`, `BadClient`, `BadOp`, `BadNumber`, `BadHex` or
-/// `OutOfPage`, or with `TooLong` where it is one past 262,144 records. Of the trace as a whole, by row 0, are
-/// `TooLong` for more than 67,108,864 bytes, `ReadFault` for a reader that fails or takes more than 134,217,728 calls,
-/// and `OutOfMemory`.
+/// The fault of a record has its number, from 1: `BadShape`, `BadClient`, `BadOp`, `BadNumber`, `BadHex` or
+/// `OutOfPage`, or `TooLong` for the record after 262,144. Row 0 has `TooLong` for more than 67,108,864 bytes,
+/// `ReadFault` for a reader that fails or needs more than 134,217,728 calls, and `OutOfMemory`.
 pub fn read_script<R: Read>(
     alloc: Global,
     reader: &mut R,
@@ -89,10 +86,11 @@ pub fn read_script<R: Read>(
         Answers result (script_of geometry.now bytes)) }
     ensures end { OnOk result (IsAtEnd (R.remaining reader.new)) }
 
-    // Also of a reader that does not tell its bytes, the rows are those of some records.
+    // The rows are those of some records, even of a reader whose bytes are not known.
     ensures some { IfOk result (λ rows. IsScriptOfSome geometry.now rows.items) }
 
-    // No more holds of every script: rows that are so read back as themselves, by `laws::written_rows_read_back`.
+    // These three are all that holds of every script: rows with them read back as themselves, by
+    // `laws::written_rows_read_back`.
     ensures few { IfOk result (λ rows. length rows.items ≤ most_rows) }
     ensures numbered { IfOk result (λ rows. AreNumberedFrom 1 rows.items) }
     ensures in_range { IfOk result (λ rows. All (IsInRange geometry.now) rows.items) }

@@ -1,4 +1,4 @@
-//! The lines of the totals of a report.
+//! The six lines of the totals of a report.
 ghost use Rattle.std.specs.Prelude.{OnOk};
 ghost use Rattle.std.specs.Io.KnownBytes.{Appends};
 ghost use Rattle.bp_trace.specs.Totals.{total_line, totals_text};
@@ -7,7 +7,7 @@ use bp_trail::Totals;
 use std::io;
 use std::io::Write;
 
-/// Writes the six lines of the totals. A fault of the writer is passed on; how much of them it then holds is not told.
+/// A fault of the writer is passed on; the writer may then hold any part of the lines.
 pub(crate) fn write_totals<W: Write>(totals: &Totals, writer: &mut W) -> io::Result<()>
     ensures { OnOk result (Appends (W.contents writer.old) (W.contents writer.new)
         (totals_text totals.now)) }
@@ -20,7 +20,6 @@ pub(crate) fn write_totals<W: Write>(totals: &Totals, writer: &mut W) -> io::Res
     write_total("refused", totals.refused, writer)
 }
 
-/// Writes the line of one total.
 #[tactic(auto, unfolding(crate::specs::Totals::total_line))]
 fn write_total<W: Write>(name: &str, count: u64, writer: &mut W) -> io::Result<()>
     ensures { OnOk result (Appends (W.contents writer.old) (W.contents writer.new)

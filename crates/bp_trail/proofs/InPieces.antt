@@ -8,7 +8,7 @@ use Rattle.bp_trail.specs.Lists.{EachEntry}
 use Rattle.bp_trail.specs.Event.{Grant}
 use Rattle.bp_trail.specs.Trail.{Trail}
 use Rattle.bp_trail.specs.Pieces.{Manner}
-use Rattle.bp_trail.specs.Script.{FollowsBy, Follows, GivesBack, give_back}
+use Rattle.bp_trail.specs.Script.{FollowsBy, Follows, GivesBack, unfix_of}
 use Rattle.bp_trail.specs.Script.GivesBack.{none_held, next}
 use Rattle.bp_trail.specs.Clients.{of_client}
 use Rattle.bp_trail.specs.LogBound.{row_at, is_unfix, EntryWithinLog, IsWithinLog}
@@ -91,16 +91,16 @@ in_piece m (row ∷ rows) (end ∷ ends) past newer older e refusals cut is =
     (split newer cut.adds.piece cut.before older e (sym is ∙ cut.adds.grows))
 
 -- an entry that is no unfix was there before the passes went back
-one_sooner : (g : Grant) (past newer rest older : Trail) (e : Entry) → is_unfix e.call ≡ false → give_back g ∷ past ≡ rest ++ e ∷ older → Later newer past older e
+one_sooner : (g : Grant) (past newer rest older : Trail) (e : Entry) → is_unfix e.call ≡ false → unfix_of g ∷ past ≡ rest ++ e ∷ older → Later newer past older e
 one_sooner g past newer [] older e kept is =
-    let same : give_back g ≡ e = cc in
+    let same : unfix_of g ≡ e = cc in
     absurd (true≢false (ap (λ (x : Entry). is_unfix x.call) same ∙ kept))
 one_sooner g past newer (x ∷ rest) older e kept is = record { rest = rest; has = cc }
 
 not_given_back : (past said newer older : Trail) (e : Entry) → GivesBack past said → is_unfix e.call ≡ false → said ≡ newer ++ e ∷ older → Later newer past older e
 not_given_back past said newer older e (none_held none) kept is = record { rest = newer; has = is }
 not_given_back past said newer older e (next g first back) kept is =
-    let h = not_given_back (give_back g ∷ past) said newer older e back kept is in
+    let h = not_given_back (unfix_of g ∷ past) said newer older e back kept is in
     one_sooner g past newer h.rest older e kept h.has
 
 pub bounded_by_its_row : (m : Manner) (script : List Row) (trail newer past said : Trail) (e : Entry) (refusals : List Refused) (cut : Follows m script said refusals) → said ≡ of_client 0 trail → IsWithinLog script cut.ends trail → trail ≡ newer ++ e ∷ past → e.client ≡ 0

@@ -91,14 +91,14 @@ first_to_go_back held = find (λ g. every (λ h. nat_le g.client h.client) held)
 abbrev pub next_to_go_back : Trail → Option Grant
 next_to_go_back past = first_to_go_back (held_passes past)
 
-abbrev pub give_back : Grant → Entry
-give_back g = by g.client (Unfix g.serial g.page) Done
+abbrev pub unfix_of : Grant → Entry
+unfix_of g = by g.client (Unfix g.serial g.page) Done
 
 -- passes go back until none is held
 pub data GivesBack : Trail → Trail → Type 0 where
   none_held : {past : Trail} → passes_out past ≡ [] → GivesBack past past
   next : {past after : Trail} (g : Grant) → next_to_go_back past ≡ Some g
-      → GivesBack (give_back g ∷ past) after → GivesBack past after
+      → GivesBack (unfix_of g ∷ past) after → GivesBack past after
 
 -- the entries follow the script: the pieces of its rows, by one cut, and then the passes still held
 pub record Follows (m : Manner) (script : List Row) (past : Trail)

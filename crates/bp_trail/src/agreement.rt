@@ -1,11 +1,11 @@
-//! Whether what a client says of itself is what the trail has of it.
+//! `agrees`: compares a client's own list with the trail's entries of that client.
 ghost use Rattle.std.specs.Prelude.{◌≡◌, ◌<◌, ◌↔◌, IsTrue, length, slice_index_or};
 ghost use Rattle.bp_trail.specs.Clients.{of_client};
 
 use crate::entries::Entry;
 use crate::sameness::same_entry;
 
-/// Whether this entry stands at the place.
+/// Returns true if the list has this entry at the place.
 fn is_next(said: &[Entry], at: usize, e: &Entry) -> bool
     ensures { IsTrue result ↔ ((at < length said.now) ×
         (slice_index_or said.now at e.now ≡ e.now)) }
@@ -13,8 +13,8 @@ fn is_next(said: &[Entry], at: usize, e: &Entry) -> bool
     at < said.len() && same_entry(&said[at], e)
 }
 
-/// Whether a client's own list has exactly the trail's entries of that client, in their order. Both lists are in the
-/// order of time. It takes no memory.
+/// Returns true if a client's own list has exactly the trail's entries of that client, in their order. Both lists are
+/// oldest first. It takes no memory.
 pub fn agrees(trail: &[Entry], said: &[Entry], client: u8) -> bool
     ensures { IsTrue result ↔ (said.now ≡ of_client client trail.now) }
 {

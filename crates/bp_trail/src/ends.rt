@@ -1,4 +1,5 @@
-//! How device work ends, and a flush by it.
+//! `Ended`, `Flushed` and `NotFlushed`: the results of write-outs and flushes; and how the end of a read that failed is
+//! refused.
 ghost use Rattle.std.specs.Prelude.{◌≡◌};
 ghost use Rattle.bp_trail.specs.Ends.{read_refusal, read_failure, ended_reply, flushed_reply};
 
@@ -6,7 +7,7 @@ use crate::entries::Reply;
 use bp_page::{PageNo, PortFault, Refusal};
 use thiserror::Error;
 
-/// How a write-out ended.
+/// The result of a write-out that ended well.
 #[derive(Clone, Copy, Drop)]
 pub enum Ended {
     /// The page is saved.
@@ -16,7 +17,7 @@ pub enum Ended {
 }
 
 impl Ended {
-    /// The reply of that end's entry.
+    /// Returns the reply in the entry of that end.
     pub fn reply(self) -> Reply
         ensures { result ≡ ended_reply self }
     {
@@ -26,7 +27,7 @@ impl Ended {
         }
     }
 
-    /// What a flush came to whose write-out ended so.
+    /// Returns the result of a flush whose write-out ended so.
     pub fn flushed(self) -> Flushed
         ensures { flushed_reply result ≡ ended_reply self }
     {
@@ -37,7 +38,7 @@ impl Ended {
     }
 }
 
-/// How a page came to be saved, or that it is not here.
+/// The result of a flush.
 #[derive(Clone, Copy, PartialEq, Eq, Debug, Drop)]
 pub enum Flushed {
     /// No write of the page was left to save.
@@ -54,13 +55,11 @@ pub enum Flushed {
 #[derive(Clone, Copy, PartialEq, Eq, Debug, Error, Drop)]
 #[error("page {page} was not flushed: {why}")]
 pub struct NotFlushed {
-    /// The page, whose flush was refused.
     pub page: PageNo,
-    /// Why.
     pub why: Refusal,
 }
 
-/// Why the end of a read that failed so is refused: `WrongPage` where another page was found, and else `ReadFailed`.
+/// Returns the refusal of a read that failed so: `WrongPage` where another page was found, and else `ReadFailed`.
 pub fn refusal_of_read(fault: PortFault) -> Refusal
     ensures { result ≡ read_refusal fault }
 {
@@ -70,7 +69,7 @@ pub fn refusal_of_read(fault: PortFault) -> Refusal
     }
 }
 
-/// The reply of that end's entry.
+/// Returns the reply in the entry of the end of a read that failed so.
 pub fn reply_of_read(fault: PortFault) -> Reply
     ensures { result ≡ read_failure fault }
 {

@@ -2,18 +2,15 @@
 
 use bp_page::{Bytes, Image, Lsn, PageNo};
 
-/// One event of the core: who called, the call, and the reply.
+/// One event of the core: the client that called, the call, and the reply.
 #[derive(PartialEq, Eq, Debug, Drop)]
 pub struct Entry {
-    /// Who called: the number of a client, from 0 to one below the clients of the pool.
+    /// The client that called, from 0 to one below the clients of the pool.
     pub client: u8,
-    /// What was asked for.
     pub call: Call,
-    /// What the core answered.
     pub reply: Reply,
 }
 
-/// A call on the core.
 #[derive(PartialEq, Eq, Debug, Drop)]
 pub enum Call {
     /// The clock moves on by so many ticks, 0 or more.
@@ -26,7 +23,6 @@ pub enum Call {
     ReadEnd {
         /// The serial number of its ticket.
         ticket: u64,
-        /// The page that was read.
         page: PageNo,
         /// The bytes of the page; none where the read failed or found another page.
         image: Option<Image>,
@@ -35,23 +31,20 @@ pub enum Call {
     WriteEnd {
         /// The serial number of its ticket.
         ticket: u64,
-        /// The page that was written.
         page: PageNo,
-        /// Whether the device has the image.
+        /// True if the device has the image.
         good: bool,
     },
     /// The bytes of a pinned page are wanted.
     Read {
         /// The serial number of the pass.
         pass: u64,
-        /// The page of the pass.
         page: PageNo,
     },
     /// Bytes of a pinned page are changed.
     Write {
         /// The serial number of the pass.
         pass: u64,
-        /// The page of the pass.
         page: PageNo,
         /// Where the bytes begin, in bytes from the start of the page.
         offset: u32,
@@ -64,7 +57,6 @@ pub enum Call {
     Unfix {
         /// The serial number of the pass.
         pass: u64,
-        /// The page of the pass.
         page: PageNo,
     },
     /// The page is to be written out, if it is unsaved.
@@ -73,7 +65,7 @@ pub enum Call {
     Purge,
 }
 
-/// What the core answers.
+/// The answer of the core to a call.
 #[derive(PartialEq, Eq, Debug, Drop)]
 pub enum Reply {
     /// A tick, a mark, a write or an unfix was done.
@@ -91,7 +83,6 @@ pub enum Reply {
     WriteFirst {
         /// The serial number of the ticket to write it by.
         ticket: u64,
-        /// The page to be written.
         page: PageNo,
         /// Its bytes, of the page size.
         image: Image,
@@ -127,10 +118,8 @@ pub enum Reply {
 /// A pass or a ticket that was given: to whom, for which page, and its serial number.
 #[derive(Clone, Copy)]
 pub struct Grant {
-    /// The client that has it.
     pub client: u8,
-    /// The page it is for.
     pub page: PageNo,
-    /// How many passes, or how many tickets of both kinds, were given before it.
+    /// The number of passes, or of tickets of both kinds, given before it.
     pub serial: u64,
 }

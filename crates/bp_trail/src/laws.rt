@@ -39,7 +39,7 @@ ghost use Rattle.bp_trail.specs.Sentences.{Lasts, AreAfterLast, IsGreatest, evic
 /// In a legal trail each reply stands with its call: a hit and a load with a fix, a write-out's begin with a fix or
 /// with a flush of that page; a read end is answered with a pass exactly where it brought an image, and else that the
 /// read failed or that it found another page; a write end is good exactly where the write was. The table `can_answer`
-/// has all replies. So each word on one entry says of its call and its reply what it seems to.
+/// has all replies. So each definition on one entry says of its call and its reply what its name says.
 pub fn words_on_entries()
     ensures replies { (c : Parameters) (past : Trail) → Legal c past →
         EachEntry (λ before e. FitsItsCall e) past }
@@ -49,9 +49,8 @@ pub fn words_on_entries()
         EachEntry (λ before e. SaysSo e) past }
 {}
 
-/// The words by which definitions look back over a trail: `since` is that some entry passes one test and no later entry
-/// another; `after_last` is all that came after the last entry that passes; `greatest` is the greatest of some numbers,
-/// or 0.
+/// The definitions that look back over a trail: `since` is that some entry passes one test and no later entry another;
+/// `after_last` is all that came after the last entry that passes; `greatest` is the greatest of some numbers, or 0.
 pub fn words_on_trails()
     ensures since { (start stop : Entry → Bool) (past : Trail) →
         Decides (since start stop past) (Lasts start stop past) }
@@ -189,8 +188,8 @@ pub fn unsaved_since_the_last_good_write_out()
         (durable past) }
 {}
 
-/// Redo has to begin where the least LSN of the unsaved writes is: no page has one where each is saved, no unsaved write
-/// has a lesser one, and the good end of a write-out never lowers it.
+/// Redo has to begin where the least LSN of the unsaved writes is: no page has one where each is saved, no unsaved
+/// write has a lesser one, and the good end of a write-out never lowers it.
 pub fn redo_begins_at_the_least_unsaved_lsn()
     ensures unsaved { (past : Trail) (p : ℕ) → is_some (first_lsn past p) ≡ unsaved past p }
     ensures none { (past : Trail) → ((p : ℕ) → IsFalse (unsaved past p)) → IsRedoFrom past None }
@@ -272,7 +271,8 @@ pub fn serials_out_were_given()
         count (λ g. g.serial == n) (writes_out past) ≤ 1 }
 {}
 
-/// In every legal trail each read end finds known what the device is due to give; and so would each that may come.
+/// In every legal trail the image that the device is due to give is known at each read end, and so it is for each read
+/// that is out.
 pub fn read_ends_find_what_is_due()
     ensures each { (c : Parameters) (past : Trail) → Legal c past → EachEntry FindsDue past }
     ensures out { (c : Parameters) (past : Trail) → Legal c past → ReadsAreKnown past }
@@ -314,8 +314,9 @@ pub fn legal_trails_are_safe()
     ensures { (c : Parameters) (past : Trail) → Legal c past → Safe c past }
 {}
 
-/// A standing decides what may come. Trails that may follow one history may follow each legal one of the same
-/// standing, and lead to the same standing; four numbers tell whether a legal trail leads where no entries do.
+/// A standing decides what may come. Trails that may follow one history may follow each legal one of the same standing,
+/// and lead to the same standing. A legal trail has the standing of no entries where its clock is 1, nothing is
+/// durable, and no pass or ticket was given.
 pub fn standings_decide_what_may_come()
     ensures follows { (c : Parameters) (trail h k : Trail) → Legal c (trail ++ h) → Legal c k →
         standing c h ≡ standing c k → Precedes c (standing c (trail ++ h)) (trail ++ k) }
@@ -333,7 +334,7 @@ pub fn pieces_are_one_legal_trail()
         AfterEach c opening trail (Legal c) → ReadsSince c opening trail }
 {}
 
-/// The entries of one client, in a list that is turned round, are those in the list, turned round.
+/// The entries of one client in a reversed list are the reverse of those in the list.
 pub fn one_client_in_either_order()
     ensures { (client : ℕ) (entries : List Entry) → of_client client (reverse entries) ≡ reverse
         (of_client client entries) }

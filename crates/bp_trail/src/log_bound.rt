@@ -1,4 +1,4 @@
-//! Whether the marks keep to the log rows of client 0.
+//! `is_within_log`: checks that no mark of a run came before client 0 had logged as far.
 ghost use Rattle.std.specs.Prelude.{◌≡◌, ◌≤◌, ◌+◌, ◌==◌, ◌↔◌, false, IsTrue, length, reverse, take, if◌then◌else◌};
 ghost use Rattle.bp_trail.specs.Event.{marked};
 ghost use Rattle.bp_trail.specs.LogBound as bound;
@@ -33,7 +33,7 @@ fn is_unfix(call: &Call) -> bool
     matches!(call, Call::Unfix { .. })
 }
 
-/// The greater of an LSN and of one that may be there.
+/// The greater of the two, or `reached` where there is no `lsn`.
 fn at_least(lsn: Option<Lsn>, reached: Lsn) -> Lsn
     ensures { result ≡ bound.at_least lsn reached }
 {
@@ -60,7 +60,7 @@ fn logged(script: &[Row]) -> Lsn
     reached
 }
 
-/// What has been logged with the row at this place too, where there is one.
+/// The greatest LSN of the log rows up to and with this row, or 0.
 fn logged_with(script: &[Row], row: usize, reached: Lsn) -> Lsn
     requires { reached ≡ bound.logged (take row script.now) }
     ensures { result ≡ bound.logged (take (row + 1) script.now) }
@@ -72,8 +72,8 @@ fn logged_with(script: &[Row], row: usize, reached: Lsn) -> Lsn
     }
 }
 
-/// The row whose piece has the entry at this place, and what the rows before it logged. It goes on from a row at or
-/// before that one.
+/// The row whose piece has the entry at this place, and the greatest LSN of the log rows before that row. The search
+/// begins at `from`, a row at or before it.
 fn row_for(script: &[Row], ends: &[usize], from: usize, reached: Lsn, place: usize) -> (usize, Lsn)
     requires from { from ≤ bound.row_at ends.now place }
     requires reached { reached ≡ bound.logged (take from script.now) }
@@ -89,7 +89,7 @@ fn row_for(script: &[Row], ends: &[usize], from: usize, reached: Lsn, place: usi
     (row, reached)
 }
 
-/// Whether this entry keeps the bound.
+/// Returns true if the entry keeps the bound. Unfixes and the entries of other clients do so always.
 fn is_bounded(e: &Entry, mark: Lsn, reached: Lsn) -> bool
     ensures { IsTrue result ↔ (e.now.client ≡ 0 → bound.is_unfix e.now.call ≡ false →
         mark ≤ reached) }
@@ -104,12 +104,12 @@ fn first_client(e: &Entry) -> usize
     if e.client == 0 { 1 } else { 0 }
 }
 
-/// Whether no mark came before client 0 had logged as far. `script` is the script of client 0, and the entries of the
-/// row at place r of it end at `ends[r]`, counted in the entries of that client from the start of the run.
+/// Returns true if no mark came before client 0 had logged as far. `script` is the script of client 0, and the entries
+/// of the row at place r of it end at `ends[r]`, counted in the entries of that client from the start of the run.
 ///
 /// It is so where the greatest LSN marked, up to and with each entry of client 0 that is no unfix, is at most the
 /// greatest LSN of the log rows before the row of that entry (0 where there is none), and over the whole trail at most
-/// that of all log rows. The trail is in the order of time. It takes no memory.
+/// that of all log rows. The trail is oldest first. It takes no memory.
 pub fn is_within_log(trail: &[Entry], script: &[Row], ends: &[usize]) -> bool
     ensures { IsTrue result ↔ bound.IsWithinLog script.now (reverse ends.now) (reverse trail.now) }
 {

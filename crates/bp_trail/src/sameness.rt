@@ -1,4 +1,4 @@
-//! Whether two entries are the same.
+//! `same_entry`: compares two entries.
 ghost use Rattle.std.specs.Prelude.{◌≡◌, ◌↔◌, IsTrue};
 
 use crate::entries::{Call, Entry, Reply};
@@ -15,7 +15,7 @@ fn same_reply(a: &Reply, b: &Reply) -> bool
     *a == *b
 }
 
-/// Whether two entries are the same: by client, by call and by reply. Images and written bytes are compared byte by
+/// Returns true if two entries have the same client, call and reply. Images and written bytes are compared byte by
 /// byte.
 pub fn same_entry(a: &Entry, b: &Entry) -> bool
     ensures { IsTrue result ↔ (a.now ≡ b.now) }

@@ -2,29 +2,26 @@
 
 use bp_page::{Bytes, Lsn, PageNo};
 
-/// One row of a script.
 #[derive(PartialEq, Eq, Debug, Drop)]
 pub struct Row {
     /// The number of the row in its trace, from 1.
     pub row: u64,
-    /// Whose row it is, from 0.
+    /// The client that makes the call, from 0.
     pub client: u8,
-    /// What it asks for.
     pub step: Step,
 }
 
-/// What a row asks for.
+/// The call that a row makes.
 #[derive(PartialEq, Eq, Debug, Drop)]
 pub enum Step {
-    /// A pass of the page.
+    /// Fixes the page.
     Fix(PageNo),
-    /// That the latest pass of the page which the client holds goes back.
+    /// Gives back the latest pass of the page that the client holds.
     Unfix(PageNo),
-    /// The bytes of the page, by the latest pass of it.
+    /// Reads the page, by the latest pass of it.
     Read(PageNo),
-    /// A change of the page, by the latest pass of it.
+    /// Writes to the page, by the latest pass of it.
     Write {
-        /// The page to be changed.
         page: PageNo,
         /// Where the bytes begin, in bytes from the start of the page.
         offset: u32,
@@ -33,13 +30,13 @@ pub enum Step {
         /// The LSN of the log record that tells the change; with 0 the page waits for no log.
         lsn: Lsn,
     },
-    /// That the page is written out, if it is unsaved.
+    /// Writes the page out, if it is unsaved.
     Flush(PageNo),
-    /// That the clock moves on by so many ticks.
+    /// Moves the clock on by so many ticks.
     Tick(u64),
-    /// That old references of pages that are away are forgotten.
+    /// Forgets the references of pages that are away, where they are older than the retained period.
     Purge,
-    /// That the log is durable up to this LSN.
+    /// Marks the log durable up to this LSN.
     Log(Lsn),
 }
 
@@ -48,6 +45,6 @@ pub enum Step {
 pub struct Refused {
     /// The number of the row in its trace.
     pub row: u64,
-    /// What `Refusal::number` has for the refusal.
+    /// The number of the refusal, as `Refusal::number` gives it.
     pub number: u16,
 }

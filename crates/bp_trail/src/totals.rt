@@ -1,10 +1,10 @@
-//! How many replies of each kind there are.
+//! `Totals`: the number of replies of each kind in a list of entries.
 ghost use Rattle.std.specs.Prelude.{◌≡◌, ◌↔◌, ◌+◌, ◌^◌, ◌<◌, IfSome, IsSome};
 ghost use Rattle.bp_trail.specs.Totals.{HasRoom, FitTogether, both, counted, no_totals, totals_of};
 
 use crate::entries::{Entry, Reply};
 
-/// How many replies of each kind there are. A reply is of one kind at most.
+/// The number of replies of each kind. A reply is of one kind at most.
 #[derive(Clone, Copy, PartialEq, Eq, Debug, Drop)]
 pub struct Totals {
     /// Fixes that found their page in a frame.
@@ -22,7 +22,6 @@ pub struct Totals {
 }
 
 impl Totals {
-    /// The totals of no replies.
     pub fn none() -> Totals
         ensures { result ≡ no_totals }
     {
@@ -36,7 +35,7 @@ impl Totals {
         }
     }
 
-    /// The totals of some entries, as those of a trail, of a piece of one, or of a session's list. It goes over them
+    /// Counts the replies of some entries, as of a trail, of a piece of one, or of a session's list. It goes over them
     /// once.
     pub fn of(entries: &[Entry]) -> Totals
         ensures { result ≡ totals_of entries.now }
@@ -71,8 +70,8 @@ impl Totals {
         }
     }
 
-    /// These totals and others together, as those of two pieces of one trail. None where one of the six would be
-    /// above 2^64 − 1.
+    /// Adds up two totals, as those of two pieces of one trail. `None` where one of the six sums would be above 2^64 −
+    /// 1.
     pub fn plus(self, more: Totals) -> Option<Totals>
         ensures sums { IfSome result (λ totals. totals ≡ both self more) }
         ensures fit { IsSome result ↔ FitTogether self more }

@@ -3,7 +3,7 @@ use Rattle.std.proofs.Common.{◌≡◌, sym, ◌∙◌, subst, ℕ, arith, suc,
 use Rattle.std.specs.Prelude.{slice_get}
 use Rattle.bp_trail.specs.Event.{Grant}
 use Rattle.bp_trail.specs.Trail.{Trail}
-use Rattle.bp_trail.specs.Script.{held_passes, give_back}
+use Rattle.bp_trail.specs.Script.{held_passes, unfix_of}
 use Rattle.bp_workers.specs.Giving.{GoBack}
 use Rattle.bp_workers.specs.Giving.GoBack.{no_more, one_more}
 
@@ -26,7 +26,7 @@ own_of client held later g split own =
     λ k d below. all (suc k) d (omega (arith, below)) ∙ sym (all 0 g (omega arith))
 
 -- the first pass held goes back
-pub first_back : (client : ℕ) (said after : Trail) (held : List Grant) (g : Grant) → held ≡ held_passes said → All (λ (h : Grant). h.client ≡ client) held → slice_get held 0 ≡ Some g → after ≡ give_back g ∷ said → GoBack said after
+pub first_back : (client : ℕ) (said after : Trail) (held : List Grant) (g : Grant) → held ≡ held_passes said → All (λ (h : Grant). h.client ≡ client) held → slice_get held 0 ≡ Some g → after ≡ unfix_of g ∷ said → GoBack said after
 first_back client said after held g are own first grows =
     let split = rest_of held g first in
     subst (GoBack said) (sym grows) (one_more g split.0 no_more (sym are ∙ split.1) (own_of client held split.0 g split.1 own))

@@ -9,7 +9,7 @@ use Rattle.bp_trail.specs.declared.ends.Flushed.{Flushed}
 use Rattle.bp_trail.specs.Event.{Grant, grant}
 use Rattle.bp_trail.specs.Trail.{Trail}
 use Rattle.bp_trail.specs.Passes.{passes_out}
-use Rattle.bp_trail.specs.Script.{held_passes, give_back}
+use Rattle.bp_trail.specs.Script.{held_passes, unfix_of}
 use Rattle.bp_trail.proofs.Counting.{filter-reverse}
 use Rattle.bp_session_log.specs.Turns.{ReadSaid, WriteSaid, TickSaid, PurgeSaid}
 use Rattle.bp_shared.specs.Sessions.{FixSaid, FlushSaid}
@@ -56,7 +56,7 @@ purge-holds client (Err refusal.OutOfMemory) said after h = ap held_passes h
 purge-holds client (Err _) said after h = absurd h
 
 -- a pass that was posted is at hand no more
-pub posted-holds : (g : Grant) (said after : Trail) (held held_after : List Grant) → held ≡ held_passes said → held_after ≡ filter (λ (h : Grant). not (h.serial == g.serial)) held → after ≡ give_back g ∷ said → held_after ≡ held_passes after
+pub posted-holds : (g : Grant) (said after : Trail) (held held_after : List Grant) → held ≡ held_passes said → held_after ≡ filter (λ (h : Grant). not (h.serial == g.serial)) held → after ≡ unfix_of g ∷ said → held_after ≡ held_passes after
 posted-holds g said after held held_after are left grows =
     let keeps = λ (h : Grant). not (h.serial == g.serial) in
     left ∙ ap (filter keeps) are ∙ sym (filter-reverse keeps (passes_out said)) ∙ ap held_passes (sym grows)

@@ -13,7 +13,7 @@ use Rattle.bp_trail.specs.Event.{Grant}
 use Rattle.bp_trail.specs.Pieces.{Outcome, OneCall, outcome_of}
 use Rattle.bp_trail.specs.Pieces.Manner.{session}
 use Rattle.bp_trail.specs.Pieces.Outcome.{accepted, refused}
-use Rattle.bp_trail.specs.Script.{latest_pass, WithPass, RowPiece, GivesBack, give_back}
+use Rattle.bp_trail.specs.Script.{latest_pass, WithPass, RowPiece, GivesBack, unfix_of}
 use Rattle.bp_trail.specs.Script.GivesBack.{none_held, next}
 use Rattle.bp_core.specs.Work.{Reads, Writes, Works, WorksThrough}
 use Rattle.bp_shared.specs.Sessions.{WithSomeLsn, DoesWorkSaid}
@@ -79,7 +79,7 @@ module _ {P : Type 0} (reads : Reads P) (writes : Writes P) where
   went-back : (said mid after : Trail) (port now : P) → DoesWorkSaid reads writes said mid port now → GivesBack mid after → DoesWorkSaid reads writes said after port now
   went-back said mid _ port now w (none_held none) = w
   went-back said mid after port now w (next g first rest) =
-      went-back said (give_back g ∷ mid) after port now (record { piece = give_back g ∷ w.piece; grows = ap (λ es. give_back g ∷ es) w.grows; through = (now, w.through, refl) }) rest
+      went-back said (unfix_of g ∷ mid) after port now (record { piece = unfix_of g ∷ w.piece; grows = ap (λ es. unfix_of g ∷ es) w.grows; through = (now, w.through, refl) }) rest
 
   -- of a list that was empty all is told
   all-told : (after : Trail) (port kept : P) → DoesWorkSaid reads writes [] after port kept → WorksThrough reads (WithSomeLsn writes) [] after port kept

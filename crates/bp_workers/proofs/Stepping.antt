@@ -18,7 +18,7 @@ use Rattle.bp_trail.specs.Passes.{passes_out}
 use Rattle.bp_trail.specs.Pieces.{Outcome, by, outcome_of}
 use Rattle.bp_trail.specs.Pieces.Manner.{session}
 use Rattle.bp_trail.specs.Pieces.Outcome.{accepted, refused}
-use Rattle.bp_trail.specs.Script.{is_pass_of, held_passes, latest_pass, WithPass, RowPiece, give_back}
+use Rattle.bp_trail.specs.Script.{is_pass_of, held_passes, latest_pass, WithPass, RowPiece, unfix_of}
 use Rattle.bp_trail.specs.declared.ends.Flushed.{Flushed}
 use Rattle.bp_device.proofs.PieceSteps.{find-there, at-first, at-second}
 use Rattle.bp_session_log.specs.Turns.{ReadSaid, WriteSaid, TickSaid, PurgeSaid}
@@ -140,13 +140,13 @@ write_refused client page offset bytes lsn g pass refusal.OutOfMemory said after
     pass_refused client page 22 (step.Write page offset bytes lsn) (20 ∷ 22 ∷ []) (λ n. Write n page offset bytes lsn) g said after (λ said piece o w. w) is.found (at-second 20 22 []) h.1
 write_refused client page offset bytes lsn g pass _ said after is h = absurd h
 
-pub unfix_said : (client page : ℕ) (g : Grant) (said after : Trail) → latest_pass said client page ≡ Some g → after ≡ give_back g ∷ said → StepSaid client (step.Unfix page) accepted said after
+pub unfix_said : (client page : ℕ) (g : Grant) (said after : Trail) → latest_pass said client page ≡ Some g → after ≡ unfix_of g ∷ said → StepSaid client (step.Unfix page) accepted said after
 unfix_said client page g said after found grows =
     pass_said client page (step.Unfix page) [] (λ n. Unfix n page) Done g said after (λ said piece o w. w) found
     (grows ∙ ap (λ who. by who (Unfix g.serial g.page) Done ∷ said) (client-of_latest said client page g found) ∙ ap (λ p. by client (Unfix g.serial p) Done ∷ said) (page-of_latest said client page g found))
 
 -- a pass that was posted, or that the run is at fault for
-pub posted_said : (client page : ℕ) (g : Grant) (answer : Result (Unit {0}) Refusal) (said after : Trail) → latest_pass said client page ≡ Some g → OnOk answer ((g.client ≡ client) × (after ≡ give_back g ∷ said))
+pub posted_said : (client page : ℕ) (g : Grant) (answer : Result (Unit {0}) Refusal) (said after : Trail) → latest_pass said client page ≡ Some g → OnOk answer ((g.client ≡ client) × (after ≡ unfix_of g ∷ said))
     → OnErr answer ((answer ≡ Err refusal.Disagree) × (after ≡ said)) → StepSaid client (step.Unfix page) (outcome answer) said after
 posted_said client page g (Ok done) said after found ok err = unfix_said client page g said after found ok.1
 posted_said client page g (Err why) said after found ok err = inl (ap (λ r. is_fault (outcome r)) err.0)

@@ -1,4 +1,4 @@
-//! A fix that waits for the log and for a victim.
+//! `fix_durably`: a fix that has the log made durable, or waits for a victim, and is tried again.
 ghost use Rattle.std.specs.Prelude.{◌≡◌, ◌≢◌, ◌<◌, false, OnOk, IfErr};
 ghost use Rattle.bp_page.specs.declared.refusals.Refusal.TheVariants as Refusal;
 ghost use Rattle.bp_shared.specs.Sessions.{DoesWorkSaid};
@@ -15,7 +15,7 @@ use std::sync::Wait;
 use std::thread::Parker;
 use std::time::Duration;
 
-/// Whom a waiting fix asks: a pool that many clients share.
+/// The pool that a waiting fix asks, which many clients share.
 ///
 /// It says by two relations of its own what a fix, and a tick, answers a client and adds to the client's list. What is
 /// promised by them of any pool can be kept only by these calls: so each answer of a waiting fix is one that was given.
@@ -28,10 +28,10 @@ pub trait Asked<N: PoolName, K: ListKeeper> {
 
     // A fix of a page gives a client an answer, and leads from its list, as it was, to it, as it is.
     ghost fixes: { Fixes };
-    // A tick of so many steps does.
+    // The same of a tick of so many steps.
     ghost ticks: { Ticks };
 
-    /// The pool itself, by which its mark is raised.
+    /// Returns the pool itself, by which its mark is raised.
     fn pool(&self) -> &SharedPool<N, K>;
 
     /// Fixes a page, as [`SharedPool::fix`] does.
@@ -102,13 +102,13 @@ pub trait Log: Drop {
     // The LSN up to which it is known to be durable.
     ghost durable_to: { Self → ℕ };
 
-    /// Makes the log durable up to this LSN at least. Whether it now is.
+    /// Makes the log durable up to this LSN at least. Returns true if it now is.
     fn make_durable<R: Wait>(&mut self, rt: &R, lsn: Lsn) -> bool
         ensures lasts { durable_to self.old ≤ durable_to self.new }
         ensures reached { IsTrue result ↔ (lsn ≤ durable_to self.new) };
 }
 
-/// Who has the log of a pool made durable, and the pool's mark raised so far.
+/// Has the log of a pool made durable, and the pool's mark raised so far.
 ///
 /// For client 0 this is `Leading`. For any other client it is something that asks the worker of client 0, and waits.
 pub trait DurableLog<N: PoolName> {
@@ -123,7 +123,8 @@ pub trait DurableLog<N: PoolName> {
     // The references that it works by, if any. They stay the same.
     ghost lent: { Self → List GName };
 
-    /// Has the log made durable up to this LSN at least, and then the pool's mark raised so far. Whether both are done.
+    /// Has the log made durable up to this LSN at least, and then the pool's mark raised so far. Returns true if both
+    /// are done.
     ///
     /// The mark is raised no further than the log is durable.
     fn reach<K: ListKeeper, R: Wait>(&mut self, rt: &R, pool: &SharedPool<N, K>, lsn: Lsn) -> bool
@@ -134,12 +135,10 @@ pub trait DurableLog<N: PoolName> {
         ensures raised { IsTrue result → lsn ≤ raised_to self.new };
 }
 
-/// The log, and who raises the pool's mark: the two with which client 0 works.
+/// The log and the writer of the pool's mark, with which client 0 works.
 #[derive(Drop)]
 pub struct Leading<'a, N: PoolName, L: Log> {
-    /// The log, which can be made durable.
     pub log: &'a mut L,
-    /// Who raises the pool's mark.
     pub writer: &'a mut LogWriter<N>,
 }
 
@@ -175,15 +174,15 @@ impl<N: PoolName, L: Log> DurableLog<N> for Leading<'_, N, L> {
     }
 }
 
-/// How long a fix is tried.
+/// The number of tries of a fix, and what is done between them.
 #[derive(Clone, Copy)]
 pub struct Patience {
-    /// How often it is tried again.
+    /// The number of tries after the first.
     pub rounds: u32,
-    /// By how much the clock is moved, once, where no page may leave. More than the correlated period lets each page
-    /// leave that nobody has pinned.
+    /// The ticks by which the clock is moved, once, where no page may leave. More than the correlated period lets each
+    /// page leave that nobody has pinned.
     pub steps: u64,
-    /// How long each later wait for a pass to go back is, at most.
+    /// The longest time of each later wait for a pass to go back.
     pub pause: Duration,
 }
 
@@ -244,10 +243,10 @@ fn overcome<N: PoolName, K: ListKeeper, A: Asked<N, K>, L: DurableLog<N>, R: Wai
 /// one for each wait for another client's device work, and two for each victim that went out before. The clock's move
 /// adds one. The device does the work of the entries, and nothing else.
 ///
-/// Any other refusal is answered at once, as the fix gave it. `NoVictim` is answered only where the rounds are over, and
-/// `NeedLog` only there or where the log did not get durable so far. Where the tick is refused its refusal is answered,
-/// `TrailFull`, `ClockFull` or `OutOfMemory`: then the clock stands, and no page may leave. So each of these three is
-/// answered only as the pool's last call did.
+/// Any other refusal is answered at once, as the fix gave it. `NoVictim` is answered only where the rounds are over,
+/// and `NeedLog` only there or where the log did not get durable so far. Where the tick is refused its refusal is
+/// answered, `TrailFull`, `ClockFull` or `OutOfMemory`: then the clock stands, and no page may leave. So each of these
+/// three is answered only as the pool's last call did.
 pub fn fix_durably<N: PoolName, P: Port, K: ListKeeper, A: Asked<N, K>, L: DurableLog<N>, R: Wait>(
     rt: &R,
     pool: &A,

@@ -1,6 +1,6 @@
-//! One worker's thread.
+//! `Job`: one worker's thread.
 
-use crate::giving::give_back_all;
+use crate::unfixing::unfix_all;
 use crate::worker::{Client, Left, Upkeep, Worker};
 use bp_keeper::ListKeeper;
 use bp_ports::Port;
@@ -8,7 +8,8 @@ use bp_shared::{ClosedPool, PoolName, SharedPool};
 use std::marker::Model;
 use std::sync::Wait;
 
-/// What one worker's thread is given, and what it leaves.
+/// A worker with its client and its upkeep, and after its run the number of passes that it held, and whether all went
+/// back.
 #[derive(Drop)]
 pub(crate) struct Job<N: PoolName, P: Port, K: ListKeeper, W: Worker<P, K>> {
     worker: W,
@@ -69,11 +70,11 @@ impl<N: PoolName, P: Port, K: ListKeeper, W: Worker<P, K>> Job<N, P, K, W> {
             None => self.worker.work(rt, pool, &mut self.client),
         }
         self.held = self.client.session.held_count();
-        self.all_went_back = give_back_all(rt, pool, &mut self.client.session);
+        self.all_went_back = unfix_all(rt, pool, &mut self.client.session);
     }
 
-    /// What the job left, its session being ended at its pool, and its upkeep. Passes that still wait in the session's
-    /// ring go back then. It takes no memory.
+    /// Ends the job's session at its pool, and returns what the job left, and its upkeep. Passes that still wait in the
+    /// session's ring go back then. It takes no memory.
     pub(crate) fn into_left(self, pool: &mut ClosedPool<N, K>) -> (Left<P, W, K>, Option<Upkeep<N>>)
         ensures pool { TakesBack self.session.client pool.old pool.new }
         ensures left { IsLeftOf N.parameters P.geometry_of N.past pool.new.past self result.0 }

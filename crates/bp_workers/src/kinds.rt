@@ -1,4 +1,4 @@
-//! The kinds of pool that workers may share.
+//! `Kind`: the keepers of a pool that many threads may share.
 use bp_keeper::{GhostImage, ListKeeper, RecordingKeeper, SilentKeeper};
 use bp_page::{Bytes, Image};
 use std::marker::Send;

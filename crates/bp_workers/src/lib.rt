@@ -1,17 +1,17 @@
 //! Workers over one buffer pool: a thread, a session and a port for each; and a fix that waits for the log and for a
 //! victim.
 //!
-//! `run_workers` picks the name on which pool, sessions and mark agree, so that its callers need not. What it answers
-//! is the workers, their lists and the core, whose trail is one legal history. `run_workers_over` does so over a pool
-//! of any kind. `run_clients` runs scripts, each of which is played by a worker.
+//! `run_workers` picks the name on which pool, sessions and mark agree, so that its callers need not. It returns the
+//! workers, their lists and the core, whose trail is one legal history. `run_workers_over` does so over a pool of any
+//! kind. `run_clients` runs scripts, each of which is played by a worker.
 #![tactic(auto)]
 
 pub mod durable;
-mod giving;
 mod job;
 pub mod kinds;
 pub mod run;
 pub mod scripts;
+mod unfixing;
 pub mod worker;
 
 pub use bp_core::Config;

@@ -1,4 +1,4 @@
-//! A run: one thread for each worker.
+//! `run_workers`: runs workers over one pool, each in a thread of its own.
 ghost use Rattle.std.specs.Prelude.{◌≡◌, ◌<◌, ◌≤◌, ◌↔◌, ℕ, [], length, IfOk, OnErr, Some, IsSome, IsTrue};
 ghost use Rattle.std.specs.Prelude.{All, zip, vec_len, vec_capacity, slice_index_or};
 ghost use Rattle.bp_page.specs.declared.refusals.Refusal.TheVariants as Refusal;
@@ -25,7 +25,7 @@ use std::sync::Wait;
 use std::thread;
 use std::thread::Threads;
 
-/// What is there after all workers have returned.
+/// The core and what each worker left, after all workers have returned.
 #[derive(Drop)]
 pub struct Run<P: Port, W: Drop, K: ListKeeper = RecordingKeeper> {
     /// The core of the pool. Its trail has all entries that the worker of client 0 did not cut.
@@ -34,7 +34,7 @@ pub struct Run<P: Port, W: Drop, K: ListKeeper = RecordingKeeper> {
     pub left: Vec<Left<P, W, K>>,
 }
 
-/// A job for each session, with the port and the worker of the same number. The first has the upkeep.
+/// Makes a job for each session, with the port and the worker of the same number. The first has the upkeep.
 fn make_jobs<N: PoolName, P: Port, K: ListKeeper, W: Worker<P, K>>(
     alloc: Global,
     sessions: Vec<Session<N, K>>,
@@ -70,7 +70,7 @@ fn make_jobs<N: PoolName, P: Port, K: ListKeeper, W: Worker<P, K>>(
     Ok(jobs)
 }
 
-/// One thread for each job. All have ended at the return.
+/// Runs each job in a thread of its own. All have ended at the return.
 fn run_jobs<
     N: PoolName + Send + Sync,
     P: Port + Send,
@@ -88,9 +88,9 @@ fn run_jobs<
     thread::for_each_mut(rt, jobs, count, &|_, job| job.run(rt, pool));
 }
 
-/// What the jobs left, their sessions being ended at the pool, and the upkeep that the first had. Each session is of
-/// another client, so that the end of one leaves what the others gave back. There is room for all, so that no memory is
-/// taken.
+/// Ends the jobs' sessions at the pool. Returns the upkeep that the first had, and what the jobs left. Each session is
+/// of another client, so that the end of one leaves what the others gave back. There is room for all, so that no memory
+/// is taken.
 fn all_left<N: PoolName, P: Port, K: ListKeeper, W: Worker<P, K>>(
     pool: &mut ClosedPool<N, K>,
     jobs: Vec<Job<N, P, K, W>>,
@@ -202,14 +202,13 @@ fn run_named<
     run_pool(rt, alloc, pool, jobs)
 }
 
-/// Whether two geometries are the same.
 fn is_same(one: &Geometry, other: &Geometry) -> bool
     ensures { IsTrue result ↔ one.now ≡ other.now }
 {
     one.pages == other.pages && one.size == other.size
 }
 
-/// Whether all ports are on devices of this geometry.
+/// Returns true if all ports are on devices of this geometry.
 fn are_of<P: Port>(ports: &[P], geometry: &Geometry) -> bool
     ensures { IsTrue result ↔ All (λ p. P.geometry_of p ≡ geometry.now) ports.now }
 {
@@ -221,7 +220,7 @@ fn are_of<P: Port>(ports: &[P], geometry: &Geometry) -> bool
     true
 }
 
-/// Whether there is a port of the configuration's geometry for each of so many workers, which are 1 to 64.
+/// Returns true if there is a port of the configuration's geometry for each of so many workers, which are 1 to 64.
 fn fit_together<P: Port>(config: &Config, ports: &[P], workers: usize) -> bool
     ensures { IsTrue result ↔ FitTogether P.geometry_of config.now ports.now workers }
 {
@@ -241,8 +240,8 @@ fn fit_together<P: Port>(config: &Config, ports: &[P], workers: usize) -> bool
 ///
 /// `BadSettings` where the workers are not 1 to 64, the ports are not as many or one is of another geometry, the frames
 /// are not 1 to 65,536 or the room not 1 to its keeper's most, which is 16,777,216 entries in memory, or a count of
-/// 2^61; `OutOfMemory` where memory is wanted. Both come before any thread starts, and all that was given is dropped.
-/// Device faults and the pool's refusals go to the worker that called, and end no run.
+/// 2^61; `OutOfMemory` where there is not the memory. Both come before any thread starts, and all that was given is
+/// dropped. Device faults and the pool's refusals go to the worker that called, and end no run.
 pub fn run_workers_over<K: Kind, P: Port + Send, W: Worker<P, K> + Send, R: Threads + Wait + Sync>(
     rt: &R,
     alloc: Global,

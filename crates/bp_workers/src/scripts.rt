@@ -1,5 +1,5 @@
-//! A run of client threads over one buffer pool: a thread, a script and a way to the device for each client. A worker
-//! plays each script.
+//! A run of client threads over one buffer pool: a thread, a script and a port for each client. A worker plays each
+//! script.
 //!
 //! The contract of `run_clients` is the promise of the whole: the trail is one legal history, which holds each client's
 //! calls once and in that client's order, and no mark in it is ahead of the log.

@@ -1,4 +1,4 @@
-//! What a worker is given, and what it leaves.
+//! `Worker`: the work of one client of a pool, with what it is given and what it leaves.
 ghost use Rattle.std.specs.Prelude.{◌≡◌};
 
 use bp_core::Entry;
@@ -13,7 +13,6 @@ use std::sync::Wait;
 pub struct Client<N: PoolName, P: Port, K: ListKeeper = RecordingKeeper> {
     /// Its session, through which it calls the pool and which keeps its list.
     pub session: Session<N, K>,
-    /// Its own way to the device.
     pub port: P,
     /// The port's device has as many pages as the pool's file.
     pub ghost pages_are: { (P.geometry_of port).pages ≡ N.parameters.pages },
@@ -21,12 +20,10 @@ pub struct Client<N: PoolName, P: Port, K: ListKeeper = RecordingKeeper> {
     pub ghost size_is: { (P.geometry_of port).size ≡ N.parameters.size },
 }
 
-/// What client 0 is given besides: who raises the pool's mark, and who takes its trail.
+/// What client 0 is given besides: the writer of the pool's mark, and the taker of its trail.
 #[derive(Drop)]
 pub struct Upkeep<N: PoolName> {
-    /// Who raises the pool's mark.
     pub log: LogWriter<N>,
-    /// Who takes the pool's trail.
     pub taker: Taker<N>,
 }
 
@@ -45,7 +42,7 @@ pub trait Worker<P: Port, K: ListKeeper>: Drop {
     // after, and of client 0 the upkeep. A worker that says nothing of it may leave anything.
     ghost leaves: { Leaving Self P } = { λ _ _ _ _ _ _ _. Unit {0} };
 
-    /// Does the work of any client but client 0, with a session that said nothing yet.
+    /// Does the work of any client except client 0, with a session that said nothing yet.
     fn work<N: PoolName, R: Wait>(
         &mut self,
         rt: &R,
@@ -58,7 +55,7 @@ pub trait Worker<P: Port, K: ListKeeper>: Drop {
         ensures leaves { leaves client.old.session.client self.old client.old.port
             self.new client.new.port client.new.session None };
 
-    /// Does the work of client 0, who has the log writer and the taker of the trail too.
+    /// Does the work of client 0, which has the log writer and the taker of the trail too.
     fn lead<N: PoolName, R: Wait>(
         &mut self,
         rt: &R,
@@ -73,25 +70,24 @@ pub trait Worker<P: Port, K: ListKeeper>: Drop {
             self.new client.new.port client.new.session (Some (upkeep_value upkeep.new)) };
 }
 
-/// What a worker left.
+/// A worker with its port and its book, after it has returned.
 #[derive(Drop)]
 pub struct Left<P: Port, W: Drop, K: ListKeeper = RecordingKeeper> {
     /// The worker, as it was when it returned.
     pub worker: W,
-    /// The port that it was given.
     pub port: P,
-    /// What its session kept for itself: its list, and the passes that did not go back.
+    /// The book of its session: its list, and the passes that did not go back.
     pub book: Book<K>,
-    /// How many passes it held when it returned. They were given back for it.
+    /// The number of passes that it held when it returned, which are then given back for it.
     pub held: usize,
-    /// Whether all of them went back.
+    /// True if all of them went back.
     pub all_went_back: bool,
 }
 
 impl<P: Port, W: Drop> Left<P, W, RecordingKeeper> {
     ghost use Rattle.std.specs.Prelude.{◌≡◌, ◌++◌, reverse};
 
-    /// What the worker's cuts left of its session's list, in order.
+    /// Lends the entries of its session's list since the last cut, the oldest first.
     pub fn said(&self) -> &[Entry]
         ensures { reverse result.now ++ self.now.book.before ≡ self.now.book.said }
     {

@@ -1,5 +1,5 @@
-//! Runs a trace over a buffer pool and reports what the pool did, counts what references come to in pools of many
-//! sizes, or writes a page file anew in its second version.
+//! The program bpool: runs a trace over a buffer pool and reports what the pool did, counts the replies of pools of
+//! many sizes to a list of references, or writes a page file again in its second version.
 #![tactic(auto)]
 
 use bp_cli::Ending;
@@ -15,7 +15,7 @@ use std::thread::Threads;
 use std::time::Clock;
 use std::{env, io};
 
-/// The words of the command line, without the program's name.
+/// Returns the words of the command line, without the program's name.
 fn words_given<R: AllocGlobal + Env>(rt: &R) -> Result<Vec<String>, Ending> {
     let words = match env::args(rt) {
         Ok(words) => words,
@@ -30,9 +30,8 @@ fn words_given<R: AllocGlobal + Env>(rt: &R) -> Result<Vec<String>, Ending> {
         .map_err(|_| Ending::RunRefused(Refusal::OutOfMemory))
 }
 
-/// Does what the words say, over standard input and output, and gives the status to end with. Where somebody watches,
-/// how far a migration or a sweep has come is shown on `err`. Where there is a note, it has a line once standard input
-/// is read.
+/// Does what the words say, over standard input and output, and returns the exit status. Where somebody watches, `err`
+/// shows the progress of a migration or a sweep. `note`, if there is one, gets a line once standard input is read.
 fn run_words<
     R: AllocGlobal + Files<File = File> + Clock + Input + Print + Threads + Wait + Sync,
     N: Write + Drop,

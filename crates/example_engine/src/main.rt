@@ -8,7 +8,7 @@ ghost use Rattle.std.specs.Prelude.{◌≡◌};
 use anyhow::Context;
 use hojzmated::{
     Client, Config, FilePort, Format, Geometry, Lsn, PageNo, PoolName, Port, Refusal, SilentKeeper,
-    SilentPool, Upkeep, Worker, create_page_file, give_back, run_workers_over,
+    SilentPool, Upkeep, Worker, create_page_file, run_workers_over,
 };
 use std::os::unix::fs::FileExt;
 use std::sync::{Arc, Mutex, Wait};
@@ -24,12 +24,12 @@ type Own<N, P> = Client<N, P, SilentKeeper>;
 struct Log {
     file: fs::File,
     last: Lsn,
-    /// How many clients still add.
+    /// The number of clients that still add.
     adders: u64,
 }
 
 impl Log {
-    /// Appends a record. Its LSN.
+    /// Appends a record, and returns its LSN.
     fn append(&mut self, page: PageNo) -> Result<Lsn, Refusal> {
         let place = self.last.number().wrapping_mul(8);
         let written = self.file.write_all_at(&page.number().to_le_bytes(), place);
@@ -67,7 +67,7 @@ impl Adding {
             Err(refusal) => Err(refusal),
         };
         // A pass can't be dropped: one that does not go back is spent as a note.
-        let back = give_back(rt, pool, &mut own.session, pass);
+        let back = pool.unfix_draining(rt, &mut own.session, pass);
         let _ = back.map_err(|(pass, _)| pass.note());
         written.and(Ok(value))
     }

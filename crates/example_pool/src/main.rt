@@ -1,5 +1,5 @@
-//! A pool with one owner: a counter in a page goes up by one, the page goes out once the log is durable so far, and the
-//! trail of it is let go.
+//! A pool with one owner: it adds one to a counter in a page, flushes the page once the log is durable that far, and
+//! cuts off the trail.
 #![tactic(auto)]
 
 ghost use Rattle.std.specs.Prelude.{◌≡◌, ◌<◌};
@@ -12,8 +12,8 @@ use std::alloc::Global;
 use std::rt::Runtime;
 use std::sync::Wait;
 
-/// Adds one to the first byte of a page under a log record, and gives the pass back. No flush comes before the log is
-/// durable as far as `lsn`.
+/// Adds one to the first byte of a page under a log record, and gives the pass back. A flush of the page is refused
+/// until the log is durable up to `lsn`.
 fn change(
     rt: &impl Wait,
     core: &mut Core,
@@ -42,7 +42,7 @@ fn change(
     }
 }
 
-/// The log is durable as far as `lsn`, the page goes out, and the clock moves.
+/// Tells the core that the log is durable up to `lsn`, flushes the page, and moves the clock on by one.
 fn save(
     rt: &impl Wait,
     core: &mut Core,
@@ -58,8 +58,7 @@ fn save(
     core.tick(0, 1)
 }
 
-/// A page is changed and flushed, the clock moves, and the trail of all that is cut off. Returns how many entries it
-/// had.
+/// Changes a page, flushes it, and cuts off the trail. Returns the number of entries that the trail had.
 fn use_pool(
     rt: &impl Wait,
     core: &mut Core,
@@ -77,7 +76,7 @@ fn use_pool(
     Ok(trail.len())
 }
 
-/// Makes a core with one client over sixteen pages in memory, and uses it. Returns how many entries its trail had.
+/// Makes a core with one client over sixteen pages in memory, and uses it. Returns the number of entries of its trail.
 fn run(rt: &(impl Runtime<A = Global> + Wait)) -> Result<usize, Refusal> {
     let alloc = rt.alloc();
     let geometry = Geometry::new(16, 64)?;

@@ -1,10 +1,10 @@
 //! The buffer pool as one library, for engines in Rattle: an engine's line in crates.txt names this crate alone.
 //!
-//! It has no code. What stands here is lent from the crates below, each of which has the contracts of its own items.
-//! The definitions that those contracts cite are lent too: `Rattle.hojzmated.specs.Outcomes` is that of `bp_core`.
+//! It has no code: it re-exports items of the crates below, where their contracts are. It re-exports the definitions
+//! that those contracts cite too: `Rattle.hojzmated.specs.Outcomes` is that of `bp_core`.
 #![tactic(auto)]
 
-// Pages, and what is refused.
+// Pages, and the numbers of refusals.
 pub use bp_page::{
     Bytes, Format, Geometry, Image, Lsn, PageNo, PortFault, Refusal, explanation_of,
 };
@@ -12,7 +12,7 @@ pub use bp_page::{
 // K and the periods of LRU-K.
 pub use bp_replacer::Settings;
 
-// Cores, their entries, and what their calls hand out.
+// Cores, keepers, entries of trails, passes and tickets.
 pub use bp_core::{
     Config, Core, EndRefusal, Ended, Fix, Flush, NotFlushed, Pass, PassNote, PoolCore, ReadTicket,
     SilentCore, Stats, WriteTicket,
@@ -26,7 +26,7 @@ pub use bp_ports::{
     create_page_file, geometry_of_file, migrate_watched, migrate_with,
 };
 
-// A pool for one owner; and a whole fix or flush of a core that has one.
+// A pool with one owner, and calls that do a whole fix or flush of a core, with its reads and writes.
 pub use bp_device::{OwnedPool, drive_fix, drive_flush, drive_flush_all, drive_new};
 
 // Workers over one pool.
@@ -35,12 +35,10 @@ pub use bp_workers::{
     fix_durably, run_workers, run_workers_over,
 };
 
-// The shared pool that they have, and its parts for who runs threads himself.
+// The shared pool that workers use, and its parts, for an engine that runs its own threads.
 pub use bp_mark::{LogEnd, Mark, Reader};
 pub use bp_session_log::Book;
 pub use bp_shared::{
     ClosedPool, LogWriter, Parts, PoolName, Session, SharedPool, SilentPool, SilentSession, Taker,
-    TrailRing, give_back,
+    TrailRing,
 };
-
-// What lists of entries come to.

@@ -1,4 +1,4 @@
-//! The plain structs that cross to C. The header has the same ones, field by field.
+//! The plain structs that cross to C. `include/hojzmated.h` has the same ones, field by field.
 ghost use Rattle.std.specs.Prelude.{◌≡◌};
 ghost use Rattle.bp_trail.specs.Event.{grant};
 ghost use Rattle.hojzmated_c.specs.Forms.{grant_of, pass_of, shown, shown_grant, shown_refusal, shown_stats};
@@ -7,7 +7,7 @@ use bp_core::{Pass, PassNote, Stats};
 use bp_page::{PageNo, Refusal};
 use bp_trail::Grant;
 
-/// What a core is made with.
+/// The settings of a core. Both periods, `correlated` and `retained`, are in ticks.
 #[repr(C)]
 #[derive(Clone, Copy)]
 pub struct HzConfig {
@@ -21,7 +21,7 @@ pub struct HzConfig {
     pub clients: u8,
 }
 
-/// A pass or a ticket as C holds it.
+/// A pass or a ticket as plain numbers, which C may copy.
 #[repr(C)]
 #[derive(Clone, Copy)]
 pub struct HzGrant {
@@ -30,8 +30,8 @@ pub struct HzGrant {
     pub client: u8,
 }
 
-/// What a fix or a flush gave: its kind, a grant where the kind has one, and where pages move the one that left and the
-/// LSN.
+/// The answer to a fix or a flush. `lsn` is the page LSN of an image to write, or the LSN up to which the log must be
+/// durable first; `evicted` is the page that left its frame, where `has_evicted` is 1.
 #[repr(C)]
 #[derive(Clone, Copy)]
 pub struct HzFixed {
@@ -42,7 +42,7 @@ pub struct HzFixed {
     pub has_evicted: u8,
 }
 
-/// An unsaved page: its page LSN, and the least LSN of its unsaved writes. Where there is none, all fields are 0.
+/// An unsaved page: its page LSN, and the least LSN of its unsaved writes. All fields are 0 where there is none.
 #[repr(C)]
 #[derive(Clone, Copy, Drop)]
 pub struct HzUnsaved {
@@ -52,7 +52,7 @@ pub struct HzUnsaved {
     pub has_page: u8,
 }
 
-/// What was counted since the core was made, and how many pages there are of each kind now.
+/// The counts since the core was made, and the present numbers of pages of each kind.
 #[repr(C)]
 #[derive(Clone, Copy, Drop)]
 pub struct HzStats {
@@ -84,7 +84,7 @@ pub const CLEAN: u8 = 4;
 /// A flush found the page in no frame.
 pub const ABSENT: u8 = 5;
 
-// As the header has them.
+// The sizes that the header's structs have.
 const _: () = prove!(size_of::<HzConfig>() == 56);
 
 const _: () = prove!(size_of::<HzGrant>() == 24);
@@ -96,7 +96,6 @@ const _: () = prove!(size_of::<HzUnsaved>() == 32);
 const _: () = prove!(size_of::<HzStats>() == 88);
 
 impl HzGrant {
-    /// What the pass or the ticket was given as.
     pub(crate) fn grant(&self) -> Grant
         ensures { result ≡ grant_of self.now }
     {
@@ -107,14 +106,12 @@ impl HzGrant {
         }
     }
 
-    /// The pass.
     pub(crate) fn pass(&self) -> Pass
         ensures { result ≡ pass_of self.now }
     {
         PassNote::of(self.client, PageNo::new(self.page), self.serial).pass()
     }
 
-    /// What C holds of a pass.
     pub(crate) fn of(note: PassNote) -> HzGrant
         ensures { result ≡ shown_grant note }
     {
@@ -127,7 +124,7 @@ impl HzGrant {
 }
 
 impl HzFixed {
-    /// An answer of this kind with this grant, where no page moves.
+    /// Returns an answer of this kind with this grant, where no page is evicted or written out.
     pub(crate) fn of(kind: u8, client: u8, page: PageNo, serial: u64) -> HzFixed
         ensures { result ≡ shown kind (grant client page serial) }
     {
@@ -144,7 +141,7 @@ impl HzFixed {
         }
     }
 
-    /// A refusal has kind 0, names the client and the page, and tells the LSN that the log needs.
+    /// Returns the answer of a refusal: kind 0, the client and the page, and for `NeedLog` the LSN that the log needs.
     pub(crate) fn refused(client: u8, page: u64, why: &Refusal) -> HzFixed
         ensures { result ≡ shown_refusal client page why.now }
     {
@@ -160,7 +157,6 @@ impl HzFixed {
 }
 
 impl HzStats {
-    /// What C sees of what a core counts.
     pub(crate) fn of(stats: &Stats) -> HzStats
         ensures { result ≡ shown_stats stats.now }
     {

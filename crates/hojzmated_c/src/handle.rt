@@ -1,4 +1,4 @@
-//! The handle that C holds.
+//! `HzCore`, the handle through which C owns a pool.
 ghost use Rattle.std.specs.Prelude.{◌≡◌, Some, None, is_some, IfSome, IfNone};
 
 use crate::pool::Pool;
@@ -6,7 +6,7 @@ use crate::seal::Seal;
 use std::alloc::Global;
 use std::mem;
 
-/// A core, or none. All bytes of one with none are zero.
+/// A core, or none. All bytes of a handle without a core are zero.
 #[repr(C)]
 #[derive(Drop)]
 pub struct HzCore {
@@ -15,11 +15,10 @@ pub struct HzCore {
     pub ghost agrees: { is_live ≡ is_some seal.pool },
 }
 
-// As the header has it.
+// The size that the header's struct has.
 const _: () = prove!(size_of::<HzCore>() == 16);
 
 impl HzCore {
-    /// The handle of a pool.
     pub(crate) fn of(pool: Box<Pool, Global>) -> HzCore
         ensures { result.seal.pool ≡ Some pool.value }
     {
@@ -29,7 +28,6 @@ impl HzCore {
         }
     }
 
-    /// The handle of no pool.
     pub(crate) fn none(alloc: Global) -> HzCore
         ensures { result.seal.pool ≡ None }
     {
@@ -39,7 +37,7 @@ impl HzCore {
         }
     }
 
-    /// Takes the pool out, if there is one.
+    /// Takes the pool out, if there is one. The handle then has none.
     pub(crate) fn take(&mut self, alloc: Global) -> Option<Box<Pool, Global>>
         ensures some { IfSome result (λ pool. self.old.seal.pool ≡ Some pool.value) }
         ensures none { IfNone result (self.old.seal.pool ≡ None) }

@@ -1,9 +1,9 @@
 //! The silent core for C, C++, Rust and Go: a static library of plain calls on a handle. `include/hojzmated.h` declares
-//! them without `proved_` in their names: `bindings/c/pointers.c` has those calls, which look for null pointers and then
-//! make these. `docs/C.md` says how to use them.
+//! them without `proved_` in their names: `bindings/c/pointers.c` has those calls, which look for null pointers and
+//! then make these. `docs/C.md` says how to use them.
 //!
-//! Every call tests what the core requires, and answers 0 or the number of a refusal. What C has to keep to is that a
-//! handle is one that these calls made, and that each pointer leads to memory of its type.
+//! Each call tests what the core requires, and returns 0 or the number of a refusal. Not tested are that the handle is
+//! one that these calls made, and that each pointer leads to memory of its type.
 #![tactic(auto)]
 
 ghost use Rattle.std.specs.Prelude.{◌≡◌, None, is_some, if◌then◌else◌, Ok, Err, IfOk, IfErr, length};
@@ -31,10 +31,9 @@ const NO_CORE: u16 = 50;
 /// The handle has a core already.
 const HAS_CORE: u16 = 51;
 
-/// Version 0.10.0.
 const VERSION: u32 = 1000;
 
-/// 0, or the number of the refusal.
+/// Returns 0, or the number of the refusal.
 fn code<T>(answer: &Result<T, Refusal>) -> u16
     ensures { result ≡ code_of answer.now }
 {
@@ -44,7 +43,7 @@ fn code<T>(answer: &Result<T, Refusal>) -> u16
     }
 }
 
-/// What C sees of a fix or a flush: what was told, or the refusal.
+/// Puts a refusal into `out`. Where nothing was refused, `out` already has the answer.
 fn shown(client: u8, page: u64, answer: &Result<(), Refusal>, out: &mut HzFixed)
     ensures { out.new ≡ shown_fix client page (told answer.now out.old) }
 {
@@ -53,7 +52,7 @@ fn shown(client: u8, page: u64, answer: &Result<(), Refusal>, out: &mut HzFixed)
     }
 }
 
-/// A fresh pool in a block of its own.
+/// Makes a pool in a box of its own.
 fn boxed(alloc: Global, config: &HzConfig) -> Result<Box<Pool, Global>, Refusal>
     ensures made { IfOk result (λ pool. Opens config.now (Ok pool.value)) }
     ensures refused { IfErr result (λ why. Opens config.now (Err why)) }
@@ -65,7 +64,7 @@ fn boxed(alloc: Global, config: &HzConfig) -> Result<Box<Pool, Global>, Refusal>
     }
 }
 
-/// The version of the library: its first number ten thousand times, its second a hundred times, and its third.
+/// Returns the version of the library: major * 10,000 + minor * 100 + patch.
 #[unsafe(no_mangle)]
 pub extern "C" fn proved_hz_version() -> u32
     ensures { result ≡ 1000 }
@@ -73,7 +72,7 @@ pub extern "C" fn proved_hz_version() -> u32
     VERSION
 }
 
-/// Makes a core: 0, or the number of the refusal, which leaves `core` as it was.
+/// Makes a core, and returns 0 or the number of the refusal, which leaves `core` as it was.
 #[unsafe(no_mangle)]
 pub extern "C" fn proved_hz_core_new(alloc: Global, config: &HzConfig, core: &mut HzCore) -> u16
     ensures { Made core.old.seal.pool core.new.seal.pool config.now result }
@@ -90,7 +89,7 @@ pub extern "C" fn proved_hz_core_new(alloc: Global, config: &HzConfig, core: &mu
     }
 }
 
-/// Frees a core: 0, or 50 where there is none. The handle has none afterwards.
+/// Frees a core, and returns 0, or 50 where there is none. Either way the handle has none afterwards.
 #[unsafe(no_mangle)]
 pub extern "C" fn proved_hz_core_free(alloc: Global, core: &mut HzCore) -> u16
     ensures gone { core.new.seal.pool ≡ None }
@@ -102,7 +101,7 @@ pub extern "C" fn proved_hz_core_free(alloc: Global, core: &mut HzCore) -> u16
     }
 }
 
-/// Moves the clock on.
+/// Moves the clock on by `n` ticks.
 #[unsafe(no_mangle)]
 pub extern "C" fn proved_hz_tick(alloc: Global, core: &mut HzCore, client: u8, n: u64) -> u16
     ensures { Ticked core.old.seal.pool core.new.seal.pool client n result }
@@ -115,7 +114,7 @@ pub extern "C" fn proved_hz_tick(alloc: Global, core: &mut HzCore, client: u8, n
     code(&ticked)
 }
 
-/// Notes that the log is durable as far as an LSN.
+/// Notes that the log is durable up to `lsn`.
 #[unsafe(no_mangle)]
 pub extern "C" fn proved_hz_mark(alloc: Global, core: &mut HzCore, client: u8, lsn: u64) -> u16
     ensures { Marked core.old.seal.pool core.new.seal.pool client lsn result }
@@ -128,7 +127,7 @@ pub extern "C" fn proved_hz_mark(alloc: Global, core: &mut HzCore, client: u8, l
     code(&marked)
 }
 
-/// Forgets old histories, and counts them.
+/// Forgets pages that are in no frame and have not been referenced for the retained period, and counts them.
 #[unsafe(no_mangle)]
 pub extern "C" fn proved_hz_purge(
     alloc: Global,
@@ -149,7 +148,7 @@ pub extern "C" fn proved_hz_purge(
     code(&purged)
 }
 
-/// Asks for a page. Where another one is to be written out first, `image` takes the bytes to write.
+/// Asks for a page. Where a victim is to be written out first, `image` gets the bytes to write.
 #[unsafe(no_mangle)]
 pub extern "C" fn proved_hz_fix(
     alloc: Global,
@@ -171,7 +170,7 @@ pub extern "C" fn proved_hz_fix(
     code(&fixed)
 }
 
-/// Asks that a page be written out if it is unsaved: `image` then takes the bytes to write.
+/// Asks that a page be written out if it is unsaved. Then `image` gets the bytes to write.
 #[unsafe(no_mangle)]
 pub extern "C" fn proved_hz_flush(
     alloc: Global,
@@ -193,7 +192,7 @@ pub extern "C" fn proved_hz_flush(
     code(&flushed)
 }
 
-/// Ends a read that went well.
+/// Ends a read that went well: the page is in a frame, and `pass` becomes its pass. A refusal leaves `pass` as it was.
 #[unsafe(no_mangle)]
 pub extern "C" fn proved_hz_read_end(
     alloc: Global,
@@ -216,7 +215,7 @@ pub extern "C" fn proved_hz_read_end(
     code(&ended)
 }
 
-/// Ends a read that failed: the number is never 0.
+/// Ends a read that failed. It never returns 0.
 #[unsafe(no_mangle)]
 pub extern "C" fn proved_hz_read_failed(
     alloc: Global,
@@ -234,7 +233,7 @@ pub extern "C" fn proved_hz_read_failed(
     number
 }
 
-/// Ends a write-out.
+/// Ends a write-out, whether it went well or failed.
 #[unsafe(no_mangle)]
 pub extern "C" fn proved_hz_write_end(
     alloc: Global,
@@ -265,7 +264,7 @@ pub extern "C" fn proved_hz_write_end(
     }
 }
 
-/// Copies a part of a page.
+/// Copies bytes of a page, from the offset on.
 #[unsafe(no_mangle)]
 pub extern "C" fn proved_hz_read(
     alloc: Global,
@@ -285,7 +284,7 @@ pub extern "C" fn proved_hz_read(
     code(&read)
 }
 
-/// Tells where the bytes of a page are, while this pass is out. No entry is added.
+/// Tells where the bytes of a page are. They stay there while this pass is out. No entry is added.
 #[unsafe(no_mangle)]
 pub extern "C" fn proved_hz_page(
     alloc: Global,
@@ -301,7 +300,7 @@ pub extern "C" fn proved_hz_page(
     };
     let number = match pool.page(pass) {
         Some(page) => {
-            // A page has bytes.
+            // A page has at least 16 bytes, so there is a first one.
             if let Some(first) = page.first() {
                 *bytes = ptr::from_ref(first);
             }
@@ -313,7 +312,7 @@ pub extern "C" fn proved_hz_page(
     number
 }
 
-/// Puts bytes into a page.
+/// Writes bytes into a page, from the offset on.
 #[unsafe(no_mangle)]
 pub extern "C" fn proved_hz_write(
     alloc: Global,
@@ -352,7 +351,7 @@ pub extern "C" fn proved_hz_unfix(alloc: Global, core: &mut HzCore, pass: &HzGra
     }
 }
 
-/// Tells the page LSN of the page of a pass. No entry is added.
+/// Tells the page LSN of a pass's page. No entry is added.
 #[unsafe(no_mangle)]
 pub extern "C" fn proved_hz_page_lsn(
     alloc: Global,
@@ -374,7 +373,7 @@ pub extern "C" fn proved_hz_page_lsn(
     0
 }
 
-/// Tells the first unsaved page from this number on. No entry is added.
+/// Tells the first unsaved page whose number is at least `from`. No entry is added.
 #[unsafe(no_mangle)]
 pub extern "C" fn proved_hz_next_unsaved(
     alloc: Global,
@@ -392,7 +391,7 @@ pub extern "C" fn proved_hz_next_unsaved(
     0
 }
 
-/// Tells from where redo has to begin. No entry is added.
+/// Tells the LSN from which redo must begin: the least of all unsaved writes. No entry is added.
 #[unsafe(no_mangle)]
 pub extern "C" fn proved_hz_redo_from(
     alloc: Global,
@@ -421,7 +420,7 @@ pub extern "C" fn proved_hz_redo_from(
     0
 }
 
-/// What was counted, and how many pages there are of each kind. No entry is added.
+/// Copies the counters. No entry is added.
 #[unsafe(no_mangle)]
 pub extern "C" fn proved_hz_stats_of(alloc: Global, core: &mut HzCore, out: &mut HzStats) -> u16
     ensures { StatsTold core.old.seal.pool core.new.seal.pool out.old out.new result }
@@ -456,7 +455,7 @@ pub extern "C" fn proved_hz_is_resident(
     code(&told)
 }
 
-/// Writes the text of a refusal's number, as much of it as there is room for, and returns its whole length.
+/// Writes the text of a refusal's number, as much as fits, and returns its whole length in bytes.
 #[unsafe(no_mangle)]
 pub extern "C" fn proved_hz_text(number: u16, into: &mut [u8]) -> usize
     ensures length { result ≡ length (text_of number) }

@@ -1,4 +1,4 @@
-//! A core, and what C's plain structs stand for in it. Every call tests what the core requires.
+//! `Pool`, a core behind the C calls. Each of its calls tests what the core requires of its arguments.
 ghost use Rattle.hojzmated_c.specs.Outcomes.{Opens, Ticks, Marks, Purges};
 
 mod access;
@@ -13,12 +13,12 @@ use bp_replacer::Settings;
 use std::alloc::Global;
 use std::marker::Model;
 
-/// A core, with memory for the next image.
+/// A core, with a spare block of memory for the next image that is read.
 #[derive(Drop)]
 pub struct Pool {
     alloc: Global,
     core: SilentCore,
-    /// What the newest load left of its frame: memory for the image of the next one.
+    /// The memory of the frame that the newest load filled, kept for the image of the next load.
     spare: Option<Image>,
 }
 
@@ -31,7 +31,7 @@ impl Model for Pool {
 }
 
 impl Pool {
-    /// A core as the settings say. `BadGeometry`, then `BadSettings` where they are out of their limits, then
+    /// Makes a core. It returns `BadGeometry`, then `BadSettings`, where settings are out of their limits, then
     /// `OutOfMemory`.
     pub(crate) fn new(alloc: Global, config: &HzConfig) -> Result<Pool, Refusal>
         ensures { Opens config.now result }
@@ -53,7 +53,7 @@ impl Pool {
         })
     }
 
-    /// Moves the clock on. `BadClient`, and what the core refuses.
+    /// Moves the clock on by `n`. It returns `BadClient`, or what the core refuses.
     pub(crate) fn tick(&mut self, client: u8, n: u64) -> Result<(), Refusal>
         ensures { Ticks self.old client n result self.new }
     {
@@ -63,7 +63,7 @@ impl Pool {
         self.core.tick(client, n)
     }
 
-    /// Notes that the log is durable as far as an LSN. `BadClient`, and what the core refuses.
+    /// Notes that the log is durable up to an LSN. It returns `BadClient`, or what the core refuses.
     pub(crate) fn mark(&mut self, client: u8, lsn: u64) -> Result<(), Refusal>
         ensures { Marks self.old client lsn result self.new }
     {
@@ -73,7 +73,7 @@ impl Pool {
         self.core.mark(client, Lsn::new(lsn))
     }
 
-    /// Forgets old histories, and counts them. `BadClient`, and what the core refuses.
+    /// Forgets old histories, and returns how many. It returns `BadClient`, or what the core refuses.
     pub(crate) fn purge(&mut self, client: u8) -> Result<u64, Refusal>
         ensures { Purges self.old client result self.new }
     {

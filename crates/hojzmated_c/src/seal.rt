@@ -1,4 +1,4 @@
-//! A pool in a block of its own, or none, as a value that crosses to C: one pointer.
+//! `Seal`, one pointer that owns a boxed pool, or null. It is the part of the handle that C must not look into.
 ghost use Rattle.std.specs.Prelude.{◌≡◌, Option, Some, None, IsSome};
 ghost use Rattle.bp_core.specs.CoreView.{CoreView};
 ghost use Rattle.hojzmated_c.specs.Owned.{pool_owns, pool_coded};
@@ -10,7 +10,7 @@ use parts::Parts;
 use std::alloc::Global;
 use std::marker::{Model, Send};
 
-/// Who holds it owns the pool. The pointer is null where there is none.
+/// The owner of a boxed pool. The pointer is null where there is none.
 #[repr(C)]
 #[derive(Drop)]
 pub struct Seal {
@@ -23,18 +23,16 @@ impl Model for Seal {
     ghost also_owns = { λ s. pool_owns s.alloc s.ptr s.pool };
 }
 
-// It is the pool's only owner, and a pool may go to another thread.
+// The seal is the pool's only owner, and a pool may be sent to another thread.
 unsafe impl Send for Seal {}
 
 impl Seal {
-    /// The seal of a boxed pool.
     pub(crate) fn of(whole: Box<Pool, Global>) -> Seal
         ensures { result.pool ≡ Some whole.value }
     {
         Seal::of_parts(Parts::of(whole))
     }
 
-    /// The seal of no pool.
     pub(crate) fn none(alloc: Global) -> Seal
         ensures { result.pool ≡ None }
     {
@@ -44,7 +42,7 @@ impl Seal {
         }
     }
 
-    /// The boxed pool again.
+    /// Returns the boxed pool.
     pub(crate) fn into_box(self) -> Box<Pool, Global>
         requires { IsSome self.pool }
         ensures { self.pool ≡ Some result.value }

@@ -1,14 +1,14 @@
-//! The text of each number.
+//! The text of each number that a call of the C library returns.
 //!
-//! They are those of `explanation_of`, but for two: 1 comes from no list of references here, and the LSN of 12 is in a
-//! field. Four numbers are of C alone. `peers/c/refusals.c` has each text that a call answers once more, and looks
-//! whether it comes.
+//! They are those of `explanation_of`, except for 1 and 12: 1 never comes from a list of references here, and the LSN
+//! of 12 is in a field. 0 and 50 to 52 are only of C. `peers/c/refusals.c` has a second copy of each text that a call
+//! can answer, and compares.
 ghost use Rattle.std.specs.Prelude.{◌≡◌};
 ghost use Rattle.hojzmated_c.specs.Texts.{text_of};
 
 use bp_page::explanation_of;
 
-/// What a number says. One that is no refusal's is unknown.
+/// Returns the text of a number, or `unknown number` where no refusal has it.
 #[tactic(auto, unfolding(crate::specs::Texts::text_of))]
 pub(crate) fn text_of(number: u16) -> &'static str
     ensures { result.now ≡ text_of number }

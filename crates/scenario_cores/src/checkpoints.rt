@@ -1,4 +1,4 @@
-//! What a checkpoint asks of a core, what a core counts, and the device work of more than one page.
+//! Calls for checkpoints, counters, and device work of more than one page.
 ghost use Rattle.std.specs.Prelude.{◌<◌};
 
 use crate::observing::told_of_page;
@@ -11,7 +11,7 @@ use scenario_words::{Answer, Said, Verb};
 use std::sync::Wait;
 
 impl<K: Keeper> Pool<K> {
-    /// Tells what adds no entry.
+    /// Makes a call that adds no entry.
     pub(crate) fn observe(&mut self, call: &Said) -> Answer {
         match call.verb {
             Verb::Redo => lsn_or_none(self.core.redo_from()),
@@ -20,7 +20,7 @@ impl<K: Keeper> Pool<K> {
         }
     }
 
-    /// Flushes all unsaved pages of a core that has a device.
+    /// Flushes all unsaved pages. Without a device the line is a bad one.
     pub(crate) fn flush_all(&mut self, rt: &impl Wait, client: u8) -> Answer
         requires { client < self.old.core.parameters.clients }
     {
@@ -32,7 +32,7 @@ impl<K: Keeper> Pool<K> {
         }
     }
 
-    /// Fixes a new page of a core that has a device.
+    /// Fixes a new page, without a read of it. Without a device the line is a bad one.
     pub(crate) fn fix_new(&mut self, rt: &impl Wait, client: u8, page: PageNo) -> Answer
         requires client { client < self.old.core.parameters.clients }
         requires page { page < self.old.core.parameters.pages }
@@ -53,7 +53,7 @@ impl<K: Keeper> Pool<K> {
         }
     }
 
-    /// Syncs the device, if there is one.
+    /// Syncs the device. Without a device the line is a bad one.
     pub(crate) fn sync(&mut self, rt: &impl Wait) -> Answer {
         match &mut self.device {
             Some(device) => went(device.port.sync(rt)),

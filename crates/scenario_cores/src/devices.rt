@@ -1,4 +1,4 @@
-//! The device of a core whose pages come and go by drivers, or of sessions.
+//! `Device`, the memory device of a driven core or of sessions.
 ghost use Rattle.std.specs.Prelude.{◌≡◌, IfOk};
 
 use crate::outcomes::went;
@@ -9,7 +9,7 @@ use scenario_words::{Answer, Said, Shape, Thing, Verb, filled};
 use std::alloc::Global;
 use std::sync::Wait;
 
-/// A device in memory, and the core's port to it, of which one call may fail.
+/// A device in memory, and a port to it of which one call may fail.
 #[derive(Drop)]
 pub struct Device {
     pub(crate) alloc: Global,
@@ -17,8 +17,8 @@ pub struct Device {
     pub port: FusePort<MemPort>,
 }
 
-/// A device of zeros, and a port to it whose n-th call fails, or none where n is 0. A write that fails may spoil its
-/// page.
+/// Makes a device of zeros, and a port to it whose n-th call fails, or none where n is 0. With `spoils`, a write that
+/// fails spoils its page.
 pub fn new_device(
     alloc: Global,
     geometry: Geometry,
@@ -39,7 +39,7 @@ pub fn new_device(
     }
 }
 
-/// The device of what a line makes, if it has one.
+/// Makes the device of something that a line makes, if it has one.
 pub fn device_for(
     alloc: Global,
     thing: Thing,
@@ -78,8 +78,8 @@ fn page_on(rt: &impl Wait, memory: &MemDevice, page: u64) -> Answer {
     }
 }
 
-/// Puts a page on a device, or tells what it has of one. It goes by a port of its own, so that no call of the core's
-/// port is used up.
+/// Puts a page on a device, or tells a page of it. It uses a port of its own, so it does not count as a call of the
+/// core's port.
 pub(crate) fn call_device(
     alloc: Global,
     rt: &impl Wait,
@@ -95,7 +95,7 @@ pub(crate) fn call_device(
 }
 
 impl Device {
-    /// Puts a page on the device, tells what it has of one, or how many calls of the core's port failed.
+    /// Puts a page on the device, tells a page of it, or tells how many calls of the core's port failed.
     pub fn call(&self, rt: &impl Wait, call: &Said) -> Answer {
         match call.verb {
             Verb::Failures => Answer::Number(self.port.failures()),

@@ -1,4 +1,4 @@
-//! Histories of LRU-K by themselves.
+//! `Timed`, the histories of LRU-K alone.
 ghost use Rattle.std.specs.Prelude.{ℕ, ◌≤◌};
 ghost use Rattle.bp_replacer.specs.Histories.{last_of};
 
@@ -9,7 +9,7 @@ use bp_trail::Reply;
 use scenario_words::{Answer, Said, Shape, Verb, mixed};
 use std::alloc::Global;
 
-/// Of how many pages the digest tells, from 0: more than the first memory for blocks has place for.
+/// The hash covers so many pages, from 0: more than the first allocation of blocks holds.
 const PAGES: u64 = 24;
 
 /// Histories, and the time of the newest reference.
@@ -20,7 +20,7 @@ pub struct Timed {
     ghost by_now: { (page : ℕ) → last_of histories page ≤ now },
 }
 
-/// Histories without a reference. `BadSettings` where a setting is out of its limits.
+/// Makes histories without a reference. It is `BadSettings` where a setting is out of its limits.
 pub fn new_timed(alloc: Global, shape: &Shape) -> Result<Timed, Refusal> {
     match Settings::new(shape.k, shape.correlated, shape.retained) {
         Ok(settings) => Ok(Timed {
@@ -73,8 +73,8 @@ impl Timed {
         Answer::Reply(Reply::Forgot(self.histories.purge(t)))
     }
 
-    /// Makes a call. A page is held before it is faulted and until it leaves, and no time is before the one before it;
-    /// else the line is a bad one, and nothing is called.
+    /// Makes a call. Where the page or the time does not meet what the call requires, or time goes back, the line is a
+    /// bad one, and nothing is called.
     pub fn call(&mut self, call: &Said) -> Answer {
         let [first, second, _] = call.numbers.list;
         let page = PageNo::new(first);
@@ -90,7 +90,8 @@ impl Timed {
         }
     }
 
-    /// One number of what is told of the first pages: which are held, their three newest stamps and newest references.
+    /// Returns a hash of what the first pages have: whether they are held, three newest stamps, and the newest
+    /// reference.
     pub fn told(&self) -> u64 {
         let mut digest = 0;
         for number in 0..PAGES {

@@ -1,14 +1,14 @@
-//! Lists of entries that no core made, before the judge of trails.
+//! `Judged`, a list of entries that no core made, for the judge of trails.
 
 use crate::lists::{LOST, Lists, new_lists};
 use bp_check::{Setup, first_unlawful};
-use bp_lruk::Settings;
+use bp_core::Settings;
 use bp_page::{Bytes, Geometry, Image, Lsn, PageNo, Refusal};
 use bp_trail::{Call, Entry, Grant, Reply};
 use scenario_words::{Answer, Said, Shape, Verb, filled, named, reply_of};
 use std::alloc::Global;
 
-/// A legal list of entries, and what they gave.
+/// A lawful list of entries, and the passes and tickets that they gave.
 #[derive(Drop)]
 pub struct Judged {
     alloc: Global,
@@ -16,8 +16,8 @@ pub struct Judged {
     lists: Lists,
 }
 
-/// A list without an entry. `BadGeometry` or `BadSettings` where a number is out of its limits, `OutOfMemory` where the
-/// list can't be had.
+/// Makes an empty list. It is `BadGeometry` or `BadSettings` where a number is out of its limits, and `OutOfMemory`
+/// where memory is refused.
 pub fn new_judged(alloc: Global, shape: &Shape) -> Result<Judged, Refusal> {
     let setup = Setup {
         geometry: Geometry::new(shape.pages, shape.size)?,
@@ -35,7 +35,7 @@ pub fn new_judged(alloc: Global, shape: &Shape) -> Result<Judged, Refusal> {
     }
 }
 
-/// The page that a call is about, if it is one that may give a pass or a ticket to read.
+/// Returns the page of a call that may give a pass or a ticket to read, else page 0.
 fn page_of(call: &Call) -> PageNo {
     match call {
         Call::Fix(page) | Call::ReadEnd { page, .. } => *page,
@@ -43,7 +43,7 @@ fn page_of(call: &Call) -> PageNo {
     }
 }
 
-/// What an entry gave, if it gave something, and whether that is a pass.
+/// Returns the pass or the ticket that an entry gave, and whether it is a pass.
 fn gave_by(entry: &Entry) -> Option<(bool, Grant)> {
     let called = page_of(&entry.call);
     let (is_pass, page, serial) = match &entry.reply {
@@ -61,7 +61,7 @@ fn gave_by(entry: &Entry) -> Option<(bool, Grant)> {
     Some((is_pass, grant))
 }
 
-/// A call that has a client and a number.
+/// Returns the client and the call of a line that names both by numbers.
 fn plain(call: &Said) -> Option<(u8, Call)> {
     let [client, second, _] = call.numbers.list;
     let Ok(client) = u8::try_from(client) else {
@@ -92,7 +92,7 @@ impl Judged {
         }
     }
 
-    /// The call of an entry with what was given.
+    /// Returns the call of an entry that uses a pass or a ticket.
     fn use_of(&self, call: &Said, grant: Grant) -> Option<Call> {
         let [offset, lsn, _] = call.numbers.list;
         let (serial, page) = (grant.serial, grant.page);
@@ -130,7 +130,7 @@ impl Judged {
         }
     }
 
-    /// What was given that a call names, if it names something.
+    /// Returns the pass or ticket that a line names.
     fn grant_of(&self, call: &Said) -> Option<Grant> {
         match call.verb {
             Verb::Read | Verb::Write | Verb::Unfix => named(&self.lists.passes, &call.name),
@@ -141,7 +141,7 @@ impl Judged {
         }
     }
 
-    /// The client and the call of an entry, if an entry has such a call.
+    /// Returns the client and the call of an entry, or None where no entry has such a call.
     fn call_of(&self, call: &Said) -> Option<(u8, Call)> {
         let Some(grant) = self.grant_of(call) else {
             return plain(call);
@@ -165,7 +165,7 @@ impl Judged {
         }
     }
 
-    /// Adds an entry to the list, if it is lawful after those before it.
+    /// Adds an entry to the list if it is lawful after those before it.
     fn add(&mut self, entry: Entry) -> Answer {
         let gave = gave_by(&entry);
         if self.lists.entries.push(entry).is_err() {
@@ -193,7 +193,7 @@ impl Judged {
         }
     }
 
-    /// Adds the entry that a call and its reply are, if it is lawful after those before it.
+    /// Adds the entry of this call and this reply if it is lawful after those before it.
     pub fn claim(&mut self, call: &Said, reply: &str) -> Answer {
         match self.entry_of(call, reply) {
             Some(entry) => self.add(entry),

@@ -1,5 +1,5 @@
-//! What scenarios call: cores, with a device or without one, and with their trail or only its count; pools with one
-//! owner; histories and candidates of LRU-K; and lists of entries before the judge of trails.
+//! The things that scenarios make and call: cores, with or without a device, with a trail or only its count; pools with
+//! one owner; histories and candidates of LRU-K; and lists of entries for the judge of trails.
 #![tactic(auto)]
 
 pub mod buffers;

@@ -1,31 +1,31 @@
-//! What calls gave, and entries.
+//! `Lists`, the passes and tickets that calls gave, and entries.
 
 use bp_core::{Pass, PassNote};
 use bp_trail::{Entry, Grant, Reply};
 use scenario_words::Answer;
 use std::alloc::Global;
 
-/// For how many passes, and how many tickets, there is memory from the start.
+/// The passes, and the tickets, that have memory from the start.
 const MOST_GIVEN: usize = 64;
 
-/// For how many entries there is memory from the start.
+/// The entries that have memory from the start.
 const MOST_ENTRIES: usize = 512;
 
-/// What was given, by serial numbers, and entries in their order. What has come back stands here too.
+/// Passes and tickets by their serial numbers, and entries in order. What went back stays here.
 #[derive(Drop)]
 pub struct Lists {
     pub alloc: Global,
     pub passes: Vec<Grant>,
     pub tickets: Vec<Grant>,
     pub entries: Vec<Entry>,
-    /// Some entries found no memory here.
+    /// Whether entries were lost for want of memory.
     pub is_short: bool,
 }
 
-/// What a call answers that gave what found no memory here.
+/// The answer of a call whose pass or ticket found no memory here.
 pub const LOST: Answer = Answer::Word("no memory for what it gave");
 
-/// Lists of nothing. None where there is no memory for them.
+/// Makes empty lists. It returns None where memory is refused.
 pub fn new_lists(alloc: Global) -> Option<Lists> {
     let passes = Vec::with_capacity(alloc, MOST_GIVEN);
     let tickets = Vec::with_capacity(alloc, MOST_GIVEN);
@@ -42,12 +42,10 @@ pub fn new_lists(alloc: Global) -> Option<Lists> {
     }
 }
 
-/// The pass that was given so.
 pub fn pass_of(grant: Grant) -> Pass {
     PassNote::of(grant.client, grant.page, grant.serial).pass()
 }
 
-/// What a pass was given as.
 pub fn grant_of(pass: Pass) -> Grant {
     let note = pass.note();
     Grant {
@@ -57,7 +55,7 @@ pub fn grant_of(pass: Pass) -> Grant {
     }
 }
 
-/// Adds what was given, and tries once more where memory is refused. Whether it is there.
+/// Adds a pass or a ticket, and tries again where memory is refused. It returns true if it was added.
 fn add(given: &mut Vec<Grant>, grant: Grant) -> bool {
     match given.push(grant) {
         Ok(()) => true,
@@ -65,19 +63,19 @@ fn add(given: &mut Vec<Grant>, grant: Grant) -> bool {
     }
 }
 
-/// Adds a piece of a trail or of a list, and tries once more where memory is refused. Whether it is there: the piece is
-/// empty then, and has its memory.
+/// Appends a piece of a trail or of a list, and tries again where memory is refused. It returns true if it was
+/// appended. The piece is then empty, and keeps its memory.
 pub fn join(entries: &mut Vec<Entry>, piece: &mut Vec<Entry>) -> bool {
     entries.append(piece).is_ok() || entries.append(piece).is_ok()
 }
 
 impl Lists {
-    /// Adds a pass, as long as there is memory for it.
+    /// Adds a pass. It returns false where memory is refused.
     pub fn keep_pass(&mut self, pass: Grant) -> bool {
         add(&mut self.passes, pass)
     }
 
-    /// The answer of a call that gave a pass.
+    /// Adds the pass that a call gave, and returns the answer of the call.
     pub fn give(&mut self, pass: Pass) -> Answer {
         let grant = grant_of(pass);
         let serial = grant.serial;
@@ -88,12 +86,12 @@ impl Lists {
         }
     }
 
-    /// Adds a ticket, as long as there is memory for it.
+    /// Adds a ticket. It returns false where memory is refused.
     pub fn keep_ticket(&mut self, ticket: Grant) -> bool {
         add(&mut self.tickets, ticket)
     }
 
-    /// Adds a piece of a trail, as long as there is memory for it: else these lists are short.
+    /// Appends a piece of a trail, and answers its length. Where memory is refused, these lists are short.
     pub fn keep_entries(&mut self, piece: &mut Vec<Entry>) -> Answer {
         let count = piece.len() as u64;
         if join(&mut self.entries, piece) {

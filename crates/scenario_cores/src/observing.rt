@@ -1,14 +1,14 @@
-//! What a core tells, which adds no entry.
+//! Calls that tell something of a core, and add no entry.
 
 use crate::outcomes::{lsn_or_none, page_or_none};
 use bp_core::{Keeper, PoolCore};
 use bp_page::PageNo;
 use scenario_words::{Answer, Said, Verb, mixed};
 
-/// Of how many pages the digest tells, from 0.
+/// The hash covers so many pages, from 0.
 const PAGES: u64 = 16;
 
-/// What a core tells of one page, or from a page on.
+/// Answers what a core tells of a page, or from a page on.
 pub(crate) fn told_of_page<K: Keeper>(core: &PoolCore<K>, call: &Said) -> Answer {
     let [number, i, _] = call.numbers.list;
     let page = PageNo::new(number);
@@ -24,8 +24,8 @@ pub(crate) fn told_of_page<K: Keeper>(core: &PoolCore<K>, call: &Said) -> Answer
     }
 }
 
-/// One number of what a core tells: clock, mark, room, and of the first pages stamps, newest references and whether
-/// they are unsaved.
+/// Returns a hash of what a core tells: clock, mark, free room, and of the first pages their stamps, their newest
+/// references and whether they are unsaved.
 pub(crate) fn digest_of<K: Keeper>(core: &PoolCore<K>) -> u64 {
     let mut digest = mixed(core.clock(), core.durable().number());
     digest = mixed(digest, core.free() as u64);

@@ -1,4 +1,4 @@
-//! What calls answer, by their results.
+//! Answers from the results of calls.
 
 use bp_core::Stats;
 use bp_device::{Flushed, NotFlushed};
@@ -7,7 +7,7 @@ use bp_trail::Reply;
 use scenario_words::Answer;
 use std::alloc::Global;
 
-/// What a call answers that gives nothing.
+/// Returns the answer of a call that gives nothing.
 pub fn done(outcome: Result<(), Refusal>) -> Answer {
     match outcome {
         Ok(()) => Answer::Reply(Reply::Done),
@@ -15,7 +15,6 @@ pub fn done(outcome: Result<(), Refusal>) -> Answer {
     }
 }
 
-/// What a read answers.
 pub fn content(read: Result<Image, Refusal>) -> Answer {
     match read {
         Ok(image) => Answer::Reply(Reply::Content(image)),
@@ -23,7 +22,7 @@ pub fn content(read: Result<Image, Refusal>) -> Answer {
     }
 }
 
-/// What a flush answers that is whole.
+/// Returns the answer of a flush that was done with its write-out.
 pub fn flushed(outcome: Result<Flushed, Refusal>) -> Answer {
     match outcome {
         Ok(Flushed::Clean) => Answer::Reply(Reply::Clean),
@@ -34,7 +33,6 @@ pub fn flushed(outcome: Result<Flushed, Refusal>) -> Answer {
     }
 }
 
-/// What a flush of all answers.
 pub fn flushed_all(outcome: Result<(), NotFlushed>) -> Answer {
     match outcome {
         Ok(()) => Answer::Reply(Reply::Done),
@@ -42,7 +40,7 @@ pub fn flushed_all(outcome: Result<(), NotFlushed>) -> Answer {
     }
 }
 
-/// What a write of a device answers, or its sync.
+/// Returns the answer of a write or a sync of a device.
 pub fn went(outcome: Result<(), PortFault>) -> Answer {
     match outcome {
         Ok(()) => Answer::Reply(Reply::Done),
@@ -50,7 +48,6 @@ pub fn went(outcome: Result<(), PortFault>) -> Answer {
     }
 }
 
-/// The number of a page, if there is one.
 pub fn page_or_none(page: Option<PageNo>) -> Answer {
     match page {
         Some(page) => Answer::Number(page.number()),
@@ -58,7 +55,6 @@ pub fn page_or_none(page: Option<PageNo>) -> Answer {
     }
 }
 
-/// An LSN, if there is one.
 pub fn lsn_or_none(lsn: Option<Lsn>) -> Answer {
     match lsn {
         Some(lsn) => Answer::Number(lsn.number()),
@@ -66,7 +62,7 @@ pub fn lsn_or_none(lsn: Option<Lsn>) -> Answer {
     }
 }
 
-/// What is counted, but for so many of the reads that failed.
+/// Returns the counters as text, less so many of the failed reads.
 pub fn stats_of(alloc: Global, stats: &Stats, unread: u64) -> Answer {
     let totals = &stats.totals;
     let text = format!(in alloc;
@@ -91,7 +87,6 @@ pub fn stats_of(alloc: Global, stats: &Stats, unread: u64) -> Answer {
     }
 }
 
-/// What a purge answers.
 pub fn forgot(count: Result<u64, Refusal>) -> Answer {
     match count {
         Ok(count) => Answer::Reply(Reply::Forgot(count)),

@@ -1,4 +1,4 @@
-//! A pool with one owner that is called by lines.
+//! `Owned`, a pool with one owner that is called by lines.
 
 use crate::buffers::{Span, bytes_read};
 use crate::devices::{Device, call_device, new_device};
@@ -6,16 +6,15 @@ use crate::lists::{LOST, Lists, grant_of, new_lists, pass_of};
 use crate::observing::{digest_of, told_of_page};
 use crate::outcomes::{done, flushed, flushed_all, forgot, lsn_or_none, stats_of, went};
 use crate::pools::{Pool, pool_of};
-use bp_core::Keeper;
+use bp_core::{Keeper, Settings};
 use bp_device::{FusePort, MemDevice, MemPort, OwnedPool, Port};
-use bp_lruk::Settings;
 use bp_page::{Geometry, Image, Lsn, PageNo, Refusal};
 use bp_trail::{Grant, Reply};
 use scenario_words::{Answer, Said, Shape, Verb, named};
 use std::alloc::Global;
 use std::sync::Wait;
 
-/// A pool with one owner that is called by lines, its device, and the passes that it gave.
+/// A pool with one owner, its device, and what it gave.
 #[derive(Drop)]
 pub struct Owned<K: Keeper> {
     alloc: Global,
@@ -25,7 +24,8 @@ pub struct Owned<K: Keeper> {
     unread: u64,
 }
 
-/// A pool with one owner of this shape, with a device of its own.
+/// Makes a pool with one owner of this shape, with a device of zeros. It is refused as `OwnedPool::over` is, and
+/// `BadGeometry` where the pages are out of their limits.
 pub fn new_owned<K: Keeper>(alloc: Global, shape: &Shape) -> Result<Owned<K>, Refusal> {
     let geometry = Geometry::new(shape.pages, shape.size)?;
     let settings = Settings::new(shape.k, shape.correlated, shape.retained)?;
@@ -45,8 +45,8 @@ pub fn new_owned<K: Keeper>(alloc: Global, shape: &Shape) -> Result<Owned<K>, Re
     }
 }
 
-/// The device over which a core gets an owner: one of so many pages of so many bytes where the line names them, else its
-/// own, or a new one where it has none.
+/// Returns the device for a core that gets an owner: a new one of so many pages of so many bytes where the line names
+/// them, else its own, or a new one where it has none.
 fn device_of(
     alloc: Global,
     core: Geometry,
@@ -63,7 +63,8 @@ fn device_of(
     }
 }
 
-/// A pool with one owner of a core, over its device or as the line says. What was given stays out.
+/// Makes a pool with one owner of a core, over its device or as the line says. What was given stays out. It is refused
+/// as `OwnedPool::new` is.
 pub fn owned_of<K: Keeper>(core: Pool<K>, call: &Said) -> Result<Owned<K>, Refusal> {
     let Pool {
         alloc,
@@ -86,7 +87,7 @@ pub fn owned_of<K: Keeper>(core: Pool<K>, call: &Said) -> Result<Owned<K>, Refus
 }
 
 impl<K: Keeper> Owned<K> {
-    /// Its core, with its device and what it gave.
+    /// Takes it apart into its core, with its device and what it gave.
     pub fn into_pool(self) -> Pool<K> {
         let (core, port) = self.pool.into_parts();
         let device = Device {
@@ -108,7 +109,7 @@ impl<K: Keeper> Owned<K> {
         }
     }
 
-    /// Tells the bytes of a page. Its pass is the next by number, and has gone back.
+    /// Answers the bytes of a page. Its pass has the next number, and has gone back.
     fn look(&mut self, rt: &impl Wait, page: PageNo) -> Answer {
         let (alloc, serial) = (self.alloc, self.lists.passes.len() as u64);
         let shown = match self
@@ -129,7 +130,7 @@ impl<K: Keeper> Owned<K> {
         }
     }
 
-    /// A call that a core has by a client, who is here the owner, number 0.
+    /// Makes a call of the owner, who is client 0.
     fn by_owner(&mut self, rt: &impl Wait, call: &Said) -> Answer {
         let [client, number, _] = call.numbers.list;
         let page = PageNo::new(number);
@@ -185,7 +186,7 @@ impl<K: Keeper> Owned<K> {
         }
     }
 
-    /// A call with a pass.
+    /// Makes a call with a pass.
     fn by_pass(&mut self, call: &Said) -> Answer {
         let [offset, number, _] = call.numbers.list;
         let named = named(&self.lists.passes, &call.name);
@@ -203,7 +204,7 @@ impl<K: Keeper> Owned<K> {
         }
     }
 
-    /// What the pool tells, its core, its port or its device.
+    /// Answers what the pool, its core, its port or its device tells without an entry.
     fn tell(&self, rt: &impl Wait, call: &Said) -> Answer {
         let core = self.pool.core();
         match call.verb {
@@ -241,7 +242,7 @@ impl<K: Keeper> Owned<K> {
         }
     }
 
-    /// One number of what its core tells.
+    /// Returns a hash of what its core tells.
     pub fn told(&self) -> u64 {
         digest_of(self.pool.core())
     }

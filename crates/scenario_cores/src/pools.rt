@@ -1,33 +1,31 @@
-//! A core that is called by lines.
+//! `Pool`, a core that is called by lines.
 ghost use Rattle.std.specs.Prelude.{◌≡◌, ◌<◌, IfSome, IsTrue};
 
 use crate::devices::{Device, device_for};
 use crate::lists::{LOST, Lists, new_lists};
 use crate::observing::digest_of;
 use crate::outcomes::{done, flushed, forgot};
-use bp_core::{Fix, Flush, Keeper, PoolCore, ReadTicket, WriteTicket};
+use bp_core::{Fix, Flush, Keeper, PoolCore, ReadTicket, Settings, WriteTicket};
 use bp_device::{Port, drive_fix, drive_flush};
-use bp_lruk::Settings;
 use bp_page::{Geometry, Image, Lsn, PageNo, Refusal};
 use bp_trail::{Grant, Reply};
 use scenario_words::{Answer, Said, Shape, Thing, Verb};
 use std::alloc::Global;
 use std::sync::Wait;
 
-/// A core that is called by lines, its device if it has one, and what it gave. Its entries here are those that were
-/// cut.
+/// A core, its device if it has one, and what it gave. `lists` has those entries that were cut.
 #[derive(Drop)]
 pub struct Pool<K: Keeper> {
     pub(crate) alloc: Global,
     pub(crate) core: PoolCore<K>,
     pub(crate) device: Option<Device>,
     pub(crate) lists: Lists,
-    /// How many reads by sessions failed for want of memory alone, and were asked for once more. Each left two entries,
-    /// which are not counted.
+    /// The reads by sessions that failed only for want of memory, and were made again. Each left two entries, which are
+    /// not counted.
     pub(crate) unread: u64,
 }
 
-/// A core of this shape, with a device of its own where it is driven.
+/// Makes a core of this shape, with a device of its own if it is driven.
 pub fn new_pool<K: Keeper>(alloc: Global, thing: Thing, shape: &Shape) -> Result<Pool<K>, Refusal> {
     let geometry = Geometry::new(shape.pages, shape.size)?;
     let settings = Settings::new(shape.k, shape.correlated, shape.retained)?;
@@ -48,7 +46,7 @@ pub fn new_pool<K: Keeper>(alloc: Global, thing: Thing, shape: &Shape) -> Result
     }
 }
 
-/// A copy of an image. Where its memory is refused, it is asked for once more.
+/// Copies an image. Where memory is refused, it tries again.
 fn copy_of(alloc: Global, image: &Image) -> Option<Image> {
     match Image::of(alloc, image.bytes()) {
         Ok(copy) => Some(copy),
@@ -56,7 +54,7 @@ fn copy_of(alloc: Global, image: &Image) -> Option<Image> {
     }
 }
 
-/// A core that sessions used, with the device that they used, and what they were given.
+/// Takes over a core that sessions used, with their device and what they were given.
 pub fn pool_of<K: Keeper>(
     alloc: Global,
     core: PoolCore<K>,
@@ -74,7 +72,7 @@ pub fn pool_of<K: Keeper>(
 }
 
 impl<K: Keeper> Pool<K> {
-    /// The client of a number, if there is one.
+    /// Returns the client of a number, or None where the core has none.
     fn client_of(&self, number: u64) -> Option<u8>
         ensures { IfSome result (λ client. client < self.now.core.parameters.clients) }
     {
@@ -166,7 +164,7 @@ impl<K: Keeper> Pool<K> {
         flushed(drive_flush(rt, &mut self.core, &mut device.port, client, page))
     }
 
-    /// A call by a client.
+    /// Makes a call that has a client.
     fn by_client(&mut self, rt: &impl Wait, call: &Said) -> Answer {
         let [number, second, _] = call.numbers.list;
         let Some(client) = self.client_of(number) else {
@@ -185,12 +183,12 @@ impl<K: Keeper> Pool<K> {
         }
     }
 
-    /// The room that is free, and that of the reads that are not counted.
+    /// Returns the free room, with that of the reads that are not counted.
     pub fn free(&self) -> u64 {
         (self.core.free() as u64).saturating_add(self.unread.saturating_mul(2))
     }
 
-    /// What the core tells, or its device.
+    /// Answers what the core or its device tells without an entry.
     fn tell(&self, rt: &impl Wait, call: &Said) -> Answer {
         match (call.verb, &self.device) {
             (Verb::Clock, _) => Answer::Number(self.core.clock()),
@@ -201,7 +199,7 @@ impl<K: Keeper> Pool<K> {
         }
     }
 
-    /// Makes a call. A core that has a device fixes and flushes by drivers.
+    /// Makes a call. A core with a device fixes and flushes by drivers.
     pub fn call(&mut self, rt: &impl Wait, call: &Said) -> Answer {
         match call.verb {
             Verb::Fix
@@ -235,8 +233,8 @@ impl<K: Keeper> Pool<K> {
         }
     }
 
-    /// One number of what the core tells: clock, mark, room, and of the first pages stamps, newest references and
-    /// whether they are unsaved.
+    /// Returns a hash of what the core tells: clock, mark, free room, and of the first pages their stamps, their newest
+    /// references and whether they are unsaved.
     pub fn told(&self) -> u64 {
         digest_of(&self.core)
     }

@@ -1,4 +1,4 @@
-//! Candidates of LRU-K by themselves: a plain list and one in the order of replacement, side by side.
+//! `Ranked`, the candidates of LRU-K alone: a plain list and an index in the order of replacement, side by side.
 
 use crate::outcomes::{done, page_or_none};
 use bp_lruk::{Candidates, Settings, scan};
@@ -6,7 +6,7 @@ use bp_page::{PageNo, Refusal};
 use scenario_words::{Answer, Said, Shape, Verb};
 use std::alloc::Global;
 
-/// Both bodies of the candidates that rank pages by themselves.
+/// Both implementations of the candidates.
 #[derive(Drop)]
 pub struct Ranked {
     alloc: Global,
@@ -16,8 +16,8 @@ pub struct Ranked {
 
 const DIFFER: Answer = Answer::Word("the two bodies differ");
 
-/// Candidates for so many frames. `BadSettings` where a setting is out of its limits, `OutOfMemory` where the lists
-/// can't be had.
+/// Makes candidates for so many frames. It is `BadSettings` where a setting is out of its limits, and `OutOfMemory`
+/// where memory is refused.
 pub fn new_ranked(alloc: Global, shape: &Shape) -> Result<Ranked, Refusal> {
     let settings = Settings::new(shape.k, shape.correlated, shape.retained)?;
     let index = Candidates::new(alloc, shape.frames, settings)?;
@@ -27,8 +27,8 @@ pub fn new_ranked(alloc: Global, shape: &Shape) -> Result<Ranked, Refusal> {
     }
 }
 
-/// What a call comes to that takes a page in or out: true where it did, and false where nothing was called. None where
-/// the two bodies differ.
+/// The result of a call that takes a page in or out: true where it did, and false where it may not be called. None
+/// where the two bodies differ.
 type Taken = Option<bool>;
 
 fn answer_of(taken: Taken) -> Answer {
@@ -84,8 +84,8 @@ impl Ranked {
         }
     }
 
-    /// References a page of 64: one that is there leaves and enters anew, and for another one the victim leaves where
-    /// there is no room. Tells whether there was a victim, unless the two bodies differ.
+    /// References one of 64 pages. A page that is a candidate leaves and enters again; for another one the victim
+    /// leaves where there is no room. It returns whether a victim left, or None where the two bodies differ.
     fn refer(&mut self, state: u64, now: u64) -> Option<bool> {
         let page = PageNo::new((state >> 33) % 64);
         let stamp = if (state >> 32) % 2 == 0 {
@@ -108,15 +108,15 @@ impl Ranked {
         }
     }
 
-    /// Whether both bodies have this page or not, and the same victim.
+    /// Returns true if both bodies give the same answer of this page, and the same victim.
     fn agrees(&self, state: u64, t: u64) -> bool {
         let page = PageNo::new((state >> 33) % 64);
         let is_in_both = self.index.contains(page) == self.list.contains(page);
         is_in_both && self.index.victim(t) == self.list.victim(t)
     }
 
-    /// References so many pages at random, at times that go on, and compares the two bodies after each, also at an
-    /// earlier time. Tells how many victims left.
+    /// References so many random pages at increasing times, and compares the two bodies after each, at an earlier time
+    /// too. It answers the number of victims that left.
     fn walk(&mut self, seed: u64, references: u64) -> Answer {
         let (mut state, mut now, mut left, mut is_same) = (seed, 1u64, 0u64, true);
         for _ in 0..references {
@@ -140,8 +140,8 @@ impl Ranked {
         }
     }
 
-    /// Makes a call. A page enters where it is not and has room, and leaves where it is; else the line is a bad one,
-    /// and nothing is called.
+    /// Makes a call. The line is a bad one, and nothing is called, where a page enters that is a candidate or has no
+    /// room, or leaves that is none.
     pub fn call(&mut self, call: &Said) -> Answer {
         let [first, second, third] = call.numbers.list;
         match call.verb {

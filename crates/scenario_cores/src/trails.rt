@@ -1,4 +1,4 @@
-//! The trail of a core that has it in memory.
+//! Calls about the trail of a core that has it in memory.
 
 use crate::pools::Pool;
 use bp_check::Setup;
@@ -8,7 +8,7 @@ use scenario_words::{Answer, Said, Verb, entry_of, refusals_of, totals_of};
 use std::sync::Wait;
 
 impl Pool<RecordingKeeper> {
-    /// Cuts its trail, which is put after the pieces that were cut before.
+    /// Cuts the trail, and appends it to the pieces that were cut before.
     pub fn cut(&mut self) -> Answer {
         match self.core.cut() {
             Ok(mut piece) => self.lists.keep_entries(&mut piece),
@@ -16,7 +16,7 @@ impl Pool<RecordingKeeper> {
         }
     }
 
-    /// Makes a call, of which some ask for its trail.
+    /// Makes a call of the core or about its trail.
     pub fn ask(&mut self, rt: &impl Wait, call: &Said) -> Answer {
         let [n, _, _] = call.numbers.list;
         match call.verb {
@@ -30,24 +30,25 @@ impl Pool<RecordingKeeper> {
         }
     }
 
-    /// Cuts the rest of its trail, and once more where memory is refused.
+    /// Cuts the rest of the trail. Where memory is refused, it tries again.
     pub fn gather(&mut self) {
         if let Answer::Refused(_) = self.cut() {
             self.cut();
         }
     }
 
-    /// Whether all its entries were cut, and none of them was lost.
+    /// Returns true if all entries were cut, and none was lost.
     pub fn is_gathered(&self) -> bool {
         self.core.trail().is_empty() && !self.lists.is_short
     }
 
-    /// How many entries these are, without the reads that are not counted.
+    /// Returns the number of entries, less those of the reads that are not counted.
     fn counted(&self, entries: &[Entry]) -> u64 {
         (entries.len() as u64).saturating_sub(self.unread.saturating_mul(2))
     }
 
-    /// Whether another core made the same entries. Where reads are not counted it is asked whether it made as many.
+    /// Returns true if another core made the same entries. Where reads are not counted, only their numbers are
+    /// compared.
     pub fn is_joined(&self, pieces: &Pool<RecordingKeeper>) -> bool {
         if self.unread == 0 && pieces.unread == 0 {
             return self.entries() == pieces.entries();
@@ -55,17 +56,16 @@ impl Pool<RecordingKeeper> {
         self.counted(self.entries()) == pieces.counted(pieces.entries())
     }
 
-    /// Whether a core that only counts made as many entries. All entries of this one were cut.
+    /// Returns true if a core that only counts made as many entries. All entries of this one must be cut.
     pub fn is_counted(&self, counted: &Pool<SilentKeeper>) -> bool {
         self.core.free() as u64 == counted.free().saturating_add(self.counted(self.entries()))
     }
 
-    /// The entries that were cut, the oldest first.
+    /// Returns the entries that were cut, oldest first.
     pub fn entries(&self) -> &[Entry] {
         &self.lists.entries
     }
 
-    /// What its trail is judged by.
     pub fn setup(&self) -> Setup {
         Setup {
             geometry: self.core.geometry(),

@@ -1,4 +1,4 @@
-//! Uses of a page by a pass, and ends of reads and write-outs by a ticket.
+//! Calls with a pass, which use its page, and calls with a ticket, which end a read or a write-out.
 ghost use Rattle.std.specs.Prelude.{◌≡◌, IfOk, length};
 
 use crate::buffers::{bytes_read, span_of};
@@ -40,7 +40,7 @@ impl<K: Keeper> Pool<K> {
         }
     }
 
-    /// A call with a ticket.
+    /// Makes a call that has a ticket.
     pub(crate) fn by_ticket(&mut self, call: &Said) -> Answer {
         let Some(ticket) = named(&self.lists.tickets, &call.name) else {
             return Answer::BadLine;
@@ -61,7 +61,7 @@ impl<K: Keeper> Pool<K> {
         content(read)
     }
 
-    /// What the core lends, by both of its calls.
+    /// Answers the bytes that the core lends, by both of its calls.
     fn page(&self, grant: Grant) -> Answer {
         let pass = pass_of(grant);
         let answer = match (self.core.page(&pass), self.core.image(&pass)) {
@@ -96,7 +96,7 @@ impl<K: Keeper> Pool<K> {
         bytes_read(read, span)
     }
 
-    /// Writes a list of bytes, or those of a slice.
+    /// Writes bytes, as a list or from a slice.
     fn write(&mut self, grant: Grant, verb: Verb, offset: u64, bytes: &Bytes, lsn: Lsn) -> Answer {
         let fits = self
             .core
@@ -123,7 +123,7 @@ impl<K: Keeper> Pool<K> {
         }
     }
 
-    /// A call with a pass.
+    /// Makes a call that has a pass.
     pub(crate) fn by_pass(&mut self, call: &Said) -> Answer {
         let Some(pass) = named(&self.lists.passes, &call.name) else {
             return Answer::BadLine;

@@ -1,4 +1,4 @@
-//! One client of a pool, and what it calls.
+//! The calls of one client of a pool.
 ghost use Rattle.std.specs.Prelude.{◌≡◌};
 
 use crate::kinds::Kind;
@@ -16,12 +16,12 @@ use scenario_words::{Answer, Said, Verb, named};
 use std::alloc::Global;
 use std::sync::Wait;
 
-/// What is kept of a client beside its session.
+/// What is kept of a client besides its session.
 #[derive(Drop)]
 pub(crate) struct Note {
-    /// What was cut of the session's list.
+    /// The entries that were cut off the session's list.
     pub(crate) cut: Vec<Entry>,
-    /// How many of its reads failed for want of memory alone.
+    /// The reads of the client that failed only for want of memory.
     pub(crate) unread: u64,
 }
 
@@ -34,17 +34,17 @@ impl Note {
     }
 }
 
-/// What is told of a client without a call.
+/// The numbers of a client that are compared before and after a call.
 #[derive(Clone, Copy)]
 pub(crate) struct Standing {
     pub(crate) held: usize,
     pub(crate) entries: usize,
-    /// The tickets that the list gave and did not end.
+    /// The tickets that the list gave and that did not go back.
     pub(crate) out: u64,
     pub(crate) failures: u64,
 }
 
-/// How many tickets these entries gave, without those that went back.
+/// Returns how many of the tickets that these entries gave did not go back.
 fn tickets_out(entries: &[Entry]) -> u64 {
     let mut out = 0u64;
     for entry in entries {
@@ -58,7 +58,7 @@ fn tickets_out(entries: &[Entry]) -> u64 {
     out
 }
 
-/// What is told of a client with this session, whose port failed so often.
+/// Returns the numbers of a client with this session, whose port had so many failures.
 pub(crate) fn standing_of<N: PoolName, K: Kind>(
     session: &Session<N, K>,
     failures: u64,
@@ -72,7 +72,7 @@ pub(crate) fn standing_of<N: PoolName, K: Kind>(
     }
 }
 
-/// How many of these entries are a client's.
+/// Returns the number of entries of a client.
 fn count_of(entries: &[Entry], client: u8) -> usize {
     let mut count = 0usize;
     for entry in entries {
@@ -83,7 +83,7 @@ fn count_of(entries: &[Entry], client: u8) -> usize {
     count
 }
 
-/// Whether a list is a client's part of a trail of two pieces.
+/// Returns true if a list is a client's part of a trail in two pieces.
 pub(crate) fn is_part(first: &[Entry], rest: &[Entry], list: &[Entry], client: u8) -> bool {
     let count = count_of(first, client);
     count <= list.len()
@@ -91,8 +91,8 @@ pub(crate) fn is_part(first: &[Entry], rest: &[Entry], list: &[Entry], client: u
         && agrees(rest, &list[count..], client)
 }
 
-/// Tells what a line asks of a client without a call of its pool, and cuts its list. None where the line is a call. The
-/// two entries of a read that is not counted are none of its list here.
+/// Answers a line that asks about a client's session or cuts its list. It returns None for a call of the pool. The two
+/// entries of a read that is not counted are not counted in the list's length either.
 pub(crate) fn tell<N: PoolName, K: Kind>(
     session: &mut Session<N, K>,
     note: &mut Note,
@@ -111,7 +111,7 @@ pub(crate) fn tell<N: PoolName, K: Kind>(
     }
 }
 
-/// Fixes a page, or one that is new.
+/// Fixes a page, or a new one.
 fn fix<N: PoolName, K: Kind, R: Wait>(
     rt: &R,
     pool: &SharedPool<N, K>,
@@ -166,7 +166,7 @@ fn read<N: PoolName, K: Kind, R: Wait>(
     content(read)
 }
 
-/// Reads as many bytes as a line asks for, if they lie within the pages of the client's port.
+/// Reads bytes of a page. The line is a bad one where they do not lie within a page of the client's port.
 fn read_into<N: PoolName, K: Kind, R: Wait>(
     rt: &R,
     pool: &SharedPool<N, K>,
@@ -230,7 +230,7 @@ fn unfix<N: PoolName, K: Kind>(
     }
 }
 
-/// A call with a pass.
+/// Makes a call that has a pass.
 fn by_pass<N: PoolName, K: Kind, R: Wait>(
     rt: &R,
     pool: &SharedPool<N, K>,
@@ -253,8 +253,8 @@ fn by_pass<N: PoolName, K: Kind, R: Wait>(
     }
 }
 
-/// Makes a call by a client. A pass that it gives is added to those that were given. So many reads of the pool failed
-/// for want of memory alone.
+/// Makes a call by a client. A pass that it gives is added to `lists`. `unread` reads of the pool failed only for want
+/// of memory.
 pub(crate) fn call<N: PoolName, K: Kind, R: Wait>(
     rt: &R,
     pool: &SharedPool<N, K>,

@@ -1,4 +1,4 @@
-//! The kinds of pool: what each has in memory.
+//! `Kind`, the two kinds of pool: with entries in memory, or with counts only.
 
 use bp_core::{Entry, PoolCore, RecordingKeeper, SilentKeeper};
 use bp_keeper::ListKeeper;
@@ -8,15 +8,14 @@ use scenario_cores::{LOST, Lists, join};
 use scenario_words::Answer;
 use std::sync::Wait;
 
-/// A kind of pool: one that has its entries in memory, or one that only counts them.
 pub trait Kind: ListKeeper {
-    /// What cuts left of a session's list.
+    /// Returns the part of a session's list that is not cut yet.
     fn list<N: PoolName>(session: &Session<N, Self>) -> &[Entry];
 
-    /// What cuts left of a core's trail.
+    /// Returns the part of a core's trail that is not cut yet.
     fn trail(core: &PoolCore<Self>) -> &[Entry];
 
-    /// Cuts the trail, which goes behind what was cut before.
+    /// Cuts the trail, and appends it to what was cut before.
     fn cut_trail<N: PoolName, R: Wait>(
         rt: &R,
         pool: &SharedPool<N, Self>,
@@ -24,11 +23,11 @@ pub trait Kind: ListKeeper {
         lists: &mut Lists,
     ) -> Answer;
 
-    /// Cuts a session's list, which goes behind what was cut before.
+    /// Cuts a session's list, and appends it to what was cut before.
     fn cut_list<N: PoolName>(session: &mut Session<N, Self>, cut: &mut Vec<Entry>) -> Answer;
 }
 
-/// What a cut answers, after which another one in the memory of its piece is to take none, and to find nothing.
+/// Returns the answer of a cut if another cut, into the memory of its piece, needed none and found nothing.
 fn once_more(answer: Answer, again: &Result<Vec<Entry>, Refusal>) -> Answer {
     match again {
         Ok(nothing) if nothing.is_empty() => answer,

@@ -1,6 +1,6 @@
-//! What the lines of a scenario call that share a pool: sessions in turn, and client threads, each by a row of its own.
+//! Plays the lines of a scenario that share a pool: sessions in turn, or client threads, each by rows of its own.
 //!
-//! All lines of such a pool are played by one call, since a pool has a name in its types that no list can hold.
+//! One call plays all lines of such a pool, since the pool has a name in its types, so no list can hold it.
 #![tactic(auto)]
 
 pub mod answers;

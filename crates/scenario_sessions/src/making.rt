@@ -1,4 +1,4 @@
-//! What a pool is made of.
+//! Makes the parts of a pool, and what its clients need.
 ghost use Rattle.std.specs.Prelude.{◌≡◌, [], IfOk};
 ghost use Rattle.bp_trail.specs.Parameters.{Parameters};
 ghost use Rattle.bp_page.specs.declared.limits.Geometry.{Geometry as AGeometry};
@@ -6,9 +6,8 @@ ghost use Rattle.bp_page.specs.declared.limits.Geometry.{Geometry as AGeometry};
 use crate::clients::Note;
 use crate::kinds::Kind;
 use crate::ports::NotingPort;
-use bp_core::PoolCore;
+use bp_core::{PoolCore, Settings};
 use bp_device::{FusePort, MemDevice, MemPort, Port};
-use bp_lruk::Settings;
 use bp_page::{Geometry, Refusal};
 use bp_shared::Parts;
 use scenario_cores::{Device, Lists, new_device, new_lists};
@@ -18,23 +17,24 @@ use std::alloc::Global;
 /// A port of which one call may fail.
 pub(crate) type Fused = FusePort<MemPort>;
 
-/// The same, which tells the page LSN of its newest write.
+/// A port of which one call may fail, and which tells the page LSN of its newest write.
 pub(crate) type Noting = NotingPort<Fused>;
 
-/// What is beside a pool: its device of zeros, the ports of its clients, and what they were told.
+/// What a pool needs besides its parts: its device of zeros, the ports of its clients, their notes, and what they were
+/// given.
 #[derive(Drop)]
 pub(crate) struct Beside {
     pub(crate) device: Device,
-    /// The port of client 0, which may fail once.
+    /// The port of client 0, of which one call may fail.
     pub(crate) first: Noting,
     /// The port of the other clients, which fails only where memory is refused.
     pub(crate) others: Noting,
-    /// A note for each client.
+    /// One for each client.
     pub(crate) notes: Vec<Note>,
     pub(crate) lists: Lists,
 }
 
-/// What a pool is made of. All that its clients need is here too, so that nothing can fail once the pool is there.
+/// All that a pool and its clients need, so that nothing can fail once the pool is there.
 pub(crate) struct Made<K: Kind> {
     pub(crate) core: PoolCore<K>,
     pub(crate) parts: Parts,
@@ -46,7 +46,7 @@ pub(crate) struct Made<K: Kind> {
     pub(crate) ghost others_size: { beside.others.inner.inner.device.size ≡ core.parameters.size },
 }
 
-/// The parts of a pool of this shape. The core comes last, so that what fails has no core to let go.
+/// Makes the parts of a pool of this shape. The core comes last, so that no core is to be dropped where a step fails.
 pub(crate) fn make<K: Kind>(alloc: Global, shape: &Shape) -> Result<Made<K>, Refusal> {
     let geometry = Geometry::new(shape.pages, shape.size)?;
     let settings = Settings::new(shape.k, shape.correlated, shape.retained)?;
@@ -61,7 +61,6 @@ pub(crate) fn make<K: Kind>(alloc: Global, shape: &Shape) -> Result<Made<K>, Ref
     })
 }
 
-/// What is beside a pool of this shape, with a device of this geometry.
 fn new_beside(alloc: Global, geometry: Geometry, shape: &Shape) -> Result<Beside, Refusal>
     ensures first { IfOk result (λ beside. beside.first.inner.inner.device ≡ geometry) }
     ensures others { IfOk result (λ beside. beside.others.inner.inner.device ≡ geometry) }
@@ -82,7 +81,6 @@ fn new_beside(alloc: Global, geometry: Geometry, shape: &Shape) -> Result<Beside
     })
 }
 
-/// A note for each of so many clients.
 fn new_notes(alloc: Global, clients: u8) -> Result<Vec<Note>, Refusal> {
     let mut notes = Vec::new(alloc);
     for _ in 0..clients {
@@ -93,7 +91,8 @@ fn new_notes(alloc: Global, clients: u8) -> Result<Vec<Note>, Refusal> {
     Ok(notes)
 }
 
-/// A port to the device whose n-th call fails, or none where n is 0. A write that fails may spoil its page.
+/// Makes a port to the device whose n-th call fails, or none where n is 0. With `spoils`, a write that fails spoils its
+/// page.
 pub(crate) fn new_port(
     alloc: Global,
     device: &MemDevice,

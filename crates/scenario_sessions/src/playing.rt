@@ -1,4 +1,4 @@
-//! All lines of a pool that sessions use in turn.
+//! `play_pool`, which plays all lines of a pool that sessions use in turn.
 ghost use Rattle.std.specs.Prelude.{◌≡◌};
 
 use crate::answers::Answers;
@@ -14,7 +14,7 @@ use std::alloc::Global;
 use std::marker::Brand;
 use std::sync::Wait;
 
-/// How a pool is played: in which way, of which shape, and by which lines after the first.
+/// The way, the shape and the lines of a pool, except for the line that makes it.
 #[derive(Clone, Copy)]
 struct Play<'a> {
     alloc: Global,
@@ -23,7 +23,7 @@ struct Play<'a> {
     lines: &'a [String],
 }
 
-/// The lines over a new pool. Its core is left, or the pool was refused.
+/// Plays the lines over a new pool. It returns the pool's core, or the refusal of the pool.
 fn play_over<N: PoolName, K: Kind, R: Wait>(
     rt: &R,
     play: &Play<'_>,
@@ -58,9 +58,9 @@ fn try_play<K: Kind, R: Wait>(
     }
 }
 
-/// Plays a pool of this shape by the lines after the one that makes it, of which the last ends it. The pool's core is
-/// left, with what cuts took of its trail. Where the pool is refused memory, it is made once more; where it is refused,
-/// there is none, and no line was called.
+/// Plays a pool of this shape by the lines after the one that makes it; the last of them ends it. It returns the pool's
+/// core, with what was cut off its trail. A pool that is refused memory is made again; where it is refused, there is no
+/// core, and no line was called.
 pub fn play_pool<K: Kind, R: Wait>(
     rt: &R,
     alloc: Global,

@@ -1,10 +1,10 @@
-//! The port of a session.
+//! `NotingPort`, the port of a session.
 
 use bp_device::Port;
 use bp_page::{Geometry, Image, Lsn, PageNo, PortFault};
 use std::sync::Wait;
 
-/// A port over another one that notes the page LSN of its newest write.
+/// A port that notes the page LSN of its newest write.
 #[derive(Drop)]
 pub(crate) struct NotingPort<P: Port> {
     pub(crate) inner: P,
@@ -15,14 +15,12 @@ pub(crate) struct NotingPort<P: Port> {
 impl<P: Port> NotingPort<P> {
     ghost use Rattle.std.specs.Prelude.{◌≡◌};
 
-    /// A port by which nothing was written.
     pub(crate) fn new(inner: P) -> NotingPort<P>
         ensures { result.inner ≡ inner }
     {
         NotingPort { inner, lsn: 0 }
     }
 
-    /// The page LSN of the newest write, or 0.
     pub(crate) fn lsn(&self) -> u64 {
         self.lsn
     }

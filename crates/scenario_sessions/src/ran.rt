@@ -1,4 +1,4 @@
-//! What a run of client threads left.
+//! `Ran`, the outcome of a run of client threads.
 
 use bp_check::Setup;
 use bp_core::{Call, Entry, Reply};
@@ -8,7 +8,7 @@ use scenario_words::{Answer, Said, Verb, entry_of, refusals_of, totals_of};
 use std::alloc::Global;
 use std::sync::Wait;
 
-/// What a run left: its trail, what that is judged by, the list of each client, and its device.
+/// The outcome of a run: its trail, the judge's parameters, the list of each client, and the device.
 #[derive(Drop)]
 pub struct Ran {
     alloc: Global,
@@ -18,7 +18,7 @@ pub struct Ran {
     said: Vec<Vec<Entry>>,
 }
 
-/// How many reads of the device began before one had ended.
+/// Returns the number of reads that began before the first one ended.
 fn reads_at_once(trail: &[Entry]) -> u64 {
     let mut begun = 0u64;
     for entry in trail {
@@ -32,7 +32,7 @@ fn reads_at_once(trail: &[Entry]) -> u64 {
     begun
 }
 
-/// How many write-outs began before one had ended.
+/// Returns the number of write-outs that began before the first one ended.
 fn writes_at_once(trail: &[Entry]) -> u64 {
     let mut begun = 0u64;
     for entry in trail {
@@ -62,17 +62,16 @@ impl Ran {
         }
     }
 
-    /// What its trail is judged by.
     pub fn setup(&self) -> Setup {
         self.setup
     }
 
-    /// All entries, the oldest first.
+    /// Returns all entries, oldest first.
     pub fn trail(&self) -> &[Entry] {
         &self.trail
     }
 
-    /// How many entries a client's list has.
+    /// Answers the length of a client's list.
     fn list(&self, client: u64) -> Answer {
         match self.said.get(client as usize) {
             Some(list) => Answer::Number(list.len() as u64),
@@ -80,7 +79,7 @@ impl Ran {
         }
     }
 
-    /// Tells what a line asks of it.
+    /// Answers a line that asks about the run.
     pub fn call(&self, rt: &impl Wait, call: &Said) -> Answer {
         match call.verb {
             Verb::Trail => Answer::Number(self.trail.len() as u64),

@@ -1,4 +1,4 @@
-//! What the rows of client threads answered.
+//! The answers of the rows of client threads.
 
 use crate::answers::Answers;
 use crate::scripts::Asked;
@@ -8,7 +8,7 @@ use bp_workers::Outcome;
 use scenario_words::Answer;
 use std::alloc::Global;
 
-/// The number of the refusal of a row, if it was refused.
+/// Returns the number with which a row was refused, or None where it was not.
 fn refusal_of(refused: &[Refused], row: u64) -> Option<u16> {
     for it in refused {
         if it.row == row {
@@ -18,7 +18,7 @@ fn refusal_of(refused: &[Refused], row: u64) -> Option<u16> {
     None
 }
 
-/// A copy of an image. Where memory is refused, it is asked for once more.
+/// Copies an image. Where memory is refused, it tries again.
 fn copy_of(alloc: Global, image: &Image) -> Answer {
     let copied = match Image::of(alloc, image.bytes()) {
         Ok(copy) => Ok(copy),
@@ -30,7 +30,7 @@ fn copy_of(alloc: Global, image: &Image) -> Answer {
     }
 }
 
-/// The image that a list has after so many others.
+/// Returns the image of a list that comes after so many others.
 fn image_after(alloc: Global, list: &[Entry], before: u64) -> Answer {
     let mut seen = 0u64;
     for entry in list {
@@ -44,7 +44,7 @@ fn image_after(alloc: Global, list: &[Entry], before: u64) -> Answer {
     Answer::Word("nothing")
 }
 
-/// How many of the first of these lines read for a client, and were not refused.
+/// Returns the number of reads of a client among the first of these lines, without those that were refused.
 fn reads_of(asked: &[Option<Asked>], count: usize, refused: &[Refused], client: u8) -> u64 {
     let (mut reads, mut row) = (0u64, 0u64);
     for it in asked.iter().take(count) {
@@ -60,7 +60,7 @@ fn reads_of(asked: &[Option<Asked>], count: usize, refused: &[Refused], client: 
     reads
 }
 
-/// What the line at a place answered: the number of a refusal, the image that a read gave, or `done`.
+/// Returns the answer of the line at a place: the number of a refusal, the image that a read gave, or `done`.
 fn answer_at(alloc: Global, asked: &[Option<Asked>], at: usize, outcome: &Outcome) -> Answer {
     let Some(Some(it)) = asked.get(at) else {
         return Answer::BadLine;

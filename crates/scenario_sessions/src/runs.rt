@@ -1,4 +1,4 @@
-//! A run of client threads.
+//! `play_run`, which plays the lines of a pool that client threads use.
 ghost use Rattle.std.specs.Prelude.{◌≡◌, All, IfOk};
 ghost use Rattle.bp_page.specs.declared.limits.Geometry.{Geometry as AGeometry};
 
@@ -7,9 +7,8 @@ use crate::making::new_port;
 use crate::ran::Ran;
 use crate::scripts::{Asked, Script, script_of};
 use bp_check::Setup;
-use bp_core::Row;
+use bp_core::{Row, Settings};
 use bp_device::{FusePort, GatePort, MemDevice, MemPort, Port};
-use bp_lruk::Settings;
 use bp_page::{Geometry, Refusal};
 use bp_workers::{Config, Outcome, run_clients, scripts_fit};
 use scenario_cores::{Device, new_device};
@@ -19,7 +18,6 @@ use std::marker::{Send, Sync};
 use std::sync::Wait;
 use std::thread::Threads;
 
-/// What a run of these lines left.
 #[derive(Drop)]
 struct Run {
     device: Device,
@@ -27,7 +25,7 @@ struct Run {
     outcome: Outcome,
 }
 
-/// A port for each client. That of client 0 may fail once.
+/// Makes a port for each client. One call of client 0's port may fail.
 fn fuses(
     alloc: Global,
     device: &MemDevice,
@@ -46,7 +44,7 @@ fn fuses(
     Ok(ports)
 }
 
-/// Two ports that wait for one another. The first may fail once.
+/// Makes two ports of which each waits for a call of the other. One call of the first may fail.
 fn gates(
     alloc: Global,
     device: &MemDevice,
@@ -63,7 +61,7 @@ fn gates(
     Ok(ports)
 }
 
-/// A run of these scripts, as long as they may be run: `BadSettings` where they may not.
+/// Runs these scripts. It is `BadSettings` where they do not meet what a run requires.
 fn run_over<P: Port + Send, R: Threads + Wait + Sync>(
     rt: &R,
     alloc: Global,
@@ -81,7 +79,7 @@ fn run_over<P: Port + Send, R: Threads + Wait + Sync>(
     }
 }
 
-/// A run over ports to this device.
+/// Runs the scripts over ports to this device.
 fn run_on<R: Threads + Wait + Sync>(
     rt: &R,
     alloc: Global,
@@ -104,7 +102,6 @@ fn run_on<R: Threads + Wait + Sync>(
     }
 }
 
-/// What a run of this shape is made with.
 fn config_of(shape: &Shape) -> Result<Config, Refusal> {
     Ok(Config {
         geometry: Geometry::new(shape.pages, shape.size)?,
@@ -136,8 +133,8 @@ fn try_run<R: Threads + Wait + Sync>(
     }
 }
 
-/// Whether one row was refused memory, or a port had none for the image of a read: no port of this shape fails
-/// otherwise. One request is refused at most, so a run with two such rows is not made once more, and is told.
+/// Returns true if one row was refused memory, or its port had none for the image of a read: a port of this shape fails
+/// for no other reason. At most one request is refused, so a run with two such rows is not made again, and is reported.
 fn lacks_memory(run: &Run, shape: &Shape) -> bool {
     let is_sound = shape.fuse == 0 && shape.turns == 0;
     let mut lacking = 0u64;
@@ -149,7 +146,7 @@ fn lacks_memory(run: &Run, shape: &Shape) -> bool {
     lacking == 1
 }
 
-/// A run, and once more where memory was refused.
+/// Makes a run, and makes it again where memory was refused.
 fn run_again<R: Threads + Wait + Sync>(
     rt: &R,
     alloc: Global,
@@ -183,9 +180,9 @@ fn left_by(alloc: Global, config: &Config, clients: u8, run: Run, answers: &mut 
     Ran::new(alloc, device, setup, outcome)
 }
 
-/// Runs client threads over a pool of this shape, by the lines after the one that makes it, of which the last ends it.
-/// Each other line is a row of a trace. Where a run was refused memory, it is made once more; where it is refused, no
-/// line was called.
+/// Runs client threads over a pool of this shape, by the lines after the one that makes it; the last of them ends it.
+/// Each other line is a row of a trace. A run that was refused memory is made again; where it is refused, no line was
+/// called.
 pub fn play_run<R: Threads + Wait + Sync>(
     rt: &R,
     alloc: Global,

@@ -1,27 +1,26 @@
-//! Lines as the rows of client threads.
+//! `Script`, the lines of a run as rows of its client threads.
 
 use bp_core::{Row, Step};
 use bp_page::Geometry;
 use bp_trace::read_script;
 use std::alloc::Global;
 
-/// Whose row a line is, and whether it reads.
+/// The client of a line's row, and whether the row is a read.
 #[derive(Clone, Copy)]
 pub(crate) struct Asked {
     pub(crate) client: u8,
     pub(crate) reads: bool,
 }
 
-/// The rows of some lines.
 #[derive(Drop)]
 pub(crate) struct Script {
     /// What each line asks for, or None where it is no row of a client.
     pub(crate) asked: Vec<Option<Asked>>,
-    /// The rows of each client. They have the numbers of their lines, from 1.
+    /// The rows of each client. Their numbers are those of their lines, from 1.
     pub(crate) by_client: Vec<Vec<Row>>,
 }
 
-/// The row that a line is, if it is one. None too where there is no memory for it.
+/// Parses a line as a row. It returns None where it is none, or memory is refused.
 fn row_of(alloc: Global, geometry: &Geometry, line: &str, number: u64) -> Option<Row> {
     let mut rows = read_script(alloc, &mut line.as_bytes(), geometry).ok()?;
     let mut row = rows.pop()?;
@@ -29,7 +28,7 @@ fn row_of(alloc: Global, geometry: &Geometry, line: &str, number: u64) -> Option
     Some(row)
 }
 
-/// The same. Where memory may have been refused, the line is read once more.
+/// Parses a line as a row. Where memory may have been refused, it tries again.
 fn row_again(alloc: Global, geometry: &Geometry, line: &str, number: u64) -> Option<Row> {
     match row_of(alloc, geometry, line, number) {
         Some(row) => Some(row),
@@ -38,8 +37,7 @@ fn row_again(alloc: Global, geometry: &Geometry, line: &str, number: u64) -> Opt
 }
 
 impl Script {
-    /// Puts a row at the end of its client's script, if there is such a client, and tries once more where memory is
-    /// refused.
+    /// Appends a row to its client's script, if there is such a client, and tries again where memory is refused.
     fn put(&mut self, row: Row) -> Option<Asked> {
         let asked = Asked {
             client: row.client,
@@ -55,7 +53,7 @@ impl Script {
         }
     }
 
-    /// Takes the row that a line is, if it is one. False where there is no memory for what it asks.
+    /// Takes the row of a line, if the line is one. It returns false where memory is refused.
     fn take(&mut self, row: Option<Row>) -> bool {
         let asked = match row {
             Some(row) => self.put(row),
@@ -65,7 +63,7 @@ impl Script {
     }
 }
 
-/// Scripts without a row for so many clients. None where there is no memory for them.
+/// Makes empty scripts for so many clients. It returns None where memory is refused.
 fn empty(alloc: Global, clients: u8) -> Option<Script> {
     let mut by_client = Vec::new(alloc);
     for _ in 0..clients {
@@ -77,7 +75,7 @@ fn empty(alloc: Global, clients: u8) -> Option<Script> {
     })
 }
 
-/// The rows of these lines. None where there is no memory for them.
+/// Returns the rows of these lines, or None where memory is refused.
 pub(crate) fn script_of(
     alloc: Global,
     geometry: &Geometry,

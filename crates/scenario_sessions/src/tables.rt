@@ -1,4 +1,4 @@
-//! A pool that sessions use in turn.
+//! `Table`, an open pool that sessions use in turn.
 ghost use Rattle.std.specs.Prelude.{◌≡◌};
 
 use crate::answers::Answers;
@@ -15,7 +15,7 @@ use scenario_words::{Answer, Said, Verb, Way, session_call_of};
 use std::alloc::Global;
 use std::sync::Wait;
 
-/// A pool that is open, with its clients, and what it gave.
+/// An open pool, its sessions, and what it gave.
 pub(crate) struct Table<N: PoolName, K: Kind> {
     alloc: Global,
     way: Way,
@@ -31,7 +31,7 @@ pub(crate) struct Table<N: PoolName, K: Kind> {
     ghost others_size: { beside.others.inner.inner.device.size ≡ N.parameters.size },
 }
 
-/// A pool over what was made.
+/// Opens a pool over its parts.
 pub(crate) fn open<N: PoolName, K: Kind>(
     alloc: Global,
     way: Way,
@@ -66,19 +66,19 @@ pub(crate) fn open<N: PoolName, K: Kind>(
     })
 }
 
-/// What a call lacked.
+/// What a call lacked, if it failed for want of memory.
 #[derive(Clone, Copy)]
 enum Lack {
     Nothing,
     Memory,
     /// Its port had no memory for the image of a read.
     Image,
-    /// It lacked memory, and changed what is told.
+    /// It lacked memory, but changed what is told.
     Change,
 }
 
-/// What a call lacked that answers so, with what was told before it and after it. A fix and a flush may leave entries,
-/// where memory was wanted after their first event; no call leaves a pass or a ticket.
+/// Returns what a call with this answer lacked, by what was told before and after it. A fix or a flush may leave
+/// entries, where memory was wanted after its first event; no call may leave a pass or a ticket.
 fn lack_of(verb: Verb, answer: &Answer, before: Standing, after: Standing) -> Lack {
     let is_image = matches!(answer, Answer::Refused(Refusal::ReadFailed))
         && before.failures == after.failures;
@@ -93,7 +93,7 @@ fn lack_of(verb: Verb, answer: &Answer, before: Standing, after: Standing) -> La
     if is_image { Lack::Image } else { Lack::Memory }
 }
 
-/// Whether a call drains the rings, as a cut of the trail does.
+/// Returns true for a call that drains the rings, as a cut of the trail does.
 fn drains(verb: Verb) -> bool {
     matches!(
         verb,
@@ -114,7 +114,7 @@ fn drains(verb: Verb) -> bool {
     )
 }
 
-/// What a cut after a call answered, where that is no number. One that is refused memory is counted.
+/// Returns the answer of a cut if it is neither a number nor refused memory. Refused memory is counted.
 fn fault_of(answer: Answer, answers: &mut Answers) -> Option<Answer> {
     match answer {
         Answer::Number(_) => None,
@@ -126,7 +126,7 @@ fn fault_of(answer: Answer, answers: &mut Answers) -> Option<Answer> {
     }
 }
 
-/// The call that a line is. Where memory may have been refused, it is read once more.
+/// Parses a line as a call. Where memory may have been refused, it tries again.
 fn read_again(alloc: Global, line: &str) -> Option<Said> {
     match session_call_of(alloc, line) {
         Some(call) => Some(call),
@@ -144,7 +144,7 @@ impl<N: PoolName, K: Kind> Table<N, K> {
         K::cut_trail(rt, &self.pool, &mut self.taker, &mut self.beside.lists)
     }
 
-    /// How often a client's port failed.
+    /// Returns the number of failures of a client's port.
     fn failures(&self, client: u64) -> u64 {
         if client == 0 {
             self.beside.first.failures()
@@ -153,7 +153,7 @@ impl<N: PoolName, K: Kind> Table<N, K> {
         }
     }
 
-    /// The page LSN of the newest write of a client's port, or 0.
+    /// Returns the page LSN of the newest write of a client's port, or 0.
     fn newest_lsn(&self, client: u64) -> u64 {
         if client == 0 {
             self.beside.first.lsn()
@@ -162,7 +162,7 @@ impl<N: PoolName, K: Kind> Table<N, K> {
         }
     }
 
-    /// How many reads of all clients failed for want of memory alone.
+    /// Returns the number of reads of all clients that failed only for want of memory.
     fn unread(&self) -> u64 {
         let mut unread = 0u64;
         for note in self.beside.notes.iter() {
@@ -171,7 +171,7 @@ impl<N: PoolName, K: Kind> Table<N, K> {
         unread
     }
 
-    /// Does what a line asks of a client.
+    /// Makes the call of a line that names a client.
     fn ask_client<R: Wait>(&mut self, rt: &R, line: &Said) -> Answer {
         let [client, _, _] = line.numbers.list;
         let (failures, lsn) = (self.failures(client), self.newest_lsn(client));
@@ -234,7 +234,7 @@ impl<N: PoolName, K: Kind> Table<N, K> {
         }
     }
 
-    /// Makes a call, and once more where it was refused memory, which is to have changed nothing that is told.
+    /// Makes a call, and makes it again where memory was refused. That must have changed nothing that is told.
     fn ask<R: Wait>(&mut self, rt: &R, call: &Said, answers: &mut Answers) -> Answer {
         let [client, _, _] = call.numbers.list;
         let before = self.told(client);
@@ -252,8 +252,8 @@ impl<N: PoolName, K: Kind> Table<N, K> {
         answer
     }
 
-    /// Cuts the trail and all lists, and counts each cut that is refused memory: the next one is to have it all. Tells
-    /// what else a cut answered.
+    /// Cuts the trail and all lists, and counts each cut that is refused memory: the next one must have its entries. It
+    /// returns any other answer of a cut.
     fn cut_all<R: Wait>(&mut self, rt: &R, answers: &mut Answers) -> Option<Answer> {
         let mut wrong = fault_of(self.cut(rt), answers);
         for (session, note) in self.sessions.iter_mut().zip(self.beside.notes.iter_mut()) {
@@ -263,7 +263,7 @@ impl<N: PoolName, K: Kind> Table<N, K> {
         wrong
     }
 
-    /// Takes a line. None where it asks for what is there only where nothing is cut.
+    /// Takes a line. It returns None where the line asks for something that is not there in a way that cuts.
     fn take<R: Wait>(&mut self, rt: &R, line: &str, answers: &mut Answers) -> Option<Answer> {
         let Some(call) = read_again(self.alloc, line) else {
             return Some(Answer::BadLine);
@@ -287,8 +287,8 @@ impl<N: PoolName, K: Kind> Table<N, K> {
         }
     }
 
-    /// Ends the pool, and answers whether each list is its client's part of the trail, and each pass that was given back
-    /// went back. The core is left.
+    /// Ends the pool, and answers whether each list is its client's part of the trail, and each pass that was given
+    /// back went back. It returns the core.
     pub(crate) fn finish(self, answers: &mut Answers) -> Pool<K> {
         let Table {
             alloc,
@@ -327,7 +327,7 @@ impl<N: PoolName, K: Kind> Table<N, K> {
     }
 }
 
-/// Ends a session, whose list is cut to its end. A cut that is refused memory is made once more.
+/// Ends a session, whose list is cut to its end. A cut that is refused memory is made again.
 fn end_session<N: PoolName, K: Kind>(
     pool: &mut ClosedPool<N, K>,
     session: Session<N, K>,

@@ -1,4 +1,4 @@
-//! What a call answers, and its text.
+//! `Answer`, the answer to a line of a scenario, and its text.
 
 use crate::entries::write_reply;
 use crate::images::{write_bytes, write_image};
@@ -6,24 +6,23 @@ use bp_page::{Image, Lsn, PageNo, Refusal};
 use bp_trail::{Grant, Reply};
 use std::fmt;
 
-/// What a call answers.
 #[derive(Drop)]
 pub enum Answer {
-    /// What an entry has as the reply.
+    /// The reply of an entry.
     Reply(Reply),
-    /// A ticket to write out, with the page LSN.
+    /// A ticket to write out, with the page LSN of its image.
     Out(Reply, Lsn),
     Refused(Refusal),
-    /// The page at which a flush of all ended, and why.
+    /// The page at which a flush of all pages ended, and why.
     Stopped(PageNo, Refusal),
-    /// A pass or a ticket that comes back, and what came with the end of a read.
+    /// A pass or a ticket that came back, with the image that came back with a ticket to read.
     Back(Refusal, Grant, Option<Image>),
-    /// Bytes of a page, all of them.
+    /// Bytes of a page. All are printed, zeros at their end too.
     Bytes(Vec<u8>),
     Number(u64),
     Word(&'static str),
     Text(String),
-    /// It asks for what there is not, or names what is out of its limits, or there was no memory for its words.
+    /// The line asks for something that there is not, or has a number out of its limits, or its words found no memory.
     BadLine,
 }
 
@@ -32,7 +31,7 @@ impl Answer {
         Answer::Word(if is_so { "yes" } else { "no" })
     }
 
-    /// Whether memory may have been refused.
+    /// Returns true if the answer may come of refused memory.
     pub fn lacks_memory(&self) -> bool {
         matches!(
             self,

@@ -1,4 +1,4 @@
-//! What a line asks for.
+//! `Said`, what a line asks for: a verb with its numbers, its pass or ticket, and its bytes.
 
 use crate::forms::{CALLS, SESSION_CALLS};
 use crate::images::{bytes_of, front_of};
@@ -6,7 +6,7 @@ use bp_page::{Bytes, PageNo, PortFault};
 use bp_trail::Grant;
 use std::alloc::Global;
 
-/// What is called or replied. A call that what is called does not have makes a bad line.
+/// The verb of a call or of a reply. Where what is called does not have the call, the line is a bad one.
 #[derive(Clone, Copy)]
 pub enum Verb {
     Fix,
@@ -21,25 +21,25 @@ pub enum Verb {
     Read,
     Write,
     Unfix,
-    /// What is lent of a page, and some bytes of it, read into a slice or written from one.
+    /// The lent bytes of a page; a read of bytes into a slice; a write of bytes from one.
     Page,
     ReadInto,
     WriteFrom,
-    /// The newest reference of a page, and its stamp of a number.
+    /// The newest reference of a page, and its n-th stamp.
     Last,
     Stamp,
     Unsaved,
-    /// What a checkpoint asks: the next unsaved page, where redo begins, and of a page its least unsaved LSN.
+    /// What a checkpoint asks: the next unsaved page, where redo begins, and the least unsaved LSN of a page.
     Next,
     Redo,
     First,
-    /// The page LSN of a page that is here, and that of the page of a pass.
+    /// The page LSN of a resident page, and that of the page of a pass.
     TopLsn,
     PageLsn,
     Resident,
     Stats,
     FlushAll,
-    /// Fixes a page that is new.
+    /// Fixes a new page, without a read of it.
     New,
     /// Shows the bytes of a page, of which no pass is out after it.
     Look,
@@ -52,45 +52,45 @@ pub enum Verb {
     Clock,
     Durable,
     Free,
-    /// How many entries the trail has, and which stands at a place.
+    /// The number of entries of the trail, and the entry at a place.
     Trail,
     Entry,
     Cut,
     Fresh,
-    /// What the entries count up to, and how many of them are refusals.
+    /// The totals of the entries, and the number of refusals among them.
     Totals,
     Refusals,
-    /// How many reads, or write-outs, began before one had ended.
+    /// The number of reads, or of write-outs, that began before the first one ended.
     ReadsAtOnce,
     WritesAtOnce,
-    /// Of a session how long its list is, and how many passes it holds.
+    /// The length of a session's list, and the number of passes that the session holds.
     List,
     Held,
     CutList,
     Settle,
-    /// The log is durable so far.
+    /// Raises the mark: the log is durable up to this LSN.
     Raise,
-    /// A page on the device, and how many calls of the device failed.
+    /// Puts a page on the device; tells a page of the device; tells the number of failed calls of the device.
     Put,
     Device,
     Failures,
     /// The page LSN of the newest write of a session's port.
     NewestLsn,
-    /// The histories of LRU-K.
+    /// Calls of the histories of LRU-K alone.
     Prepare,
     Unprepare,
     Fault,
     Hit,
     Forget,
-    /// The candidates of LRU-K.
+    /// Calls of the candidates of LRU-K alone.
     Enter,
     Leave,
     Victim,
     Nth,
     Walk,
-    /// Goes back to what was made before.
+    /// Goes back to something that an earlier line made.
     On,
-    /// Replies.
+    /// The replies.
     Done,
     NoVictim,
     Busy,
@@ -110,15 +110,15 @@ pub enum Verb {
     Content,
 }
 
-/// Up to three numbers, in the order of their words.
+/// Up to three numbers of a line, in order.
 #[derive(Clone, Copy)]
 pub struct Numbers {
     pub list: [u64; 3],
     pub count: usize,
 }
 
-/// What a line or a reply says, with its numbers, the numbers of its pass or ticket, and its bytes: those before the
-/// zeros at the end, where it is an image.
+/// A line or a reply: its verb, its numbers, the numbers of its pass or ticket, and its bytes. Of an image these are
+/// the bytes before the zeros at its end.
 #[derive(Drop)]
 pub struct Said {
     pub verb: Verb,
@@ -133,7 +133,7 @@ const NO_NUMBERS: Numbers = Numbers {
 };
 
 impl Numbers {
-    /// Takes one more number. False where the word is none, or has no place.
+    /// Takes one more number. It returns false where the word is none, or there are three already.
     fn take(&mut self, word: &str) -> bool {
         match (self.list.get_mut(self.count), word.parse::<u64>()) {
             (Some(place), Ok(number)) => {
@@ -145,7 +145,7 @@ impl Numbers {
         }
     }
 
-    /// Takes the numbers between strokes.
+    /// Takes numbers with `/` between them.
     fn take_all(&mut self, word: &str) -> bool {
         let mut fits = true;
         for part in word.split('/') {
@@ -156,7 +156,7 @@ impl Numbers {
 }
 
 impl Said {
-    /// Takes a word of a line where a form has this one. False where it does not fit, or there is no memory for it.
+    /// Takes a word of a line by one word of a form. It returns false where it does not fit, or memory is refused.
     fn take(&mut self, alloc: Global, slot: &str, word: &str) -> bool {
         match slot {
             "N" => self.numbers.take(word),
@@ -174,7 +174,7 @@ impl Said {
     }
 }
 
-/// What a line says, if it has this form. None too where there is no memory for it.
+/// Parses a line by a form. It returns None where the line does not have this form, or memory is refused.
 fn said_by(alloc: Global, form: &str, verb: Verb, line: &str) -> Option<Said> {
     let mut said = Said {
         verb,
@@ -197,7 +197,7 @@ fn said_by(alloc: Global, form: &str, verb: Verb, line: &str) -> Option<Said> {
     }
 }
 
-/// What a line says by the first of these forms that it has, if it has one.
+/// Parses a line by the first of these forms that it has. It returns None where it has none, or memory is refused.
 pub(crate) fn said_of(alloc: Global, forms: &[(&str, Verb)], line: &str) -> Option<Said> {
     let mut found = None;
     for (form, verb) in forms {
@@ -208,19 +208,19 @@ pub(crate) fn said_of(alloc: Global, forms: &[(&str, Verb)], line: &str) -> Opti
     found
 }
 
-/// The call that a line is, if it is one. None too where there is no memory for it.
+/// Parses a line as a call. It returns None where it is none, or memory is refused.
 pub fn call_of(alloc: Global, line: &str) -> Option<Said> {
     said_of(alloc, &CALLS, line)
 }
 
-/// The call that a line is while sessions use a pool, if it is one. The client stands first. None too where there is no
-/// memory for it.
+/// Parses a line as a call by a session, whose client is the first word. It returns None where it is none, or memory is
+/// refused.
 pub fn session_call_of(alloc: Global, line: &str) -> Option<Said> {
     said_of(alloc, &SESSION_CALLS, line)
 }
 
-/// What a name stands for, among what was given by serial numbers: one of these, or what a core may have given to a
-/// client for a page under a number.
+/// Returns the pass or ticket of a name. One number is the serial number of one that was given; three are client, page
+/// and serial number, which a core may have given or not.
 pub fn named(given: &[Grant], name: &Numbers) -> Option<Grant> {
     let [first, page, serial] = name.list;
     if name.count == 1 {

@@ -1,4 +1,4 @@
-//! An entry of a trail as text, which says it as a line of a judged list does.
+//! Entries of a trail as text, in the form in which a list for the judge has them.
 
 use crate::answers::Answer;
 use crate::images::{write_bytes, write_image};
@@ -7,7 +7,7 @@ use bp_trail::{Call, Entry, Reply};
 use std::alloc::Global;
 use std::fmt;
 
-/// An entry that is printed: its call, the word `gives`, and its reply.
+/// An entry that prints as its call, the word `gives`, and its reply.
 #[derive(Drop)]
 pub struct Shown<'a>(pub &'a Entry);
 
@@ -20,7 +20,7 @@ impl fmt::Display for Shown<'_> {
     }
 }
 
-/// The n-th entry of a trail, from 1, as it is printed, or `none`.
+/// Returns the text of the n-th entry of a trail, from 1, or `none`.
 pub fn entry_of(alloc: Global, trail: &[Entry], n: u64) -> Answer {
     match trail.get(n.saturating_sub(1) as usize) {
         Some(entry) => match format!(in alloc; "{}", Shown(entry)) {
@@ -31,7 +31,7 @@ pub fn entry_of(alloc: Global, trail: &[Entry], n: u64) -> Answer {
     }
 }
 
-/// A call by a client, with a number.
+/// Writes a call that has a client and a number.
 fn write_call<W: fmt::Write>(client: u8, call: &Call, f: &mut fmt::Formatter<W>) -> fmt::Result {
     let (verb, number) = match call {
         Call::Tick(n) => ("tick", *n),
@@ -44,7 +44,7 @@ fn write_call<W: fmt::Write>(client: u8, call: &Call, f: &mut fmt::Formatter<W>)
     write!(f, "{verb} {client} {number}")
 }
 
-/// A call with a pass or a ticket.
+/// Writes a call that has a pass or a ticket.
 fn write_use<W: fmt::Write>(client: u8, call: &Call, f: &mut fmt::Formatter<W>) -> fmt::Result {
     let (verb, page, serial) = grant_of(call);
     write!(f, "{verb} {client}/{page}/{serial}", page = page.number())?;
@@ -66,7 +66,7 @@ fn write_use<W: fmt::Write>(client: u8, call: &Call, f: &mut fmt::Formatter<W>) 
     }
 }
 
-/// The name of a call with a pass or a ticket, and the page and serial number of that.
+/// Returns the word of a call with a pass or a ticket, and the page and serial number of that.
 fn grant_of(call: &Call) -> (&'static str, PageNo, u64) {
     match call {
         Call::ReadEnd { ticket, page, .. } => ("read_end", *page, *ticket),
@@ -88,7 +88,6 @@ fn write_read<W: fmt::Write>(image: &Option<Image>, f: &mut fmt::Formatter<W>) -
     }
 }
 
-/// A reply.
 pub(crate) fn write_reply<W: fmt::Write>(reply: &Reply, f: &mut fmt::Formatter<W>) -> fmt::Result {
     match reply {
         Reply::Hit(pass) | Reply::Fixed(pass) => write!(f, "pass {pass}"),
@@ -111,7 +110,7 @@ pub(crate) fn write_reply<W: fmt::Write>(reply: &Reply, f: &mut fmt::Formatter<W
     }
 }
 
-/// The word or number of a reply that has no other.
+/// Returns the word or number of a reply that has nothing else.
 fn word_of(reply: &Reply) -> &'static str {
     match reply {
         Reply::NoVictim => "11",

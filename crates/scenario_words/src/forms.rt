@@ -3,7 +3,7 @@
 use crate::calls::Verb;
 use bp_page::PortFault;
 
-/// Each call.
+/// The calls of what lines make.
 pub(crate) const CALLS: [(&str, Verb); 64] = [
     ("fix N N", Verb::Fix),
     ("flush N N", Verb::Flush),
@@ -77,7 +77,7 @@ pub(crate) const CALLS: [(&str, Verb); 64] = [
     ("on N", Verb::On),
 ];
 
-/// Each call while sessions use a pool. That of a session has its client first.
+/// The calls of a pool that sessions use. A call by a session has the client as its first word.
 pub(crate) const SESSION_CALLS: [(&str, Verb); 25] = [
     ("N fix N", Verb::Fix),
     ("N new N", Verb::New),
@@ -106,7 +106,7 @@ pub(crate) const SESSION_CALLS: [(&str, Verb); 25] = [
     ("device N", Verb::Device),
 ];
 
-/// Each reply of an entry.
+/// The replies of entries.
 pub(crate) const REPLIES: [(&str, Verb); 17] = [
     ("done", Verb::Done),
     ("11", Verb::NoVictim),

@@ -1,16 +1,16 @@
-//! Images as words: `zeros`, or pairs of hex digits, where two points stand for zeros up to the end.
+//! Images as words: `zeros`, or pairs of hex digits, where `..` at the end stands for zeros up to the end of the page.
 
 use bp_page::{Bytes, Image};
 use std::alloc::Global;
 use std::fmt;
 
-/// Pairs of hex digits.
+/// Parses pairs of hex digits.
 pub(crate) fn bytes_of(alloc: Global, word: &str) -> Option<Bytes> {
     let decoded = hex::decode(alloc, word).ok()?;
     Bytes::of(alloc, decoded.as_slice()).ok()
 }
 
-/// The bytes before the zeros of an image.
+/// Parses the word of an image, and returns its bytes before the zeros at its end.
 pub(crate) fn front_of(alloc: Global, word: &str) -> Option<Bytes> {
     if word == "zeros" {
         return Bytes::of(alloc, &[]).ok();
@@ -21,7 +21,7 @@ pub(crate) fn front_of(alloc: Global, word: &str) -> Option<Bytes> {
     }
 }
 
-/// An image of a size that begins with these bytes and has zeros after them, if they lie within it.
+/// Returns an image that begins with these bytes and has zeros after them, or None where they are too many.
 pub fn filled(alloc: Global, size: usize, front: &Bytes) -> Option<Image> {
     let mut bytes = Vec::new(alloc);
     bytes.extend_from_slice(front.bytes()).ok()?;
@@ -32,7 +32,7 @@ pub fn filled(alloc: Global, size: usize, front: &Bytes) -> Option<Image> {
     Image::of(alloc, bytes.as_slice()).ok()
 }
 
-/// How many bytes come before the zeros at the end.
+/// Returns the number of bytes before the zeros at the end.
 fn before_zeros(bytes: &[u8]) -> usize {
     let mut count = 0;
     for (i, byte) in bytes.iter().enumerate() {
@@ -43,7 +43,7 @@ fn before_zeros(bytes: &[u8]) -> usize {
     count
 }
 
-/// The first of these bytes, as pairs of hex digits.
+/// Writes the first of these bytes as pairs of hex digits.
 pub(crate) fn write_bytes<W: fmt::Write>(
     bytes: &[u8],
     count: usize,
@@ -55,7 +55,6 @@ pub(crate) fn write_bytes<W: fmt::Write>(
     Ok(())
 }
 
-/// An image as one word.
 pub(crate) fn write_image<W: fmt::Write>(image: &Image, f: &mut fmt::Formatter<W>) -> fmt::Result {
     let bytes = image.bytes();
     let count = before_zeros(bytes);

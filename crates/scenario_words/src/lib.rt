@@ -1,4 +1,4 @@
-//! The words of scenarios: lines as calls, replies as they are written, and answers and entries as text.
+//! The language of scenarios: parses lines as calls and replies, and prints answers and entries.
 #![tactic(auto)]
 
 pub mod answers;

@@ -1,4 +1,4 @@
-//! Replies of entries, as they are written.
+//! `reply_of`, which parses the reply of an entry.
 
 use crate::calls::{Said, Verb, said_of};
 use crate::forms::REPLIES;
@@ -7,7 +7,8 @@ use bp_page::{Image, Lsn, PageNo};
 use bp_trail::Reply;
 use std::alloc::Global;
 
-/// A reply without an image. `call` is what was called: the end of a read gives a pass under another name than a fix.
+/// Returns a reply without an image. `call` is the call: a pass has one name as the reply of a fix, and another at the
+/// end of a read.
 fn without_image(said: &Said, call: Verb) -> Option<Reply> {
     let [first, second, _] = said.numbers.list;
     match said.verb {
@@ -51,8 +52,7 @@ fn with_image(said: &Said, image: Image) -> Reply {
     }
 }
 
-/// The reply to a call that a text says, over pages of this size, if it says one. None too where there is no memory for
-/// it.
+/// Parses the reply to a call, over pages of this size. It returns None where the text is none, or memory is refused.
 pub fn reply_of(alloc: Global, size: usize, call: Verb, text: &str) -> Option<Reply> {
     let said = said_of(alloc, &REPLIES, text)?;
     match &said.bytes {

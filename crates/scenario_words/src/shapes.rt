@@ -1,48 +1,47 @@
-//! Lines that make something.
+//! Lines that make something, and the numbers that it is made with.
 
 use std::alloc::Global;
 
-/// How a scenario is played: what keeps a trail does so in one way.
+/// The way in which a scenario is played: how its cores keep their trails.
 #[derive(Clone, Copy)]
 pub enum Way {
-    /// It keeps its trail whole, and cuts it where a line says so.
+    /// The trail is kept whole, and cut where a line says so.
     Whole,
-    /// It cuts its trail after each call.
+    /// The trail is cut after each call.
     Pieces,
-    /// It only counts its entries.
+    /// Entries are only counted.
     Counted,
 }
 
-/// How the cores of a line keep their trails.
+/// The ways in which a core of a line is made.
 #[derive(Clone, Copy)]
 pub enum Keeps {
-    /// Each in its own way: whole, in pieces, or counted.
+    /// In each way.
     Each,
-    /// The first alone, which keeps it whole.
+    /// Only in the first way, with its trail whole.
     Whole,
-    /// One alone, which counts its entries.
+    /// Only in the first way, where it counts its entries.
     Counted,
 }
 
-/// What a line makes.
 #[derive(Clone, Copy)]
 pub enum Thing {
     Core,
-    /// A core with a device of its own.
+    /// A core with a device of its own, whose fixes and flushes are done by drivers.
     Driven,
     /// A pool with one owner, and a device of its own.
     Owned,
     /// A pool that sessions use in turn.
     Pool,
-    /// A pool that client threads use.
+    /// A pool that client threads use by rows of a trace.
     Run,
     Histories,
     Candidates,
-    /// A list of entries before the judge of trails.
+    /// A list of entries for the judge of trails.
     Judged,
 }
 
-/// The numbers that it is made with.
+/// The numbers of a line that makes something.
 #[derive(Clone, Copy)]
 pub struct Shape {
     pub keeps: Keeps,
@@ -54,14 +53,14 @@ pub struct Shape {
     pub correlated: u64,
     pub retained: u64,
     pub room: usize,
-    /// The call of the device that fails, from 1, or 0, and whether a write that fails spoils its page.
+    /// The number of the device's call that fails, from 1, or 0 for none; and whether a failing write spoils its page.
     pub fuse: u64,
     pub spoils: bool,
-    /// How often a call of a port looks for one of the other port, where two ports wait for one another, or 0.
+    /// How often a port's call looks for a call of the other port before it gives up; 0 where ports do not wait.
     pub turns: u64,
 }
 
-/// What a line makes that names no number: one frame over sixteen pages of sixteen bytes, two clients and LRU-2.
+/// The numbers of a line that names none: one frame over sixteen pages of sixteen bytes, two clients and LRU-2.
 const USUAL: Shape = Shape {
     keeps: Keeps::Each,
     frames: 1,
@@ -78,8 +77,8 @@ const USUAL: Shape = Shape {
 };
 
 impl Shape {
-    /// Has one of its numbers. False where there is none of this name, or the word is no number or out of a client's
-    /// limits.
+    /// Sets one of the numbers. It returns false where there is none of this name, or the word is no number or no
+    /// client's.
     fn set(&mut self, name: &str, word: &str) -> bool {
         let Ok(number) = word.parse::<u64>() else {
             return false;
@@ -115,7 +114,7 @@ impl Shape {
     }
 }
 
-/// Names of numbers, each before its own. None too where there is no memory for them.
+/// Parses names of numbers, each before its number. It returns None where that is wrong, or memory is refused.
 fn shape_of(alloc: Global, text: &str) -> Option<Shape> {
     let words: Vec<&str> = text.split_whitespace().collect(alloc).ok()?;
     let mut shape = USUAL;
@@ -143,7 +142,7 @@ fn thing_of(word: &str) -> Option<Thing> {
     }
 }
 
-/// What a line makes, if it makes something. None too where there is no memory for its words.
+/// Parses a line that makes something. It returns None where it makes nothing, or memory is refused.
 pub fn maker_of(alloc: Global, line: &str) -> Option<(Thing, Shape)> {
     let (word, numbers) = line.split_once(' ').unwrap_or((line, ""));
     let thing = thing_of(word)?;

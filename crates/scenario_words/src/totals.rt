@@ -1,10 +1,10 @@
-//! What entries count up to, as an answer.
+//! The totals of entries, as an answer.
 
 use crate::answers::Answer;
 use bp_trail::{Entry, Totals};
 use std::alloc::Global;
 
-/// What these entries count up to, but for so many of the reads that failed.
+/// Returns the totals of these entries, less so many of the failed reads.
 pub fn totals_of(alloc: Global, entries: &[Entry], unread: u64) -> Answer {
     let totals = Totals::of(entries);
     let (hits, faults, evictions) = (totals.hits, totals.faults, totals.evictions);
@@ -18,7 +18,7 @@ pub fn totals_of(alloc: Global, entries: &[Entry], unread: u64) -> Answer {
     }
 }
 
-/// How many of these entries are refusals with 11, 12 or 13.
+/// Returns the number of entries that are refusals with 11, 12 or 13.
 pub fn refusals_of(entries: &[Entry]) -> Answer {
     Answer::Number(Totals::of(entries).refused)
 }

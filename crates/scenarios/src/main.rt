@@ -1,7 +1,8 @@
-//! Plays the scenarios of standard input: calls with the replies that were reckoned by hand, as text.
+//! Plays the scenarios of standard input: text with calls and the answers that were worked out by hand.
 //!
 //! A scenario is a line with its name, a line that makes something to call, and a line for each call. docs/SCENARIOS.md
-//! has every line. The status is 0 where all hold, 1 where one does not, and 2 where they could not be read or told.
+//! lists all lines. The status is 0 where all scenarios hold, 1 where one does not, and 2 where they could not be read
+//! or the report not be printed.
 #![tactic(auto)]
 
 mod sheets;
@@ -15,9 +16,9 @@ use std::process::ExitCode;
 use std::sync::Wait;
 use std::thread::Threads;
 
-/// Plays the scenarios of a text. It prints `ok` and the name of each that holds, each line of the others that answers
-/// otherwise, and at the end how many hold and how many do not. True where all hold. It fails where a line can't be
-/// printed, or by want of memory for the text of an answer or for a name.
+/// Plays the scenarios of a text. It prints `ok` and the name of each that holds, each line of the others with another
+/// answer than wanted, and at the end how many hold and how many do not. It returns true if all hold. It fails where a
+/// line can't be printed, or memory for the text of an answer or for a name is refused.
 fn play(
     rt: &(impl Print + Threads + Wait + Sync),
     sheet: &mut Sheet,

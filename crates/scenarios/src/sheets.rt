@@ -1,4 +1,4 @@
-//! The lines of all scenarios, one after the other.
+//! `Sheet`, which takes the lines of all scenarios, plays them, and compares the answers.
 
 use crate::worlds::{Verdict, World, judge};
 use scenario_sessions::Answers;
@@ -9,39 +9,38 @@ use std::sync::Wait;
 use std::thread::Threads;
 use std::{io, mem};
 
-/// The line that ends a pool that clients share.
+/// The line that ends a pool of sessions or of client threads.
 const END: &str = "finish";
 
-/// What a line has to answer, and its number.
+/// The wanted answer of a line, and the number of the line.
 #[derive(Drop)]
 struct Wanted {
     line: u64,
     text: String,
 }
 
-/// What was printed and counted so far, and the scenario that goes on, which is played in three ways side by side.
+/// The counts so far, and the present scenario, which is played in three ways side by side.
 #[derive(Drop)]
 pub struct Sheet {
     alloc: Global,
     whole: World,
     pieces: World,
     counted: World,
-    /// The lines so far of a pool that clients share, which are played together, and what they have to answer.
+    /// The lines so far of a pool of sessions or client threads, which are played together at its end, and their
+    /// answers.
     lines: Vec<String>,
     wanted: Vec<Wanted>,
     name: String,
     /// Whether its lines held so far.
     holds: bool,
-    /// How many lines came.
     line: u64,
     passed: u64,
     failed: u64,
 }
 
-/// The ways in which a scenario is played.
 const WAYS: [Way; 3] = [Way::Whole, Way::Pieces, Way::Counted];
 
-/// What is said of a line that answers otherwise in one of the ways.
+/// Returns the words for the way in the report of a wrong answer.
 fn said_of(way: Way) -> &'static str {
     match way {
         Way::Whole => "",
@@ -50,7 +49,7 @@ fn said_of(way: Way) -> &'static str {
     }
 }
 
-/// What a line says before a comment.
+/// Returns a line without its comment.
 fn said(line: &str) -> &str {
     match line.split_once('#') {
         Some((before, _)) => before.trim(),
@@ -58,7 +57,7 @@ fn said(line: &str) -> &str {
     }
 }
 
-/// The call of a line, and what it has to answer.
+/// Returns the call of a line, and its wanted answer.
 fn row(line: &str) -> (&str, &str) {
     match line.split_once("->") {
         Some((call, wanted)) => (call.trim(), wanted.trim()),
@@ -66,13 +65,13 @@ fn row(line: &str) -> (&str, &str) {
     }
 }
 
-/// Whether a line makes a pool that clients share.
+/// Returns true if a line makes a pool of sessions or of client threads.
 fn makes_a_pool(call: &str) -> bool {
     let (word, _) = call.split_once(' ').unwrap_or((call, ""));
     word == "pool" || word == "run"
 }
 
-/// Whether an answer is one of those that may come, which strokes part.
+/// Returns true if an answer is one of those wanted, which have `|` between them.
 fn may_come(wanted: &str, text: &str) -> bool {
     let mut found = false;
     for one in wanted.split('|') {
@@ -106,7 +105,6 @@ impl Sheet {
         }
     }
 
-    /// Takes a line.
     pub fn take(
         &mut self,
         rt: &(impl Print + Threads + Wait + Sync),
@@ -139,7 +137,7 @@ impl Sheet {
         Ok(())
     }
 
-    /// Makes a call, or keeps it for the end of the pool that it is of.
+    /// Makes a call, or keeps the line until the end of its pool.
     fn call(&mut self, rt: &(impl Print + Threads + Wait + Sync), line: &str) -> io::Result<()> {
         let (call, wanted) = row(line);
         if self.lines.is_empty() && !makes_a_pool(call) {
@@ -176,7 +174,7 @@ impl Sheet {
         Ok(())
     }
 
-    /// Plays the lines that were kept, in each way.
+    /// Plays the lines of a pool, in each way.
     fn play(&mut self, rt: &(impl Print + Threads + Wait + Sync)) -> io::Result<()> {
         let lines = mem::replace(&mut self.lines, Vec::new(self.alloc));
         let wanted = mem::replace(&mut self.wanted, Vec::new(self.alloc));
@@ -190,7 +188,7 @@ impl Sheet {
         Ok(())
     }
 
-    /// Plays the lines that were kept of a pool that no line ended.
+    /// Plays the lines of a pool that no line ended.
     fn end_pool(&mut self, rt: &(impl Print + Threads + Wait + Sync)) -> io::Result<()> {
         if self.lines.is_empty() {
             return Ok(());
@@ -199,7 +197,7 @@ impl Sheet {
         self.play(rt)
     }
 
-    /// Tells where the answers of one of the ways are not the wanted ones.
+    /// Prints the lines whose answer in one of the ways is not the wanted one.
     fn compare_all(
         &mut self,
         rt: &impl Print,
@@ -219,7 +217,7 @@ impl Sheet {
         Ok(())
     }
 
-    /// Tells where the answer of one of the ways is not the wanted one.
+    /// Prints the line if its answer in one of the ways is not the wanted one.
     fn compare(
         &mut self,
         rt: &impl Print,
@@ -251,7 +249,7 @@ impl Sheet {
         println!(rt; "{name} line {line}{way}: wanted {wanted}, got {got}")
     }
 
-    /// How many calls were refused memory, and made once more.
+    /// Returns the number of calls that were refused memory, and made again.
     fn again(&self) -> u64 {
         self.whole
             .again
@@ -259,7 +257,7 @@ impl Sheet {
             .saturating_add(self.counted.again)
     }
 
-    /// Ends what the scenario made, in each way.
+    /// Judges what the scenario made, and drops it, in each way.
     fn end_worlds(&mut self) -> Verdict {
         self.whole.gather();
         self.pieces.gather();
@@ -271,8 +269,8 @@ impl Sheet {
         verdict
     }
 
-    /// Ends the scenario that goes on, if there is one. What came before the first is to ask for nothing: it fails
-    /// where a line of it answers otherwise, and is not counted where none does.
+    /// Ends the present scenario, if there is one. Lines before the first scenario should ask for nothing: they fail
+    /// where one has another answer than wanted, and are not counted where none has.
     fn close(&mut self, rt: &(impl Print + Threads + Wait + Sync)) -> io::Result<()> {
         self.end_pool(rt)?;
         let again = self.again();
@@ -309,7 +307,7 @@ impl Sheet {
         }
     }
 
-    /// Ends the last scenario, and tells how many hold and how many do not. True where all hold.
+    /// Ends the last scenario, and prints how many hold and how many do not. It returns true if all hold.
     pub fn end(&mut self, rt: &(impl Print + Threads + Wait + Sync)) -> io::Result<bool> {
         self.close(rt)?;
         let (passed, failed) = (self.passed, self.failed);

@@ -1,4 +1,4 @@
-//! What a scenario made, and which of it is called.
+//! `World`, what a scenario made in one way, and the judgement of its trails.
 ghost use Rattle.std.specs.Prelude.{◌<◌, OnOk, vec_len, vec_capacity};
 
 use bp_check::{Setup, first_unlawful};
@@ -21,7 +21,6 @@ const NOTHING: Answer = Answer::Word("nothing to call");
 
 const DONE: Answer = Answer::Reply(Reply::Done);
 
-/// What a line made.
 #[derive(Drop)]
 enum Made {
     Kept(Pool<RecordingKeeper>),
@@ -32,11 +31,11 @@ enum Made {
     Candidates(Ranked),
     Judged(Judged),
     Ran(Ran),
-    /// It was refused, and is dropped.
+    /// A core that was dropped, since its owner was refused.
     Dropped,
 }
 
-/// Whether a call asks of the trail, which is another one in the ways beside the first.
+/// Returns true if a call asks for the trail, which is different in the ways after the first.
 fn asks_the_trail(verb: Verb) -> bool {
     matches!(
         verb,
@@ -44,7 +43,7 @@ fn asks_the_trail(verb: Verb) -> bool {
     )
 }
 
-/// Makes room for one thing more. Where memory for it is refused, it is asked for once more.
+/// Reserves room for one thing more. Where memory is refused, it tries again.
 fn make_room(made: &mut Vec<Made>) -> Result<(), AllocError>
     ensures { OnOk result (vec_len made.new < vec_capacity made.new) }
 {
@@ -54,7 +53,7 @@ fn make_room(made: &mut Vec<Made>) -> Result<(), AllocError>
     }
 }
 
-/// What a line makes. Where memory may have been refused, the line is read once more.
+/// Parses a line that makes something. Where memory may have been refused, it tries again.
 fn made_again(alloc: Global, line: &str) -> Option<(Thing, Shape)> {
     match maker_of(alloc, line) {
         Some(made) => Some(made),
@@ -62,22 +61,21 @@ fn made_again(alloc: Global, line: &str) -> Option<(Thing, Shape)> {
     }
 }
 
-/// What a scenario made in one of the ways.
 #[derive(Drop)]
 pub struct World {
     alloc: Global,
     way: Way,
     made: Vec<Made>,
-    /// The place of what is called.
+    /// The place of the one that is called.
     at: usize,
-    /// A line made what there is not in this way, which then has nothing. The rest of the scenario passes it over.
+    /// Whether a line made something that this way does not have. Then the rest of the scenario is skipped.
     is_out: bool,
-    /// How many calls were refused memory, and made once more.
+    /// The number of calls that were refused memory, and made again.
     pub again: u64,
 }
 
-/// Whether what a line makes is there in this way. What has no core, or names how its core keeps its trail, is there in
-/// the first alone. A core with an owner has nobody else to cut its trail.
+/// Returns true if this way has what the line makes. Only the first way has things without a core, and those whose line
+/// says how they keep their trail. The way that cuts has no pools with one owner.
 fn is_there(way: Way, thing: Thing, keeps: Keeps) -> bool {
     match (way, thing, keeps) {
         (Way::Whole, _, _) | (Way::Counted, Thing::Owned, Keeps::Each) => true,
@@ -86,12 +84,11 @@ fn is_there(way: Way, thing: Thing, keeps: Keeps) -> bool {
     }
 }
 
-/// Whether the core of a line only counts its entries, in this way.
+/// Returns true if the core of a line only counts its entries in this way.
 fn only_counts(way: Way, keeps: Keeps) -> bool {
     matches!((way, keeps), (Way::Counted, _) | (_, Keeps::Counted))
 }
 
-/// What a line makes.
 fn new_made(alloc: Global, way: Way, thing: Thing, shape: &Shape) -> Result<Made, Refusal> {
     let counts = only_counts(way, shape.keeps);
     match thing {
@@ -120,7 +117,7 @@ impl Made {
         }
     }
 
-    /// A core gets an owner, unless that is refused, which drops it. All else stays as it is.
+    /// Gives an owner to a core. A refusal drops the core. For all else the line is a bad one.
     fn with_owner(self, call: &Said) -> (Made, Answer) {
         let owned = match self {
             Made::Kept(core) => owned_of(core, call).map(Made::Owned),
@@ -133,7 +130,7 @@ impl Made {
         }
     }
 
-    /// A pool with one owner becomes its core, with its device. All else stays as it is.
+    /// Makes a core with a device of a pool with one owner. For all else the line is a bad one.
     fn without_owner(self) -> (Made, Answer) {
         match self {
             Made::Owned(owned) => (Made::Kept(owned.into_pool()), DONE),
@@ -142,7 +139,7 @@ impl Made {
         }
     }
 
-    /// One number of what is told without a call.
+    /// Returns a hash of what it tells without a call.
     fn told(&self) -> u64 {
         match self {
             Made::Kept(core) => core.told(),
@@ -155,7 +152,7 @@ impl Made {
     }
 }
 
-/// What the lines of a pool leave that clients share, if they leave something.
+/// Plays the lines of a pool of sessions or client threads, and returns what is left, if the pool was made.
 fn played<R: Threads + Wait + Sync>(
     rt: &R,
     alloc: Global,
@@ -195,7 +192,7 @@ impl World {
         }
     }
 
-    /// Has what was made, which is called from here on.
+    /// Adds what was made. It is called from here on.
     fn have(&mut self, made: Made) -> Answer {
         let Ok(()) = make_room(&mut self.made) else {
             return Answer::Refused(Refusal::OutOfMemory);
@@ -205,7 +202,7 @@ impl World {
         DONE
     }
 
-    /// Whether what a line makes is there in this way. Else the rest of the scenario is passed over.
+    /// Returns true if this way has what the line makes. Else the rest of the scenario is skipped.
     fn goes_on(&mut self, thing: Thing, shape: &Shape) -> bool {
         if !is_there(self.way, thing, shape.keeps) {
             self.is_out = true;
@@ -246,7 +243,7 @@ impl World {
         Some(answer)
     }
 
-    /// Takes a pool with one owner apart, or gives a core one.
+    /// Takes a pool with one owner apart, or gives an owner to a core.
     fn turn(&mut self, call: &Said) -> Answer {
         let Some(place) = self.made.get_mut(self.at) else {
             return NOTHING;
@@ -260,8 +257,8 @@ impl World {
         answer
     }
 
-    /// Plays the lines of a pool after the one that makes it, of which the last ends it. What they leave is called from
-    /// here on. None where this way passes them over.
+    /// Plays the lines of a pool after the one that makes it; the last of them ends it. What they leave is called from
+    /// here on. It returns None where this way skips them.
     pub fn play<R: Threads + Wait + Sync>(
         &mut self,
         rt: &R,
@@ -325,8 +322,8 @@ impl World {
         }
     }
 
-    /// Does what a line asks for. None where this way passes it over. What was refused memory is to have changed
-    /// nothing that is told, but for a flush of all, and is asked for once more.
+    /// Does what a line asks for. It returns None where this way skips it. A call that was refused memory must have
+    /// changed nothing that can be told, except for a flush of all pages, and is made again.
     pub fn take(&mut self, rt: &impl Wait, line: &str) -> Option<Answer> {
         if self.is_out {
             return None;
@@ -352,7 +349,7 @@ impl World {
         Some(answer)
     }
 
-    /// Gathers the entries of its cores. One that has an owner loses it.
+    /// Takes pools with one owner apart, and cuts the rest of the trails.
     pub fn gather(&mut self) {
         for place in self.made.iter_mut() {
             let (made, _) = mem::replace(place, Made::Dropped).without_owner();
@@ -363,7 +360,6 @@ impl World {
         }
     }
 
-    /// Lets go what was made.
     pub fn clear(&mut self) {
         self.made.clear();
         self.at = 0;
@@ -372,20 +368,19 @@ impl World {
     }
 }
 
-/// What the trails of a scenario's cores come to.
 #[derive(Clone, Copy)]
 pub enum Verdict {
     Good,
-    /// The number of the first entry that is not lawful, from 1.
+    /// The number of the first unlawful entry, from 1.
     Unlawful(u64),
-    /// The pieces of a trail, joined, are not the trail that was kept whole.
+    /// The joined pieces of a trail are not the trail that was kept whole.
     Torn,
-    /// What only counts its entries counted others.
+    /// A core that only counts its entries has another count.
     Miscounted,
     NoMemory,
 }
 
-/// The place of the first entry that is not lawful. Where memory is refused, it is looked for once more.
+/// Returns the place of the first unlawful entry. Where memory is refused, it tries again.
 fn unlawful(alloc: Global, setup: &Setup, trail: &[Entry]) -> Result<Option<usize>, AllocError> {
     match first_unlawful(alloc, setup, trail) {
         Ok(place) => Ok(place),
@@ -393,7 +388,6 @@ fn unlawful(alloc: Global, setup: &Setup, trail: &[Entry]) -> Result<Option<usiz
     }
 }
 
-/// What the judge says of a trail.
 fn judged(alloc: Global, setup: &Setup, trail: &[Entry]) -> Verdict {
     match unlawful(alloc, setup, trail) {
         Ok(None) => Verdict::Good,
@@ -402,7 +396,7 @@ fn judged(alloc: Global, setup: &Setup, trail: &[Entry]) -> Verdict {
     }
 }
 
-/// What the cores beside one tell of its entries: the one that was cut after each call, and the one that only counts.
+/// Compares a core's entries with those of the same core in the other ways: cut after each call, and only counted.
 fn beside(core: &Pool<RecordingKeeper>, pieces: Option<&Made>, counted: Option<&Made>) -> Verdict {
     match (pieces, counted) {
         (Some(Made::Kept(pieces)), _) if !core.is_joined(pieces) => Verdict::Torn,
@@ -411,7 +405,7 @@ fn beside(core: &Pool<RecordingKeeper>, pieces: Option<&Made>, counted: Option<&
     }
 }
 
-/// What became of a core, and of those beside it, where there are some.
+/// Judges a core's trail, and compares it with the other ways, if they have the core.
 fn verdict_of(
     alloc: Global,
     core: &Pool<RecordingKeeper>,
@@ -427,9 +421,9 @@ fn verdict_of(
     }
 }
 
-/// Judges what a scenario made, after all its entries were gathered. Each trail goes to the judge, its pieces are
-/// compared with it where all of its cores were cut after each call too, and its entries are counted where a core only
-/// counts them. The first verdict that is not good is given.
+/// Judges what a scenario made, once all its trails are cut. Each trail goes to the judge, is compared with its pieces
+/// where all ways have the core, and with the count of the core that only counts. It returns the first verdict that is
+/// not good.
 pub fn judge(alloc: Global, whole: &World, pieces: &World, counted: &World) -> Verdict {
     let mut verdict = Verdict::Good;
     for (at, made) in whole.made.iter().enumerate() {

@@ -1,10 +1,10 @@
-//! What the judge says of the entries of a pool.
+//! The judge of trails, for tests.
 use bp_check::{Setup, first_unlawful};
 use bp_core::{Core, Entry, Keeper, PoolCore};
 use bp_workers::Config;
 use std::alloc::{AllocError, Global};
 
-/// What the entries of a core are judged by.
+/// Returns the judge's parameters for a core.
 pub fn setup_of<K: Keeper>(core: &PoolCore<K>) -> Setup {
     Setup {
         geometry: core.geometry(),
@@ -14,7 +14,7 @@ pub fn setup_of<K: Keeper>(core: &PoolCore<K>) -> Setup {
     }
 }
 
-/// What the entries of a run of so many clients are judged by.
+/// Returns the judge's parameters for a run of so many clients.
 pub fn setup_of_run(config: &Config, clients: u8) -> Setup {
     Setup {
         geometry: config.geometry,
@@ -24,7 +24,7 @@ pub fn setup_of_run(config: &Config, clients: u8) -> Setup {
     }
 }
 
-/// The place of the first entry that is not lawful, if there is one. Where memory is refused, it judges once more.
+/// Returns the place of the first unlawful entry, or None. Where memory is refused, it tries again.
 pub fn unlawful(
     alloc: Global,
     setup: &Setup,
@@ -36,7 +36,7 @@ pub fn unlawful(
     }
 }
 
-/// The same of what stands in a core's trail.
+/// Returns the place of the first unlawful entry of a core's trail, or None.
 pub fn unlawful_in(alloc: Global, core: &Core) -> Result<Option<usize>, AllocError> {
     unlawful(alloc, &setup_of(core), core.trail())
 }

@@ -1,7 +1,6 @@
-//! What tests of several crates share: pools to test, scripts of a text, and the judge's word on what came of them.
+//! Shared by the tests of several crates: pools to test, scripts as text, and the judge of trails.
 //!
-//! No test stands here, and no function ends the process: each answers what went wrong, and the test says what it
-//! expected.
+//! It has no tests, and no function ends the process: each returns its faults, and the test says what it expected.
 #![tactic(auto)]
 
 pub mod judging;

@@ -1,24 +1,22 @@
-//! Pools of either kind of four pages of 16 bytes over a device in memory, and what their clients call by the number of
-//! a page.
+//! Pools of either kind, of four pages of 16 bytes over a device in memory, and calls of their clients by page numbers.
 //!
-//! A pass goes by its note, so that a test can hold it, give it back twice, or hand it to another client. Each call
-//! leaves the client's session that client's.
+//! A pass is held as its note, so that a test can hold it, give it back twice, or hand it to another client. After each
+//! call the client's session is still that client's.
 ghost use Rattle.std.specs.Prelude.{◌≡◌, []};
 ghost use Rattle.bp_trail.specs.Parameters.{Parameters};
 ghost use Rattle.bp_page.specs.declared.limits.Geometry.{Geometry as AGeometry};
 
-use bp_core::{Call, Entry, PassNote, PoolCore};
+use bp_core::{Call, Entry, PassNote, PoolCore, Settings};
 use bp_device::{Flushed, MemDevice, Port};
 use bp_keeper::{ListKeeper, RecordingKeeper};
-use bp_lruk::Settings;
 use bp_mark::LogEnd;
 use bp_page::{Bytes, Geometry, Image, Lsn, Refusal};
-use bp_shared::{Parts, PoolName, Session, SharedPool, Taker, give_back};
+use bp_shared::{Parts, PoolName, Session, SharedPool, Taker};
 use bp_workers::Client;
 use std::alloc::Global;
 use std::sync::Wait;
 
-/// What a pool is made of, and its device of zeros: four pages of 16 bytes.
+/// The parts of a pool, and its device of zeros: four pages of 16 bytes.
 pub struct Made<K: ListKeeper = RecordingKeeper> {
     pub core: PoolCore<K>,
     pub parts: Parts,
@@ -30,8 +28,7 @@ pub struct Made<K: ListKeeper = RecordingKeeper> {
     pub ghost device_of: { device.size ≡ 16 },
 }
 
-/// The parts of a pool with K 2, no correlated period and a retained one of 1000, whose trail has room for so many
-/// entries.
+/// Makes the parts of a pool with K 2, no correlated period and a retained period of 1000, whose trail has this room.
 pub fn make<K: ListKeeper>(
     alloc: Global,
     frames: usize,
@@ -50,7 +47,7 @@ pub fn make<K: ListKeeper>(
     })
 }
 
-/// A pool, a session for each client, and its device.
+/// An open pool, a session for each client, and its device.
 #[derive(Drop)]
 pub struct Opened<N: PoolName, K: ListKeeper = RecordingKeeper> {
     pub pool: SharedPool<N, K>,
@@ -63,7 +60,6 @@ pub struct Opened<N: PoolName, K: ListKeeper = RecordingKeeper> {
     pub ghost size_is: { device.size ≡ N.parameters.size },
 }
 
-/// A pool over what was made.
 pub fn open<N: PoolName, K: ListKeeper>(
     alloc: Global,
     made: Made<K>,
@@ -95,7 +91,7 @@ pub fn open<N: PoolName, K: ListKeeper>(
     })
 }
 
-/// Fixes the page of this number. It stays fixed until its note is given back.
+/// Fixes a page. It stays pinned until its note is given back.
 pub fn fix<N: PoolName, P: Port, K: ListKeeper, R: Wait>(
     rt: &R,
     pool: &SharedPool<N, K>,
@@ -111,7 +107,7 @@ pub fn fix<N: PoolName, P: Port, K: ListKeeper, R: Wait>(
     Ok(pass.note())
 }
 
-/// Gives a pass back. Where that is refused, there is also the serial number of the pass that comes back.
+/// Gives a pass back. Where that is refused, the serial number of the returned pass comes with the refusal.
 pub fn unfix<N: PoolName, P: Port, K: ListKeeper>(
     pool: &SharedPool<N, K>,
     client: &mut Client<N, P, K>,
@@ -125,8 +121,8 @@ pub fn unfix<N: PoolName, P: Port, K: ListKeeper>(
     }
 }
 
-/// Gives a pass back, by way of an emptied ring where it is full.
-pub fn give<N: PoolName, P: Port, K: ListKeeper, R: Wait>(
+/// Gives a pass back. A full ring is emptied for it.
+pub fn unfix_draining<N: PoolName, P: Port, K: ListKeeper, R: Wait>(
     rt: &R,
     pool: &SharedPool<N, K>,
     client: &mut Client<N, P, K>,
@@ -134,7 +130,7 @@ pub fn give<N: PoolName, P: Port, K: ListKeeper, R: Wait>(
 ) -> Result<(), Refusal>
     ensures client { client.new.session.client ≡ client.old.session.client }
 {
-    match give_back(rt, pool, &mut client.session, note.pass()) {
+    match pool.unfix_draining(rt, &mut client.session, note.pass()) {
         Ok(()) => Ok(()),
         Err((back, refusal)) => {
             back.note();
@@ -143,7 +139,6 @@ pub fn give<N: PoolName, P: Port, K: ListKeeper, R: Wait>(
     }
 }
 
-/// A copy of a pass's page.
 pub fn read<N: PoolName, P: Port, K: ListKeeper, R: Wait>(
     rt: &R,
     pool: &SharedPool<N, K>,
@@ -158,7 +153,7 @@ pub fn read<N: PoolName, P: Port, K: ListKeeper, R: Wait>(
     read
 }
 
-/// Writes one byte to the front of a pass's page.
+/// Writes one byte at offset 0 of a pass's page.
 pub fn write<N: PoolName, P: Port, K: ListKeeper, R: Wait>(
     rt: &R,
     alloc: Global,
@@ -180,7 +175,6 @@ pub fn write<N: PoolName, P: Port, K: ListKeeper, R: Wait>(
     wrote
 }
 
-/// Flushes the page of this number.
 pub fn flush<N: PoolName, P: Port, K: ListKeeper, R: Wait>(
     rt: &R,
     pool: &SharedPool<N, K>,
@@ -195,7 +189,7 @@ pub fn flush<N: PoolName, P: Port, K: ListKeeper, R: Wait>(
     }
 }
 
-/// How many passes went back.
+/// Returns how many passes went back.
 pub fn unfixes(entries: &[Entry]) -> usize {
     entries
         .iter()

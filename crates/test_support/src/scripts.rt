@@ -1,4 +1,4 @@
-//! Scripts of a text, of which each line is a row of a trace.
+//! Scripts as text, with a row of a trace on each line.
 ghost use Rattle.std.specs.Prelude.{◌≡◌, All, IsTrue};
 ghost use Rattle.bp_trail.specs.Fits.{RowFits};
 
@@ -7,7 +7,7 @@ use bp_page::Geometry;
 use bp_trace::{InputFault, TraceFault, read_script};
 use std::alloc::Global;
 
-/// The rows of a text, numbered from 1. Where memory is refused, it is read once more.
+/// Parses the rows of a text, numbered from 1. Where memory is refused, it tries again.
 pub fn rows_of(alloc: Global, geometry: &Geometry, text: &str) -> Result<Vec<Row>, TraceFault> {
     match read_script(alloc, &mut text.as_bytes(), geometry) {
         Ok(rows) => Ok(rows),
@@ -15,8 +15,8 @@ pub fn rows_of(alloc: Global, geometry: &Geometry, text: &str) -> Result<Vec<Row
     }
 }
 
-/// The rows of a text by client: a script for each of so many. They are numbered over the whole text, which is read
-/// once more where memory is refused.
+/// Parses the rows of a text into a script for each of so many clients. The rows are numbered over the whole text.
+/// Where memory is refused, it tries again.
 pub fn scripts_of(
     alloc: Global,
     geometry: &Geometry,
@@ -33,7 +33,7 @@ pub fn scripts_of(
     }
 }
 
-/// None where there is no memory for them, or no such client.
+/// Splits the rows by client. It returns None where memory is refused, or there is no such client.
 fn by_client(alloc: Global, clients: usize, rows: Vec<Row>) -> Option<Vec<Vec<Row>>> {
     let mut scripts = Vec::new(alloc);
     for _ in 0..clients {
@@ -46,7 +46,7 @@ fn by_client(alloc: Global, clients: usize, rows: Vec<Row>) -> Option<Vec<Vec<Ro
     Some(scripts)
 }
 
-/// Whether the core's parameters allow the row.
+/// Returns true if the core's parameters allow the row.
 fn row_fits(core: &Core, row: &Row) -> bool
     ensures { IsTrue result → RowFits core.now.parameters row.now }
 {
@@ -69,7 +69,7 @@ fn row_fits(core: &Core, row: &Row) -> bool
         }
 }
 
-/// Whether the core's parameters allow all rows, so that a driver takes them.
+/// Returns true if the core's parameters allow all rows, so that a driver takes them.
 pub fn rows_fit(core: &Core, rows: &[Row]) -> bool
     ensures { IsTrue result → All (RowFits core.now.parameters) rows.now }
 {

@@ -1,8 +1,7 @@
-//! References at random, in bursts of every length, beside a plain list: the page that leaves at each load is the one
-//! that the list has first. Between two loads the order of the frames may so lag behind any number of pages.
-use bp_core::SilentKeeper;
+//! Random references in bursts of every length, compared with a plain list: the victim of each load is the page that
+//! the list has first. Between two loads the order of the frames may so be behind by any number of pages.
+use bp_core::{Settings, SilentKeeper};
 use bp_device::{MemDevice, MemPort, OwnedPool};
-use bp_lruk::Settings;
 use bp_page::{Geometry, PageNo, Refusal};
 use std::process::Abort;
 use std::rt::HostRuntime;
@@ -10,7 +9,7 @@ use std::sync::Wait;
 
 const CALLS: u64 = 10000;
 
-/// What the list knows of a page: when its two newest references were, or 0, and whether it is in a frame.
+/// A page in the list: the times of its two newest references, or 0, and whether it is in a frame.
 #[derive(Clone, Copy, Drop)]
 struct Known {
     second: u64,
@@ -18,7 +17,6 @@ struct Known {
     is_here: bool,
 }
 
-/// The pages of the file, and the time.
 #[derive(Drop)]
 struct List {
     pages: Vec<Known>,
@@ -27,7 +25,7 @@ struct List {
 }
 
 impl List {
-    /// A number below this one.
+    /// Returns a random number below this one.
     fn draw(&mut self, below: u64) -> u64 {
         self.random = self
             .random
@@ -36,7 +34,7 @@ impl List {
         (self.random >> 33) % below.max(1)
     }
 
-    /// How many hits there are until the next load: few, or up to three for each frame.
+    /// Returns the number of hits until the next load: few, or up to three for each frame.
     fn draw_burst(&mut self, frames: u64) -> u64 {
         let most = if self.draw(2) == 0 {
             9
@@ -46,7 +44,7 @@ impl List {
         self.draw(most)
     }
 
-    /// A page that is in a frame, or one that is not: the first from a random one on.
+    /// Returns a page that is in a frame, or one that is not: the first from a random one on.
     fn draw_page(&mut self, is_here: bool) -> u64 {
         let count = self.pages.len() as u64;
         let begin = self.draw(count);
@@ -63,7 +61,7 @@ impl List {
         begin
     }
 
-    /// Of the pages in frames the one whose second newest reference is the oldest, then whose newest is, then the first.
+    /// Returns the page in a frame whose second newest reference is the oldest, then whose newest is, then the first.
     fn first(&self) -> u64 {
         let (mut first, mut least) = (0, None);
         for page in 0..self.pages.len() {
@@ -84,7 +82,7 @@ impl List {
         first
     }
 
-    /// Notes that a page left, or was referenced.
+    /// Notes that a page left.
     fn leave(&mut self, page: u64) {
         if let Some(known) = self.pages.get_mut(page as usize) {
             known.is_here = false;
@@ -104,8 +102,8 @@ impl List {
     }
 }
 
-/// Makes calls in a pool of so many frames, over a file of twice as many pages and one. Returns the first load at which
-/// another page left than the list has first, if there is one, and how many pages left.
+/// References pages in a pool of so many frames, over a file of twice as many pages and one. It returns the first load
+/// that evicted another page than the list's first, if there is one, and how many pages left.
 fn compare<R: Abort + Wait>(
     rt: &R,
     pool: &mut OwnedPool<SilentKeeper, MemPort>,
@@ -140,7 +138,7 @@ fn compare<R: Abort + Wait>(
     Ok((None, left))
 }
 
-/// Compares in a new pool.
+/// Compares a new pool of so many frames with the list.
 fn try_with<R: Abort + AllocGlobal + Wait>(rt: &R, frames: usize) {
     let pages = frames.saturating_mul(2).saturating_add(1);
     let geometry = Geometry::new(pages as u64, 16).expect(rt, "the geometry");

@@ -1,4 +1,4 @@
-//! Page files: their lengths, their slots, and files that are cut after they were opened.
+//! Page files: their lengths, their slots, and files that are cut after they are opened.
 ghost use Rattle.std.specs.Prelude.{◌≤◌};
 
 use crate::making::{NINE, expect_page, image, put};
@@ -11,7 +11,7 @@ use std::rt::{Env, Files};
 use std::sync::Wait;
 use std::{env, fs, process};
 
-/// Four slots of version 2, with pages of 16 zeros. Its first half is four pages of version 1 but for two bytes.
+/// Four slots of version 2, with pages of 16 zeros.
 fn four_slots() -> [u8; 128] {
     let mut bytes = [0u8; 128];
     bytes[32] = 1;
@@ -27,7 +27,7 @@ fn scratch<R: Env + Abort + AllocGlobal>(rt: &R, run: u32, test: &str) -> PathBu
     folder.join(rt.alloc(), name.as_str()).expect(rt, "a path")
 }
 
-/// Reads the four pages: those before this number are whole, and each other is a failure.
+/// Asserts that the first `whole` of four pages can be read, and that each other read fails and is counted.
 fn expect_whole<R: Wait + Abort>(rt: &R, port: &mut FilePort, whole: u64) {
     for page in 0..4u64 {
         let before = port.failures();
@@ -50,7 +50,7 @@ fn expect_whole<R: Wait + Abort>(rt: &R, port: &mut FilePort, whole: u64) {
     }
 }
 
-/// Opens a file of four pages, cuts it to so many bytes, and reads.
+/// Opens a file of four pages, cuts it to so many bytes, and asserts that the first pages can be read.
 fn cut_after_open<R: Files<File = File> + Wait + Abort + AllocGlobal>(
     rt: &R,
     path: &str,
@@ -67,6 +67,7 @@ fn cut_after_open<R: Files<File = File> + Wait + Abort + AllocGlobal>(
     expect_whole(rt, &mut port, whole);
 }
 
+/// After a file of version 1 is cut, a read of a page that is not whole fails.
 #[test]
 fn plain_file_cut_after_open(rt: HostRuntime) {
     let path = scratch(&rt, process::id(rt.process()), "plain");
@@ -93,7 +94,7 @@ fn plain_file_cut_after_open(rt: HostRuntime) {
     fs::remove_file(&rt, path.as_path()).expect(&rt, "the file is removed");
 }
 
-// A slot of which only the page's own bytes are cut is not whole either.
+// After a file of version 2 is cut, a read of a slot that is not whole fails, also where its header is whole.
 #[test]
 fn headed_file_cut_after_open(rt: HostRuntime) {
     let path = scratch(&rt, process::id(rt.process()), "headed");
@@ -121,7 +122,7 @@ fn headed_file_cut_after_open(rt: HostRuntime) {
     fs::remove_file(&rt, path.as_path()).expect(&rt, "the file is removed");
 }
 
-/// How many pages a file of so many bytes is found to have, or none where its length is refused.
+/// Returns the number of pages that a file of so many bytes has when it is opened, or None where its length is refused.
 fn pages_of<R: Files<File = File> + Abort + AllocGlobal>(
     rt: &R,
     path: &str,
@@ -137,6 +138,8 @@ fn pages_of<R: Files<File = File> + Abort + AllocGlobal>(
     }
 }
 
+/// A page file has a positive number of whole pages; any other length is `BadLength`. A missing file is a fault of the
+/// device.
 #[test]
 fn file_lengths(rt: HostRuntime) {
     let path = scratch(&rt, process::id(rt.process()), "lengths");
@@ -149,7 +152,7 @@ fn file_lengths(rt: HostRuntime) {
     assert!(rt; matches!(absent, Err(OpenFault::Port(PortFault::Device))));
 }
 
-/// Opens a file of these bytes, and asserts that a write of 32 bytes fails and leaves both its pages.
+/// Opens a file of these bytes, and asserts that a write of 32 bytes fails and leaves the file as it was.
 fn expect_no_longer_image<R: Files<File = File> + Wait + Abort + AllocGlobal>(
     rt: &R,
     path: &str,
@@ -174,7 +177,7 @@ fn longer_images_are_not_written(rt: HostRuntime) {
     fs::remove_file(&rt, path.as_path()).expect(&rt, "the file is removed");
 }
 
-// A slot with the number of another page is written anew.
+// A read of a slot with the number of another page fails, and a write of its own page mends it.
 #[test]
 fn a_write_mends_a_slot_of_another_page(rt: HostRuntime) {
     let path = scratch(&rt, process::id(rt.process()), "mended");
@@ -191,12 +194,13 @@ fn a_write_mends_a_slot_of_another_page(rt: HostRuntime) {
     fs::remove_file(&rt, path.as_path()).expect(&rt, "the file is removed");
 }
 
-/// The slot of page 3 with LSN 7 and an image of the bytes 0 to 15.
+/// The slot of page 3, with LSN 7 and an image of the bytes 0 to 15.
 const SLOT: [u8; 32] = [
     3, 0, 0, 0, 0, 0, 0, 0, 7, 0, 0, 0, 0, 0, 0, 0, 0, 1, 2, 3, 4, 5, 6, 7, 8, 9, 10, 11, 12, 13,
     14, 15,
 ];
 
+/// A slot of version 2 is written and read as its format says, and is refused as the slot of another page.
 #[test]
 fn slot_both_ways(rt: HostRuntime) {
     let three = PageNo::new(3);

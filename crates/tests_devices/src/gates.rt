@@ -1,4 +1,4 @@
-//! Ports in pairs: two threads that meet, and calls that nobody meets.
+//! Pairs of ports whose calls wait for one another.
 use crate::making::{NINE, ZEROS, config, device, expect_page, fuse, image, put};
 use bp_device::{FusePort, GatePort, MemDevice, MemPort, Port};
 use bp_page::{Image, Lsn, PageNo, PortFault};
@@ -6,7 +6,7 @@ use std::process::Abort;
 use std::sync::Wait;
 use std::thread;
 
-/// A pair of ports to a device, of which each looks so often for a call of the other.
+/// A pair of ports to a device. A call of one looks so often for a call of the other.
 fn pair<R: Abort + AllocGlobal>(
     rt: &R,
     device: &MemDevice,
@@ -17,7 +17,7 @@ fn pair<R: Abort + AllocGlobal>(
     GatePort::pair(rt.alloc(), first, second, turns).expect(rt, "the ports")
 }
 
-/// What one of two threads does: it reads a page and writes it.
+/// The work of one of two threads: it reads a page and writes it.
 #[derive(Drop)]
 struct Job {
     port: GatePort<MemPort>,
@@ -40,7 +40,7 @@ fn run<R: Wait>(rt: &R, image: &Image, job: &mut Job) {
     job.written = job.port.write(rt, job.page, image, Lsn::new(9));
 }
 
-/// Asserts that a job read these bytes and wrote, and that its port counted no failure.
+/// Asserts that a job read these bytes, that it wrote, and that its port counted no failure.
 fn expect_done<R: Abort>(rt: &R, job: &Job, bytes: &[u8]) {
     match &job.read {
         Ok(image) => assert_eq!(rt; image.bytes(), bytes),
@@ -64,16 +64,16 @@ fn calls_of_two_threads_meet(rt: HostRuntime) {
     expect_page(&rt, &mut plain, 0, &NINE);
 }
 
-/// A pair in one thread whose first port fails at the first call that gets to it.
+/// A port of a pair in one thread, whose first call that gets to the device fails.
 type Alone = GatePort<FusePort<MemPort>>;
 
-/// Asserts that a read of page 0 fails, and how many failures are then counted.
+/// Asserts that a read of page 0 fails, and that so many failures are then counted.
 fn expect_failure<R: Wait + Abort>(rt: &R, port: &mut Alone, failures: u64) {
     assert_eq!(rt; port.read(rt, PageNo::new(0)), Err(PortFault::Device));
     assert_eq!(rt; port.failures(), failures);
 }
 
-// A read that nobody meets does not get to the port below, whose first call is the next read.
+// A read that meets no other call fails, and does not get to the device, whose first call is the next read.
 #[test]
 fn read_that_nobody_meets(rt: HostRuntime) {
     let device = device(&rt, config(&rt).geometry);

@@ -1,11 +1,11 @@
-//! Devices and the ways to them: ports on files, also files that are cut while they are open; ports that meet; each
-//! call of a device failing in turn, under two client threads; the durable mark; a ticket that is brought to another
-//! core; and victims beside a plain list. What is left was reckoned by hand. Each trail of a run goes to the judge.
-//! Drivers, a device in memory, and a device that fails under one owner, one session or one client thread, are
-//! scenarios.
+//! Tests of devices and ports: ports to files, also files that are cut while they are open; ports that meet; each call
+//! of a device that fails in turn, under two client threads; the durable mark; a ticket that is given to another core;
+//! and victims compared with a plain list. The other expected results were worked out by hand. Each trail of a run goes
+//! to the judge. Drivers, a device in memory, and a device that fails under one owner, one session or one client thread
+//! are tested by scenarios.
 //!
-//! The tests stand here, on top of the crates that they call, so that none of those is proved once more for them. The
-//! library itself has no item.
+//! The tests are on top of the crates that they call, so that none of those is proved again for them. The library
+//! itself has no item.
 #![tactic(auto)]
 
 #[cfg(test)]

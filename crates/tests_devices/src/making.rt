@@ -1,8 +1,8 @@
-//! What the tests share: pages of 16 bytes, four of them and one frame, and ports of which one call fails.
+//! Shared by the tests: four pages of 16 bytes, one frame, and ports of which one call fails.
 ghost use Rattle.std.specs.Prelude.{◌≡◌, All, vec_len};
 
+use bp_core::Settings;
 use bp_device::{FusePort, MemDevice, MemPort, Port};
-use bp_lruk::Settings;
 use bp_page::{Geometry, Image, Lsn, PageNo};
 use bp_workers::{Config, Outcome, run_clients, scripts_fit};
 use std::marker::Sync;
@@ -16,12 +16,10 @@ pub(crate) const ZEROS: [u8; 16] = [0; 16];
 
 pub(crate) const NINE: [u8; 16] = [9, 0, 0, 0, 0, 0, 0, 0, 0, 0, 0, 0, 0, 0, 0, 0];
 
-/// An image of these bytes.
 pub(crate) fn image<R: Abort + AllocGlobal>(rt: &R, bytes: &[u8]) -> Image {
     Image::of(rt.alloc(), bytes).expect(rt, "the image")
 }
 
-/// Writes a page by its port.
 pub(crate) fn put<P: Port, R: Wait + Abort + AllocGlobal>(
     rt: &R,
     port: &mut P,
@@ -40,7 +38,7 @@ pub(crate) fn expect_page<P: Port, R: Wait + Abort>(rt: &R, port: &mut P, page: 
     }
 }
 
-/// One frame, one stamp and no periods.
+/// The configuration of a run: one frame, K 1 and no periods.
 pub(crate) fn config<R: Abort>(rt: &R) -> Config {
     Config {
         geometry: Geometry::new(4, 16).expect(rt, "the geometry"),
@@ -50,14 +48,13 @@ pub(crate) fn config<R: Abort>(rt: &R) -> Config {
     }
 }
 
-/// A device of zeros.
 pub(crate) fn device<R: Abort + AllocGlobal>(rt: &R, geometry: Geometry) -> MemDevice
     ensures { result ≡ geometry }
 {
     MemDevice::new(rt.alloc(), geometry).expect(rt, "the device")
 }
 
-/// A port to the device whose n-th call fails. With `spoil`, a write that fails puts a page of bytes 255 on it.
+/// Makes a port to the device whose n-th call fails. With `spoil`, a write that fails puts a page of bytes 255 there.
 pub(crate) fn fuse<R: Abort + AllocGlobal>(
     rt: &R,
     device: &MemDevice,
@@ -70,7 +67,7 @@ pub(crate) fn fuse<R: Abort + AllocGlobal>(
     FusePort::new(rt.alloc(), port, n, spoil).expect(rt, "the port")
 }
 
-/// Which call fails: the n-th of this client's port.
+/// The call that fails: the n-th of this client's port.
 #[derive(Clone, Copy)]
 pub(crate) struct Failing {
     pub client: usize,
@@ -78,7 +75,7 @@ pub(crate) struct Failing {
     pub spoil: bool,
 }
 
-/// A port for each of so many clients.
+/// Makes a port for each of so many clients.
 fn fuses<R: Abort + AllocGlobal>(
     rt: &R,
     device: &MemDevice,
@@ -102,7 +99,7 @@ fn fuses<R: Abort + AllocGlobal>(
     ports
 }
 
-/// A run of the rows of a text by so many clients, over the device. The judge finds its trail legal.
+/// Runs the rows of a text by so many clients over the device. The judge finds the trail lawful.
 pub(crate) fn run<R: Threads + Wait + Sync + Abort + AllocGlobal>(
     rt: &R,
     config: Config,

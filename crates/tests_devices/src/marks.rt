@@ -1,4 +1,4 @@
-//! The answers of a mark in two threads.
+//! A mark that one thread raises and another one looks at.
 ghost use Rattle.std.specs.Prelude.{◌≡◌};
 
 use bp_mark::{LogEnd, Mark, Reader};
@@ -6,7 +6,7 @@ use bp_page::Lsn;
 use std::process::Abort;
 use std::thread;
 
-// Raises 1 to 1,000 in order.
+// Raises the mark to 1, 2 and so on up to 1,000.
 fn raise_a_thousand(mark: &Mark, mut end: LogEnd) -> LogEnd
     requires { end.mark ≡ mark.now }
     ensures { result.mark ≡ end.mark }
@@ -17,7 +17,7 @@ fn raise_a_thousand(mark: &Mark, mut end: LogEnd) -> LogEnd
     end
 }
 
-// Looks 1,000 times. What is seen never falls.
+// Looks 1,000 times, and asserts that what is seen never falls.
 fn look_a_thousand_times(rt: &impl Abort, mark: &Mark, mut reader: Reader) -> Reader
     requires { reader.mark ≡ mark.now }
     ensures { result.mark ≡ reader.mark }

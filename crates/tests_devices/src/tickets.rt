@@ -1,19 +1,18 @@
-//! A ticket that is brought to another core.
+//! A ticket that is given to another core.
 ghost use Rattle.std.specs.Prelude.{◌≡◌, length};
 
-use bp_core::{Core, EndRefusal, Fix, ReadTicket};
-use bp_lruk::Settings;
+use bp_core::{Core, EndRefusal, Fix, ReadTicket, Settings};
 use bp_page::{Geometry, Image, PageNo};
 use std::process::Abort;
 
-/// A core of one frame for one client, over four pages of 16 bytes.
+/// Makes a core of one frame for one client, over four pages of 16 bytes.
 fn new_core(rt: &(impl Abort + AllocGlobal)) -> Core {
     let geometry = Geometry::new(4, 16).expect(rt, "the geometry");
     let settings = Settings::new(2, 0, 1000).expect(rt, "the settings");
     Core::new(rt.alloc(), geometry, settings, 1, 1, 100).expect(rt, "the core")
 }
 
-/// The ticket to read that a fix of page 1 gives.
+/// Returns the ticket to read that a fix of page 1 gives.
 fn ticket_of(rt: &impl Abort, core: &mut Core) -> ReadTicket {
     assert!(rt; core.clients() == 1);
     assert!(rt; core.geometry().pages == 4);
@@ -34,7 +33,7 @@ fn blank(rt: &(impl Abort + AllocGlobal), geometry: &Geometry) -> Image
     Image::blank(rt.alloc(), geometry).expect(rt, "the image")
 }
 
-/// Ends the read with an image of zeros. The ticket comes back where the core did not give it.
+/// Ends the read with an image of zeros. It returns the ticket where the core did not give it.
 fn end_read(
     rt: &(impl Abort + AllocGlobal),
     core: &mut Core,
@@ -55,7 +54,7 @@ fn end_read(
     }
 }
 
-// The other core gives it back with the image, and it is good for its own.
+// Another core refuses the ticket and returns it with the image. It is still good for its own core.
 #[test]
 fn ticket_goes_to_another_core_and_back(rt: HostRuntime) {
     let mut own = new_core(&rt);

@@ -1,11 +1,11 @@
-//! Two clients over one frame, and one call of one port fails.
+//! Two clients over one frame, where one call of one port fails.
 use crate::making::{Failing, NINE, ZEROS, config, device, run};
 use bp_core::Reply;
 use bp_trail::Totals;
 use bp_workers::Outcome;
 use std::process::Abort;
 
-/// Each client changes page 1, which has to go out for page 2. That stays fixed, so that page 1 may find no frame.
+/// Each client changes page 1, which has to go out for page 2. Page 2 stays pinned, so page 1 may find no frame.
 const ROWS: &str = "\
 0,fix,1,,,
 0,write,1,0,09,0
@@ -23,9 +23,9 @@ const ROWS: &str = "\
 1,read,1,,,
 ";
 
-/// Asserts what holds of such a run under every schedule. What failed was refused; any other row found no frame, or
-/// lacked its pass. Nothing that was never there was read: zeros, or what the clients write. A page that a failing
-/// write spoiled stays in its frame until it is written out well, so that it is not read again before.
+/// Asserts what holds of such a run under every schedule. The row whose device call failed was refused; any other
+/// refused row found no victim, or had no pass. Only zeros or what the clients wrote was read: a page that a failing
+/// write spoiled stays in its frame until it is written out, so it is not read before.
 fn expect_sound<R: Abort>(rt: &R, done: &Outcome, n: u64) {
     for entry in &done.trail {
         if let Reply::Content(image) = &entry.reply {
@@ -49,6 +49,7 @@ fn expect_sound<R: Abort>(rt: &R, done: &Outcome, n: u64) {
     );
 }
 
+/// Whichever call of whichever port fails, only that row is refused for it, and no spoiled page is read.
 #[test]
 fn each_call_of_either_port_fails(rt: HostRuntime) {
     let config = config(&rt);

@@ -1,8 +1,8 @@
-//! Tests of what is read and written: traces by readers that fail, reports and pictures by writers that fail, the texts
-//! of what goes wrong, bytes put into a page, a sweep whose device fails, and the ports of a run. What else the program
-//! reads and writes is shown by its cases.
+//! Tests of input and output: traces from readers that fail, reports and pictures to writers that fail, the texts of
+//! faults, bytes written into a page, a sweep whose device fails, and the ports of a run. All else that the program
+//! reads and writes is tested by its cases.
 //!
-//! They stand apart from the crates that they call, so that none of these is proved a second time with its tests.
+//! The tests are apart from the crates that they call, so that none of those is proved a second time with its tests.
 #![tactic(auto)]
 
 #[cfg(test)]

@@ -1,7 +1,7 @@
-//! Bytes put into a page.
+//! A write into a page's image.
 use bp_page::Image;
 
-// No other crate calls `patched`.
+// Bytes are written into a copy of an image. No other crate calls `patched`.
 #[test]
 fn bytes_are_put_into_an_image(rt: HostRuntime) {
     let image = Image::of(rt.alloc(), b"a page of letter").expect(&rt, "the image");

@@ -1,15 +1,14 @@
-//! A picture of few points, whose places were reckoned by hand.
+//! A picture of a few points, with places that were worked out by hand.
 use crate::writers::Limited;
 use bp_charts::{Curve, Point, Which, write_chart};
 use std::process::Abort;
 
-/// How a picture begins.
 const BEGIN: &str =
     "<svg xmlns='http://www.w3.org/2000/svg' viewBox='0 0 9400 5200' width='940' height='520' role='img'>\n";
 
-/// How this one ends. A hit ratio of 0 is at 4,400, and 1 higher by 4,000. From 64 on there are two doublings: 64
-/// stands at the left, 128 in the middle, 192 halfway on, and 256 at the right. Of 8 fixes 2 hits are 1,000 tenths of a
-/// pixel above the foot at 4,400, and 8 are 4,000.
+/// The rest of the picture. A hit ratio of 0 is at 4,400, and 1 is 4,000 higher. From 64 frames on there are two
+/// doublings: 64 is at the left, 128 in the middle, 192 halfway on, and 256 at the right. 2 hits of 8 fixes are 1,000
+/// tenths of a pixel above 4,400, and 8 hits are 4,000.
 const REST: &str = "\
 <path class='grid' d='M800 4400h6400'/><text class='left' x='720' y='4400' dy='45'>0.0</text>
 <path class='grid' d='M800 4000h6400'/><text class='left' x='720' y='4000' dy='45'>0.1</text>
@@ -54,7 +53,6 @@ fn point(frames: usize, hits: u64, fixes: u64) -> Point {
     }
 }
 
-/// A line of these points.
 fn line<const N: usize>(
     rt: &(impl Abort + AllocGlobal),
     which: Which,
@@ -78,13 +76,13 @@ fn three_lines(rt: &(impl Abort + AllocGlobal)) -> [Curve; 3] {
     ]
 }
 
-/// Whether a picture of one line with this point is drawn.
+/// Returns true if a picture of one line with this point is drawn.
 fn is_drawn(rt: &(impl Abort + AllocGlobal), odd: Point) -> bool {
     let mut picture = Vec::new(rt.alloc());
     write_chart(&[line(rt, Which::K(1), [odd])], &mut picture).is_ok()
 }
 
-// No frames, no fixes, and more hits than fixes.
+// A point without frames, one without fixes, and one with more hits than fixes are drawn.
 #[test]
 fn odd_points_are_drawn(rt: HostRuntime) {
     assert!(rt; is_drawn(&rt, point(0, 0, 0)));
@@ -93,6 +91,7 @@ fn odd_points_are_drawn(rt: HostRuntime) {
     write_chart(&[], &mut picture).expect(&rt, "a picture without lines");
 }
 
+/// A picture has its points where they were worked out. A writer that fails at any byte gets the picture up to there.
 #[test]
 fn points_stand_at_their_places(rt: HostRuntime) {
     let lines = three_lines(&rt);

@@ -9,7 +9,7 @@ use std::process::Abort;
 use std::rt::{Files, Runtime};
 use std::sync::Wait;
 
-/// Asserts that what the first of two ports to a page file writes is what the second reads.
+/// Asserts that the second of two ports to a page file reads what the first wrote.
 fn expect_one_device(
     rt: &(impl Runtime<A = Global> + Files<File = File> + Wait + Abort),
     word: &str,
@@ -27,6 +27,7 @@ fn expect_one_device(
     assert_eq!(rt; found, image);
 }
 
+/// All ports of a run lead to the same pages, in memory and on disk.
 #[test]
 fn ports_of_one_device(rt: HostRuntime) {
     expect_one_device(&rt, "mem:4");

@@ -1,4 +1,4 @@
-//! A trace that comes in pieces, is cut at each of its bytes, or fails at each call of its reader.
+//! Traces that come in pieces, are cut at each byte, or fail at each call of their reader.
 use crate::rows::{AHEAD, rows_of_the_rule, sixteen_pages};
 use bp_trace::{TraceFault, read_script};
 use bp_trail::Row;
@@ -6,7 +6,7 @@ use std::io;
 use std::io::{ErrorKind, Read};
 use std::process::Abort;
 
-/// Gives its bytes in pieces. The read call of a number, from 1, and those after it fail, as many as are said.
+/// A reader that gives its bytes in pieces. From the call `fails_at`, counted from 1, `fails_for` calls fail.
 #[derive(Drop)]
 struct Pieces<'a> {
     bytes: &'a [u8],
@@ -32,7 +32,7 @@ impl Read for Pieces<'_> {
 }
 
 impl<'a> Pieces<'a> {
-    /// So many bytes a call.
+    /// A reader of at most so many bytes a call.
     fn of(bytes: &'a [u8], most: usize) -> Pieces<'a> {
         Pieces {
             bytes,
@@ -44,7 +44,7 @@ impl<'a> Pieces<'a> {
         }
     }
 
-    /// The same, and so many calls from this one on fail.
+    /// Makes so many calls fail, from this one on.
     fn failing(self, fails_at: usize, fails_for: usize, kind: ErrorKind) -> Pieces<'a> {
         Pieces {
             bytes: self.bytes,
@@ -57,18 +57,18 @@ impl<'a> Pieces<'a> {
     }
 }
 
-/// The bytes of each record, without the end of its line.
+/// The length of each record, without the end of its line.
 const LENGTHS: [usize; 13] = [10, 16, 12, 10, 11, 10, 10, 10, 12, 11, 10, 11, 12];
 
-/// What is left of a trace that is cut: its whole records, and why the next one is refused where there is one.
+/// The rest of a trace that is cut: its whole records, and why the next one is refused, if there is one.
 #[derive(Clone, Copy, Drop)]
 struct Left {
     rows: usize,
     refused: Option<u16>,
 }
 
-/// What so many bytes of the trace are. A record that lacks only the end of its line is whole. Any other one lacks a
-/// field, but for the second: it is a write, whose LSN comes after its last comma.
+/// Returns the rest of the trace after so many bytes. A record that lacks only the end of its line is whole. Any other
+/// one lacks a field, except for the second: it is a write, whose LSN comes after its last comma.
 fn left_of(kept: usize) -> Left {
     let mut rest = kept;
     let mut rows = 0usize;
@@ -92,7 +92,7 @@ fn left_of(kept: usize) -> Left {
     }
 }
 
-/// Asserts what a reader of so many bytes of the trace gives, which come in pieces of so many at most.
+/// Asserts the rest of the trace after so many bytes, which come in pieces of at most `most`.
 fn expect_left<R: Abort + AllocGlobal>(rt: &R, rows: &[Row], kept: usize, most: usize) {
     let left = left_of(kept);
     let bytes = AHEAD.get(..kept).expect(rt, "the bytes");
@@ -111,6 +111,7 @@ fn expect_left<R: Abort + AllocGlobal>(rt: &R, rows: &[Row], kept: usize, most: 
     }
 }
 
+/// A trace that is cut at any byte has its whole records, or is refused at the next one.
 #[test]
 fn write_ahead_rule_cut_at_each_byte(rt: HostRuntime) {
     assert_eq!(rt; AHEAD.len(), 158);
@@ -122,7 +123,7 @@ fn write_ahead_rule_cut_at_each_byte(rt: HostRuntime) {
     }
 }
 
-/// How many rows a reader gives, or the fault.
+/// Returns the number of rows that a reader gives, or the fault.
 fn count_rows<R: Abort + AllocGlobal>(rt: &R, mut reader: Pieces<'_>) -> Result<usize, TraceFault> {
     match read_script(rt.alloc(), &mut reader, &sixteen_pages(rt)) {
         Ok(rows) => Ok(rows.len()),
@@ -132,7 +133,8 @@ fn count_rows<R: Abort + AllocGlobal>(rt: &R, mut reader: Pieces<'_>) -> Result<
 
 const FAULT: TraceFault = TraceFault { row: 0, number: 47 };
 
-// 158 bytes in pieces of 7 are 22 whole ones and a last one of 4. One call more finds the end.
+// A reader that fails at any call is `ReadFault`. 158 bytes in pieces of 7 are 22 whole ones and a last one of 4; one
+// more call finds the end.
 #[test]
 fn failing_readers(rt: HostRuntime) {
     for (most, calls) in [(1, 159usize), (7, 24), (8192, 2)] {
@@ -146,12 +148,12 @@ fn failing_readers(rt: HostRuntime) {
             );
         }
     }
-    // A fault comes before a record that is refused is looked at.
+    // A fault of the reader comes before any record is parsed.
     let reader = Pieces::of(b"0,FIX,1,,,\n", 11).failing(2, 1, ErrorKind::BrokenPipe);
     assert_eq!(rt; count_rows(&rt, reader), Err(FAULT));
 }
 
-/// The most calls for a trace.
+/// The most calls for a trace. A read that is interrupted is made again until there are so many.
 const MOST_CALLS: usize = 134_217_728;
 
 #[test]
@@ -160,7 +162,7 @@ fn interrupted_readers(rt: HostRuntime) {
         let reader = Pieces::of(AHEAD, 7).failing(call, 3, ErrorKind::Interrupted);
         assert_eq!(rt; count_rows(&rt, reader), Ok(13), "at call {call}");
     }
-    // The bytes take one call, and the end takes the last one; then there is one call too few for the end.
+    // One call gets the bytes, and the last one finds the end. With one more interruption there is no call for the end.
     for (interrupted, wanted) in [(MOST_CALLS - 2, Ok(13)), (MOST_CALLS - 1, Err(FAULT))] {
         let reader = Pieces::of(AHEAD, 158).failing(2, interrupted, ErrorKind::Interrupted);
         assert_eq!(rt; count_rows(&rt, reader), wanted);

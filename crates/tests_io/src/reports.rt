@@ -1,9 +1,8 @@
-//! Reports of the trail of the write-ahead rule: in pieces, and over writers that fail.
+//! Reports of the trail of the write-ahead rule, in pieces, and to writers that fail.
 use crate::rows::{rows_of_the_rule, sixteen_pages};
 use crate::writers::Limited;
-use bp_core::{Core, Entry, Refused};
+use bp_core::{Core, Entry, Refused, Settings};
 use bp_device::{MemDevice, Port, drive_all};
-use bp_lruk::Settings;
 use bp_trace::{ReportRun, report, report_rows};
 use std::io;
 use std::io::Write;
@@ -11,7 +10,7 @@ use std::process::Abort;
 use std::sync::Wait;
 use test_support::scripts::rows_fit;
 
-/// A core of one frame after the rows of the rule, of which row 6 was refused.
+/// A core of one frame after the rows of the write-ahead rule, of which row 6 was refused.
 fn driven<R: Wait + Abort + AllocGlobal>(rt: &R) -> Core {
     let device = MemDevice::new(rt.alloc(), sixteen_pages(rt)).expect(rt, "the device");
     let mut port = device.port().expect(rt, "the port");
@@ -29,7 +28,7 @@ fn driven<R: Wait + Abort + AllocGlobal>(rt: &R) -> Core {
     core
 }
 
-// But for the line of the refused row.
+// The report without the line of the refused row.
 const REPORT: &str = "\
 out 2 1
 evict 2 1
@@ -43,7 +42,7 @@ failed 0
 refused 1
 ";
 
-/// Reports entries in pieces of this length, but for the last.
+/// Reports entries in pieces of this length; the last may be shorter.
 fn report_by<W: Write>(
     rt: &impl Abort,
     entries: &[Entry],
@@ -61,6 +60,7 @@ fn report_by<W: Write>(
     run.totals(writer)
 }
 
+/// A report in pieces of any length is the report of the whole trail.
 #[test]
 fn report_in_pieces(rt: HostRuntime) {
     let core = driven(&rt);
@@ -73,6 +73,7 @@ fn report_in_pieces(rt: HostRuntime) {
     }
 }
 
+/// A writer that fails at any byte gets the report up to there.
 #[test]
 fn failing_writers(rt: HostRuntime) {
     let core = driven(&rt);

@@ -1,9 +1,9 @@
-//! The trace of the write-ahead rule, and its rows.
+//! A trace that shows the write-ahead rule, and its rows.
 use bp_page::{Bytes, Geometry, Lsn, PageNo};
 use bp_trail::{Row, Step};
 use std::process::Abort;
 
-/// Page 1 is changed under log record 7, and has to make way before that is durable.
+/// Page 1 is changed under log record 7, and is to be evicted before that record is durable.
 pub(crate) const AHEAD: &[u8] =
     b"0,fix,1,,,\n0,write,1,0,ff,7\n0,unfix,1,,,\n0,log,5,,,\n0,tick,1,,,\n0,fix,2,,,\n0,log,7,,,\n0,fix,2,,,\n0,unfix,2,,,\n0,tick,1,,,\n0,fix,1,,,\n0,read,1,,,\n0,unfix,1,,,\n";
 
@@ -19,7 +19,6 @@ fn row(row: u64, step: Step) -> Row {
     }
 }
 
-/// The rows of the trace.
 pub(crate) fn rows_of_the_rule<R: Abort + AllocGlobal>(rt: &R) -> [Row; 13] {
     let (one, two) = (PageNo::new(1), PageNo::new(2));
     let bytes = Bytes::of(rt.alloc(), &[255]).expect(rt, "the byte");

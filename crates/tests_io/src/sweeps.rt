@@ -1,10 +1,11 @@
-//! What a cell counts where its device fails, which no run of the program can show.
+//! A sweep whose device fails. No run of the program can show this.
+use bp_core::Settings;
 use bp_device::{FusePort, MemDevice, Port};
-use bp_lruk::Settings;
 use bp_page::Geometry;
 use bp_sweep::{Totals, count_references};
 use std::process::Abort;
 
+/// A reference whose read fails is counted as failed, and the next one reads the page.
 #[test]
 fn a_read_that_fails_is_counted(rt: HostRuntime) {
     let geometry = Geometry::new(16, 16).expect(&rt, "16 pages of 16 bytes");
@@ -13,7 +14,7 @@ fn a_read_that_fails_is_counted(rt: HostRuntime) {
     let port = device.port().expect(&rt, "a port");
     let mut fuse = FusePort::new(rt.alloc(), port, 1, false).expect(&rt, "a fuse");
     assert!(rt; fuse.geometry().pages == 16);
-    // The page is not there after the first read, so that the second reference reads it.
+    // The page is in no frame after the failed read, so the second reference reads it.
     let counts = count_references(&rt, rt.alloc(), &mut fuse, settings, 1, &[1, 1, 1]);
     let wanted = Totals {
         hits: 1,

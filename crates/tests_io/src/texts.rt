@@ -1,11 +1,11 @@
-//! The texts of what goes wrong, each on a line.
+//! The texts of refusals and faults, one on each line.
 use bp_page::{Lsn, PageNo, PortFault, Refusal, explanation_of};
 use bp_trace::{InputFault, TraceFault};
 use std::alloc::Global;
 use std::fmt::Display;
 use std::process::Abort;
 
-/// The refusals whose text names no LSN, and that are explained by the same text.
+/// The refusals whose text has no LSN. The explanation of their numbers is the same text.
 const REFUSALS: [Refusal; 16] = [
     Refusal::BadSettings,
     Refusal::BadLength,
@@ -25,7 +25,6 @@ const REFUSALS: [Refusal; 16] = [
     Refusal::OutOfPage,
 ];
 
-/// Their numbers and texts.
 const TEXTS: &str = "\
 2 a setting of the pool is out of its limits
 3 the page file is no positive number of whole pages, or has too many
@@ -45,7 +44,7 @@ const TEXTS: &str = "\
 45 the page is not of the file, or the bytes are not within the page
 ";
 
-/// The faults of a trace that are explained by their own text.
+/// The faults of a trace whose explanation is their own text.
 const FAULTS: [InputFault; 6] = [
     InputFault::OutOfMemory,
     InputFault::BadClient,
@@ -55,7 +54,6 @@ const FAULTS: [InputFault; 6] = [
     InputFault::OutOfPage,
 ];
 
-/// Their numbers and texts.
 const TEXTS_OF_FAULTS: &str = "\
 22 out of memory
 41 no client has this number here
@@ -65,7 +63,7 @@ const TEXTS_OF_FAULTS: &str = "\
 45 the page is not of the file, or the bytes are not within the page
 ";
 
-/// The faults whose explanation speaks of lists of references, or of a page file, too.
+/// The faults whose explanation also tells of lists of references, or of a page file.
 const OF_LISTS: [InputFault; 4] = [
     InputFault::TooManyPages,
     InputFault::BadShape,
@@ -73,7 +71,6 @@ const OF_LISTS: [InputFault; 4] = [
     InputFault::ReadFault,
 ];
 
-/// Their numbers and texts.
 const TEXTS_OF_LISTS: &str = "\
 1 the references are of too many different pages
 40 a record does not have the fields of its operation
@@ -81,7 +78,6 @@ const TEXTS_OF_LISTS: &str = "\
 47 the trace could not be read
 ";
 
-/// Their numbers and explanations.
 const EXPLAINED_OF_LISTS: &str = "\
 1 the number of pages, as of different references, or the page size is out of its limits
 40 a record does not have the fields of its operation, or lacks the column of a sweep
@@ -89,7 +85,7 @@ const EXPLAINED_OF_LISTS: &str = "\
 47 the trace or the list of references could not be read
 ";
 
-/// What refusals or faults say of themselves, and what their numbers stand for.
+/// The texts of refusals or faults, and the explanations of their numbers.
 #[derive(Drop)]
 struct Said {
     own: String,
@@ -104,7 +100,7 @@ impl Said {
         }
     }
 
-    /// One more, with this number, which says this of itself.
+    /// Adds the number and the text of a refusal or fault, and the explanation of the number.
     fn add<R: Abort + AllocGlobal, T: Display>(&mut self, rt: &R, number: u16, one: &T) {
         let own = format!(in rt.alloc(); "{number} {one}\n").expect(rt, "the line");
         self.own.push_str(own.as_str()).expect(rt, "the text");
@@ -116,7 +112,6 @@ impl Said {
     }
 }
 
-/// What these faults say.
 fn said_of<R: Abort + AllocGlobal>(rt: &R, faults: &[InputFault]) -> Said {
     let mut said = Said::nothing(rt.alloc());
     for fault in faults {
@@ -125,6 +120,7 @@ fn said_of<R: Abort + AllocGlobal>(rt: &R, faults: &[InputFault]) -> Said {
     said
 }
 
+/// Each of these refusals is printed as its number is explained.
 #[test]
 fn explanations_are_what_refusals_say(rt: HostRuntime) {
     let mut said = Said::nothing(rt.alloc());
@@ -135,6 +131,7 @@ fn explanations_are_what_refusals_say(rt: HostRuntime) {
     assert_eq!(rt; said.explained.as_str(), TEXTS);
 }
 
+/// These faults are printed as their numbers are explained, except where a list or a page file has the number too.
 #[test]
 fn explanations_are_what_faults_say(rt: HostRuntime) {
     let said = said_of(&rt, &FAULTS);
@@ -145,7 +142,7 @@ fn explanations_are_what_faults_say(rt: HostRuntime) {
     assert_eq!(rt; said.explained.as_str(), EXPLAINED_OF_LISTS);
 }
 
-// A refusal of the log names an LSN, which its number can't; that of a geometry speaks of no references.
+// `NeedLog` prints its LSN, which the explanation of 12 can't have; `BadGeometry` prints nothing of references.
 #[test]
 fn other_texts(rt: HostRuntime) {
     let needs_log = Refusal::NeedLog(Lsn::new(18_446_744_073_709_551_615));

@@ -1,9 +1,9 @@
-//! A writer that is full at some time.
+//! `Limited`, a writer that gets full.
 use std::alloc::Global;
 use std::io;
 use std::io::Write;
 
-/// Takes at most five bytes a call, and fails once it holds so many.
+/// A writer that takes at most five bytes a call, and fails once it holds `limit` bytes.
 #[derive(Drop)]
 pub(crate) struct Limited {
     held: Vec<u8>,
@@ -32,8 +32,8 @@ impl Limited {
         Limited { held, limit }
     }
 
-    /// Whether it failed with its own fault exactly where it could not hold the whole text, and holds the text up to
-    /// there.
+    /// Returns true if the writer failed, with its own fault, exactly where it could not hold the whole text, and holds
+    /// the text up to there.
     pub(crate) fn stopped_rightly(&self, outcome: io::Result<()>, whole: &[u8]) -> bool {
         let held = self.held.as_slice();
         match outcome {

@@ -1,11 +1,10 @@
-//! What a trail has to have of some rows: each row that is not refused has its answer there, once, in the order of the
-//! rows.
+//! Compares a trail with its rows: each row that is not refused has its answer in the trail, once and in order.
 use crate::telling::all_went_back;
 use bp_core::{Call, Entry, Refused, Reply, Row, Step};
 use bp_page::PageNo;
 use std::process::Abort;
 
-/// What the last entry of a row that is not refused tells.
+/// What the last entry of a row shows, where the row is not refused.
 #[derive(Clone, Copy, PartialEq, Eq, Debug, Drop)]
 enum Answer {
     Fixed(PageNo),
@@ -17,7 +16,7 @@ enum Answer {
     Purged,
 }
 
-/// What the row wants, if it wants anything of the trail.
+/// Returns the answer that a row has in the trail, if it has one.
 fn answer_to(step: &Step) -> Option<Answer> {
     match step {
         Step::Fix(page) => Some(Answer::Fixed(*page)),
@@ -31,7 +30,7 @@ fn answer_to(step: &Step) -> Option<Answer> {
     }
 }
 
-/// Whether a flush gave this ticket. The write-out of a fix ends no flush.
+/// Returns true if a flush gave this ticket: the write-out of a fix ends no flush.
 fn is_of_a_flush(trail: &[Entry], number: u64) -> bool {
     for entry in trail {
         if let (Call::Flush(_), Reply::WriteFirst { ticket, .. }) = (&entry.call, &entry.reply)
@@ -43,7 +42,7 @@ fn is_of_a_flush(trail: &[Entry], number: u64) -> bool {
     false
 }
 
-/// The answer that the entry is, if it ends a row.
+/// Returns the answer that an entry is, if it ends a row.
 fn answer_in(trail: &[Entry], entry: &Entry) -> Option<Answer> {
     match &entry.call {
         Call::Fix(page) if matches!(entry.reply, Reply::Hit(_)) => Some(Answer::Fixed(*page)),
@@ -74,7 +73,7 @@ fn is_refused(refused: &[Refused], row: u64) -> bool {
     false
 }
 
-/// What the next row wants that is not refused, of those from a place on, and the place after it.
+/// Returns the answer of the next row that is not refused, from a place on, and the place after it.
 fn next_wanted(rows: &[Row], refused: &[Refused], from: usize) -> (Option<Answer>, usize) {
     for at in from..rows.len() {
         let row = &rows[at];
@@ -87,9 +86,9 @@ fn next_wanted(rows: &[Row], refused: &[Refused], from: usize) -> (Option<Answer
     (None, rows.len())
 }
 
-/// Asserts that each row which was not refused has its answer in the trail, once and in order, that all passes and
-/// tickets went back, and that nothing was marked, since no row is of the log. One row at most was refused for want of
-/// memory; the others had no frame or no pass. It tells whether there was such a row.
+/// Asserts that each row that was not refused has its answer in the trail, once and in order, that all passes and
+/// tickets went back, and that nothing was marked, since no row is of the log. At most one row was refused for want of
+/// memory; each other refused row had no frame or no pass. It returns true if there was such a row.
 pub(crate) fn expect_counted<R: Abort + AllocGlobal>(
     rt: &R,
     rows: &[Row],
@@ -101,7 +100,7 @@ pub(crate) fn expect_counted<R: Abort + AllocGlobal>(
         assert!(rt; !matches!(entry.call, Call::Mark(_)));
         if let Some(answer) = answer_in(trail, entry) {
             let (wanted, next) = next_wanted(rows, refused, from);
-            // At the end passes that were still held go back.
+            // Passes that are still held go back at the end.
             let is_lawful = match wanted {
                 Some(wanted) => answer == wanted,
                 None => matches!(answer, Answer::Unfixed(_)),
@@ -115,7 +114,7 @@ pub(crate) fn expect_counted<R: Abort + AllocGlobal>(
     let mut for_memory = 0u64;
     for it in refused {
         match it.number {
-            // By the pool, or by the port at the end of a read.
+            // 22 by the pool, or 17 by the port at the end of a read.
             22 | 17 => for_memory = for_memory.saturating_add(1),
             11 | 14 => {}
             number => panic!(rt; "row {} refused {number}", it.row),

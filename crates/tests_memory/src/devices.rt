@@ -1,17 +1,16 @@
-//! A device in memory, and a driver over it.
+//! A driver over a device in memory.
 ghost use Rattle.std.specs.Prelude.{◌≡◌};
 
 use crate::answers::expect_counted;
-use bp_core::{Core, Refused, Row};
+use bp_core::{Core, Refused, Row, Settings};
 use bp_device::{MemDevice, MemPort, drive_all};
-use bp_lruk::Settings;
 use bp_page::{Geometry, Refusal};
 use std::process::Abort;
 use std::sync::Wait;
 use test_support::judging::unlawful_in;
 use test_support::scripts::{rows_fit, rows_of};
 
-/// Page 1 is changed, and has to go out for page 2, which stays fixed; so page 1 finds no frame.
+/// Page 1 is changed, and has to go out for page 2. Page 2 stays pinned, so page 1 finds no frame.
 const TWO_PAGES: &str = "
 0,fix,1,,,
 0,write,1,0,09,0
@@ -22,13 +21,12 @@ const TWO_PAGES: &str = "
 0,read,1,,,
 ";
 
-/// With memory row 6 finds no victim, so that row 7 has no pass.
+/// With memory row 6 finds no victim, so row 7 has no pass.
 const NO_VICTIM_NO_PASS: [Refused; 2] = [
     Refused { row: 6, number: 11 },
     Refused { row: 7, number: 14 },
 ];
 
-/// A device of zeros: four pages of 16 bytes.
 pub(crate) fn device<R: Abort + AllocGlobal>(rt: &R, geometry: Geometry) -> MemDevice
     ensures { result ≡ geometry }
 {
@@ -53,7 +51,7 @@ pub(crate) fn port_of<R: Abort>(rt: &R, device: &MemDevice) -> MemPort
     }
 }
 
-/// A core of one frame for one client, with one stamp and no periods.
+/// Makes a core of one frame for one client, with K 1 and no periods.
 fn one_frame<R: Abort + AllocGlobal>(rt: &R, geometry: Geometry) -> Core
     ensures { result.parameters.size ≡ geometry.size }
 {
@@ -68,7 +66,7 @@ fn one_frame<R: Abort + AllocGlobal>(rt: &R, geometry: Geometry) -> Core
     }
 }
 
-/// Drives the rows, and once more where that was refused before the first row.
+/// Drives the rows. If that is refused before the first row, it tries again.
 fn drive<R: Wait + Abort + AllocGlobal>(
     rt: &R,
     core: &mut Core,

@@ -1,4 +1,4 @@
-//! Page files that are opened, and that are made.
+//! Page files that are opened, and page files that are made.
 use bp_device::{FilePort, OpenFault, Port};
 use bp_page::{Format, Geometry, PageNo, PortFault, Refusal};
 use bp_ports::create_page_file;
@@ -27,7 +27,6 @@ fn scratch<R: Env + Abort + AllocGlobal>(rt: &R, run: u32, name: &str) -> PathBu
     }
 }
 
-/// Makes a file of these bytes.
 fn make_file<R: Files + Abort>(rt: &R, path: &str, bytes: &[u8]) {
     if fs::write(rt, path, bytes).is_err() {
         fs::write(rt, path, bytes).expect(rt, "the file");
@@ -40,7 +39,7 @@ fn remove<R: Files + Abort>(rt: &R, path: &str) {
     }
 }
 
-/// Opens a page file, once more where memory was refused.
+/// Opens a page file. Where memory is refused, it tries again.
 fn open<R: Files<File = File> + AllocGlobal>(
     rt: &R,
     path: &str,
@@ -54,8 +53,8 @@ fn open<R: Files<File = File> + AllocGlobal>(
     }
 }
 
-/// Makes a page file of two pages, once more where memory was refused: for a page's bytes, or for a name. Then nothing
-/// stands at the path, since a file is made only there.
+/// Makes a page file of two pages. Where memory is refused, for a page's bytes or for a name, it tries again. The call
+/// that failed left nothing at the path, since a file is made only where nothing is.
 fn create<R: Files<File = File> + AllocGlobal + Wait + Abort>(
     rt: &R,
     path: &str,
@@ -77,15 +76,15 @@ fn create<R: Files<File = File> + AllocGlobal + Wait + Abort>(
     }
 }
 
-/// Whether no page file can be made there, as where something stands at the path.
+/// Returns true if no page file can be made there, as where something is at the path.
 fn cannot_be_made<R: Files<File = File> + AllocGlobal + Wait + Abort>(rt: &R, path: &str) -> bool {
     let geometry = Geometry::new(2, 16).expect(rt, "the geometry");
     let made = create_page_file(rt, rt.alloc(), path, geometry, Format::Plain);
     made.err() == Some(OpenFault::Port(PortFault::Device))
 }
 
-/// A file of two pages of zeros, of which each is read once more where memory was refused. That is no failure of the
-/// device. Then the file is synced.
+/// Asserts that a file has two pages of zeros, and syncs it. A read that is refused memory is made again: that is no
+/// failure of the device.
 fn expect_zeros<R: Wait + Abort>(rt: &R, mut port: FilePort) {
     assert_eq!(rt; (port.geometry().pages, port.geometry().size), (2, 16));
     for number in 0..2 {
@@ -103,7 +102,7 @@ fn expect_zeros<R: Wait + Abort>(rt: &R, mut port: FilePort) {
     assert!(rt; port.failures() == 0);
 }
 
-/// A file that is made has two pages of zeros, in these slots, and is left as it is by whoever would make it again.
+/// Makes a page file, and asserts that it has two pages of zeros in these slots, and that it can't be made again.
 fn expect_made<R: Files<File = File> + AllocGlobal + Wait + Abort>(
     rt: &R,
     path: &str,
@@ -122,8 +121,8 @@ fn expect_made<R: Files<File = File> + AllocGlobal + Wait + Abort>(
     remove(rt, path);
 }
 
-/// Of slots of version 2 each has its page's number, an LSN of 0, and the page. In a folder that is not there no file
-/// is made.
+/// A new file of version 2 has a slot for each page, with its number, LSN 0 and zeros. In a missing folder no file is
+/// made.
 #[test]
 fn page_files_are_opened_and_made(rt: HostRuntime) {
     let run = process::id(rt.process());

@@ -1,11 +1,11 @@
-//! A mark: only its making takes memory.
+//! A mark: it asks for memory only when it is made.
 ghost use Rattle.std.specs.Prelude.{◌≡◌};
 
 use bp_mark::{LogEnd, Mark, Reader};
 use bp_page::{Lsn, Refusal};
 use std::process::Abort;
 
-/// A mark with its log end and its reader. Where memory is refused it is made once more.
+/// Makes a mark with its log end and its reader. Where memory is refused, it tries again.
 pub(crate) fn mark_of<R: Abort + AllocGlobal>(rt: &R) -> (Mark, LogEnd, Reader)
     ensures end { result.1.mark ≡ result.0 }
     ensures reader { result.2.mark ≡ result.0 }
@@ -19,7 +19,7 @@ pub(crate) fn mark_of<R: Abort + AllocGlobal>(rt: &R) -> (Mark, LogEnd, Reader)
     }
 }
 
-/// It is raised, looked at by two readers, and closed: none of these calls can be refused, whichever request is.
+/// A mark is raised, looked at by two readers, and closed. None of these calls asks for memory.
 #[test]
 fn views_of_the_mark(rt: HostRuntime) {
     let (mark, mut end, mut first) = mark_of(&rt);
@@ -35,7 +35,7 @@ fn views_of_the_mark(rt: HostRuntime) {
     assert_eq!(rt; mark.close(end, reader), Lsn::new(9));
 }
 
-/// The same at its end: a mark at the greatest LSN.
+/// The same for a mark at the greatest LSN.
 #[test]
 fn mark_at_its_end(rt: HostRuntime) {
     let greatest = Lsn::new(18446744073709551615);

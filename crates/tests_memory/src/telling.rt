@@ -1,9 +1,9 @@
-//! What entries tell of passes and tickets.
+//! Counts of passes and tickets in entries.
 use bp_core::{Call, Entry, Reply};
 use bp_trail::Totals;
 use test_support::pools::unfixes;
 
-/// Whether all tickets of these entries went back.
+/// Returns true if all tickets of these entries went back.
 fn no_ticket_is_out(entries: &[Entry]) -> bool {
     let mut given = 0u64;
     let mut ended = 0u64;
@@ -18,7 +18,7 @@ fn no_ticket_is_out(entries: &[Entry]) -> bool {
     given == ended
 }
 
-/// Whether all passes did, and all tickets.
+/// Returns true if all passes and all tickets of these entries went back.
 pub(crate) fn all_went_back(entries: &[Entry]) -> bool {
     let Totals { hits, faults, .. } = Totals::of(entries);
     no_ticket_is_out(entries) && hits.checked_add(faults) == Some(unfixes(entries) as u64)

@@ -1,12 +1,11 @@
-//! Runs of two workers, each on a page of its own, over a pool of either kind.
+//! Runs of two workers over a pool of either kind, each on a page of its own.
 ghost use Rattle.std.specs.Prelude.{◌≡◌};
 
 use crate::devices::{device, port_of};
 use crate::telling::all_went_back;
-use bp_core::{RecordingKeeper, SilentKeeper};
+use bp_core::{RecordingKeeper, Settings, SilentKeeper};
 use bp_device::{MemPort, Port};
 use bp_keeper::ListKeeper;
-use bp_lruk::Settings;
 use bp_page::{Geometry, Refusal};
 use bp_shared::{PoolName, SharedPool};
 use bp_trail::agrees;
@@ -17,26 +16,26 @@ use std::process::Abort;
 use std::sync::Wait;
 use std::thread::Threads;
 use test_support::judging::unlawful_in;
-use test_support::pools::{fix, give, read, write};
+use test_support::pools::{fix, read, unfix_draining, write};
 
-/// How many entries there may be.
+/// The room of the trail, in entries.
 const ROOM: usize = 100;
 
-/// Visits the page of its client's number, once more where that was refused.
+/// Visits the page of its client's number. Where that is refused, it tries again.
 #[derive(Drop)]
 struct Visitor {
     alloc: Global,
     refused: Option<Refusal>,
-    /// The page's first byte at the end of the visit, or why that was refused.
+    /// The page's first byte at the end of the visit, or the refusal.
     seen: Result<u8, Refusal>,
 }
 
-/// What a client puts into its page: a byte of its own, so that none is taken for another's.
+/// The byte that a client writes to its page, different for each client.
 fn byte_of(client: u8) -> u8 {
     client.saturating_add(7)
 }
 
-/// Puts the client's byte into its page and reads it, gives the page back in any case, and moves the clock.
+/// Writes the client's byte to its page and reads it, gives the page back in any case, and moves the clock on.
 fn visit<N: PoolName, P: Port, K: ListKeeper, R: Wait>(
     rt: &R,
     alloc: Global,
@@ -49,7 +48,7 @@ fn visit<N: PoolName, P: Port, K: ListKeeper, R: Wait>(
     let note = fix(rt, pool, client, u64::from(own))?;
     let wrote = write(rt, alloc, pool, client, note, byte_of(own), 0);
     let image = read(rt, pool, client, note);
-    give(rt, pool, client, note)?;
+    unfix_draining(rt, pool, client, note)?;
     wrote?;
     let byte = image?.bytes().first().copied();
     pool.tick(rt, &mut client.session, 1)?;
@@ -96,7 +95,7 @@ impl<P: Port, K: ListKeeper> Worker<P, K> for Visitor {
     }
 }
 
-/// A list of two. Where memory is refused it is made once more.
+/// Makes a list of two. Where memory is refused, it tries again.
 fn two_of<T: Drop, R: Abort + AllocGlobal>(rt: &R, one: T, other: T) -> Vec<T> {
     let mut two = match Vec::with_capacity(rt.alloc(), 2) {
         Ok(two) => two,
@@ -115,7 +114,7 @@ fn new_visitor(alloc: Global) -> Visitor {
     }
 }
 
-/// A run of two visitors, or none where memory was refused outside their visits.
+/// Runs two visitors. It returns None where memory was refused outside of their visits.
 fn try_run<K: Kind, R: Threads + Wait + Sync + Abort + AllocGlobal>(
     rt: &R,
 ) -> Option<Run<MemPort, Visitor, K>> {
@@ -137,10 +136,10 @@ fn try_run<K: Kind, R: Threads + Wait + Sync + Abort + AllocGlobal>(
     }
 }
 
-/// A run of two visitors, each of whom has seen its own byte in the end, and left no pass. One visit at most was
-/// refused, for want of memory of the pool, or of the port at the end of a read. A visit has six entries. One that was
-/// refused adds none where that was its fix, two where its read failed, three where it was the write or the read by its
-/// pass, and four where it was the clock.
+/// Runs two visitors. Each has read its own byte in the end, and holds no pass. At most one visit was refused, for want
+/// of memory of the pool, or of the port at the end of a read. A visit has six entries. A refused one adds none where
+/// its fix was refused, two where its read failed, three where the write or the read by its pass was refused, and four
+/// where the tick was.
 fn expect_visits<K: Kind, R: Threads + Wait + Sync + Abort + AllocGlobal>(
     rt: &R,
 ) -> Run<MemPort, Visitor, K> {

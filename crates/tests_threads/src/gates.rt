@@ -1,4 +1,4 @@
-//! Ports whose device work goes on only when a test lets it.
+//! Ports whose device calls wait until a test lets them go on.
 use bp_device::Port;
 use bp_page::{Geometry, Image, Lsn, PageNo, PortFault};
 use std::alloc::Global;
@@ -6,21 +6,20 @@ use std::process::Abort;
 use std::sync::{Arc, Mutex, Wait};
 use std::thread;
 
-/// How far the device work of a port is.
 #[derive(Clone, Copy, Drop)]
 struct Stage {
     has_begun: bool,
     may_go_on: bool,
 }
 
-/// What a port and a test share.
+/// The gate that a port and a test share.
 #[derive(Drop)]
 pub(crate) struct Gate {
     stage: Arc<Mutex<Stage>, Global>,
 }
 
 impl Gate {
-    /// A gate to which no device work has come. It is open or shut.
+    /// Makes a gate, open or shut, to which no device call has come.
     pub(crate) fn new<R: Abort + AllocGlobal>(rt: &R, is_open: bool) -> Gate {
         let stage = Mutex::new(Stage {
             has_begun: false,
@@ -31,7 +30,7 @@ impl Gate {
         }
     }
 
-    /// The same gate, for somebody else.
+    /// Returns the same gate, for another owner.
     pub(crate) fn again<R: Abort>(&self, rt: &R) -> Gate {
         Gate {
             stage: Arc::try_clone(&self.stage).expect(rt, "the gate"),
@@ -42,7 +41,7 @@ impl Gate {
         self.stage.lock(rt).may_go_on = true;
     }
 
-    /// Returns once some device work has come here.
+    /// Returns once a device call has come to the gate.
     pub(crate) fn wait_for_work<R: Wait>(&self, rt: &R) {
         for _ in rt.forever() {
             if self.stage.lock(rt).has_begun {
@@ -52,7 +51,7 @@ impl Gate {
         }
     }
 
-    /// Device work comes here, and goes on once the gate is open.
+    /// Notes that a device call has come, and returns once the gate is open.
     fn pass<R: Wait>(&self, rt: &R) {
         self.stage.lock(rt).has_begun = true;
         for _ in rt.forever() {
@@ -64,7 +63,7 @@ impl Gate {
     }
 }
 
-/// A port over another one, behind a gate.
+/// A port whose device calls wait at a gate.
 #[derive(Drop)]
 pub(crate) struct HeldPort<P: Port> {
     pub(crate) inner: P,

@@ -1,9 +1,9 @@
-//! Tests of threads that share a pool, also where the device of one fails: the refusal reaches its caller, whoever
-//! waits wakes, and the page can be read or written again.
+//! Tests of threads that share a pool, also where a device call of one fails: the caller gets the refusal, waiting
+//! threads wake, and the page can be read or written again.
 //!
-//! They stand here, on top of the crates that they call, so that none of those is proved once more for its tests.
-//! The library itself has no item. What is asserted holds whatever the schedule. All entries of each pool go to the
-//! judge, but for a million of the long run, which would take it too long.
+//! The tests are on top of the crates that they call, so that none of those is proved again for them. The library
+//! itself has no item. What they assert holds under every schedule. All entries of each pool go to the judge, except
+//! for the million of the long run, which would take too long.
 #![tactic(auto)]
 
 #[cfg(test)]

@@ -1,4 +1,4 @@
-//! What the tests of failures share: clients of a pool, of whom the first has a port that fails once.
+//! Shared by the tests of failures: clients of a pool, of which the first has a port that fails once.
 ghost use Rattle.std.specs.Prelude.{◌≡◌};
 ghost use Rattle.bp_page.specs.declared.limits.Geometry.{Geometry as AGeometry};
 
@@ -13,7 +13,7 @@ use std::process::Abort;
 use std::sync::Wait;
 use test_support::pools::{fix, read, unfix, write};
 
-/// How the first client's port fails: at its n-th call, which for a write may leave a page of bytes 255. No call of it
+/// The first client's port: its n-th call fails, which for a write may leave a page of bytes 255. None of its calls
 /// goes on while its gate is shut.
 #[derive(Drop)]
 pub(crate) struct Fails {
@@ -34,7 +34,7 @@ fn way<R: Abort + AllocGlobal>(rt: &R, device: &MemDevice, fails: &Fails) -> Way
     }
 }
 
-/// A client for each session. The first one's port fails, and no other.
+/// Makes a client for each session. Only the first one's port fails.
 pub(crate) fn clients_of<N: PoolName, R: Abort + AllocGlobal>(
     rt: &R,
     device: &MemDevice,
@@ -59,7 +59,6 @@ pub(crate) fn clients_of<N: PoolName, R: Abort + AllocGlobal>(
     clients
 }
 
-/// Gives a pass back and moves the clock.
 fn leave<N: PoolName, R: Wait + Abort>(
     rt: &R,
     pool: &SharedPool<N>,
@@ -72,7 +71,7 @@ fn leave<N: PoolName, R: Wait + Abort>(
     ticked.expect(rt, "the clock");
 }
 
-/// Fixes a page, gives it back, and moves the clock: the page's first byte.
+/// Fixes a page, gives it back, and moves the clock on. It returns the page's first byte.
 pub(crate) fn look<N: PoolName, R: Wait + Abort>(
     rt: &R,
     pool: &SharedPool<N>,
@@ -85,7 +84,7 @@ pub(crate) fn look<N: PoolName, R: Wait + Abort>(
     Ok(image.bytes().first().copied())
 }
 
-/// Puts the byte 5 at the front of page 1, at LSN 0, and moves the clock.
+/// Writes the byte 5 at offset 0 of page 1, with LSN 0, and moves the clock on.
 pub(crate) fn change<N: PoolName, R: Wait + Abort + AllocGlobal>(
     rt: &R,
     pool: &SharedPool<N>,
@@ -97,7 +96,7 @@ pub(crate) fn change<N: PoolName, R: Wait + Abort + AllocGlobal>(
     leave(rt, pool, client, note);
 }
 
-/// The first byte of page 1 on the device.
+/// Returns the first byte of page 1 on the device.
 pub(crate) fn on_device<R: Wait + Abort>(rt: &R, device: &MemDevice) -> Option<u8> {
     let mut port = device.port().expect(rt, "the port");
     match port.read(rt, PageNo::new(1)) {
@@ -106,8 +105,8 @@ pub(crate) fn on_device<R: Wait + Abort>(rt: &R, device: &MemDevice) -> Option<u
     }
 }
 
-/// What a trail counts up to: hits, faults, evictions, write-outs and failures. How often a page was found in flight is
-/// up to the schedule.
+/// Returns hits, faults, evictions, writes and failures. Refusals depend on the schedule: a page may be found in flight
+/// more or less often.
 pub(crate) fn counts(totals: &Totals) -> [u64; 5] {
     [
         totals.hits,

@@ -1,4 +1,4 @@
-//! Threads that use a pool again and again, and cut the trail and their lists as they go.
+//! Threads that use a pool repeatedly, and cut the trail and their lists as they go.
 ghost use Rattle.std.specs.Prelude.{◌≡◌};
 
 use bp_core::{Core, Entry};
@@ -13,36 +13,33 @@ use std::sync::{Mutex, Wait};
 use std::thread::Threads;
 use std::{mem, thread};
 use test_support::judging::{setup_of, unlawful};
-use test_support::pools::{Made, Opened, fix, give, make, open, read, unfixes};
+use test_support::pools::{Made, Opened, fix, make, open, read, unfix_draining, unfixes};
 
-/// How threads use a pool.
 #[derive(Clone, Copy, Drop)]
 struct Plan {
     frames: usize,
-    /// A thread for each.
+    /// The number of threads.
     clients: u8,
-    /// The rounds of a thread, each of four entries.
+    /// The rounds of each thread, of four entries each.
     rounds: usize,
-    /// Whether each thread is on a page of its own, and cuts as it goes. Else all are on page 1, and nothing is cut.
+    /// Whether each thread uses a page of its own, and cuts as it goes. Else all use page 1, and nothing is cut.
     cuts: bool,
-    /// Whether all entries are kept, for the judge.
     keeps: bool,
 }
 
-/// The rounds of a thread between two of its cuts. Two threads then stay within a room of 4,096 entries.
+/// The rounds of a thread between two of its cuts: so two threads need a room of at most 4,096 entries.
 const ROUNDS_A_CUT: usize = 250;
 
-/// What was cut so far.
 #[derive(Drop)]
 struct Pieces {
-    /// The piece that was cut last: what is cut goes on in its memory.
+    /// The piece that was cut last. The next cut leaves its memory to the trail or the list.
     spare: Vec<Entry>,
     cuts: usize,
     entries: usize,
-    /// The most entries for which a piece had memory.
+    /// The greatest capacity of a piece.
     capacity: usize,
     keeps: bool,
-    /// The pieces joined, where they are kept.
+    /// The joined pieces, where they are kept.
     kept: Vec<Entry>,
 }
 
@@ -58,12 +55,12 @@ impl Pieces {
         }
     }
 
-    // The memory of the last piece.
+    // Takes the memory of the last piece.
     fn lend(&mut self, alloc: Global) -> Vec<Entry> {
         mem::replace(&mut self.spare, Vec::new(alloc))
     }
 
-    // Counts a piece, and keeps it for its memory. Where memory for its entries is refused, they are lost.
+    // Counts a piece, and keeps its memory. Where memory for its entries is refused, they are lost.
     fn keep(&mut self, mut piece: Vec<Entry>) {
         self.cuts = self.cuts.saturating_add(1);
         self.entries = self.entries.saturating_add(piece.len());
@@ -75,14 +72,14 @@ impl Pieces {
     }
 }
 
-/// What is taken of the trail, by whichever thread comes to it.
+/// The pieces of the trail, for whichever thread cuts it.
 #[derive(Drop)]
 struct Takings<N: PoolName> {
     taker: Taker<N>,
     pieces: Pieces,
 }
 
-/// What one thread does: it uses a page again and again, and cuts as it goes.
+/// One thread, which uses a page repeatedly and cuts as it goes.
 #[derive(Drop)]
 struct Runner<N: PoolName> {
     alloc: Global,
@@ -93,7 +90,7 @@ struct Runner<N: PoolName> {
     pieces: Pieces,
 }
 
-// Drops the last piece of the trail, and takes the next.
+// Cuts the trail, and leaves it the memory of the last piece.
 fn cut_trail<N: PoolName, R: Wait>(
     rt: &R,
     alloc: Global,
@@ -107,7 +104,7 @@ fn cut_trail<N: PoolName, R: Wait>(
     }
 }
 
-/// Fixes a page, reads it and gives it back. It tells whether there was a pass.
+/// Fixes a page, reads it and gives it back. It returns true if there was a pass.
 fn run_once<N: PoolName, R: Wait>(
     rt: &R,
     pool: &SharedPool<N>,
@@ -118,12 +115,12 @@ fn run_once<N: PoolName, R: Wait>(
         return false;
     };
     let _ = read(rt, pool, client, note);
-    let _ = give(rt, pool, client, note);
+    let _ = unfix_draining(rt, pool, client, note);
     true
 }
 
 impl<N: PoolName> Runner<N> {
-    // Drops the last piece of the list, and cuts the next.
+    // Cuts the list, and leaves it the memory of the last piece.
     fn cut_list(&mut self) {
         let spare = self.pieces.lend(self.alloc);
         if let Ok(list) = self.client.session.cut_into(spare) {
@@ -131,7 +128,7 @@ impl<N: PoolName> Runner<N> {
         }
     }
 
-    // A round has four entries: a fix, a read, an unfix and a tick.
+    // Runs the rounds. Each has four entries: a fix, a read, an unfix and a tick.
     fn run<R: Wait>(&mut self, rt: &R, pool: &SharedPool<N>, takings: &Mutex<Takings<N>>) {
         for round in 0..self.plan.rounds {
             if run_once(rt, pool, &mut self.client, self.page) {
@@ -146,7 +143,7 @@ impl<N: PoolName> Runner<N> {
     }
 }
 
-/// A runner for each session.
+/// Makes a runner for each session.
 fn make_runners<N: PoolName, R: Abort + AllocGlobal>(
     rt: &R,
     device: &MemDevice,
@@ -178,7 +175,7 @@ fn make_runners<N: PoolName, R: Abort + AllocGlobal>(
     runners
 }
 
-/// One thread for each runner. All have ended at the return.
+/// Runs each runner in a thread of its own, and returns when all have ended.
 fn run_all<N: PoolName + Send + Sync, R: Threads + Wait + Sync>(
     rt: &R,
     pool: &SharedPool<N>,
@@ -196,7 +193,7 @@ fn run_all<N: PoolName + Send + Sync, R: Threads + Wait + Sync>(
     }
 }
 
-/// What came of a run, with what was not cut at its end.
+/// The counts of a run, with what was not cut at its end.
 #[derive(Clone, Copy, Drop)]
 struct Tally {
     passes: usize,
@@ -206,13 +203,12 @@ struct Tally {
     /// The cuts of the trail, and of all lists.
     cuts: usize,
     list_cuts: usize,
-    /// The most entries for which a piece had memory.
+    /// The greatest capacity of a piece.
     capacity: usize,
-    /// The pages that were read, where all entries were kept.
     faults: u64,
 }
 
-// What came of the trail, of which so many entries were not cut, and of all runners.
+// Returns the counts of the trail, of which `left` entries were not cut, and of all runners.
 fn tally_of<N: PoolName>(pieces: &Pieces, left: usize, runners: &[Runner<N>]) -> Tally {
     let mut tally = Tally {
         passes: 0,
@@ -234,7 +230,7 @@ fn tally_of<N: PoolName>(pieces: &Pieces, left: usize, runners: &[Runner<N>]) ->
     tally
 }
 
-// All entries of a pool: those that were cut, joined, and those that were left. The judge finds them legal.
+// Returns all entries of a pool: the joined pieces, and the rest. The judge finds them lawful.
 fn legal_entries<R: Abort + AllocGlobal>(rt: &R, pieces: Pieces, core: Core) -> Vec<Entry> {
     let setup = setup_of(&core);
     let mut entries = pieces.kept;
@@ -245,7 +241,7 @@ fn legal_entries<R: Abort + AllocGlobal>(rt: &R, pieces: Pieces, core: Core) -> 
     entries
 }
 
-// Each list, joined, is its client's part of the trail.
+// Asserts that each joined list is its client's part of the trail.
 fn expect_agreement<N: PoolName, R: Abort>(rt: &R, entries: &[Entry], runners: Vec<Runner<N>>) {
     for runner in runners {
         let Runner { client, pieces, .. } = runner;
@@ -257,7 +253,7 @@ fn expect_agreement<N: PoolName, R: Abort>(rt: &R, entries: &[Entry], runners: V
     }
 }
 
-// Threads use the pool. Where all entries are kept, each pass went back once.
+// Runs threads over the pool. Where all entries are kept, it asserts that each pass went back once.
 fn see_over<N: PoolName + Send + Sync, R: Threads + Wait + Abort + Sync + AllocGlobal>(
     rt: &R,
     made: Made,
@@ -297,12 +293,13 @@ fn see_over<N: PoolName + Send + Sync, R: Threads + Wait + Abort + Sync + AllocG
     tally
 }
 
-// Threads over a new pool, and what came of them.
+// Runs threads over a new pool, and returns the counts.
 fn run_threads<R: Threads + Wait + Abort + Sync + AllocGlobal>(rt: &R, plan: Plan) -> Tally {
     let made = make(rt.alloc(), plan.frames, plan.clients, 4096);
     see_over::<Brand, R>(rt, made.expect(rt, "the pool's parts"), plan)
 }
 
+/// Several threads fix one page at once, and it is read once.
 #[test]
 fn threads_on_one_page(rt: HostRuntime) {
     for clients in [2, 4] {
@@ -318,6 +315,7 @@ fn threads_on_one_page(rt: HostRuntime) {
     }
 }
 
+/// Two threads make a million entries in a room of 4,096, since they cut the trail and their lists.
 #[test]
 fn a_million_entries_in_little_room(rt: HostRuntime) {
     let plan = Plan {
@@ -331,12 +329,12 @@ fn a_million_entries_in_little_room(rt: HostRuntime) {
     assert_eq!(rt; tally.passes, 250000);
     // Each round has four entries, and a client's first fix has one more.
     assert_eq!(rt; (tally.entries, tally.told), (1000002, 1000002));
-    // Each thread cuts the trail and its list once in 250 rounds, and the memory of the first pieces serves to the end.
+    // Each thread cuts the trail and its list once in 250 rounds. The capacity of the first pieces never grows.
     assert_eq!(rt; (tally.cuts, tally.list_cuts), (1000, 1000));
     assert_eq!(rt; tally.capacity, 4096);
 }
 
-/// A hundredth of that run. The judge would take too long over the whole of it.
+/// The joined pieces are lawful. The run is a hundredth of the one above, which the judge would take too long over.
 #[test]
 fn pieces_that_threads_cut_are_legal(rt: HostRuntime) {
     let plan = Plan {

@@ -1,7 +1,7 @@
 //! Sessions in threads: two wait for the device work of a third, which may fail.
 //!
-//! The work is held until the trail tells that both have found the page in flight, so that they wait under every
-//! schedule. Were one of them not woken, its thread would never end.
+//! The work goes on only once the trail shows that both have found the page in flight, so they wait under every
+//! schedule. If one of them were not woken, its thread would never end.
 ghost use Rattle.std.specs.Prelude.{◌≡◌};
 
 use crate::gates::Gate;
@@ -20,47 +20,43 @@ use std::thread::Threads;
 use test_support::judging::{setup_of, unlawful};
 use test_support::pools::{Made, Opened, flush, make, open};
 
-/// What the clients ask of page 1.
+/// The calls of the clients about page 1.
 #[derive(Clone, Copy)]
 enum Ask {
-    /// All fix it.
     Fix,
-    /// All flush it.
     Flush,
-    /// The first one fixes page 2, for which page 1 has to go out, and the others flush page 1.
+    /// The first one fixes page 2, for which page 1 has to go out; the others flush page 1.
     MakeWay,
 }
 
-/// What a client was answered.
 #[derive(Clone, Copy, PartialEq, Eq, Debug, Drop)]
 enum Answer {
     Nothing,
-    /// The first byte of the page that was fixed.
     Byte(Option<u8>),
     Flushed(Flushed),
     Refused(Refusal),
 }
 
-/// What one thread does: it asks, and has the answer.
+/// One thread: its client, and the answer that the client got.
 #[derive(Drop)]
 struct Runner<N: PoolName> {
     client: Client<N, Way>,
     answer: Answer,
 }
 
-/// What was taken of the trail.
+/// The part of the trail that was cut so far.
 #[derive(Drop)]
 struct Takings<N: PoolName> {
     taker: Taker<N>,
     entries: Vec<Entry>,
 }
 
-/// What all threads share.
+/// Shared by all threads.
 #[derive(Drop)]
 struct Shared<'a, N: PoolName> {
     pool: &'a SharedPool<N>,
     takings: &'a Mutex<Takings<N>>,
-    /// That of the first client's port.
+    /// The gate of the first client's port.
     gate: &'a Gate,
     ask: Ask,
 }
@@ -90,7 +86,7 @@ impl<N: PoolName> Runner<N> {
     }
 }
 
-/// Whether both others found a page in flight.
+/// Returns true if both others found a page in flight.
 fn both_waited(trail: &[Entry]) -> bool {
     let mut waited = [false; 3];
     for entry in trail {
@@ -101,7 +97,7 @@ fn both_waited(trail: &[Entry]) -> bool {
     waited[1] && waited[2]
 }
 
-/// Takes what the trail has, and tells whether both others have found the page in flight.
+/// Cuts the trail, and returns true if both others have found the page in flight.
 fn both_wait<N: PoolName, R: Wait + Abort>(
     rt: &R,
     pool: &SharedPool<N>,
@@ -112,7 +108,7 @@ fn both_wait<N: PoolName, R: Wait + Abort>(
     both_waited(&takings.entries)
 }
 
-/// Lets the first client's device work go on once both others wait.
+/// Opens the first client's gate once both others wait.
 fn let_go<N: PoolName, R: Wait + Abort>(rt: &R, shared: &Shared<'_, N>) {
     let mut takings = shared.takings.lock(rt);
     for _ in rt.forever() {
@@ -124,7 +120,8 @@ fn let_go<N: PoolName, R: Wait + Abort>(rt: &R, shared: &Shared<'_, N>) {
     shared.gate.open(rt);
 }
 
-/// The first client asks at once, the others once its device work has begun. The last one's thread takes the trail.
+/// Runs one thread. The first client asks at once, and the others once its device work has begun; client 3 does not
+/// ask, but cuts the trail until both others wait.
 fn run<N: PoolName, R: Wait + Abort>(rt: &R, shared: &Shared<'_, N>, runner: &mut Runner<N>) {
     let client = runner.client.session.client();
     if client > 0 {
@@ -137,7 +134,7 @@ fn run<N: PoolName, R: Wait + Abort>(rt: &R, shared: &Shared<'_, N>, runner: &mu
     }
 }
 
-/// One thread for each client. All have ended at the return.
+/// Runs each client in a thread of its own, and returns when all have ended.
 fn run_all<N: PoolName + Send + Sync, R: Threads + Wait + Abort + Sync>(
     rt: &R,
     shared: &Shared<'_, N>,
@@ -164,12 +161,12 @@ fn runners_of<N: PoolName, R: Abort + AllocGlobal>(
     runners
 }
 
-/// What came of the threads.
+/// The outcome of the threads.
 #[derive(Debug, Drop)]
 struct Done {
     answers: [Answer; 3],
     totals: Totals,
-    /// What the first client then finds in page 1, and what the device has there.
+    /// What the first client then reads of page 1, and what the device has of it.
     after: Result<Option<u8>, Refusal>,
     on_device: Option<u8>,
 }
@@ -184,7 +181,7 @@ fn answers_of<N: PoolName>(runners: &[Runner<N>]) -> [Answer; 3] {
     answers
 }
 
-/// The first client's gate, and for all but a fix a change of page 1, by the last client.
+/// Returns the first client's gate. Except for `Ask::Fix`, the last client changes page 1 before.
 fn prepare<N: PoolName, R: Wait + Abort + AllocGlobal>(
     rt: &R,
     pool: &SharedPool<N>,
@@ -202,7 +199,6 @@ fn prepare<N: PoolName, R: Wait + Abort + AllocGlobal>(
     }
 }
 
-/// The first client looks at page 1.
 fn look_again<N: PoolName, R: Wait + Abort>(
     rt: &R,
     pool: &SharedPool<N>,
@@ -214,7 +210,7 @@ fn look_again<N: PoolName, R: Wait + Abort>(
     }
 }
 
-/// All entries of the pool, which is ended. The judge finds them legal.
+/// Ends the pool, and returns the totals of all its entries. The judge finds them lawful.
 fn end<N: PoolName, R: Abort + AllocGlobal>(
     rt: &R,
     pool: SharedPool<N>,
@@ -270,7 +266,7 @@ fn run_over<N: PoolName + Send + Sync, R: Threads + Wait + Abort + Sync + AllocG
     }
 }
 
-/// Four clients, of whom the first one's port fails at its n-th call, or never where n is 0.
+/// Runs four clients. The first one's port fails at its n-th call, or never where n is 0.
 fn run_together<R: Threads + Wait + Abort + Sync + AllocGlobal>(
     rt: &R,
     frames: usize,
@@ -287,13 +283,13 @@ fn run_together<R: Threads + Wait + Abort + Sync + AllocGlobal>(
     run_over::<Brand, R>(rt, made, &fails, ask)
 }
 
-/// Whether the first client was answered so, and both others otherwise.
+/// Returns true if the first client got one answer, and both others the other.
 fn are(answers: &[Answer; 3], first: Answer, others: Answer) -> bool {
     let [one, two, three] = *answers;
     one == first && two == others && three == others
 }
 
-/// Both that waited find the page that the first client read.
+/// Both threads that waited get the page that the first client read.
 #[test]
 fn waits_for_a_read(rt: HostRuntime) {
     let done = run_together(&rt, 2, 0, false, Ask::Fix);
@@ -307,7 +303,7 @@ fn waits_for_a_read(rt: HostRuntime) {
     );
 }
 
-/// The first client's read fails. One of the two that waited reads the page, and the other finds it.
+/// The first client's read fails. One of the threads that waited reads the page, and the other gets it.
 #[test]
 fn waits_for_a_failing_read(rt: HostRuntime) {
     let done = run_together(&rt, 2, 1, false, Ask::Fix);
@@ -322,7 +318,7 @@ fn waits_for_a_failing_read(rt: HostRuntime) {
     );
 }
 
-/// Both that waited find the page saved that the first client wrote out.
+/// Both threads that waited find that the first client has written the page out.
 #[test]
 fn waits_for_a_write_out(rt: HostRuntime) {
     let done = run_together(&rt, 2, 0, false, Ask::Flush);
@@ -338,7 +334,7 @@ fn waits_for_a_write_out(rt: HostRuntime) {
     assert_eq!(rt; done.on_device, Some(5));
 }
 
-/// Whether one of the two that waited wrote the page out, and the other found it saved.
+/// Returns true if one of the threads that waited wrote the page out, and the other found it clean.
 fn one_wrote(answers: &[Answer; 3]) -> bool {
     let cleaned = Answer::Flushed(Flushed::Cleaned);
     let clean = Answer::Flushed(Flushed::Clean);
@@ -358,6 +354,7 @@ fn expect_written<R: Abort>(rt: &R, done: &Done) {
     assert_eq!(rt; done.on_device, Some(5));
 }
 
+/// A write-out of a flush fails. One of the threads that waited writes the page out, and the other finds it clean.
 #[test]
 fn waits_for_a_failing_write_out(rt: HostRuntime) {
     for spoil in [false, true] {
@@ -365,6 +362,7 @@ fn waits_for_a_failing_write_out(rt: HostRuntime) {
     }
 }
 
+/// A write-out of a victim fails. One of the threads that waited writes the page out, and the other finds it clean.
 #[test]
 fn waits_for_a_failing_write_out_of_a_fix(rt: HostRuntime) {
     for spoil in [false, true] {

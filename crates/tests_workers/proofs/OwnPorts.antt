@@ -4,7 +4,7 @@ use Rattle.std.specs.Prelude.{IfSome}
 use Rattle.bp_page.specs.declared.refusals.Refusal.{Refusal}
 use Rattle.bp_trail.specs.Trail.{Trail}
 use Rattle.bp_trail.specs.Clock.{durable}
-use Rattle.bp_trail.specs.Script.{give_back}
+use Rattle.bp_trail.specs.Script.{unfix_of}
 use Rattle.bp_core.specs.CoreView.{CoreView}
 use Rattle.bp_core.specs.Work.{Reads, Writes}
 use Rattle.bp_shared.specs.Sessions.{DoesWorkSaid}
@@ -26,7 +26,7 @@ pub back_work : {A : Type 0} (reads : Reads A) (writes : Writes A) (said after :
 back_work reads writes said after port kept no_more work = work
 back_work reads writes said after port kept (one_more g later rest held own) work =
     let so_far = back_work reads writes said _ port kept rest work in
-    record { piece = give_back g ∷ so_far.piece; grows = ap (λ es. give_back g ∷ es) so_far.grows; through = (kept, so_far.through, refl) }
+    record { piece = unfix_of g ∷ so_far.piece; grows = ap (λ es. unfix_of g ∷ es) so_far.grows; through = (kept, so_far.through, refl) }
 
 -- what client 0 did not raise is not marked
 pub unmarked : (core : CoreView) (client : ℕ) (upkeep : Option UpkeepValue) → KeepsUp core client upkeep → IfSome upkeep (λ u. u.raised ≡ 0) → client ≡ 0 → durable core.past ≡ 0

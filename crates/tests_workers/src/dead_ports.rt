@@ -1,4 +1,4 @@
-//! Devices that fail for ever.
+//! Workers whose ports fail at each call.
 use crate::making::config;
 use crate::writer::Writer;
 use bp_device::Port;
@@ -8,7 +8,6 @@ use std::rt::HostRuntime;
 use std::sync::Wait;
 use test_support::judging::unlawful_in;
 
-/// A port that fails at each call.
 #[derive(Drop)]
 struct DeadPort {
     geometry: Geometry,
@@ -60,7 +59,7 @@ impl Port for DeadPort {
     }
 }
 
-/// Each fix of a worker whose port fails for ever is refused, and the run ends.
+/// Each fix of a worker whose port always fails is refused, and the run ends.
 #[test]
 fn dead_ports_end_no_run(rt: HostRuntime) {
     let rt = &rt;

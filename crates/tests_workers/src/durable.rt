@@ -1,4 +1,4 @@
-//! Fixes that wait for the log, or for a victim.
+//! Durable fixes, which wait for the log or for a victim.
 ghost use Rattle.std.specs.Prelude.{◌≡◌, ◌<◌};
 ghost use Rattle.bp_workers.specs.Logs.{RaisesWithin};
 
@@ -18,9 +18,9 @@ use std::sync::Wait;
 use std::thread::Threads;
 use std::time::Duration;
 use test_support::judging::unlawful_in;
-use test_support::pools::{fix, give, write};
+use test_support::pools::{fix, unfix_draining, write};
 
-/// A log that notes what was asked of it, and may be one that never gets durable.
+/// A log that notes what it was asked for. It may be one that can't be made durable.
 #[derive(Drop)]
 struct Notes {
     asked: u64,
@@ -42,7 +42,7 @@ impl Log for Notes {
     }
 }
 
-/// Fixes a page durably by this log and this mark. The mark is raised no further than the log is durable.
+/// Fixes a page durably by this log and this mark. The mark is raised at most to where the log is durable.
 fn fix_by<N: PoolName, P: Port, R: Wait>(
     rt: &R,
     pool: &SharedPool<N>,
@@ -60,15 +60,15 @@ fn fix_by<N: PoolName, P: Port, R: Wait>(
     fix_durably(rt, pool, client, &mut both, page, patience)
 }
 
-/// Writes to page 0 under log record 5, and then wants page 1 durably, in a pool of one frame.
+/// Writes to page 0 under log record 5, and then fixes page 1 durably, in a pool of one frame.
 #[derive(Drop)]
 struct Waiter {
     alloc: Global,
     log: Notes,
     rounds: u32,
-    /// By how much the clock is moved.
+    /// The ticks by which a durable fix moves the clock on.
     steps: u64,
-    /// Whether it holds the pass of page 0 meanwhile.
+    /// Whether it keeps the pass of page 0.
     holds: bool,
     is_fixed: bool,
     refused: Option<Refusal>,
@@ -83,7 +83,7 @@ impl Waiter {
     }
 }
 
-/// Puts a byte at the front of page 0 under log record 5, and keeps the pass or gives it back.
+/// Writes a byte at offset 0 of page 0 under log record 5, and keeps the pass or gives it back.
 pub(crate) fn change<N: PoolName, P: Port, R: Wait>(
     rt: &R,
     alloc: Global,
@@ -96,7 +96,7 @@ pub(crate) fn change<N: PoolName, P: Port, R: Wait>(
     let note = fix(rt, pool, client, 0)?;
     let written = write(rt, alloc, pool, client, note, 7, 5);
     if !keeps {
-        give(rt, pool, client, note)?;
+        unfix_draining(rt, pool, client, note)?;
     }
     written
 }
@@ -130,14 +130,14 @@ impl<P: Port> Worker<P, RecordingKeeper> for Waiter {
         };
         let writer = &mut upkeep.log;
         let fixed = match fix_by(rt, pool, client, &mut self.log, writer, second, patience) {
-            Ok(pass) => give(rt, pool, client, pass.note()),
+            Ok(pass) => unfix_draining(rt, pool, client, pass.note()),
             Err(refusal) => Err(refusal),
         };
         self.note(fixed);
     }
 }
 
-/// Runs one waiter over one frame, and asserts that its trail is legal.
+/// Runs one waiter over one frame, and asserts that its trail is lawful.
 fn run<R: Abort + AllocGlobal + Threads + Wait + Sync>(
     rt: &R,
     rounds: u32,
@@ -168,7 +168,7 @@ fn run<R: Abort + AllocGlobal + Threads + Wait + Sync>(
     left.pop().expect(rt, "what the waiter left")
 }
 
-/// How often the clock was moved.
+/// Returns how often the clock was moved.
 fn ticks(left: &Left<MemPort, Waiter>) -> usize {
     let mut ticks = 0usize;
     for entry in left.said() {
@@ -179,7 +179,7 @@ fn ticks(left: &Left<MemPort, Waiter>) -> usize {
     ticks
 }
 
-/// One fix finds no victim, one wants the log, and the third writes page 0 out and reads page 1.
+/// The first fix finds no victim, the second needs the log, and the third writes page 0 out and reads page 1.
 #[test]
 fn log_is_made_durable(rt: HostRuntime) {
     let rt = &rt;
@@ -202,8 +202,8 @@ fn log_is_made_durable(rt: HostRuntime) {
     assert_eq!(rt; left.said().len(), 13);
 }
 
-/// A page that is held never leaves: each try is one entry, and the clock is moved once. A clock that cannot be moved
-/// so far ends the fix at once.
+/// A pinned page never leaves: each attempt is one entry, and the clock is moved once. If the clock can't be moved so
+/// far, the fix is refused at once.
 #[test]
 fn held_page_stays(rt: HostRuntime) {
     let rt = &rt;
@@ -220,7 +220,7 @@ fn held_page_stays(rt: HostRuntime) {
     assert_eq!(rt; ticks(&left), 0);
 }
 
-/// A log that does not get durable ends the fix at once, whatever the rounds.
+/// A log that can't be made durable ends the fix at once, however many rounds are allowed.
 #[test]
 fn broken_log_ends_the_fix(rt: HostRuntime) {
     let rt = &rt;

@@ -1,4 +1,4 @@
-//! Client 0 makes checkpoints, while the others write to their pages under a log.
+//! Checkpoints by client 0, while the other clients write to their pages under a log.
 ghost use Rattle.std.specs.Prelude.{◌≡◌};
 
 use crate::making::{config, ports};
@@ -16,32 +16,32 @@ use std::sync::{Arc, Mutex, Wait};
 use std::thread::Parker;
 use std::time::Duration;
 use test_support::judging::unlawful_in;
-use test_support::pools::{fix, give, write};
+use test_support::pools::{fix, unfix_draining, write};
 
-/// How often each of the others writes.
+/// The number of writes of each other client.
 const TURNS: u8 = 100;
 
-/// The log, which has no records: a record's LSN is its number, from 1.
+/// A log without records. The LSN of a record is its number, from 1.
 #[derive(Drop)]
 struct Log {
     last: u64,
-    /// How many clients still write.
+    /// The number of clients that still write.
     writers: u64,
 }
 
-/// Client 0, or a client who writes to a page of its own.
+/// Client 0, or a client that writes to a page of its own.
 #[derive(Drop)]
 struct Hand {
     alloc: Global,
     log: Arc<Mutex<Log>, Global>,
     page: u64,
     outcome: Result<(), Refusal>,
-    /// From where redo would begin after each checkpoint.
+    /// The LSN from which redo would begin, after each checkpoint.
     redo: Vec<Lsn>,
 }
 
 impl Hand {
-    /// Keeps the log locked from the record to the write.
+    /// Writes to its page under a new record. The log is locked from the record to the write.
     fn put<N: PoolName, P: Port, R: Wait>(
         &self,
         rt: &R,
@@ -56,11 +56,11 @@ impl Hand {
         log.last = log.last.saturating_add(1);
         let written = write(rt, self.alloc, pool, client, note, byte, log.last);
         drop(log);
-        give(rt, pool, client, note)?;
+        unfix_draining(rt, pool, client, note)?;
         written
     }
 
-    /// Makes a checkpoint. From where redo would begin.
+    /// Makes a checkpoint, and returns the LSN from which redo would begin.
     fn checkpoint<N: PoolName, P: Port, R: Wait>(
         &self,
         rt: &R,
@@ -114,7 +114,7 @@ impl<P: Port> Worker<P, RecordingKeeper> for Hand {
                         self.outcome = Err(Refusal::OutOfMemory);
                     }
                 }
-                // A page was written to after the mark was raised: so is the next mark.
+                // A page was written to after the mark was raised. The next mark is beyond that write.
                 Err(Refusal::NeedLog(_)) => {}
                 Err(refusal) => self.outcome = Err(refusal),
             }
@@ -126,8 +126,8 @@ impl<P: Port> Worker<P, RecordingKeeper> for Hand {
     }
 }
 
-/// The place from which redo would begin never falls, and lies behind the last record in the end. The device then has
-/// of each page what was written last.
+/// The LSN from which redo would begin never falls, and is beyond the last record in the end. The device then has the
+/// last write of each page.
 #[test]
 fn checkpoints_beside_writers(rt: HostRuntime) {
     let rt = &rt;

@@ -1,4 +1,4 @@
-//! A client that is not client 0 has the log made durable: it asks client 0 for that, and waits.
+//! A client other than client 0 that needs the log: it asks client 0 to make it durable, and waits.
 ghost use Rattle.std.specs.Prelude.{◌≡◌};
 
 use crate::durable::change;
@@ -16,24 +16,23 @@ use std::sync::{Arc, Mutex, Wait};
 use std::thread::Parker;
 use std::time::Duration;
 use test_support::judging::unlawful_in;
-use test_support::pools::give;
+use test_support::pools::unfix_draining;
 
-/// What the clients share.
 #[derive(Drop)]
 struct Log {
-    /// The LSN up to which it is to be durable.
+    /// The LSN up to which the log must be made durable.
     wanted: u64,
-    /// The LSN up to which it is durable, and the pool's mark raised.
+    /// The LSN up to which the log is durable and the mark is raised.
     raised: u64,
-    /// Whether client 1 wants no more.
+    /// Whether client 1 has ended.
     is_over: bool,
 }
 
-/// The log as client 1 has it. Client 0 alone can raise the mark.
+/// Client 1's way to the log. Only client 0 can raise the mark.
 #[derive(Drop)]
 struct Following {
     log: Arc<Mutex<Log>, Global>,
-    /// The LSN up to which this client knows the mark to be raised.
+    /// The LSN up to which this client knows that the mark is raised.
     known: u64,
 }
 
@@ -46,7 +45,7 @@ impl<N: PoolName> DurableLog<N> for Following {
 
     ghost lent = { λ _. [] };
 
-    /// Asks client 0, and waits for ten seconds at most.
+    /// Asks client 0 for the LSN, and waits up to ten seconds.
     fn reach<K: ListKeeper, R: Wait>(&mut self, rt: &R, _: &SharedPool<N, K>, lsn: Lsn) -> bool {
         for _ in 0..10000 {
             let mut log = self.log.lock(rt);
@@ -70,7 +69,7 @@ struct Sharer {
 }
 
 impl Sharer {
-    /// Writes to page 0 under log record 5, and then wants page 1, in a pool of one frame.
+    /// Writes to page 0 under log record 5, and then fixes page 1 durably, in a pool of one frame.
     fn visit<N: PoolName, P: Port, R: Wait>(
         &mut self,
         rt: &R,
@@ -87,7 +86,7 @@ impl Sharer {
             pause: Duration::from_millis(1),
         };
         let pass = fix_durably(rt, pool, client, &mut self.following, page, patience)?;
-        give(rt, pool, client, pass.note())
+        unfix_draining(rt, pool, client, pass.note())
     }
 }
 
@@ -125,7 +124,7 @@ impl<P: Port> Worker<P, RecordingKeeper> for Sharer {
     }
 }
 
-/// Page 0 goes out once client 0 has raised the mark to 5, for which it was asked.
+/// Page 0 goes out once client 0 was asked for LSN 5, and has raised the mark to it.
 #[test]
 fn client_one_waits_for_client_zero(rt: HostRuntime) {
     let rt = &rt;

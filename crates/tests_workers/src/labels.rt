@@ -1,5 +1,4 @@
-//! A worker over a silent pool, which has no entries in memory: it reads back what it wrote to pages that went out and
-//! came in again.
+//! A worker over a silent pool, which keeps no entries: it reads back what it wrote to pages that were evicted.
 ghost use Rattle.std.specs.Prelude.{◌≡◌};
 
 use crate::making::{PAGES, config, ports};
@@ -13,17 +12,17 @@ use bp_workers::{Client, Config, Upkeep, Worker, run_workers_over};
 use std::alloc::Global;
 use std::rt::HostRuntime;
 use std::sync::Wait;
-use test_support::pools::{fix, give, read};
+use test_support::pools::{fix, read, unfix_draining};
 
-/// The label of page 0. That of each page after it is one more.
+/// The label of page 0. Each further page has one more.
 const FIRST: u8 = 10;
 
-/// Puts a label on each page, as its first byte, and then reads the labels.
+/// Writes a label to the first byte of each page, and then reads the labels.
 #[derive(Drop)]
 struct Labeler {
     alloc: Global,
     put: u64,
-    /// The pages that had their label when they were read.
+    /// The number of pages that still had their label.
     found: u64,
     latest: Option<Refusal>,
 }
@@ -32,7 +31,7 @@ fn label_of(number: u64) -> u8 {
     (number % 100) as u8 + FIRST
 }
 
-/// Whether a page has its label.
+/// Returns true if a page has its label.
 fn has_label<N: PoolName, P: Port, K: ListKeeper, R: Wait>(
     rt: &R,
     pool: &SharedPool<N, K>,
@@ -43,7 +42,7 @@ fn has_label<N: PoolName, P: Port, K: ListKeeper, R: Wait>(
 {
     let note = fix(rt, pool, client, number)?;
     let image = read(rt, pool, client, note);
-    give(rt, pool, client, note)?;
+    unfix_draining(rt, pool, client, note)?;
     Ok(image?.bytes().first() == Some(&label_of(number)))
 }
 
@@ -113,11 +112,11 @@ impl<P: Port, K: ListKeeper> Worker<P, K> for Labeler {
     }
 }
 
-/// Of four pages two are away at any time, so labels go out and come in again.
+/// Two of four pages are in no frame at any time, so labels are written out and read again.
 #[test]
 fn silent_labels_are_read_back(rt: HostRuntime) {
     let rt = &rt;
-    // The most that a silent pool may count.
+    // The greatest room of a silent pool.
     let config = Config {
         room: 1 << 61,
         ..config(rt, 2)

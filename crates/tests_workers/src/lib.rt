@@ -1,8 +1,8 @@
-//! Tests of runs of workers, and of what an engine has besides the pool's own calls. What is asserted holds whatever
-//! the schedule. The trail of each run goes to the judge, but those of silent pools, which have none to show.
+//! Tests of runs of workers, and of what an engine needs besides the calls of a pool. What they assert holds under
+//! every schedule. The trail of each run goes to the judge, except for those of silent pools, which keep none.
 //!
-//! They stand here, on top of the crates that they call, so that none of those is proved once more for its tests. The
-//! library itself has no item.
+//! The tests are on top of the crates that they call, so that none of those is proved again for them. The library
+//! itself has no item.
 #![tactic(auto)]
 
 #[cfg(test)]

@@ -1,6 +1,6 @@
-//! What the tests share: pools of four pages of 16 bytes, and ports to them.
+//! Shared by the tests: pools of four pages of 16 bytes, and ports to them.
+use bp_core::Settings;
 use bp_device::{MemDevice, MemPort};
-use bp_lruk::Settings;
 use bp_page::Geometry;
 use bp_workers::Config;
 use std::process::Abort;
@@ -16,7 +16,7 @@ pub(crate) fn config<R: Abort + AllocGlobal>(rt: &R, frames: usize) -> Config {
     }
 }
 
-/// So many ports to one device.
+/// Makes so many ports to one device.
 pub(crate) fn ports<R: Abort + AllocGlobal>(rt: &R, count: usize) -> Vec<MemPort> {
     let geometry = Geometry::new(PAGES, 16).expect(rt, "the geometry");
     let device = MemDevice::new(rt.alloc(), geometry).expect(rt, "the device");

@@ -1,4 +1,4 @@
-//! Which worker works over which port, and what that port did.
+//! Workers over ports of their own: which port did which reads and writes.
 ghost use Rattle.std.specs.Prelude.{◌≡◌, ◌≢◌, [], zip, Some, IfOk};
 ghost use Rattle.bp_page.specs.declared.refusals.Refusal.TheVariants as Refusal;
 ghost use Rattle.bp_trail.specs.Clock.{durable};
@@ -19,14 +19,14 @@ use std::sync::Wait;
 use std::thread::Threads;
 use test_support::judging::unlawful_in;
 
-/// Fixes one page, and keeps its pass.
+/// Fixes one page, and keeps the pass.
 #[derive(Drop)]
 struct Visitor {
     page: u64,
     refused: Option<Refusal>,
 }
 
-/// Fixes the page of this number, and says why it was refused, if it was.
+/// Fixes a page, and returns why it was refused, if it was.
 fn visit<N: PoolName, P: Port, R: Wait>(
     rt: &R,
     pool: &SharedPool<N>,
@@ -55,7 +55,7 @@ impl<P: Port> Worker<P, RecordingKeeper> for Visitor {
     ghost use Rattle.bp_page.specs.declared.refusals.Refusal.TheVariants as Refusal;
     ghost use Rattle.bp_shared.specs.Sessions.{DoesWorkSaid};
 
-    // Its port did the work of its session's list, and nothing else; and it raised no mark.
+    // The port did the work of its session's list, and nothing else; and no mark was raised.
     ghost leaves = { λ _ _ given left kept session upkeep.
         (left.refused ≢ Some Refusal.UnknownTicket →
         DoesWorkSaid P.read_gives P.write_gives [] session.said given kept)
@@ -81,9 +81,8 @@ impl<P: Port> Worker<P, RecordingKeeper> for Visitor {
     }
 }
 
-/// Runs visitors. The list left of client c is of client c, and the port that it was given did the work of that list,
-/// to which the unfix of the pass that went back adds none, and nothing else. Nothing is marked durable, since client 0
-/// raised no mark.
+/// Runs visitors. The list of client c has only its entries, and its port did the work of that list and nothing else:
+/// the unfix of a kept pass adds none. Nothing is marked durable, since client 0 raised no mark.
 fn visit_all<P: Port + Send, R: Threads + Wait + Sync>(
     rt: &R,
     alloc: Global,
@@ -101,7 +100,7 @@ fn visit_all<P: Port + Send, R: Threads + Wait + Sync>(
     run_workers(rt, alloc, config, ports, visitors)
 }
 
-/// Ports to one device, of which each fails at the call of this number.
+/// Makes ports to one device. Each fails at the call of its number.
 fn fuses<R: Abort + AllocGlobal>(rt: &R, calls: &[u64]) -> Vec<FusePort<MemPort>> {
     let geometry = Geometry::new(PAGES, 16).expect(rt, "the geometry");
     let device = MemDevice::new(rt.alloc(), geometry).expect(rt, "the device");
@@ -114,7 +113,7 @@ fn fuses<R: Abort + AllocGlobal>(rt: &R, calls: &[u64]) -> Vec<FusePort<MemPort>
     fuses
 }
 
-/// Each of three visitors has one page read by its port, and the first call of client 0's port fails.
+/// Three visitors each read a page by their own port. The first call of client 0's port fails.
 #[test]
 fn each_worker_works_over_its_own_port(rt: HostRuntime) {
     let rt = &rt;

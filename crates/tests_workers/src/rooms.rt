@@ -1,4 +1,4 @@
-//! The room of a pool's trail, in a pool of either kind.
+//! The room of a pool's trail is the same in pools of either kind.
 ghost use Rattle.std.specs.Prelude.{◌≡◌};
 
 use crate::making::{config, ports};
@@ -13,10 +13,10 @@ use std::rt::HostRuntime;
 use std::sync::Wait;
 use std::thread::Threads;
 
-/// Moves the clock eight times, by 1 each time.
+/// Moves the clock on by 1, eight times.
 #[derive(Drop)]
 struct Ticker {
-    /// The ticks that were done, and those for which the trail had no room.
+    /// The ticks that were done, and those that found no room.
     done: u64,
     full: u64,
 }
@@ -61,8 +61,8 @@ impl<P: Port, K: ListKeeper> Worker<P, K> for Ticker {
     }
 }
 
-/// Two workers tick over a pool that has room for ten entries. Of their sixteen ticks ten were done, and for the others
-/// there was no room.
+/// Runs two workers that tick, over a pool with room for ten entries. Of their sixteen ticks ten are done, and the
+/// others find no room.
 fn run_tickers<K: Kind, R: Abort + AllocGlobal + Threads + Wait + Sync>(
     rt: &R,
 ) -> Run<MemPort, Ticker, K> {
@@ -86,7 +86,7 @@ fn run_tickers<K: Kind, R: Abort + AllocGlobal + Threads + Wait + Sync>(
     run
 }
 
-/// A tick is one entry, of whichever worker, in a pool of either kind.
+/// A tick of any worker is one entry, in a pool of either kind.
 #[test]
 fn room_is_counted_alike(rt: HostRuntime) {
     let silent = run_tickers::<SilentKeeper, HostRuntime>(&rt);

@@ -12,7 +12,7 @@ use std::sync::Wait;
 use std::thread::Threads;
 use test_support::judging::unlawful_in;
 
-/// So many workers, of which each keeps a pass where `keeps` says so. The judge finds their trail legal.
+/// Runs so many workers, which keep a pass where `keeps` is true. The judge finds the trail lawful.
 fn run<R: Abort + AllocGlobal + Threads + Wait + Sync>(
     rt: &R,
     frames: usize,
@@ -41,8 +41,8 @@ fn count_marks(trail: &[Entry]) -> usize {
     marks
 }
 
-/// Each list is what the trail has of its client, each pass that it gave back went back, and the mark that the log
-/// writer raised was seen once.
+/// Asserts that each list is its client's part of the trail, that all passes went back, and that the mark was raised
+/// once.
 fn expect_shared<R: Abort + AllocGlobal + Threads + Wait + Sync>(
     rt: &R,
     frames: usize,
@@ -62,18 +62,19 @@ fn expect_shared<R: Abort + AllocGlobal + Threads + Wait + Sync>(
     assert_eq!(rt; count_marks(run.core.trail()), 1);
 }
 
+/// Two workers write to the same pages.
 #[test]
 fn two_workers_share_pages(rt: HostRuntime) {
     expect_shared(&rt, 4, 2);
 }
 
-/// As many workers as there may be.
+/// The most workers that a run may have.
 #[test]
 fn sixty_four_workers(rt: HostRuntime) {
     expect_shared(&rt, 64, 64);
 }
 
-/// A pass that a worker still holds when it returns goes back, and is told.
+/// A pass that a worker still holds when it returns is given back, and the unfix is in its list.
 #[test]
 fn passes_still_held_go_back(rt: HostRuntime) {
     let rt = &rt;

@@ -1,4 +1,4 @@
-//! What client 0 does besides: it cuts the trail. And a ring that is full.
+//! The upkeep of client 0, which cuts the trail; and a ring that is full.
 ghost use Rattle.std.specs.Prelude.{◌≡◌};
 
 use crate::making::{config, ports};
@@ -9,12 +9,12 @@ use bp_workers::{Client, Upkeep, Worker, run_workers};
 use std::rt::HostRuntime;
 use std::sync::Wait;
 use test_support::judging::{setup_of, unlawful};
-use test_support::pools::{fix, give};
+use test_support::pools::{fix, unfix_draining};
 
-/// Passes of one page at a time: one more than a ring has places.
+/// The passes of one page at the same time: one more than a ring holds.
 const PASSES: usize = 33;
 
-/// Takes passes of page 0, gives them back one after the other, and cuts the trail where it can.
+/// Fixes page 0 many times, gives the passes back one after the other, and cuts the trail if it can.
 #[derive(Drop)]
 struct Hoarder {
     taken: usize,
@@ -38,7 +38,7 @@ impl Hoarder {
         }
     }
 
-    fn give<N: PoolName, P: Port, R: Wait>(
+    fn unfix_held<N: PoolName, P: Port, R: Wait>(
         &mut self,
         rt: &R,
         pool: &SharedPool<N>,
@@ -50,7 +50,7 @@ impl Hoarder {
             let Some(note) = client.session.oldest_held() else {
                 return;
             };
-            if give(rt, pool, client, note).is_ok() {
+            if unfix_draining(rt, pool, client, note).is_ok() {
                 self.given = self.given.saturating_add(1);
             }
         }
@@ -65,7 +65,7 @@ impl<P: Port> Worker<P, RecordingKeeper> for Hoarder {
         client: &mut Client<N, P>,
     ) {
         self.take(rt, pool, client);
-        self.give(rt, pool, client);
+        self.unfix_held(rt, pool, client);
     }
 
     fn lead<N: PoolName, R: Wait>(
@@ -79,12 +79,12 @@ impl<P: Port> Worker<P, RecordingKeeper> for Hoarder {
         if let Ok(piece) = pool.cut(rt, &mut upkeep.taker) {
             self.cut = piece;
         }
-        self.give(rt, pool, client);
+        self.unfix_held(rt, pool, client);
     }
 }
 
-/// The last of the passes finds the ring full, which is then emptied. What client 0 cut meanwhile and what is left are,
-/// together, as many entries as all lists have, and a legal trail.
+/// The last pass finds the ring full, which is then emptied. What client 0 cut, with the rest, has as many entries as
+/// all lists, and is a lawful trail.
 #[test]
 fn full_ring_is_emptied(rt: HostRuntime) {
     let rt = &rt;

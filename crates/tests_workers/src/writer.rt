@@ -1,4 +1,4 @@
-//! Workers that write to all pages in turn.
+//! A worker that writes to all pages in turn.
 ghost use Rattle.std.specs.Prelude.{◌≡◌};
 
 use bp_device::Port;
@@ -8,15 +8,14 @@ use bp_shared::{PoolName, SharedPool};
 use bp_workers::{Client, Upkeep, Worker};
 use std::alloc::Global;
 use std::sync::Wait;
-use test_support::pools::{fix, give, write};
+use test_support::pools::{fix, unfix_draining, write};
 
-/// Writes to each page in turn, so many rounds. The one of client 0 first raises the mark beyond all that is
-/// written.
+/// Writes to each page in turn, for so many rounds. Client 0 first raises the mark beyond all writes.
 #[derive(Drop)]
 pub(crate) struct Writer {
     pub(crate) alloc: Global,
     pub(crate) rounds: u64,
-    /// Whether it holds the pass of page 0 when it returns.
+    /// Whether it keeps the pass of page 0 when it returns.
     pub(crate) keeps: bool,
     /// The writes that were done, and the calls that were refused.
     pub(crate) done: u64,
@@ -24,7 +23,6 @@ pub(crate) struct Writer {
     pub(crate) latest: Option<Refusal>,
 }
 
-/// The LSN that client 0 raises the mark to.
 pub(crate) const DURABLE: u64 = 100;
 
 impl Writer {
@@ -97,7 +95,7 @@ impl<P: Port, K: ListKeeper> Worker<P, K> for Writer {
     }
 }
 
-/// Writes a byte to the front of a page.
+/// Writes a byte at offset 0 of a page.
 pub(crate) fn write_page<N: PoolName, P: Port, K: ListKeeper, R: Wait>(
     rt: &R,
     alloc: Global,
@@ -111,6 +109,6 @@ pub(crate) fn write_page<N: PoolName, P: Port, K: ListKeeper, R: Wait>(
 {
     let note = fix(rt, pool, client, number)?;
     let written = write(rt, alloc, pool, client, note, byte, lsn);
-    give(rt, pool, client, note)?;
+    unfix_draining(rt, pool, client, note)?;
     written
 }

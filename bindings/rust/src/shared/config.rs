@@ -2,10 +2,9 @@ use crate::{Config, Error, Result};
 use std::thread;
 use std::time::Duration;
 
-/// What a [`SharedPager`](crate::SharedPager) is made with.
+/// The settings of a [`SharedPager`](crate::SharedPager).
 ///
-/// [`SharedConfig::new`] fills in what a pager over a file needs, and each field may be set
-/// otherwise:
+/// [`SharedConfig::new`] sets all fields for a pager over a file, and each field may be changed:
 ///
 /// ```
 /// use hojzmated::SharedConfig;
@@ -20,30 +19,31 @@ use std::time::Duration;
 /// ```
 #[derive(Clone, Debug, PartialEq, Eq)]
 pub struct SharedConfig {
-    /// How many pages the file has, whose numbers begin at 0: 1 to 1,048,576 for each part, so
-    /// 67,108,864 at most.
+    /// The number of pages of the file, which are numbered from 0: 1 to 1,048,576 for each part, so
+    /// at most 67,108,864.
     pub pages: u64,
-    /// 16 to 65,536 bytes, a multiple of 16.
+    /// The page size in bytes: 16 to 65,536, a multiple of 16.
     pub page_size: usize,
-    /// How many pages are in memory at most: 1 to 65,536 for each part, so 4,194,304 at most.
+    /// The most pages in memory: 1 to 65,536 for each part, so at most 4,194,304.
     pub frames: usize,
-    /// How many pools stand side by side, each with a lock of its own: 1 to 64, and no more than
+    /// The number of pools side by side, each with a lock of its own: 1 to 64, and no more than
     /// pages or frames. Page p is in part p mod `parts`.
     ///
     /// More parts let more threads work at once. Fewer parts choose victims better: each part has
-    /// its share of the frames, and the page that leaves is the one of LRU-K among the pages of its
-    /// part.
+    /// its share of the frames, and its victim is that of LRU-K among the pages of the part.
     pub parts: usize,
-    /// For so many fixes of the pager after its newest reference a page stays, and references to it
-    /// count as one: 0 to 2^62. Each part counts its own fixes, up to its share of these.
+    /// The correlated reference period in fixes of the pager: 0 to 2^62. So long after its newest
+    /// reference a page is not evicted, and further references to it count as the same one. Each
+    /// part counts its own fixes, up to its share of these.
     pub correlated: u64,
-    /// References are kept for so many fixes after their page has left its frame, until the next
-    /// [`purge`](crate::SharedPager::purge): 0 to 2^62. Each part counts as with `correlated`.
+    /// The retained information period in fixes: 0 to 2^62. The references of a page in no frame
+    /// are kept so long after its newest one, and then until the next
+    /// [`purge`](crate::SharedPager::purge). Each part counts as with `correlated`.
     pub retained: u64,
     /// The K of LRU-K: 1 to 16. 1 is LRU.
     pub k: u8,
-    /// For how long a call waits for another thread to unpin a page, where all pages that could make
-    /// way are pinned. After that it is refused with [`Error::NoVictim`].
+    /// The time for which a call waits for another thread to unpin a page, where all possible
+    /// victims are pinned. After that it is refused with [`Error::NoVictim`].
     pub pin_wait: Duration,
 }
 
@@ -55,7 +55,7 @@ const MOST_PARTS: usize = 64;
 const LONGEST: u64 = 1 << 62;
 /// With fewer frames in a part, its victims are too often not those of the whole.
 const LEAST_FRAMES: usize = 64;
-/// With so many parts for each processor, two threads seldom want one part at a time.
+/// With so many parts for each processor, two threads seldom need one part at a time.
 const PARTS_OF_PROCESSOR: usize = 16;
 
 /// The greatest power of two that is not above this number, or 1.
@@ -65,8 +65,8 @@ fn power_below(number: usize) -> usize {
 
 impl SharedConfig {
     /// K 2, a correlated period of an eighth of the frames, a retained period without end, and ten
-    /// seconds of waiting for a pin. The parts are 16 for each processor, but no more than 64 and one
-    /// for each 64 frames, a power of two; and as many as the pages and frames want at least.
+    /// seconds of waiting for a pin. The parts are 16 for each processor, but at most 64 and one
+    /// for each 64 frames, a power of two; and at least as many as the pages and frames need.
     pub fn new(pages: u64, page_size: usize, frames: usize) -> SharedConfig {
         let processors = thread::available_parallelism().map_or(1, usize::from);
         let useful = (processors * PARTS_OF_PROCESSOR).min(frames / LEAST_FRAMES);
@@ -88,8 +88,8 @@ impl SharedConfig {
         }
     }
 
-    /// What each part is made with. The first parts have a page and a frame more, where the numbers
-    /// do not divide.
+    /// Returns the settings of a part. The first parts have one more page and frame, where the
+    /// numbers do not divide evenly.
     pub(super) fn of_part(&self, part: usize) -> Result<Config> {
         let parts = self.parts;
         let is_good = (1..=MOST_PARTS).contains(&parts)

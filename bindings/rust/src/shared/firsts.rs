@@ -1,21 +1,21 @@
 use super::seats::filled;
 use crate::Result;
 
-/// Of each page of a part, by its seat, the least LSNs of its writes that have a log record.
+/// For each page of a part, by its seat, the least LSNs of its writes that have a log record.
 ///
-/// The pool tells the least of all writes, and counts those of LSN 0, which have no record, too. So
-/// this is looked at only while there is such a write.
+/// The pool tells the least LSN of all writes, also of those with LSN 0, which have no record. So
+/// this is used only while there is such a write.
 pub(super) struct Firsts(Vec<First>);
 
 #[derive(Clone, Copy, Default)]
 struct First {
-    /// Of those that are in no image so far. Here and below 0 stands for none.
+    /// Of the writes that are in no image so far. Here and below 0 stands for none.
     waiting: u64,
-    /// Of those in the image that is on its way out.
+    /// Of the writes in the image that is being written out.
     going_out: u64,
 }
 
-/// The less of two LSNs of which either may be 0 for none.
+/// Returns the lesser of two LSNs, where 0 stands for none.
 fn least(one: u64, other: u64) -> u64 {
     if one == 0 || other == 0 {
         one.max(other)
@@ -29,32 +29,31 @@ impl Firsts {
         Ok(Firsts(filled(seats)?))
     }
 
-    /// Notes a write.
     pub(super) fn write(&mut self, seat: usize, lsn: u64) {
         let first = &mut self.0[seat];
         first.waiting = least(first.waiting, lsn);
     }
 
-    /// An image of the page is on its way out.
+    /// Notes that an image of the page is being written out.
     pub(super) fn go_out(&mut self, seat: usize) {
         let first = &mut self.0[seat];
         first.going_out = first.waiting;
         first.waiting = 0;
     }
 
-    /// The image is on the device.
+    /// Notes that the image is on the device.
     pub(super) fn arrive(&mut self, seat: usize) {
         self.0[seat].going_out = 0;
     }
 
-    /// The image did not come to the device.
+    /// Notes that the image is not on the device.
     pub(super) fn come_back(&mut self, seat: usize) {
         let first = &mut self.0[seat];
         first.waiting = least(first.waiting, first.going_out);
         first.going_out = 0;
     }
 
-    /// The least LSN of a write with a record that is in no image on the device.
+    /// Returns the least LSN of a write with a record that is in no image on the device.
     pub(super) fn of(&self, seat: usize) -> Option<u64> {
         let first = &self.0[seat];
         let lsn = least(first.waiting, first.going_out);
@@ -66,7 +65,8 @@ impl Firsts {
 mod tests {
     use super::*;
 
-    // A write that comes while the page goes out is in no image, whether that arrives or not.
+    // A write that comes while the page is being written out is in no image, whether that ends well
+    // or not.
     #[test]
     fn least_lsn_with_a_record() -> Result<()> {
         let mut firsts = Firsts::new(2)?;

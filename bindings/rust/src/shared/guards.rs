@@ -6,24 +6,24 @@ use std::ops::Deref;
 use std::slice;
 use std::sync::{RwLockReadGuard, RwLockWriteGuard};
 
-/// A page that is pinned, with no latch: it stays in its frame until this is dropped.
+/// A pinned page without a latch: it stays in its frame until this is dropped.
 ///
-/// It may go to another thread. To look at the page or to change it, take its latch by
-/// [`read`](PagePin::read) or [`write`](PagePin::write), as often as is wanted. Where such a guard
-/// is forgotten ([`std::mem::forget`]) and the pin is dropped, the latch stays taken, also for a page
+/// It can be sent to another thread. To look at the page or to change it, take its latch by
+/// [`read`](PagePin::read) or [`write`](PagePin::write), as often as needed. Where such a guard is
+/// forgotten ([`std::mem::forget`]) and the pin is dropped, the latch stays taken, also for a page
 /// that has the frame later.
 #[must_use = "the page is unpinned when its pin is dropped"]
 pub struct PagePin<'a> {
     part: &'a Part,
     seat: usize,
-    /// Whether its end is told to those that wait to write the page out.
+    /// Whether its end wakes the threads that wait to write the page out.
     is_writers: bool,
 }
 
 /// The bytes of a page under a shared latch: a `[u8]` of the page size, in place.
 ///
-/// While it is there nobody writes to the page, and the page stays in its frame. Others may look at
-/// it too, and it may go out to the device. When it is dropped the latch is free again.
+/// While it exists nobody writes to the page, and the page stays in its frame. Other threads may
+/// look at the page too, and it may be written out. When it is dropped the latch is free again.
 #[must_use = "the latch is free again when this is dropped"]
 pub struct PageRef<'a> {
     // In this order: the latch is let go before the pin.
@@ -31,11 +31,11 @@ pub struct PageRef<'a> {
     pin: Held<'a>,
 }
 
-/// A page under an exclusive latch: nobody else looks at it or writes to it meanwhile, nor does it
-/// go out to the device.
+/// A page under an exclusive latch: nobody else looks at it or writes to it meanwhile, nor is it
+/// written out.
 ///
-/// When it is dropped the latch is free again: also where the engine panics, which leaves what was
-/// put so far.
+/// When it is dropped the latch is free again, also where the engine panics. What was put until
+/// then stays.
 #[must_use = "the latch is free again when this is dropped"]
 pub struct PageMut<'a> {
     // In this order: the latch is let go before the pin, and then the end of the writer is told.
@@ -44,13 +44,13 @@ pub struct PageMut<'a> {
     _end: Option<WriterEnd<'a>>,
 }
 
-/// A guard's own pin, or that of which it was made.
+/// The pin of a guard: its own, or the one that it was made from.
 enum Held<'a> {
     Own(PagePin<'a>),
     Lent(&'a PagePin<'a>),
 }
 
-/// Tells those that wait to write the page out. A pin that goes back does so itself.
+/// Wakes the threads that wait to write the page out. A pin that goes back does so itself.
 struct WriterEnd<'a>(&'a Part);
 
 impl Drop for WriterEnd<'_> {
@@ -60,10 +60,11 @@ impl Drop for WriterEnd<'_> {
 }
 
 impl<'a> PagePin<'a> {
-    /// One of the pins of a seat that is pinned.
+    /// Makes a pin of a seat that is pinned.
     ///
     /// # Safety
-    /// It is counted there, and no other `PagePin` stands for it.
+    ///
+    /// The pin is counted in the seat, and no other `PagePin` is made of it.
     #[inline]
     pub(super) unsafe fn new(part: &'a Part, seat: usize) -> PagePin<'a> {
         PagePin {
@@ -93,7 +94,7 @@ impl<'a> PagePin<'a> {
     /// Waits for the page's shared latch.
     ///
     /// A thread that has the page's exclusive latch waits for ever. So may one that has its shared
-    /// latch, where another waits for the exclusive one.
+    /// latch, while another waits for the exclusive one.
     #[inline]
     pub fn read(&self) -> PageRef<'_> {
         PageRef {
@@ -102,7 +103,7 @@ impl<'a> PagePin<'a> {
         }
     }
 
-    /// The page's shared latch, if it can be had without waiting.
+    /// Returns the page under its shared latch, or None where that can't be had without waiting.
     #[inline]
     pub fn try_read(&self) -> Option<PageRef<'_>> {
         Some(PageRef {
@@ -123,7 +124,7 @@ impl<'a> PagePin<'a> {
         }
     }
 
-    /// The page's exclusive latch, if it can be had without waiting.
+    /// Returns the page under its exclusive latch, or None where that can't be had without waiting.
     #[inline]
     pub fn try_write(&self) -> Option<PageMut<'_>> {
         Some(PageMut {
@@ -235,14 +236,15 @@ impl PageMut<'_> {
         unsafe { self.pin.bytes() }
     }
 
-    /// Puts bytes into the page from the offset on, under the log record with this LSN. The page
-    /// does not go out before the log is durable so far. LSN 0 is for a change that has no record.
+    /// Writes bytes into the page from the offset on, under the log record with this LSN. The page
+    /// is not written out before the log is durable up to this LSN. LSN 0 is for a change without a
+    /// record.
     ///
-    /// The bytes may be those of another page. It takes no memory.
+    /// The bytes may be those of another page. It needs no memory.
     ///
     /// # Errors
-    /// [`OutOfPage`](crate::Error::OutOfPage) where the bytes are not within the page, which stays
-    /// as it was.
+    /// [`OutOfPage`](crate::Error::OutOfPage) where the bytes are not within the page, which is
+    /// unchanged.
     #[inline]
     pub fn put(&mut self, offset: usize, bytes: &[u8], lsn: u64) -> Result<()> {
         self.pin.part.write(self.pin.seat, offset, bytes, lsn)

@@ -3,8 +3,8 @@ use std::mem;
 use std::sync::atomic::{AtomicU64, Ordering};
 use std::sync::{Condvar, Mutex, MutexGuard, PoisonError};
 
-/// How far the engine's log is durable, and who makes it so: one thread at a time, for all that
-/// wait.
+/// The LSN up to which the engine's log is durable. One thread at a time makes it durable further,
+/// for all threads that wait.
 #[derive(Default)]
 pub(super) struct Log {
     durable: AtomicU64,
@@ -15,23 +15,22 @@ pub(super) struct Log {
 #[derive(Default)]
 struct Turn {
     is_taken: bool,
-    /// The greatest LSN that somebody waits for.
+    /// The greatest LSN that a thread waits for.
     wanted: u64,
 }
 
 impl Log {
-    /// How far the log is durable.
     pub(super) fn durable(&self) -> u64 {
         self.durable.load(Ordering::Acquire)
     }
 
-    /// Notes that the log is durable as far as this LSN.
+    /// Notes that the log is durable up to this LSN.
     pub(super) fn mark(&self, lsn: u64) {
         self.durable.fetch_max(lsn, Ordering::AcqRel);
     }
 
-    /// Sees to it that the log is durable as far as this LSN. Whoever comes while a thread is at it
-    /// waits, and has the next turn if that was not far enough.
+    /// Makes the log durable up to this LSN. A thread that comes while another does this waits, and
+    /// has the next turn if that was not far enough.
     pub(super) fn reach<F: PageIo>(&self, io: &F, lsn: u64) -> Result<(), PagerError> {
         let mut turn = self.turn();
         while self.durable() < lsn {
@@ -44,7 +43,7 @@ impl Log {
                 continue;
             }
             turn.is_taken = true;
-            // Who still waits after this turn wants its own LSN again.
+            // A thread that still waits after this turn asks for its own LSN again.
             let lsn = mem::take(&mut turn.wanted);
             drop(turn);
             let taken = Taken(self);

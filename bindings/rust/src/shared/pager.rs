@@ -62,45 +62,45 @@ use std::time::{Duration, Instant};
 /// a lock on one page: several threads may look at it. [`write`](SharedPager::write) gives it under
 /// an exclusive latch. While such a guard is there the page stays in its frame.
 ///
-/// The pages are dealt out to *parts*, which are proved pools, each with a lock of its own:
-/// [`SharedConfig::parts`] says what more of them change. What this pager does beside them is tested
+/// The pages are divided into *parts*, which are proved pools, each with a lock of its own:
+/// [`SharedConfig::parts`] says what more of them change. What this pager adds to them is tested
 /// and not proved.
 ///
 /// # What waits for what
-/// No lock is held while the device works: reads and write-outs of different pages overlap. Who
-/// wants a page that is being read sleeps until that ends. Where a page that has to make way is not
-/// covered by the log, one thread makes the log durable for all. Where all pages that could make way
-/// are pinned, a call waits for [`SharedConfig::pin_wait`].
+/// No lock is held while the device works: reads and write-outs of different pages overlap. A
+/// thread that wants a page that is being read sleeps until the read ends. Where a victim's log
+/// record is not durable, one thread makes the log durable for all. Where all possible victims are
+/// pinned, a call waits for [`SharedConfig::pin_wait`].
 ///
-/// Who waits for a latch sleeps until it is free. Threads that hold a latch and want another could
-/// wait for each other for ever. So an engine takes latches in one order, such as from the root of a
-/// tree down and from left to right. Against that order it takes them by
-/// [`try_read`](SharedPager::try_read) and [`try_write`](SharedPager::try_write), and lets go what
-/// it has where they give none. A thread that has a latch does not ask for the same page once more,
-/// nor has it written out.
+/// A thread that waits for a latch sleeps until it is free. Threads that hold a latch and want
+/// another could wait for each other for ever. So an engine takes latches in one order, such as
+/// from the root of a tree down and from left to right. Against that order it takes them by
+/// [`try_read`](SharedPager::try_read) and [`try_write`](SharedPager::try_write), and frees its own
+/// latches where they return None. A thread that has a latch must not ask for the same page again,
+/// nor have it written out.
 ///
 /// # What counts as a reference
-/// Each call that gives a page is a reference of it, by which LRU-K chooses the pages that make way,
-/// and moves the clock of its part on by one. But a page that is pinned already is pinned once more
-/// with no lock, and one in 16 of such pins is a reference.
+/// Each call that returns a page is a reference to it, by which LRU-K chooses victims, and moves
+/// the clock of its part on by one. But a page that is pinned already is pinned again without a
+/// lock, and one in 16 of such pins is a reference.
 ///
 /// # Where a call fails
-/// Nothing is lost where the device or the log fails or panics: the page that should be read is
-/// away, and the one that should go out is unsaved. Other pages can be used: a page that could not
-/// make way counts as used just then, so the next call looks for another. Where the pager is
-/// dropped, pages that were not written out are lost.
+/// Nothing is lost where the device or the log fails or panics: the page that was to be read is in
+/// no frame, and the one that was to be written out is unsaved. Other pages can be used: a victim
+/// that could not be written out counts as used just then, so the next call chooses another. Where
+/// the pager is dropped, pages that were not written out are lost.
 pub struct SharedPager<F> {
     pub(super) parts: Box<[Part]>,
-    /// Where the number of parts is a power of two, which one.
+    /// If the number of parts is a power of two, its exponent.
     shift: Option<u32>,
     pub(super) log: Log,
-    /// How often pages were cleaned.
+    /// The number of calls of `clean`, which begin with the parts in turn.
     pub(super) cleaned: AtomicUsize,
     config: SharedConfig,
     pub(super) io: F,
 }
 
-/// What a call wants of a page that is away, and whether it waits for a pin.
+/// What a call wants of a page that is in no frame, and whether it waits for a pin.
 #[derive(Clone, Copy)]
 struct Asked {
     is_new: bool,
@@ -124,9 +124,9 @@ impl<F> SharedPager<F> {
     /// Makes a pager with empty frames.
     ///
     /// # Errors
-    /// [`BadSettings`](Error::BadSettings) where the number of parts is out of its limits, or that
-    /// of another setting; [`BadGeometry`](Error::BadGeometry) where that of the pages or the page
-    /// size is; [`OutOfMemory`](Error::OutOfMemory).
+    /// [`BadSettings`](Error::BadSettings) where the number of parts or another setting is out of
+    /// its limits; [`BadGeometry`](Error::BadGeometry) where the number of pages or the page size
+    /// is; [`OutOfMemory`](Error::OutOfMemory).
     pub fn new(config: &SharedConfig, io: F) -> Result<SharedPager<F>> {
         config.of_part(0)?;
         let mut parts = list_of(config.parts)?;
@@ -144,7 +144,7 @@ impl<F> SharedPager<F> {
         })
     }
 
-    /// What it was made with.
+    /// The settings that it was made with.
     pub fn config(&self) -> &SharedConfig {
         &self.config
     }
@@ -159,12 +159,12 @@ impl<F> SharedPager<F> {
         self.io
     }
 
-    /// Notes that the log is durable as far as this LSN, as after the engine made it so itself.
+    /// Notes that the log is durable up to this LSN, as after the engine made it durable itself.
     pub fn mark(&self, lsn: u64) {
         self.log.mark(lsn);
     }
 
-    /// The part of a page, and its number there.
+    /// Returns the part of a page, and the page's number there.
     #[inline]
     pub(super) fn place(&self, page: u64) -> Result<(&Part, u64)> {
         if page >= self.config.pages {
@@ -180,22 +180,23 @@ impl<F> SharedPager<F> {
 }
 
 impl<F: PageIo> SharedPager<F> {
-    /// Gives a page under its shared latch. It is read where it is in no frame. Another page may be
-    /// written out for that.
+    /// Returns a page under its shared latch. The page is read if it is in no frame. Another page
+    /// may be written out for that.
     ///
     /// # Errors
     /// [`PagerError::Read`], [`PagerError::Write`] and [`PagerError::Log`] where the device or the
     /// log failed. [`PagerError::Refused`] with [`OutOfPage`](Error::OutOfPage) where the file has
-    /// no such page; [`NoVictim`](Error::NoVictim) where all pages that could make way were pinned
-    /// for too long; [`WrongPage`](Error::WrongPage) where another was found in the page's place;
+    /// no such page; [`NoVictim`](Error::NoVictim) where all possible victims were pinned for too
+    /// long; [`WrongPage`](Error::WrongPage) where another page was found in the page's place;
     /// [`OutOfMemory`](Error::OutOfMemory).
     #[inline]
     pub fn read(&self, page: u64) -> Result<PageRef<'_>, PagerError> {
         self.fix(page, WAITING).map(PagePin::into_read)
     }
 
-    /// The same without waiting for a latch or a pin: none where the latch cannot be had at once. It
-    /// waits for the device and the log, also where other threads use them.
+    /// Returns a page under its shared latch, without waiting for a latch or a pin: None where the
+    /// latch can't be had at once. It waits for the device and the log, also where other threads
+    /// use them.
     ///
     /// # Errors
     /// Those of [`SharedPager::read`]; [`NoVictim`](Error::NoVictim) comes at once.
@@ -204,7 +205,7 @@ impl<F: PageIo> SharedPager<F> {
         self.fix(page, NOT_WAITING).map(PagePin::try_into_read)
     }
 
-    /// Gives a page under its exclusive latch.
+    /// Returns a page under its exclusive latch.
     ///
     /// # Errors
     /// Those of [`SharedPager::read`].
@@ -213,7 +214,8 @@ impl<F: PageIo> SharedPager<F> {
         self.fix(page, WAITING).map(PagePin::into_write)
     }
 
-    /// The same without waiting for a latch or a pin: none where the latch cannot be had at once.
+    /// Returns a page under its exclusive latch, without waiting for a latch or a pin: None where
+    /// the latch can't be had at once.
     ///
     /// # Errors
     /// Those of [`SharedPager::try_read`].
@@ -231,14 +233,14 @@ impl<F: PageIo> SharedPager<F> {
         self.fix(page, WAITING)
     }
 
-    /// Gives a page that was never written under its exclusive latch: its bytes are zeros, and it is
-    /// not read. Where it is in a frame it is as it is there.
+    /// Returns a page that was never written under its exclusive latch: its bytes are zeros, and it
+    /// is not read. If it is in a frame, it is as it is there.
     ///
-    /// Put something there: until then the pager takes the page for saved, and it may leave its
-    /// frame without going out.
+    /// Put something there: until then the pager counts the page as saved, and it may leave its
+    /// frame without being written out.
     ///
     /// # Errors
-    /// Those of [`SharedPager::read`], but for [`PagerError::Read`].
+    /// Those of [`SharedPager::read`], except for [`PagerError::Read`].
     pub fn new_page(&self, page: u64) -> Result<PageMut<'_>, PagerError> {
         self.fix(page, NEW).map(PagePin::into_write)
     }
@@ -257,7 +259,7 @@ impl<F: PageIo> SharedPager<F> {
         }
     }
 
-    /// Does what a fix wants done, and asks again, until the page is here.
+    /// Does the device work that a fix needs, and asks again, until the page is resident.
     #[inline(never)]
     fn go_on<'a>(
         &'a self,
@@ -328,7 +330,7 @@ impl<F: PageIo> SharedPager<F> {
         }
     }
 
-    /// Opens the lock, makes the log durable, and marks it in the part.
+    /// Unlocks the part, makes the log durable, and marks it in the part.
     pub(super) fn reach_log<'a>(
         &self,
         part: &'a Part,
@@ -343,7 +345,7 @@ impl<F: PageIo> SharedPager<F> {
     }
 }
 
-/// How long a call waits for a page that may make way.
+/// How long a call waits for a page that can be evicted.
 struct Patience {
     /// None where it does not wait.
     most: Option<Duration>,
@@ -360,13 +362,13 @@ impl Patience {
         }
     }
 
-    /// Moves the clock, so that no page is too young; and where that was not enough, sleeps until a
-    /// page is let go.
+    /// Moves the clock on, so that no page is too young; if that was not enough, sleeps until a
+    /// page is unpinned.
     fn wait<'a>(&mut self, part: &'a Part, state: Locked<'a>) -> Result<Locked<'a>> {
         self.has_aged = !self.has_aged;
         if self.has_aged {
             let period = state.pool.config().correlated;
-            // At the end of its clock the part has no way but to wait.
+            // At the end of its clock the part can only wait.
             let _ = state.pool.tick(0, period + 1);
             return Ok(state);
         }

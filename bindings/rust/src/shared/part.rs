@@ -10,8 +10,8 @@ use std::mem;
 use std::sync::{Condvar, Mutex, MutexGuard, PoisonError, RwLockReadGuard, TryLockError};
 use std::time::Duration;
 
-/// A proved pool under a lock, with the latches of the pages in its frames. It stands on cache lines
-/// of its own. No device works and nobody waits while the lock is held.
+/// A proved pool under a lock, with the latches of the pages in its frames. It has cache lines of
+/// its own. While the lock is held there is no device work, and nobody waits.
 #[repr(align(128))]
 pub(super) struct Part {
     state: Mutex<State>,
@@ -20,9 +20,9 @@ pub(super) struct Part {
     number: u64,
     parts: u64,
     pub(super) page_size: usize,
-    /// The device's work on a page has ended.
+    /// The device work on a page has ended.
     worked: Condvar,
-    /// A page was unpinned, or its writer has gone, or the device's work on it has ended.
+    /// A page was unpinned, or its writer has ended, or the device work on it has.
     let_go: Condvar,
 }
 
@@ -30,40 +30,40 @@ pub(super) struct State {
     pub(super) pool: Pool,
     pub(super) free: FreeSeats,
     firsts: Firsts,
-    /// Images of the page size that no call uses.
+    /// Buffers of the page size that no call uses.
     images: Vec<Vec<u8>>,
-    /// Room for a page: see [`Part::write`].
+    /// A buffer for a page: see [`Part::write`].
     scratch: Vec<u8>,
-    /// How many threads sleep until something happens, by what they wait for.
+    /// The number of threads that sleep, by what they wait for.
     for_work: usize,
     for_pins: usize,
-    /// Pins that were made without asking the pool.
+    /// The pins that were made without asking the pool.
     pub(super) joined: u64,
-    /// How often a thread slept.
+    /// The number of times that a thread slept.
     pub(super) waits: u64,
-    /// From which page on the next unsaved ones are looked for that may go out.
+    /// The page from which the next unsaved page to clean is looked for.
     pub(super) clean_from: u64,
 }
 
 pub(super) type Locked<'a> = MutexGuard<'a, State>;
 
-/// What a fix wants done with the lock open.
+/// What a fix needs while the lock is open.
 pub(super) enum Fix {
     Here(Pass),
     Read(ReadTicket),
     Write(WriteTicket),
 }
 
-/// Images that a part keeps for later calls. With more threads at the device the others are made
-/// anew.
+/// The buffers that a part keeps for later calls. With more threads at the device the others are
+/// allocated again.
 const KEPT_IMAGES: usize = 4;
-/// How often a thread looks whether the lock is free before it sleeps. A call holds it for some
+/// The number of times that a thread tries the lock before it sleeps. A call holds it for some
 /// hundred nanoseconds.
 const LOOKS: u32 = 12;
 
 impl Part {
     pub(super) fn new(config: &Config, number: usize, parts: usize) -> Result<Part> {
-        // The limits are looked at before the lists take memory.
+        // The limits are checked before the lists take memory.
         let pool = Pool::new(config)?;
         let mut images = list_of(KEPT_IMAGES)?;
         images.push(filled(config.page_size)?);
@@ -90,7 +90,7 @@ impl Part {
         })
     }
 
-    /// The number in the file of a page of this part.
+    /// Returns the number in the file of a page of this part.
     pub(super) fn in_file(&self, page: u64) -> u64 {
         page * self.parts + self.number
     }
@@ -119,7 +119,7 @@ impl Part {
         self.state.lock().unwrap_or_else(PoisonError::into_inner)
     }
 
-    /// Sees to it that an image is kept, as each fix and flush wants one.
+    /// Makes sure that a buffer is kept, as each fix and flush needs one.
     #[inline]
     pub(super) fn with_image<'a>(&'a self, state: Locked<'a>) -> Result<Locked<'a>> {
         if state.images.is_empty() {
@@ -128,7 +128,7 @@ impl Part {
         Ok(state)
     }
 
-    /// Memory is asked for with the lock open.
+    /// Allocates a buffer with the lock open.
     #[cold]
     fn with_new_image<'a>(&'a self, mut state: Locked<'a>) -> Result<Locked<'a>> {
         while state.images.is_empty() {
@@ -141,7 +141,7 @@ impl Part {
         Ok(state)
     }
 
-    /// Sleeps until the device's work on some page has ended.
+    /// Sleeps until the device work on some page has ended.
     pub(super) fn wait_for_work<'a>(&self, mut state: Locked<'a>) -> Locked<'a> {
         state.for_work += 1;
         state.waits += 1;
@@ -153,7 +153,7 @@ impl Part {
         state
     }
 
-    /// Sleeps until some page is let go, or for so long.
+    /// Sleeps until some page is unpinned, or for at most `most`.
     pub(super) fn wait_for_pins<'a>(&self, mut state: Locked<'a>, most: Duration) -> Locked<'a> {
         state.for_pins += 1;
         state.waits += 1;
@@ -165,7 +165,7 @@ impl Part {
         state
     }
 
-    /// Opens the lock and wakes who waits for what has happened.
+    /// Unlocks the part, and wakes the threads that wait for what has happened.
     fn wake(&self, state: Locked<'_>, has_worked: bool) {
         let (for_work, for_pins) = (has_worked && state.for_work > 0, state.for_pins > 0);
         drop(state);
@@ -177,12 +177,13 @@ impl Part {
         }
     }
 
-    /// Ends a write to a page, whose latch is free again, for those that wait to write it out.
+    /// Wakes the threads that wait to write a page out, after the page's writer has freed its
+    /// latch.
     pub(super) fn end_writer(&self) {
         self.wake(self.lock(), false);
     }
 
-    /// Pins a page that is pinned already, with no lock and without asking the pool.
+    /// Pins a page that is pinned already, without the lock and without asking the pool.
     #[inline]
     pub(super) fn join(&self, page: u64) -> Option<PagePin<'_>> {
         let number = self.seats.of(page)?;
@@ -196,19 +197,19 @@ impl Part {
         (seat.page() == page).then_some(pin)
     }
 
-    /// The page of a pass that was just given.
+    /// Pins the page of a pass that was just given.
     #[inline]
     pub(super) fn pinned(&self, mut state: Locked<'_>, pass: Pass) -> Result<PagePin<'_>> {
         let page = pass.page();
         let (Some(number), Ok(bytes)) = (self.seats.of(page), state.pool.place(&pass)) else {
-            // Not that it could be: the page is in a frame, and the pass out.
-            let _ = state.pool.give_back(&pass);
+            // This can't be: the page is in a frame, and its pass is out.
+            let _ = state.pool.unfix_by(&pass);
             return Err(Error::UnknownPass);
         };
         let seat = self.seats.seat(number);
         if seat.is_pinned() {
             // All pins of a page share one pass.
-            let _ = state.pool.give_back(&pass);
+            let _ = state.pool.unfix_by(&pass);
             state.joined += seat.add();
         } else {
             let (bytes, serial) = (bytes.cast(), pass.serial());
@@ -219,14 +220,14 @@ impl Part {
         Ok(unsafe { PagePin::new(self, number) })
     }
 
-    /// Takes a pin back. The last one gives back the pass.
+    /// Takes a pin back. The last one gives the pass back.
     #[inline]
     pub(super) fn unpin(&self, seat: &Seat) {
         let mut state = self.lock();
         if let Some(joined) = seat.end() {
             let pass = state.pool.pass_of(seat.page(), seat.pinned().serial);
             // A pass of this pool that is out is always taken.
-            let _ = state.pool.give_back(&pass);
+            let _ = state.pool.unfix_by(&pass);
             state.joined += joined;
         }
         if state.for_pins > 0 {
@@ -234,8 +235,8 @@ impl Part {
         }
     }
 
-    /// Writes to a page that is pinned. The bytes are copied first: they may be those of another
-    /// page of the pool, and the library wants none of its own memory.
+    /// Writes to a pinned page. The bytes are copied first: they may be those of another page of
+    /// the pool, and the library does not accept its own memory.
     pub(super) fn write(&self, number: usize, offset: usize, bytes: &[u8], lsn: u64) -> Result<()> {
         let seat = self.seats.seat(number);
         let mut state = self.lock();
@@ -253,7 +254,7 @@ impl Part {
         Ok(())
     }
 
-    /// Asks once for a page.
+    /// Asks the pool for a page once.
     #[inline]
     pub(super) fn ask(&self, state: &mut State, page: u64) -> Result<Fix> {
         let image = state.images.last_mut().ok_or(Error::OutOfMemory)?;
@@ -273,19 +274,19 @@ impl Part {
         Ok(fix)
     }
 
-    /// Adds a reference to a page that could not make way, if it is still here. It is not the next
-    /// one then.
+    /// Adds a reference to a page that could not be written out, if it is still in a frame. So it
+    /// is not the next victim.
     pub(super) fn refer_to(&self, state: &mut State, page: u64) {
         if self.seats.of(page).is_none() {
             return;
         }
         if let Ok(Fix::Here(pass)) = self.ask(state, page) {
             // A pass of this pool that is out is always taken.
-            let _ = state.pool.give_back(&pass);
+            let _ = state.pool.unfix_by(&pass);
         }
     }
 
-    /// The same of the unsaved page with this page LSN, as far as which the log is not durable.
+    /// The same for the unsaved page with this page LSN, up to which the log is not durable.
     pub(super) fn refer_to_page_of(&self, lsn: u64) {
         let mut state = self.lock();
         let found = state.pool.unsaved(0).find(|it| it.lsn == lsn);
@@ -294,17 +295,17 @@ impl Part {
         }
     }
 
-    /// The seat of a page that is unsaved.
+    /// Returns the seat of a page if the page is unsaved.
     pub(super) fn unsaved_seat(&self, state: &State, page: u64) -> Option<usize> {
         let next = state.pool.next_unsaved(page)?;
         self.seats.of(page).filter(|_| next.page == page)
     }
 
-    /// The least LSN of a write that has a log record and is in no image on the device.
+    /// Returns the least LSN of a write that has a log record and is in no image on the device.
     pub(super) fn redo_from(&self) -> Option<u64> {
         let state = self.lock();
         match state.pool.redo_from() {
-            // A write that has no record hides the others.
+            // A write without a record hides the others.
             Some(0) => {
                 let seats = state
                     .pool
@@ -316,7 +317,8 @@ impl Part {
         }
     }
 
-    /// Asks once that a page be written out. None where it is clean, or away.
+    /// Asks once that a page be written out. It returns None where the page is clean or in no
+    /// frame.
     pub(super) fn ask_out(&self, state: &mut State, page: u64) -> Result<Option<WriteTicket>> {
         let image = state.images.last_mut().ok_or(Error::OutOfMemory)?;
         match state.pool.flush(0, page, image)? {
@@ -336,7 +338,7 @@ impl Part {
 }
 
 impl State {
-    /// Keeps an image for later calls, or gives it back where there are enough.
+    /// Keeps a buffer for later calls, or returns it where enough are kept.
     fn keep(&mut self, image: Vec<u8>) -> Option<Vec<u8>> {
         if self.images.len() == KEPT_IMAGES || image.is_empty() {
             return Some(image);
@@ -350,14 +352,13 @@ impl State {
     }
 }
 
-/// A read that is under way. It is ended as failed where nothing else was said of it: also where
-/// the engine's code panicked, and where there was no memory for the page. So no frame waits for
-/// ever.
+/// A read that is under way. If it is dropped before its end it ends as failed, also where the
+/// engine's code panicked or memory for the page was refused. So no frame waits for ever.
 pub(super) struct Reading<'a> {
     part: &'a Part,
     ticket: Option<ReadTicket>,
     pub(super) image: Vec<u8>,
-    /// What is said of it then.
+    /// The fault with which it ends then.
     fault: ReadFault,
 }
 
@@ -371,7 +372,7 @@ impl<'a> Reading<'a> {
         }
     }
 
-    /// Ends it where it went well, and pins the page.
+    /// Ends the read where it succeeded, and pins the page.
     pub(super) fn end(mut self) -> Result<PagePin<'a>> {
         let ticket = self.ticket.take().ok_or(Error::UnknownTicket)?;
         let part = self.part;
@@ -412,17 +413,17 @@ impl Drop for Reading<'_> {
     }
 }
 
-/// A write-out that is under way. It is ended as failed where nothing else was said of it.
+/// A write-out that is under way. If it is dropped before its end it ends as failed.
 pub(super) struct Writing<'a> {
     part: &'a Part,
     ticket: Option<WriteTicket>,
     pub(super) image: Vec<u8>,
-    /// Whether the page has to make way.
+    /// Whether the page is a victim.
     is_victim: bool,
 }
 
 impl<'a> Writing<'a> {
-    /// Begins to write out a page that has to make way, which nobody has pinned. The lock is opened.
+    /// Begins to write a victim out, which nobody has pinned. The lock is opened.
     pub(super) fn victim(
         part: &'a Part,
         mut state: Locked<'a>,
@@ -437,7 +438,7 @@ impl<'a> Writing<'a> {
     }
 
     /// Begins to write a page out, between its writers: the image was taken under this latch, which
-    /// is let go then. The lock is opened.
+    /// is then freed. The lock is opened.
     pub(super) fn latched(
         part: &'a Part,
         mut state: Locked<'a>,
@@ -453,7 +454,7 @@ impl<'a> Writing<'a> {
         }
     }
 
-    /// Ends it where it went well.
+    /// Ends the write-out where it succeeded.
     pub(super) fn end(&mut self) -> Result<()> {
         let ticket = self.ticket.take().ok_or(Error::UnknownTicket)?;
         let page = ticket.page();

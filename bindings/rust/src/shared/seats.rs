@@ -4,30 +4,30 @@ use std::sync::{
     PoisonError, RwLock, RwLockReadGuard, RwLockWriteGuard, TryLockError, TryLockResult,
 };
 
-/// What stands beside a frame, on a cache line of its own: the latch of its page, and who has the
-/// page pinned. All who do share one pass of the pool.
+/// The part of a frame that this crate adds, on a cache line of its own: the latch of its page, and
+/// the count of its pins. All pins of a page share one pass of the pool.
 ///
-/// The first pin is made, and the last one taken back, under the part's lock. Those between need
-/// none: the page stays where it is meanwhile.
+/// The first pin is made, and the last one taken back, under the part's lock. Those in between need
+/// none: the page stays in its frame meanwhile.
 #[derive(Default)]
 #[repr(align(64))]
 pub(super) struct Seat {
     latch: RwLock<()>,
-    /// How many pins are out, and times [`JOIN`] how many of them were made with no lock since the
-    /// pool was last asked for the page.
+    /// The number of pins that are out, plus [`JOIN`] times the number of them that were made
+    /// without the lock since the pool was last asked for the page.
     users: AtomicU64,
-    /// The page, where its bytes are, and the number of its pass. They change while no pin is out.
+    /// The page, the place of its bytes, and the serial number of its pass. They change only while
+    /// no pin is out.
     page: AtomicU64,
     bytes: AtomicPtr<u8>,
     serial: AtomicU64,
 }
 
 const JOIN: u64 = 1 << 32;
-/// Of so many pins of a page that is pinned already, one asks the pool, for which it is a reference
-/// then.
+/// One in so many pins of a page that is pinned already asks the pool, for which it is a reference.
 const JOINS: u64 = 16;
 
-/// What a seat has of a page that is pinned.
+/// What a seat has of a pinned page.
 pub(super) struct Pinned {
     pub(super) bytes: *const u8,
     pub(super) serial: u64,
@@ -37,7 +37,7 @@ fn pins(users: u64) -> u64 {
     users % JOIN
 }
 
-/// A latch has no value, so one that a thread let go in a panic is as good as any.
+/// A latch has no value, so one that a thread freed in a panic is as good as any.
 fn had<T>(tried: TryLockResult<T>) -> Option<T> {
     match tried {
         Ok(latch) => Some(latch),
@@ -71,13 +71,13 @@ impl Seat {
         pins(self.users.load(Ordering::Relaxed)) != 0
     }
 
-    /// The page, while a pin is out or the part's lock is held.
+    /// Returns the page. It is valid while a pin is out or the part's lock is held.
     #[inline]
     pub(super) fn page(&self) -> u64 {
         self.page.load(Ordering::Relaxed)
     }
 
-    /// What a pin that is out needs.
+    /// Returns what a pin needs, while one is out.
     #[inline]
     pub(super) fn pinned(&self) -> Pinned {
         Pinned {
@@ -86,32 +86,32 @@ impl Seat {
         }
     }
 
-    /// Makes a pin with no lock, where one is out. The page may be another by then.
+    /// Makes a pin without the lock, if one is out. The page may be another by then.
     #[inline]
     pub(super) fn join(&self) -> bool {
         let joined = |users| {
             let may_join = pins(users) != 0 && users / JOIN < JOINS - 1;
             may_join.then_some(users + JOIN + 1)
         };
-        // What was written before the first pin is seen.
+        // This sees all that was written before the first pin.
         let update = self
             .users
             .fetch_update(Ordering::Acquire, Ordering::Relaxed, joined);
         update.is_ok()
     }
 
-    /// Takes a pin back with no lock, where it is not the last one.
+    /// Takes a pin back without the lock, if it is not the last one.
     #[inline]
     pub(super) fn leave(&self) -> bool {
         let left = |users| (pins(users) > 1).then_some(users - 1);
-        // What was done with the page comes before what happens once no pin is out.
+        // All use of the page comes before whatever happens once no pin is out.
         let update = self
             .users
             .fetch_update(Ordering::Release, Ordering::Relaxed, left);
         update.is_ok()
     }
 
-    /// Under the part's lock: makes the first pin, by a pass of the pool.
+    /// Makes the first pin, by a pass of the pool, under the part's lock.
     #[inline]
     pub(super) fn begin(&self, page: u64, pinned: &Pinned) {
         self.page.store(page, Ordering::Relaxed);
@@ -120,8 +120,8 @@ impl Seat {
         self.users.store(1, Ordering::Release);
     }
 
-    /// Under the part's lock, with a pin out: makes one more. Gives how many were made with no lock
-    /// before.
+    /// Makes one more pin under the part's lock, while one is out. It returns the number of pins
+    /// that were made without the lock before.
     pub(super) fn add(&self) -> u64 {
         let one_more = |users| Some(pins(users) + 1);
         let before = self
@@ -130,8 +130,8 @@ impl Seat {
         before.map_or(0, |users| users / JOIN)
     }
 
-    /// Under the part's lock: takes a pin back. Where it was the last, gives how many were made with
-    /// no lock before.
+    /// Takes a pin back under the part's lock. If it was the last one, it returns the number of
+    /// pins that were made without the lock before.
     #[inline]
     pub(super) fn end(&self) -> Option<u64> {
         let before = self.users.fetch_sub(1, Ordering::AcqRel);
@@ -143,21 +143,21 @@ impl Seat {
     }
 }
 
-/// The seats of a part, and which of them each page has that is in a frame.
+/// The seats of a part, and the seat of each page that is in a frame.
 pub(super) struct Seats {
     seats: Box<[Seat]>,
-    /// Of each page of the file its seat and one, or 0. It changes under the part's lock.
+    /// The seat of each page of the part plus one, or 0. It changes under the part's lock.
     of_page: Box<[AtomicU32]>,
 }
 
-/// An empty list with memory for so many.
+/// Returns an empty list with memory for so many.
 pub(super) fn list_of<T>(most: usize) -> Result<Vec<T>> {
     let mut list = Vec::new();
     let room = list.try_reserve_exact(most);
     room.map(|()| list).map_err(|_| Error::OutOfMemory)
 }
 
-/// A list of so many, each as it is by default.
+/// Returns a list of so many default values.
 pub(super) fn filled<T: Default>(count: usize) -> Result<Vec<T>> {
     let mut list = list_of(count)?;
     list.resize_with(count, T::default);
@@ -177,7 +177,7 @@ impl Seats {
         &self.seats[seat]
     }
 
-    /// The seat of a page. Where the part's lock is not held, it may be another page's by now.
+    /// Returns the seat of a page. Without the part's lock the seat may be another page's by now.
     #[inline]
     pub(super) fn of(&self, page: u64) -> Option<usize> {
         let seat = self.of_page.get(page as usize)?.load(Ordering::Relaxed);
@@ -192,7 +192,7 @@ impl Seats {
 /// The seats that no page has.
 pub(super) struct FreeSeats {
     free: Vec<u32>,
-    /// How many seats pages had at once, at most.
+    /// The most seats that pages had at the same time.
     most: usize,
     seats: usize,
 }
@@ -208,7 +208,7 @@ impl FreeSeats {
         })
     }
 
-    /// Gives a page that came into a frame a seat. There are as many as frames.
+    /// Gives a seat to a page that came into a frame. There are as many seats as frames.
     pub(super) fn give(&mut self, seats: &Seats, page: u64) -> usize {
         let seat = self.free.pop().unwrap_or_default();
         seats.set(page, seat + 1);
@@ -216,7 +216,7 @@ impl FreeSeats {
         seat as usize
     }
 
-    /// Takes the seat of a page that left its frame.
+    /// Takes back the seat of a page that left its frame.
     pub(super) fn take(&mut self, seats: &Seats, page: u64) {
         if let Some(seat) = seats.of(page) {
             seats.set(page, 0);
@@ -224,12 +224,12 @@ impl FreeSeats {
         }
     }
 
-    /// How many seats pages have.
+    /// Returns the number of seats that pages have.
     pub(super) fn taken(&self) -> usize {
         self.seats - self.free.len()
     }
 
-    /// How many seats pages had at once, at most.
+    /// Returns the most seats that pages had at the same time.
     pub(super) fn most(&self) -> usize {
         self.most
     }

@@ -9,13 +9,13 @@ use std::sync::{Arc, Condvar, Mutex, PoisonError};
 use std::thread::{self, JoinHandle};
 use std::time::Duration;
 
-/// What a [`SharedPager`] counts. While other threads use it, each part is counted at a moment of
-/// its own.
+/// The counters of a [`SharedPager`]. While other threads use it, each part is counted at a
+/// different moment.
 #[derive(Clone, Copy, Debug, Default, PartialEq, Eq)]
 pub struct Stats {
-    /// About what was counted since the pager was made. A pin of a page that was pinned already is a
-    /// hit, which may be counted only when the page is unpinned. A new page is counted as a read, and
-    /// a page that could not make way as hit.
+    /// The counts since the pager was made, approximately. A pin of a page that was pinned already
+    /// is a hit, which may be counted only when the page is unpinned. A new page is counted as a
+    /// read, and a victim that could not be written out as a hit.
     pub totals: Totals,
     /// Pages that are in frames.
     pub resident: usize,
@@ -23,30 +23,30 @@ pub struct Stats {
     pub pinned: usize,
     /// Pages that were written to since they were saved.
     pub dirty: usize,
-    /// How often a thread slept until a page was read, written out or unpinned. Waits for latches
-    /// are not counted.
+    /// The number of times that a thread slept until a page was read, written out or unpinned.
+    /// Waits for latches are not counted.
     pub waits: u64,
-    /// About how many bytes of memory the pager has: images, frames, lists. What is kept of pages
-    /// that are away comes on top.
+    /// The memory of the pager in bytes, approximately: images, frames, lists. The references that
+    /// are kept of pages in no frame come on top.
     pub memory: usize,
 }
 
-/// Bytes of memory for a frame beside its image, and for a page of the file.
+/// The bytes of memory for a frame besides its image, and for a page of the file.
 const OF_FRAME: usize = 300;
 const OF_PAGE: usize = 8;
-/// So many unsaved pages are looked at under the lock of a part at once.
+/// So many unsaved pages are looked at in one go under the lock of a part.
 const LOOKS: usize = 64;
-/// Images that a part has beside those in its frames.
+/// The buffers that a part has besides those of its frames.
 const SPARE_IMAGES: usize = 3;
 
 impl<F> SharedPager<F> {
-    /// Whether a page is in a frame.
+    /// Returns true if the page is in a frame.
     pub fn is_resident(&self, page: u64) -> bool {
         let place = self.place(page);
         place.is_ok_and(|(part, own)| part.seats.of(own).is_some())
     }
 
-    /// Counts.
+    /// Returns the counters.
     pub fn stats(&self) -> Stats {
         let mut stats = Stats::default();
         for part in &self.parts {
@@ -64,8 +64,8 @@ impl<F> SharedPager<F> {
         stats
     }
 
-    /// Forgets the references of pages that are in no frame and whose newest is older than the
-    /// retained period. Gives how many pages these are.
+    /// Forgets the references of pages that are in no frame and whose newest reference is older
+    /// than the retained period. It returns the number of these pages.
     ///
     /// # Errors
     /// None, so long as no pool answers 2^61 calls.
@@ -74,13 +74,13 @@ impl<F> SharedPager<F> {
         forgotten.sum()
     }
 
-    /// The least LSN among the writes that are in no image on the device. None where there is no
-    /// such write, or none with a log record.
+    /// Returns the least LSN among the writes that are in no image on the device. It is None where
+    /// there is no such write, or none with a log record.
     pub fn redo_from(&self) -> Option<u64> {
         self.parts.iter().filter_map(Part::redo_from).min()
     }
 
-    /// The numbers of all pages that are unsaved, in the order of the file, and the greatest LSN of
+    /// Returns the numbers of all unsaved pages, in the order of the file, and the greatest LSN of
     /// a write to them.
     fn unsaved_pages(&self) -> Result<(Vec<u64>, u64)> {
         let (mut pages, mut greatest) = (list_of(0)?, 0);
@@ -105,8 +105,8 @@ impl<F> SharedPager<F> {
 }
 
 impl<F: PageIo> SharedPager<F> {
-    /// Writes a page out where it is unsaved. It waits for a thread that writes to the page, and for
-    /// one that writes it out. What is written to the page from then on may be unsaved again.
+    /// Writes a page out if it is unsaved. It waits for a thread that writes to the page, and for
+    /// one that writes it out. The page may be unsaved again by later writes.
     ///
     /// # Errors
     /// [`PagerError::Write`] and [`PagerError::Log`] where the device or the log failed, and the
@@ -121,7 +121,7 @@ impl<F: PageIo> SharedPager<F> {
             let Some(number) = part.unsaved_seat(&state, own) else {
                 return Ok(());
             };
-            // A page goes out between the writes of its writers, and not within them.
+            // A page is written out between the writes of its writers, and not within them.
             let latch = match kept.take() {
                 Some((seat, latch)) if seat == number => latch,
                 _ => match part.seats.seat(number).try_read() {
@@ -140,7 +140,7 @@ impl<F: PageIo> SharedPager<F> {
                     return self.write_out(page, lsn, writing);
                 }
                 Err(Error::NeedLog { lsn }) => {
-                    // Nobody writes to the page meanwhile, so the log has to come no further.
+                    // Nobody writes to the page meanwhile, so the log need not get further.
                     kept = Some((number, latch));
                     self.reach_log(part, state, lsn)?
                 }
@@ -153,22 +153,24 @@ impl<F: PageIo> SharedPager<F> {
         }
     }
 
-    /// Writes out each page that was unsaved when the call began, in the order of the file, and then
-    /// has the device keep them, by [`PageIo::sync`].
+    /// Writes out each page that was unsaved when the call began, in the order of the file, and
+    /// then syncs the device, by [`PageIo::sync`].
     ///
-    /// It gives the LSN from which redo has to begin, which counts what was written meanwhile: the
-    /// least among the writes that may not be on the device. None where there is no such write. A
-    /// record that has no write yet is not known to the pager: so note the end of the log before
-    /// the call, while no thread is between a record and its write, and cut the log at the less of
-    /// both. A thread that has a page under its exclusive latch waits here for ever.
+    /// It returns the LSN from which redo must begin, which counts writes of other threads
+    /// meanwhile: the least among the writes that may not be on the device. It is None where there
+    /// is no such write. The pager does not know a record that has no write yet: so note the end of
+    /// the log before the call, while no thread is between a record and its write, and cut the log
+    /// at the lesser of both. A thread that has a page under its exclusive latch waits here for
+    /// ever.
     ///
     /// # Errors
     /// Those of [`SharedPager::flush`], after which pages before the one that failed are written
-    /// out; [`PagerError::Sync`] where the sync failed. What was written out since the last good one
-    /// may be lost then, and later checkpoints do not count it: end the pager, and redo from the log.
+    /// out; [`PagerError::Sync`] where the sync failed. Then all that was written out since the
+    /// last successful sync may be lost, and later checkpoints do not count it: end the pager, and
+    /// redo from the log.
     pub fn checkpoint(&self) -> Result<Option<u64>, PagerError> {
         let (pages, greatest) = self.unsaved_pages()?;
-        // Once for all of them.
+        // Makes the log durable once for all of them.
         self.log.reach(&self.io, greatest)?;
         pages.into_iter().try_for_each(|page| self.flush(page))?;
         // Before the sync: what goes out during it may not be kept by it.
@@ -178,25 +180,27 @@ impl<F: PageIo> SharedPager<F> {
         Ok(redo)
     }
 
-    /// Writes out pages, so many at most, so that pages which have to make way later need not be.
-    /// These are pages that nobody has pinned, whose log records are durable by what
-    /// [`mark`](SharedPager::mark) or an earlier call told. It waits for no other thread. Gives how
-    /// many went out.
+    /// Writes out at most `most` pages, so that later victims need not be written out. These are
+    /// pages that nobody has pinned, whose log records are durable by what
+    /// [`mark`](SharedPager::mark) or an earlier call told. It waits for no other thread. It
+    /// returns the number of pages that were written out.
     ///
     /// # Errors
-    /// [`PagerError::Write`] where the device failed: the page is unsaved, and the others went out.
-    /// [`PagerError::Refused`] with [`OutOfMemory`](Error::OutOfMemory). Of several the first is
-    /// given.
+    /// [`PagerError::Write`] where the device failed: the page is unsaved, and the others were
+    /// written out. [`PagerError::Refused`] with [`OutOfMemory`](Error::OutOfMemory). It returns
+    /// the first of several.
     pub fn clean(&self, most: usize) -> Result<usize, PagerError> {
         let durable = self.log.durable();
         let (mut cleaned, mut fault) = (0, Ok(()));
-        // Each call begins with another part, so that a panic is not always in the way of the same.
+        // Each call begins with another part, so that a panic does not always stop before the same
+        // parts.
         let first = self.cleaned.fetch_add(1, Ordering::Relaxed) % self.parts.len();
         let (before, after) = self.parts.split_at(first);
         for (number, part) in after.iter().chain(before).enumerate() {
             let share = (most - cleaned).div_ceil(self.parts.len() - number);
             let end = cleaned + share;
-            // Each unsaved page is looked at once, and not all of them where few may go out.
+            // Each unsaved page is looked at once, but not all of them where few may be written
+            // out.
             let unsaved = part.lock().pool.stats().unsaved;
             let mut looks = unsaved.min(share.saturating_mul(4).saturating_add(LOOKS));
             while looks > 0 && cleaned < end {
@@ -209,8 +213,8 @@ impl<F: PageIo> SharedPager<F> {
         fault.map(|()| cleaned)
     }
 
-    /// Writes out the next page of a part that may go, where nobody is in the way. Tells whether one
-    /// went out.
+    /// Writes out the next page of a part that may be, if nobody is in the way. It returns true if
+    /// one was written out.
     fn clean_next(&self, part: &Part, durable: u64, looks: &mut usize) -> Result<bool, PagerError> {
         let Some((mut state, own, seat)) = next_ready(part, durable, looks)? else {
             return Ok(false);
@@ -232,8 +236,9 @@ impl<F: PageIo> SharedPager<F> {
     }
 }
 
-/// The next page of a part that may go out, if one is found at once, and its seat. It stands behind
-/// the one that was found before: so a page whose write-out panics is not always the first.
+/// Returns the next page of a part that may be written out, if one is found at once, and its seat.
+/// The search begins after the page that was found last: so a page whose write-out panics is not
+/// always the first.
 fn next_ready<'a>(
     part: &'a Part,
     durable: u64,
@@ -241,7 +246,7 @@ fn next_ready<'a>(
 ) -> Result<Option<(Locked<'a>, u64, usize)>> {
     let locked = part.with_image(part.lock());
     if locked.is_err() {
-        // The next page would want memory too.
+        // The next page would need memory too.
         *looks = 0;
     }
     let mut state = locked?;
@@ -263,7 +268,7 @@ fn next_ready<'a>(
     Ok(None)
 }
 
-/// A thread that calls [`SharedPager::clean`] again and again. It ends when this is dropped.
+/// A thread that calls [`SharedPager::clean`] repeatedly. It ends when this is dropped.
 #[derive(Debug)]
 #[must_use = "the thread ends when this is dropped"]
 pub struct Cleaner {
@@ -279,7 +284,7 @@ struct End {
 }
 
 impl End {
-    /// Rests for a while, or until the end comes. Tells whether it has come.
+    /// Rests for a while, or until the end comes. It returns true if the end has come.
     fn rest(&self, most: Duration) -> bool {
         let has_come = self.has_come.lock().unwrap_or_else(PoisonError::into_inner);
         let rested = self
@@ -295,9 +300,9 @@ impl End {
 }
 
 impl<F: PageIo + Send + Sync + 'static> SharedPager<F> {
-    /// Starts a thread that writes out so many pages at most, rests for a while, and begins again,
+    /// Starts a thread that writes out at most `most` pages, rests for a while, and begins again,
     /// as [`clean`](SharedPager::clean) does. A page that cannot be written out stays unsaved, and
-    /// comes again: who needs its frame is told why.
+    /// is tried again: a call that needs its frame gets the fault.
     ///
     /// # Errors
     /// Where the system has no thread for it.

@@ -1,4 +1,4 @@
-//! Whether an entry is lawful after those so far.
+//! `is_lawful`: checks that a call is allowed after the entries so far, and that it has a lawful reply.
 ghost use Rattle.std.specs.Prelude.{◌≡◌, ◌+◌, ◌^◌, ◌↔◌, nat_lt, nat_le, IfOk, IsTrue};
 ghost use Rattle.bp_trail.specs.Legal as of;
 ghost use Rattle.bp_trail.specs.Clock.{clock};
@@ -8,7 +8,7 @@ use bp_page::{Image, PageNo};
 use bp_trail::{Call, Entry};
 use std::alloc::{AllocError, Global};
 
-/// The latest time.
+/// The greatest time of the clock, in ticks.
 const MAX_CLOCK: u64 = 1 << 62;
 
 impl<'a> Past<'a> {
@@ -27,7 +27,7 @@ impl<'a> Past<'a> {
         page.number() < self.setup.geometry.pages
     }
 
-    /// Whether the clock may take so many steps.
+    /// Returns true if the clock may take so many steps.
     fn in_time(&self, steps: u64) -> bool
         ensures { result ≡ nat_le (clock self.now.past + steps) (2 ^ 62) }
     {
@@ -37,7 +37,7 @@ impl<'a> Past<'a> {
         }
     }
 
-    /// Whether the client may make this call: what it names is out, and in range.
+    /// Returns true if the client may make this call: what it names is out, and in range.
     fn allowed(&self, client: u8, call: &Call) -> bool
         ensures { result ≡ of.allowed self.now.parameters self.now.past client call.now }
     {
@@ -70,7 +70,7 @@ impl<'a> Past<'a> {
         }
     }
 
-    /// Whether the entry could be made now, and has a lawful reply. It fails by want of memory alone.
+    /// Returns true if the entry could be made now, and has a lawful reply. It fails by want of memory alone.
     pub(crate) fn is_lawful(&self, alloc: Global, e: &Entry) -> Result<bool, AllocError>
         ensures { IfOk result (λ answer. IsTrue answer ↔
             of.IsLawful self.now.parameters self.now.past e.now) }

@@ -9,7 +9,7 @@ use crate::past::Past;
 use crate::spans::{burst_stamp, forgotten, last_of};
 use bp_page::PageNo;
 
-/// What decides between candidates, part by part.
+/// The key by which candidates are ordered: by K-th stamp, then last time, then page number.
 #[derive(Clone, Copy)]
 pub(super) struct Rank {
     stamp: u128,
@@ -17,7 +17,7 @@ pub(super) struct Rank {
     page: PageNo,
 }
 
-/// Whether the one page leaves before the other.
+/// Returns true if page `a` leaves before page `b`.
 fn before(a: &Rank, b: &Rank) -> bool
     ensures { result ≡ of.before (rank_of a.now) (rank_of b.now) }
 {
@@ -48,8 +48,8 @@ impl<'a> Past<'a> {
         }
     }
 
-    /// Whether a resident page may leave: it has no pins, is not being written out, and was last referenced more than
-    /// the correlated period ago.
+    /// Returns true if a resident page may leave: it has no pins, is not being written out, and was last referenced
+    /// more than the correlated period ago.
     fn candidate(&self, page: PageNo) -> bool
         requires { resident self.now.past page ≡ true }
         ensures { result ≡ of.candidate self.now.parameters self.now.past page }
@@ -59,7 +59,7 @@ impl<'a> Past<'a> {
             && self.setup.settings.correlated < self.clock.saturating_sub(self.last(page))
     }
 
-    /// The candidate that no other comes before.
+    /// Returns the candidate that comes before all others, or `None` where there is none.
     pub(super) fn victim(&self) -> Option<PageNo>
         ensures { result ≡ of.victim self.now.parameters self.now.past }
     {
@@ -80,7 +80,7 @@ impl<'a> Past<'a> {
         }
     }
 
-    /// How many pages a purge forgets.
+    /// Returns the number of pages that a purge forgets now.
     pub(super) fn forgotten(&self) -> u64
         ensures { result ≡ references.forgotten self.now.parameters self.now.past }
     {

@@ -1,4 +1,4 @@
-//! One lawful entry more.
+//! `with`: adds one lawful entry to the entries so far.
 ghost use Rattle.std.specs.Prelude.{◌≡◌, ◌∷◌, ◌<◌, ◌+◌, ℕ, true, length, reverse, vec_len, is_some, if◌then◌else◌, Some, IfOk, OnOk};
 ghost use Rattle.bp_trail.specs.Trail.{Trail};
 ghost use Rattle.bp_trail.specs.Event as event;
@@ -73,7 +73,7 @@ fn note_tickets(ended: &mut Vec<bool>, e: &Entry) -> Result<(), AllocError>
     Ok(())
 }
 
-/// Passes and tickets go back and are given, and pages leave and come, by one entry.
+/// Updates the passes and tickets that are out, and the resident pages, by one entry.
 fn pass_on(
     passes_out: &mut Grants,
     reads_out: &mut Grants,
@@ -96,7 +96,6 @@ fn pass_on(
     residents.pass_on(evicted(&e.reply), loaded(e))
 }
 
-/// 1 or 0.
 fn one_if(given: bool) -> u64
     ensures { result ≡ (if given then 1 else 0) }
 {
@@ -104,7 +103,8 @@ fn one_if(given: bool) -> u64
 }
 
 impl<'a> Past<'a> {
-    /// The entries so far with this one, which is lawful after them. `entries` are all of these in the order of time.
+    /// Adds an entry, which is lawful after those so far. `entries` has all of them with it, oldest first. It fails by
+    /// want of memory alone.
     pub(crate) fn with(self, e: &Entry, entries: &'a [Entry]) -> Result<Past<'a>, AllocError>
         requires lawful { IsLawful self.parameters self.past e.now }
         requires all { reverse entries.now ≡ e.now ∷ self.past }

@@ -16,7 +16,7 @@ impl<'a> Past<'a> {
         taken < self.setup.frames as u128
     }
 
-    /// A write-out of the page, once the log is durable as far as its writes.
+    /// The reply that begins a write-out of the page, or `NeedLog` where the log is not durable as far as its page LSN.
     fn write_out_reply(&self, alloc: Global, page: PageNo) -> Result<Reply, AllocError>
         ensures { IfOk result (λ reply. reply ≡ of.write_out_reply self.now.past page) }
     {
@@ -104,7 +104,8 @@ impl<'a> Past<'a> {
         }
     }
 
-    /// The reply to a call, but for a read that found another page. It fails by want of memory alone.
+    /// Returns the reply to a call. A read that brought no image may also be answered with `WrongPage`, which
+    /// `may_reply` allows. It fails by want of memory alone.
     fn reply_of(&self, alloc: Global, call: &Call) -> Result<Reply, AllocError>
         ensures { IfOk result (λ reply. reply ≡
             of.reply_of self.now.parameters self.now.past call.now) }
@@ -122,7 +123,7 @@ impl<'a> Past<'a> {
         }
     }
 
-    /// Whether the reply is that of `reply_of`.
+    /// Returns true if the reply is that of `reply_of`.
     fn is_reply(&self, alloc: Global, call: &Call, reply: &Reply) -> Result<bool, AllocError>
         ensures { IfOk result (λ answer. IsTrue answer ↔
             (reply.now ≡ of.reply_of self.now.parameters self.now.past call.now)) }
@@ -131,7 +132,7 @@ impl<'a> Past<'a> {
         Ok(*reply == lawful)
     }
 
-    /// Whether the call may have this reply. It fails by want of memory alone.
+    /// Returns true if the call may have this reply. It fails by want of memory alone.
     #[tactic(auto, using(crate::proofs::Replying::may_by_page))]
     pub(super) fn may_reply(
         &self,
@@ -149,7 +150,7 @@ impl<'a> Past<'a> {
     }
 }
 
-/// Whether a read that ended without an image tells that it found another page.
+/// Returns true if a read that ended without an image tells that it found another page.
 fn tells_wrong_page(call: &Call, reply: &Reply) -> bool
     ensures { result ≡ tells_wrong_page call.now reply.now }
 {

@@ -13,8 +13,8 @@ use bp_page::{Bytes, Image, Lsn, Refusal};
 use bp_trail::{Call, Grant, Reply};
 
 impl<K: Keeper> PoolCore<K> {
-    /// The image of the page of a pass, lent by the core as it is now. It copies nothing and adds no entry. None where
-    /// the pass is not out here.
+    /// Lends the image of the page of a pass as it is now. It copies nothing and adds no entry. `None` where the pass
+    /// is not out here.
     pub fn image(&self, pass: &Pass) -> Option<&Image>
         ensures known { IfSome result (λ image. KnowsPass self.now pass.now) }
         ensures held { IfSome result (λ image. EachPast self.now
@@ -29,7 +29,7 @@ impl<K: Keeper> PoolCore<K> {
         Some(&self.state.frames.frame(&slot).image)
     }
 
-    /// The bytes of that image.
+    /// Lends the bytes of the page of a pass, as `image` does.
     pub fn page(&self, pass: &Pass) -> Option<&[u8]>
         ensures known { IfSome result (λ bytes. KnowsPass self.now pass.now) }
         ensures held { IfSome result (λ bytes. EachPast self.now
@@ -43,8 +43,8 @@ impl<K: Keeper> PoolCore<K> {
         }
     }
 
-    /// Copies so many bytes of the page of a pass, from the offset on, and adds the entry of a read. Refused as `read`
-    /// is, which changes nothing; a keeper that refuses nothing takes no memory.
+    /// Copies bytes of the page of a pass, from the offset on, as many as `into` has, and adds the entry of a read.
+    /// Refused as `read` is, which changes nothing; a silent core takes no memory.
     pub fn read_into(&mut self, pass: &Pass, offset: u32, into: &mut [u8]) -> Result<(), Refusal>
         requires fits { offset + length into.old ≤ self.old.parameters.size }
         ensures outcome { ReadIntoOutcome self.old pass.now offset into.old result into.new
@@ -65,8 +65,8 @@ impl<K: Keeper> PoolCore<K> {
         Ok(())
     }
 
-    /// A copy of the image of the page of a pass, which has the page size. `TrailFull` where no entry is free, else
-    /// `UnknownPass` where the pass is not out here, else `OutOfMemory`; all three change nothing.
+    /// Returns a copy of the image of the page of a pass. `TrailFull` where no entry is free, else `UnknownPass` where
+    /// the pass is not out here, else `OutOfMemory`; all three change nothing.
     pub fn read(&mut self, pass: &Pass) -> Result<Image, Refusal>
         ensures outcome { ReadOutcome self.old pass.now result self.new }
         ensures size { IfOk result (λ image. length image ≡ self.old.parameters.size) }
@@ -83,7 +83,7 @@ impl<K: Keeper> PoolCore<K> {
         Ok(image)
     }
 
-    /// Puts bytes into the page of a pass, from the offset on, and raises the page LSN to `lsn` if that is greater.
+    /// Writes bytes into the page of a pass, from the offset on, and raises the page LSN to `lsn` if that is greater.
     /// `TrailFull`, `UnknownPass` and `OutOfMemory` as from `read`.
     pub fn write(
         &mut self,
@@ -99,8 +99,7 @@ impl<K: Keeper> PoolCore<K> {
         self.write_from(pass, offset, bytes.bytes(), lsn)
     }
 
-    /// Puts bytes into the page of a pass as `write` does, which the caller has as they are. A keeper that refuses
-    /// nothing takes no memory.
+    /// Writes as `write` does, from bytes that the caller lends. A silent core takes no memory.
     pub fn write_from(
         &mut self,
         pass: &Pass,
@@ -126,7 +125,8 @@ impl<K: Keeper> PoolCore<K> {
         Ok(())
     }
 
-    /// Gives a pass back. Where it is not out here it comes back, which is `UnknownPass`, and nothing changes.
+    /// Gives a pass back, by which its page has one pin fewer. A pass that is not out here comes back as `Err`, which
+    /// stands for `UnknownPass`, and nothing changes.
     pub fn unfix(&mut self, pass: Pass) -> Result<(), Pass>
         ensures outcome { UnfixOutcome self.old pass result self.new }
     {

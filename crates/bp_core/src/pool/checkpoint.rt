@@ -1,4 +1,4 @@
-//! What a checkpoint asks: which pages are unsaved, and from where on the log is needed.
+//! Questions of a checkpoint: which pages are unsaved, and from which LSN on the log is needed.
 ghost use Rattle.std.specs.Prelude.{◌≡◌, true, false, IfSome, IfNone};
 ghost use Rattle.bp_trail.specs.Places.{resident};
 ghost use Rattle.bp_trail.specs.Saved.{unsaved, page_lsn, first_lsn, IsRedoFrom};
@@ -12,7 +12,7 @@ use bp_keeper::Keeper;
 use bp_page::{Lsn, PageNo};
 
 impl<K: Keeper> PoolCore<K> {
-    /// Whether some write of the page has not gone out.
+    /// Returns true if the page is unsaved: some write of it has no good write-out that began after it.
     pub fn is_unsaved(&self, page: PageNo) -> bool
         ensures { EachPast self.now (λ past. result ≡ unsaved past page) }
     {
@@ -24,7 +24,7 @@ impl<K: Keeper> PoolCore<K> {
         }
     }
 
-    /// The first page from this number on that is unsaved, if there is one. It looks at one or two words of each of at
+    /// Returns the first unsaved page from this number on, if there is one. It looks at one or two words of each of at
     /// most four rows of bits, however many pages there are, and adds no entry.
     pub fn next_unsaved(&self, from: u64) -> Option<PageNo>
         ensures { EachPast self.now (λ past.
@@ -33,8 +33,8 @@ impl<K: Keeper> PoolCore<K> {
         self.state.frames.next_unsaved(from)
     }
 
-    /// From where redo has to begin: the least LSN of the writes that are not saved. None where each page is saved. It
-    /// costs O(log frames) at most, and adds no entry.
+    /// Returns the LSN from which redo has to begin: the least of all unsaved writes. `None` where each page is saved.
+    /// It costs O(log frames) at most, and adds no entry.
     pub fn redo_from(&mut self) -> Option<Lsn>
         ensures same { self.new ≡ self.old }
         ensures least { EachPast self.old (λ past. IsRedoFrom past result) }
@@ -42,7 +42,7 @@ impl<K: Keeper> PoolCore<K> {
         self.state.frames.least_unsaved()
     }
 
-    /// The least LSN of the page's writes that are not saved, which is that of the first of them where LSNs rise. None
+    /// Returns the least LSN of the page's unsaved writes, which is that of the first of them where LSNs rise. `None`
     /// where the page is saved.
     pub fn first_lsn(&self, page: PageNo) -> Option<Lsn>
         ensures { EachPast self.now (λ past. result ≡ first_lsn past page) }
@@ -55,7 +55,7 @@ impl<K: Keeper> PoolCore<K> {
         }
     }
 
-    /// The page LSN of a page that is resident. None of any other.
+    /// Returns the page LSN of a resident page, and `None` for any other.
     pub fn resident_lsn(&self, page: PageNo) -> Option<Lsn>
         ensures here { IfSome result (λ lsn. EachPast self.now
             (λ past. (resident past page ≡ true) × (lsn ≡ page_lsn past page))) }
@@ -67,8 +67,8 @@ impl<K: Keeper> PoolCore<K> {
         }
     }
 
-    /// The page LSN of the page of a pass: the greatest LSN of its writes since it was loaded, or 0. None where the pass
-    /// is not out here.
+    /// Returns the page LSN of the page of a pass: the greatest LSN of its writes since it was loaded, or 0. `None`
+    /// where the pass is not out here.
     pub fn page_lsn(&self, pass: &Pass) -> Option<Lsn>
         ensures known { IfSome result (λ lsn. KnowsPass self.now pass.now) }
         ensures lsn { IfSome result (λ lsn. EachPast self.now

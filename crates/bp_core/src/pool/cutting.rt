@@ -44,7 +44,8 @@ impl PoolCore<RecordingKeeper> {
         Ok(entries)
     }
 
-    /// Whether the entries so far lead where no entries do: they gave nothing, and left the clock and the mark.
+    /// Returns true if the entries so far have the standing of no entries: the clock is at 1, nothing is durable, and
+    /// no pass or ticket was given.
     fn is_initial(&self) -> bool
         ensures { EachPast self.now (λ past. Decides result
             (standing self.now.parameters past ≡ standing self.now.parameters [])) }
@@ -54,7 +55,7 @@ impl PoolCore<RecordingKeeper> {
                 && (self.state.passes_given == 0 && self.state.tickets_given == 0))
     }
 
-    /// Whether the trail opens where no entries lead.
+    /// Returns true if the trail since the last cut opens at the standing of no entries, as that of a new core does.
     pub fn fresh(&self) -> bool
         ensures { Decides result (opening self.now ≡ standing self.now.parameters []) }
     {

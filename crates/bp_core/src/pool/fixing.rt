@@ -1,4 +1,4 @@
-//! Fixing a page.
+//! `fix`: pins a page that is resident, or begins what brings it into a frame.
 ghost use Rattle.std.specs.Prelude.{◌≡◌, ◌<◌, false};
 ghost use Rattle.bp_trail.specs.Places.{loading, resident};
 ghost use Rattle.bp_trail.specs.Victim.{victim};
@@ -80,7 +80,7 @@ impl<K: Keeper> PoolCore<K> {
         Ok(Fix::WriteFirst(ticket))
     }
 
-    /// The page that leaves its frame first.
+    /// Returns the victim at this time, or `None` where no page may leave.
     fn victim(&mut self) -> Option<PageNo>
         ensures same { self.new ≡ self.old }
         ensures chosen { EachPast self.old (λ past. result ≡ victim self.old.parameters past) }

@@ -1,4 +1,4 @@
-//! Bringing a page into a frame.
+//! Tickets to read a page into a frame, and the ends of reads.
 ghost use Rattle.std.specs.Prelude.{◌≡◌, ℕ, ◌+◌, ◌^◌, ◌<◌, ◌≤◌, true, false, Some, None, Ok, Err, IsSome};
 ghost use Rattle.std.specs.Prelude.{length, IfOk, OnOk, OnErr, ◌≢◌};
 ghost use Rattle.bp_replacer.specs.Histories.{is_held, place_of, SameStampsAt, SameAt};
@@ -92,9 +92,9 @@ impl<K: Keeper> PoolCore<K> {
     }
 
     /// Ends a read. Where it went well the page is resident, with the pass that comes back. Where it found another
-    /// page, which is `WrongPage`, or failed otherwise, which is `ReadFailed`, its frame is free and nothing of the
-    /// page is remembered. A ticket that is not out here comes back with the result, which is `Unknown`, and nothing
-    /// changes. It takes no memory.
+    /// page, which is `WrongPage`, or failed otherwise, which is `ReadFailed`, its frame is free again and the page has
+    /// no reference more than before. A ticket that is not out here comes back with the result, which is `Unknown`, and
+    /// nothing changes. It takes no memory.
     pub fn read_end(
         &mut self,
         ticket: ReadTicket,
@@ -121,9 +121,9 @@ impl<K: Keeper> PoolCore<K> {
         }
     }
 
-    /// Ends a read as `read_end` does, by what its ticket was given as. A silent core keeps the image itself, and what
-    /// the page's frame had before goes to `left`: a caller that holds a lock frees that memory, or uses it again, when
-    /// it likes. Its bytes mean nothing.
+    /// Ends a read as `read_end` does, by the grant of its ticket. A silent core keeps the image itself, and what the
+    /// page's frame had before goes to `left`: a caller that holds a lock frees that memory, or uses it again, when it
+    /// likes. Its bytes mean nothing.
     pub fn read_end_by(
         &mut self,
         ticket: Grant,
@@ -139,7 +139,7 @@ impl<K: Keeper> PoolCore<K> {
         }
     }
 
-    /// A read went well: its page is resident, with one pass out, where its ticket was.
+    /// Ends a read that went well, if its ticket is out: the page is resident, with one pass out.
     fn end_load(
         &mut self,
         ticket: Grant,
@@ -168,7 +168,7 @@ impl<K: Keeper> PoolCore<K> {
         Ok(pass)
     }
 
-    /// A read failed: nothing is remembered of it, where its ticket was out.
+    /// Ends a read that failed, if its ticket is out: the frame is free again, and no reference is added.
     fn fail_load(
         &mut self,
         ticket: Grant,
@@ -195,8 +195,8 @@ impl<K: Keeper> PoolCore<K> {
     }
 }
 
-/// Takes the memory that a page's read will need, but for its frame: room for its ticket, for its pass beside those
-/// of the reads that are out, and its history's block. Where that is refused no page is held more than before.
+/// Takes the memory that a page's read will need, except its frame: room for its ticket, for its pass beside those of
+/// the reads that are out, and its history's block. Where that is refused no page is held more than before.
 #[tactic(auto, unfolding(bp_replacer::specs::Histories::KeepsPlaces))]
 fn reserve_for_read(
     passes: &mut GrantList,

@@ -1,4 +1,4 @@
-//! What a call asks of the core before it changes anything, and an entry that changes nothing else.
+//! Look-ups that calls make before they change anything, and an entry that changes nothing else.
 ghost use Rattle.std.specs.Prelude.{◌≡◌, ◌<◌, true, false, IfSome, IfNone};
 ghost use Rattle.bp_trail.specs.Places.{loading, resident};
 ghost use Rattle.bp_trail.specs.Legal.{allowed, is_out};
@@ -15,7 +15,8 @@ use bp_page::PageNo;
 use bp_trail::{Call, Grant, Reply};
 
 impl<K: Keeper> PoolCore<K> {
-    /// The room that no entry has taken, nor any pass or ticket for the entries that will end it.
+    /// Returns the number of free entries: the room, less the entries so far, and less those that will end the passes
+    /// and tickets that are out.
     pub fn free(&self) -> usize
         ensures { EachPast self.now (λ past. result ≡ room_after self.now past) }
     {
@@ -23,8 +24,8 @@ impl<K: Keeper> PoolCore<K> {
         self.config.room - (self.trail.len() + owed)
     }
 
-    /// Whether a read of a page that has no frame is out. The histories hold resident pages and those that are being
-    /// read.
+    /// Returns true if a read of a page that has no frame is out. The histories hold resident pages and those that are
+    /// being read.
     pub(super) fn is_loading(&self, page: PageNo) -> bool
         requires away { EachPast self.now (λ past. resident past page ≡ false) }
         ensures { EachPast self.now (λ past. result ≡ loading past page) }
@@ -32,14 +33,14 @@ impl<K: Keeper> PoolCore<K> {
         self.state.histories.holds(page)
     }
 
-    /// Whether the pass is out here.
+    /// Returns true if the pass is out here.
     pub fn knows(&self, pass: &Pass) -> bool
         ensures { EachPast self.now (λ past. result ≡ pass_is_out pass.now past) }
     {
         self.state.passes.has(pass.client, pass.page, pass.serial)
     }
 
-    /// Whether a ticket to read, named by what it was given as, is out here.
+    /// Returns true if the read ticket with this grant is out here.
     pub fn knows_read(&self, ticket: Grant) -> bool
         ensures { EachPast self.now (λ past. result ≡ is_out ticket (reads_out past)) }
     {
@@ -48,7 +49,7 @@ impl<K: Keeper> PoolCore<K> {
             .has(ticket.client, ticket.page, ticket.serial)
     }
 
-    /// The frame of a resident page.
+    /// Returns the frame of a page, or `None` where it is not resident.
     pub(super) fn frame(&self, page: PageNo) -> Option<&Frame>
         ensures found { IfSome result (λ f. EachPast self.now
             (λ past. f.now ≡ frame_of past page f.now.block)) }

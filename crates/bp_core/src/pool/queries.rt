@@ -1,4 +1,4 @@
-//! What a core tells.
+//! The questions that change nothing: parameters, clock, histories, counts and trail of a core.
 ghost use Rattle.std.specs.Prelude.{◌≡◌, ◌++◌, reverse, ◌≤◌, length};
 ghost use Rattle.bp_trail.specs.Clock.{clock, durable};
 ghost use Rattle.bp_trail.specs.Places.{resident};
@@ -30,7 +30,6 @@ impl<K: Keeper> PoolCore<K> {
         let _ = &self.state;
     }
 
-    /// The file's pages and their size.
     pub fn geometry(&self) -> Geometry
         ensures pages { result.pages ≡ self.now.parameters.pages }
         ensures size { result.size ≡ self.now.parameters.size }
@@ -38,7 +37,6 @@ impl<K: Keeper> PoolCore<K> {
         self.config.geometry
     }
 
-    /// How many stamps a page has, and the two periods.
     pub fn settings(&self) -> Settings
         ensures k { result.k ≡ self.now.parameters.k }
         ensures correlated { result.correlated ≡ self.now.parameters.correlated }
@@ -47,63 +45,61 @@ impl<K: Keeper> PoolCore<K> {
         self.config.settings
     }
 
-    /// How many frames there are.
     pub fn frames(&self) -> usize
         ensures { result ≡ self.now.parameters.frames }
     {
         self.config.frames
     }
 
-    /// How many clients there are.
     pub fn clients(&self) -> u8
         ensures { result ≡ self.now.parameters.clients }
     {
         self.config.clients
     }
 
-    /// How many entries the trail may have.
+    /// Returns the number of entries that the trail may have between two cuts.
     pub fn room(&self) -> usize
         ensures { result ≡ self.now.parameters.room }
     {
         self.config.room
     }
 
-    /// The time: 1 and all ticks since.
+    /// Returns the time in ticks: 1 and all ticks since.
     pub fn clock(&self) -> u64
         ensures { EachPast self.now (λ past. result ≡ clock past) }
     {
         self.state.clock
     }
 
-    /// The greatest LSN marked, else 0.
+    /// Returns the greatest LSN marked, else 0.
     pub fn durable(&self) -> Lsn
         ensures { EachPast self.now (λ past. result ≡ durable past) }
     {
         self.state.durable
     }
 
-    /// The time of the page's newest reference, or 0.
+    /// Returns LAST, the time of the page's newest reference, or 0 where it has none.
     pub fn last(&self, page: PageNo) -> u64
         ensures { EachPast self.now (λ past. result ≡ last self.now.parameters past page) }
     {
         self.state.histories.last(page)
     }
 
-    /// The page's i-th stamp, newest first and from 1, or 0.
+    /// Returns HIST(i), the page's i-th stamp, from 1 for the newest to K, or 0 where it has none.
     pub fn stamp(&self, page: PageNo, i: usize) -> u64
         ensures { EachPast self.now (λ past. result ≡ hist self.now.parameters past page i) }
     {
         self.state.histories.stamp(page, i)
     }
 
-    /// Whether the page is in a frame.
+    /// Returns true if the page is in a frame.
     pub fn is_resident(&self, page: PageNo) -> bool
         ensures { EachPast self.now (λ past. result ≡ resident past page) }
     {
         self.frame(page).is_some()
     }
 
-    /// What it counts. It costs the same however many pages there are.
+    /// Returns the counts of replies and pages, in O(1).
     pub fn stats(&self) -> Stats
         ensures { EachPast self.now (λ past. AreCounts past result) }
     {
@@ -119,7 +115,7 @@ impl<K: Keeper> PoolCore<K> {
 }
 
 impl PoolCore<RecordingKeeper> {
-    /// The entries since the last cut, the oldest first, or all where no cut was made.
+    /// Returns the entries since the last cut, the oldest first, or all where no cut was made.
     pub fn trail(&self) -> &[Entry]
         ensures entries { reverse result.now ++ self.now.before ≡ self.now.past }
         ensures room { length result.now ≤ self.now.parameters.room }
@@ -136,7 +132,7 @@ impl PoolCore<RecordingKeeper> {
         self.trail.entries()
     }
 
-    /// Ends the core and gives its trail, the oldest entry first. It takes no memory.
+    /// Ends the core and returns its entries since the last cut, the oldest first. It takes no memory.
     pub fn into_trail(self) -> Vec<Entry>
         ensures entries { reverse result.items ++ self.before ≡ self.past }
     {

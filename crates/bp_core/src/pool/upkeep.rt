@@ -8,12 +8,12 @@ use bp_keeper::Keeper;
 use bp_page::{Lsn, Refusal};
 use bp_trail::{Call, Reply};
 
-/// The last time.
+/// The greatest time of the clock, in ticks.
 const CLOCK_END: u64 = 1 << 62;
 
 impl<K: Keeper> PoolCore<K> {
-    /// Moves the clock on. `TrailFull` where no entry is free, else `ClockFull` where the clock would pass 2^62; both
-    /// change nothing.
+    /// Moves the clock on by `n` ticks. `TrailFull` where no entry is free, else `ClockFull` where the clock would pass
+    /// 2^62; both change nothing.
     pub fn tick(&mut self, client: u8, n: u64) -> Result<(), Refusal>
         requires client_in { client < self.old.parameters.clients }
         ensures outcome { TickOutcome self.old client n result self.new }
@@ -43,8 +43,8 @@ impl<K: Keeper> PoolCore<K> {
         Ok(())
     }
 
-    /// Forgets the pages that are neither resident nor loading and whose newest reference is older than the retained
-    /// period, and counts them (figure 2.1's retained information). `TrailFull` where no entry is free, which changes
+    /// Forgets the references of the pages that are neither resident nor loading and were last referenced more than the
+    /// retained period ago. Returns the number of these pages. `TrailFull` where no entry is free, which changes
     /// nothing.
     pub fn purge(&mut self, client: u8) -> Result<u64, Refusal>
         requires client_in { client < self.old.parameters.clients }

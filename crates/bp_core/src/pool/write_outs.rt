@@ -1,4 +1,4 @@
-//! Writing pages out.
+//! `flush`, the begin of a write-out, and its end.
 ghost use Rattle.std.specs.Prelude.{◌≡◌, ◌<◌, true, false, Ok, Err};
 ghost use Rattle.bp_trail.specs.declared.entries.Reply.TheVariants.{WriteFirst};
 ghost use Rattle.bp_trail.specs.Event.{grant};
@@ -130,8 +130,8 @@ impl<K: Keeper> PoolCore<K> {
         }
     }
 
-    /// Ends a write-out as `write_end` does, by what its ticket was given as: for a caller that keeps no
-    /// tickets, or that holds a lock, and frees the ticket's image later.
+    /// Ends a write-out as `write_end` does, by the grant of its ticket: for a caller that keeps no tickets, or that
+    /// holds a lock, and frees the ticket's image later.
     pub fn write_end_by(
         &mut self,
         ticket: Grant,
@@ -145,7 +145,7 @@ impl<K: Keeper> PoolCore<K> {
         }
     }
 
-    /// A write-out went well: what was written before it began is saved, where its ticket was out.
+    /// Ends a write-out that went well, if its ticket is out: what was written before it began is saved.
     fn end_write_out(
         &mut self,
         ticket: Grant,
@@ -177,7 +177,7 @@ impl<K: Keeper> PoolCore<K> {
         Ok(Ended::Cleaned)
     }
 
-    /// A write-out failed: the page stays as unsaved as it is.
+    /// Ends a write-out that failed, if its ticket is out: the page stays as unsaved as it is.
     fn fail_write_out(
         &mut self,
         ticket: Grant,

@@ -1,4 +1,4 @@
-//! One event of the core, which the list gets too.
+//! The calls that make one event of the core, which the list gets too.
 ghost use Rattle.std.specs.Prelude.{◌≡◌, ◌≢◌, ◌≤◌, ◌<◌, ◌+◌, ◌∷◌, true, false, length, OnOk, IfOk};
 ghost use Rattle.bp_mark.specs.Marks.{ReaderValue};
 ghost use Rattle.bp_trail.specs.declared.entries.Call.TheVariants as Call;
@@ -152,8 +152,8 @@ impl<K: ListKeeper> Book<K> {
         Ok(())
     }
 
-    /// Forgets old references, and counts their pages: the trail and the list get the purge with its count. `TrailFull`
-    /// adds no entry.
+    /// Forgets old references, and returns the number of their pages: the trail and the list get the purge with its
+    /// count. `TrailFull` adds no entry.
     #[tactic(auto, using(crate::proofs::Asking::purge_refused))]
     pub fn ask_purge(&mut self, core: &mut PoolCore<K>) -> Result<u64, Refusal>
         requires client_in { self.old.client < core.old.parameters.clients }
@@ -193,9 +193,9 @@ impl<K: ListKeeper> Book<K> {
         Ok(image)
     }
 
-    /// Copies so many bytes of the page of a pass of the client's, from the offset on. The trail and the list get the
-    /// read, each with an image of its own, where they are kept. `TrailFull`, `UnknownPass` and `OutOfMemory` add no
-    /// entry, and leave the bytes that were there.
+    /// Copies bytes of the page of a pass of the client's, from the offset on, as many as `into` has. The trail and the
+    /// list get the read, each with an image of its own, where they are kept. `TrailFull`, `UnknownPass` and
+    /// `OutOfMemory` add no entry, and leave the bytes that were there.
     #[tactic(auto, using(crate::proofs::Asking::read_refused))]
     pub fn ask_read_into(
         &mut self,

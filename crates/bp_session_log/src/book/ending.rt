@@ -126,8 +126,8 @@ impl<K: ListKeeper> Book<K> {
         }
     }
 
-    /// Ends a write-out that the list's newest entry began. The trail and the list get the end, and the answer tells
-    /// whether the page is clean now. It takes no memory for the list.
+    /// Ends a write-out that the list's newest entry began. The trail and the list get the end, and the result says
+    /// whether the page is saved now. It takes no memory for the list.
     ///
     /// Where the write failed, this is `WriteFailed`, the reply of the entry. A ticket that the core does not know is
     /// forfeited, which is `UnknownTicket`, and nothing else changes.

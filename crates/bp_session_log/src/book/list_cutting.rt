@@ -1,4 +1,4 @@
-//! What only a list in memory can hand out.
+//! The entries of a list in memory, lent or handed out.
 ghost use Rattle.std.specs.Prelude.{◌≡◌, ◌≤◌, ◌+◌, ◌++◌, IsOk, IfOk, OnOk, OnErr, reverse, vec_len, vec_capacity};
 ghost use Rattle.bp_page.specs.declared.refusals.Refusal.TheVariants as Refusal;
 ghost use Rattle.bp_session_log.specs.Books.{owed};
@@ -9,23 +9,22 @@ use bp_keeper::RecordingKeeper;
 use bp_page::Refusal;
 
 impl Book<RecordingKeeper> {
-    /// What cuts left of the list, the oldest entry first.
+    /// Lends the entries since the last cut, the oldest first.
     pub fn said(&self) -> &[Entry]
         ensures { reverse result.now ++ self.now.before ≡ self.now.said }
     {
         self.said.entries()
     }
 
-    /// Gives what cuts left of the list, the oldest entry first, and drops the rest. It takes no memory.
+    /// Ends the book and returns the entries since the last cut, the oldest first. It takes no memory.
     pub fn into_said(self) -> Vec<Entry>
         ensures { reverse result.items ++ self.before ≡ self.said }
     {
         self.said.into_entries()
     }
 
-    /// Hands out what earlier cuts left of the list, the oldest entry first, and goes on in the spare's memory with
-    /// room for all that is owed; what the spare has is dropped. All that is said of the list goes on over the whole of
-    /// it.
+    /// Hands out the entries since the last cut, the oldest first, and goes on in the spare's memory with room for all
+    /// that is owed; what the spare has is dropped. The contracts of other calls go on over the whole list.
     ///
     /// The list handed out has all the memory that it had, and no room of the spare is lost. Where the memory for what
     /// is owed is refused, which is `OutOfMemory`, nothing changes. It is not refused where the spare has that room.

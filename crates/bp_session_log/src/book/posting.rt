@@ -13,7 +13,7 @@ use bp_core::{Call, Pass, PassNote, Reply};
 use bp_keeper::ListKeeper;
 
 impl<K: ListKeeper> Book<K> {
-    /// Whether the list gave this pass and did not give it back.
+    /// Returns true if the list gave this pass and did not give it back.
     pub fn holds(&self, pass: &Pass) -> bool
         ensures { result ≡ pass_is_out pass.now self.now.said }
     {

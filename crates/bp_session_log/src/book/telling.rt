@@ -12,7 +12,7 @@ use bp_keeper::ListKeeper;
 use bp_page::{Image, Lsn, PageNo, Refusal};
 use bp_trail::Grant;
 
-/// The reply that a refusal is, if there is an entry with it.
+/// The reply in the entry of a refusal, or `None` where the refusal adds no entry.
 fn reply_of(refusal: &Refusal) -> Option<Reply>
     ensures reply { result ≡ refusal_reply refusal.now }
     ensures plain { IfSome result (λ reply. plain_reply reply ≡ true) }

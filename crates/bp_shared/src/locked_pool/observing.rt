@@ -1,4 +1,4 @@
-//! What the core tells under the lock, of its trail as that is then.
+//! Questions to the core under the lock, which it answers of its trail as that is then.
 ghost use Rattle.std.specs.Prelude.{◌≡◌, ◌+◌, ◌^◌, ◌<◌, IfSome};
 ghost use Rattle.bp_trail.specs.Saved.{IsRedoFrom};
 ghost use Rattle.bp_core.specs.Counts.{AreCounts};
@@ -27,7 +27,7 @@ impl<N: PoolName, K: ListKeeper> LockedPool<N, K> {
         self.core.keeps_the_rules();
     }
 
-    /// The first page from this number on that is unsaved.
+    /// Returns the first unsaved page from this number on.
     pub(crate) fn next_unsaved(&mut self, session: &mut Session<N, K>, from: u64) -> Option<PageNo>
         ensures sees { Sees N.parameters N.past session.old session.new }
         ensures core { self.new ≡ self.old }
@@ -44,7 +44,7 @@ impl<N: PoolName, K: ListKeeper> LockedPool<N, K> {
         found
     }
 
-    /// From where redo has to begin.
+    /// Returns the LSN from which redo has to begin.
     pub(crate) fn redo_from(&mut self, session: &mut Session<N, K>) -> Option<Lsn>
         ensures sees { Sees N.parameters N.past session.old session.new }
         ensures core { self.new ≡ self.old }
@@ -55,7 +55,7 @@ impl<N: PoolName, K: ListKeeper> LockedPool<N, K> {
         self.core.redo_from()
     }
 
-    /// What the core counts.
+    /// Returns the core's counts of replies and pages.
     pub(crate) fn stats(&mut self, session: &mut Session<N, K>) -> Stats
         ensures sees { Sees N.parameters N.past session.old session.new }
         ensures core { self.new ≡ self.old }

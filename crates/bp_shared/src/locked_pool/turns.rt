@@ -1,6 +1,6 @@
 //! The events of a session, each in a critical section whose rings are drained. The session's list gets the event too;
-//! a fix and a flush first look at the mark once. What the list then tells goes to the session's line of the board.
-//! None takes memory for the list: what an event wants there is taken before the lock.
+//! a fix and a flush first look at the mark once. The list is then written on the session's line of the board. None
+//! takes memory for the list: what an event wants there is taken before the lock.
 ghost use Rattle.std.specs.Prelude.{◌≡◌, ◌≢◌, ◌+◌, ◌<◌, ◌≤◌, false, length, IfOk};
 ghost use Rattle.bp_session_log.specs.Books.{OwesRead, OwesWrite};
 ghost use Rattle.bp_session_log.specs.Turns.{FixTurn, FlushTurn, EndReadOutcome, EndWriteOutcome};
@@ -19,7 +19,7 @@ use bp_mark::Mark;
 use bp_page::{Image, Lsn, PageNo, PortFault, Refusal};
 use bp_session_log::{Book, Fix, Flush, PendingRead, PendingWrite};
 
-/// How often device work ended, after an end that may have been that of an unknown ticket.
+/// The number of ends of device work after one more end, which does not count where its ticket was unknown.
 fn ends_after<T>(ends: u64, ended: &Result<T, Refusal>) -> u64
     ensures { result ≡ ends_after ended.now ends }
 {
@@ -139,7 +139,6 @@ impl<N: PoolName, K: ListKeeper> LockedPool<N, K> {
         ended
     }
 
-    /// Moves the clock.
     pub(crate) fn tick(&mut self, session: &mut Session<N, K>, n: u64) -> Result<(), Refusal>
         requires drained { IsDrained self.old }
         requires room { 0 < session.old.room }
@@ -159,7 +158,7 @@ impl<N: PoolName, K: ListKeeper> LockedPool<N, K> {
         answer
     }
 
-    /// Forgets old references, and counts their pages.
+    /// Forgets old references, and returns the number of their pages.
     pub(crate) fn purge(&mut self, session: &mut Session<N, K>) -> Result<u64, Refusal>
         requires drained { IsDrained self.old }
         requires room { 0 < session.old.room }

@@ -1,7 +1,7 @@
-//! What a checkpoint asks, and what a pool counts. Each call takes the lock once, drains the rings, and adds no entry of
-//! its own. What it answers is so of the trail as the session then saw it. That is a legal list which has all that the
-//! client told so far, and no more of it, and which goes on from what the session saw before. When the session ends, the
-//! pool's trail is seen to go on from it. That it is the trail of that moment, and no older part, is known under the lock.
+//! Questions of a checkpoint, and a pool's counts. Each call takes the lock once, drains the rings, and adds no entry
+//! of its own. Its answer holds of the trail as the session then saw it: a legal list which has exactly the client's
+//! entries so far, unfixes aside, and goes on from what the session saw before. When the session ends, the pool's trail
+//! goes on from it. That it is the trail of that moment, and no older part, is proved only under the lock.
 ghost use Rattle.std.specs.Prelude.{◌≡◌, ◌+◌, ◌^◌, ◌<◌, IfSome};
 ghost use Rattle.bp_trail.specs.Saved.{IsRedoFrom};
 ghost use Rattle.bp_core.specs.Counts.{AreCounts};
@@ -17,8 +17,8 @@ use bp_page::{Lsn, PageNo};
 use std::sync::Wait;
 
 impl<N: PoolName, K: ListKeeper> SharedPool<N, K> {
-    /// The first page from this number on that is unsaved, if there is one. It costs O(log pages) at most. Other clients
-    /// may write the page, or another, before the call returns.
+    /// Returns the first unsaved page from this number on, if there is one. It costs O(log pages) at most. Other
+    /// clients may write the page, or another, before the call returns.
     pub fn next_unsaved<R: Wait>(
         &self,
         rt: &R,
@@ -33,8 +33,8 @@ impl<N: PoolName, K: ListKeeper> SharedPool<N, K> {
         state.next_unsaved(session, from)
     }
 
-    /// From where redo has to begin: the least LSN of the writes that are not saved. None where each page is saved. It
-    /// costs O(log frames) at most.
+    /// Returns the LSN from which redo has to begin: the least of all unsaved writes. `None` where each page is saved.
+    /// It costs O(log frames) at most.
     ///
     /// A page is saved once it was written out, which a sync makes durable: so ask first, sync then, and note the LSN
     /// last. A record that is in the log but not yet in its page is not seen: where another thread may be between the
@@ -47,7 +47,7 @@ impl<N: PoolName, K: ListKeeper> SharedPool<N, K> {
         state.redo_from(session)
     }
 
-    /// What the pool counts. It costs the same however many pages there are.
+    /// Returns the counts of replies and pages. It costs the same however many pages there are.
     pub fn stats<R: Wait>(&self, rt: &R, session: &mut Session<N, K>) -> Stats
         ensures sees { Sees N.parameters N.past session.old session.new }
         ensures counts { AreCounts session.new.seen result }

@@ -75,7 +75,7 @@ impl<N: PoolName, K: ListKeeper> SharedPool<N, K> {
 
     /// Takes the memory for one more event, and asks for a page in one critical section. Where another client has the
     /// page in flight, which is `Busy`, some device work has ended at the return. `OutOfMemory` comes before the lock
-    /// is taken.
+    /// is taken, or from the core under it.
     fn ask_fix<R: Wait>(
         &self,
         rt: &R,
@@ -100,7 +100,7 @@ impl<N: PoolName, K: ListKeeper> SharedPool<N, K> {
     /// first, through the port and with no lock held; where another client has the page in flight, the call waits for
     /// the end of some device work and asks again. Before each fix of the core it looks at the mark once. The device
     /// does the work of the entries that the list gets, and nothing else: each read is of the page, each write of the
-    /// victim's, with its image. This is not said where the call answers `UnknownTicket`.
+    /// victim's, with its image. Nothing is promised of the device where the call answers `UnknownTicket`.
     ///
     /// The session's list gets the events as the trail does. `NoVictim`, `NeedLog`, `ReadFailed`, `WrongPage` and
     /// `WriteFailed` are the reply of the last one. `TrailFull` and `OutOfMemory` make no event, and those made before
@@ -126,12 +126,12 @@ impl<N: PoolName, K: ListKeeper> SharedPool<N, K> {
         self.fix_from(rt, session, port, &FromPort, page)
     }
 
-    /// Fixes a page that is new, as `fix` does, but where it is away its image is zeros, and the port is not asked to
-    /// read it: no read is made. So it is for a page that was never written, or whose bytes on the device are to be
-    /// lost, which nobody but the caller knows. A page that is in a frame keeps its bytes. The zeros are not unsaved:
-    /// they reach the device only with a write of the page.
+    /// Fixes a page that is new, as `fix` does, except that where it is away its image is zeros, and the port is not
+    /// asked to read it: no read is made. So it is for a page that was never written, or whose bytes on the device are
+    /// to be lost, which nobody but the caller knows. A page that is in a frame keeps its bytes. The zeros are not
+    /// unsaved: they reach the device only with a write of the page.
     ///
-    /// Refused as `fix` is, but never with `WrongPage`; with `ReadFailed` where the memory for the image can't be had.
+    /// Refused as `fix` is, but never with `WrongPage`; with `ReadFailed` where there is no memory for the image.
     pub fn fix_new<P: Port, R: Wait>(
         &self,
         rt: &R,

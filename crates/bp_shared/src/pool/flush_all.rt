@@ -1,4 +1,4 @@
-//! A flush of each unsaved page of a shared pool.
+//! `flush_all`: writes out each unsaved page of a shared pool.
 ghost use Rattle.std.specs.Prelude.{◌≡◌};
 ghost use Rattle.bp_page.specs.declared.refusals.Refusal.TheVariants as Refusal;
 
@@ -21,7 +21,7 @@ impl<N: PoolName, K: ListKeeper> SharedPool<N, K> {
     /// again.
     ///
     /// It ends at the first page whose flush is refused, and names it; those before it were flushed. `NeedLog` says how
-    /// far the log has to be durable. A later call begins anew, at the first page: so where pages are written all the
+    /// far the log has to be durable. A later call begins again at the first page: so where pages are written all the
     /// time, make the log durable far enough before it, and write no page under a later record until it returns.
     pub fn flush_all<P: Port, R: Wait>(
         &self,

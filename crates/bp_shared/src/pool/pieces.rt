@@ -1,4 +1,4 @@
-//! Handing out the trail, where it is in memory.
+//! `cut`: hands out the trail, where it is in memory.
 use super::SharedPool;
 use crate::names::PoolName;
 use crate::taker::Taker;
@@ -17,8 +17,8 @@ impl<N: PoolName> SharedPool<N, RecordingKeeper> {
     /// are drained before. Nothing else changes: frames, passes and tickets that are out, the clock, histories. It may
     /// be called at any time.
     ///
-    /// `ClockFull` where more than 2^62 passes or tickets were given; `OutOfMemory` where the room of a trail can't be
-    /// reserved anew, which is done before the lock is taken. Both hand out nothing.
+    /// `ClockFull` where more than 2^62 passes or tickets were given; `OutOfMemory` where there is no memory for the
+    /// room of a trail, which is taken before the lock. Both hand out nothing.
     pub fn cut<R: Wait>(&self, rt: &R, taker: &mut Taker<N>) -> Result<Vec<Entry>, Refusal>
         ensures next { IfOk result (λ entries.
             ComesNext N.parameters taker.old entries.items taker.new) }

@@ -1,4 +1,4 @@
-//! The calls of one event.
+//! The calls that make one event: `tick`, `purge`, and reads and writes by a pass.
 ghost use Rattle.std.specs.Prelude.{◌≡◌};
 
 use super::SharedPool;
@@ -14,8 +14,8 @@ impl<N: PoolName, K: ListKeeper> SharedPool<N, K> {
     ghost use Rattle.bp_session_log.specs.Turns.{TickSaid, PurgeSaid, ReadSaid, ReadIntoSaid, WriteSaid};
     ghost use Rattle.bp_shared.specs.Sessions.{IsRoomy};
 
-    /// Moves the clock on. `OutOfMemory`, `TrailFull` and `ClockFull` change nothing. A silent session answers
-    /// `OutOfMemory` only where what it keeps for itself has to grow.
+    /// Moves the clock on by `n` ticks. `OutOfMemory`, `TrailFull` and `ClockFull` change nothing. A silent session
+    /// answers `OutOfMemory` only where what it keeps for itself has to grow.
     pub fn tick<R: Wait>(&self, rt: &R, session: &mut Session<N, K>, n: u64) -> Result<(), Refusal>
         ensures client { session.new.client ≡ session.old.client }
         ensures before { session.new.before ≡ session.old.before }
@@ -30,8 +30,8 @@ impl<N: PoolName, K: ListKeeper> SharedPool<N, K> {
         state.tick(session, n)
     }
 
-    /// Forgets old references, and counts their pages. `OutOfMemory` and `TrailFull` change nothing. A silent session
-    /// answers `OutOfMemory` as from `tick`.
+    /// Forgets old references, and returns the number of their pages. `OutOfMemory` and `TrailFull` change nothing. A
+    /// silent session answers `OutOfMemory` as from `tick`.
     pub fn purge<R: Wait>(&self, rt: &R, session: &mut Session<N, K>) -> Result<u64, Refusal>
         ensures client { session.new.client ≡ session.old.client }
         ensures before { session.new.before ≡ session.old.before }
@@ -46,9 +46,9 @@ impl<N: PoolName, K: ListKeeper> SharedPool<N, K> {
         state.purge(session)
     }
 
-    /// A copy of the image of a pass's page, which has the page size. `UnknownPass`, before all else, where the pass is
-    /// another client's, and where the pool does not know it; `OutOfMemory`, which may come before the pool is asked,
-    /// and `TrailFull`. All change nothing.
+    /// Returns a copy of the image of a pass's page. `UnknownPass`, before all else, where the pass is another
+    /// client's, and where the pool does not know it; `OutOfMemory`, which may come before the pool is asked, and
+    /// `TrailFull`. All change nothing.
     pub fn read<R: Wait>(
         &self,
         rt: &R,
@@ -72,9 +72,9 @@ impl<N: PoolName, K: ListKeeper> SharedPool<N, K> {
         state.read(session, pass)
     }
 
-    /// Copies so many bytes of a pass's page, from the offset on. Refused as `read` is, which leaves the bytes that were
-    /// there. A silent pool copies them alone while it holds its lock, and takes no memory there: it answers
-    /// `OutOfMemory` only where what the session keeps for itself has to grow.
+    /// Copies bytes of a pass's page, from the offset on, as many as `into` has. Refused as `read` is, which leaves the
+    /// bytes that were there. A silent pool copies them alone while it holds its lock, and takes no memory there: it
+    /// answers `OutOfMemory` only where what the session keeps for itself has to grow.
     pub fn read_into<R: Wait>(
         &self,
         rt: &R,
@@ -102,8 +102,8 @@ impl<N: PoolName, K: ListKeeper> SharedPool<N, K> {
         state.read_into(session, pass, offset, into)
     }
 
-    /// Puts bytes into a pass's page, from the offset on, and raises the page LSN to `lsn` if that is greater. Refusals
-    /// as from `read`, and of a silent pool as from `read_into`.
+    /// Writes bytes into a pass's page, from the offset on, and raises the page LSN to `lsn` if that is greater.
+    /// Refusals as from `read`, and of a silent pool as from `read_into`.
     pub fn write<R: Wait>(
         &self,
         rt: &R,
@@ -127,8 +127,7 @@ impl<N: PoolName, K: ListKeeper> SharedPool<N, K> {
         self.write_from(rt, session, pass, offset, bytes.bytes(), lsn)
     }
 
-    /// Puts bytes into a pass's page as `write` does, which the caller has as they are. A silent pool takes no memory
-    /// for them.
+    /// Writes as `write` does, from bytes that the caller lends. A silent pool takes no memory for them.
     pub fn write_from<R: Wait>(
         &self,
         rt: &R,

@@ -1,10 +1,10 @@
-//! Where the image of a page comes from that is in no frame.
+//! `Source`: where the image of a page that is in no frame comes from, which is the port, or zeros.
 use bp_page::{Image, PageNo, PortFault};
 use bp_ports::Port;
 use std::alloc::Global;
 use std::sync::Wait;
 
-/// Where the image of a page comes from that is in no frame.
+/// A source of the image of a page that is in no frame.
 pub(super) trait Source<P: Port> {
     ghost use Rattle.std.specs.Prelude.{◌≡◌, length, IfOk};
     ghost use Rattle.bp_core.specs.Work.{Reads};
@@ -12,7 +12,7 @@ pub(super) trait Source<P: Port> {
     // An image of a page comes from there so, and leaves the port so.
     ghost gives: { Reads P };
 
-    /// The image of a page, which has the size of the port's pages.
+    /// Returns the image of a page, which has the size of the port's pages.
     fn bring<R: Wait>(&self, rt: &R, port: &mut P, page: PageNo) -> Result<Image, PortFault>
         ensures size { IfOk result (λ image. length image ≡ (P.geometry_of port.old).size) }
         ensures geometry { P.geometry_of port.new ≡ P.geometry_of port.old }

@@ -1,4 +1,4 @@
-//! What only a session with its list in memory can hand out.
+//! The entries of a session whose list is in memory, lent or handed out.
 use super::Session;
 use crate::names::PoolName;
 use bp_core::Entry;
@@ -11,22 +11,22 @@ impl<N: PoolName> Session<N, RecordingKeeper> {
     ghost use Rattle.bp_session_log.specs.Books.{owed};
     ghost use Rattle.bp_shared.specs.Sessions.{IsCut, KeepsMemory};
 
-    /// What cuts left of the session's own list, the oldest entry first.
+    /// Lends the entries of the session's own list since the last cut, the oldest first.
     pub fn said(&self) -> &[Entry]
         ensures { reverse result.now ++ self.now.before ≡ self.now.said }
     {
         self.book.said()
     }
 
-    /// Ends the session and gives what cuts left of its list, the oldest entry first. It takes no memory.
+    /// Ends the session and returns the entries of its list since the last cut, the oldest first. It takes no memory.
     pub fn into_said(self) -> Vec<Entry>
         ensures { reverse result.items ++ self.before ≡ self.said }
     {
         self.book.into_said()
     }
 
-    /// Hands out what earlier cuts left of the list, the oldest entry first. All else goes on: the passes held, and the
-    /// room for what is owed. It takes no lock, and may be called between any two calls of the session. Memory is
+    /// Hands out the entries of the list since the last cut, the oldest first. All else goes on: the passes held, and
+    /// the room for what is owed. It takes no lock, and may be called between any two calls of the session. Memory is
     /// wanted only where entries are owed; where it is refused, which is `OutOfMemory`, nothing changes.
     pub fn cut(&mut self) -> Result<Vec<Entry>, Refusal>
         ensures entries { IfOk result (λ entries.

@@ -1,4 +1,4 @@
-//! A report of a trail that comes piece by piece.
+//! `ReportRun`, a report of a trail that comes piece by piece.
 ghost use Rattle.std.specs.Prelude.{◌≡◌, ◌+◌, ◌<◌, ◌≤◌, ◌^◌, true, false, length, Decides, OnOk, OnErr};
 ghost use Rattle.std.specs.Io.KnownBytes.{Appends};
 ghost use Rattle.bp_trace.specs.Counts.{AreWithin};
@@ -10,19 +10,17 @@ use bp_trail::{Entry, Totals};
 use std::io;
 use std::io::{ErrorKind, Write};
 
-/// The last time of a report.
+/// The end of time in a report.
 const TIME_END: u128 = 1 << 62;
 
-/// More entries than a report takes in.
 const ENTRIES_END: u128 = 1 << 64;
 
-/// A report under way: the time, and what was counted so far.
+/// A report under way: the time and the counts so far.
 #[derive(Drop)]
 pub struct ReportRun {
     time: u64,
     entries: u64,
     totals: Totals,
-    /// Whether the writer failed.
     has_failed: bool,
     ghost within: { AreWithin entries totals },
 }
@@ -33,7 +31,6 @@ impl ReportRun {
     ghost use Rattle.bp_trace.specs.Totals.{totals_text};
     ghost use Rattle.bp_trace.specs.Pieces.{lines_from, taken_by, none_taken, and_one, and_taken, MayTake, TakesNoMore};
 
-    /// A report of no entries.
     pub fn new() -> ReportRun
         ensures taken { taken_by result ≡ none_taken }
         ensures well { result.has_failed ≡ false }
@@ -46,8 +43,8 @@ impl ReportRun {
         }
     }
 
-    /// Whether these entries may come next: with them the ticks sum to less than 2^62, and there are fewer than 2^64
-    /// entries.
+    /// Returns true if these entries may come next: with them all ticks sum to less than 2^62, and there are fewer than
+    /// 2^64 entries.
     pub fn takes(&self, entries: &[Entry]) -> bool
         ensures { Decides result (MayTake (taken_by self.now) entries.now) }
     {
@@ -59,7 +56,7 @@ impl ReportRun {
         time <= TIME_END && entries.len() as u128 + u128::from(self.entries) < ENTRIES_END
     }
 
-    /// Writes the line of an entry, if it has one, and takes the entry in. Where the writer fails nothing is taken in.
+    /// Writes the line of an entry, if it has one, and counts the entry. Where the writer fails it is not counted.
     fn line<W: Write>(&mut self, entry: &Entry, writer: &mut W) -> io::Result<()>
         requires time { self.old.time + steps_of entry.now.call ≤ 2 ^ 62 }
         requires few { self.old.entries + 1 < 2 ^ 64 }
@@ -76,11 +73,11 @@ impl ReportRun {
         Ok(())
     }
 
-    /// Writes the lines of the next piece, oldest entry first. In all pieces so far the ticks sum to less than 2^62,
-    /// and there are fewer than 2^64 entries.
+    /// Writes the lines of the next piece, oldest entry first. In all pieces so far the ticks must sum to less than
+    /// 2^62, and there must be fewer than 2^64 entries.
     ///
-    /// A fault of the writer is passed on. After one there is a fault from each later call, and nothing more is
-    /// written. No more than the piece was taken in then, so that what may come after the piece may still come.
+    /// A fault of the writer is passed on. After it each later call fails too, and nothing more is written. No more
+    /// than the piece was counted then, so what may come after the piece may still come.
     pub fn lines<W: Write>(&mut self, entries: &[Entry], writer: &mut W) -> io::Result<()>
         requires taken { MayTake (taken_by self.old) entries.now }
         ensures lines { OnOk result (Appends (W.contents writer.old) (W.contents writer.new)
@@ -109,7 +106,8 @@ impl ReportRun {
         Ok(())
     }
 
-    /// Writes the six totals of all pieces. A fault of the writer is passed on.
+    /// Writes the six totals of all pieces. A fault of the writer is passed on. After a fault in `lines` it fails, and
+    /// writes nothing.
     pub fn totals<W: Write>(self, writer: &mut W) -> io::Result<()>
         ensures written { OnOk result (Appends (W.contents writer.old) (W.contents writer.new)
             (totals_text self.totals)) }

@@ -1,4 +1,4 @@
-//! What is compared once all threads have ended.
+//! `collect`: compares each client's list with the trail once all threads have ended, and joins what the clients left.
 ghost use Rattle.std.specs.Prelude.{◌≡◌, false, OnOk, OnErr, [], ◌∷◌, ◌++◌, All, IfErr, IsTrue};
 ghost use Rattle.std.specs.Prelude.{map, reverse};
 ghost use Rattle.bp_page.specs.declared.refusals.Refusal.TheVariants as Refusal;
@@ -13,8 +13,8 @@ use bp_page::Refusal;
 use bp_ports::Port;
 use bp_trail::agrees;
 
-/// Whether a client played its whole script and gave all passes back, its list is what the trail has of it, and the log
-/// of client 0 bounds the marks.
+/// Returns true if a client played its whole script and gave all passes back, its list is what the trail has of it, and
+/// the log of client 0 bounds the marks.
 fn is_agreed<P: Port>(trail: &[Entry], left: &Left<P, ScriptPlayer>) -> bool
     requires uncut { left.now.book.before ≡ [] }
     ensures agrees { IsTrue result → Agrees trail.now (left_value left.now) }
@@ -75,8 +75,9 @@ fn add_left<P: Port>(
     }
 }
 
-/// What the clients left, one after the other. `Disagree` where a script was not run whole or a pass did not go back,
-/// where a list is not what the trail has of its client, or where a mark came before the log rows of client 0 allow it.
+/// Adds what the clients left, one after the other. `Disagree` where a script was not run whole or a pass did not go
+/// back, where a list is not what the trail has of its client, or where a mark came before the log rows of client 0
+/// allow it.
 pub(crate) fn collect<P: Port>(
     trail: &[Entry],
     left: Vec<Left<P, ScriptPlayer>>,

@@ -1,4 +1,4 @@
-//! Whether scripts may be run over a pool of client threads.
+//! `scripts_fit`: checks that scripts may be run over a pool of client threads.
 ghost use Rattle.std.specs.Prelude.{◌≡◌, ℕ, ◌<◌, ◌≤◌, ◌↔◌, IsTrue, None, length};
 ghost use Rattle.bp_trail.specs.Parameters.{Parameters};
 ghost use Rattle.bp_trail.specs.Fits.{StepFits};
@@ -10,14 +10,13 @@ use bp_core::config::MAX_CLIENTS;
 use bp_core::{Config, Row, Step};
 use bp_page::{Geometry, PageNo};
 
-/// Whether the file has the page.
 fn has_page(geometry: &Geometry, page: PageNo) -> bool
     ensures { IsTrue result ↔ page < geometry.now.pages }
 {
     page.number() < geometry.pages
 }
 
-/// Whether the step's page is one of the file's, and its bytes lie within the page.
+/// Returns true if the step's page is one of the file's, and its bytes lie within the page.
 fn step_fits(step: &Step, geometry: &Geometry) -> bool
     ensures { (p : Parameters) → p.pages ≡ geometry.now.pages → p.size ≡ geometry.now.size →
         (IsTrue result ↔ StepFits p step.now) }
@@ -36,14 +35,13 @@ fn step_fits(step: &Step, geometry: &Geometry) -> bool
     }
 }
 
-/// Whether it is no log row.
 fn is_no_log(step: &Step) -> bool
     ensures { IsTrue result ↔ log_of step.now ≡ None }
 {
     !matches!(step, Step::Log(_))
 }
 
-/// Whether the row is one that this client may run.
+/// Returns true if the row is one that this client may run.
 fn row_fits(row: &Row, client: u8, geometry: &Geometry) -> bool
     ensures { (p : Parameters) → p.pages ≡ geometry.now.pages → p.size ≡ geometry.now.size →
         client < p.clients → (IsTrue result ↔ RowFitsClient p client row.now) }
@@ -57,7 +55,7 @@ fn row_fits(row: &Row, client: u8, geometry: &Geometry) -> bool
     client == 0 || is_no_log(&row.step)
 }
 
-/// Whether all rows of a script are ones that this client may run.
+/// Returns true if all rows of a script are ones that this client may run.
 fn script_fits(script: &[Row], client: u8, geometry: &Geometry) -> bool
     ensures { (p : Parameters) → p.pages ≡ geometry.now.pages → p.size ≡ geometry.now.size →
         client < p.clients → (IsTrue result ↔ ScriptFits p client script.now) }
@@ -70,9 +68,8 @@ fn script_fits(script: &[Row], client: u8, geometry: &Geometry) -> bool
     true
 }
 
-/// Whether `run_clients` takes these scripts: whether they are 1 to 64, the rows of each of its own
-/// client, of pages of the file and of bytes within a page, with log rows in the first alone. It
-/// takes no memory.
+/// Returns true if `run_clients` takes these scripts: they are 1 to 64, the rows of each of its own client, of pages of
+/// the file and of bytes within a page, with log rows in the first alone. It takes no memory.
 pub fn scripts_fit(config: &Config, scripts: &[Vec<Row>]) -> bool
     ensures { IsTrue result ↔ ((0 < length scripts.now) × (length scripts.now ≤ 64) ×
         EachScriptFits (parameters_with config.now (length scripts.now)) (lists scripts.now)) }

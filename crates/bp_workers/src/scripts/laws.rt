@@ -1,5 +1,4 @@
-//! What every run has besides, since its trail is legal. Each function does nothing: its contract
-//! is the law.
+//! Laws of every run, which hold since its trail is legal. Each function does nothing: its contract is the law.
 ghost use Rattle.std.specs.Prelude.{◌≡◌, ℕ, List, [], map, length, reverse};
 ghost use Rattle.bp_trail.specs.declared.entries.Entry.{Entry as AnEntry};
 ghost use Rattle.bp_trail.specs.declared.scripts.Row.{Row as ARow};

@@ -1,4 +1,4 @@
-//! One client's player: a worker that plays a script.
+//! `ScriptPlayer`: a worker that plays one client's script.
 ghost use Rattle.std.specs.Prelude.{◌≡◌, ◌≤◌, IsTrue, [], length, reverse, vec_capacity};
 ghost use Rattle.bp_trail.specs.Pieces.{outcome_of};
 ghost use Rattle.bp_workers.specs.Steps.{is_fault, Stays};
@@ -22,15 +22,14 @@ use std::sync::Wait;
 #[derive(Drop)]
 pub(crate) struct ScriptPlayer {
     alloc: Global,
-    /// Whose script it is.
     client: u8,
-    /// The pages that its rows are of.
+    /// The geometry of the file that its rows are for.
     geometry: Geometry,
     script: Vec<Row>,
-    /// How many entries the client's list had after each row.
+    /// For each row that was run, the number of entries of the client's list after it.
     ends: Vec<usize>,
     refused: Vec<Refused>,
-    /// Whether the whole script was run, and the pool knew all that it had given.
+    /// True if the whole script was run, and the pool knew all that it had given.
     is_done: bool,
 }
 
@@ -47,7 +46,6 @@ impl Model for ScriptPlayer {
         (vec_capacity p.ends) (vec_capacity p.refused) };
 }
 
-/// How many entries a client's list has.
 fn count<N: PoolName, P: Port>(client: &Client<N, P>) -> usize
     requires uncut { client.now.session.before ≡ [] }
     ensures { result ≡ length client.now.session.said }
@@ -55,7 +53,7 @@ fn count<N: PoolName, P: Port>(client: &Client<N, P>) -> usize
     client.session.said().len()
 }
 
-/// Whether an outcome is a fault of the run, and no row's.
+/// Returns true if an outcome is a fault of the run, and no row's.
 fn is_fault(outcome: &Result<(), Refusal>) -> bool
     ensures { result ≡ is_fault (outcome_of outcome.now) }
 {
@@ -65,7 +63,7 @@ fn is_fault(outcome: &Result<(), Refusal>) -> bool
     }
 }
 
-/// Runs the rows in order. Whether all were run: it ends at a fault of the run.
+/// Runs the rows in order, up to a fault of the run. Returns true if all were run.
 fn run_rows<N: PoolName, P: Port, R: Wait>(
     rt: &R,
     alloc: Global,
@@ -107,7 +105,6 @@ impl ScriptPlayer {
     ghost use Rattle.bp_workers.specs.Scripts.{CanPlay};
     ghost use Rattle.bp_workers.specs.Players.{new_player, Plays};
 
-    /// The player of a script.
     pub(crate) fn new(
         alloc: Global,
         client: u8,
@@ -130,7 +127,7 @@ impl ScriptPlayer {
         })
     }
 
-    /// Whether nothing was run yet, and this client at a port of this geometry may run its rows.
+    /// Returns true if nothing was run yet, and this client at a port of this geometry may run its rows.
     fn may_play(&self, client: u8, geometry: &Geometry) -> bool
         ensures new { IsTrue result → (self.now.ends ≡ []) × (self.now.refused ≡ []) }
         ensures fits { IsTrue result → CanPlay geometry.now client self.now.script }
@@ -172,21 +169,20 @@ impl ScriptPlayer {
         }
     }
 
-    /// Whether the whole script was run, and the pool knew all that it had given.
+    /// Returns true if the whole script was run, and the pool knew all that it had given.
     pub(crate) fn is_done(&self) -> bool
         ensures { result ≡ self.now.is_done }
     {
         self.is_done
     }
 
-    /// Whether in this trail no mark comes before the log rows allow it.
+    /// Returns true if in this trail no mark comes before the log rows allow it.
     pub(crate) fn bounds_marks(&self, trail: &[Entry]) -> bool
         ensures { IsTrue result ↔ IsWithinLog self.now.script self.now.ends (reverse trail.now) }
     {
         is_within_log(trail, &self.script, &self.ends)
     }
 
-    /// The rows that were refused.
     pub(crate) fn refused(&self) -> &[Refused]
         ensures { result.now ≡ self.now.refused }
     {
@@ -208,7 +204,7 @@ impl<P: Port> Worker<P, RecordingKeeper> for ScriptPlayer {
         self.play(rt, pool, client, &mut None);
     }
 
-    /// Has the log besides.
+    /// Plays as `work` does, with the writer of the mark for log rows.
     fn lead<N: PoolName, R: Wait>(
         &mut self,
         rt: &R,

@@ -1,4 +1,4 @@
-//! A run: one thread for each client, and the comparisons once all have ended.
+//! `run_clients`: runs a thread for each client, and compares their lists with the trail once all have ended.
 ghost use Rattle.std.specs.Prelude.{◌≡◌, ◌≤◌, ◌<◌, IfErr, IfOk, OnErr, OnOk, All, [], map};
 ghost use Rattle.std.specs.Prelude.{reverse, vec_len};
 ghost use Rattle.bp_page.specs.declared.refusals.Refusal.TheVariants as Refusal;
@@ -20,7 +20,7 @@ use std::marker::{Send, Sync};
 use std::sync::Wait;
 use std::thread::Threads;
 
-/// How a run went.
+/// The trail of a run, the clients' own lists and the refused rows.
 #[derive(Drop)]
 pub struct Outcome {
     /// All entries, in order.
@@ -31,7 +31,7 @@ pub struct Outcome {
     pub refused: Vec<Refused>,
 }
 
-/// Whether a core can be made of this configuration for so many clients: else it is `BadSettings`.
+/// `BadSettings` where no core can be made of this configuration for so many clients.
 fn check_fit(config: &Config, clients: usize) -> Result<(), Refusal>
     requires few { clients ≤ 64 }
     ensures fit { OnOk result (IsFit (parameters_with config.now clients)) }
@@ -49,7 +49,6 @@ fn check_fit(config: &Config, clients: usize) -> Result<(), Refusal>
     Ok(())
 }
 
-/// How many rows the scripts have.
 fn count_rows(scripts: &[Vec<Row>]) -> usize {
     let mut rows = 0usize;
     for script in scripts {
@@ -58,7 +57,7 @@ fn count_rows(scripts: &[Vec<Row>]) -> usize {
     rows
 }
 
-/// A player for each script, of the client with its number.
+/// Makes a player for each script, of the client with its number.
 fn make_players(
     alloc: Global,
     geometry: Geometry,
@@ -80,8 +79,8 @@ fn make_players(
     Ok(players)
 }
 
-/// Empty lists for what a run leaves, with room for so many clients and rows: what each client
-/// said, the rows refused, and the ports.
+/// Makes empty lists for what a run leaves, with room for so many clients and rows: what each client said, the rows
+/// refused, and the ports.
 fn empty_lists<P: Port>(
     alloc: Global,
     clients: usize,
@@ -97,7 +96,7 @@ fn empty_lists<P: Port>(
     Ok((said, refused, ports))
 }
 
-/// What the clients left, joined: each one's list, and the refused rows of all in the order of their numbers; and each
+/// Joins what the clients left: each one's list, and the refused rows of all in the order of their numbers; and each
 /// client's port.
 fn joined<P: Port>(
     run: Run<P, ScriptPlayer>,
@@ -128,21 +127,18 @@ fn joined<P: Port>(
     Ok((outcome, ports))
 }
 
-/// Runs the clients of one pool, each in a thread of its own: client c runs `scripts[c]` over
-/// `ports[c]`, and gives back what it holds at the end. Client 0 has the log: a log row raises the
-/// durable mark.
+/// Runs the clients of one pool, each in a thread of its own: client c runs `scripts[c]` over `ports[c]`, and gives
+/// back what it holds at the end. Client 0 has the log: a log row raises the durable mark.
 ///
-/// It takes 1 to 64 scripts and as many ports, whose pages are those of the configuration. A script
-/// has rows of its own client, of pages of the file and of bytes within a page, and log rows stand
-/// in script 0 alone.
+/// It takes 1 to 64 scripts and as many ports, whose pages are those of the configuration. A script has rows of its own
+/// client, of pages of the file and of bytes within a page, and log rows stand in script 0 alone.
 ///
-/// At `Ok` the trail is one legal history of at most `config.room` entries, by the rules of the
-/// pool; each client's list is the trail's entries of that client and follows its script; no mark
-/// is ahead of the log rows of client 0; and each port, which comes back, did the work that its
-/// client's list tells and nothing else. `BadSettings` where the frames are not 1 to 65,536 or
-/// the room not 1 to 16,777,216, before any thread starts. `OutOfMemory` where memory is wanted
-/// outside a row. `Disagree` where a client was given what the pool did not know, or what it saw is
-/// not what the trail has of it. Threads have ended at every return.
+/// At `Ok` the trail is one legal history of at most `config.room` entries, by the rules of the pool; each client's
+/// list is the trail's entries of that client and follows its script; no mark is ahead of the log rows of client 0; and
+/// each port, which comes back, did the work that its client's list tells and nothing else. `BadSettings` where the
+/// frames are not 1 to 65,536 or the room not 1 to 16,777,216, before any thread starts. `OutOfMemory` where there is
+/// not the memory that is wanted outside a row. `Disagree` where a client was given what the pool did not know, or what
+/// it saw is not what the trail has of it. Threads have ended at every return.
 pub fn run_clients<P: Port + Send, R: Threads + Wait + Sync>(
     rt: &R,
     alloc: Global,

@@ -1,11 +1,11 @@
-//! What each step of a script does.
+//! `step`: the call on a shared pool that each step of a script makes.
 ghost use Rattle.std.specs.Prelude.{◌≡◌, ◌≢◌, ◌+◌, ◌≤◌, ◌<◌, OnOk, OnErr, Err};
 ghost use Rattle.std.specs.Prelude.{◌∷◌, length};
 ghost use Rattle.bp_page.specs.declared.refusals.Refusal.TheVariants as Refusal;
 ghost use Rattle.bp_trail.specs.declared.scripts.Step.TheVariants as Step;
 ghost use Rattle.bp_trail.specs.Fits.{StepFits};
 ghost use Rattle.bp_trail.specs.Pieces.{outcome_of};
-ghost use Rattle.bp_trail.specs.Script.{give_back, held_passes, latest_pass};
+ghost use Rattle.bp_trail.specs.Script.{unfix_of, held_passes, latest_pass};
 ghost use Rattle.bp_shared.specs.Sessions.{DoesWorkSaid};
 ghost use Rattle.bp_workers.specs.Steps.{as_fault, Stays, StepSaid, StepWork};
 
@@ -14,7 +14,7 @@ use bp_core::{PassNote, Step};
 use bp_device::HeldList;
 use bp_page::{Bytes, Lsn, PageNo, Refusal};
 use bp_ports::Port;
-use bp_shared::{LogWriter, PoolName, Session, SharedPool, give_back};
+use bp_shared::{LogWriter, PoolName, Session, SharedPool};
 use std::sync::Wait;
 
 /// A pass that its client holds and the pool does not know is a fault of the run.
@@ -27,9 +27,9 @@ fn as_fault(refusal: Refusal) -> Refusal
     }
 }
 
-/// Gives a pass back. `Disagree` is that the session does not know the pass, or that its ring is
-/// full, though it was emptied.
-fn post<N: PoolName, R: Wait>(
+/// Gives a pass back. `Disagree` where the session does not know the pass, or where its ring is full, though it was
+/// emptied.
+fn unfix_note<N: PoolName, R: Wait>(
     rt: &R,
     pool: &SharedPool<N>,
     session: &mut Session<N>,
@@ -38,11 +38,11 @@ fn post<N: PoolName, R: Wait>(
     ensures client { session.new.client ≡ session.old.client }
     ensures before { session.new.before ≡ session.old.before }
     ensures posted { OnOk result ((note.client ≡ session.old.client) ×
-        (session.new.said ≡ give_back note ∷ session.old.said)) }
+        (session.new.said ≡ unfix_of note ∷ session.old.said)) }
     ensures refused { OnErr result ((result ≡ Err Refusal.Disagree) ×
         (session.new.said ≡ session.old.said)) }
 {
-    match give_back(rt, pool, session, note.pass()) {
+    match pool.unfix_draining(rt, session, note.pass()) {
         Ok(()) => Ok(()),
         Err((pass, _)) => {
             pass.note();
@@ -91,7 +91,7 @@ fn flush<N: PoolName, P: Port, R: Wait>(
     Ok(())
 }
 
-/// The pass of the page that the client took latest and still holds.
+/// Returns the pass of the page that the client took latest and still holds.
 fn latest<N: PoolName, P: Port>(
     client: &Client<N, P>,
     held: &HeldList,
@@ -183,7 +183,7 @@ fn unfix<N: PoolName, P: Port, R: Wait>(
     if !held.serials_rise() {
         return Err(Refusal::Disagree);
     }
-    post(rt, pool, &mut client.session, note)?;
+    unfix_note(rt, pool, &mut client.session, note)?;
     held.take_latest(client.session.client(), page);
     Ok(())
 }
@@ -218,9 +218,9 @@ fn purge<N: PoolName, P: Port, R: Wait>(
     Ok(())
 }
 
-/// Does what a step asks for, with the passes that the client holds at hand. A log row raises the mark. Only client 0
-/// has the log. `UnknownTicket` and `Disagree` are that the pool does not know what it gave, or gave passes whose
-/// numbers do not rise: then the run is at fault. Every other refusal is the row's.
+/// Makes the call that a step asks for, with the passes that the client holds at hand. A log row raises the mark. Only
+/// client 0 has the log. `UnknownTicket` and `Disagree` are faults of the run: the pool does not know what it gave, or
+/// gave passes whose numbers do not rise. Every other refusal is the row's.
 pub(crate) fn step<N: PoolName, P: Port, R: Wait>(
     rt: &R,
     pool: &SharedPool<N>,

@@ -1,4 +1,4 @@
-//! Reading, writing and giving back a page by what its pass was given as.
+//! The calls that read, write and unfix a page, by the plain numbers of its pass.
 ghost use Rattle.std.specs.Prelude.{◌≡◌, IfSome, IfNone};
 ghost use Rattle.bp_trail.specs.Images.{held as held_by};
 ghost use Rattle.bp_trail.specs.Saved.{page_lsn};
@@ -13,7 +13,8 @@ use bp_core::Pass;
 use bp_page::{Lsn, Refusal};
 
 impl Pool {
-    /// Copies a part of the page of a pass. `OutOfPage` where it is not within the page, and what the core refuses.
+    /// Copies a part of a pass's page. It is `OutOfPage` where the part is not within the page, or what the core
+    /// refuses.
     pub(crate) fn read(
         &mut self,
         held: &HzGrant,
@@ -31,7 +32,7 @@ impl Pool {
         read
     }
 
-    /// The bytes of the page of a pass, lent by the core. None where the pass is not out here.
+    /// Returns the bytes of a pass's page, which the core lends, or None where the pass is not out here.
     pub(crate) fn page(&self, held: &HzGrant) -> Option<&[u8]>
         ensures known { IfSome result (λ bytes. KnowsPass self.now (pass_of held.now)) }
         ensures held { IfSome result (λ bytes. EachPast self.now
@@ -44,7 +45,7 @@ impl Pool {
         page
     }
 
-    /// The page LSN of the page of a pass. None where the pass is not out here.
+    /// Returns the page LSN of a pass's page, or None where the pass is not out here.
     pub(crate) fn page_lsn(&self, held: &HzGrant) -> Option<Lsn>
         ensures known { IfSome result (λ lsn. KnowsPass self.now (pass_of held.now)) }
         ensures lsn { IfSome result (λ lsn. EachPast self.now
@@ -57,7 +58,7 @@ impl Pool {
         lsn
     }
 
-    /// Puts bytes into the page of a pass. `OutOfPage` where they are not within the page, and what the core refuses.
+    /// Writes bytes into a pass's page. It is `OutOfPage` where they are not within the page, or what the core refuses.
     pub(crate) fn write(
         &mut self,
         held: &HzGrant,
@@ -78,7 +79,7 @@ impl Pool {
         written
     }
 
-    /// Gives a pass back. Where it is not out here it comes back, and nothing changes.
+    /// Gives a pass back. Where it is not out here it is returned, and nothing changes.
     pub(crate) fn unfix(&mut self, held: &HzGrant) -> Result<(), Pass>
         ensures { UnfixOutcome self.old (pass_of held.now) result self.new }
     {

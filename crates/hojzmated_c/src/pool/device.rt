@@ -1,4 +1,4 @@
-//! The ends of reads and write-outs, by what their tickets were given as.
+//! The calls that end reads and write-outs, by the plain numbers of their tickets.
 ghost use Rattle.std.specs.Prelude.{◌≡◌};
 ghost use Rattle.hojzmated_c.specs.Forms.{fault_of, write_of};
 ghost use Rattle.hojzmated_c.specs.Outcomes.{EndsRead, EndsWrite, FailsRead};
@@ -9,7 +9,7 @@ use bp_core::{EndRefusal, Ended};
 use bp_page::{Image, PortFault, Refusal};
 use bp_trail::Grant;
 
-/// What an operation of the device found that failed.
+/// Returns the fault of a read that failed.
 fn fault(is_wrong_page: bool) -> PortFault
     ensures { result ≡ fault_of is_wrong_page }
 {
@@ -20,7 +20,7 @@ fn fault(is_wrong_page: bool) -> PortFault
     }
 }
 
-/// How a write went.
+/// Returns the result of a write.
 fn written(is_good: bool) -> Result<(), PortFault>
     ensures { result ≡ write_of is_good }
 {
@@ -32,8 +32,8 @@ fn written(is_good: bool) -> Result<(), PortFault>
 }
 
 impl Pool {
-    /// Ends a read that went well, and gives the pass. `OutOfPage` where the image has another length than a page, then
-    /// `UnknownTicket`, then `OutOfMemory`; all three change nothing.
+    /// Ends a read that went well, and returns the pass. It is `OutOfPage` where the image does not have the page size,
+    /// then `UnknownTicket`, then `OutOfMemory`; all three change nothing.
     pub(crate) fn read_end(&mut self, held: &HzGrant, image: &[u8]) -> Result<HzGrant, Refusal>
         ensures { EndsRead self.old held.now image.now result self.new }
     {
@@ -54,7 +54,7 @@ impl Pool {
         }
     }
 
-    /// Ends a read that failed, and tells the number of why: `WrongPage` or `ReadFailed`, or `UnknownTicket`, which
+    /// Ends a read that failed, and returns the number of `WrongPage` or `ReadFailed`, or of `UnknownTicket`, which
     /// changes nothing.
     pub(crate) fn read_failed(&mut self, held: &HzGrant, is_wrong_page: bool) -> u16
         ensures { FailsRead self.old held.now (fault_of is_wrong_page) result self.new }
@@ -67,7 +67,6 @@ impl Pool {
         }
     }
 
-    /// Ends a write-out: what the core says of it.
     pub(crate) fn write_end(
         &mut self,
         held: &HzGrant,

@@ -1,4 +1,4 @@
-//! Fix and flush.
+//! The calls that fix or flush a page, and their answers as structs for C.
 ghost use Rattle.std.specs.Prelude.{◌≡◌, length, Option};
 ghost use Rattle.bp_trail.specs.Event.{grant};
 ghost use Rattle.hojzmated_c.specs.Forms.{shown};
@@ -9,7 +9,7 @@ use crate::pool::Pool;
 use bp_core::{Fix, Flush, Pass, ReadTicket, WriteTicket};
 use bp_page::{PageNo, Refusal};
 
-/// A pass.
+/// Returns the answer of a fix that gives a pass.
 fn hit(pass: Pass) -> HzFixed
     ensures { result ≡ shown 1 (grant pass.client pass.page pass.serial) }
 {
@@ -17,7 +17,7 @@ fn hit(pass: Pass) -> HzFixed
     HzFixed::of(HIT, note.client(), note.page(), note.serial())
 }
 
-/// A page to read.
+/// Returns the answer of a fix that gives a ticket to read, and the page that was evicted for it.
 fn load(ticket: ReadTicket, gone: Option<PageNo>) -> HzFixed
     ensures { ShowsLoad ticket gone result }
 {
@@ -33,7 +33,7 @@ fn load(ticket: ReadTicket, gone: Option<PageNo>) -> HzFixed
     }
 }
 
-/// A page to write out, whose image goes into the buffer.
+/// Returns the answer with a ticket to write, and copies its image into the buffer.
 fn send(ticket: WriteTicket, image: &mut [u8]) -> HzFixed
     requires { length image.old ≡ length ticket.image }
     ensures { Sends ticket result image.new }
@@ -46,8 +46,8 @@ fn send(ticket: WriteTicket, image: &mut [u8]) -> HzFixed
 }
 
 impl Pool {
-    /// Asks for a page, and tells in `out` what it gave. `BadClient`, `OutOfPage` also where the buffer has another
-    /// length than a page, and what the core refuses: nothing is told then.
+    /// Fixes a page, and puts the answer into `out`. It returns `BadClient`, `OutOfPage` where the file has no such
+    /// page or the buffer does not have the page size, or what the core refuses. Then `out` is unchanged.
     pub(crate) fn fix(
         &mut self,
         client: u8,
@@ -74,7 +74,7 @@ impl Pool {
         Ok(())
     }
 
-    /// Asks that a page be written out. It tells and refuses as `fix` does.
+    /// Flushes a page. It answers and refuses as `fix` does.
     pub(crate) fn flush(
         &mut self,
         client: u8,

@@ -1,4 +1,4 @@
-//! What a core tells without a pass. None of it adds an entry.
+//! The calls that need no pass and change nothing. They add no entry.
 ghost use Rattle.std.specs.Prelude.{◌≡◌};
 ghost use Rattle.bp_trail.specs.Saved.{IsRedoFrom};
 ghost use Rattle.bp_core.specs.CoreView.{EachPast};
@@ -9,7 +9,7 @@ use crate::pool::Pool;
 use bp_page::{Lsn, Refusal};
 
 impl Pool {
-    /// The first unsaved page from this number on.
+    /// Returns the first unsaved page whose number is at least `from`.
     pub(crate) fn next_unsaved(&self, from: u64) -> HzUnsaved
         ensures { TellsUnsaved self.now from result }
     {
@@ -21,7 +21,7 @@ impl Pool {
                 has_page: 0,
             };
         };
-        // An unsaved page is in a frame, and has a write that is not saved.
+        // An unsaved page is in a frame, and has an unsaved write.
         self.core.keeps_the_rules();
         let lsn = self.core.resident_lsn(page).unwrap();
         let first = self.core.first_lsn(page).unwrap();
@@ -33,7 +33,7 @@ impl Pool {
         }
     }
 
-    /// From where redo has to begin.
+    /// Returns the LSN from which redo must begin, or None where all is saved.
     pub(crate) fn redo_from(&mut self) -> Option<Lsn>
         ensures same { self.new ≡ self.old }
         ensures least { EachPast self.old (λ past. IsRedoFrom past result) }
@@ -41,14 +41,13 @@ impl Pool {
         self.core.redo_from()
     }
 
-    /// What the core counts.
     pub(crate) fn stats(&self) -> HzStats
         ensures { TellsStats self.now result }
     {
         HzStats::of(&self.core.stats())
     }
 
-    /// Whether a page is in a frame. `OutOfPage` where the file has no such page.
+    /// Returns true if the page is in a frame. It is `OutOfPage` where the file has no such page.
     pub(crate) fn is_resident(&self, page: u64) -> Result<bool, Refusal>
         ensures { TellsResident self.now page result }
     {

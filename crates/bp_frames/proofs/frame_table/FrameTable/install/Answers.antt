@@ -29,7 +29,7 @@ frames-new : (c : goal.After-self-3-1) → frames_of (set c.self.inside.slots.it
 frames-new c =
     let i = c.self.inside in
     let t = c.self.invariant.0 in
-    let last : i.spare.items ≡ c.pop.new.self.items ++ c.unwrap-index.result ∷ [] = rw c.unwrap-index.ensures at c.pop.ensures.items in
+    let last : i.free_frames.items ≡ c.pop.new.self.items ++ c.unwrap-index.result ∷ [] = rw c.unwrap-index.ensures at c.pop.ensures.items in
     let slots = set i.slots.items c.unwrap-index.result c.load-left.new.self in
     let at = rank i.places.items c.args.page in
     ap (frames_of slots) (one-more c)
@@ -43,11 +43,11 @@ invariant_of-self c =
     let i = c.self.inside in
     let t = c.self.invariant.0 in
     let room = c.self.invariant.1 in
-    let last : i.spare.items ≡ c.pop.new.self.items ++ c.unwrap-index.result ∷ [] = rw c.unwrap-index.ensures at c.pop.ensures.items in
+    let last : i.free_frames.items ≡ c.pop.new.self.items ++ c.unwrap-index.result ∷ [] = rw c.unwrap-index.ensures at c.pop.ensures.items in
     let size = ap (λ (f : Frame). length f.image) c.load-left.ensures.loaded ∙ c.requires.size ∙ sym (ap (λ (v : Table). v.size) c.self.view_is) in
     let filled = table-filled _ _ _ _ _ t c.pop.new.self.items c.unwrap-index.result last (rank i.places.items c.args.page) (place_at c.args.page c.unwrap-index.result) refl (own-place i.places.items c.args.page) (stands-no-place i.places.items c.args.page (away c)) c.load-left.new.self (ap (λ (f : Frame). f.page) c.load-left.ensures.loaded) size in (
-      subst (λ (ps : List Place). IsTable i.geometry.size i.limit (set i.slots.items c.unwrap-index.result c.load-left.new.self) ps c.pop.new.self.items) (sym (one-more c)) filled,
-      record { small = room.small; for_slots = room.for_slots; for_spare = omega (arith, room.for_spare, c.pop.ensures.capacity) },
+      subst (λ (ps : List Place). IsTable i.geometry.size i.capacity (set i.slots.items c.unwrap-index.result c.load-left.new.self) ps c.pop.new.self.items) (sym (one-more c)) filled,
+      record { small = room.small; for_slots = room.for_slots; for_free = omega (arith, room.for_free, c.pop.ensures.capacity) },
       rw c.number.ensures (seating-filled _ _ _ c.self.invariant.2 c.args.page c.unwrap-index.result (away c)),
       rw c.number.ensures (account-filled _ _ _ _ _ t _ _ c.self.invariant.3 c.args.page c.unwrap-index.result (away c) (omega (arith, c.requires.in_range, ap (λ (t : Table). t.pages) c.self.view_is)) (slot-within _ _ _ _ _ t c.pop.new.self.items c.unwrap-index.result last) (slot-free _ _ _ _ _ t c.pop.new.self.items c.unwrap-index.result last) (rank i.places.items c.args.page) c.load-left.new.self (sym (ap (λ n. frames_of (set i.slots.items c.unwrap-index.result c.load-left.new.self) (places_from 0 (set i.places.items n (c.unwrap-index.result + 1)))) c.number.ensures) ∙ frames-new c) (ap (λ (f : Frame). f.pins) c.load-left.ensures.loaded) (ap (λ (f : Frame). f.first_lsn) c.load-left.ensures.loaded)),
     )

@@ -61,7 +61,7 @@ pub push_reserved-requires : goal.push_reserved-requires
 push_reserved-requires c =
     let t = c.self.invariant.0 in
     let in_range = (place-stands c.self.inside.places.items c.args.slot.now.page c.args.slot.now.index (slot-here _ _ _ _ _ t _ _ c.self.view_is c.args.slot.now c.requires.at)).in_range in
-    omega (arith, in_range, t.whole, t.few, c.self.invariant.1.for_spare)
+    omega (arith, in_range, t.whole, t.few, c.self.invariant.1.for_free)
 
 one-fewer : (c : goal.After-push_reserved) → places_from 0 (set c.self.inside.places.items c.number.result 0) ≡ remove (places_from 0 c.self.inside.places.items) (rank c.self.inside.places.items c.args.slot.now.page)
 one-fewer c =
@@ -76,8 +76,8 @@ invariant_of-self c =
     let stands = place-stands i.places.items c.args.slot.now.page c.args.slot.now.index (here c) in
     let gone = place_at c.args.slot.now.page c.args.slot.now.index in
     let left = table-vacated _ _ _ _ _ t c.args.slot.now.page (rank i.places.items c.args.slot.now.page) stands gone (sym (at-place i.places.items c.args.slot.now.page c.args.slot.now.index (here c) gone)) in (
-      rw c.push_reserved.ensures.items (subst (λ (ps : List Place). IsTable i.geometry.size i.limit i.slots.items ps (i.spare.items ++ c.args.slot.now.index ∷ [])) (sym (one-fewer c)) left),
-      record { small = room.small; for_slots = room.for_slots; for_spare = omega (arith, room.for_spare, c.push_reserved.ensures.capacity) },
+      rw c.push_reserved.ensures.items (subst (λ (ps : List Place). IsTable i.geometry.size i.capacity i.slots.items ps (i.free_frames.items ++ c.args.slot.now.index ∷ [])) (sym (one-fewer c)) left),
+      record { small = room.small; for_slots = room.for_slots; for_free = omega (arith, room.for_free, c.push_reserved.ensures.capacity) },
       rw c.number.ensures (seating-vacated _ _ _ c.self.invariant.2 c.args.slot.now.page (ap (λ (t : Table). entry_of t.candidates c.args.slot.now.page) c.self.view_is ∙ c.requires.apart)),
       rw c.number.ensures (rw c.one_if.ensures (account-vacated _ _ _ _ _ t c.args.slot.now (here c) c.index-frame.result.now c.index-frame.ensures _ _ c.self.invariant.3 c.note.new.self (omega (arith, c.note.ensures.count)) c.note.ensures.order c.note.ensures.limit c.note.ensures.pages)),
     )
@@ -88,7 +88,7 @@ returns c =
     let t = c.self.invariant.0 in
     let stands = place-stands i.places.items c.args.slot.now.page c.args.slot.now.index (here c) in
     let frames = ap (frames_of i.slots.items) (one-fewer c) ∙ frames-vacated _ _ _ _ _ t c.args.slot.now.page (rank i.places.items c.args.slot.now.page) stands in
-    let spare = ap length c.push_reserved.ensures.items ∙ length-append i.spare.items (c.args.slot.now.index ∷ []) in
+    let free_frames = ap length c.push_reserved.ensures.items ∙ length-append i.free_frames.items (c.args.slot.now.index ∷ []) in
     let pages = length-set i.places.items c.number.result 0 in
     let places = set i.places.items c.number.result 0 in
-    (λ k. record { frames = frames k; spare = spare k; size = i.geometry.size; limit = i.limit; pages = pages k; places = places; candidates = entered i.candidates }) ∙ ap (λ (t : Table). record t { frames = without_page c.args.slot.now.page t.frames; spare = t.spare + 1; places = places }) c.self.view_is
+    (λ k. record { frames = frames k; free_frames = free_frames k; size = i.geometry.size; capacity = i.capacity; pages = pages k; places = places; candidates = entered i.candidates }) ∙ ap (λ (t : Table). record t { frames = without_page c.args.slot.now.page t.frames; free_frames = t.free_frames + 1; places = places }) c.self.view_is

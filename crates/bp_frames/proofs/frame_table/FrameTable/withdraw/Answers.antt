@@ -15,7 +15,7 @@ invariant_of-self c =
     let v = c.self.invariant in
     let here = slot-here _ _ _ _ _ c.self.invariant.0 _ _ c.self.view_is c.args.slot.now c.requires in
     let few = slot-few _ _ _ _ _ c.self.invariant.0 _ _ c.self.view_is c.args.slot.now c.requires in
-    (v.0, v.1, subst (λ (s : Seated). IsSeating i.limit i.places.items s.seats) (sym c.leave.ensures) (seating-left _ _ _ _ _ v.0 i.candidates.seats v.2 c.args.slot.now.page c.args.slot.now.index here few), v.3)
+    (v.0, v.1, subst (λ (s : Seated). IsSeating i.capacity i.places.items s.seats) (sym c.leave.ensures) (seating-left _ _ _ _ _ v.0 i.candidates.seats v.2 c.args.slot.now.page c.args.slot.now.index here few), v.3)
 
 pub returns-clause-left : goal.returns-clause-left
 returns-clause-left c =

@@ -1,7 +1,7 @@
 -- What went back so far.
 use Rattle.std.proofs.Common.{◌≡◌}
 use Rattle.bp_workers.specs.Giving.{GoBack}
-use Rattle.bp_workers.proofs.giving.give_back_all.Given as goal
+use Rattle.bp_workers.proofs.unfixing.unfix_all.Given as goal
 
 abbrev pub invariant-loop : goal.invariant-loop
 invariant-loop g l = record {

@@ -1,14 +1,14 @@
-//! How the passes that a worker still holds go back.
+//! `unfix_all`: gives back the passes that a worker still holds when it returns.
 ghost use Rattle.std.specs.Prelude.{◌≡◌, ◌↔◌, IsTrue, []};
 ghost use Rattle.bp_trail.specs.Script.{held_passes};
 ghost use Rattle.bp_workers.specs.Giving.{GoBack};
 
 use bp_keeper::ListKeeper;
-use bp_shared::{PoolName, Session, SharedPool, give_back};
+use bp_shared::{PoolName, Session, SharedPool};
 use std::sync::Wait;
 
 /// Gives the pass back that a session took first of those that it holds, if it holds one and can.
-fn give_first_back<N: PoolName, K: ListKeeper, R: Wait>(
+fn unfix_oldest<N: PoolName, K: ListKeeper, R: Wait>(
     rt: &R,
     pool: &SharedPool<N, K>,
     session: &mut Session<N, K>,
@@ -21,13 +21,13 @@ fn give_first_back<N: PoolName, K: ListKeeper, R: Wait>(
     let Some(note) = session.oldest_held() else {
         return;
     };
-    if let Err((pass, _)) = give_back(rt, pool, session, note.pass()) {
+    if let Err((pass, _)) = pool.unfix_draining(rt, session, note.pass()) {
         pass.note();
     }
 }
 
-/// Gives back all passes that a session holds, in the order taken. Whether it could.
-pub(crate) fn give_back_all<N: PoolName, K: ListKeeper, R: Wait>(
+/// Gives back all passes that a session holds, in the order taken. Returns true if none is left.
+pub(crate) fn unfix_all<N: PoolName, K: ListKeeper, R: Wait>(
     rt: &R,
     pool: &SharedPool<N, K>,
     session: &mut Session<N, K>,
@@ -39,7 +39,7 @@ pub(crate) fn give_back_all<N: PoolName, K: ListKeeper, R: Wait>(
     ensures all { IsTrue result ↔ held_passes session.new.said ≡ [] }
 {
     for _ in 0..session.held_count() {
-        give_first_back(rt, pool, session);
+        unfix_oldest(rt, pool, session);
     }
     session.held_count() == 0
 }

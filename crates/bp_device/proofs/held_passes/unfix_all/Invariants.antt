@@ -1,6 +1,6 @@
 use Rattle.std.proofs.Common.{vec_len}
 use Rattle.bp_device.specs.Rows.{GoingBack}
-use Rattle.bp_device.proofs.held_passes.give_back_all.Given as goal
+use Rattle.bp_device.proofs.held_passes.unfix_all.Given as goal
 
 abbrev pub invariant-loop-client : goal.invariant-loop-client
 invariant-loop-client g l = GoingBack l.initial.core l.initial.held.items l.held.items l.core
