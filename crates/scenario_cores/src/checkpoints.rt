@@ -1,7 +1,8 @@
 //! Calls for checkpoints, counters, and device work of more than one page.
 ghost use Rattle.std.specs.Prelude.{◌<◌};
 
-use crate::outcomes::{flushed_all, lsn_or_none, page_or_none, stats_of, went};
+use crate::observing::told_of_page;
+use crate::outcomes::{flushed_all, lsn_or_none, stats_of, went};
 use crate::pools::Pool;
 use bp_core::Keeper;
 use bp_device::{Port, drive_flush_all, drive_new};
@@ -12,15 +13,10 @@ use std::sync::Wait;
 impl<K: Keeper> Pool<K> {
     /// Makes a call that adds no entry.
     pub(crate) fn observe(&mut self, call: &Said) -> Answer {
-        let [number, _, _] = call.numbers.list;
-        let page = PageNo::new(number);
         match call.verb {
-            Verb::Next => page_or_none(self.core.next_unsaved(number)),
             Verb::Redo => lsn_or_none(self.core.redo_from()),
-            Verb::First => lsn_or_none(self.core.first_lsn(page)),
-            Verb::TopLsn => lsn_or_none(self.core.resident_lsn(page)),
-            Verb::Resident => Answer::yes_or_no(self.core.is_resident(page)),
-            _ => stats_of(self.alloc, &self.core.stats(), self.unread),
+            Verb::Stats => stats_of(self.alloc, &self.core.stats(), self.unread),
+            _ => told_of_page(&self.core, call),
         }
     }
 

@@ -12,7 +12,7 @@ use std::sync::Wait;
 /// A device in memory, and a port to it of which one call may fail.
 #[derive(Drop)]
 pub struct Device {
-    alloc: Global,
+    pub(crate) alloc: Global,
     pub memory: MemDevice,
     pub port: FusePort<MemPort>,
 }
@@ -55,39 +55,51 @@ pub fn device_for(
     }
 }
 
+/// Writes an image, which may be longer than a page.
+fn put(alloc: Global, rt: &impl Wait, memory: &MemDevice, page: u64, front: &Bytes) -> Answer {
+    let Ok(mut port) = memory.port() else {
+        return Answer::BadLine;
+    };
+    let size = port.geometry().size.max(front.bytes().len());
+    match filled(alloc, size, front) {
+        Some(image) => went(port.write(rt, PageNo::new(page), &image, Lsn::new(0))),
+        None => Answer::BadLine,
+    }
+}
+
+fn page_on(rt: &impl Wait, memory: &MemDevice, page: u64) -> Answer {
+    let Ok(mut port) = memory.port() else {
+        return Answer::BadLine;
+    };
+    match port.read(rt, PageNo::new(page)) {
+        Ok(image) => Answer::Reply(Reply::Content(image)),
+        Err(PortFault::Memory) => Answer::BadLine,
+        Err(_) => Answer::Word("failed"),
+    }
+}
+
+/// Puts a page on a device, or tells a page of it. It uses a port of its own, so it does not count as a call of the
+/// core's port.
+pub(crate) fn call_device(
+    alloc: Global,
+    rt: &impl Wait,
+    memory: &MemDevice,
+    call: &Said,
+) -> Answer {
+    let [page, _, _] = call.numbers.list;
+    match (call.verb, &call.bytes) {
+        (Verb::Put, Some(front)) => put(alloc, rt, memory, page, front),
+        (Verb::Device, _) => page_on(rt, memory, page),
+        _ => Answer::BadLine,
+    }
+}
+
 impl Device {
-    /// Writes an image, which may be longer than a page.
-    fn put(&self, rt: &impl Wait, page: u64, front: &Bytes) -> Answer {
-        let Ok(mut port) = self.memory.port() else {
-            return Answer::BadLine;
-        };
-        let size = port.geometry().size.max(front.bytes().len());
-        match filled(self.alloc, size, front) {
-            Some(image) => went(port.write(rt, PageNo::new(page), &image, Lsn::new(0))),
-            None => Answer::BadLine,
-        }
-    }
-
-    fn page(&self, rt: &impl Wait, page: u64) -> Answer {
-        let Ok(mut port) = self.memory.port() else {
-            return Answer::BadLine;
-        };
-        match port.read(rt, PageNo::new(page)) {
-            Ok(image) => Answer::Reply(Reply::Content(image)),
-            Err(PortFault::Memory) => Answer::BadLine,
-            Err(_) => Answer::Word("failed"),
-        }
-    }
-
-    /// Puts a page on the device, tells a page of it, or tells how many calls of the core's port failed. It uses a port
-    /// of its own, so it does not count as a call of the core's port.
+    /// Puts a page on the device, tells a page of it, or tells how many calls of the core's port failed.
     pub fn call(&self, rt: &impl Wait, call: &Said) -> Answer {
-        let [page, _, _] = call.numbers.list;
-        match (call.verb, &call.bytes) {
-            (Verb::Put, Some(front)) => self.put(rt, page, front),
-            (Verb::Device, _) => self.page(rt, page),
-            (Verb::Failures, _) => Answer::Number(self.port.failures()),
-            _ => Answer::BadLine,
+        match call.verb {
+            Verb::Failures => Answer::Number(self.port.failures()),
+            _ => call_device(self.alloc, rt, &self.memory, call),
         }
     }
 }

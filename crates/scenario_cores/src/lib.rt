@@ -1,5 +1,5 @@
-//! The things that scenarios make and call: cores, with or without a device, with a trail or only its count; histories
-//! and candidates of LRU-K; and lists of entries for the judge of trails.
+//! The things that scenarios make and call: cores, with or without a device, with a trail or only its count; pools with
+//! one owner; histories and candidates of LRU-K; and lists of entries for the judge of trails.
 #![tactic(auto)]
 
 pub mod buffers;
@@ -8,7 +8,9 @@ pub mod devices;
 pub mod histories;
 pub mod judged;
 pub mod lists;
+mod observing;
 pub mod outcomes;
+pub mod owned;
 pub mod pools;
 pub mod ranks;
 pub mod trails;
@@ -22,5 +24,6 @@ pub use lists::{LOST, Lists, grant_of, join, new_lists, pass_of};
 pub use outcomes::{
     content, done, flushed, flushed_all, forgot, lsn_or_none, page_or_none, stats_of, went,
 };
+pub use owned::{Owned, new_owned, owned_of};
 pub use pools::{Pool, new_pool, pool_of};
 pub use ranks::{Ranked, new_ranked};

@@ -3,17 +3,15 @@ ghost use Rattle.std.specs.Prelude.{◌≡◌, ◌<◌, IfSome, IsTrue};
 
 use crate::devices::{Device, device_for};
 use crate::lists::{LOST, Lists, new_lists};
+use crate::observing::digest_of;
 use crate::outcomes::{done, flushed, forgot};
 use bp_core::{Fix, Flush, Keeper, PoolCore, ReadTicket, Settings, WriteTicket};
 use bp_device::{Port, drive_fix, drive_flush};
 use bp_page::{Geometry, Image, Lsn, PageNo, Refusal};
 use bp_trail::{Grant, Reply};
-use scenario_words::{Answer, Said, Shape, Thing, Verb, mixed};
+use scenario_words::{Answer, Said, Shape, Thing, Verb};
 use std::alloc::Global;
 use std::sync::Wait;
-
-/// The hash covers so many pages, from 0.
-const PAGES: u64 = 16;
 
 /// A core, its device if it has one, and what it gave. `lists` has those entries that were cut.
 #[derive(Drop)]
@@ -192,11 +190,7 @@ impl<K: Keeper> Pool<K> {
 
     /// Answers what the core or its device tells without an entry.
     fn tell(&self, rt: &impl Wait, call: &Said) -> Answer {
-        let [page, i, _] = call.numbers.list;
         match (call.verb, &self.device) {
-            (Verb::Last, _) => Answer::Number(self.core.last(PageNo::new(page))),
-            (Verb::Stamp, _) => Answer::Number(self.core.stamp(PageNo::new(page), i as usize)),
-            (Verb::Unsaved, _) => Answer::yes_or_no(self.core.is_unsaved(PageNo::new(page))),
             (Verb::Clock, _) => Answer::Number(self.core.clock()),
             (Verb::Durable, _) => Answer::Number(self.core.durable().number()),
             (Verb::Free, _) => Answer::Number(self.free()),
@@ -225,8 +219,15 @@ impl<K: Keeper> Pool<K> {
             Verb::ReadEnd | Verb::ReadFails(_) | Verb::WriteEnd | Verb::WriteFails(_) => {
                 self.by_ticket(call)
             }
-            Verb::Next | Verb::Redo | Verb::First | Verb::TopLsn | Verb::Resident | Verb::Stats =>
-                self.observe(call),
+            Verb::Next
+            | Verb::Redo
+            | Verb::First
+            | Verb::TopLsn
+            | Verb::Resident
+            | Verb::Stats
+            | Verb::Last
+            | Verb::Stamp
+            | Verb::Unsaved => self.observe(call),
             Verb::Sync => self.sync(rt),
             _ => self.tell(rt, call),
         }
@@ -235,15 +236,6 @@ impl<K: Keeper> Pool<K> {
     /// Returns a hash of what the core tells: clock, mark, free room, and of the first pages their stamps, their newest
     /// references and whether they are unsaved.
     pub fn told(&self) -> u64 {
-        let mut digest = mixed(self.core.clock(), self.core.durable().number());
-        digest = mixed(digest, self.core.free() as u64);
-        for number in 0..PAGES {
-            let page = PageNo::new(number);
-            digest = mixed(digest, self.core.last(page));
-            digest = mixed(digest, self.core.stamp(page, 1));
-            digest = mixed(digest, self.core.stamp(page, 2));
-            digest = mixed(digest, u64::from(self.core.is_unsaved(page)));
-        }
-        digest
+        digest_of(&self.core)
     }
 }

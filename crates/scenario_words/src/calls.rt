@@ -41,7 +41,14 @@ pub enum Verb {
     FlushAll,
     /// Fixes a new page, without a read of it.
     New,
+    /// Shows the bytes of a page, of which no pass is out after it.
+    Look,
     Sync,
+    /// Whether a pool moves its clock by itself, at each fix.
+    Ticking(bool),
+    /// Takes a pool apart into its core and its port, and makes one of these.
+    Parts,
+    Own,
     Clock,
     Durable,
     Free,

@@ -4,7 +4,7 @@ use crate::calls::Verb;
 use bp_page::PortFault;
 
 /// The calls of what lines make.
-pub(crate) const CALLS: [(&str, Verb); 58] = [
+pub(crate) const CALLS: [(&str, Verb); 64] = [
     ("fix N N", Verb::Fix),
     ("flush N N", Verb::Flush),
     ("tick N N", Verb::Tick),
@@ -42,7 +42,13 @@ pub(crate) const CALLS: [(&str, Verb); 58] = [
     ("stats", Verb::Stats),
     ("flush_all N", Verb::FlushAll),
     ("new N N", Verb::New),
+    ("look N N", Verb::Look),
     ("sync", Verb::Sync),
+    ("ticking on", Verb::Ticking(true)),
+    ("ticking off", Verb::Ticking(false)),
+    ("parts", Verb::Parts),
+    ("own", Verb::Own),
+    ("own N N", Verb::Own),
     ("clock", Verb::Clock),
     ("durable", Verb::Durable),
     ("free", Verb::Free),

@@ -29,6 +29,8 @@ pub enum Thing {
     Core,
     /// A core with a device of its own, whose fixes and flushes are done by drivers.
     Driven,
+    /// A pool with one owner, and a device of its own.
+    Owned,
     /// A pool that sessions use in turn.
     Pool,
     /// A pool that client threads use by rows of a trace.
@@ -130,6 +132,7 @@ fn thing_of(word: &str) -> Option<Thing> {
     match word {
         "core" => Some(Thing::Core),
         "driven" => Some(Thing::Driven),
+        "owned" => Some(Thing::Owned),
         "pool" => Some(Thing::Pool),
         "run" => Some(Thing::Run),
         "histories" => Some(Thing::Histories),

@@ -5,22 +5,34 @@ use bp_check::{Setup, first_unlawful};
 use bp_core::{RecordingKeeper, SilentKeeper};
 use bp_page::Refusal;
 use bp_trail::{Entry, Reply};
-use scenario_cores::{Judged, Pool, Ranked, Timed, new_judged, new_pool, new_ranked, new_timed};
+use scenario_cores::{
+    Judged, Owned, Pool, Ranked, Timed, new_judged, new_owned, new_pool, new_ranked, new_timed,
+    owned_of,
+};
 use scenario_sessions::{Answers, Ran, play_pool, play_run};
 use scenario_words::{Answer, Keeps, Said, Shape, Thing, Verb, Way, call_of, maker_of};
 use std::alloc::{AllocError, Global};
 use std::marker::Sync;
+use std::mem;
 use std::sync::Wait;
 use std::thread::Threads;
+
+const NOTHING: Answer = Answer::Word("nothing to call");
+
+const DONE: Answer = Answer::Reply(Reply::Done);
 
 #[derive(Drop)]
 enum Made {
     Kept(Pool<RecordingKeeper>),
     Counted(Pool<SilentKeeper>),
+    Owned(Owned<RecordingKeeper>),
+    OwnedCounted(Owned<SilentKeeper>),
     Histories(Timed),
     Candidates(Ranked),
     Judged(Judged),
     Ran(Ran),
+    /// A core that was dropped, since its owner was refused.
+    Dropped,
 }
 
 /// Returns true if a call asks for the trail, which is different in the ways after the first.
@@ -63,23 +75,29 @@ pub struct World {
 }
 
 /// Returns true if this way has what the line makes. Only the first way has things without a core, and those whose line
-/// says how they keep their trail.
+/// says how they keep their trail. The way that cuts has no pools with one owner.
 fn is_there(way: Way, thing: Thing, keeps: Keeps) -> bool {
     match (way, thing, keeps) {
-        (Way::Whole, _, _) => true,
+        (Way::Whole, _, _) | (Way::Counted, Thing::Owned, Keeps::Each) => true,
         (_, Thing::Core | Thing::Driven | Thing::Pool, Keeps::Each) => true,
         _ => false,
     }
 }
 
+/// Returns true if the core of a line only counts its entries in this way.
+fn only_counts(way: Way, keeps: Keeps) -> bool {
+    matches!((way, keeps), (Way::Counted, _) | (_, Keeps::Counted))
+}
+
 fn new_made(alloc: Global, way: Way, thing: Thing, shape: &Shape) -> Result<Made, Refusal> {
-    match (thing, way, shape.keeps) {
-        (Thing::Histories, _, _) => Ok(Made::Histories(new_timed(alloc, shape)?)),
-        (Thing::Candidates, _, _) => Ok(Made::Candidates(new_ranked(alloc, shape)?)),
-        (Thing::Judged, _, _) => Ok(Made::Judged(new_judged(alloc, shape)?)),
-        (_, Way::Counted, _) | (_, _, Keeps::Counted) => {
-            Ok(Made::Counted(new_pool(alloc, thing, shape)?))
-        }
+    let counts = only_counts(way, shape.keeps);
+    match thing {
+        Thing::Histories => Ok(Made::Histories(new_timed(alloc, shape)?)),
+        Thing::Candidates => Ok(Made::Candidates(new_ranked(alloc, shape)?)),
+        Thing::Judged => Ok(Made::Judged(new_judged(alloc, shape)?)),
+        Thing::Owned if counts => Ok(Made::OwnedCounted(new_owned(alloc, shape)?)),
+        Thing::Owned => Ok(Made::Owned(new_owned(alloc, shape)?)),
+        _ if counts => Ok(Made::Counted(new_pool(alloc, thing, shape)?)),
         _ => Ok(Made::Kept(new_pool(alloc, thing, shape)?)),
     }
 }
@@ -89,10 +107,35 @@ impl Made {
         match self {
             Made::Kept(core) => core.ask(rt, call),
             Made::Counted(core) => core.call(rt, call),
+            Made::Owned(owned) => owned.call(rt, call),
+            Made::OwnedCounted(owned) => owned.call(rt, call),
             Made::Histories(timed) => timed.call(call),
             Made::Candidates(ranked) => ranked.call(call),
             Made::Ran(ran) => ran.call(rt, call),
             Made::Judged(_) => Answer::BadLine,
+            Made::Dropped => NOTHING,
+        }
+    }
+
+    /// Gives an owner to a core. A refusal drops the core. For all else the line is a bad one.
+    fn with_owner(self, call: &Said) -> (Made, Answer) {
+        let owned = match self {
+            Made::Kept(core) => owned_of(core, call).map(Made::Owned),
+            Made::Counted(core) => owned_of(core, call).map(Made::OwnedCounted),
+            made => return (made, Answer::BadLine),
+        };
+        match owned {
+            Ok(made) => (made, DONE),
+            Err(refusal) => (Made::Dropped, Answer::Refused(refusal)),
+        }
+    }
+
+    /// Makes a core with a device of a pool with one owner. For all else the line is a bad one.
+    fn without_owner(self) -> (Made, Answer) {
+        match self {
+            Made::Owned(owned) => (Made::Kept(owned.into_pool()), DONE),
+            Made::OwnedCounted(owned) => (Made::Counted(owned.into_pool()), DONE),
+            made => (made, Answer::BadLine),
         }
     }
 
@@ -101,8 +144,10 @@ impl Made {
         match self {
             Made::Kept(core) => core.told(),
             Made::Counted(core) => core.told(),
+            Made::Owned(owned) => owned.told(),
+            Made::OwnedCounted(owned) => owned.told(),
             Made::Histories(timed) => timed.told(),
-            Made::Candidates(_) | Made::Judged(_) | Made::Ran(_) => 0,
+            Made::Candidates(_) | Made::Judged(_) | Made::Ran(_) | Made::Dropped => 0,
         }
     }
 }
@@ -123,7 +168,7 @@ fn played<R: Threads + Wait + Sync>(
             None => None,
         };
     }
-    if matches!((way, shape.keeps), (Way::Counted, _) | (_, Keeps::Counted)) {
+    if only_counts(way, shape.keeps) {
         return match play_pool::<SilentKeeper, R>(rt, alloc, way, &shape, lines, answers) {
             Some(pool) => Some(Made::Counted(pool)),
             None => None,
@@ -154,7 +199,7 @@ impl World {
         };
         self.at = self.made.len();
         self.made.push_reserved(made);
-        Answer::Reply(Reply::Done)
+        DONE
     }
 
     /// Returns true if this way has what the line makes. Else the rest of the scenario is skipped.
@@ -178,15 +223,15 @@ impl World {
 
     fn go_on(&mut self, at: u64) -> Answer {
         if at as usize >= self.made.len() {
-            return Answer::Word("nothing to call");
+            return NOTHING;
         }
         self.at = at as usize;
-        Answer::Reply(Reply::Done)
+        DONE
     }
 
     fn call(&mut self, rt: &impl Wait, call: &Said) -> Option<Answer> {
         let Some(made) = self.made.get_mut(self.at) else {
-            return Some(Answer::Word("nothing to call"));
+            return Some(NOTHING);
         };
         let answer = match (self.way, call.verb) {
             (Way::Pieces | Way::Counted, verb) if asks_the_trail(verb) => return None,
@@ -196,6 +241,20 @@ impl World {
             core.gather();
         }
         Some(answer)
+    }
+
+    /// Takes a pool with one owner apart, or gives an owner to a core.
+    fn turn(&mut self, call: &Said) -> Answer {
+        let Some(place) = self.made.get_mut(self.at) else {
+            return NOTHING;
+        };
+        let made = mem::replace(place, Made::Dropped);
+        let (made, answer) = match call.verb {
+            Verb::Own => made.with_owner(call),
+            _ => made.without_owner(),
+        };
+        *place = made;
+        answer
     }
 
     /// Plays the lines of a pool after the one that makes it; the last of them ends it. What they leave is called from
@@ -249,6 +308,7 @@ impl World {
         match call_of(self.alloc, line) {
             Some(call) => match call.verb {
                 Verb::On => Some(self.go_on(call.numbers.list[0])),
+                Verb::Parts | Verb::Own => Some(self.turn(&call)),
                 _ => self.call(rt, &call),
             },
             None => Some(Answer::BadLine),
@@ -289,10 +349,12 @@ impl World {
         Some(answer)
     }
 
-    /// Cuts the rest of the trails.
+    /// Takes pools with one owner apart, and cuts the rest of the trails.
     pub fn gather(&mut self) {
-        for at in 0..self.made.len() {
-            if let Some(Made::Kept(core)) = self.made.get_mut(at) {
+        for place in self.made.iter_mut() {
+            let (made, _) = mem::replace(place, Made::Dropped).without_owner();
+            *place = made;
+            if let Made::Kept(core) = place {
                 core.gather();
             }
         }
