@@ -48,7 +48,7 @@ impl<K: Keeper> Pool<K> {
             client,
             page,
         ) {
-            Ok(pass) => self.lists.give(pass),
+            Ok(pass) => self.lists.keep_given(pass),
             Err(refusal) => Answer::Refused(refusal),
         }
     }

@@ -92,7 +92,7 @@ impl Timed {
 
     /// Returns a hash of what the first pages have: whether they are held, three newest stamps, and the newest
     /// reference.
-    pub fn told(&self) -> u64 {
+    pub fn digest(&self) -> u64 {
         let mut digest = 0;
         for number in 0..PAGES {
             let page = PageNo::new(number);

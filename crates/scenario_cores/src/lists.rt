@@ -76,7 +76,7 @@ impl Lists {
     }
 
     /// Adds the pass that a call gave, and returns the answer of the call.
-    pub fn give(&mut self, pass: Pass) -> Answer {
+    pub fn keep_given(&mut self, pass: Pass) -> Answer {
         let grant = grant_of(pass);
         let serial = grant.serial;
         if self.keep_pass(grant) {

@@ -104,7 +104,7 @@ impl<K: Keeper> Owned<K> {
             _ => self.pool.fix(rt, page),
         };
         match fixed {
-            Ok(pass) => self.lists.give(pass),
+            Ok(pass) => self.lists.keep_given(pass),
             Err(refusal) => Answer::Refused(refusal),
         }
     }
@@ -243,7 +243,7 @@ impl<K: Keeper> Owned<K> {
     }
 
     /// Returns a hash of what its core tells.
-    pub fn told(&self) -> u64 {
+    pub fn digest(&self) -> u64 {
         digest_of(self.pool.core())
     }
 }

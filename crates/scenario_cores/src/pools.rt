@@ -134,7 +134,7 @@ impl<K: Keeper> Pool<K> {
         let size = self.core.geometry().size;
         let Some(device) = &mut self.device else {
             return match self.core.fix(client, page) {
-                Ok(Fix::Hit(pass)) => self.lists.give(pass),
+                Ok(Fix::Hit(pass)) => self.lists.keep_given(pass),
                 Ok(Fix::Load(ticket, evicted)) => self.keep_read(ticket, evicted),
                 Ok(Fix::WriteFirst(ticket)) => self.keep_write(ticket),
                 Err(refusal) => Answer::Refused(refusal),
@@ -144,7 +144,7 @@ impl<K: Keeper> Pool<K> {
             return Answer::BadLine;
         }
         match drive_fix(rt, &mut self.core, &mut device.port, client, page) {
-            Ok(pass) => self.lists.give(pass),
+            Ok(pass) => self.lists.keep_given(pass),
             Err(refusal) => Answer::Refused(refusal),
         }
     }
@@ -235,7 +235,7 @@ impl<K: Keeper> Pool<K> {
 
     /// Returns a hash of what the core tells: clock, mark, free room, and of the first pages their stamps, their newest
     /// references and whether they are unsaved.
-    pub fn told(&self) -> u64 {
+    pub fn digest(&self) -> u64 {
         digest_of(&self.core)
     }
 }

@@ -15,7 +15,7 @@ impl<K: Keeper> Pool<K> {
         requires size { IfOk read (λ image. length image ≡ self.old.core.parameters.size) }
     {
         match self.core.read_end_by(ticket, read, &mut None) {
-            Ok(pass) => self.lists.give(pass),
+            Ok(pass) => self.lists.keep_given(pass),
             Err(EndRefusal::Failed(refusal)) => Answer::Refused(refusal),
             Err(EndRefusal::Unknown(back, read)) => {
                 Answer::Back(Refusal::UnknownTicket, back, read.ok())

@@ -132,7 +132,7 @@ fn fix<N: PoolName, K: Kind, R: Wait>(
         _ => pool.fix(rt, session, port, page),
     };
     match fixed {
-        Ok(pass) => lists.give(pass),
+        Ok(pass) => lists.keep_given(pass),
         Err(refusal) => Answer::Refused(refusal),
     }
 }

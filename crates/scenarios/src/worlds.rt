@@ -140,13 +140,13 @@ impl Made {
     }
 
     /// Returns a hash of what it tells without a call.
-    fn told(&self) -> u64 {
+    fn digest(&self) -> u64 {
         match self {
-            Made::Kept(core) => core.told(),
-            Made::Counted(core) => core.told(),
-            Made::Owned(owned) => owned.told(),
-            Made::OwnedCounted(owned) => owned.told(),
-            Made::Histories(timed) => timed.told(),
+            Made::Kept(core) => core.digest(),
+            Made::Counted(core) => core.digest(),
+            Made::Owned(owned) => owned.digest(),
+            Made::OwnedCounted(owned) => owned.digest(),
+            Made::Histories(timed) => timed.digest(),
             Made::Candidates(_) | Made::Judged(_) | Made::Ran(_) | Made::Dropped => 0,
         }
     }
@@ -315,9 +315,9 @@ impl World {
         }
     }
 
-    fn told(&self) -> u64 {
+    fn digest(&self) -> u64 {
         match self.made.get(self.at) {
-            Some(made) => made.told(),
+            Some(made) => made.digest(),
             None => 0,
         }
     }
@@ -328,10 +328,10 @@ impl World {
         if self.is_out {
             return None;
         }
-        let before = self.told();
+        let before = self.digest();
         match self.obey(rt, line) {
             Some(answer) if answer.lacks_memory() => {
-                if self.told() == before || matches!(answer, Answer::Stopped(_, _)) {
+                if self.digest() == before || matches!(answer, Answer::Stopped(_, _)) {
                     self.once_more(rt, line)
                 } else {
                     Some(Answer::Word("22, and something has changed"))
