@@ -1,3 +1,5 @@
+//! `Config`: the settings of a pool for one owner.
+
 /// The settings of a pool.
 ///
 /// [`Config::new`] sets all fields for a pool over a file, and each field may be changed:

@@ -1,3 +1,4 @@
+//! `Error`, the refusals of the library, and `Refused`, which returns a pass or a ticket with one.
 use crate::sys;
 use std::fmt;
 use std::result;

@@ -1,3 +1,4 @@
+//! `PageBytes`, the bytes of a page lent in place, and the list of those that are lent.
 use crate::{Error, Result};
 use std::cell::RefCell;
 use std::fmt;

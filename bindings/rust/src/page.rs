@@ -1,3 +1,4 @@
+//! Passes and tickets as values that cannot be copied, and `PageGuard`, which gives its pass back.
 use crate::sys::hz_grant;
 use crate::{PageBytes, Pool, Result};
 use std::mem;

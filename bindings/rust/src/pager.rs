@@ -1,3 +1,4 @@
+//! `PageIo`, an engine's device and log, and `Pager`, a pool that calls them for one thread.
 use crate::{
     Config, Error, Fixed, Flushed, PageGuard, Pool, PoolStats, ReadTicket, Refused, Result,
     UnsavedPage, WriteTicket,

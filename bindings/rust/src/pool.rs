@@ -1,3 +1,4 @@
+//! `Pool`: the calls of the library, each safe to call, with errors in place of numbers.
 use crate::lent::LentPages;
 use crate::page::Grant;
 use crate::sys::{self, hz_config, hz_core, hz_fixed, hz_grant, hz_stats, hz_unsaved};

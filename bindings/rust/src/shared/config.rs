@@ -1,3 +1,4 @@
+//! `SharedConfig`: the settings of a shared pager, and how it is divided into parts.
 use crate::{Config, Error, Result};
 use std::thread;
 use std::time::Duration;

@@ -1,3 +1,4 @@
+//! The least LSN of the unsaved writes of each page, of those that have a log record.
 use super::seats::filled;
 use crate::Result;
 

@@ -1,3 +1,4 @@
+//! The guards of a page: `PagePin` without a latch, `PageRef` under a shared one, `PageMut` alone.
 use super::part::Part;
 use super::seats::Seat;
 use crate::Result;

@@ -1,3 +1,4 @@
+//! How far the log is durable, and whose turn it is to make it durable further.
 use crate::{PageIo, PagerError};
 use std::mem;
 use std::sync::atomic::{AtomicU64, Ordering};

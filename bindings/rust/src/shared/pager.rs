@@ -1,3 +1,4 @@
+//! `SharedPager`: how it is made, and how it pins a page, or waits for one.
 use super::SharedConfig;
 use super::guards::{PageMut, PagePin, PageRef};
 use super::log::Log;

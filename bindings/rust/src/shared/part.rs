@@ -1,3 +1,4 @@
+//! A part: one proved pool under a lock, with what its pins, latches and waiting threads need.
 use super::firsts::Firsts;
 use super::guards::PagePin;
 use super::seats::{FreeSeats, Pinned, Seat, Seats, filled, list_of};

@@ -1,3 +1,4 @@
+//! Seats: for each frame of a part the latch of its page and the number of its pins.
 use crate::{Error, Result};
 use std::sync::atomic::{AtomicPtr, AtomicU32, AtomicU64, Ordering};
 use std::sync::{

@@ -1,3 +1,4 @@
+//! A shared pager's flushes and checkpoints, its counters, and the thread that cleans pages.
 use super::pager::SharedPager;
 use super::part::{Locked, Part, Writing};
 use super::seats::list_of;

@@ -135,7 +135,10 @@ fn counts() {
     drop((page, other));
     pager.flush(1).unwrap();
     let stats = pager.stats();
-    assert_eq!((stats.totals.writes, stats.pinned, stats.unsaved), (1, 0, 0));
+    assert_eq!(
+        (stats.totals.writes, stats.pinned, stats.unsaved),
+        (1, 0, 0)
+    );
     assert_eq!(stats.totals.hits, 2);
 }
 

@@ -1,3 +1,4 @@
+//! `Device`: where pages and log are kept, and `DiskFile`, a file of the system.
 use std::fs::File;
 use std::io;
 use std::os::unix::fs::FileExt;

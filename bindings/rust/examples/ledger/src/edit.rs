@@ -1,3 +1,4 @@
+//! The B+tree over page bodies: look-ups, and edits that are published as a whole.
 use crate::log::{Half, add_change};
 use crate::node::{self, BODY, CONTENT, FREE, Node, SINCE, word};
 use crate::{Error, Result, Store, bad};

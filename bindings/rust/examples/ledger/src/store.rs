@@ -1,3 +1,4 @@
+//! `Store`: the page file and the log under one pager; opening, look-ups and checkpoints.
 use crate::device::Device;
 use crate::edit::{Edit, ROOT, Tree};
 use crate::log::{Log, crc32c};

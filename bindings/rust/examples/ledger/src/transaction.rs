@@ -1,3 +1,4 @@
+//! `Transaction`: steps that are committed all or not at all.
 use crate::edit::Edit;
 use crate::{Error, MOST_VALUE, Result, Store};
 use std::collections::BTreeMap;

@@ -1,3 +1,4 @@
+//! `Store::verify`: looks whether the tree and its list of free pages are whole.
 use crate::edit::{Edit, misplaced};
 use crate::node::{FREE, Node, word};
 use crate::{Result, Store};
