@@ -119,14 +119,16 @@ impl Made {
 
     /// Gives an owner to a core. A refusal drops the core. For all else the line is a bad one.
     fn with_owner(self, call: &Said) -> (Made, Answer) {
-        let owned = match self {
-            Made::Kept(core) => owned_of(core, call).map(Made::Owned),
-            Made::Counted(core) => owned_of(core, call).map(Made::OwnedCounted),
-            made => return (made, Answer::BadLine),
-        };
-        match owned {
-            Ok(made) => (made, DONE),
-            Err(refusal) => (Made::Dropped, Answer::Refused(refusal)),
+        match self {
+            Made::Kept(core) => match owned_of(core, call) {
+                Ok(owned) => (Made::Owned(owned), DONE),
+                Err(refusal) => (Made::Dropped, Answer::Refused(refusal)),
+            },
+            Made::Counted(core) => match owned_of(core, call) {
+                Ok(owned) => (Made::OwnedCounted(owned), DONE),
+                Err(refusal) => (Made::Dropped, Answer::Refused(refusal)),
+            },
+            made => (made, Answer::BadLine),
         }
     }
 
