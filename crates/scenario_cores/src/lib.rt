@@ -1,24 +1,21 @@
 //! The things that scenarios make and call: cores, with or without a device, with a trail or only its count; pools with
-//! one owner; histories and candidates of LRU-K; and lists of entries for the judge of trails.
+//! one owner; and lists of entries for the judge of trails.
 #![tactic(auto)]
 
 pub mod buffers;
 mod checkpoints;
 pub mod devices;
-pub mod histories;
 pub mod judged;
 pub mod lists;
 mod observing;
 pub mod outcomes;
 pub mod owned;
 pub mod pools;
-pub mod ranks;
 pub mod trails;
 pub mod uses;
 
 pub use buffers::{Span, bytes_read, span_of};
 pub use devices::{Device, new_device};
-pub use histories::{Timed, new_timed};
 pub use judged::{Judged, new_judged};
 pub use lists::{LOST, Lists, grant_of, join, new_lists, pass_of};
 pub use outcomes::{
@@ -26,4 +23,3 @@ pub use outcomes::{
 };
 pub use owned::{Owned, new_owned, owned_of};
 pub use pools::{Pool, new_pool, pool_of};
-pub use ranks::{Ranked, new_ranked};

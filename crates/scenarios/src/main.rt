@@ -5,6 +5,8 @@
 //! or the report not be printed.
 #![tactic(auto)]
 
+mod histories;
+mod ranks;
 mod sheets;
 mod worlds;
 

@@ -1,14 +1,13 @@
 //! `World`, what a scenario made in one way, and the judgement of its trails.
 ghost use Rattle.std.specs.Prelude.{◌<◌, OnOk, vec_len, vec_capacity};
 
+use crate::histories::{Timed, new_timed};
+use crate::ranks::{Ranked, new_ranked};
 use bp_check::{Setup, first_unlawful};
 use bp_core::{RecordingKeeper, SilentKeeper};
 use bp_page::Refusal;
 use bp_trail::{Entry, Reply};
-use scenario_cores::{
-    Judged, Owned, Pool, Ranked, Timed, new_judged, new_owned, new_pool, new_ranked, new_timed,
-    owned_of,
-};
+use scenario_cores::{Judged, Owned, Pool, new_judged, new_owned, new_pool, owned_of};
 use scenario_sessions::{Answers, Ran, play_pool, play_run};
 use scenario_words::{Answer, Keeps, Said, Shape, Thing, Verb, Way, call_of, maker_of};
 use std::alloc::{AllocError, Global};

@@ -2,10 +2,10 @@
 ghost use Rattle.std.specs.Prelude.{ℕ, ◌≤◌};
 ghost use Rattle.bp_replacer.specs.Histories.{last_of};
 
-use crate::outcomes::done;
 use bp_lruk::{Histories, Settings};
 use bp_page::{PageNo, Refusal};
 use bp_trail::Reply;
+use scenario_cores::done;
 use scenario_words::{Answer, Said, Shape, Verb, mixed};
 use std::alloc::Global;
 

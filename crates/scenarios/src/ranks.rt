@@ -1,8 +1,8 @@
 //! `Ranked`, the candidates of LRU-K alone: a plain list and an index in the order of replacement, side by side.
 
-use crate::outcomes::{done, page_or_none};
 use bp_lruk::{Candidates, Settings, scan};
 use bp_page::{PageNo, Refusal};
+use scenario_cores::{done, page_or_none};
 use scenario_words::{Answer, Said, Shape, Verb};
 use std::alloc::Global;
 
