@@ -41,5 +41,5 @@ invariant_of-self-in-Err-Unknown g c =
 pub returns-in-Ok-clause-alike : goal.returns-in-Ok-clause-alike
 returns-in-Ok-clause-alike g c =
     rw (← c.self.view_is)
-    (loaded_alike _ _ _ _ c.self.inside.client c.grant-given.result c.args.image c.in-Ok.pass (search rules) c.in-Ok.ensures.outcome
+    (loaded_alike _ _ _ _ c.self.inside.client c.grant-given.result c.args.image c.in-Ok.pass (search rules) c.in-Ok.ensures
     (next_past _ _ _ _ _ c.record_load.ensures ∙ search rules))
