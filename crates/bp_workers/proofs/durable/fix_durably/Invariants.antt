@@ -17,6 +17,6 @@ invariant-loop-round g l =
       port : g.P.Port.geometry_of l.client.port ≡ g.P.Port.geometry_of l.initial.client.port;
       lent : g.L.DurableLog.lent l.log ≡ g.L.DurableLog.lent l.initial.log;
       raises : RaisesWithin (durable l.initial.log) (raised l.initial.log) (durable l.log) (raised l.log);
-      leads : LeadsTo g.A.Asked.fixes g.A.Asked.ticks l.initial.client.session.client l.page l.patience.steps l.patience.rounds (raised l.log) l.is_ticked l._round l.initial.client.session.said l.client.session.said;
+      leads : LeadsTo g.A.Asked.fixes g.A.Asked.ticks l.initial.client.session.client l.page l.patience.ticks l.patience.rounds (raised l.log) l.is_ticked l._round l.initial.client.session.said l.client.session.said;
       work : DoesWorkSaid g.P.Port.read_gives g.P.Port.write_gives l.initial.client.session.said l.client.session.said l.initial.client.port l.client.port;
     }
