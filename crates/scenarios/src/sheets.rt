@@ -261,7 +261,6 @@ impl Sheet {
     fn end_worlds(&mut self) -> Verdict {
         self.whole.gather();
         self.pieces.gather();
-        self.counted.gather();
         let verdict = judge(self.alloc, &self.whole, &self.pieces, &self.counted);
         for way in WAYS {
             self.world(way).clear();

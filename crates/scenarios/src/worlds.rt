@@ -12,7 +12,6 @@ use scenario_sessions::{Answers, Ran, play_pool, play_run};
 use scenario_words::{Answer, Keeps, Said, Shape, Thing, Verb, Way, call_of, maker_of};
 use std::alloc::{AllocError, Global};
 use std::marker::Sync;
-use std::mem;
 use std::sync::Wait;
 use std::thread::Threads;
 
@@ -244,17 +243,19 @@ impl World {
         Some(answer)
     }
 
-    /// Takes a pool with one owner apart, or gives an owner to a core.
+    /// Takes the pool with one owner that was made last apart, or gives an owner to the core that was.
     fn turn(&mut self, call: &Said) -> Answer {
-        let Some(place) = self.made.get_mut(self.at) else {
+        if self.at.saturating_add(1) != self.made.len() {
+            return Answer::BadLine;
+        }
+        let Some(made) = self.made.pop() else {
             return NOTHING;
         };
-        let made = mem::replace(place, Made::Dropped);
         let (made, answer) = match call.verb {
             Verb::Own => made.with_owner(call),
             _ => made.without_owner(),
         };
-        *place = made;
+        self.made.push_reserved(made);
         answer
     }
 
@@ -350,12 +351,10 @@ impl World {
         Some(answer)
     }
 
-    /// Takes pools with one owner apart, and cuts the rest of the trails.
+    /// Cuts the rest of the trails of its cores. A pool that has an owner still is not judged.
     pub fn gather(&mut self) {
-        for place in self.made.iter_mut() {
-            let (made, _) = mem::replace(place, Made::Dropped).without_owner();
-            *place = made;
-            if let Made::Kept(core) = place {
+        for at in 0..self.made.len() {
+            if let Some(Made::Kept(core)) = self.made.get_mut(at) {
                 core.gather();
             }
         }
