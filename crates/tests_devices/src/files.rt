@@ -2,7 +2,8 @@
 ghost use Rattle.std.specs.Prelude.{◌≤◌};
 
 use crate::making::{NINE, expect_page, image, put};
-use bp_device::{FilePort, OpenFault, Port};
+use bp_core::{RecordingKeeper, Settings};
+use bp_device::{FilePort, OpenFault, OwnedPool, Port};
 use bp_page::{Format, Lsn, PageNo, PortFault, Refusal, slot2, unslot2};
 use std::fs::File;
 use std::path::PathBuf;
@@ -10,6 +11,7 @@ use std::process::Abort;
 use std::rt::{Env, Files};
 use std::sync::Wait;
 use std::{env, fs, process};
+use test_support::judging::unlawful_in;
 
 /// Four slots of version 2, with pages of 16 zeros.
 fn four_slots() -> [u8; 128] {
@@ -192,6 +194,45 @@ fn a_write_mends_a_slot_of_another_page(rt: HostRuntime) {
     put(&rt, &mut port, 0, &NINE);
     expect_page(&rt, &mut port, 0, &NINE);
     fs::remove_file(&rt, path.as_path()).expect(&rt, "the file is removed");
+}
+
+/// An owner is refused a slot with the number of another page, by each call that reads it: no frame has the page then,
+/// and the device has not failed. What the owner writes to the page as a new one mends the slot.
+#[test]
+fn an_owner_gets_no_slot_of_another_page(rt: HostRuntime) {
+    let rt = &rt;
+    let path = scratch(rt, process::id(rt.process()), "owner");
+    let name = path.as_path().as_str();
+    let mut slots = four_slots();
+    slots[32] = 3;
+    fs::write(rt, name, &slots).expect(rt, "the file");
+    let opened = FilePort::open(rt, rt.alloc(), name, 16, Format::Headed);
+    let port = opened.expect(rt, "the page file");
+    let settings = Settings::new(1, 0, 0).expect(rt, "the settings");
+    let made = OwnedPool::over(rt.alloc(), port, settings, 2, 100);
+    let mut owner: OwnedPool<RecordingKeeper, FilePort> = made.expect(rt, "the pool");
+    let (wrong, right) = (PageNo::new(1), PageNo::new(2));
+    match owner.fix(rt, wrong) {
+        Err(refusal) => assert!(rt; refusal == Refusal::WrongPage),
+        Ok(pass) => {
+            pass.note();
+            panic!(rt; "a pass");
+        }
+    }
+    assert!(rt; owner.with_page(rt, wrong, |bytes| bytes.len()) == Err(Refusal::WrongPage));
+    assert!(rt; !owner.core().is_resident(wrong) && owner.port().failures() == 0);
+    assert!(rt; owner.with_page(rt, right, |bytes| bytes.len()) == Ok(16));
+    let pass = owner.fix_new(rt, wrong).expect(rt, "the page as a new one");
+    assert!(rt; owner.write_from(&pass, 0, &NINE, Lsn::new(0)).is_ok());
+    if let Err(pass) = owner.unfix(pass) {
+        pass.note();
+        panic!(rt; "an unknown pass");
+    }
+    assert_eq!(rt; owner.flush_all(rt), Ok(()));
+    assert_eq!(rt; unlawful_in(rt.alloc(), owner.core()), Ok(None));
+    let (_core, mut port) = owner.into_parts();
+    expect_page(rt, &mut port, 1, &NINE);
+    fs::remove_file(rt, path.as_path()).expect(rt, "the file is removed");
 }
 
 /// The slot of page 3, with LSN 7 and an image of the bytes 0 to 15.

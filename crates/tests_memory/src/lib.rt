@@ -1,5 +1,5 @@
-//! Tests of refused memory: page files that are opened or made, a mark, a driver, and runs of workers over a pool of
-//! either kind. With memory the tests pass as they stand; `check/refused_memory` runs each of them again and again, and
+//! Tests of refused memory: page files that are opened or made, a mark, a driver, a pool with one owner, and runs of
+//! workers over a pool of either kind. With memory the tests pass as they stand; `check/refused_memory` runs each of them again and again, and
 //! refuses the first request for memory, then the second, and so on. It does the same with scenarios of cores, of
 //! sessions and of one client thread.
 //!
@@ -19,6 +19,8 @@ mod devices;
 mod files;
 #[cfg(test)]
 mod marks;
+#[cfg(test)]
+mod owners;
 #[cfg(test)]
 mod telling;
 #[cfg(test)]
