@@ -6,7 +6,7 @@ use crate::lists::{LOST, Lists, grant_of, new_lists, pass_of};
 use crate::observing::{digest_of, told_of_page};
 use crate::outcomes::{done, flushed, flushed_all, forgot, lsn_or_none, stats_of, went};
 use crate::pools::{Pool, pool_of};
-use bp_core::{Keeper, Settings};
+use bp_core::{Keeper, PoolCore, Settings};
 use bp_device::{FusePort, MemDevice, MemPort, OwnedPool, Port};
 use bp_page::{Geometry, Image, Lsn, PageNo, Refusal};
 use bp_trail::{Grant, Reply};
@@ -73,7 +73,24 @@ pub fn owned_of<K: Keeper>(core: Pool<K>, call: &Said) -> Result<Owned<K>, Refus
         lists,
         unread,
     } = core;
-    let device = device_of(alloc, core.geometry(), device, call)?;
+    match device_of(alloc, core.geometry(), device, call) {
+        Ok(device) => owned_over(alloc, core, device, lists, unread),
+        // Dropped by a call, since a drop at the end of the scope is proved in this function, field by field.
+        Err(refusal) => {
+            drop(core);
+            Err(refusal)
+        }
+    }
+}
+
+/// Makes a pool with one owner of a core over this device. What was given stays out.
+fn owned_over<K: Keeper>(
+    alloc: Global,
+    core: PoolCore<K>,
+    device: Device,
+    lists: Lists,
+    unread: u64,
+) -> Result<Owned<K>, Refusal> {
     match OwnedPool::new(alloc, core, device.port) {
         Ok(pool) => Ok(Owned {
             alloc,

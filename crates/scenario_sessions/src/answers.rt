@@ -12,22 +12,34 @@ pub struct Answers {
     pub again: u64,
 }
 
+/// Makes an empty list, with memory for so many values unless that is refused twice.
+fn new_list<T: Drop>(alloc: Global, count: usize) -> Vec<T> {
+    match Vec::with_capacity(alloc, count) {
+        Ok(list) => list,
+        Err(_) => match Vec::with_capacity(alloc, count) {
+            Ok(list) => list,
+            Err(_) => Vec::new(alloc),
+        },
+    }
+}
+
+/// Adds a value, or drops it where memory is refused.
+fn add_to<T: Drop>(list: &mut Vec<T>, value: T) {
+    let _ = list.push(value);
+}
+
 impl Answers {
     /// Makes an empty list, with memory for so many answers unless that is refused twice.
     pub fn new(alloc: Global, count: usize) -> Answers {
-        let list = match Vec::with_capacity(alloc, count) {
-            Ok(list) => list,
-            Err(_) => match Vec::with_capacity(alloc, count) {
-                Ok(list) => list,
-                Err(_) => Vec::new(alloc),
-            },
-        };
-        Answers { list, again: 0 }
+        Answers {
+            list: new_list(alloc, count),
+            again: 0,
+        }
     }
 
     /// Adds the answer of the next line. Where memory is refused, there are fewer answers than lines.
     pub fn add(&mut self, answer: Option<Answer>) {
-        let _ = self.list.push(answer);
+        add_to(&mut self.list, answer);
     }
 
     /// Counts a call that is made again.

@@ -146,6 +146,13 @@ fn lacks_memory(run: &Run, shape: &Shape) -> bool {
     lacking == 1
 }
 
+fn is_to_be_made_again(run: &Result<Run, Refusal>, shape: &Shape) -> bool {
+    match run {
+        Ok(run) => lacks_memory(run, shape),
+        Err(refusal) => matches!(refusal, Refusal::OutOfMemory),
+    }
+}
+
 /// Makes a run, and makes it again where memory was refused.
 fn run_again<R: Threads + Wait + Sync>(
     rt: &R,
@@ -155,11 +162,11 @@ fn run_again<R: Threads + Wait + Sync>(
     lines: &[String],
     answers: &mut Answers,
 ) -> Result<Run, Refusal> {
-    match try_run(rt, alloc, config, shape, lines) {
-        Err(Refusal::OutOfMemory) => {}
-        Ok(run) if lacks_memory(&run, shape) => {}
-        run => return run,
+    let run = try_run(rt, alloc, config, shape, lines);
+    if !is_to_be_made_again(&run, shape) {
+        return run;
     }
+    drop(run);
     answers.count();
     try_run(rt, alloc, config, shape, lines)
 }

@@ -54,16 +54,18 @@ pub(crate) fn open<N: PoolName, K: Kind>(
         reader,
         ring,
     } = parts;
-    let (pool, sessions, taker) = SharedPool::<N, K>::new(alloc, core, mark, reader, ring)?;
-    Ok(Table {
-        alloc,
-        way,
-        pool,
-        taker,
-        end,
-        sessions,
-        beside,
-    })
+    match SharedPool::<N, K>::new(alloc, core, mark, reader, ring) {
+        Ok((pool, sessions, taker)) => Ok(Table {
+            alloc,
+            way,
+            pool,
+            taker,
+            end,
+            sessions,
+            beside,
+        }),
+        Err(refusal) => Err(refusal),
+    }
 }
 
 /// What a call lacked, if it failed for want of memory.

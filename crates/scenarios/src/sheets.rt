@@ -178,12 +178,21 @@ impl Sheet {
     fn play(&mut self, rt: &(impl Print + Threads + Wait + Sync)) -> io::Result<()> {
         let lines = mem::replace(&mut self.lines, Vec::new(self.alloc));
         let wanted = mem::replace(&mut self.wanted, Vec::new(self.alloc));
+        self.play_all(rt, &lines, &wanted)
+    }
+
+    fn play_all(
+        &mut self,
+        rt: &(impl Print + Threads + Wait + Sync),
+        lines: &[String],
+        wanted: &[Wanted],
+    ) -> io::Result<()> {
         let Some((first, lines)) = lines.split_first() else {
             return Ok(());
         };
         for way in WAYS {
             let answers = self.world(way).play(rt, first.as_str(), lines);
-            self.compare_all(rt, way, &wanted, &answers)?;
+            self.compare_all(rt, way, wanted, &answers)?;
         }
         Ok(())
     }
@@ -231,9 +240,10 @@ impl Sheet {
         };
         let text = format!(in self.alloc; "{answer}")?;
         if may_come(wanted, text.as_str()) {
-            return Ok(());
+            Ok(())
+        } else {
+            self.tell(rt, line, way, wanted, text.as_str())
         }
-        self.tell(rt, line, way, wanted, text.as_str())
     }
 
     fn tell(

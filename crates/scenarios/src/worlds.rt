@@ -41,6 +41,11 @@ fn asks_the_trail(verb: Verb) -> bool {
     )
 }
 
+/// Returns true if a call was made, and refused memory.
+fn lacks_memory(answer: &Option<Answer>) -> bool {
+    matches!(answer, Some(answer) if answer.lacks_memory())
+}
+
 /// Reserves room for one thing more. Where memory is refused, it tries again.
 fn make_room(made: &mut Vec<Made>) -> Result<(), AllocError>
     ensures { OnOk result (vec_len made.new < vec_capacity made.new) }
@@ -87,16 +92,50 @@ fn only_counts(way: Way, keeps: Keeps) -> bool {
     matches!((way, keeps), (Way::Counted, _) | (_, Keeps::Counted))
 }
 
+/// Makes a core, or a pool with one owner, that only counts its entries.
+fn new_counted(alloc: Global, thing: Thing, shape: &Shape) -> Result<Made, Refusal> {
+    if matches!(thing, Thing::Owned) {
+        return match new_owned(alloc, shape) {
+            Ok(owned) => Ok(Made::OwnedCounted(owned)),
+            Err(refusal) => Err(refusal),
+        };
+    }
+    match new_pool(alloc, thing, shape) {
+        Ok(pool) => Ok(Made::Counted(pool)),
+        Err(refusal) => Err(refusal),
+    }
+}
+
+/// Makes a core, or a pool with one owner, that keeps its entries.
+fn new_kept(alloc: Global, thing: Thing, shape: &Shape) -> Result<Made, Refusal> {
+    if matches!(thing, Thing::Owned) {
+        return match new_owned(alloc, shape) {
+            Ok(owned) => Ok(Made::Owned(owned)),
+            Err(refusal) => Err(refusal),
+        };
+    }
+    match new_pool(alloc, thing, shape) {
+        Ok(pool) => Ok(Made::Kept(pool)),
+        Err(refusal) => Err(refusal),
+    }
+}
+
 fn new_made(alloc: Global, way: Way, thing: Thing, shape: &Shape) -> Result<Made, Refusal> {
-    let counts = only_counts(way, shape.keeps);
     match thing {
-        Thing::Histories => Ok(Made::Histories(new_timed(alloc, shape)?)),
-        Thing::Candidates => Ok(Made::Candidates(new_ranked(alloc, shape)?)),
-        Thing::Judged => Ok(Made::Judged(new_judged(alloc, shape)?)),
-        Thing::Owned if counts => Ok(Made::OwnedCounted(new_owned(alloc, shape)?)),
-        Thing::Owned => Ok(Made::Owned(new_owned(alloc, shape)?)),
-        _ if counts => Ok(Made::Counted(new_pool(alloc, thing, shape)?)),
-        _ => Ok(Made::Kept(new_pool(alloc, thing, shape)?)),
+        Thing::Histories => match new_timed(alloc, shape) {
+            Ok(timed) => Ok(Made::Histories(timed)),
+            Err(refusal) => Err(refusal),
+        },
+        Thing::Candidates => match new_ranked(alloc, shape) {
+            Ok(ranked) => Ok(Made::Candidates(ranked)),
+            Err(refusal) => Err(refusal),
+        },
+        Thing::Judged => match new_judged(alloc, shape) {
+            Ok(judged) => Ok(Made::Judged(judged)),
+            Err(refusal) => Err(refusal),
+        },
+        _ if only_counts(way, shape.keeps) => new_counted(alloc, thing, shape),
+        _ => new_kept(alloc, thing, shape),
     }
 }
 
@@ -193,13 +232,11 @@ impl World {
     }
 
     /// Adds what was made. It is called from here on.
-    fn have(&mut self, made: Made) -> Answer {
-        let Ok(()) = make_room(&mut self.made) else {
-            return Answer::Refused(Refusal::OutOfMemory);
-        };
+    fn have(&mut self, made: Made)
+        requires { vec_len self.old.made < vec_capacity self.old.made }
+    {
         self.at = self.made.len();
         self.made.push_reserved(made);
-        DONE
     }
 
     /// Returns true if this way has what the line makes. Else the rest of the scenario is skipped.
@@ -211,12 +248,19 @@ impl World {
         !self.is_out
     }
 
+    /// Makes something. The room for it comes first, so that nothing made is to be dropped where there is none.
     fn make(&mut self, thing: Thing, shape: &Shape) -> Option<Answer> {
         if !self.goes_on(thing, shape) {
             return None;
         }
+        let Ok(()) = make_room(&mut self.made) else {
+            return Some(Answer::Refused(Refusal::OutOfMemory));
+        };
         match new_made(self.alloc, self.way, thing, shape) {
-            Ok(made) => Some(self.have(made)),
+            Ok(made) => {
+                self.have(made);
+                Some(DONE)
+            }
             Err(refusal) => Some(Answer::Refused(refusal)),
         }
     }
@@ -278,6 +322,10 @@ impl World {
         if !self.goes_on(thing, &shape) {
             return None;
         }
+        let Ok(()) = make_room(&mut self.made) else {
+            answers.add(Some(Answer::Refused(Refusal::OutOfMemory)));
+            return Some(answers);
+        };
         if let Some(made) = played(
             rt,
             self.alloc,
@@ -294,9 +342,12 @@ impl World {
 
     /// Takes a line `CALL gives REPLY`.
     fn claim(&mut self, call: &str, reply: &str) -> Answer {
-        match (call_of(self.alloc, call), self.made.get_mut(self.at)) {
-            (Some(call), Some(Made::Judged(judged))) => judged.claim(&call, reply),
-            _ => Answer::BadLine,
+        let Some(Made::Judged(judged)) = self.made.get_mut(self.at) else {
+            return Answer::BadLine;
+        };
+        match call_of(self.alloc, call) {
+            Some(call) => judged.claim(&call, reply),
+            None => Answer::BadLine,
         }
     }
 
@@ -331,24 +382,23 @@ impl World {
             return None;
         }
         let before = self.digest();
-        match self.obey(rt, line) {
-            Some(answer) if answer.lacks_memory() => {
-                if self.digest() == before || matches!(answer, Answer::Stopped(_, _)) {
-                    self.once_more(rt, line)
-                } else {
-                    Some(Answer::Word("22, and something has changed"))
-                }
-            }
-            answer => answer,
+        let answer = self.obey(rt, line);
+        if !lacks_memory(&answer) {
+            return answer;
+        }
+        if self.digest() == before || matches!(answer, Some(Answer::Stopped(_, _))) {
+            self.once_more(rt, line)
+        } else {
+            Some(Answer::Word("22, and something has changed"))
         }
     }
 
     fn once_more(&mut self, rt: &impl Wait, line: &str) -> Option<Answer> {
-        let answer = self.obey(rt, line)?;
-        if !answer.lacks_memory() {
+        let answer = self.obey(rt, line);
+        if answer.is_some() && !lacks_memory(&answer) {
             self.again = self.again.saturating_add(1);
         }
-        Some(answer)
+        answer
     }
 
     /// Cuts the rest of the trails of its cores. A pool that has an owner still is not judged.
