@@ -25,13 +25,18 @@ pub fn first_unlawful(
     ensures first { IfOk result (λ place. (room : ℕ) →
         IfSome place (IsFirstUnlawful (parameters_of setup.now room) trail.now)) }
 {
-    let mut past = Past::new(alloc, setup, &trail[..0])?;
+    let Ok(mut past) = Past::new(alloc, setup, &trail[..0]) else {
+        return Err(AllocError);
+    };
     for place in 0..trail.len() {
         let e = &trail[place];
         if !past.is_lawful(alloc, e)? {
             return Ok(Some(place));
         }
-        past = past.with(e, &trail[..place + 1])?;
+        let Ok(next) = past.with(e, &trail[..place + 1]) else {
+            return Err(AllocError);
+        };
+        past = next;
     }
     Ok(None)
 }
