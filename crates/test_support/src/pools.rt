@@ -39,12 +39,14 @@ pub fn make<K: ListKeeper>(
     let settings = Settings::new(2, 0, 1000)?;
     let device = MemDevice::new(alloc, geometry)?;
     let parts = Parts::new(alloc, clients)?;
-    let core = PoolCore::<K>::new(alloc, geometry, settings, frames, clients, room)?;
-    Ok(Made {
-        core,
-        parts,
-        device,
-    })
+    match PoolCore::<K>::new(alloc, geometry, settings, frames, clients, room) {
+        Ok(core) => Ok(Made {
+            core,
+            parts,
+            device,
+        }),
+        Err(refusal) => Err(refusal),
+    }
 }
 
 /// An open pool, a session for each client, and its device.
@@ -81,14 +83,16 @@ pub fn open<N: PoolName, K: ListKeeper>(
         reader,
         ring,
     } = parts;
-    let (pool, sessions, taker) = SharedPool::<N, K>::new(alloc, core, mark, reader, ring)?;
-    Ok(Opened {
-        pool,
-        sessions,
-        taker,
-        end,
-        device,
-    })
+    match SharedPool::<N, K>::new(alloc, core, mark, reader, ring) {
+        Ok((pool, sessions, taker)) => Ok(Opened {
+            pool,
+            sessions,
+            taker,
+            end,
+            device,
+        }),
+        Err(refusal) => Err(refusal),
+    }
 }
 
 /// Fixes a page. It stays pinned until its note is given back.

@@ -33,15 +33,26 @@ pub fn scripts_of(
     }
 }
 
-/// Splits the rows by client. It returns None where memory is refused, or there is no such client.
-fn by_client(alloc: Global, clients: usize, rows: Vec<Row>) -> Option<Vec<Vec<Row>>> {
+/// Makes an empty script for each client. It returns None where memory is refused.
+fn no_rows(alloc: Global, clients: usize) -> Option<Vec<Vec<Row>>> {
     let mut scripts = Vec::new(alloc);
     for _ in 0..clients {
         scripts.push(Vec::new(alloc)).ok()?;
     }
+    Some(scripts)
+}
+
+/// Adds a row to its client's script. It returns None where memory is refused, or there is no such client.
+fn add_row(scripts: &mut [Vec<Row>], row: Row) -> Option<()> {
+    let script: &mut Vec<Row> = scripts.get_mut(row.client as usize)?;
+    script.push(row).ok()
+}
+
+/// Splits the rows by client. It returns None where memory is refused, or there is no such client.
+fn by_client(alloc: Global, clients: usize, rows: Vec<Row>) -> Option<Vec<Vec<Row>>> {
+    let mut scripts = no_rows(alloc, clients)?;
     for row in rows {
-        let script: &mut Vec<Row> = scripts.get_mut(row.client as usize)?;
-        script.push(row).ok()?;
+        add_row(&mut scripts, row)?;
     }
     Some(scripts)
 }
