@@ -138,29 +138,47 @@ fn compare<R: Abort + Wait>(
     Ok((None, left))
 }
 
-/// Compares a new pool of so many frames with the list.
-fn try_with<R: Abort + AllocGlobal + Wait>(rt: &R, frames: usize) {
-    let pages = frames.saturating_mul(2).saturating_add(1);
+/// Makes a pool of so many frames over a file of so many pages.
+fn new_pool<R: Abort + AllocGlobal>(
+    rt: &R,
+    frames: usize,
+    pages: usize,
+) -> OwnedPool<SilentKeeper, MemPort> {
     let geometry = Geometry::new(pages as u64, 16).expect(rt, "the geometry");
     let device = MemDevice::new(rt.alloc(), geometry).expect(rt, "the device");
     let port = device.port().expect(rt, "the port");
     let settings = Settings::new(2, 0, 1 << 62).expect(rt, "the settings");
-    let pool = OwnedPool::over(rt.alloc(), port, settings, frames, 1 << 40);
-    let mut pool = pool.expect(rt, "the pool");
+    OwnedPool::over(rt.alloc(), port, settings, frames, 1 << 40).expect(rt, "the pool")
+}
+
+/// Makes a list of so many pages, none of which is in a frame.
+fn new_list<R: Abort + AllocGlobal>(rt: &R, frames: usize, pages: usize) -> List {
     let unknown = Known {
         second: 0,
         newest: 0,
         is_here: false,
     };
-    let mut list = List {
+    List {
         pages: vec![in rt.alloc(); unknown; pages].expect(rt, "the list"),
         now: 0,
         random: frames as u64,
-    };
-    let outcome = compare(rt, &mut pool, &mut list, frames as u64);
+    }
+}
+
+/// Asserts that no load evicted another page than the list's first, and that some pages left.
+fn expect_alike<R: Abort>(rt: &R, frames: usize, outcome: Result<(Option<u64>, u64), Refusal>) {
     let (differs, left) = outcome.expect(rt, "the calls");
     assert_eq!(rt; (frames, differs), (frames, None));
     assert!(rt; left >= 10);
+}
+
+/// Compares a new pool of so many frames with the list.
+fn try_with<R: Abort + AllocGlobal + Wait>(rt: &R, frames: usize) {
+    let pages = frames.saturating_mul(2).saturating_add(1);
+    let mut pool = new_pool(rt, frames, pages);
+    let mut list = new_list(rt, frames, pages);
+    let outcome = compare(rt, &mut pool, &mut list, frames as u64);
+    expect_alike(rt, frames, outcome);
 }
 
 #[test]

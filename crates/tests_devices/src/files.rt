@@ -4,7 +4,7 @@ ghost use Rattle.std.specs.Prelude.{◌≤◌};
 use crate::making::{NINE, expect_page, image, put};
 use bp_core::{RecordingKeeper, Settings};
 use bp_device::{FilePort, OpenFault, OwnedPool, Port};
-use bp_page::{Format, Lsn, PageNo, PortFault, Refusal, slot2, unslot2};
+use bp_page::{Format, Image, Lsn, PageNo, PortFault, Refusal, slot2, unslot2};
 use std::fs::File;
 use std::path::PathBuf;
 use std::process::Abort;
@@ -196,21 +196,22 @@ fn a_write_mends_a_slot_of_another_page(rt: HostRuntime) {
     fs::remove_file(&rt, path.as_path()).expect(&rt, "the file is removed");
 }
 
-/// An owner is refused a slot with the number of another page, by each call that reads it: no frame has the page then,
-/// and the device has not failed. What the owner writes to the page as a new one mends the slot.
-#[test]
-fn an_owner_gets_no_slot_of_another_page(rt: HostRuntime) {
-    let rt = &rt;
-    let path = scratch(rt, process::id(rt.process()), "owner");
-    let name = path.as_path().as_str();
+type FileOwner = OwnedPool<RecordingKeeper, FilePort>;
+
+/// Makes a pool of two frames over a new file of four slots, of which the slot of page 1 has the number of page 3.
+fn owner_of_file<R: Files<File = File> + Abort + AllocGlobal>(rt: &R, path: &str) -> FileOwner {
     let mut slots = four_slots();
     slots[32] = 3;
-    fs::write(rt, name, &slots).expect(rt, "the file");
-    let opened = FilePort::open(rt, rt.alloc(), name, 16, Format::Headed);
+    fs::write(rt, path, &slots).expect(rt, "the file");
+    let opened = FilePort::open(rt, rt.alloc(), path, 16, Format::Headed);
     let port = opened.expect(rt, "the page file");
     let settings = Settings::new(1, 0, 0).expect(rt, "the settings");
-    let made = OwnedPool::over(rt.alloc(), port, settings, 2, 100);
-    let mut owner: OwnedPool<RecordingKeeper, FilePort> = made.expect(rt, "the pool");
+    OwnedPool::over(rt.alloc(), port, settings, 2, 100).expect(rt, "the pool")
+}
+
+/// Asserts that each call that reads page 1 is refused, that no frame has the page, and that the device has not failed.
+/// Page 2 can be read.
+fn expect_wrong_page<R: Wait + Abort>(rt: &R, owner: &mut FileOwner) {
     let (wrong, right) = (PageNo::new(1), PageNo::new(2));
     match owner.fix(rt, wrong) {
         Err(refusal) => assert!(rt; refusal == Refusal::WrongPage),
@@ -222,7 +223,12 @@ fn an_owner_gets_no_slot_of_another_page(rt: HostRuntime) {
     assert!(rt; owner.with_page(rt, wrong, |bytes| bytes.len()) == Err(Refusal::WrongPage));
     assert!(rt; !owner.core().is_resident(wrong) && owner.port().failures() == 0);
     assert!(rt; owner.with_page(rt, right, |bytes| bytes.len()) == Ok(16));
-    let pass = owner.fix_new(rt, wrong).expect(rt, "the page as a new one");
+}
+
+/// Writes to page 1 as a new one, and writes it out. The judge finds the trail legal.
+fn mend<R: Wait + Abort + AllocGlobal>(rt: &R, owner: &mut FileOwner) {
+    let fixed = owner.fix_new(rt, PageNo::new(1));
+    let pass = fixed.expect(rt, "the page as a new one");
     assert!(rt; owner.write_from(&pass, 0, &NINE, Lsn::new(0)).is_ok());
     if let Err(pass) = owner.unfix(pass) {
         pass.note();
@@ -230,6 +236,17 @@ fn an_owner_gets_no_slot_of_another_page(rt: HostRuntime) {
     }
     assert_eq!(rt; owner.flush_all(rt), Ok(()));
     assert_eq!(rt; unlawful_in(rt.alloc(), owner.core()), Ok(None));
+}
+
+/// An owner is refused a slot with the number of another page, by each call that reads it: no frame has the page then,
+/// and the device has not failed. What the owner writes to the page as a new one mends the slot.
+#[test]
+fn an_owner_gets_no_slot_of_another_page(rt: HostRuntime) {
+    let rt = &rt;
+    let path = scratch(rt, process::id(rt.process()), "owner");
+    let mut owner = owner_of_file(rt, path.as_path().as_str());
+    expect_wrong_page(rt, &mut owner);
+    mend(rt, &mut owner);
     let (_core, mut port) = owner.into_parts();
     expect_page(rt, &mut port, 1, &NINE);
     fs::remove_file(rt, path.as_path()).expect(rt, "the file is removed");
@@ -241,22 +258,31 @@ const SLOT: [u8; 32] = [
     14, 15,
 ];
 
-/// A slot of version 2 is written and read as its format says, and is refused as the slot of another page.
-#[test]
-fn slot_both_ways(rt: HostRuntime) {
-    let three = PageNo::new(3);
-    let bytes = image(&rt, &SLOT[16..]);
-    match slot2(rt.alloc(), three, Lsn::new(7), &bytes) {
+/// Asserts that the slot is made of this image.
+fn expect_slot<R: Abort + AllocGlobal>(rt: &R, image: &Image) {
+    match slot2(rt.alloc(), PageNo::new(3), Lsn::new(7), image) {
         Ok(slot) => assert_eq!(rt; slot.as_slice(), SLOT.as_slice()),
         Err(refusal) => panic!(rt; "{refusal}"),
     }
-    match unslot2(rt.alloc(), three, &SLOT) {
+}
+
+/// Asserts that the slot gives its LSN and this image.
+fn expect_unslot<R: Abort + AllocGlobal>(rt: &R, image: &Image) {
+    match unslot2(rt.alloc(), PageNo::new(3), &SLOT) {
         Ok((lsn, found)) => {
             assert_eq!(rt; lsn, Lsn::new(7));
-            assert_eq!(rt; found, bytes);
+            assert_eq!(rt; found, *image);
         }
         Err(fault) => panic!(rt; "{fault}"),
     }
+}
+
+/// A slot of version 2 is written and read as its format says, and is refused as the slot of another page.
+#[test]
+fn slot_both_ways(rt: HostRuntime) {
+    let bytes = image(&rt, &SLOT[16..]);
+    expect_slot(&rt, &bytes);
+    expect_unslot(&rt, &bytes);
     let wrong = unslot2(rt.alloc(), PageNo::new(4), &SLOT);
     assert!(rt; matches!(wrong, Err(PortFault::WrongPage)));
 }

@@ -1,7 +1,7 @@
 //! Shared by the tests: four pages of 16 bytes, one frame, and ports of which one call fails.
 ghost use Rattle.std.specs.Prelude.{◌≡◌, All, vec_len};
 
-use bp_core::Settings;
+use bp_core::{Entry, Settings};
 use bp_device::{FusePort, MemDevice, MemPort, Port};
 use bp_page::{Geometry, Image, Lsn, PageNo};
 use bp_workers::{Config, Outcome, run_clients, scripts_fit};
@@ -99,6 +99,12 @@ fn fuses<R: Abort + AllocGlobal>(
     ports
 }
 
+/// Asserts that the judge finds the trail of a run of so many clients legal.
+fn expect_lawful<R: Abort + AllocGlobal>(rt: &R, config: &Config, clients: u8, trail: &[Entry]) {
+    let place = unlawful(rt.alloc(), &setup_of_run(config, clients), trail);
+    assert_eq!(rt; place, Ok(None), "the first entry that is not lawful");
+}
+
 /// Runs the rows of a text by so many clients over the device. The judge finds the trail legal.
 pub(crate) fn run<R: Threads + Wait + Sync + Abort + AllocGlobal>(
     rt: &R,
@@ -116,7 +122,6 @@ pub(crate) fn run<R: Threads + Wait + Sync + Abort + AllocGlobal>(
     assert!(rt; ports.len() == scripts.len() && scripts_fit(&config, &scripts));
     let ran = run_clients(rt, rt.alloc(), config, scripts, ports);
     let (done, _) = ran.expect(rt, "the run");
-    let place = unlawful(rt.alloc(), &setup_of_run(&config, clients), &done.trail);
-    assert_eq!(rt; place, Ok(None), "the first entry that is not lawful");
+    expect_lawful(rt, &config, clients, &done.trail);
     done
 }

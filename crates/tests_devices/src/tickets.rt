@@ -54,19 +54,30 @@ fn end_read(
     }
 }
 
+/// Asserts that a core refuses a ticket and makes no entry. It returns the ticket.
+fn refused_by(rt: &(impl Abort + AllocGlobal), core: &mut Core, ticket: ReadTicket) -> ReadTicket {
+    let Some(ticket) = end_read(rt, core, ticket) else {
+        panic!(rt; "the other core gave a pass");
+    };
+    assert!(rt; core.trail().is_empty());
+    ticket
+}
+
+/// Asserts that a core takes its own ticket.
+fn expect_taken(rt: &(impl Abort + AllocGlobal), core: &mut Core, ticket: ReadTicket) {
+    if let Some(ticket) = end_read(rt, core, ticket) {
+        ticket.forfeit();
+        panic!(rt; "its own core does not know it");
+    }
+    assert_eq!(rt; core.trail().len(), 2);
+}
+
 // Another core refuses the ticket and returns it with the image. It is still good for its own core.
 #[test]
 fn ticket_goes_to_another_core_and_back(rt: HostRuntime) {
     let mut own = new_core(&rt);
     let mut other = new_core(&rt);
     let ticket = ticket_of(&rt, &mut own);
-    let Some(ticket) = end_read(&rt, &mut other, ticket) else {
-        panic!(&rt; "the other core gave a pass");
-    };
-    assert!(rt; other.trail().is_empty());
-    if let Some(ticket) = end_read(&rt, &mut own, ticket) {
-        ticket.forfeit();
-        panic!(&rt; "its own core does not know it");
-    }
-    assert_eq!(rt; own.trail().len(), 2);
+    let ticket = refused_by(&rt, &mut other, ticket);
+    expect_taken(&rt, &mut own, ticket);
 }

@@ -1,12 +1,12 @@
 //! Workers whose ports fail at each call.
-use crate::making::config;
-use crate::writer::Writer;
+use crate::making::{config, expect_lawful};
+use crate::writer::{Writer, writers};
 use bp_device::Port;
 use bp_page::{Geometry, Image, Lsn, PageNo, PortFault, Refusal};
-use bp_workers::run_workers;
+use bp_workers::{Left, run_workers};
+use std::process::Abort;
 use std::rt::HostRuntime;
 use std::sync::Wait;
-use test_support::judging::unlawful_in;
 
 #[derive(Drop)]
 struct DeadPort {
@@ -59,30 +59,38 @@ impl Port for DeadPort {
     }
 }
 
+/// Makes so many ports that always fail.
+fn dead_ports<R: Abort + AllocGlobal>(rt: &R, geometry: Geometry, count: usize) -> Vec<DeadPort> {
+    let mut ports = Vec::new(rt.alloc());
+    for _ in 0..count {
+        let port = DeadPort {
+            geometry,
+            failures: 0,
+        };
+        ports.push(port).expect(rt, "a place");
+    }
+    ports
+}
+
+/// Asserts that each fix of a worker was refused.
+fn expect_refused<R: Abort>(rt: &R, left: &Left<DeadPort, Writer>) {
+    assert_eq!(rt; left.worker.done, 0);
+    assert_eq!(rt; left.worker.refused, 13);
+    assert_eq!(rt; left.worker.latest, Some(Refusal::ReadFailed));
+    assert_eq!(rt; left.port.failures(), 13);
+    assert_eq!(rt; left.held, 0);
+}
+
 /// Each fix of a worker whose port always fails is refused, and the run ends.
 #[test]
 fn dead_ports_end_no_run(rt: HostRuntime) {
     let rt = &rt;
     let config = config(rt, 2);
-    let mut workers = Vec::new(rt.alloc());
-    let mut ports = Vec::new(rt.alloc());
-    for _ in 0..2 {
-        workers
-            .push(Writer::new(rt.alloc(), 3, true))
-            .expect(rt, "a place");
-        let port = DeadPort {
-            geometry: config.geometry,
-            failures: 0,
-        };
-        ports.push(port).expect(rt, "a place");
-    }
-    let run = run_workers(rt, rt.alloc(), config, ports, workers).expect(rt, "the run");
-    assert_eq!(rt; unlawful_in(rt.alloc(), &run.core), Ok(None));
+    let ports = dead_ports(rt, config.geometry, 2);
+    let run = run_workers(rt, rt.alloc(), config, ports, writers(rt, 2, true));
+    let run = run.expect(rt, "the run");
+    expect_lawful(rt, &run.core);
     for left in &run.left {
-        assert_eq!(rt; left.worker.done, 0);
-        assert_eq!(rt; left.worker.refused, 13);
-        assert_eq!(rt; left.worker.latest, Some(Refusal::ReadFailed));
-        assert_eq!(rt; left.port.failures(), 13);
-        assert_eq!(rt; left.held, 0);
+        expect_refused(rt, left);
     }
 }

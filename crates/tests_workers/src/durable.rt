@@ -2,8 +2,8 @@
 ghost use Rattle.std.specs.Prelude.{◌≡◌, ◌<◌};
 ghost use Rattle.bp_workers.specs.Logs.{RaisesWithin};
 
-use crate::making::{config, ports};
-use bp_core::{Call, Pass, RecordingKeeper};
+use crate::making::{config, expect_lawful, ports};
+use bp_core::{Call, Entry, Pass, RecordingKeeper};
 use bp_device::{MemPort, Port};
 use bp_page::{Lsn, PageNo, Refusal};
 use bp_shared::{PoolName, SharedPool};
@@ -17,7 +17,6 @@ use std::rt::HostRuntime;
 use std::sync::Wait;
 use std::thread::Threads;
 use std::time::Duration;
-use test_support::judging::unlawful_in;
 use test_support::pools::{fix, unfix_draining, write};
 
 /// A log that notes what it was asked for. It may be one that can't be made durable.
@@ -75,6 +74,23 @@ struct Waiter {
 }
 
 impl Waiter {
+    fn new(alloc: Global, rounds: u32, ticks: u64, holds: bool, is_broken: bool) -> Waiter {
+        Waiter {
+            alloc,
+            log: Notes {
+                asked: 0,
+                times: 0,
+                durable: 0,
+                is_broken,
+            },
+            rounds,
+            ticks,
+            holds,
+            is_fixed: false,
+            refused: None,
+        }
+    }
+
     fn note(&mut self, outcome: Result<(), Refusal>) {
         match outcome {
             Ok(()) => self.is_fixed = true,
@@ -140,38 +156,20 @@ impl<P: Port> Worker<P, RecordingKeeper> for Waiter {
 /// Runs one waiter over one frame, and asserts that its trail is legal.
 fn run<R: Abort + AllocGlobal + Threads + Wait + Sync>(
     rt: &R,
-    rounds: u32,
-    ticks: u64,
-    holds: bool,
-    is_broken: bool,
+    waiter: Waiter,
 ) -> Left<MemPort, Waiter> {
     let mut workers = Vec::new(rt.alloc());
-    let waiter = Waiter {
-        alloc: rt.alloc(),
-        log: Notes {
-            asked: 0,
-            times: 0,
-            durable: 0,
-            is_broken,
-        },
-        rounds,
-        ticks,
-        holds,
-        is_fixed: false,
-        refused: None,
-    };
     workers.push(waiter).expect(rt, "a place");
     let run = run_workers(rt, rt.alloc(), config(rt, 1), ports(rt, 1), workers);
-    let run = run.expect(rt, "the run");
-    assert_eq!(rt; unlawful_in(rt.alloc(), &run.core), Ok(None));
-    let mut left = run.left;
-    left.pop().expect(rt, "what the waiter left")
+    let mut run = run.expect(rt, "the run");
+    expect_lawful(rt, &run.core);
+    run.left.pop().expect(rt, "what the waiter left")
 }
 
 /// Returns how often the clock was moved.
-fn ticks(left: &Left<MemPort, Waiter>) -> usize {
+fn ticks(entries: &[Entry]) -> usize {
     let mut ticks = 0usize;
-    for entry in left.said() {
+    for entry in entries {
         if matches!(entry.call, Call::Tick(_)) {
             ticks = ticks.saturating_add(1);
         }
@@ -179,16 +177,29 @@ fn ticks(left: &Left<MemPort, Waiter>) -> usize {
     ticks
 }
 
-/// The first fix finds no victim, the second needs the log, and the third writes page 0 out and reads page 1.
-#[test]
-fn log_is_made_durable(rt: HostRuntime) {
-    let rt = &rt;
-    let left = run(rt, 2, 1, false, false);
-    assert!(rt; left.worker.is_fixed);
-    assert_eq!(rt; left.worker.log.asked, 5);
-    assert_eq!(rt; left.worker.log.times, 1);
-    assert_eq!(rt; left.worker.log.durable, 5);
-    let totals = Totals::of(left.said());
+/// Asserts that the fix was done, and that the log was asked once, for LSN 5.
+fn expect_fixed<R: Abort>(rt: &R, waiter: &Waiter) {
+    assert!(rt; waiter.is_fixed);
+    assert_eq!(rt; waiter.log.asked, 5);
+    assert_eq!(rt; waiter.log.times, 1);
+    assert_eq!(rt; waiter.log.durable, 5);
+}
+
+/// Asserts that the fix was refused, and how often the log was asked.
+fn expect_refused<R: Abort>(rt: &R, waiter: &Waiter, why: Refusal, times: u64) {
+    assert!(rt; !waiter.is_fixed);
+    assert_eq!(rt; waiter.refused, Some(why));
+    assert_eq!(rt; waiter.log.times, times);
+}
+
+/// Asserts how many calls were refused, and how often the clock was moved.
+fn expect_tries<R: Abort>(rt: &R, entries: &[Entry], refused: u64, moved: usize) {
+    assert_eq!(rt; Totals::of(entries).refused, refused);
+    assert_eq!(rt; ticks(entries), moved);
+}
+
+/// Asserts the list of a fix that waited for the log.
+fn expect_entries<R: Abort>(rt: &R, entries: &[Entry]) {
     let wanted = Totals {
         hits: 0,
         faults: 2,
@@ -197,9 +208,18 @@ fn log_is_made_durable(rt: HostRuntime) {
         failed: 0,
         refused: 2,
     };
-    assert_eq!(rt; totals, wanted);
-    assert_eq!(rt; ticks(&left), 1);
-    assert_eq!(rt; left.said().len(), 13);
+    assert_eq!(rt; Totals::of(entries), wanted);
+    assert_eq!(rt; ticks(entries), 1);
+    assert_eq!(rt; entries.len(), 13);
+}
+
+/// The first fix finds no victim, the second needs the log, and the third writes page 0 out and reads page 1.
+#[test]
+fn log_is_made_durable(rt: HostRuntime) {
+    let rt = &rt;
+    let left = run(rt, Waiter::new(rt.alloc(), 2, 1, false, false));
+    expect_fixed(rt, &left.worker);
+    expect_entries(rt, left.said());
 }
 
 /// A pinned page never leaves: each attempt is one entry, and the clock is moved once. If the clock can't be moved so
@@ -207,26 +227,20 @@ fn log_is_made_durable(rt: HostRuntime) {
 #[test]
 fn held_page_stays(rt: HostRuntime) {
     let rt = &rt;
-    let left = run(rt, 3, 1, true, false);
-    assert!(rt; !left.worker.is_fixed);
-    assert_eq!(rt; left.worker.refused, Some(Refusal::NoVictim));
-    assert_eq!(rt; left.worker.log.times, 0);
-    assert_eq!(rt; Totals::of(left.said()).refused, 4);
-    assert_eq!(rt; ticks(&left), 1);
+    let left = run(rt, Waiter::new(rt.alloc(), 3, 1, true, false));
+    expect_refused(rt, &left.worker, Refusal::NoVictim, 0);
+    expect_tries(rt, left.said(), 4, 1);
     assert_eq!(rt; left.held, 1);
-    let left = run(rt, 3, 1 << 62, true, false);
-    assert_eq!(rt; left.worker.refused, Some(Refusal::ClockFull));
-    assert_eq!(rt; Totals::of(left.said()).refused, 1);
-    assert_eq!(rt; ticks(&left), 0);
+    let left = run(rt, Waiter::new(rt.alloc(), 3, 1 << 62, true, false));
+    expect_refused(rt, &left.worker, Refusal::ClockFull, 0);
+    expect_tries(rt, left.said(), 1, 0);
 }
 
 /// A log that can't be made durable ends the fix at once, however many rounds are allowed.
 #[test]
 fn broken_log_ends_the_fix(rt: HostRuntime) {
     let rt = &rt;
-    let left = run(rt, 1_000_000, 1, false, true);
-    assert!(rt; !left.worker.is_fixed);
-    assert_eq!(rt; left.worker.refused, Some(Refusal::NeedLog(Lsn::new(5))));
-    assert_eq!(rt; left.worker.log.times, 1);
+    let left = run(rt, Waiter::new(rt.alloc(), 1_000_000, 1, false, true));
+    expect_refused(rt, &left.worker, Refusal::NeedLog(Lsn::new(5)), 1);
     assert_eq!(rt; left.said().len(), 7);
 }

@@ -1,7 +1,7 @@
 //! Checkpoints by client 0, while the other clients write to their pages under a log.
 ghost use Rattle.std.specs.Prelude.{◌≡◌};
 
-use crate::making::{config, ports};
+use crate::making::{config, expect_lawful, ports};
 use bp_core::RecordingKeeper;
 use bp_device::{MemPort, Port};
 use bp_page::{Lsn, PageNo, Refusal};
@@ -15,7 +15,6 @@ use std::rt::HostRuntime;
 use std::sync::{Arc, Mutex, Wait};
 use std::thread::Parker;
 use std::time::Duration;
-use test_support::judging::unlawful_in;
 use test_support::pools::{fix, unfix_draining, write};
 
 /// The number of writes of each other client.
@@ -126,17 +125,14 @@ impl<P: Port> Worker<P, RecordingKeeper> for Hand {
     }
 }
 
-/// The LSN from which redo would begin never falls, and is beyond the last record in the end. The device then has the
-/// last write of each page.
-#[test]
-fn checkpoints_beside_writers(rt: HostRuntime) {
-    let rt = &rt;
+/// Makes client 0, and three clients that write, over one log.
+fn hands<R: Abort + AllocGlobal>(rt: &R) -> Vec<Hand> {
     let log = Log {
         last: 0,
         writers: 3,
     };
     let log = Arc::new(rt.alloc(), Mutex::new(log)).expect(rt, "the log");
-    let mut workers = Vec::new(rt.alloc());
+    let mut hands = Vec::new(rt.alloc());
     for page in 0..4u64 {
         let hand = Hand {
             alloc: rt.alloc(),
@@ -145,27 +141,42 @@ fn checkpoints_beside_writers(rt: HostRuntime) {
             outcome: Ok(()),
             redo: Vec::new(rt.alloc()),
         };
-        workers.push(hand).expect(rt, "a place");
+        hands.push(hand).expect(rt, "a place");
     }
-    let run = run_workers(rt, rt.alloc(), config(rt, 4), ports(rt, 4), workers);
+    hands
+}
+
+/// Asserts that the LSN from which redo would begin never falls, and is beyond the last record in the end.
+fn expect_rising<R: Abort>(rt: &R, redo: &[Lsn]) {
+    let mut before = Lsn::new(0);
+    for redo in redo {
+        assert!(rt; before <= *redo);
+        before = *redo;
+    }
+    assert_eq!(rt; before, Lsn::new(3 * u64::from(TURNS) + 1));
+}
+
+/// Asserts that the device has the last write of each page.
+fn expect_last_writes<R: Abort + Wait>(rt: &R, port: &mut MemPort) {
+    for number in 1..4u64 {
+        let image = port.read(rt, PageNo::new(number)).expect(rt, "the page");
+        assert_eq!(rt; image.bytes().first(), Some(&TURNS));
+    }
+}
+
+/// The LSN from which redo would begin never falls, and is beyond the last record in the end. The device then has the
+/// last write of each page.
+#[test]
+fn checkpoints_beside_writers(rt: HostRuntime) {
+    let rt = &rt;
+    let run = run_workers(rt, rt.alloc(), config(rt, 4), ports(rt, 4), hands(rt));
     let mut run = run.expect(rt, "the run");
-    assert_eq!(rt; unlawful_in(rt.alloc(), &run.core), Ok(None));
+    expect_lawful(rt, &run.core);
     assert!(rt; Totals::of(run.core.trail()).writes >= 3);
     for left in &run.left {
         assert_eq!(rt; left.worker.outcome, Ok(()));
     }
     let first: &mut Left<MemPort, Hand> = run.left.first_mut().expect(rt, "what client 0 left");
-    let mut before = Lsn::new(0);
-    for redo in &first.worker.redo {
-        assert!(rt; before <= *redo);
-        before = *redo;
-    }
-    assert_eq!(rt; before, Lsn::new(3 * u64::from(TURNS) + 1));
-    for number in 1..4u64 {
-        let image = first
-            .port
-            .read(rt, PageNo::new(number))
-            .expect(rt, "the page");
-        assert_eq!(rt; image.bytes().first(), Some(&TURNS));
-    }
+    expect_rising(rt, &first.worker.redo);
+    expect_last_writes(rt, &mut first.port);
 }

@@ -2,20 +2,19 @@
 ghost use Rattle.std.specs.Prelude.{◌≡◌};
 
 use crate::durable::change;
-use crate::making::{config, ports};
+use crate::making::{config, expect_lawful, ports};
 use bp_core::RecordingKeeper;
-use bp_device::Port;
+use bp_device::{MemPort, Port};
 use bp_keeper::ListKeeper;
 use bp_page::{Lsn, Refusal};
 use bp_shared::{PoolName, SharedPool};
-use bp_workers::{Client, DurableLog, Patience, Upkeep, Worker, fix_durably, run_workers};
+use bp_workers::{Client, DurableLog, Patience, Run, Upkeep, Worker, fix_durably, run_workers};
 use std::alloc::Global;
 use std::process::Abort;
 use std::rt::HostRuntime;
 use std::sync::{Arc, Mutex, Wait};
 use std::thread::Parker;
 use std::time::Duration;
-use test_support::judging::unlawful_in;
 use test_support::pools::unfix_draining;
 
 #[derive(Drop)]
@@ -124,6 +123,30 @@ impl<P: Port> Worker<P, RecordingKeeper> for Sharer {
     }
 }
 
+/// Makes two clients over one log.
+fn sharers<R: Abort + AllocGlobal>(rt: &R, log: &Arc<Mutex<Log>, Global>) -> Vec<Sharer> {
+    let mut sharers = Vec::new(rt.alloc());
+    for _ in 0..2 {
+        let log = Arc::try_clone(log).expect(rt, "the log");
+        let sharer = Sharer {
+            alloc: rt.alloc(),
+            following: Following { log, known: 0 },
+            outcome: Ok(()),
+        };
+        sharers.push(sharer).expect(rt, "a place");
+    }
+    sharers
+}
+
+/// Asserts that a run was lawful, that the mark is at LSN 5, and that no client was refused.
+fn expect_followed<R: Abort + AllocGlobal>(rt: &R, run: &Run<MemPort, Sharer>) {
+    expect_lawful(rt, &run.core);
+    assert_eq!(rt; run.core.durable(), Lsn::new(5));
+    for left in &run.left {
+        assert_eq!(rt; left.worker.outcome, Ok(()));
+    }
+}
+
 /// Page 0 goes out once client 0 was asked for LSN 5, and has raised the mark to it.
 #[test]
 fn client_one_waits_for_client_zero(rt: HostRuntime) {
@@ -134,23 +157,9 @@ fn client_one_waits_for_client_zero(rt: HostRuntime) {
         is_over: false,
     };
     let log = Arc::new(rt.alloc(), Mutex::new(log)).expect(rt, "the log");
-    let mut workers = Vec::new(rt.alloc());
-    for _ in 0..2 {
-        let log = Arc::try_clone(&log).expect(rt, "the log");
-        let sharer = Sharer {
-            alloc: rt.alloc(),
-            following: Following { log, known: 0 },
-            outcome: Ok(()),
-        };
-        workers.push(sharer).expect(rt, "a place");
-    }
+    let workers = sharers(rt, &log);
     let run = run_workers(rt, rt.alloc(), config(rt, 1), ports(rt, 2), workers);
-    let run = run.expect(rt, "the run");
-    assert_eq!(rt; unlawful_in(rt.alloc(), &run.core), Ok(None));
-    assert_eq!(rt; run.core.durable(), Lsn::new(5));
-    for left in &run.left {
-        assert_eq!(rt; left.worker.outcome, Ok(()));
-    }
+    expect_followed(rt, &run.expect(rt, "the run"));
     let log = log.lock(rt);
     assert_eq!(rt; (log.wanted, log.raised), (5, 5));
 }

@@ -8,8 +8,9 @@ use bp_device::{MemPort, Port};
 use bp_keeper::ListKeeper;
 use bp_page::{Lsn, Refusal};
 use bp_shared::{PoolName, SharedPool};
-use bp_workers::{Client, Config, Upkeep, Worker, run_workers_over};
+use bp_workers::{Client, Config, Left, Upkeep, Worker, run_workers_over};
 use std::alloc::Global;
+use std::process::Abort;
 use std::rt::HostRuntime;
 use std::sync::Wait;
 use test_support::pools::{fix, read, unfix_draining};
@@ -112,6 +113,27 @@ impl<P: Port, K: ListKeeper> Worker<P, K> for Labeler {
     }
 }
 
+/// Makes one worker that has not begun.
+fn labelers<R: Abort + AllocGlobal>(rt: &R) -> Vec<Labeler> {
+    let mut labelers = Vec::new(rt.alloc());
+    let labeler = Labeler {
+        alloc: rt.alloc(),
+        put: 0,
+        found: 0,
+        latest: None,
+    };
+    labelers.push(labeler).expect(rt, "a place");
+    labelers
+}
+
+/// Asserts that each label was put and found.
+fn expect_labels<R: Abort>(rt: &R, left: &Left<MemPort, Labeler, SilentKeeper>) {
+    assert_eq!(rt; left.worker.latest, None);
+    assert_eq!(rt; left.worker.put, PAGES);
+    assert_eq!(rt; left.worker.found, PAGES);
+    assert_eq!(rt; left.held, 0);
+}
+
 /// Two of four pages are in no frame at any time, so labels are written out and read again.
 #[test]
 fn silent_labels_are_read_back(rt: HostRuntime) {
@@ -121,27 +143,16 @@ fn silent_labels_are_read_back(rt: HostRuntime) {
         room: 1 << 61,
         ..config(rt, 2)
     };
-    let mut workers = Vec::new(rt.alloc());
-    let worker = Labeler {
-        alloc: rt.alloc(),
-        put: 0,
-        found: 0,
-        latest: None,
-    };
-    workers.push(worker).expect(rt, "a place");
     let run = run_workers_over::<SilentKeeper, MemPort, Labeler, HostRuntime>(
         rt,
         rt.alloc(),
         config,
         ports(rt, 1),
-        workers,
+        labelers(rt),
     ).expect(rt, "the run");
     assert_eq!(rt; run.left.len(), 1);
     for left in &run.left {
-        assert_eq!(rt; left.worker.latest, None);
-        assert_eq!(rt; left.worker.put, PAGES);
-        assert_eq!(rt; left.worker.found, PAGES);
-        assert_eq!(rt; left.held, 0);
+        expect_labels(rt, left);
     }
     assert_eq!(rt; run.core.clock(), 9);
     assert_eq!(rt; run.core.durable(), Lsn::new(DURABLE));

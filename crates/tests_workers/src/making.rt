@@ -1,9 +1,10 @@
-//! Shared by the tests: pools of four pages of 16 bytes, and ports to them.
-use bp_core::Settings;
+//! Shared by the tests: pools of four pages of 16 bytes, ports to them, and the judge of a run.
+use bp_core::{Core, Settings};
 use bp_device::{MemDevice, MemPort};
 use bp_page::Geometry;
 use bp_workers::Config;
 use std::process::Abort;
+use test_support::judging::unlawful_in;
 
 pub(crate) const PAGES: u64 = 4;
 
@@ -26,4 +27,9 @@ pub(crate) fn ports<R: Abort + AllocGlobal>(rt: &R, count: usize) -> Vec<MemPort
         ports.push(port).expect(rt, "a place");
     }
     ports
+}
+
+/// Asserts that the judge finds the trail of a core legal.
+pub(crate) fn expect_lawful<R: Abort + AllocGlobal>(rt: &R, core: &Core) {
+    assert_eq!(rt; unlawful_in(rt.alloc(), core), Ok(None));
 }

@@ -5,19 +5,18 @@ ghost use Rattle.bp_trail.specs.Clock.{durable};
 ghost use Rattle.bp_shared.specs.Sessions.{DoesWorkSaid};
 ghost use Rattle.bp_workers.specs.Lists.{SideBySide};
 
-use crate::making::{PAGES, config};
+use crate::making::{PAGES, config, expect_lawful};
 use bp_core::RecordingKeeper;
 use bp_device::{FusePort, MemDevice, MemPort, Port};
 use bp_page::{Geometry, Refusal};
 use bp_shared::{PoolName, SharedPool};
-use bp_workers::{Client, Config, Run, Upkeep, Worker, run_workers};
+use bp_workers::{Client, Config, Left, Run, Upkeep, Worker, run_workers};
 use std::alloc::Global;
 use std::marker::{Send, Sync};
 use std::process::Abort;
 use std::rt::HostRuntime;
 use std::sync::Wait;
 use std::thread::Threads;
-use test_support::judging::unlawful_in;
 
 /// Fixes one page, and keeps the pass.
 #[derive(Drop)]
@@ -113,10 +112,8 @@ fn fuses<R: Abort + AllocGlobal>(rt: &R, calls: &[u64]) -> Vec<FusePort<MemPort>
     fuses
 }
 
-/// Three visitors each read a page by their own port. The first call of client 0's port fails.
-#[test]
-fn each_worker_works_over_its_own_port(rt: HostRuntime) {
-    let rt = &rt;
+/// Makes a visitor to each of three pages.
+fn visitors<R: Abort + AllocGlobal>(rt: &R) -> Vec<Visitor> {
     let mut visitors = Vec::new(rt.alloc());
     for page in 0..3u64 {
         let visitor = Visitor {
@@ -125,19 +122,31 @@ fn each_worker_works_over_its_own_port(rt: HostRuntime) {
         };
         visitors.push(visitor).expect(rt, "a place");
     }
+    visitors
+}
+
+/// Asserts that the port of client 0 failed once, so that its fix was refused, and that each other client has a pass.
+fn expect_client<R: Abort>(rt: &R, left: &Left<FusePort<MemPort>, Visitor>, client: usize) {
+    let (failures, refused, held) = if client == 0 {
+        (1, Some(Refusal::ReadFailed), 0)
+    } else {
+        (0, None, 1)
+    };
+    assert_eq!(rt; left.port.failures(), failures);
+    assert_eq!(rt; left.worker.refused, refused);
+    assert_eq!(rt; left.held, held);
+}
+
+/// Three visitors each read a page by their own port. The first call of client 0's port fails.
+#[test]
+fn each_worker_works_over_its_own_port(rt: HostRuntime) {
+    let rt = &rt;
     let ports = fuses(rt, &[1, 100, 100]);
-    let run = visit_all(rt, rt.alloc(), config(rt, 4), ports, visitors).expect(rt, "the run");
-    assert_eq!(rt; unlawful_in(rt.alloc(), &run.core), Ok(None));
+    let run = visit_all(rt, rt.alloc(), config(rt, 4), ports, visitors(rt));
+    let run = run.expect(rt, "the run");
+    expect_lawful(rt, &run.core);
     assert_eq!(rt; run.left.len(), 3);
     for client in 0..run.left.len() {
-        let left = &run.left[client];
-        let (failures, refused, held) = if client == 0 {
-            (1, Some(Refusal::ReadFailed), 0)
-        } else {
-            (0, None, 1)
-        };
-        assert_eq!(rt; left.port.failures(), failures);
-        assert_eq!(rt; left.worker.refused, refused);
-        assert_eq!(rt; left.held, held);
+        expect_client(rt, &run.left[client], client);
     }
 }

@@ -7,7 +7,7 @@ use bp_device::{MemPort, Port};
 use bp_keeper::ListKeeper;
 use bp_page::Refusal;
 use bp_shared::{PoolName, SharedPool};
-use bp_workers::{Client, Kind, Run, Upkeep, Worker, run_workers_over};
+use bp_workers::{Client, Kind, Left, Run, Upkeep, Worker, run_workers_over};
 use std::process::Abort;
 use std::rt::HostRuntime;
 use std::sync::Wait;
@@ -61,28 +61,36 @@ impl<P: Port, K: ListKeeper> Worker<P, K> for Ticker {
     }
 }
 
+fn tickers<R: Abort + AllocGlobal>(rt: &R) -> Vec<Ticker> {
+    let mut tickers = Vec::new(rt.alloc());
+    for _ in 0..2 {
+        let ticker = Ticker { done: 0, full: 0 };
+        tickers.push(ticker).expect(rt, "a place");
+    }
+    tickers
+}
+
+/// Returns the ticks that were done, and those that found no room.
+fn count<K: Kind>(clients: &[Left<MemPort, Ticker, K>]) -> (u64, u64) {
+    let (mut done, mut full) = (0u64, 0u64);
+    for left in clients {
+        done = done.saturating_add(left.worker.done);
+        full = full.saturating_add(left.worker.full);
+    }
+    (done, full)
+}
+
 /// Runs two workers that tick, over a pool with room for ten entries. Of their sixteen ticks ten are done, and the
 /// others find no room.
 fn run_tickers<K: Kind, R: Abort + AllocGlobal + Threads + Wait + Sync>(
     rt: &R,
 ) -> Run<MemPort, Ticker, K> {
-    let mut workers = Vec::new(rt.alloc());
-    for _ in 0..2 {
-        let worker = Ticker { done: 0, full: 0 };
-        workers.push(worker).expect(rt, "a place");
-    }
     let mut config = config(rt, 4);
     config.room = 10;
-    let ports = ports(rt, 2);
+    let (ports, workers) = (ports(rt, 2), tickers(rt));
     let run = run_workers_over::<K, MemPort, Ticker, R>(rt, rt.alloc(), config, ports, workers);
     let run = run.expect(rt, "the run");
-    let mut done = 0u64;
-    let mut full = 0u64;
-    for left in &run.left {
-        done = done.saturating_add(left.worker.done);
-        full = full.saturating_add(left.worker.full);
-    }
-    assert_eq!(rt; (done, full), (10, 6));
+    assert_eq!(rt; count(&run.left), (10, 6));
     run
 }
 

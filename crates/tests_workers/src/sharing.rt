@@ -1,16 +1,15 @@
 //! Workers that share pages.
-use crate::making::{config, ports};
-use crate::writer::{DURABLE, Writer};
+use crate::making::{config, expect_lawful, ports};
+use crate::writer::{DURABLE, Writer, writers};
 use bp_core::{Call, Entry};
 use bp_device::MemPort;
 use bp_page::Lsn;
 use bp_trail::agrees;
-use bp_workers::{Run, run_workers};
+use bp_workers::{Left, Run, run_workers};
 use std::process::Abort;
 use std::rt::HostRuntime;
 use std::sync::Wait;
 use std::thread::Threads;
-use test_support::judging::unlawful_in;
 
 /// Runs so many workers, which keep a pass where `keeps` is true. The judge finds the trail legal.
 fn run<R: Abort + AllocGlobal + Threads + Wait + Sync>(
@@ -19,15 +18,10 @@ fn run<R: Abort + AllocGlobal + Threads + Wait + Sync>(
     count: usize,
     keeps: bool,
 ) -> Run<MemPort, Writer> {
-    let mut workers = Vec::new(rt.alloc());
-    for _ in 0..count {
-        let worker = Writer::new(rt.alloc(), 3, keeps);
-        workers.push(worker).expect(rt, "a place");
-    }
-    let ports = ports(rt, count);
+    let (ports, workers) = (ports(rt, count), writers(rt, count, keeps));
     let run = run_workers(rt, rt.alloc(), config(rt, frames), ports, workers);
     let run = run.expect(rt, "the run");
-    assert_eq!(rt; unlawful_in(rt.alloc(), &run.core), Ok(None));
+    expect_lawful(rt, &run.core);
     run
 }
 
@@ -41,6 +35,16 @@ fn count_marks(trail: &[Entry]) -> usize {
     marks
 }
 
+/// Asserts that a client's list is its part of the trail, that no call was refused, and that all passes went back.
+fn expect_client<R: Abort>(rt: &R, trail: &[Entry], left: &Left<MemPort, Writer>, client: usize) {
+    let number = u8::try_from(client).expect(rt, "the client's number");
+    assert!(rt; agrees(trail, left.said(), number));
+    assert_eq!(rt; left.worker.done, 12);
+    assert_eq!(rt; left.worker.refused, 0);
+    assert_eq!(rt; left.held, 0);
+    assert!(rt; left.all_went_back);
+}
+
 /// Asserts that each list is its client's part of the trail, that all passes went back, and that the trail has
 /// one mark.
 fn expect_shared<R: Abort + AllocGlobal + Threads + Wait + Sync>(
@@ -51,13 +55,7 @@ fn expect_shared<R: Abort + AllocGlobal + Threads + Wait + Sync>(
     let run = run(rt, frames, count, false);
     assert_eq!(rt; run.left.len(), count);
     for client in 0..run.left.len() {
-        let left = &run.left[client];
-        let number = u8::try_from(client).expect(rt, "the client's number");
-        assert!(rt; agrees(run.core.trail(), left.said(), number));
-        assert_eq!(rt; left.worker.done, 12);
-        assert_eq!(rt; left.worker.refused, 0);
-        assert_eq!(rt; left.held, 0);
-        assert!(rt; left.all_went_back);
+        expect_client(rt, run.core.trail(), &run.left[client], client);
     }
     assert_eq!(rt; count_marks(run.core.trail()), 1);
 }
@@ -74,16 +72,21 @@ fn sixty_four_workers(rt: HostRuntime) {
     expect_shared(&rt, 64, 64);
 }
 
+/// Asserts that a client still held a pass, which was given back: the unfix is in its list.
+fn expect_given_back<R: Abort>(rt: &R, left: &Left<MemPort, Writer>) {
+    assert_eq!(rt; left.held, 1);
+    assert!(rt; left.all_went_back);
+    assert!(rt;
+        matches!(left.said().last(), Some(entry) if matches!(entry.call, Call::Unfix { .. }))
+    );
+}
+
 /// A pass that a worker still holds when it returns is given back, and the unfix is in its list.
 #[test]
 fn passes_still_held_go_back(rt: HostRuntime) {
     let rt = &rt;
     let run = run(rt, 4, 2, true);
     for left in &run.left {
-        assert_eq!(rt; left.held, 1);
-        assert!(rt; left.all_went_back);
-        assert!(rt;
-            matches!(left.said().last(), Some(entry) if matches!(entry.call, Call::Unfix { .. }))
-        );
+        expect_given_back(rt, left);
     }
 }

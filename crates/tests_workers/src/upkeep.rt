@@ -3,9 +3,10 @@ ghost use Rattle.std.specs.Prelude.{◌≡◌};
 
 use crate::making::{config, ports};
 use bp_core::{Entry, RecordingKeeper};
-use bp_device::Port;
+use bp_device::{MemPort, Port};
 use bp_shared::{PoolName, SharedPool};
-use bp_workers::{Client, Upkeep, Worker, run_workers};
+use bp_workers::{Client, Left, Upkeep, Worker, run_workers};
+use std::process::Abort;
 use std::rt::HostRuntime;
 use std::sync::Wait;
 use test_support::judging::{setup_of, unlawful};
@@ -83,32 +84,46 @@ impl<P: Port> Worker<P, RecordingKeeper> for Hoarder {
     }
 }
 
+fn hoarders<R: AllocGlobal + Abort>(rt: &R) -> Vec<Hoarder> {
+    let mut hoarders = Vec::new(rt.alloc());
+    for _ in 0..2 {
+        let hoarder = Hoarder {
+            taken: 0,
+            given: 0,
+            cut: Vec::new(rt.alloc()),
+        };
+        hoarders.push(hoarder).expect(rt, "a place");
+    }
+    hoarders
+}
+
+/// Asserts that each pass was taken and given back. It moves what was cut to the trail, and returns how many entries
+/// the lists have.
+fn gather<R: Abort>(
+    rt: &R,
+    clients: &mut [Left<MemPort, Hoarder>],
+    trail: &mut Vec<Entry>,
+) -> usize {
+    let mut said = 0usize;
+    for left in clients {
+        assert_eq!(rt; (left.worker.taken, left.worker.given), (PASSES, PASSES));
+        assert_eq!(rt; left.held, 0);
+        said = said.saturating_add(left.said().len());
+        trail.append(&mut left.worker.cut).expect(rt, "the entries");
+    }
+    said
+}
+
 /// The last pass finds the ring full, which is then emptied. What client 0 cut, with the rest, has as many entries as
 /// all lists, and is a legal trail.
 #[test]
 fn full_ring_is_emptied(rt: HostRuntime) {
     let rt = &rt;
-    let mut workers = Vec::new(rt.alloc());
-    for _ in 0..2 {
-        let worker = Hoarder {
-            taken: 0,
-            given: 0,
-            cut: Vec::new(rt.alloc()),
-        };
-        workers.push(worker).expect(rt, "a place");
-    }
-    let run = run_workers(rt, rt.alloc(), config(rt, 4), ports(rt, 2), workers);
-    let run = run.expect(rt, "the run");
+    let run = run_workers(rt, rt.alloc(), config(rt, 4), ports(rt, 2), hoarders(rt));
+    let mut run = run.expect(rt, "the run");
     let setup = setup_of(&run.core);
     let mut trail = Vec::new(rt.alloc());
-    let mut said = 0usize;
-    for left in run.left {
-        assert_eq!(rt; (left.worker.taken, left.worker.given), (PASSES, PASSES));
-        assert_eq!(rt; left.held, 0);
-        said = said.saturating_add(left.said().len());
-        let mut cut = left.worker.cut;
-        trail.append(&mut cut).expect(rt, "the entries");
-    }
+    let said = gather(rt, &mut run.left, &mut trail);
     assert!(rt; trail.len() > PASSES);
     trail
         .append(&mut run.core.into_trail())

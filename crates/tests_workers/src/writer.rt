@@ -7,6 +7,7 @@ use bp_page::{Lsn, Refusal};
 use bp_shared::{PoolName, SharedPool};
 use bp_workers::{Client, Upkeep, Worker};
 use std::alloc::Global;
+use std::process::Abort;
 use std::sync::Wait;
 use test_support::pools::{fix, unfix_draining, write};
 
@@ -93,6 +94,16 @@ impl<P: Port, K: ListKeeper> Worker<P, K> for Writer {
         upkeep.log.raise(pool, Lsn::new(DURABLE));
         self.run(rt, pool, client);
     }
+}
+
+/// Makes so many writers of three rounds, which keep a pass where `keeps` is true.
+pub(crate) fn writers<R: Abort + AllocGlobal>(rt: &R, count: usize, keeps: bool) -> Vec<Writer> {
+    let mut writers = Vec::new(rt.alloc());
+    for _ in 0..count {
+        let writer = Writer::new(rt.alloc(), 3, keeps);
+        writers.push(writer).expect(rt, "a place");
+    }
+    writers
 }
 
 /// Writes a byte at offset 0 of a page.
