@@ -12,15 +12,18 @@ type Owner = OwnedPool<RecordingKeeper, MemPort>;
 /// The place of the byte that is written and read.
 const OFFSET: u32 = 3;
 
-/// Makes a pool of one frame, with K 1 and no periods.
-fn owner<R: Abort + AllocGlobal>(rt: &R, device: &MemDevice) -> Owner {
+/// Makes a pool of one frame, with K 1 and no periods, if memory is not refused.
+fn try_owner<R: Abort + AllocGlobal>(rt: &R, device: &MemDevice) -> Result<Owner, Refusal> {
     let settings = Settings::new(1, 0, 0).expect(rt, "the settings");
-    match OwnedPool::over(rt.alloc(), port_of(rt, device), settings, 1, 100) {
+    OwnedPool::over(rt.alloc(), port_of(rt, device), settings, 1, 100)
+}
+
+fn owner<R: Abort + AllocGlobal>(rt: &R, device: &MemDevice) -> Owner {
+    match try_owner(rt, device) {
         Ok(owner) => owner,
         Err(refusal) => {
             assert!(rt; refusal == Refusal::OutOfMemory);
-            let again = OwnedPool::over(rt.alloc(), port_of(rt, device), settings, 1, 100);
-            again.expect(rt, "the pool, with memory")
+            try_owner(rt, device).expect(rt, "the pool, with memory")
         }
     }
 }
@@ -71,14 +74,18 @@ fn look<R: Wait + Abort>(rt: &R, owner: &mut Owner, page: PageNo) -> Option<u8> 
     }
 }
 
-/// Writes a byte and reads it. A refusal changes nothing.
-fn write_and_read<R: Abort>(rt: &R, owner: &mut Owner, pass: &Pass, byte: u8) {
-    let (bytes, before) = ([byte], owner.core().trail().len());
-    if let Err(refusal) = owner.write_from(pass, OFFSET, &bytes, Lsn::new(0)) {
+/// Writes a byte. A refusal changes nothing.
+fn write<R: Abort>(rt: &R, owner: &mut Owner, pass: &Pass, bytes: &[u8]) {
+    let before = owner.core().trail().len();
+    if let Err(refusal) = owner.write_from(pass, OFFSET, bytes, Lsn::new(0)) {
         assert!(rt; refusal == Refusal::OutOfMemory && owner.core().trail().len() == before);
-        let again = owner.write_from(pass, OFFSET, &bytes, Lsn::new(0));
+        let again = owner.write_from(pass, OFFSET, bytes, Lsn::new(0));
         again.expect(rt, "the write, with memory");
     }
+}
+
+/// Reads a byte. A refusal changes nothing.
+fn read<R: Abort>(rt: &R, owner: &mut Owner, pass: &Pass) -> [u8; 1] {
     let (mut found, before) = ([0], owner.core().trail().len());
     if let Err(refusal) = owner.read_into(pass, OFFSET, &mut found) {
         assert!(rt; refusal == Refusal::OutOfMemory && owner.core().trail().len() == before);
@@ -86,7 +93,7 @@ fn write_and_read<R: Abort>(rt: &R, owner: &mut Owner, pass: &Pass, byte: u8) {
         let again = owner.read_into(pass, OFFSET, &mut found);
         again.expect(rt, "the read, with memory");
     }
-    assert!(rt; found == bytes);
+    found
 }
 
 fn unfix<R: Abort>(rt: &R, owner: &mut Owner, pass: Pass) {
@@ -94,6 +101,13 @@ fn unfix<R: Abort>(rt: &R, owner: &mut Owner, pass: Pass) {
         pass.note();
         panic!(rt; "an unknown pass");
     }
+}
+
+/// Writes a byte to a page that is fixed, reads it, and gives the pass back.
+fn change<R: Abort>(rt: &R, owner: &mut Owner, pass: Pass, byte: u8) {
+    write(rt, owner, &pass, &[byte]);
+    assert!(rt; read(rt, owner, &pass) == [byte]);
+    unfix(rt, owner, pass);
 }
 
 /// Writes the one unsaved page out. Where that is refused, it is unsaved still.
@@ -108,21 +122,23 @@ fn flush_all<R: Wait + Abort>(rt: &R, owner: &mut Owner, page: PageNo) {
 }
 
 /// Page 1 is changed, and goes out for page 2, which is flushed. Both are found on the device.
+fn change_two_pages<R: Wait + Abort>(rt: &R, owner: &mut Owner) {
+    let (one, two) = (PageNo::new(1), PageNo::new(2));
+    let pass = fix_new(rt, owner, one);
+    change(rt, owner, pass, 9);
+    let pass = fix(rt, owner, two);
+    change(rt, owner, pass, 8);
+    flush_all(rt, owner, two);
+    assert!(rt; look(rt, owner, one) == Some(9));
+    assert!(rt; look(rt, owner, two) == Some(8));
+    assert!(rt; owner.port().failures() == 0);
+}
+
 #[test]
 fn calls_of_an_owner(rt: HostRuntime) {
     let rt = &rt;
     let device = device(rt, Geometry::new(4, 16).expect(rt, "the geometry"));
     let mut owner = owner(rt, &device);
-    let (one, two) = (PageNo::new(1), PageNo::new(2));
-    let pass = fix_new(rt, &mut owner, one);
-    write_and_read(rt, &mut owner, &pass, 9);
-    unfix(rt, &mut owner, pass);
-    let pass = fix(rt, &mut owner, two);
-    write_and_read(rt, &mut owner, &pass, 8);
-    unfix(rt, &mut owner, pass);
-    flush_all(rt, &mut owner, two);
-    assert!(rt; look(rt, &mut owner, one) == Some(9));
-    assert!(rt; look(rt, &mut owner, two) == Some(8));
-    assert!(rt; owner.port().failures() == 0);
+    change_two_pages(rt, &mut owner);
     assert_eq!(rt; unlawful_in(rt.alloc(), owner.core()), Ok(None));
 }

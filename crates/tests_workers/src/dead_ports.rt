@@ -3,7 +3,7 @@ use crate::making::{config, expect_lawful};
 use crate::writer::{Writer, writers};
 use bp_device::Port;
 use bp_page::{Geometry, Image, Lsn, PageNo, PortFault, Refusal};
-use bp_workers::{Left, run_workers};
+use bp_workers::{Left, Run, run_workers};
 use std::process::Abort;
 use std::rt::HostRuntime;
 use std::sync::Wait;
@@ -81,6 +81,13 @@ fn expect_refused<R: Abort>(rt: &R, left: &Left<DeadPort, Writer>) {
     assert_eq!(rt; left.held, 0);
 }
 
+fn expect_all_refused<R: Abort + AllocGlobal>(rt: &R, run: &Run<DeadPort, Writer>) {
+    expect_lawful(rt, &run.core);
+    for left in &run.left {
+        expect_refused(rt, left);
+    }
+}
+
 /// Each fix of a worker whose port always fails is refused, and the run ends.
 #[test]
 fn dead_ports_end_no_run(rt: HostRuntime) {
@@ -88,9 +95,5 @@ fn dead_ports_end_no_run(rt: HostRuntime) {
     let config = config(rt, 2);
     let ports = dead_ports(rt, config.geometry, 2);
     let run = run_workers(rt, rt.alloc(), config, ports, writers(rt, 2, true));
-    let run = run.expect(rt, "the run");
-    expect_lawful(rt, &run.core);
-    for left in &run.left {
-        expect_refused(rt, left);
-    }
+    expect_all_refused(rt, &run.expect(rt, "the run"));
 }

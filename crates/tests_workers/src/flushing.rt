@@ -7,7 +7,7 @@ use bp_device::{MemPort, Port};
 use bp_page::{Lsn, PageNo, Refusal};
 use bp_shared::{PoolName, SharedPool};
 use bp_trail::Totals;
-use bp_workers::{Client, Left, Upkeep, Worker, run_workers};
+use bp_workers::{Client, Left, Run, Upkeep, Worker, run_workers};
 use std::alloc::Global;
 use std::cmp::min;
 use std::process::Abort;
@@ -164,13 +164,8 @@ fn expect_last_writes<R: Abort + Wait>(rt: &R, port: &mut MemPort) {
     }
 }
 
-/// The LSN from which redo would begin never falls, and is beyond the last record in the end. The device then has the
-/// last write of each page.
-#[test]
-fn checkpoints_beside_writers(rt: HostRuntime) {
-    let rt = &rt;
-    let run = run_workers(rt, rt.alloc(), config(rt, 4), ports(rt, 4), hands(rt));
-    let mut run = run.expect(rt, "the run");
+/// Asserts that a run was lawful, that each client did its work, and what client 0 saw of it.
+fn expect_run<R: Abort + AllocGlobal + Wait>(rt: &R, run: &mut Run<MemPort, Hand>) {
     expect_lawful(rt, &run.core);
     assert!(rt; Totals::of(run.core.trail()).writes >= 3);
     for left in &run.left {
@@ -179,4 +174,14 @@ fn checkpoints_beside_writers(rt: HostRuntime) {
     let first: &mut Left<MemPort, Hand> = run.left.first_mut().expect(rt, "what client 0 left");
     expect_rising(rt, &first.worker.redo);
     expect_last_writes(rt, &mut first.port);
+}
+
+/// The LSN from which redo would begin never falls, and is beyond the last record in the end. The device then has the
+/// last write of each page.
+#[test]
+fn checkpoints_beside_writers(rt: HostRuntime) {
+    let rt = &rt;
+    let run = run_workers(rt, rt.alloc(), config(rt, 4), ports(rt, 4), hands(rt));
+    let mut run = run.expect(rt, "the run");
+    expect_run(rt, &mut run);
 }

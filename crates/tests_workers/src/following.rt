@@ -13,7 +13,7 @@ use std::alloc::Global;
 use std::process::Abort;
 use std::rt::HostRuntime;
 use std::sync::{Arc, Mutex, Wait};
-use std::thread::Parker;
+use std::thread::{Parker, Threads};
 use std::time::Duration;
 use test_support::pools::unfix_draining;
 
@@ -147,6 +147,19 @@ fn expect_followed<R: Abort + AllocGlobal>(rt: &R, run: &Run<MemPort, Sharer>) {
     }
 }
 
+/// Runs two clients over the log.
+fn follow<R: Threads + Wait + Sync + Abort + AllocGlobal>(rt: &R, log: &Arc<Mutex<Log>, Global>) {
+    let workers = sharers(rt, log);
+    let run = run_workers(rt, rt.alloc(), config(rt, 1), ports(rt, 2), workers);
+    expect_followed(rt, &run.expect(rt, "the run"));
+}
+
+/// Asserts that the log was asked for LSN 5.
+fn expect_asked<R: Wait + Abort>(rt: &R, log: &Mutex<Log>) {
+    let log = log.lock(rt);
+    assert_eq!(rt; (log.wanted, log.raised), (5, 5));
+}
+
 /// Page 0 goes out once client 0 was asked for LSN 5, and has raised the mark to it.
 #[test]
 fn client_one_waits_for_client_zero(rt: HostRuntime) {
@@ -157,9 +170,6 @@ fn client_one_waits_for_client_zero(rt: HostRuntime) {
         is_over: false,
     };
     let log = Arc::new(rt.alloc(), Mutex::new(log)).expect(rt, "the log");
-    let workers = sharers(rt, &log);
-    let run = run_workers(rt, rt.alloc(), config(rt, 1), ports(rt, 2), workers);
-    expect_followed(rt, &run.expect(rt, "the run"));
-    let log = log.lock(rt);
-    assert_eq!(rt; (log.wanted, log.raised), (5, 5));
+    follow(rt, &log);
+    expect_asked(rt, &log);
 }

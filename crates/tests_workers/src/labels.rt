@@ -8,7 +8,7 @@ use bp_device::{MemPort, Port};
 use bp_keeper::ListKeeper;
 use bp_page::{Lsn, Refusal};
 use bp_shared::{PoolName, SharedPool};
-use bp_workers::{Client, Config, Left, Upkeep, Worker, run_workers_over};
+use bp_workers::{Client, Left, Run, Upkeep, Worker, run_workers_over};
 use std::alloc::Global;
 use std::process::Abort;
 use std::rt::HostRuntime;
@@ -134,26 +134,29 @@ fn expect_labels<R: Abort>(rt: &R, left: &Left<MemPort, Labeler, SilentKeeper>) 
     assert_eq!(rt; left.held, 0);
 }
 
-/// Two of four pages are in no frame at any time, so labels are written out and read again.
-#[test]
-fn silent_labels_are_read_back(rt: HostRuntime) {
-    let rt = &rt;
-    // The greatest room of a silent pool.
-    let config = Config {
-        room: 1 << 61,
-        ..config(rt, 2)
-    };
-    let run = run_workers_over::<SilentKeeper, MemPort, Labeler, HostRuntime>(
-        rt,
-        rt.alloc(),
-        config,
-        ports(rt, 1),
-        labelers(rt),
-    ).expect(rt, "the run");
+/// Asserts what holds of a run of one worker.
+fn expect_run<R: Abort>(rt: &R, run: &Run<MemPort, Labeler, SilentKeeper>) {
     assert_eq!(rt; run.left.len(), 1);
     for left in &run.left {
         expect_labels(rt, left);
     }
     assert_eq!(rt; run.core.clock(), 9);
     assert_eq!(rt; run.core.durable(), Lsn::new(DURABLE));
+}
+
+/// Two of four pages are in no frame at any time, so labels are written out and read again.
+#[test]
+fn silent_labels_are_read_back(rt: HostRuntime) {
+    let rt = &rt;
+    let mut config = config(rt, 2);
+    // The greatest room of a silent pool.
+    config.room = 1 << 61;
+    let run = run_workers_over::<SilentKeeper, MemPort, Labeler, HostRuntime>(
+        rt,
+        rt.alloc(),
+        config,
+        ports(rt, 1),
+        labelers(rt),
+    );
+    expect_run(rt, &run.expect(rt, "the run"));
 }

@@ -137,16 +137,19 @@ fn expect_client<R: Abort>(rt: &R, left: &Left<FusePort<MemPort>, Visitor>, clie
     assert_eq!(rt; left.held, held);
 }
 
+fn expect_clients<R: Abort + AllocGlobal>(rt: &R, run: &Run<FusePort<MemPort>, Visitor>) {
+    expect_lawful(rt, &run.core);
+    assert_eq!(rt; run.left.len(), 3);
+    for client in 0..run.left.len() {
+        expect_client(rt, &run.left[client], client);
+    }
+}
+
 /// Three visitors each read a page by their own port. The first call of client 0's port fails.
 #[test]
 fn each_worker_works_over_its_own_port(rt: HostRuntime) {
     let rt = &rt;
     let ports = fuses(rt, &[1, 100, 100]);
     let run = visit_all(rt, rt.alloc(), config(rt, 4), ports, visitors(rt));
-    let run = run.expect(rt, "the run");
-    expect_lawful(rt, &run.core);
-    assert_eq!(rt; run.left.len(), 3);
-    for client in 0..run.left.len() {
-        expect_client(rt, &run.left[client], client);
-    }
+    expect_clients(rt, &run.expect(rt, "the run"));
 }

@@ -47,17 +47,20 @@ fn expect_client<R: Abort>(rt: &R, trail: &[Entry], left: &Left<MemPort, Writer>
 
 /// Asserts that each list is its client's part of the trail, that all passes went back, and that the trail has
 /// one mark.
-fn expect_shared<R: Abort + AllocGlobal + Threads + Wait + Sync>(
-    rt: &R,
-    frames: usize,
-    count: usize,
-) {
-    let run = run(rt, frames, count, false);
+fn expect_clients<R: Abort>(rt: &R, run: &Run<MemPort, Writer>, count: usize) {
     assert_eq!(rt; run.left.len(), count);
     for client in 0..run.left.len() {
         expect_client(rt, run.core.trail(), &run.left[client], client);
     }
     assert_eq!(rt; count_marks(run.core.trail()), 1);
+}
+
+fn expect_shared<R: Abort + AllocGlobal + Threads + Wait + Sync>(
+    rt: &R,
+    frames: usize,
+    count: usize,
+) {
+    expect_clients(rt, &run(rt, frames, count, false), count);
 }
 
 /// Two workers write to the same pages.
@@ -72,13 +75,15 @@ fn sixty_four_workers(rt: HostRuntime) {
     expect_shared(&rt, 64, 64);
 }
 
-/// Asserts that a client still held a pass, which was given back: the unfix is in its list.
-fn expect_given_back<R: Abort>(rt: &R, left: &Left<MemPort, Writer>) {
-    assert_eq!(rt; left.held, 1);
-    assert!(rt; left.all_went_back);
-    assert!(rt;
-        matches!(left.said().last(), Some(entry) if matches!(entry.call, Call::Unfix { .. }))
-    );
+/// Asserts that each client still held a pass, which was given back: the unfix is in its list.
+fn expect_given_back<R: Abort>(rt: &R, clients: &[Left<MemPort, Writer>]) {
+    for left in clients {
+        assert_eq!(rt; left.held, 1);
+        assert!(rt; left.all_went_back);
+        assert!(rt;
+            matches!(left.said().last(), Some(entry) if matches!(entry.call, Call::Unfix { .. }))
+        );
+    }
 }
 
 /// A pass that a worker still holds when it returns is given back, and the unfix is in its list.
@@ -86,7 +91,5 @@ fn expect_given_back<R: Abort>(rt: &R, left: &Left<MemPort, Writer>) {
 fn passes_still_held_go_back(rt: HostRuntime) {
     let rt = &rt;
     let run = run(rt, 4, 2, true);
-    for left in &run.left {
-        expect_given_back(rt, left);
-    }
+    expect_given_back(rt, &run.left);
 }
