@@ -112,7 +112,9 @@ pub(crate) fn time_blocks(rt: &(impl Runtime<A = Global> + CpuClock)) -> Result<
     let settings = Settings::new(2, 0, 0)?;
     for pages in [256, 4096, 65536, PAGES] {
         let mut histories = Histories::new(rt.alloc(), settings);
-        time_table(rt, &mut histories, pages)?;
+        let timed = time_table(rt, &mut histories, pages);
+        drop(histories);
+        timed?;
     }
     Ok(())
 }

@@ -277,5 +277,7 @@ pub(crate) fn time_calls(
         return Ok(());
     }
     let mut bench = new_bench(rt.alloc(), frames)?;
-    time_rounds(rt, &mut bench, frames)
+    let timed = time_rounds(rt, &mut bench, frames);
+    drop(bench);
+    timed
 }

@@ -183,7 +183,9 @@ fn time_pool<K: Tended>(
     requires { 0 < pages }
 {
     let mut bench = new_bench::<K>(rt, path, frames, pages, room, cut_at)?;
-    time_pages(rt, &mut bench, frames, calls)
+    let timed = time_pages(rt, &mut bench, frames, calls);
+    drop(bench);
+    timed
 }
 
 /// Times hits, and then fixes of more pages than there are frames.

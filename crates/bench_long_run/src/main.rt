@@ -245,7 +245,9 @@ fn run_recorded(
     requires { 0 < pieces }
 {
     let mut pool = new_pool(rt.alloc(), PAGES as usize, 16, room)?;
-    tell_recorded(rt, &mut pool, pieces)
+    let told = tell_recorded(rt, &mut pool, pieces);
+    drop(pool);
+    told
 }
 
 fn print_end<K: Keeper>(
@@ -302,7 +304,9 @@ fn run_silent(
     size: usize,
 ) -> Result<(), anyhow::Error> {
     let mut pool = new_pool::<SilentKeeper>(rt.alloc(), 2, size, SilentKeeper::MOST_ROOM)?;
-    tell_silent(rt, &mut pool, rounds)
+    let told = tell_silent(rt, &mut pool, rounds);
+    drop(pool);
+    told
 }
 
 fn main(rt: HostRuntime) -> Result<(), anyhow::Error> {

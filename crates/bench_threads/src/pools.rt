@@ -136,7 +136,9 @@ fn time_sessions<
     requires size { N.parameters.size ≡ SIZE }
 {
     let mut jobs = make_jobs(rt.alloc(), sessions, ports)?;
-    time_jobs(rt, pool, takings, &mut jobs, work)
+    let outcome = time_jobs(rt, pool, takings, &mut jobs, work);
+    drop(jobs);
+    outcome
 }
 
 // Times threads over a new pool.
@@ -164,7 +166,10 @@ fn time_work<
         taker,
         spare: Vec::new(rt.alloc()),
     });
-    time_sessions(rt, &pool, &takings, sessions, ports, work)
+    let outcome = time_sessions(rt, &pool, &takings, sessions, ports, work);
+    drop(takings);
+    drop(pool);
+    outcome
 }
 
 /// Times threads over a new pool, each with one of the ports.

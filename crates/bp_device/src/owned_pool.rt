@@ -64,6 +64,8 @@ impl<K: Keeper, P: Port> OwnedPool<K, P> {
         let device = port.geometry();
         let pages = core.geometry();
         if device.pages != pages.pages || device.size != pages.size || core.clients() == 0 {
+            drop(core);
+            drop(port);
             return Err(Refusal::BadSettings);
         }
         Ok(OwnedPool {

@@ -166,7 +166,9 @@ fn run_rows<P: Port, R: Wait, W: Write>(
     ensures kept { IfErr result (λ ended. ended ≢ Ending.OutputFailed → out.new ≡ out.old) }
 {
     let mut core = new_core(alloc, run, port.geometry(), rows)?;
-    drive_rows(rt, alloc, &mut core, port, run.totals, rows, out)
+    let driven = drive_rows(rt, alloc, &mut core, port, run.totals, rows, out);
+    drop(core);
+    driven
 }
 
 fn rows_from<I: Read>(

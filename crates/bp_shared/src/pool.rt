@@ -1,9 +1,11 @@
 //! `SharedPool`: a core behind a lock, the mark that it looks at, and the calls of its sessions.
 ghost use Rattle.std.specs.Prelude.{◌≡◌, ◌≢◌, [], All, map, length, IfOk, OnOk, OnErr};
 ghost use Rattle.bp_page.specs.declared.refusals.Refusal.TheVariants as Refusal;
-ghost use Rattle.bp_session_log.specs.Rings.{ring_of};
+ghost use Rattle.rtrb.specs.Ring.{sent, received};
+ghost use Rattle.bp_session_log.specs.Rings.{ring_of, ring_at};
 ghost use Rattle.bp_shared.specs.Posting.{IsUnused};
 ghost use Rattle.bp_shared.specs.Sessions.{new_sessions};
+ghost use Rattle.bp_shared.specs.Taking.{IsEmptied};
 ghost use Rattle.bp_shared.specs.Telling.{IsBlank};
 
 use crate::closed_pool::ClosedPool;
@@ -13,13 +15,13 @@ use crate::names::PoolName;
 use crate::session::Session;
 use crate::taker::Taker;
 use crate::trail_ring::TrailRing;
-use bp_core::{Pass, PassNote, PoolCore};
+use bp_core::{Entry, Pass, PassNote, PoolCore};
 use bp_keeper::{ListKeeper, RecordingKeeper};
 use bp_mark::{Mark, Reader};
 use bp_page::{Geometry, Refusal};
 use bp_session_log::draining::ALL;
 use bp_session_log::{Board, Posted};
-use rtrb::Producer;
+use rtrb::{Consumer, Producer};
 use std::alloc::Global;
 use std::marker::Model;
 use std::sync::{Condvar, Mutex, MutexGuard, Wait};
@@ -69,6 +71,65 @@ fn new_clients<N: PoolName, K: ListKeeper>(
         };
     }
     Ok(sessions)
+}
+
+/// The sessions of a pool, and what its rings have besides: what goes behind the lock, and the end at which pieces of
+/// the trail come out.
+struct Opened<N: PoolName, K: ListKeeper> {
+    sessions: Vec<Session<N, K>>,
+    consumers: Vec<Consumer<PassNote>>,
+    pieces: Producer<Vec<Entry>>,
+    taken: Consumer<Vec<Entry>>,
+    board: Board,
+    seen: Board,
+    ghost rings: { map ring_at consumers.items ≡ N.ring.rings },
+    ghost count: { length N.ring.rings ≡ N.parameters.clients },
+    ghost empty: { All (λ ring. received ring ≡ []) consumers.items },
+    ghost trail: { ring_of pieces ≡ N.ring.trail },
+    ghost unused: { IsEmptied pieces × (sent pieces ≡ []) },
+    ghost taker: { (ring_at taken ≡ N.ring.trail) × (received taken ≡ []) },
+    ghost board_is: { (board.name ≡ N.ring.board) × IsBlank board.lists },
+    ghost seen_is: { (seen.name ≡ N.ring.seen) × IsBlank seen.lists },
+}
+
+/// Makes the sessions of a pool by its rings. `BadClient` where the rings are not made for so many clients, else
+/// `OutOfMemory`; the rings are dropped then.
+fn open<N: PoolName, K: ListKeeper>(
+    alloc: Global,
+    geometry: Geometry,
+    clients: u8,
+    ring: TrailRing,
+) -> Result<Opened<N, K>, Refusal>
+    requires clients { clients ≡ N.parameters.clients }
+    requires size { geometry.size ≡ N.parameters.size }
+    requires ring { ring ≡ N.ring }
+    ensures sessions { IfOk result (λ opened. opened.sessions.items
+        ≡ new_sessions N.parameters.clients) }
+    ensures clients { length N.ring.rings ≢ N.parameters.clients
+        → result ≡ Err Refusal.BadClient }
+    ensures refused { length N.ring.rings ≡ N.parameters.clients
+        → OnErr result (result ≡ Err Refusal.OutOfMemory) }
+{
+    if ring.producers.len() != usize::from(clients) {
+        return Err(Refusal::BadClient);
+    }
+    let TrailRing {
+        pieces,
+        taken,
+        mut board,
+        mut seen,
+        producers,
+        consumers,
+    } = ring;
+    let sessions = new_clients(alloc, geometry, clients, producers, &mut board, &mut seen)?;
+    Ok(Opened {
+        sessions,
+        consumers,
+        pieces,
+        taken,
+        board,
+        seen,
+    })
 }
 
 /// A buffer pool that many clients share, each through its own session.
@@ -135,25 +196,22 @@ impl<N: PoolName, K: ListKeeper> SharedPool<N, K> {
         ensures refused { length N.ring.rings ≡ N.parameters.clients
             → OnErr result (result ≡ Err Refusal.OutOfMemory) }
     {
-        let TrailRing {
+        let opened = match open(alloc, core.geometry(), core.clients(), ring) {
+            Ok(opened) => opened,
+            // Dropped by a call, since a drop at the end of the scope is proved in this function, field by field.
+            Err(refusal) => {
+                drop(core);
+                return Err(refusal);
+            }
+        };
+        let Opened {
+            sessions,
+            consumers,
             pieces,
             taken,
-            mut board,
-            mut seen,
-            producers,
-            consumers,
-        } = ring;
-        if producers.len() != usize::from(core.clients()) {
-            return Err(Refusal::BadClient);
-        }
-        let sessions = new_clients(
-            alloc,
-            core.geometry(),
-            core.clients(),
-            producers,
-            &mut board,
-            &mut seen,
-        )?;
+            board,
+            seen,
+        } = opened;
         let room = core.room();
         let posted = Posted::nothing(core.clients());
         let state = LockedPool::new(core, reader, consumers, pieces, board, seen);

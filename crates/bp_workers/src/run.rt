@@ -50,7 +50,7 @@ fn make_jobs<N: PoolName, P: Port, K: ListKeeper, W: Worker<P, K>>(
         SideBySide IsNewJob 0 (zip workers.items ports.items) jobs.items) }
     ensures refused { OnErr result (result ≡ Err Refusal.OutOfMemory) }
 {
-    let mut jobs = Vec::new(alloc);
+    let mut jobs = Vec::with_capacity(alloc, workers.len())?;
     let mut upkeep = Some(upkeep);
     let mut sessions = sessions.into_iter();
     let mut ports = ports.into_iter();
@@ -63,9 +63,7 @@ fn make_jobs<N: PoolName, P: Port, K: ListKeeper, W: Worker<P, K>>(
         };
         let client = Client { session, port };
         let job = Job::new(worker, client, upkeep.take());
-        let Ok(()) = jobs.push(job) else {
-            return Err(Refusal::OutOfMemory);
-        };
+        jobs.push_reserved(job);
     }
     Ok(jobs)
 }
@@ -263,15 +261,24 @@ pub fn run_workers_over<K: Kind, P: Port + Send, W: Worker<P, K> + Send, R: Thre
         return Err(Refusal::BadSettings);
     }
     let clients = workers.len() as u8;
-    let core = PoolCore::<K>::new(
+    let core = match PoolCore::<K>::new(
         alloc,
         config.geometry,
         config.settings,
         config.frames,
         clients,
         config.room,
-    )?;
-    let parts = Parts::new(alloc, clients)?;
+    ) {
+        Ok(core) => core,
+        Err(refusal) => return Err(refusal),
+    };
+    let parts = match Parts::new(alloc, clients) {
+        Ok(parts) => parts,
+        Err(refusal) => {
+            drop(core);
+            return Err(refusal);
+        }
+    };
     let ran = run_named::<Brand, P, K, W, R>(rt, alloc, core, parts, ports, workers);
     if let Ok(run) = &ran {
         run.core.keeps_the_rules();

@@ -136,9 +136,9 @@ fn main(rt: HostRuntime) -> Result<(), anyhow::Error> {
         workers.push(Adding { log, latest })?;
     }
     let config = Config::new(geometry).with_frames(8);
-    let run = run_workers_over::<SilentKeeper, _, _, _>(rt, alloc, config, ports, workers)?;
-    for left in &run.left {
-        println!(rt; "a worker's latest counter: {}", left.worker.latest?)?;
+    let left = run_workers_over::<SilentKeeper, _, _, _>(rt, alloc, config, ports, workers)?.left;
+    for one in &left {
+        println!(rt; "a worker's latest counter: {}", one.worker.latest?)?;
     }
     Ok(())
 }

@@ -34,6 +34,17 @@ pub(crate) struct Beside {
     pub(crate) lists: Lists,
 }
 
+impl Beside {
+    /// Returns the number of reads of all clients that failed only for want of memory.
+    pub(crate) fn unread(&self) -> u64 {
+        let mut unread = 0u64;
+        for note in self.notes.iter() {
+            unread = unread.saturating_add(note.unread);
+        }
+        unread
+    }
+}
+
 /// All that a pool and its clients need, so that nothing can fail once the pool is there.
 pub(crate) struct Made<K: Kind> {
     pub(crate) core: PoolCore<K>,
@@ -50,15 +61,27 @@ pub(crate) struct Made<K: Kind> {
 pub(crate) fn make<K: Kind>(alloc: Global, shape: &Shape) -> Result<Made<K>, Refusal> {
     let geometry = Geometry::new(shape.pages, shape.size)?;
     let settings = Settings::new(shape.k, shape.correlated, shape.retained)?;
-    let beside = new_beside(alloc, geometry, shape)?;
     let parts = Parts::new(alloc, shape.clients)?;
+    let beside = match new_beside(alloc, geometry, shape) {
+        Ok(beside) => beside,
+        Err(refusal) => {
+            drop(parts);
+            return Err(refusal);
+        }
+    };
     let (frames, clients, room) = (shape.frames, shape.clients, shape.room);
-    let core = PoolCore::<K>::new(alloc, geometry, settings, frames, clients, room)?;
-    Ok(Made {
-        core,
-        parts,
-        beside,
-    })
+    match PoolCore::<K>::new(alloc, geometry, settings, frames, clients, room) {
+        Ok(core) => Ok(Made {
+            core,
+            parts,
+            beside,
+        }),
+        Err(refusal) => {
+            drop(parts);
+            drop(beside);
+            Err(refusal)
+        }
+    }
 }
 
 fn new_beside(alloc: Global, geometry: Geometry, shape: &Shape) -> Result<Beside, Refusal>

@@ -44,32 +44,20 @@ fn image_after(alloc: Global, list: &[Entry], before: u64) -> Answer {
     Answer::Word("nothing")
 }
 
-/// Returns true if a line is a read of a client that was not refused.
-fn was_read(it: &Option<Asked>, row: u64, refused: &[Refused], client: u8) -> bool {
-    match it {
-        Some(it) => it.client == client && it.reads && refusal_of(refused, row).is_none(),
-        None => false,
-    }
-}
-
 /// Returns the number of reads of a client among the first of these lines, without those that were refused.
 fn reads_of(asked: &[Option<Asked>], count: usize, refused: &[Refused], client: u8) -> u64 {
     let (mut reads, mut row) = (0u64, 0u64);
     for it in asked.iter().take(count) {
         row = row.saturating_add(1);
-        if was_read(it, row, refused, client) {
+        if let Some(it) = it
+            && it.client == client
+            && it.reads
+            && refusal_of(refused, row).is_none()
+        {
             reads = reads.saturating_add(1);
         }
     }
     reads
-}
-
-/// Returns the image that a client's read gave which comes after so many others.
-fn image_of(alloc: Global, outcome: &Outcome, client: u8, before: u64) -> Answer {
-    match outcome.said.get(client as usize) {
-        Some(list) => image_after(alloc, list, before),
-        None => Answer::BadLine,
-    }
 }
 
 /// Returns the answer of the line at a place: the number of a refusal, the image that a read gave, or `done`.
@@ -84,7 +72,10 @@ fn answer_at(alloc: Global, asked: &[Option<Asked>], at: usize, outcome: &Outcom
         return Answer::Reply(Reply::Done);
     }
     let before = reads_of(asked, at, &outcome.refused, it.client);
-    image_of(alloc, outcome, it.client, before)
+    match outcome.said.get(it.client as usize) {
+        Some(list) => image_after(alloc, list, before),
+        None => Answer::BadLine,
+    }
 }
 
 impl Answers {

@@ -5,6 +5,7 @@ use crate::answers::Answers;
 use crate::clients::{Note, Standing, call, is_part, standing_of, tell};
 use crate::kinds::Kind;
 use crate::making::{Beside, Made};
+use bp_core::{Entry, PoolCore};
 use bp_device::Port;
 use bp_mark::LogEnd;
 use bp_page::{Lsn, Refusal};
@@ -64,7 +65,10 @@ pub(crate) fn open<N: PoolName, K: Kind>(
             sessions,
             beside,
         }),
-        Err(refusal) => Err(refusal),
+        Err(refusal) => {
+            drop(beside);
+            Err(refusal)
+        }
     }
 }
 
@@ -164,20 +168,11 @@ impl<N: PoolName, K: Kind> Table<N, K> {
         }
     }
 
-    /// Returns the number of reads of all clients that failed only for want of memory.
-    fn unread(&self) -> u64 {
-        let mut unread = 0u64;
-        for note in self.beside.notes.iter() {
-            unread = unread.saturating_add(note.unread);
-        }
-        unread
-    }
-
     /// Makes the call of a line that names a client.
     fn ask_client<R: Wait>(&mut self, rt: &R, line: &Said) -> Answer {
         let [client, _, _] = line.numbers.list;
         let (failures, lsn) = (self.failures(client), self.newest_lsn(client));
-        let unread = self.unread();
+        let unread = self.beside.unread();
         let at = client as usize;
         let (Some(session), Some(note)) = (self.sessions.get_mut(at), self.beside.notes.get_mut(at))
         else {
@@ -241,11 +236,16 @@ impl<N: PoolName, K: Kind> Table<N, K> {
         let [client, _, _] = call.numbers.list;
         let before = self.told(client);
         let answer = self.obey(rt, call);
-        match lack_of(call.verb, &answer, before, self.told(client)) {
-            Lack::Nothing => return answer,
-            Lack::Change => return Answer::Word("22, and something has changed"),
-            Lack::Memory => {}
-            Lack::Image => self.count_unread(client),
+        let lack = lack_of(call.verb, &answer, before, self.told(client));
+        if matches!(lack, Lack::Nothing) {
+            return answer;
+        }
+        drop(answer);
+        if matches!(lack, Lack::Change) {
+            return Answer::Word("22, and something has changed");
+        }
+        if matches!(lack, Lack::Image) {
+            self.count_unread(client);
         }
         let answer = self.obey(rt, call);
         if !answer.lacks_memory() {
@@ -260,7 +260,9 @@ impl<N: PoolName, K: Kind> Table<N, K> {
         let mut wrong = fault_of(self.cut(rt), answers);
         for (session, note) in self.sessions.iter_mut().zip(self.beside.notes.iter_mut()) {
             let fault = fault_of(K::cut_list(session, &mut note.cut), answers);
-            wrong = wrong.or(fault);
+            if wrong.is_none() {
+                wrong = fault;
+            }
         }
         wrong
     }
@@ -297,36 +299,55 @@ impl<N: PoolName, K: Kind> Table<N, K> {
             way: _,
             pool,
             taker,
-            end: _,
+            end,
             sessions,
             beside,
         } = self;
+        drop(end);
+        let unread = beside.unread();
         let Beside {
             device,
-            first: _,
-            others: _,
+            first,
+            others,
             mut notes,
             lists,
         } = beside;
-        let mut pool = pool.close();
-        for (session, note) in sessions.into_iter().zip(notes.iter_mut()) {
-            end_session(&mut pool, session, note);
-        }
-        let (core, _, _) = pool.into_core(taker);
-        let rest = K::trail(&core);
-        let (mut agree, mut unread, mut client) = (true, 0u64, 0u8);
-        for note in notes.iter() {
-            agree = is_part(&lists.entries, rest, &note.cut, client) && agree;
-            unread = unread.saturating_add(note.unread);
-            client = client.saturating_add(1);
-        }
-        answers.add(Some(if agree {
-            Answer::Reply(Reply::Done)
-        } else {
-            Answer::Word("a list is not its client's part of the trail")
-        }));
+        drop(first);
+        drop(others);
+        let core = end_pool(pool, taker, sessions, &mut notes);
+        answers.add(Some(agreement(&lists.entries, K::trail(&core), &notes)));
+        drop(notes);
         pool_of(alloc, core, device, lists, unread)
     }
+}
+
+/// Answers whether each client's list is its part of the trail, of which some entries were cut.
+fn agreement(cut: &[Entry], rest: &[Entry], notes: &[Note]) -> Answer {
+    let (mut agree, mut client) = (true, 0u8);
+    for note in notes {
+        agree = is_part(cut, rest, &note.cut, client) && agree;
+        client = client.saturating_add(1);
+    }
+    if agree {
+        Answer::Reply(Reply::Done)
+    } else {
+        Answer::Word("a list is not its client's part of the trail")
+    }
+}
+
+/// Ends the sessions and their pool, and returns the core.
+fn end_pool<N: PoolName, K: Kind>(
+    pool: SharedPool<N, K>,
+    taker: Taker<N>,
+    sessions: Vec<Session<N, K>>,
+    notes: &mut [Note],
+) -> PoolCore<K> {
+    let mut pool = pool.close();
+    for (session, note) in sessions.into_iter().zip(notes.iter_mut()) {
+        end_session(&mut pool, session, note);
+    }
+    let (core, _, _) = pool.into_core(taker);
+    core
 }
 
 /// Ends a session, whose list is cut to its end. A cut that is refused memory is made again.

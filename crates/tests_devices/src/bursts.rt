@@ -178,6 +178,8 @@ fn try_with<R: Abort + AllocGlobal + Wait>(rt: &R, frames: usize) {
     let mut pool = new_pool(rt, frames, pages);
     let mut list = new_list(rt, frames, pages);
     let outcome = compare(rt, &mut pool, &mut list, frames as u64);
+    drop(pool);
+    drop(list);
     expect_alike(rt, frames, outcome);
 }
 

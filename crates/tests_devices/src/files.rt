@@ -247,8 +247,10 @@ fn an_owner_gets_no_slot_of_another_page(rt: HostRuntime) {
     let mut owner = owner_of_file(rt, path.as_path().as_str());
     expect_wrong_page(rt, &mut owner);
     mend(rt, &mut owner);
-    let (_core, mut port) = owner.into_parts();
+    let (core, mut port) = owner.into_parts();
+    drop(core);
     expect_page(rt, &mut port, 1, &NINE);
+    drop(port);
     fs::remove_file(rt, path.as_path()).expect(rt, "the file is removed");
 }
 

@@ -80,4 +80,6 @@ fn ticket_goes_to_another_core_and_back(rt: HostRuntime) {
     let ticket = ticket_of(&rt, &mut own);
     let ticket = refused_by(&rt, &mut other, ticket);
     expect_taken(&rt, &mut own, ticket);
+    drop(own);
+    drop(other);
 }

@@ -71,6 +71,7 @@ fn report_in_pieces(rt: HostRuntime) {
         report_by(&rt, entries, length, &mut printed).expect(&rt, "the report");
         assert_eq!(rt; printed.as_slice(), REPORT.as_bytes());
     }
+    drop(core);
 }
 
 /// A writer that fails at any byte gets the report up to there.
@@ -91,6 +92,7 @@ fn failing_writers(rt: HostRuntime) {
             "of {limit} bytes"
         );
     }
+    drop(core);
     let refused = [
         Refused { row: 6, number: 12 },
         Refused {

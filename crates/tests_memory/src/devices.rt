@@ -99,4 +99,5 @@ fn rows_by_a_driver(rt: HostRuntime) {
         assert_eq!(&rt; refused.as_slice(), NO_VICTIM_NO_PASS.as_slice());
     }
     assert_eq!(&rt; unlawful_in(rt.alloc(), &core), Ok(None));
+    drop(core);
 }

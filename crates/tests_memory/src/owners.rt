@@ -141,4 +141,5 @@ fn calls_of_an_owner(rt: HostRuntime) {
     let mut owner = owner(rt, &device);
     change_two_pages(rt, &mut owner);
     assert_eq!(rt; unlawful_in(rt.alloc(), owner.core()), Ok(None));
+    drop(owner);
 }

@@ -171,7 +171,7 @@ fn expect_visits<K: Kind, R: Threads + Wait + Sync + Abort + AllocGlobal>(
 
 #[test]
 fn workers_visit_their_pages(rt: HostRuntime) {
-    expect_visits::<SilentKeeper, _>(&rt);
+    drop(expect_visits::<SilentKeeper, _>(&rt));
     let run = expect_visits::<RecordingKeeper, _>(&rt);
     let trail = run.core.trail();
     assert_eq!(rt; unlawful_in(rt.alloc(), &run.core), Ok(None));
@@ -180,4 +180,5 @@ fn workers_visit_their_pages(rt: HostRuntime) {
         let left = run.left.get(usize::from(client)).expect(&rt, "the worker");
         assert!(rt; agrees(trail, left.said(), client));
     }
+    drop(run);
 }

@@ -230,15 +230,21 @@ fn tally_of<N: PoolName>(pieces: &Pieces, left: usize, runners: &[Runner<N>]) ->
     tally
 }
 
-// Returns all entries of a pool: the joined pieces, and the rest. The judge finds them legal.
-fn legal_entries<R: Abort + AllocGlobal>(rt: &R, pieces: Pieces, core: Core) -> Vec<Entry> {
+/// What is left of a run, once its threads have ended.
+#[derive(Drop)]
+struct Left<N: PoolName> {
+    pieces: Pieces,
+    core: Core,
+    runners: Vec<Runner<N>>,
+}
+
+// Joins the rest of the trail to its pieces. The judge finds the whole legal.
+fn join_trail<R: Abort + AllocGlobal>(rt: &R, pieces: &mut Pieces, core: Core) {
     let setup = setup_of(&core);
-    let mut entries = pieces.kept;
-    assert_eq!(rt; entries.len(), pieces.entries);
+    assert_eq!(rt; pieces.kept.len(), pieces.entries);
     let mut left = core.into_trail();
-    entries.append(&mut left).expect(rt, "the entries");
-    assert_eq!(rt; unlawful(rt.alloc(), &setup, &entries), Ok(None));
-    entries
+    pieces.kept.append(&mut left).expect(rt, "the entries");
+    assert_eq!(rt; unlawful(rt.alloc(), &setup, &pieces.kept), Ok(None));
 }
 
 // Asserts that each joined list is its client's part of the trail.
@@ -253,12 +259,33 @@ fn expect_agreement<N: PoolName, R: Abort>(rt: &R, entries: &[Entry], runners: V
     }
 }
 
-// Runs threads over the pool. Where all entries are kept, it asserts that each pass went back once.
-fn see_over<N: PoolName + Send + Sync, R: Threads + Wait + Abort + Sync + AllocGlobal>(
+// Asserts that all entries are legal, that each pass went back once, and that each list is its client's part of the
+// trail. Returns the number of faults.
+fn expect_all_back<N: PoolName, R: Abort + AllocGlobal>(
+    rt: &R,
+    left: Left<N>,
+    passes: usize,
+) -> u64 {
+    let Left {
+        mut pieces,
+        core,
+        runners,
+    } = left;
+    join_trail(rt, &mut pieces, core);
+    let entries = &pieces.kept;
+    let totals = Totals::of(entries);
+    let given = totals.hits.saturating_add(totals.faults);
+    assert_eq!(rt; (given, unfixes(entries)), (passes as u64, passes));
+    expect_agreement(rt, entries, runners);
+    totals.faults
+}
+
+// Runs threads over the pool, and ends it.
+fn run_over<N: PoolName + Send + Sync, R: Threads + Wait + Abort + Sync + AllocGlobal>(
     rt: &R,
     made: Made,
     plan: Plan,
-) -> Tally
+) -> Left<N>
     requires mark { made.parts.mark ≡ N.mark }
     requires parameters { made.core.parameters ≡ N.parameters }
     requires before { made.core.before ≡ N.before }
@@ -280,15 +307,31 @@ fn see_over<N: PoolName + Send + Sync, R: Threads + Wait + Abort + Sync + AllocG
     run_all(rt, &pool, &takings, &mut runners);
     let Takings { taker, pieces } = takings.into_inner();
     let (core, _, _) = pool.finish(taker);
-    let mut tally = tally_of(&pieces, core.trail().len(), &runners);
+    Left {
+        pieces,
+        core,
+        runners,
+    }
+}
+
+// Runs threads over the pool, and returns the counts. Where all entries are kept, they are judged.
+fn see_over<N: PoolName + Send + Sync, R: Threads + Wait + Abort + Sync + AllocGlobal>(
+    rt: &R,
+    made: Made,
+    plan: Plan,
+) -> Tally
+    requires mark { made.parts.mark ≡ N.mark }
+    requires parameters { made.core.parameters ≡ N.parameters }
+    requires before { made.core.before ≡ N.before }
+    requires past { made.core.past ≡ N.past }
+    requires ring { made.parts.ring ≡ N.ring }
+{
+    let left = run_over::<N, R>(rt, made, plan);
+    let mut tally = tally_of(&left.pieces, left.core.trail().len(), &left.runners);
     if plan.keeps {
-        let entries = legal_entries(rt, pieces, core);
-        let totals = Totals::of(&entries);
-        let passes = tally.passes;
-        let given = totals.hits.saturating_add(totals.faults);
-        assert_eq!(rt; (given, unfixes(&entries)), (passes as u64, passes));
-        expect_agreement(rt, &entries, runners);
-        tally.faults = totals.faults;
+        tally.faults = expect_all_back(rt, left, tally.passes);
+    } else {
+        drop(left);
     }
     tally
 }

@@ -7,7 +7,7 @@ ghost use Rattle.std.specs.Prelude.{◌≡◌};
 use crate::gates::Gate;
 use crate::making::{Fails, Way, change, clients_of, counts, look, on_device};
 use bp_core::{Entry, Reply};
-use bp_device::Flushed;
+use bp_device::{Flushed, MemDevice};
 use bp_page::Refusal;
 use bp_shared::{PoolName, SharedPool, Taker};
 use bp_trail::Totals;
@@ -225,12 +225,22 @@ fn end<N: PoolName, R: Abort + AllocGlobal>(
     Totals::of(&entries)
 }
 
-fn run_over<N: PoolName + Send + Sync, R: Threads + Wait + Abort + Sync + AllocGlobal>(
+/// An open pool and its device, its clients, the gate of the first one's port, and what was cut of the trail.
+struct Table<N: PoolName> {
+    pool: SharedPool<N>,
+    takings: Mutex<Takings<N>>,
+    gate: Gate,
+    runners: Vec<Runner<N>>,
+    device: MemDevice,
+}
+
+/// Opens the pool. Except for `Ask::Fix`, its last client has changed page 1.
+fn open_table<N: PoolName, R: Wait + Abort + AllocGlobal>(
     rt: &R,
     made: Made,
     fails: &Fails,
     ask: Ask,
-) -> Done
+) -> Table<N>
     requires mark { made.parts.mark ≡ N.mark }
     requires parameters { made.core.parameters ≡ N.parameters }
     requires before { made.core.before ≡ N.before }
@@ -250,14 +260,54 @@ fn run_over<N: PoolName + Send + Sync, R: Threads + Wait + Abort + Sync + AllocG
         taker,
         entries: Vec::new(rt.alloc()),
     });
-    let shared = Shared {
-        pool: &pool,
-        takings: &takings,
-        gate: &gate,
-        ask,
-    };
-    run_all(rt, &shared, &mut runners);
-    let after = look_again(rt, &pool, &mut runners);
+    Table {
+        pool,
+        takings,
+        gate,
+        runners,
+        device,
+    }
+}
+
+impl<N: PoolName + Send + Sync> Table<N> {
+    /// Runs the threads, and returns what the first client then reads of page 1.
+    fn run<R: Threads + Wait + Abort + Sync>(
+        &mut self,
+        rt: &R,
+        ask: Ask,
+    ) -> Result<Option<u8>, Refusal> {
+        let shared = Shared {
+            pool: &self.pool,
+            takings: &self.takings,
+            gate: &self.gate,
+            ask,
+        };
+        run_all(rt, &shared, &mut self.runners);
+        look_again(rt, &self.pool, &mut self.runners)
+    }
+}
+
+fn run_over<N: PoolName + Send + Sync, R: Threads + Wait + Abort + Sync + AllocGlobal>(
+    rt: &R,
+    made: Made,
+    fails: &Fails,
+    ask: Ask,
+) -> Done
+    requires mark { made.parts.mark ≡ N.mark }
+    requires parameters { made.core.parameters ≡ N.parameters }
+    requires before { made.core.before ≡ N.before }
+    requires past { made.core.past ≡ N.past }
+    requires ring { made.parts.ring ≡ N.ring }
+{
+    let mut table = open_table::<N, R>(rt, made, fails, ask);
+    let after = table.run(rt, ask);
+    let Table {
+        pool,
+        takings,
+        gate: _,
+        runners,
+        device,
+    } = table;
     Done {
         answers: answers_of(&runners),
         totals: end(rt, pool, takings.into_inner()),

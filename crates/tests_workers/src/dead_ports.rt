@@ -95,5 +95,7 @@ fn dead_ports_end_no_run(rt: HostRuntime) {
     let config = config(rt, 2);
     let ports = dead_ports(rt, config.geometry, 2);
     let run = run_workers(rt, rt.alloc(), config, ports, writers(rt, 2, true));
-    expect_all_refused(rt, &run.expect(rt, "the run"));
+    let run = run.expect(rt, "the run");
+    expect_all_refused(rt, &run);
+    drop(run);
 }

@@ -163,7 +163,9 @@ fn run<R: Abort + AllocGlobal + Threads + Wait + Sync>(
     let run = run_workers(rt, rt.alloc(), config(rt, 1), ports(rt, 1), workers);
     let mut run = run.expect(rt, "the run");
     expect_lawful(rt, &run.core);
-    run.left.pop().expect(rt, "what the waiter left")
+    let left = run.left.pop().expect(rt, "what the waiter left");
+    drop(run);
+    left
 }
 
 /// Returns how often the clock was moved.
@@ -231,9 +233,11 @@ fn held_page_stays(rt: HostRuntime) {
     expect_refused(rt, &left.worker, Refusal::NoVictim, 0);
     expect_tries(rt, left.said(), 4, 1);
     assert_eq!(rt; left.held, 1);
+    drop(left);
     let left = run(rt, Waiter::new(rt.alloc(), 3, 1 << 62, true, false));
     expect_refused(rt, &left.worker, Refusal::ClockFull, 0);
     expect_tries(rt, left.said(), 1, 0);
+    drop(left);
 }
 
 /// A log that can't be made durable ends the fix at once, however many rounds are allowed.

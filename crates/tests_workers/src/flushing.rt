@@ -184,4 +184,5 @@ fn checkpoints_beside_writers(rt: HostRuntime) {
     let run = run_workers(rt, rt.alloc(), config(rt, 4), ports(rt, 4), hands(rt));
     let mut run = run.expect(rt, "the run");
     expect_run(rt, &mut run);
+    drop(run);
 }

@@ -151,7 +151,9 @@ fn expect_followed<R: Abort + AllocGlobal>(rt: &R, run: &Run<MemPort, Sharer>) {
 fn follow<R: Threads + Wait + Sync + Abort + AllocGlobal>(rt: &R, log: &Arc<Mutex<Log>, Global>) {
     let workers = sharers(rt, log);
     let run = run_workers(rt, rt.alloc(), config(rt, 1), ports(rt, 2), workers);
-    expect_followed(rt, &run.expect(rt, "the run"));
+    let run = run.expect(rt, "the run");
+    expect_followed(rt, &run);
+    drop(run);
 }
 
 /// Asserts that the log was asked for LSN 5.

@@ -158,5 +158,7 @@ fn silent_labels_are_read_back(rt: HostRuntime) {
         ports(rt, 1),
         labelers(rt),
     );
-    expect_run(rt, &run.expect(rt, "the run"));
+    let run = run.expect(rt, "the run");
+    expect_run(rt, &run);
+    drop(run);
 }

@@ -151,5 +151,7 @@ fn each_worker_works_over_its_own_port(rt: HostRuntime) {
     let rt = &rt;
     let ports = fuses(rt, &[1, 100, 100]);
     let run = visit_all(rt, rt.alloc(), config(rt, 4), ports, visitors(rt));
-    expect_clients(rt, &run.expect(rt, "the run"));
+    let run = run.expect(rt, "the run");
+    expect_clients(rt, &run);
+    drop(run);
 }

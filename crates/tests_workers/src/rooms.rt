@@ -103,7 +103,8 @@ fn run_tickers<K: Kind, R: Abort + AllocGlobal + Threads + Wait + Sync>(
 /// A tick of any worker is one entry, in a pool of either kind.
 #[test]
 fn room_is_counted_alike(rt: HostRuntime) {
-    let _silent = run_tickers::<SilentKeeper, HostRuntime>(&rt);
+    drop(run_tickers::<SilentKeeper, HostRuntime>(&rt));
     let recording = run_tickers::<RecordingKeeper, HostRuntime>(&rt);
     assert_eq!(rt; recording.core.trail().len(), 10);
+    drop(recording);
 }

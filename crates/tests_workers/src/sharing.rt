@@ -60,7 +60,9 @@ fn expect_shared<R: Abort + AllocGlobal + Threads + Wait + Sync>(
     frames: usize,
     count: usize,
 ) {
-    expect_clients(rt, &run(rt, frames, count, false), count);
+    let run = run(rt, frames, count, false);
+    expect_clients(rt, &run, count);
+    drop(run);
 }
 
 /// Two workers write to the same pages.
@@ -92,4 +94,5 @@ fn passes_still_held_go_back(rt: HostRuntime) {
     let rt = &rt;
     let run = run(rt, 4, 2, true);
     expect_given_back(rt, &run.left);
+    drop(run);
 }

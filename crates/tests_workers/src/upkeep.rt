@@ -5,7 +5,7 @@ use crate::making::{config, ports};
 use bp_core::{Entry, RecordingKeeper};
 use bp_device::{MemPort, Port};
 use bp_shared::{PoolName, SharedPool};
-use bp_workers::{Client, Left, Upkeep, Worker, run_workers};
+use bp_workers::{Client, Left, Run, Upkeep, Worker, run_workers};
 use std::process::Abort;
 use std::rt::HostRuntime;
 use std::sync::Wait;
@@ -120,13 +120,14 @@ fn gather<R: Abort>(
 fn full_ring_is_emptied(rt: HostRuntime) {
     let rt = &rt;
     let run = run_workers(rt, rt.alloc(), config(rt, 4), ports(rt, 2), hoarders(rt));
-    let mut run = run.expect(rt, "the run");
-    let setup = setup_of(&run.core);
+    let Run { core, mut left } = run.expect(rt, "the run");
+    let setup = setup_of(&core);
     let mut trail = Vec::new(rt.alloc());
-    let said = gather(rt, &mut run.left, &mut trail);
+    let said = gather(rt, &mut left, &mut trail);
+    drop(left);
     assert!(rt; trail.len() > PASSES);
     trail
-        .append(&mut run.core.into_trail())
+        .append(&mut core.into_trail())
         .expect(rt, "the entries");
     assert_eq!(rt; trail.len(), said);
     assert_eq!(rt; unlawful(rt.alloc(), &setup, &trail), Ok(None));

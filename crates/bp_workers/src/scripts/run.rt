@@ -117,7 +117,13 @@ fn joined<P: Port>(
     let mut said = said;
     let mut refused = refused;
     let mut ports = ports;
-    collect(core.trail(), left, &mut said, &mut refused, &mut ports)?;
+    match collect(core.trail(), left, &mut said, &mut refused, &mut ports) {
+        Ok(()) => {}
+        Err(refusal) => {
+            drop(core);
+            return Err(refusal);
+        }
+    }
     refused.sort_unstable_by_key(|refused| refused.row);
     let outcome = Outcome {
         trail: core.into_trail(),

@@ -12,16 +12,17 @@ use Rattle.bp_workers.proofs.run.make_jobs.Goals as goal
 pub loop-worker-init : goal.loop-worker-init
 loop-worker-init g c =
     let sessions : into_iter_items c.into_iter-sessions.result ≡ c.args.sessions.items = search rules in
-    let none : vec_len c.new-jobs.result ≡ 0 = search rules in
+    let none : vec_len c.in_ok-jobs.jobs ≡ 0 = search rules in
     let workers : into_iter_items c.into_iter-worker-iterator.result ≡ c.args.workers.items = search rules in
     let ports : into_iter_items c.into_iter-ports.result ≡ c.args.ports.items = search rules in
     let count : length (into_iter_items c.into_iter-worker-iterator.result) ≡ vec_len c.args.workers = search rules in
     record {
-      made = none_beside IsNewJob _ _ _ (ap (λ ws. zip ws (into_iter_items c.into_iter-ports.result)) workers ∙ ap (zip c.args.workers.items) ports) c.new-jobs.ensures.items;
-      sessions = sessions ∙ c.requires.sessions ∙ in_order (vec_len c.args.workers) ∙ ap (λ n. sessions_from n (vec_len c.args.workers)) (sym none) ∙ ap (sessions_from (vec_len c.new-jobs.result)) (sym count);
+      made = none_beside IsNewJob _ _ _ (ap (λ ws. zip ws (into_iter_items c.into_iter-ports.result)) workers ∙ ap (zip c.args.workers.items) ports) c.in_ok-jobs.ensures.items;
+      sessions = sessions ∙ c.requires.sessions ∙ in_order (vec_len c.args.workers) ∙ ap (λ n. sessions_from n (vec_len c.args.workers)) (sym none) ∙ ap (sessions_from (vec_len c.in_ok-jobs.jobs)) (sym count);
       ports = search rules;
       of_pool = All-same (λ p. IsOfPool g.N.PoolName.parameters (g.P.Port.geometry_of p)) _ _ (search rules) c.requires.of_pool;
       upkeep = ap Some c.requires.unused ∙ ap new_upkeep (sym none);
+      room = omega (arith, none, count, c.in_ok-jobs.ensures.capacity, c.len.ensures);
     }
 
 pub invariant_of-client : goal.invariant_of-client
@@ -35,10 +36,10 @@ loop-worker-preserved g c =
     let next = c.in-Some.ensures.steps.0 in
     let pair = one_of_each (into_iter_items c.loop-worker.worker-iterator) (into_iter_items c.next.new.self) (into_iter_items c.loop-worker.ports) (into_iter_items c.next-in-loop-worker-2.new.self) c.in-Some.worker c.in-Some-next-2.port next c.in-Some-next-2.ensures.items in
     let s = next_session _ _ _ _ _ c.in-Some-next.session i.sessions c.in-Some-next.ensures.items (ap length next) in
-    let one : vec_len c.push.new.self ≡ suc (vec_len c.loop-worker.jobs) = omega (arith, c.in-Ok.ensures.len) in
+    let one : vec_len c.push_reserved.new.self ≡ suc (vec_len c.loop-worker.jobs) = omega (arith, c.push_reserved.ensures.len) in
     let left = length (into_iter_items c.next.new.self) in
     record {
-      made = one_beside IsNewJob _ _ _ _ _ (c.in-Some.worker, c.in-Some-next-2.port) c.new-job.result (vec_len c.loop-worker.jobs) i.made pair c.in-Ok.ensures.items (omega (arith, c.loop-worker.jobs.ok)) (record {
+      made = one_beside IsNewJob _ _ _ _ _ (c.in-Some.worker, c.in-Some-next-2.port) c.new-job.result (vec_len c.loop-worker.jobs) i.made pair c.push_reserved.ensures.items (omega (arith, c.loop-worker.jobs.ok)) (record {
         worker_is = c.new-job.ensures.worker;
         port_is = c.new-job.ensures.port;
         session = c.new-job.ensures.session ∙ s.is;
@@ -48,6 +49,7 @@ loop-worker-preserved g c =
       ports = omega (arith, i.ports, ap length next, ap length c.in-Some-next-2.ensures.items);
       of_pool = All-tail (λ p. IsOfPool g.N.PoolName.parameters (g.P.Port.geometry_of p)) c.in-Some-next-2.port (into_iter_items c.next-in-loop-worker-2.new.self) (All-same (λ p. IsOfPool g.N.PoolName.parameters (g.P.Port.geometry_of p)) _ _ (sym c.in-Some-next-2.ensures.items) i.of_pool);
       upkeep = ap held_upkeep c.take.ensures.after ∙ ap new_upkeep (sym one);
+      room = omega (arith, i.room, one, ap length next, c.push_reserved.ensures.capacity);
     }
 
 pub returns-clause-jobs : goal.returns-clause-jobs

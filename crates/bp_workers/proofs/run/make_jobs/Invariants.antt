@@ -1,5 +1,5 @@
--- The jobs so far, and the sessions, ports and the upkeep that are left.
-use Rattle.std.proofs.Common.{◌≡◌, All, length, vec_len}
+-- The jobs so far, with room for all, and the sessions, ports and the upkeep that are left.
+use Rattle.std.proofs.Common.{◌≡◌, ◌+◌, ◌≤◌, All, length, vec_len, vec_capacity}
 use Rattle.std.specs.Prelude.{zip}
 use Rattle.std.specs.Vec.Iter.{into_iter_items}
 use Rattle.bp_workers.specs.Workers.{held_upkeep, new_upkeep}
@@ -15,4 +15,5 @@ invariant-loop-worker g l = record {
   ports : length (into_iter_items l.ports) ≡ length (into_iter_items l.worker-iterator);
   of_pool : All (λ p. IsOfPool g.N.PoolName.parameters (g.P.Port.geometry_of p)) (into_iter_items l.ports);
   upkeep : held_upkeep l.upkeep ≡ new_upkeep (vec_len l.jobs);
+  room : vec_len l.jobs + length (into_iter_items l.worker-iterator) ≤ vec_capacity l.jobs;
 }

@@ -1,6 +1,5 @@
 -- What was added, with the refused rows put in order. No cut was made, so the trail is all entries.
-use Rattle.std.proofs.Common.{◌≡◌, List, [], ◌++◌, reverse, map, length, arith, rules, refl, sym, ap, subst, ◌∙◌, Err, IfErr}
-use Rattle.std.proofs.lemmas.Result.{err_from_is_err_and}
+use Rattle.std.proofs.Common.{◌≡◌, List, [], ◌++◌, reverse, map, length, arith, rules, refl, sym, ap, subst, ◌∙◌}
 use Rattle.std.proofs.lemmas.List.{append-nil, append_cancel_right, reverse-reverse}
 use Rattle.std.proofs.lemmas.List.Sorted.{IsNonDecreasingBy-from_sort_by_key}
 use Rattle.bp_trail.specs.declared.entries.Entry.{Entry}
@@ -24,18 +23,16 @@ pub returns-clause-room : goal.returns-clause-room
 returns-clause-room g c =
     omega (arith, c.trail.ensures.room, c.into_trail.result.ok, ap length (same_told c.trail.result.now c.into_trail.result.items _ _ c.trail.ensures.entries c.into_trail.ensures.entries))
 
-pub returns-in_err-collect-clause-refused : goal.returns-in_err-collect-clause-refused
-returns-in_err-collect-clause-refused g c =
+pub returns-in-Err-clause-refused : goal.returns-in-Err-clause-refused
+returns-in-Err-clause-refused g c =
     let all = all_told c.trail.result.now c.args.run.core.before c.args.run.core.past c.trail.ensures.entries c.requires.uncut.0 in
-    let is = err_from_is_err_and c.from_residual.result c.from_residual.ensures.1 in
-    subst (λ r. IfErr r (NotAdded (SomeDisagrees (reverse c.args.run.core.past) (map left_value c.args.run.left.items)))) (sym (is.1 ∙ ap Err is.2))
-    (subst (λ trail. NotAdded (SomeDisagrees trail (map left_value c.args.run.left.items)) c.in_err-collect.field-0.0) (sym (ap reverse all ∙ reverse-reverse c.trail.result.now)) c.in_err-collect.ensures.fault)
+    subst (λ trail. NotAdded (SomeDisagrees trail (map left_value c.args.run.left.items)) c.in-Err.refusal) (sym (ap reverse all ∙ reverse-reverse c.trail.result.now)) c.in-Err.ensures.fault
 
 pub returns-clause-joined : goal.returns-clause-joined
 returns-clause-joined g c = record {
   one_by_one = c.collect.new.refused.items;
   collected = subst (λ trail. Collected trail (map left_value c.args.run.left.items) (lists c.collect.new.said.items) c.collect.new.refused.items c.collect.new.ports.items)
-      (same_told c.trail.result.now c.into_trail.result.items _ _ c.trail.ensures.entries c.into_trail.ensures.entries) c.in_ok-collect.ensures.collected;
+      (same_told c.trail.result.now c.into_trail.result.items _ _ c.trail.ensures.entries c.into_trail.ensures.entries) c.in-Ok.ensures.collected;
   same = c.sort_unstable_by_key.ensures.permutation;
   in_order = IsNonDecreasingBy-from_sort_by_key (λ r. r.row) _ c.sort_unstable_by_key.ensures.sorted (λ a r q k. search rules);
 }
