@@ -2,8 +2,8 @@
 use Rattle.std.proofs.Common.{◌≡◌, ◌≢◌, ◌<◌, refl, sym, ap, subst, ◌∙◌, ℕ, zero, suc, ◌+◌, cond, ◌==◌, List, [], ◌∷◌, ◌++◌, length, map, reverse, get_or, set, drop, All, append_assoc, arith, Option, Some, None}
 use Rattle.std.specs.List.{cons_option}
 use Rattle.std.proofs.Math.ListN.{get_or-map}
-use Rattle.std.proofs.lemmas.List.{drop_more, get_or-set_same, length-set, get_or_default, length-map, append-nil, reverse-append, reverse-reverse, nil_from_length, length-append}
-use Rattle.std.proofs.lemmas.List.Elements.{filter_map-append, All-nil, All-cons, All-head, All-tail}
+use Rattle.std.proofs.lemmas.List.{map-append, drop_more, get_or-set_same, length-set, get_or_default, length-map, append-nil, reverse-append, reverse-reverse, nil_from_length, length-append}
+use Rattle.std.proofs.lemmas.List.Elements.{filter_map-append, All-nil, All-cons, All-append, All-head, All-tail}
 use Rattle.std.proofs.lemmas.Bool.{eq-eqb, eqb-true, false_from_ne_true}
 use native.Mathlib.Decide.{ℕ_discrete}
 use Rattle.rtrb.specs.declared.producer.Producer.{Producer}
@@ -21,7 +21,7 @@ use Rattle.bp_session_log.specs.Books.{pass_unfixed, unfixes}
 use Rattle.bp_session_log.specs.Rings.{ring_of, ring_at, ring_view, RingName, RingView, GoBack, DrainsRings}
 use Rattle.bp_session_log.specs.Rings.GoBack.{none_taken, next_taken}
 use Rattle.bp_session_log.specs.Rings.DrainsRings.{none_left, next_ring}
-use Rattle.bp_shared.specs.Posting.{unfixed, came_out, IsPosted, IsUnfixedBy, TakesBack}
+use Rattle.bp_shared.specs.Posting.{unfixed, came_out, IsPosted, IsUnfixedBy, TakesBack, IsUnused, AreRings}
 use Rattle.bp_shared.proofs.Telling.{Adds}
 
 -- ---- what a client gave back, part by part
@@ -298,3 +298,18 @@ meets consumers names clients client at consumer producer are count below is her
       seen = get_or-map ring_view consumers at consumer ∙ ap ring_view (sym here);
       counted = subst (λ n. at < n) (sym (length-map consumers ring_view)) inside;
     }
+
+-- ---- rings, one more at a time
+pub no_rings : {A B P Q : Type 0} (ps : List (Producer Grant A P)) (cs : List (Consumer Grant B Q)) → ps ≡ [] → cs ≡ [] → AreRings ps cs
+no_rings ps cs no_ps no_cs = record {
+  same = ap (map ring_at) no_cs ∙ sym (ap (map ring_of) no_ps);
+  unused = subst (All IsUnused) (sym no_ps) (All-nil IsUnused);
+  empty = subst (All (λ ring. received ring ≡ [])) (sym no_cs) (All-nil (λ ring. received ring ≡ []));
+}
+
+pub ring_more : {A B P Q : Type 0} (ps ps_after : List (Producer Grant A P)) (cs cs_after : List (Consumer Grant B Q)) (p : Producer Grant A P) (c : Consumer Grant B Q) → AreRings ps cs → ps_after ≡ ps ++ p ∷ [] → cs_after ≡ cs ++ c ∷ [] → ring_at c ≡ ring_of p → IsUnused p → received c ≡ [] → AreRings ps_after cs_after
+ring_more ps ps_after cs cs_after p c rings in_after out_after pair unused empty = record {
+  same = ap (map ring_at) out_after ∙ map-append ring_at cs (c ∷ []) ∙ ap (λ names. names ++ ring_at c ∷ []) rings.same ∙ ap (λ name. map ring_of ps ++ name ∷ []) pair ∙ sym (map-append ring_of ps (p ∷ [])) ∙ sym (ap (map ring_of) in_after);
+  unused = subst (All IsUnused) (sym in_after) (All-append IsUnused ps (p ∷ []) rings.unused (All-cons IsUnused p [] unused (All-nil IsUnused)));
+  empty = subst (All (λ ring. received ring ≡ [])) (sym out_after) (All-append (λ ring. received ring ≡ []) cs (c ∷ []) rings.empty (All-cons (λ ring. received ring ≡ []) c [] empty (All-nil (λ ring. received ring ≡ []))));
+}

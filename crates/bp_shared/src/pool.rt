@@ -58,7 +58,7 @@ fn new_clients<N: PoolName, K: ListKeeper>(
     ensures sessions { IfOk result (λ made. made.items ≡ new_sessions N.parameters.clients) }
     ensures refused { OnErr result (result ≡ Err Refusal.OutOfMemory) }
 {
-    let mut sessions = Vec::new(alloc);
+    let mut sessions = Vec::with_capacity(alloc, clients as usize)?;
     let mut producers = producers.into_iter();
     for client in 0..clients {
         let Some(producer) = producers.next() else {
@@ -66,9 +66,7 @@ fn new_clients<N: PoolName, K: ListKeeper>(
         };
         let (line, seen) = (board.line(), seen.line());
         let session = Session::new(alloc, geometry, client, producer, line, seen);
-        let Ok(()) = sessions.push(session) else {
-            return Err(Refusal::OutOfMemory);
-        };
+        sessions.push_reserved(session);
     }
     Ok(sessions)
 }
@@ -110,7 +108,7 @@ fn open<N: PoolName, K: ListKeeper>(
     ensures refused { length N.ring.rings ≡ N.parameters.clients
         → OnErr result (result ≡ Err Refusal.OutOfMemory) }
 {
-    if ring.producers.len() != usize::from(clients) {
+    if ring.producers.len() != clients as usize {
         return Err(Refusal::BadClient);
     }
     let TrailRing {

@@ -59,16 +59,12 @@ fn session_rings(
     ensures count { IfOk result (λ made. length made.0.items ≡ clients) }
     ensures refused { OnErr result (result ≡ Err Refusal.OutOfMemory) }
 {
-    let mut producers = Vec::new(alloc);
-    let mut consumers = Vec::new(alloc);
+    let mut producers = Vec::with_capacity(alloc, clients as usize)?;
+    let mut consumers = Vec::with_capacity(alloc, clients as usize)?;
     for _ in 0..clients {
         let (producer, consumer) = RingBuffer::new(alloc, RING)?;
-        let Ok(()) = producers.push(producer) else {
-            return Err(Refusal::OutOfMemory);
-        };
-        let Ok(()) = consumers.push(consumer) else {
-            return Err(Refusal::OutOfMemory);
-        };
+        producers.push_reserved(producer);
+        consumers.push_reserved(consumer);
     }
     Ok((producers, consumers))
 }

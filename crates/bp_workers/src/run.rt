@@ -50,7 +50,11 @@ fn make_jobs<N: PoolName, P: Port, K: ListKeeper, W: Worker<P, K>>(
         SideBySide IsNewJob 0 (zip workers.items ports.items) jobs.items) }
     ensures refused { OnErr result (result ≡ Err Refusal.OutOfMemory) }
 {
-    let mut jobs = Vec::with_capacity(alloc, workers.len())?;
+    let Ok(mut jobs) = Vec::with_capacity(alloc, workers.len()) else {
+        drop(sessions);
+        drop(upkeep);
+        return Err(Refusal::OutOfMemory);
+    };
     let mut upkeep = Some(upkeep);
     let mut sessions = sessions.into_iter();
     let mut ports = ports.into_iter();
@@ -111,7 +115,8 @@ fn all_left<N: PoolName, P: Port, K: ListKeeper, W: Worker<P, K>>(
     let Some(upkeep) = upkeep else { unreachable!() };
     left.push_reserved(one);
     for job in jobs {
-        let (one, _) = job.into_left(pool);
+        let (one, no_upkeep) = job.into_left(pool);
+        drop(no_upkeep);
         left.push_reserved(one);
     }
     (upkeep, left)
@@ -141,7 +146,11 @@ fn run_pool<
         SideBySide (LeftBy run.core P.geometry_of W.leaves) 0 given run.left.items) }
     ensures refused { OnErr result (result ≡ Err Refusal.OutOfMemory) }
 {
-    let left = Vec::with_capacity(alloc, jobs.len())?;
+    let Ok(left) = Vec::with_capacity(alloc, jobs.len()) else {
+        drop(pool);
+        drop(jobs);
+        return Err(Refusal::OutOfMemory);
+    };
     let mut jobs = jobs;
     run_jobs(rt, &pool, jobs.as_mut_slice());
     let mut pool = pool.close();
@@ -196,7 +205,13 @@ fn run_named<
         log: LogWriter::new(end),
         taker,
     };
-    let jobs = make_jobs(alloc, sessions, ports, workers, upkeep)?;
+    let jobs = match make_jobs(alloc, sessions, ports, workers, upkeep) {
+        Ok(jobs) => jobs,
+        Err(refusal) => {
+            drop(pool);
+            return Err(refusal);
+        }
+    };
     run_pool(rt, alloc, pool, jobs)
 }
 

@@ -11,6 +11,7 @@ use hojzmated::{
     SilentPool, Upkeep, Worker, create_page_file, run_workers_over,
 };
 use std::os::unix::fs::FileExt;
+use std::rt::Files;
 use std::sync::{Arc, Mutex, Wait};
 use std::thread::Parker;
 use std::time::Duration;
@@ -41,7 +42,7 @@ impl Log {
 
 #[derive(Drop)]
 struct Adding {
-    log: Arc<Mutex<Log>, std::alloc::Global>,
+    log: SharedLog,
     /// The latest value of a counter, or why there is none.
     latest: Result<u64, Refusal>,
 }
@@ -118,23 +119,48 @@ impl<P: Port> Worker<P, SilentKeeper> for Adding {
     }
 }
 
+type SharedLog = Arc<Mutex<Log>, std::alloc::Global>;
+
+/// Opens the log, which is made where it is not there.
+fn open_log(rt: &HostRuntime, path: &str) -> Result<SharedLog, anyhow::Error> {
+    let file = fs::File::options().write(true).create(true).open(rt, path)?;
+    let (last, adders) = (Lsn::new(file.metadata()?.len() / 8), 1);
+    Ok(Arc::new(rt.alloc(), Mutex::new(Log { file, last, adders }))?)
+}
+
+/// Opens a port on the page file for each of the two clients.
+fn open_ports(
+    rt: &(impl Files<File = fs::File> + Wait),
+    alloc: std::alloc::Global,
+    path: &str,
+    geometry: Geometry,
+) -> Result<Vec<FilePort>, anyhow::Error> {
+    // It makes nothing where the file is there.
+    let _ = create_page_file(rt, alloc, path, geometry, Format::Headed);
+    let mut ports = Vec::with_capacity(alloc, 2)?;
+    for _ in 0..2 {
+        ports.push(FilePort::open(rt, alloc, path, 64, Format::Headed)?)?;
+    }
+    Ok(ports)
+}
+
+fn make_workers(rt: &HostRuntime, log: &SharedLog) -> Result<Vec<Adding>, anyhow::Error> {
+    let mut workers = Vec::with_capacity(rt.alloc(), 2)?;
+    for _ in 0..2 {
+        let (log, latest) = (Arc::try_clone(log)?, Ok(0));
+        workers.push(Adding { log, latest })?;
+    }
+    Ok(workers)
+}
+
 fn main(rt: HostRuntime) -> Result<(), anyhow::Error> {
     let (rt, alloc) = (&rt, rt.alloc());
     let mut words = env::args(rt)?.skip(1);
     let path = words.next().context("no page file is named")?;
     let log = words.next().context("no log is named")?;
     let geometry = Geometry::new(32, 64)?;
-    // It makes nothing where the file is there.
-    let _ = create_page_file(rt, alloc, &path, geometry, Format::Headed);
-    let file = fs::File::options().write(true).create(true).open(rt, &log)?;
-    let (last, adders) = (Lsn::new(file.metadata()?.len() / 8), 1);
-    let log = Arc::new(alloc, Mutex::new(Log { file, last, adders }))?;
-    let (mut ports, mut workers) = (Vec::new(alloc), Vec::new(alloc));
-    for _ in 0..2 {
-        ports.push(FilePort::open(rt, alloc, &path, 64, Format::Headed)?)?;
-        let (log, latest) = (Arc::try_clone(&log)?, Ok(0));
-        workers.push(Adding { log, latest })?;
-    }
+    let workers = make_workers(rt, &open_log(rt, &log)?)?;
+    let ports = open_ports(rt, alloc, &path, geometry)?;
     let config = Config::new(geometry).with_frames(8);
     let left = run_workers_over::<SilentKeeper, _, _, _>(rt, alloc, config, ports, workers)?.left;
     for one in &left {

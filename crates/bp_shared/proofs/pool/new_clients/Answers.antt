@@ -13,13 +13,15 @@ use Rattle.bp_shared.proofs.pool.new_clients.Goals as goal
 
 pub loop-client-init : goal.loop-client-init
 loop-client-init g c = record {
-  sessions = c.new-sessions.ensures.items;
+  sessions = c.in_ok-sessions.ensures.items;
   rings = search rules;
   board = c.requires.board;
   lines = ap length c.requires.empty.0;
   blank = subst IsBlank (sym c.requires.empty.0) (λ _. refl);
   seen = c.requires.seen;
   unseen = subst IsBlank (sym c.requires.empty.1) (λ _. refl);
+  count = c.in_ok-sessions.ensures.len;
+  room = c.in_ok-sessions.ensures.capacity;
 }
 
 pub new-session-requires-clause-unused : goal.new-session-requires-clause-unused
@@ -54,6 +56,8 @@ loop-client-preserved g c =
       blank = subst IsBlank (sym more.lists) (blank_more _ i.blank);
       seen = c.line-seen.ensures.name ∙ i.seen;
       unseen = subst IsBlank (sym c.line-seen.ensures.lists) (blank_more _ i.unseen);
+      count = omega (arith, c.push_reserved.ensures.len, i.count);
+      room = omega (arith, i.room, c.push_reserved.ensures.capacity);
     }
 
 pub returns-clause-sessions : goal.returns-clause-sessions

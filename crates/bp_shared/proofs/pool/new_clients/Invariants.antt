@@ -1,5 +1,5 @@
 -- So many sessions were made, each with a line of both boards, and the rings of the others are left.
-use Rattle.std.proofs.Common.{◌≡◌, length, drop}
+use Rattle.std.proofs.Common.{◌≡◌, ◌≤◌, length, drop, vec_len, vec_capacity}
 use Rattle.std.specs.Vec.Iter.{into_iter_items}
 use Rattle.bp_shared.specs.Sessions.{new_sessions}
 use Rattle.bp_shared.specs.Telling.{IsBlank}
@@ -14,4 +14,6 @@ invariant-loop-client g l = record {
   blank : IsBlank l.board.lists;
   seen : l.seen.name ≡ g.N.PoolName.ring.seen;
   unseen : IsBlank l.seen.lists;
+  count : vec_len l.sessions ≡ l.client;
+  room : l.fn.clients ≤ vec_capacity l.sessions;
 }

@@ -12,17 +12,17 @@ use Rattle.bp_workers.proofs.run.make_jobs.Goals as goal
 pub loop-worker-init : goal.loop-worker-init
 loop-worker-init g c =
     let sessions : into_iter_items c.into_iter-sessions.result ≡ c.args.sessions.items = search rules in
-    let none : vec_len c.in_ok-jobs.jobs ≡ 0 = search rules in
+    let none : vec_len c.in-Ok.jobs ≡ 0 = search rules in
     let workers : into_iter_items c.into_iter-worker-iterator.result ≡ c.args.workers.items = search rules in
     let ports : into_iter_items c.into_iter-ports.result ≡ c.args.ports.items = search rules in
     let count : length (into_iter_items c.into_iter-worker-iterator.result) ≡ vec_len c.args.workers = search rules in
     record {
-      made = none_beside IsNewJob _ _ _ (ap (λ ws. zip ws (into_iter_items c.into_iter-ports.result)) workers ∙ ap (zip c.args.workers.items) ports) c.in_ok-jobs.ensures.items;
-      sessions = sessions ∙ c.requires.sessions ∙ in_order (vec_len c.args.workers) ∙ ap (λ n. sessions_from n (vec_len c.args.workers)) (sym none) ∙ ap (sessions_from (vec_len c.in_ok-jobs.jobs)) (sym count);
+      made = none_beside IsNewJob _ _ _ (ap (λ ws. zip ws (into_iter_items c.into_iter-ports.result)) workers ∙ ap (zip c.args.workers.items) ports) c.in-Ok.ensures.items;
+      sessions = sessions ∙ c.requires.sessions ∙ in_order (vec_len c.args.workers) ∙ ap (λ n. sessions_from n (vec_len c.args.workers)) (sym none) ∙ ap (sessions_from (vec_len c.in-Ok.jobs)) (sym count);
       ports = search rules;
       of_pool = All-same (λ p. IsOfPool g.N.PoolName.parameters (g.P.Port.geometry_of p)) _ _ (search rules) c.requires.of_pool;
       upkeep = ap Some c.requires.unused ∙ ap new_upkeep (sym none);
-      room = omega (arith, none, count, c.in_ok-jobs.ensures.capacity, c.len.ensures);
+      room = omega (arith, none, count, c.in-Ok.ensures.capacity, c.len.ensures);
     }
 
 pub invariant_of-client : goal.invariant_of-client
