@@ -38,6 +38,7 @@ def kills():
     loader = SourceFileLoader("kills", os.path.join(TOP, "check", "kills"))
     module = module_from_spec(spec_from_loader("kills", loader))
     sys.dont_write_bytecode = True
+    sys.path.insert(0, os.path.join(TOP, "check"))  # where its runner stands
     loader.exec_module(module)
     return module
 

@@ -276,6 +276,7 @@ pub fn run_workers_over<K: Kind, P: Port + Send, W: Worker<P, K> + Send, R: Thre
         return Err(Refusal::BadSettings);
     }
     let clients = workers.len() as u8;
+    // A `?` here would take the prover longer: its result holds a core.
     let core = match PoolCore::<K>::new(
         alloc,
         config.geometry,

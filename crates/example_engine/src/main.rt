@@ -10,6 +10,7 @@ use hojzmated::{
     Client, Config, FilePort, Format, Geometry, Lsn, PageNo, PoolName, Port, Refusal, SilentKeeper,
     SilentPool, Upkeep, Worker, create_page_file, run_workers_over,
 };
+use std::alloc::Global;
 use std::os::unix::fs::FileExt;
 use std::rt::Files;
 use std::sync::{Arc, Mutex, Wait};
@@ -39,6 +40,8 @@ impl Log {
         Ok(self.last)
     }
 }
+
+type SharedLog = Arc<Mutex<Log>, Global>;
 
 #[derive(Drop)]
 struct Adding {
@@ -119,8 +122,6 @@ impl<P: Port> Worker<P, SilentKeeper> for Adding {
     }
 }
 
-type SharedLog = Arc<Mutex<Log>, std::alloc::Global>;
-
 /// Opens the log, which is made where it is not there.
 fn open_log(rt: &HostRuntime, path: &str) -> Result<SharedLog, anyhow::Error> {
     let file = fs::File::options().write(true).create(true).open(rt, path)?;
@@ -131,21 +132,22 @@ fn open_log(rt: &HostRuntime, path: &str) -> Result<SharedLog, anyhow::Error> {
 /// Opens a port on the page file for each of the two clients.
 fn open_ports(
     rt: &(impl Files<File = fs::File> + Wait),
-    alloc: std::alloc::Global,
+    alloc: Global,
     path: &str,
     geometry: Geometry,
 ) -> Result<Vec<FilePort>, anyhow::Error> {
     // It makes nothing where the file is there.
     let _ = create_page_file(rt, alloc, path, geometry, Format::Headed);
-    let mut ports = Vec::with_capacity(alloc, 2)?;
+    let mut ports = Vec::new(alloc);
     for _ in 0..2 {
         ports.push(FilePort::open(rt, alloc, path, 64, Format::Headed)?)?;
     }
     Ok(ports)
 }
 
-fn make_workers(rt: &HostRuntime, log: &SharedLog) -> Result<Vec<Adding>, anyhow::Error> {
-    let mut workers = Vec::with_capacity(rt.alloc(), 2)?;
+/// Makes a worker for each of the two clients.
+fn make_workers(alloc: Global, log: &SharedLog) -> Result<Vec<Adding>, anyhow::Error> {
+    let mut workers = Vec::new(alloc);
     for _ in 0..2 {
         let (log, latest) = (Arc::try_clone(log)?, Ok(0));
         workers.push(Adding { log, latest })?;
@@ -159,8 +161,8 @@ fn main(rt: HostRuntime) -> Result<(), anyhow::Error> {
     let path = words.next().context("no page file is named")?;
     let log = words.next().context("no log is named")?;
     let geometry = Geometry::new(32, 64)?;
-    let workers = make_workers(rt, &open_log(rt, &log)?)?;
     let ports = open_ports(rt, alloc, &path, geometry)?;
+    let workers = make_workers(alloc, &open_log(rt, &log)?)?;
     let config = Config::new(geometry).with_frames(8);
     let left = run_workers_over::<SilentKeeper, _, _, _>(rt, alloc, config, ports, workers)?.left;
     for one in &left {

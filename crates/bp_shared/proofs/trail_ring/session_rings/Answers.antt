@@ -1,5 +1,5 @@
 -- One ring after another.
-use Rattle.std.proofs.Common.{◌≡◌, ap, arith, [], ◌∷◌, length, length-append}
+use Rattle.std.proofs.Common.{ap, arith, [], ◌∷◌, length, length-append, rules}
 use Rattle.bp_shared.proofs.Posting.{no_rings, ring_more}
 use Rattle.bp_shared.proofs.trail_ring.session_rings.Goals as goal
 
