@@ -1,4 +1,4 @@
-/* The peer of `bench pool` and bench_threads: the memory pool of Berkeley DB. A fix is memp_fget, an unfix memp_fput.
+/* The peer of `bench pool` and `bench threads`: the memory pool of Berkeley DB. A fix is memp_fget, an unfix memp_fput.
  *
  *     cc -O2 mpool.c -ldb -lpthread -o mpool
  *     ./mpool THREADS SECONDS PAGES FRAMES PAGESIZE HOT

@@ -1,9 +1,8 @@
 #!/usr/bin/env python3
-"""Runs `bench pool` or bench_threads and Berkeley DB's memory pool in turn, over the same pages, and prints the ratios.
+"""Runs `bench pool` or `bench threads` and Berkeley DB's memory pool in turn, over the same pages; prints the ratios.
 
     apt-get install libdb5.3-dev           (a C compiler is needed too)
-    (cd crates/bench && rt run)            builds a bench; with no argument it does nothing
-    (cd crates/bench_threads && rt run)    the same; with no argument it does little
+    (cd crates/bench && rt run)            builds the bench; with no argument it makes long runs of seconds
     peers/side_by_side.py ROUNDS [ROOM ..]
     peers/side_by_side.py ROUNDS threads [silent]
 
@@ -22,7 +21,6 @@ import tempfile
 
 TOP = os.path.dirname(os.path.dirname(os.path.realpath(__file__)))
 BENCH = f"{TOP}/crates/bench/out/bench"
-BENCH_THREADS = f"{TOP}/crates/bench_threads/out/bench_threads"
 FILE_BYTES = 268435456
 # For each column of `bench pool`: pages of the file, frames such that the hit rate is the same, hot pages.
 COLUMNS = [
@@ -33,7 +31,7 @@ COLUMNS = [
     ("hits, 65,536 frames", 65536, 65536, 65536),
     ("evictions, 65,536 frames", 262144, 46200, 262144),
 ]
-# For each line of bench_threads: threads, and then as above.
+# For each line of `bench threads`: threads, and then as above.
 THREAD_COLUMNS = [
     (f"{name}, {threads} thread{'s' * (threads > 1)}", threads, pages, frames, hot)
     for threads in (1, 2, 4)
@@ -51,7 +49,7 @@ def ours(pages, room, folder):
 
 
 def ours_in_threads(pages, kind, folder):
-    return [int(it) for it in re.findall(r"pages: (\d+) fixes", said([BENCH_THREADS, pages, kind], folder))]
+    return [int(it) for it in re.findall(r"pages: (\d+) fixes", said([BENCH, "threads", pages, kind], folder))]
 
 
 def mpool_said(mpool, threads, pages, frames, hot, folder):

@@ -1,24 +1,34 @@
-//! Times the calls of a core or a pool, as its first argument says; without one it does nothing. docs/BENCHMARKS.md has
-//! the results.
+//! Measures a core or a pool, as its first argument says. docs/BENCHMARKS.md has the results.
 //!
+//!     bench                            both long runs, and four threads for a moment: what `stdout` has
+//!     bench cut | uncut                the first, with a trail that is cut as it goes, or has room for all entries
+//!     bench silent ROUNDS SIZE         the second, of so many rounds over pages of so many bytes
 //!     bench calls FRAMES               each call of a core of so many frames
 //!     bench pool FILE [ROOM | silent]  fixes and unfixes over a page file
+//!     bench threads FILE [silent]      the same by client threads over one shared pool
 //!     bench blocks                     the calls of LRU-K that take the number of a page's block
 //!
 //! With a room the trail is cut each time it is half full, and continues in the memory of the piece before; without one
-//! it is never cut. With `silent` the core only counts its entries.
+//! it is never cut. With `silent` the core only counts its entries. Other words do nothing.
 #![tactic(auto)]
 
 ghost use Rattle.std.specs.Prelude.{◌<◌};
 
 mod blocks;
 mod calls;
+mod long_run;
 mod pool;
+mod threads;
 
+use anyhow::Context;
 use bp_core::{Keeper, RecordingKeeper, SilentKeeper};
 use std::alloc::Global;
 use std::env;
-use std::rt::Runtime;
+use std::fs::File;
+use std::marker::Sync;
+use std::rt::{Clock, Files, Runtime};
+use std::sync::Wait;
+use std::thread::Threads;
 use std::time::{CpuClock, Duration};
 
 // The room of a trail that is never cut.
@@ -46,28 +56,57 @@ fn tell(
     Ok(())
 }
 
+/// Times a pool over a page file.
+fn time_pool(
+    rt: &(impl Runtime<A = Global> + CpuClock + Files<File = File> + Wait),
+    path: &str,
+    room: Option<&str>,
+) -> Result<(), anyhow::Error> {
+    match room {
+        None => pool::time_pools::<RecordingKeeper>(rt, path, GREAT_ROOM, GREAT_ROOM),
+        Some("silent") => pool::time_pools::<SilentKeeper>(rt, path, SilentKeeper::MOST_ROOM, 0),
+        Some(room) => {
+            let room = room.parse::<usize>()?;
+            pool::time_pools::<RecordingKeeper>(rt, path, room, room / 2)
+        }
+    }
+}
+
+fn number(word: Option<&str>) -> Result<u64, anyhow::Error> {
+    let word = word.context("a number is missing")?;
+    Ok(word.parse::<u64>()?)
+}
+
+/// Measures what the words of the command line say.
+fn measure(
+    rt: &(impl Runtime<A = Global> + Clock + CpuClock + Files<File = File> + Threads + Wait + Sync),
+    what: &str,
+    of: Option<&str>,
+    more: Option<&str>,
+) -> Result<(), anyhow::Error> {
+    match what {
+        "cut" => long_run::run_once(rt, true),
+        "uncut" => long_run::run_once(rt, false),
+        "silent" => long_run::run_silent(rt, number(of)?, number(more)? as usize),
+        "calls" => calls::time_calls(rt, number(of)?),
+        "pool" => time_pool(rt, of.context("no page file is named")?, more),
+        "threads" => {
+            let path = of.context("no page file is named")?;
+            threads::time_pool(rt, path, more == Some("silent"))
+        }
+        "blocks" => blocks::time_blocks(rt),
+        _ => Ok(()),
+    }
+}
+
 fn main(rt: HostRuntime) -> Result<(), anyhow::Error> {
     let mut words = env::args(&rt)?.skip(1);
-    let (Some(what), of, room) = (words.next(), words.next(), words.next()) else {
-        return Ok(());
-    };
-    if what.as_str() == "blocks" {
-        return blocks::time_blocks(&rt);
-    }
-    let Some(of) = of else {
-        return Ok(());
-    };
-    if what.as_str() == "calls" {
-        return calls::time_calls(&rt, of.as_str().parse::<u64>()?);
-    }
-    match room {
-        None => pool::time_pools::<RecordingKeeper>(&rt, of.as_str(), GREAT_ROOM, GREAT_ROOM),
-        Some(room) if room.as_str() == "silent" => {
-            pool::time_pools::<SilentKeeper>(&rt, of.as_str(), SilentKeeper::MOST_ROOM, 0)
+    let (what, of, more) = (words.next(), words.next(), words.next());
+    match what {
+        None => {
+            long_run::run_both(&rt)?;
+            threads::try_both(&rt)
         }
-        Some(room) => {
-            let room = room.as_str().parse::<usize>()?;
-            pool::time_pools::<RecordingKeeper>(&rt, of.as_str(), room, room / 2)
-        }
+        Some(what) => measure(&rt, what.as_str(), of.as_deref(), more.as_deref()),
     }
 }

@@ -7,8 +7,8 @@ ghost use Rattle.std.specs.Prelude.{◌≡◌};
 
 use anyhow::Context;
 use hojzmated::{
-    Client, Config, FilePort, Format, Geometry, Lsn, PageNo, PoolName, Port, Refusal, SilentKeeper,
-    SilentPool, Upkeep, Worker, create_page_file, run_workers_over,
+    Client, Config, FilePort, Format, Geometry, Left, Lsn, PageNo, PoolName, Port, Refusal,
+    SilentKeeper, SilentPool, Upkeep, Worker, create_page_file, run_workers_over,
 };
 use std::alloc::Global;
 use std::os::unix::fs::FileExt;
@@ -122,6 +122,14 @@ impl<P: Port> Worker<P, SilentKeeper> for Adding {
     }
 }
 
+/// Returns the paths of page file and log.
+fn paths(rt: &HostRuntime) -> Result<(String, String), anyhow::Error> {
+    let mut words = env::args(rt)?.skip(1);
+    let path = words.next().context("no page file is named")?;
+    let log = words.next().context("no log is named")?;
+    Ok((path, log))
+}
+
 /// Opens the log, which is made where it is not there.
 fn open_log(rt: &HostRuntime, path: &str) -> Result<SharedLog, anyhow::Error> {
     let file = fs::File::options().write(true).create(true).open(rt, path)?;
@@ -155,18 +163,26 @@ fn make_workers(alloc: Global, log: &SharedLog) -> Result<Vec<Adding>, anyhow::E
     Ok(workers)
 }
 
+/// Tells what each worker last wrote.
+fn tell(
+    rt: &HostRuntime,
+    left: &[Left<FilePort, Adding, SilentKeeper>],
+) -> Result<(), anyhow::Error> {
+    for one in left {
+        println!(rt; "a worker's latest counter: {}", one.worker.latest?)?;
+    }
+    Ok(())
+}
+
 fn main(rt: HostRuntime) -> Result<(), anyhow::Error> {
     let (rt, alloc) = (&rt, rt.alloc());
-    let mut words = env::args(rt)?.skip(1);
-    let path = words.next().context("no page file is named")?;
-    let log = words.next().context("no log is named")?;
+    let (path, log) = paths(rt)?;
     let geometry = Geometry::new(32, 64)?;
     let ports = open_ports(rt, alloc, &path, geometry)?;
     let workers = make_workers(alloc, &open_log(rt, &log)?)?;
     let config = Config::new(geometry).with_frames(8);
-    let left = run_workers_over::<SilentKeeper, _, _, _>(rt, alloc, config, ports, workers)?.left;
-    for one in &left {
-        println!(rt; "a worker's latest counter: {}", one.worker.latest?)?;
-    }
-    Ok(())
+    let run = run_workers_over::<SilentKeeper, _, _, _>(rt, alloc, config, ports, workers)?;
+    let told = tell(rt, &run.left);
+    drop(run);
+    told
 }
