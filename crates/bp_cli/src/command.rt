@@ -1,6 +1,7 @@
 //! `bpool_command`, the command line of the program: its words, options, limits and help.
 ghost use Rattle.std.specs.Prelude.{◌≡◌, map, false, IfOk, All};
-ghost use Rattle.clap.specs.Words.{app_of, rule_of, shape_of};
+ghost use Rattle.clap.specs.Words.{app_of, rule_of, shape_of, with_subcommand};
+ghost use Rattle.clap.specs.Simple.{new_shape};
 ghost use Rattle.clap.specs.declared.builder.command.Command.TheViews.{out-Command as fields_of};
 ghost use Rattle.bp_cli.specs.Command.{bpool_app, migrate_rules, migrate_shape, program_app, run_rules, run_shape};
 ghost use Rattle.bp_cli.specs.Command.{explain_rules, explain_shape, sweep_rules, sweep_shape};
@@ -297,6 +298,26 @@ fn word_option<'a>(
         .help(help)
 }
 
+/// Returns a command that takes these arguments.
+fn command_of<'a>(
+    alloc: Global,
+    name: &'a str,
+    about: &'a str,
+    help: &'a str,
+    arguments: Vec<Arg<'a>>,
+) -> Result<Command<'a>, AllocError>
+    ensures shape { All (λ a. a.global ≡ false) arguments.entry.items →
+        IfOk result (λ c. shape_of c
+        ≡ record (new_shape name.entry.now) { rules = map rule_of arguments.entry.items }) }
+    ensures local { All (λ a. a.global ≡ false) arguments.entry.items →
+        IfOk result (λ c. (fields_of c).has_globals ≡ false) }
+{
+    Command::new(alloc, name)
+        .about(about)
+        .after_help(help)
+        .args(arguments)
+}
+
 fn run_arguments<'a>(alloc: Global) -> Result<Vec<Arg<'a>>, AllocError>
     ensures rules { IfOk result (λ arguments. map rule_of arguments.items ≡ run_rules) }
     ensures local { IfOk result (λ arguments. All (λ a. a.global ≡ false) arguments.items) }
@@ -321,11 +342,13 @@ fn run_command<'a>(alloc: Global) -> Result<Command<'a>, AllocError>
     ensures local { IfOk result (λ c. (fields_of c).has_globals ≡ false) }
 {
     let arguments = run_arguments(alloc)?;
-    let command = Command::new(alloc, "run")
-        .about("Runs a trace over a buffer pool and reports what the pool did")
-        .after_help(STATUSES)
-        .args(arguments)?;
-    Ok(command)
+    command_of(
+        alloc,
+        "run",
+        "Runs a trace over a buffer pool and reports what the pool did",
+        STATUSES,
+        arguments,
+    )
 }
 
 fn migrate_arguments<'a>(alloc: Global) -> Result<Vec<Arg<'a>>, AllocError>
@@ -345,11 +368,13 @@ fn migrate_command<'a>(alloc: Global) -> Result<Command<'a>, AllocError>
     ensures local { IfOk result (λ c. (fields_of c).has_globals ≡ false) }
 {
     let arguments = migrate_arguments(alloc)?;
-    let command = Command::new(alloc, "migrate")
-        .about("Writes a page file of version 1 anew in version 2")
-        .after_help(MIGRATION)
-        .args(arguments)?;
-    Ok(command)
+    command_of(
+        alloc,
+        "migrate",
+        "Writes a page file of version 1 anew in version 2",
+        MIGRATION,
+        arguments,
+    )
 }
 
 fn sweep_arguments<'a>(alloc: Global) -> Result<Vec<Arg<'a>>, AllocError>
@@ -372,11 +397,13 @@ fn sweep_command<'a>(alloc: Global) -> Result<Command<'a>, AllocError>
     ensures local { IfOk result (λ c. (fields_of c).has_globals ≡ false) }
 {
     let arguments = sweep_arguments(alloc)?;
-    let command = Command::new(alloc, "sweep")
-        .about("Counts hits and faults for many numbers of frames and many K, in a table")
-        .after_help(SWEEPING)
-        .args(arguments)?;
-    Ok(command)
+    command_of(
+        alloc,
+        "sweep",
+        "Counts hits and faults for many numbers of frames and many K, in a table",
+        SWEEPING,
+        arguments,
+    )
 }
 
 fn explain_arguments<'a>(alloc: Global) -> Result<Vec<Arg<'a>>, AllocError>
@@ -392,26 +419,44 @@ fn explain_command<'a>(alloc: Global) -> Result<Command<'a>, AllocError>
     ensures local { IfOk result (λ c. (fields_of c).has_globals ≡ false) }
 {
     let arguments = explain_arguments(alloc)?;
-    let command = Command::new(alloc, "explain")
-        .about("Says what the number of a refusal stands for")
-        .after_help(NUMBERS)
-        .args(arguments)?;
-    Ok(command)
+    command_of(
+        alloc,
+        "explain",
+        "Says what the number of a refusal stands for",
+        NUMBERS,
+        arguments,
+    )
 }
 
 /// Returns the program without its commands. The words that it parses do not have the program's name.
 fn program_command<'a>(alloc: Global) -> Result<Command<'a>, AllocError>
     ensures { IfOk result (λ c. app_of c ≡ program_app) }
 {
-    let named = Command::new(alloc, "bpool").bin_name("bpool")?;
-    Ok(
-        named
-            .about(PURPOSES)
-            .version(VERSION)
-            .after_help(SUMMARY)
-            .no_binary_name(true)
-            .subcommand_required(true),
-    )
+    Command::new(alloc, "bpool")
+        .about(PURPOSES)
+        .version(VERSION)
+        .after_help(SUMMARY)
+        .no_binary_name(true)
+        .subcommand_required(true)
+        .bin_name("bpool")
+}
+
+/// Adds a command to the program, if there was memory to make it.
+fn with_command<'a>(
+    program: Command<'a>,
+    made: Result<Command<'a>, AllocError>,
+) -> Result<Command<'a>, AllocError>
+    ensures { (shape : _) → IfOk made.entry (λ c. shape_of c ≡ shape) →
+        IfOk made.entry (λ c. (fields_of c).has_globals ≡ false) →
+        IfOk result (λ c. app_of c ≡ with_subcommand (app_of program.entry) shape) }
+{
+    match made {
+        Ok(command) => program.subcommand(command),
+        Err(refused) => {
+            drop(program);
+            Err(refused)
+        }
+    }
 }
 
 /// Returns the command line of the program. The words that it parses do not have the program's name.
@@ -419,12 +464,8 @@ pub fn bpool_command<'a>(alloc: Global) -> Result<Command<'a>, AllocError>
     ensures { IfOk result (λ c. app_of c ≡ bpool_app) }
 {
     let program = program_command(alloc)?;
-    let run = run_command(alloc)?;
-    let with_run = program.subcommand(run)?;
-    let sweep = sweep_command(alloc)?;
-    let with_sweep = with_run.subcommand(sweep)?;
-    let migrate = migrate_command(alloc)?;
-    let with_migrate = with_sweep.subcommand(migrate)?;
-    let explain = explain_command(alloc)?;
-    with_migrate.subcommand(explain)
+    let with_run = with_command(program, run_command(alloc))?;
+    let with_sweep = with_command(with_run, sweep_command(alloc))?;
+    let with_migrate = with_command(with_sweep, migrate_command(alloc))?;
+    with_command(with_migrate, explain_command(alloc))
 }

@@ -5,10 +5,11 @@ ghost use Rattle.clap.specs.Values.{kind_of};
 ghost use Rattle.clap.specs.Words.{first_of, found_of, rows_of, subcommand_rows_of, FailsBy};
 ghost use Rattle.bp_cli.specs.Words.{explanation_at, fault_in, flag_at, format_of, number_at, order_at, order_of};
 ghost use Rattle.bp_cli.specs.Words.{draws_over, list_at};
-ghost use Rattle.bp_cli.specs.Words.{options_by_rows, options_of};
+ghost use Rattle.bp_cli.specs.Words.{options_by_rows};
 ghost use Rattle.bp_cli.specs.Words as spec;
-ghost use Rattle.bp_cli.specs.Asked.{AreInLimits, asked_by, asked_in, asked_of, migration_by_rows, migration_of};
-ghost use Rattle.bp_cli.specs.Asked.{sweep_by_rows, sweep_of, sweep_with};
+ghost use Rattle.bp_cli.specs.Asked.{AreInLimits, asked_by, asked_in, asked_of, migration_by_rows};
+ghost use Rattle.bp_cli.specs.Asked.{sweep_by_rows, sweep_with};
+ghost use Rattle.bp_cli.specs.Asked.Asked.{a_migration, a_run, a_sweep};
 ghost use Rattle.bp_cli.specs.Decision.{size_asked};
 
 use crate::command::bpool_command;
@@ -220,8 +221,9 @@ fn order_at(matches: &ArgMatches<'_>) -> Option<Order>
     order_of(word)
 }
 
-fn run_words<'a>(matches: &ArgMatches<'a>) -> Option<RunWords<'a>>
-    ensures { option_map options_of result ≡ options_by_rows (rows_of (found_of matches.now)) }
+fn run_task<'a>(matches: &ArgMatches<'a>) -> Option<Task<'a>>
+    ensures { option_map asked_of result
+        ≡ option_map a_run (options_by_rows (rows_of (found_of matches.now))) }
 {
     let trace = word_at(matches, "trace")?;
     let page_file = word_at(matches, "page-file")?;
@@ -232,7 +234,7 @@ fn run_words<'a>(matches: &ArgMatches<'a>) -> Option<RunWords<'a>>
     let page_size = count_at(matches, "page-size")?;
     let version = count_at(matches, "format")?;
     let order = order_at(matches)?;
-    Some(RunWords {
+    Some(Task::Run(RunWords {
         trace: trace_source(trace),
         page_file,
         frames,
@@ -243,49 +245,43 @@ fn run_words<'a>(matches: &ArgMatches<'a>) -> Option<RunWords<'a>>
         format: format_of(version),
         order,
         totals: flag_at(matches, "totals"),
-    })
+    }))
 }
 
-fn migration_words<'a>(matches: &ArgMatches<'a>) -> Option<MigrationWords<'a>>
-    ensures { option_map migration_of result ≡ migration_by_rows (rows_of (found_of matches.now)) }
+fn migration_task<'a>(matches: &ArgMatches<'a>) -> Option<Task<'a>>
+    ensures { option_map asked_of result
+        ≡ option_map a_migration (migration_by_rows (rows_of (found_of matches.now))) }
 {
     let old = word_at(matches, "old")?;
     let new = word_at(matches, "new")?;
     let page_size = count_at(matches, "page-size")?;
-    Some(MigrationWords {
+    Some(Task::Migrate(MigrationWords {
         old,
         new,
         page_size,
-    })
+    }))
 }
 
-/// Returns the words of a sweep, with these numbers of frames and these K.
-fn sweep_with<'a>(
-    matches: &ArgMatches<'a>,
-    frames: Vec<usize>,
-    ks: Vec<usize>,
-) -> Option<SweepWords<'a>>
-    ensures { option_map sweep_of result
-        ≡ sweep_with frames.items ks.items (rows_of (found_of matches.now)) }
+/// Returns a sweep with these numbers of frames and these K.
+fn sweep_with<'a>(matches: &ArgMatches<'a>, frames: Vec<usize>, ks: Vec<usize>) -> Option<Task<'a>>
+    ensures { option_map asked_of result
+        ≡ option_map a_sweep (sweep_with frames.items ks.items (rows_of (found_of matches.now))) }
 {
     let references = word_at(matches, "references")?;
     let correlated = period_at(matches, "correlated")?;
-    Some(SweepWords {
+    Some(Task::Sweep(SweepWords {
         references: trace_source(references),
         frames,
         ks,
         correlated,
         column: count_at(matches, "column"),
         svg: word_at(matches, "svg"),
-    })
+    }))
 }
 
-fn sweep_words<'a>(
-    alloc: Global,
-    matches: &ArgMatches<'a>,
-) -> Result<Option<SweepWords<'a>>, AllocError>
-    ensures { IfOk result (λ words. option_map sweep_of words
-        ≡ sweep_by_rows (rows_of (found_of matches.now))) }
+fn sweep_task<'a>(alloc: Global, matches: &ArgMatches<'a>) -> Result<Option<Task<'a>>, AllocError>
+    ensures { IfOk result (λ task. option_map asked_of task
+        ≡ option_map a_sweep (sweep_by_rows (rows_of (found_of matches.now)))) }
 {
     let Some(frames) = list_at(alloc, matches, "frames", 1, MAX_FRAMES)? else {
         return Ok(None);
@@ -305,22 +301,13 @@ fn task_in<'a>(alloc: Global, matches: &ArgMatches<'a>) -> Result<Option<Task<'a
         ≡ asked_in (subcommand_rows_of matches.now)) }
 {
     if let Some(run) = matches.subcommand_matches("run") {
-        return match run_words(run) {
-            Some(words) => Ok(Some(Task::Run(words))),
-            None => Ok(None),
-        };
+        return Ok(run_task(run));
     }
     if let Some(sweep) = matches.subcommand_matches("sweep") {
-        return match sweep_words(alloc, sweep)? {
-            Some(words) => Ok(Some(Task::Sweep(words))),
-            None => Ok(None),
-        };
+        return sweep_task(alloc, sweep);
     }
     if let Some(migration) = matches.subcommand_matches("migrate") {
-        return match migration_words(migration) {
-            Some(words) => Ok(Some(Task::Migrate(words))),
-            None => Ok(None),
-        };
+        return Ok(migration_task(migration));
     }
     let Some(explain) = matches.subcommand_matches("explain") else {
         return Ok(None);

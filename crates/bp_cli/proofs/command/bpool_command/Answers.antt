@@ -1,21 +1,15 @@
 -- Each command is added in turn.
-use Rattle.std.proofs.Common.{ap₂, ◌≡◌, ◌∙◌, Result, Ok, Err, IfOk, false}
-use Rattle.std.specs.declared.alloc.AllocError.{AllocError}
-use Rattle.clap.specs.Words.{AddsSubcommand, App, Shape, app_of, shape_of, with_subcommand}
-use Rattle.clap.specs.declared.builder.command.Command.{Command}
-use Rattle.clap.specs.declared.builder.command.Command.TheViews.{out-Command}
-use Rattle.bp_cli.specs.Command.{program_app, run_shape, sweep_shape, migrate_shape, explain_shape}
+use Rattle.std.proofs.Common.{◌≡◌, ◌∙◌, ap}
+use Rattle.std.proofs.lemmas.Result.{IfOk-weaker}
+use Rattle.clap.specs.Words.{App, app_of, with_subcommand}
+use Rattle.bp_cli.specs.Command.{bpool_app, run_shape, sweep_shape, migrate_shape, explain_shape}
 use Rattle.bp_cli.proofs.command.bpool_command.Goals as goal
-
-with_command : (program added : Command) (app : App) (shape : Shape) (r : Result Command AllocError) → app_of program ≡ app → shape_of added ≡ shape → (out-Command added).has_globals ≡ false
-    → IfOk r (λ c. AddsSubcommand program added c) → IfOk r (λ c. app_of c ≡ with_subcommand app shape)
-with_command program added app shape (Ok c) is of local adds = adds.shape local ∙ ap₂ with_subcommand is of
-with_command program added app shape (Err e) is of local adds = adds
 
 pub returns : goal.returns
 returns c =
-    let with_run = c.in_ok-with_run.ensures.shape c.in_ok-run.ensures.local ∙ ap₂ with_subcommand c.in_ok-program.ensures c.in_ok-run.ensures.shape in
-    let with_sweep = c.in_ok-with_sweep.ensures.shape c.in_ok-sweep.ensures.local ∙ ap₂ with_subcommand with_run c.in_ok-sweep.ensures.shape in
-    let with_migrate = c.in_ok-with_migrate.ensures.shape c.in_ok-migrate.ensures.local ∙ ap₂ with_subcommand with_sweep c.in_ok-migrate.ensures.shape in
-    with_command _ _ (with_subcommand (with_subcommand (with_subcommand program_app run_shape) sweep_shape) migrate_shape) explain_shape c.subcommand-4.result
-    with_migrate c.in_ok-explain.ensures.shape c.in_ok-explain.ensures.local c.subcommand-4.ensures
+    let with_run = c.in_ok-with_run.ensures run_shape c.run_command.ensures.shape c.run_command.ensures.local ∙ ap (λ (a : App). with_subcommand a run_shape) c.in_ok-program.ensures in
+    let with_sweep = c.in_ok-with_sweep.ensures sweep_shape c.sweep_command.ensures.shape c.sweep_command.ensures.local ∙ ap (λ (a : App). with_subcommand a sweep_shape) with_run in
+    let with_migrate = c.in_ok-with_migrate.ensures migrate_shape c.migrate_command.ensures.shape c.migrate_command.ensures.local ∙ ap (λ (a : App). with_subcommand a migrate_shape) with_sweep in
+    IfOk-weaker c.with_command-4.result (λ r. app_of r ≡ with_subcommand (app_of c.in_ok-with_migrate.with_migrate) explain_shape) (λ r. app_of r ≡ bpool_app)
+    (λ r is. is ∙ ap (λ (a : App). with_subcommand a explain_shape) with_migrate)
+    (c.with_command-4.ensures explain_shape c.explain_command.ensures.shape c.explain_command.ensures.local)

@@ -1,4 +1,5 @@
 use Rattle.std.proofs.Common.{codes, ap, ◌≡◌, ◌∙◌, true}
+use Rattle.std.proofs.lemmas.Result.{IfOk-weaker}
 use Rattle.clap.specs.Words.{App, app_of, new_app}
 use Rattle.clap.specs.Simple.{app_of_fields}
 use Rattle.clap.specs.declared.builder.command.Command.{Command}
@@ -18,6 +19,6 @@ returns c =
     let without_name : out-Command c.no_binary_name.result ≡ record (out-Command c.after_help.result) { no_binary_name = true } = c.no_binary_name.ensures in
     let needs_one : out-Command c.subcommand_required.result ≡ record (out-Command c.no_binary_name.result) { subcommand_required = true } = c.subcommand_required.ensures in
     let fields = needs_one ∙ ap (λ (f : Command-F Command). record f { subcommand_required = true }) without_name in
-    let named : app_of c.about.result ≡ new_app (codes "bpool") = ap app_of_fields c.about.ensures ∙ ap app_of_fields c.in_ok-named.ensures.0 ∙ c.new.ensures.app in
+    let named : app_of c.about.result ≡ new_app (codes "bpool") = ap app_of_fields c.about.ensures ∙ c.new.ensures.app in
     let start : app_of c.after_help.result ≡ versioned (new_app (codes "bpool")) = ap app_of_fields c.after_help.ensures ∙ ap app_of_fields c.version.ensures ∙ ap versioned named in
-    ap app_of_fields fields ∙ ap bare start
+    IfOk-weaker c.bin_name.result _ _ (λ r is. ap app_of_fields is.0 ∙ ap app_of_fields fields ∙ ap bare start) c.bin_name.ensures
