@@ -224,6 +224,14 @@ module _ (k : ℕ) (slots : List (Option Block)) (places : List (ℕ × ℕ)) (k
       (λ q by other waits. waits_left queue.pages queue'.pages e q by taken (λ same. other (same ∙ of)) waits) (own_none queue')
       (omega (arith, at_most_one, queued.few, length_permutation _ _ taken)) (omega (arith, fewer, queued.room))
 
+-- a queue of the same pages, with more room
+pub queued_roomier : (slots : List (Option Block)) (places : List (ℕ × ℕ)) (queue queue' : Waiting) → IsQueued slots places queue → queue'.pages ≡ queue.pages → queue.room ≤ queue'.room → IsQueued slots places queue'
+queued_roomier slots places queue queue' queued same more = record {
+  waiting = λ page at b is found waits. subst (λ pages. IsWaiting pages page b.last) (sym same) (queued.waiting page at b is found waits);
+  few = rw same queued.few;
+  room = omega (arith, queued.room, more);
+}
+
 -- a page without a block was taken out of the queue
 pub queued_nobody : (slots : List (Option Block)) (places : List (ℕ × ℕ)) (queue queue' : Waiting) (e : ℕ × ℕ) → IsQueued slots places queue → number places e.1 ≡ None → IsPermutation queue.pages (e ∷ queue'.pages) → queue'.room ≡ queue.room → IsQueued slots places queue'
 queued_nobody slots places queue queue' e queued none taken room = record {

@@ -6,8 +6,8 @@ use Rattle.bp_replacer.specs.declared.histories.Histories.TheInside.{Inside}
 use Rattle.bp_replacer.specs.contracts.histories.Histories.{the_view}
 use Rattle.bp_replacer.specs.Histories.{Blocks, KeepsPlaces, is_held, block_of, no_block, place_of}
 use Rattle.bp_replacer.specs.Queue.{IsWaiting}
-use Rattle.bp_replacer.specs.Kept.{slot, waits_in, IsSound, IsQueued}
-use Rattle.bp_replacer.proofs.QueueLaws.{count_alike, queued_after}
+use Rattle.bp_replacer.specs.Kept.{slot, waits_in, IsSound, IsKept, IsQueued}
+use Rattle.bp_replacer.proofs.QueueLaws.{count_alike, queued_after, queued_roomier}
 use Rattle.bp_replacer.proofs.KeptLaws.{number, Changes, kept_with}
 use Rattle.bp_replacer.proofs.BlockSteps.{same_places, lends, lends_sound, is, others, keeps, keeps_queue, same_stamps, others_same, gone, came, IsBlank, no_block_blank, blank_alike}
 use Rattle.bp_replacer.proofs.histories.Histories.prepare_block.Goals as goal
@@ -125,3 +125,25 @@ returns-in_err-reserve-2-clause-places c = same_places _ _ (ap (λ (h : Blocks).
 
 pub returns-in_default-insert-clause-places : goal.returns-in_default-insert-clause-places
 returns-in_default-insert-clause-places c = same_places _ _ (c.in_default-insert.ensures.err ∙ ap (λ (h : Blocks). h.places) c.self.view_is)
+
+pub invariant_of-self-in_err-reserve : goal.invariant_of-self-in_err-reserve
+invariant_of-self-in_err-reserve c =
+    let i = c.self.inside in
+    subst (λ slots. IsKept i.settings.k slots i.places.entries × IsQueued slots i.places.entries i.waiting)
+    (sym (ap (λ (s : Slab Block). s.slots) c.reserve.ensures.rest_kept)) c.self.invariant
+
+pub invariant_of-self-in_err-reserve-2 : goal.invariant_of-self-in_err-reserve-2
+invariant_of-self-in_err-reserve-2 c =
+    let i = c.self.inside in
+    subst (λ slots. IsKept i.settings.k slots i.places.entries × IsQueued slots i.places.entries c.reserve-2.new.self)
+    (sym (ap (λ (s : Slab Block). s.slots) c.reserve.ensures.rest_kept))
+    (c.self.invariant.0, queued_roomier i.blocks.slots i.places.entries i.waiting c.reserve-2.new.self c.self.invariant.1 c.reserve-2.ensures.pages c.reserve-2.ensures.grows)
+
+pub invariant_of-self-in_default-insert : goal.invariant_of-self-in_default-insert
+invariant_of-self-in_default-insert c =
+    let i = c.self.inside in
+    subst (λ places. IsKept i.settings.k c.reserve.new.self.slots places × IsQueued c.reserve.new.self.slots places c.reserve-2.new.self)
+    (sym c.in_default-insert.ensures.err)
+    (subst (λ slots. IsKept i.settings.k slots i.places.entries × IsQueued slots i.places.entries c.reserve-2.new.self)
+    (sym (ap (λ (s : Slab Block). s.slots) c.reserve.ensures.rest_kept))
+    (c.self.invariant.0, queued_roomier i.blocks.slots i.places.entries i.waiting c.reserve-2.new.self c.self.invariant.1 c.reserve-2.ensures.pages c.reserve-2.ensures.grows))
