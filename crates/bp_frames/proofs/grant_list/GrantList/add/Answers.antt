@@ -1,5 +1,4 @@
-use Rattle.std.proofs.Common.{◌≡◌, ◌+◌, ◌-◌, [], ◌∷◌, ◌++◌, true, refl, length, length-append, reverse, ◌∙◌, ap, subst, arith}
-use Rattle.std.specs.VecDeque.{deque_len, deque_capacity}
+use Rattle.std.proofs.Common.{[], ◌∷◌, true, refl, length, length-append, reverse, ◌∙◌, ap, arith}
 use Rattle.bp_trail.proofs.Counting.{reverse-push}
 use Rattle.bp_frames.specs.declared.grant_list.Slot.{Slot}
 use Rattle.bp_frames.specs.GrantLists.{Given, grants_out}

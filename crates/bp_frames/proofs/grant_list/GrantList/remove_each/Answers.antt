@@ -1,4 +1,4 @@
-use Rattle.std.proofs.Common.{◌≡◌, Bool, true, ap, sym, ◌∙◌, reverse, filter, length, rules, subst, arith, eqb, ◌&&◌, not}
+use Rattle.std.proofs.Common.{◌≡◌, Bool, true, ap, sym, ◌∙◌, reverse, filter, rules, subst, arith, eqb, ◌&&◌, not}
 use Rattle.std.specs.Prelude.{All, ◌==◌}
 use Rattle.std.proofs.lemmas.Bool.{and_parts}
 use Rattle.std.proofs.lemmas.Fn.{filter_same}
