@@ -183,9 +183,13 @@ pub(crate) fn count_cell<P: Port, R: Wait, G: Progress>(
 {
     let mut core = SilentCore::new(alloc, port.geometry(), settings, frames, 1, ROOM)?;
     let mut totals = Totals::none();
-    refer_all(rt, &mut core, port, references, &mut totals, progress, turn)?;
+    let made = refer_all(rt, &mut core, port, references, &mut totals, progress, turn);
     core.keeps_the_rules();
-    Ok(totals)
+    drop(core);
+    match made {
+        Ok(()) => Ok(totals),
+        Err(refusal) => Err(refusal),
+    }
 }
 
 /// Runs the references over a new pool with this many frames, one client and these settings, each as a fix, an unfix
