@@ -1,5 +1,5 @@
 -- Each page that a flush of all passed over was not unsaved.
-use Rattle.std.proofs.Common.{◌≡◌, ◌≤◌, ◌<◌, ◌+◌, refl, sym, ap, subst, ◌∙◌, ℕ, Bool, true, false, nat_lt, Option, [], ◌++◌, append_assoc, arith, Some, None, Ok}
+use Rattle.std.proofs.Common.{◌≡◌, ◌<◌, refl, sym, ap, subst, ◌∙◌, ℕ, Bool, true, false, nat_lt, Option, [], ◌++◌, append_assoc, arith, Some, None, Ok}
 use Rattle.std.proofs.lemmas.Bool.{ltb-true, ltb-false}
 use native.Mathlib.Decide.{ℕ_discrete}
 use Rattle.bp_trail.specs.Trail.{Trail}

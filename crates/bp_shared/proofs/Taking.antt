@@ -1,21 +1,25 @@
 -- What a cut hands out goes on from what was handed out before.
-use Rattle.std.proofs.Common.{◌≡◌, refl, sym, ap, subst, ◌∙◌, ◌+◌, ◌≤◌, List, [], ◌∷◌, ◌++◌, reverse}
+use Rattle.std.proofs.Common.{◌≡◌, refl, sym, ap, subst, ◌∙◌, ◌+◌, ◌<◌, ◌^◌, ◌≤◌, ◌⊎◌, List, [], ◌∷◌, ◌++◌, reverse, length, arith}
+use Rattle.std.proofs.lemmas.List.{length-reverse}
 use Rattle.std.specs.declared.vec.Vec.{Vec}
+use Rattle.bp_page.specs.declared.refusals.Refusal.{Refusal}
+use Rattle.bp_page.specs.declared.refusals.Refusal.TheVariants as refusal
 use Rattle.rtrb.specs.declared.producer.Producer.{Producer}
 use Rattle.rtrb.specs.Ring.{sent}
 use Rattle.bp_trail.specs.declared.entries.Entry.{Entry}
 use Rattle.bp_trail.specs.Parameters.{Parameters}
 use Rattle.bp_trail.specs.Trail.{Trail}
 use Rattle.bp_trail.specs.Clock.{durable}
+use Rattle.bp_trail.specs.Passes.{passes, tickets}
 use Rattle.bp_trail.specs.Cuts.{LeadsOn}
 use Rattle.bp_trail.specs.Legal.{Legal}
 use Rattle.bp_trail.specs.Standing.{standing}
 use Rattle.bp_core.specs.CoreView.{CoreView}
-use Rattle.bp_core.specs.Outcomes.{Cuts}
+use Rattle.bp_core.specs.Outcomes.{Cuts, CutRefused}
 use Rattle.bp_mark.specs.Marks.{MarkName, ReaderValue}
 use Rattle.bp_shared.specs.Locked.{IsLocked}
 use Rattle.bp_session_log.specs.Rings.{RingName, ring_of}
-use Rattle.bp_shared.specs.Taking.{IsEmptied, TakerValue, after_pieces, IsHandedOut, ComesNext}
+use Rattle.bp_shared.specs.Taking.{IsEmptied, TakerValue, after_pieces, IsHandedOut, ComesNext, GaveTooMany}
 
 pub one_more : {A : Type 0} (before : Trail) (sent : List (Vec Entry A)) (piece : Vec Entry A) → after_pieces before (sent ++ piece ∷ []) ≡ reverse piece.items ++ after_pieces before sent
 one_more before [] piece = refl
@@ -69,3 +73,19 @@ still_locked mark c old new reader entries is cut =
       parameters_are = ap (λ (n : CoreView). n.parameters) cut.is ∙ is.parameters_are;
       seen = subst (λ n. n ≤ reader.seen) (sym (ap (λ (n : CoreView). durable n.past) cut.is)) is.seen;
     }
+
+-- a cut that is refused for the clock's sake changes nothing
+pub not_cut : (old new : CoreView) (why : Refusal) → why ≡ refusal.ClockFull → CutRefused old why new → ((2 ^ 62 < passes old.past) ⊎ (2 ^ 62 < tickets old.past)) × (new ≡ old)
+not_cut old new why is h = subst (λ w. CutRefused old w new) is h
+
+-- why, in the words of its taker
+pub gave_too_many : (c : Parameters) (had : TakerValue) (core : CoreView) (entries : List Entry) → core.parameters ≡ c → had.past ≡ core.before → reverse entries ++ core.before ≡ core.past → length entries ≤ core.parameters.room
+    → Legal core.parameters core.past → (2 ^ 62 < passes core.past) ⊎ (2 ^ 62 < tickets core.past) → GaveTooMany c had
+gave_too_many c had core entries same is whole fits legal many = record {
+  past = core.past;
+  piece = reverse entries;
+  goes_on = sym whole ∙ ap (λ b. reverse entries ++ b) (sym is);
+  fits = subst (λ (p : Parameters). length (reverse entries) ≤ p.room) same (omega (arith, length-reverse entries, fits));
+  legal = subst (λ p. Legal p core.past) same legal;
+  many = many;
+}

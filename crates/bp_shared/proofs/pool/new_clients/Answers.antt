@@ -1,5 +1,5 @@
 -- One session after another.
-use Rattle.std.proofs.Common.{rules, arith, refl, sym, subst, ◌≡◌, ◌<◌, ap, ◌∙◌, ◌+◌, [], ◌∷◌, add-one, length, drop, get_or, length-append}
+use Rattle.std.proofs.Common.{rules, arith, refl, sym, subst, ◌≡◌, ◌<◌, ap, ◌∙◌, ◌+◌, [], ◌∷◌, add-one, length, drop, get_or, length-append, length-drop}
 use Rattle.std.proofs.lemmas.List.{drop_more}
 use Rattle.std.proofs.lemmas.List.Elements.{All-get_or}
 use Rattle.std.specs.Vec.Iter.{into_iter_items}
@@ -64,3 +64,11 @@ pub returns-clause-sessions : goal.returns-clause-sessions
 returns-clause-sessions g c =
     let all : c.loop-client.client ≡ c.args.clients = omega (arith, c.loop-client-test.false, c.loop-client.auto.client-end) in
     c.loop-client.invariant.sessions ∙ ap new_sessions (all ∙ c.requires.clients)
+
+pub unreachable-requires : goal.unreachable-requires
+unreachable-requires g c =
+    let i = c.loop-client.invariant in
+    absurd (omega (arith, c.in_default.ensures.cases.0, ap length i.rings, length-drop c.loop-client.client c.args.producers.items, c.loop-client-test.true, c.requires.count))
+
+pub push_reserved-requires : goal.push_reserved-requires
+push_reserved-requires g c = omega (arith, c.loop-client.invariant.count, c.loop-client.invariant.room, c.loop-client-test.true)

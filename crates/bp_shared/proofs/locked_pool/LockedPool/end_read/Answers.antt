@@ -17,7 +17,15 @@ invariant_of-self g c =
       earlier_adds _ _ _ _ _ _ _ c.self.invariant.5 adds,
     )
 
-pub returns-clause-in_step : goal.returns-clause-in_step
-returns-clause-in_step g c =
+pub returns : goal.returns
+returns g c =
     let done = c.end_read-ended.ensures in
-    rw (← c.self.view_is, ← c.session.view_is) (step_one _ _ _ _ _ refl done.ended done.alike)
+    rw (← c.self.view_is, ← c.session.view_is) (record {
+      client = done.owner.client;
+      before = done.owner.before;
+      seen = refl;
+      free = refl;
+      ends = c.ends_after-self-inside.ensures;
+      outcome = done.outcome;
+      in_step = step_one _ _ _ _ _ refl done.ended done.alike;
+    })

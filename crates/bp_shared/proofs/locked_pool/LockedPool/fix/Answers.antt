@@ -41,24 +41,32 @@ invariant_of-self-2 g c =
       earlier_adds _ _ _ _ _ _ _ c.self.invariant.5 adds,
     )
 
-pub returns-in_err-look-clause-turn : goal.returns-in_err-look-clause-turn
-returns-in_err-look-clause-turn g c =
-    let is = err_from_is_err_and c.from_residual.result c.from_residual.ensures.1 in
-    rw (← c.session.view_is) (subst (λ r. FixTurn c.session.inside.book.client c.args.page r c.session.inside.book.said c.look.new.self.said) (sym (is.1 ∙ ap Err is.2))
-    (fix_not_looked (Unit {0}) _ _ _ c.self.inside.core _ _ _ c.in_err-look.ensures.outcome))
-
-pub returns-in_err-look-clause-in_step : goal.returns-in_err-look-clause-in_step
-returns-in_err-look-clause-in_step g c =
+pub returns-in_err-look : goal.returns-in_err-look
+returns-in_err-look g c =
     let is = err_from_is_err_and c.from_residual.result c.from_residual.ensures.1 in
     let looks = look_refused (Unit {0}) Fixing c.session.inside.book.client _ _ _ _ c.in_err-look.ensures.looks in
-    rw (← c.self.view_is, ← c.session.view_is) (step_one _ _ _ _ _ refl (subst (λ r. LooksFirst c.session.inside.book.client c.look.new.reader.seen r (AsksFix c.session.inside.book.client c.args.page r) c.self.inside.core c.look.new.core) (sym (is.1 ∙ ap Err is.2)) (inl (refl, looks))) c.look.ensures.alike)
+    rw (← c.self.view_is, ← c.session.view_is) (record {
+      client = c.look.ensures.owner.client;
+      before = c.look.ensures.owner.before;
+      seen = refl;
+      free = refl;
+      ends = refl;
+      turn = subst (λ r. FixTurn c.session.inside.book.client c.args.page r c.session.inside.book.said c.look.new.self.said) (sym (is.1 ∙ ap Err is.2))
+          (fix_not_looked (Unit {0}) _ _ _ c.self.inside.core _ _ _ c.in_err-look.ensures.outcome);
+      in_step = step_one _ _ _ _ _ refl (subst (λ r. LooksFirst c.session.inside.book.client c.look.new.reader.seen r (AsksFix c.session.inside.book.client c.args.page r) c.self.inside.core c.look.new.core) (sym (is.1 ∙ ap Err is.2)) (inl (refl, looks))) c.look.ensures.alike;
+    })
 
-pub returns-clause-turn : goal.returns-clause-turn
-returns-clause-turn g c =
-    rw (← c.session.view_is) (record { marked = c.look.new.self.said; marks = marks_once _ _ c.self.inside.core _ _ _ _ c.in_ok-look.was c.look.ensures.outcome; asks = rw (c.look.ensures.owner.client) at c.ask_fix-answer.ensures.outcome })
-
-pub returns-clause-in_step : goal.returns-clause-in_step
-returns-clause-in_step g c =
+pub returns : goal.returns
+returns g c =
+    let owner = c.look.ensures.owner in
+    let asked = c.ask_fix-answer.ensures in
     let looks = looked _ _ _ _ _ _ c.in_ok-look.was c.look.ensures.looks in
-    let asked = rw (c.look.ensures.owner.client) at c.ask_fix-answer.ensures.asked in
-    rw (← c.self.view_is, ← c.session.view_is) (step_two _ _ _ _ _ _ _ refl (inr (_, looks, asked)) c.look.ensures.alike c.ask_fix-answer.ensures.alike)
+    rw (← c.self.view_is, ← c.session.view_is) (record {
+      client = asked.owner.client ∙ owner.client;
+      before = asked.owner.before ∙ owner.before;
+      seen = refl;
+      free = refl;
+      ends = refl;
+      turn = record { marked = c.look.new.self.said; marks = marks_once _ _ c.self.inside.core _ _ _ _ c.in_ok-look.was c.look.ensures.outcome; asks = rw owner.client at asked.outcome };
+      in_step = step_two _ _ _ _ _ _ _ refl (inr (_, looks, rw owner.client at asked.asked)) c.look.ensures.alike asked.alike;
+    })

@@ -17,7 +17,16 @@ invariant_of-self g c =
       earlier_adds _ _ _ _ _ _ _ c.self.invariant.5 adds,
     )
 
-pub returns-clause-in_step : goal.returns-clause-in_step
-returns-clause-in_step g c =
+pub returns : goal.returns
+returns g c =
     let done = c.ask_read_into-answer.ensures in
-    rw (← c.self.view_is, ← c.session.view_is) (step_one _ _ _ _ _ refl done.asked done.alike)
+    rw (← c.self.view_is, ← c.session.view_is) (record {
+      client = done.owner.client;
+      before = done.owner.before;
+      seen = refl;
+      free = refl;
+      ends = refl;
+      outcome = done.outcome;
+      memory = done.memory;
+      in_step = step_one _ _ _ _ _ refl done.asked done.alike;
+    })

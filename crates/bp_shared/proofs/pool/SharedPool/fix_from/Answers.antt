@@ -9,17 +9,33 @@ use Rattle.bp_shared.proofs.pool.SharedPool.fix_from.Goals as goal
 pub loop-init : goal.loop-init
 loop-init g c = record { client = refl; before = refl; seen = refl; free = refl; port = refl; waits = waits_none _ _ _; work = none-yet _ _ _ _ }
 
-pub returns-in-Ok-Hit-clause-outcome : goal.returns-in-Ok-Hit-clause-outcome
-returns-in-Ok-Hit-clause-outcome g c =
+pub returns-in-Ok-Hit : goal.returns-in-Ok-Hit
+returns-in-Ok-Hit g c =
     let i = c.loop.invariant in
     let t = rw (c.in-Ok-Hit.field-0-is, i.client) at c.in-Ok-Hit.ensures.turn in
-    hit_said _ _ c.in-Ok-Hit.pass _ _ (turn_more _ _ _ _ _ _ i.waits t)
+    record {
+      client = c.ask_fix.ensures.client ∙ i.client;
+      before = c.ask_fix.ensures.before ∙ i.before;
+      seen = c.ask_fix.ensures.seen ∙ i.seen;
+      free = c.ask_fix.ensures.free ∙ i.free;
+      port = i.port;
+      outcome = hit_said _ _ c.in-Ok-Hit.pass _ _ (turn_more _ _ _ _ _ _ i.waits t);
+      work = λ known. fix-turn-work _ _ _ _ _ _ _ _ _ _ i.work t;
+    }
 
-pub returns-in-Ok-Load-clause-outcome : goal.returns-in-Ok-Load-clause-outcome
-returns-in-Ok-Load-clause-outcome g c =
+pub returns-in-Ok-Load : goal.returns-in-Ok-Load
+returns-in-Ok-Load g c =
     let i = c.loop.invariant in
     let t = rw (c.in-Ok-Load.field-0-is, i.client) at c.in-Ok-Load.ensures.turn in
-    load_said _ _ _ _ _ c.in-Ok-Load.ticket _ _ _ _ _ (turn_more _ _ _ _ _ _ i.waits t) c.load.ensures.outcome
+    record {
+      client = c.load.ensures.client ∙ c.ask_fix.ensures.client ∙ i.client;
+      before = c.load.ensures.before ∙ c.ask_fix.ensures.before ∙ i.before;
+      seen = c.load.ensures.seen ∙ c.ask_fix.ensures.seen ∙ i.seen;
+      free = c.load.ensures.free ∙ c.ask_fix.ensures.free ∙ i.free;
+      port = c.load.ensures.port ∙ i.port;
+      outcome = load_said _ _ _ _ _ c.in-Ok-Load.ticket _ _ _ _ _ (turn_more _ _ _ _ _ _ i.waits t) c.load.ensures.outcome;
+      work = λ known. load-work _ _ c.in-Ok-Load.ticket _ _ _ _ _ _ _ (fix-turn-work _ _ _ _ _ _ _ _ _ _ i.work t) c.load.ensures.outcome known;
+    }
 
 pub loop-preserved-in_ok-write_out-in-Ok-WriteFirst : goal.loop-preserved-in_ok-write_out-in-Ok-WriteFirst
 loop-preserved-in_ok-write_out-in-Ok-WriteFirst g c =
@@ -36,13 +52,22 @@ loop-preserved-in_ok-write_out-in-Ok-WriteFirst g c =
       work = write-work _ _ c.in-Ok-WriteFirst.ticket _ _ _ _ _ _ _ (fix-turn-work _ _ _ _ _ _ _ _ _ _ i.work t) (began-by-fix _ _ c.in-Ok-WriteFirst.ticket _ _ t) o (λ unknown. absurd (let no = unknown in cc));
     }
 
-pub returns-in_err-write_out-in-Ok-WriteFirst-clause-outcome : goal.returns-in_err-write_out-in-Ok-WriteFirst-clause-outcome
-returns-in_err-write_out-in-Ok-WriteFirst-clause-outcome g c =
+pub returns-in_err-write_out-in-Ok-WriteFirst : goal.returns-in_err-write_out-in-Ok-WriteFirst
+returns-in_err-write_out-in-Ok-WriteFirst g c =
     let i = c.loop.invariant in
     let t = rw (c.in-Ok-WriteFirst.field-0-is, i.client) at c.in-Ok-WriteFirst.ensures.turn in
+    let o = c.in_err-write_out-in-Ok-WriteFirst.ensures.outcome in
     let is = err_from_is_err_and c.from_residual.result c.from_residual.ensures.1 in
-    subst (λ r. FixSaid c.args.session.now.client c.args.page r c.args.session.now.said c.write_out.new.session.said) (sym (is.1 ∙ ap Err is.2))
-    (unwritten_said _ _ _ _ _ c.in-Ok-WriteFirst.ticket c.in_err-write_out-in-Ok-WriteFirst.field-0.0 _ _ _ (turn_more _ _ _ _ _ _ i.waits t) c.in_err-write_out-in-Ok-WriteFirst.ensures.outcome)
+    record {
+      client = c.write_out.ensures.client ∙ c.ask_fix.ensures.client ∙ i.client;
+      before = c.write_out.ensures.before ∙ c.ask_fix.ensures.before ∙ i.before;
+      seen = c.write_out.ensures.seen ∙ c.ask_fix.ensures.seen ∙ i.seen;
+      free = c.write_out.ensures.free ∙ c.ask_fix.ensures.free ∙ i.free;
+      port = c.write_out.ensures.port ∙ i.port;
+      outcome = subst (λ r. FixSaid c.args.session.now.client c.args.page r c.args.session.now.said c.write_out.new.session.said) (sym (is.1 ∙ ap Err is.2))
+          (unwritten_said _ _ _ _ _ c.in-Ok-WriteFirst.ticket c.in_err-write_out-in-Ok-WriteFirst.field-0.0 _ _ _ (turn_more _ _ _ _ _ _ i.waits t) o);
+      work = λ known. write-work _ _ c.in-Ok-WriteFirst.ticket _ _ _ _ _ _ _ (fix-turn-work _ _ _ _ _ _ _ _ _ _ i.work t) (began-by-fix _ _ c.in-Ok-WriteFirst.ticket _ _ t) o (λ unknown. known (is.1 ∙ ap Err is.2 ∙ unerr unknown));
+    }
 
 pub loop-preserved : goal.loop-preserved
 loop-preserved g c =
@@ -55,22 +80,3 @@ returns-in_default g c =
     let i = c.loop.invariant in
     let t = rw i.client at c.in-Err.ensures.turn in
     record { client = c.ask_fix.ensures.client ∙ i.client; before = c.ask_fix.ensures.before ∙ i.before; seen = c.ask_fix.ensures.seen ∙ i.seen; free = c.ask_fix.ensures.free ∙ i.free; port = i.port; outcome = refused_said _ _ c.in-Err.refusal _ _ c.in_default.not-Busy (turn_more _ _ _ _ _ _ i.waits t); work = λ known. fix-turn-work _ _ _ _ _ _ _ _ _ _ i.work t }
-
-pub returns-in-Ok-Hit-clause-work : goal.returns-in-Ok-Hit-clause-work
-returns-in-Ok-Hit-clause-work g c =
-    let i = c.loop.invariant in
-    let t = rw (c.in-Ok-Hit.field-0-is, i.client) at c.in-Ok-Hit.ensures.turn in
-    λ known. fix-turn-work _ _ _ _ _ _ _ _ _ _ i.work t
-
-pub returns-in-Ok-Load-clause-work : goal.returns-in-Ok-Load-clause-work
-returns-in-Ok-Load-clause-work g c =
-    let i = c.loop.invariant in
-    let t = rw (c.in-Ok-Load.field-0-is, i.client) at c.in-Ok-Load.ensures.turn in
-    λ known. load-work _ _ c.in-Ok-Load.ticket _ _ _ _ _ _ _ (fix-turn-work _ _ _ _ _ _ _ _ _ _ i.work t) c.load.ensures.outcome known
-
-pub returns-in_err-write_out-in-Ok-WriteFirst-clause-work : goal.returns-in_err-write_out-in-Ok-WriteFirst-clause-work
-returns-in_err-write_out-in-Ok-WriteFirst-clause-work g c =
-    let i = c.loop.invariant in
-    let t = rw (c.in-Ok-WriteFirst.field-0-is, i.client) at c.in-Ok-WriteFirst.ensures.turn in
-    let is = err_from_is_err_and c.from_residual.result c.from_residual.ensures.1 in
-    λ known. write-work _ _ c.in-Ok-WriteFirst.ticket _ _ _ _ _ _ _ (fix-turn-work _ _ _ _ _ _ _ _ _ _ i.work t) (began-by-fix _ _ c.in-Ok-WriteFirst.ticket _ _ t) c.in_err-write_out-in-Ok-WriteFirst.ensures.outcome (λ unknown. known (is.1 ∙ ap Err is.2 ∙ unerr unknown))

@@ -9,33 +9,65 @@ use Rattle.bp_shared.proofs.pool.SharedPool.flush.Goals as goal
 pub loop-init : goal.loop-init
 loop-init g c = record { client = refl; before = refl; seen = refl; free = refl; port = refl; waits = flush_waits_none _ _ _; work = none-yet _ _ _ _ }
 
-pub returns-in-Ok-Clean-clause-outcome : goal.returns-in-Ok-Clean-clause-outcome
-returns-in-Ok-Clean-clause-outcome g c =
+pub returns-in-Ok-Clean : goal.returns-in-Ok-Clean
+returns-in-Ok-Clean g c =
     let i = c.loop.invariant in
     let t = rw (c.in-Ok-Clean.field-0-is, i.client) at c.in-Ok-Clean.ensures.turn in
-    clean_said _ _ _ _ (flush_turn_more _ _ _ _ _ _ i.waits t)
+    record {
+      client = c.ask_flush.ensures.client ∙ i.client;
+      before = c.ask_flush.ensures.before ∙ i.before;
+      seen = c.ask_flush.ensures.seen ∙ i.seen;
+      free = c.ask_flush.ensures.free ∙ i.free;
+      port = i.port;
+      outcome = clean_said _ _ _ _ (flush_turn_more _ _ _ _ _ _ i.waits t);
+      work = λ known. flush-turn-work _ _ _ _ _ _ _ _ _ _ i.work t;
+    }
 
-pub returns-in-Ok-Absent-clause-outcome : goal.returns-in-Ok-Absent-clause-outcome
-returns-in-Ok-Absent-clause-outcome g c =
+pub returns-in-Ok-Absent : goal.returns-in-Ok-Absent
+returns-in-Ok-Absent g c =
     let i = c.loop.invariant in
     let t = rw (c.in-Ok-Absent.field-0-is, i.client) at c.in-Ok-Absent.ensures.turn in
-    absent_said _ _ _ _ (flush_turn_more _ _ _ _ _ _ i.waits t)
+    record {
+      client = c.ask_flush.ensures.client ∙ i.client;
+      before = c.ask_flush.ensures.before ∙ i.before;
+      seen = c.ask_flush.ensures.seen ∙ i.seen;
+      free = c.ask_flush.ensures.free ∙ i.free;
+      port = i.port;
+      outcome = absent_said _ _ _ _ (flush_turn_more _ _ _ _ _ _ i.waits t);
+      work = λ known. flush-turn-work _ _ _ _ _ _ _ _ _ _ i.work t;
+    }
 
-pub returns-in-Ok-WriteFirst-clause-outcome : goal.returns-in-Ok-WriteFirst-clause-outcome
-returns-in-Ok-WriteFirst-clause-outcome g c =
+pub returns-in-Ok-WriteFirst : goal.returns-in-Ok-WriteFirst
+returns-in-Ok-WriteFirst g c =
     let i = c.loop.invariant in
     let t = rw (c.in-Ok-WriteFirst.field-0-is, i.client) at c.in-Ok-WriteFirst.ensures.turn in
     let o = rw c.in-Ok-WriteFirst.ticket-is at c.in_ok-ended-in-Ok-WriteFirst.ensures.outcome in
-    flushed_said _ _ _ _ _ c.in-Ok-WriteFirst.ticket c.in_ok-ended-in-Ok-WriteFirst.ended c.flushed.result _ _ _ (flush_turn_more _ _ _ _ _ _ i.waits t) c.flushed.ensures o
+    record {
+      client = c.write_out.ensures.client ∙ c.ask_flush.ensures.client ∙ i.client;
+      before = c.write_out.ensures.before ∙ c.ask_flush.ensures.before ∙ i.before;
+      seen = c.write_out.ensures.seen ∙ c.ask_flush.ensures.seen ∙ i.seen;
+      free = c.write_out.ensures.free ∙ c.ask_flush.ensures.free ∙ i.free;
+      port = c.write_out.ensures.port ∙ i.port;
+      outcome = flushed_said _ _ _ _ _ c.in-Ok-WriteFirst.ticket c.in_ok-ended-in-Ok-WriteFirst.ended c.flushed.result _ _ _ (flush_turn_more _ _ _ _ _ _ i.waits t) c.flushed.ensures o;
+      work = λ known. write-work _ _ c.in-Ok-WriteFirst.ticket _ _ _ _ _ _ _ (flush-turn-work _ _ _ _ _ _ _ _ _ _ i.work t) (began-by-flush _ _ c.in-Ok-WriteFirst.ticket _ _ t) o (λ unknown. absurd (let no = unknown in cc));
+    }
 
-pub returns-in_err-ended-in-Ok-WriteFirst-clause-outcome : goal.returns-in_err-ended-in-Ok-WriteFirst-clause-outcome
-returns-in_err-ended-in-Ok-WriteFirst-clause-outcome g c =
+pub returns-in_err-ended-in-Ok-WriteFirst : goal.returns-in_err-ended-in-Ok-WriteFirst
+returns-in_err-ended-in-Ok-WriteFirst g c =
     let i = c.loop.invariant in
     let t = rw (c.in-Ok-WriteFirst.field-0-is, i.client) at c.in-Ok-WriteFirst.ensures.turn in
     let o = rw c.in-Ok-WriteFirst.ticket-is at c.in_err-ended-in-Ok-WriteFirst.ensures.outcome in
     let is = err_from_is_err_and c.from_residual.result c.from_residual.ensures.1 in
-    subst (λ r. FlushSaid c.args.session.now.client c.args.page r c.args.session.now.said c.write_out.new.session.said) (sym (is.1 ∙ ap Err is.2))
-    (unflushed_said _ _ _ _ _ c.in-Ok-WriteFirst.ticket c.in_err-ended-in-Ok-WriteFirst.field-0.0 _ _ _ (flush_turn_more _ _ _ _ _ _ i.waits t) o)
+    record {
+      client = c.write_out.ensures.client ∙ c.ask_flush.ensures.client ∙ i.client;
+      before = c.write_out.ensures.before ∙ c.ask_flush.ensures.before ∙ i.before;
+      seen = c.write_out.ensures.seen ∙ c.ask_flush.ensures.seen ∙ i.seen;
+      free = c.write_out.ensures.free ∙ c.ask_flush.ensures.free ∙ i.free;
+      port = c.write_out.ensures.port ∙ i.port;
+      outcome = subst (λ r. FlushSaid c.args.session.now.client c.args.page r c.args.session.now.said c.write_out.new.session.said) (sym (is.1 ∙ ap Err is.2))
+          (unflushed_said _ _ _ _ _ c.in-Ok-WriteFirst.ticket c.in_err-ended-in-Ok-WriteFirst.field-0.0 _ _ _ (flush_turn_more _ _ _ _ _ _ i.waits t) o);
+      work = λ known. write-work _ _ c.in-Ok-WriteFirst.ticket _ _ _ _ _ _ _ (flush-turn-work _ _ _ _ _ _ _ _ _ _ i.work t) (began-by-flush _ _ c.in-Ok-WriteFirst.ticket _ _ t) o (λ unknown. known (is.1 ∙ ap Err is.2 ∙ unerr unknown));
+    }
 
 pub loop-preserved : goal.loop-preserved
 loop-preserved g c =
@@ -48,30 +80,3 @@ returns-in_default g c =
     let i = c.loop.invariant in
     let t = rw i.client at c.in-Err.ensures.turn in
     record { client = c.ask_flush.ensures.client ∙ i.client; before = c.ask_flush.ensures.before ∙ i.before; seen = c.ask_flush.ensures.seen ∙ i.seen; free = c.ask_flush.ensures.free ∙ i.free; port = i.port; outcome = flush_refused_said _ _ c.in-Err.refusal _ _ c.in_default.not-Busy (flush_turn_more _ _ _ _ _ _ i.waits t); work = λ known. flush-turn-work _ _ _ _ _ _ _ _ _ _ i.work t }
-
-pub returns-in-Ok-Clean-clause-work : goal.returns-in-Ok-Clean-clause-work
-returns-in-Ok-Clean-clause-work g c =
-    let i = c.loop.invariant in
-    let t = rw (c.in-Ok-Clean.field-0-is, i.client) at c.in-Ok-Clean.ensures.turn in
-    λ known. flush-turn-work _ _ _ _ _ _ _ _ _ _ i.work t
-
-pub returns-in-Ok-Absent-clause-work : goal.returns-in-Ok-Absent-clause-work
-returns-in-Ok-Absent-clause-work g c =
-    let i = c.loop.invariant in
-    let t = rw (c.in-Ok-Absent.field-0-is, i.client) at c.in-Ok-Absent.ensures.turn in
-    λ known. flush-turn-work _ _ _ _ _ _ _ _ _ _ i.work t
-
-pub returns-in-Ok-WriteFirst-clause-work : goal.returns-in-Ok-WriteFirst-clause-work
-returns-in-Ok-WriteFirst-clause-work g c =
-    let i = c.loop.invariant in
-    let t = rw (c.in-Ok-WriteFirst.field-0-is, i.client) at c.in-Ok-WriteFirst.ensures.turn in
-    let o = rw c.in-Ok-WriteFirst.ticket-is at c.in_ok-ended-in-Ok-WriteFirst.ensures.outcome in
-    λ known. write-work _ _ c.in-Ok-WriteFirst.ticket _ _ _ _ _ _ _ (flush-turn-work _ _ _ _ _ _ _ _ _ _ i.work t) (began-by-flush _ _ c.in-Ok-WriteFirst.ticket _ _ t) o (λ unknown. absurd (let no = unknown in cc))
-
-pub returns-in_err-ended-in-Ok-WriteFirst-clause-work : goal.returns-in_err-ended-in-Ok-WriteFirst-clause-work
-returns-in_err-ended-in-Ok-WriteFirst-clause-work g c =
-    let i = c.loop.invariant in
-    let t = rw (c.in-Ok-WriteFirst.field-0-is, i.client) at c.in-Ok-WriteFirst.ensures.turn in
-    let o = rw c.in-Ok-WriteFirst.ticket-is at c.in_err-ended-in-Ok-WriteFirst.ensures.outcome in
-    let is = err_from_is_err_and c.from_residual.result c.from_residual.ensures.1 in
-    λ known. write-work _ _ c.in-Ok-WriteFirst.ticket _ _ _ _ _ _ _ (flush-turn-work _ _ _ _ _ _ _ _ _ _ i.work t) (began-by-flush _ _ c.in-Ok-WriteFirst.ticket _ _ t) o (λ unknown. known (is.1 ∙ ap Err is.2 ∙ unerr unknown))

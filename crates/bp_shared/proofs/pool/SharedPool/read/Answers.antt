@@ -1,0 +1,38 @@
+-- Where memory is refused, nothing is asked.
+use Rattle.std.proofs.Common.{refl, sym, ap, subst, ◌∙◌, Err, IfOk, ◌≡◌, length}
+use Rattle.std.proofs.lemmas.Result.{err_from_is_err_and}
+use Rattle.bp_session_log.specs.Turns.{ReadSaid}
+use Rattle.bp_shared.specs.Sessions.{SessionValue}
+use Rattle.bp_shared.proofs.Working.{why-of}
+use Rattle.bp_shared.proofs.pool.SharedPool.read.Goals as goal
+
+pub returns-in_err-reserve_for_event : goal.returns-in_err-reserve_for_event
+returns-in_err-reserve_for_event g c =
+    let refused = c.in_err-reserve_for_event.ensures in
+    let is = err_from_is_err_and c.from_residual.result c.from_residual.ensures.1 in
+    let why = is.1 ∙ ap Err (is.2 ∙ ap why-of refused.refused) in
+    let own = sym c.client.ensures ∙ c.if-client.false ∙ c.client-2.ensures ∙ sym (ap (λ (s : SessionValue). s.client) c.session.view_is) in
+    rw (← c.session.view_is) (record {
+      client = refused.same.client;
+      before = refused.same.before;
+      seen = refl;
+      free = refl;
+      size = subst (λ r. IfOk r (λ image. length image ≡ g.N.PoolName.parameters.size)) (sym why) tt;
+      stranger = λ not. absurd (not own);
+      outcome = subst (λ r. ReadSaid c.session.inside.book.client c.args.pass.now r c.session.inside.book.said c.reserve_for_event.new.self.said) (sym why) (own, refused.same.said);
+    })
+
+pub returns : goal.returns
+returns g c =
+    let same = c.in_ok-reserve_for_event.ensures.same in
+    let done = c.read.ensures in
+    let own = sym c.client.ensures ∙ c.if-client.false ∙ c.client-2.ensures ∙ sym (ap (λ (s : SessionValue). s.client) c.session.view_is) in
+    rw (← c.session.view_is) (record {
+      client = done.client ∙ same.client;
+      before = done.before ∙ same.before;
+      seen = done.seen;
+      free = done.free;
+      size = done.size;
+      stranger = λ not. absurd (not own);
+      outcome = rw (same.client, same.said) at done.outcome;
+    })

@@ -1,0 +1,39 @@
+-- Where memory is refused, nothing is asked.
+use Rattle.std.proofs.Common.{refl, sym, ap, subst, ◌∙◌, Err}
+use Rattle.std.proofs.lemmas.Bool.{false≢true}
+use Rattle.std.proofs.lemmas.Result.{err_from_is_err_and}
+use Rattle.bp_session_log.specs.Turns.{ReadIntoSaid}
+use Rattle.bp_shared.specs.Sessions.{SessionValue}
+use Rattle.bp_shared.proofs.Working.{why-of}
+use Rattle.bp_shared.proofs.pool.SharedPool.read_into.Goals as goal
+
+pub returns-in_err-reserve_for_event : goal.returns-in_err-reserve_for_event
+returns-in_err-reserve_for_event g c =
+    let refused = c.in_err-reserve_for_event.ensures in
+    let is = err_from_is_err_and c.from_residual.result c.from_residual.ensures.1 in
+    let why = is.1 ∙ ap Err (is.2 ∙ ap why-of refused.refused) in
+    let own = sym c.client.ensures ∙ c.if-client.false ∙ c.client-2.ensures ∙ sym (ap (λ (s : SessionValue). s.client) c.session.view_is) in
+    rw (← c.session.view_is) (record {
+      client = refused.same.client;
+      before = refused.same.before;
+      seen = refl;
+      free = refl;
+      stranger = λ not. absurd (not own);
+      outcome = subst (λ r. ReadIntoSaid c.session.inside.book.client c.args.pass.now c.args.offset c.args.into.now r c.args.into.now c.session.inside.book.said c.reserve_for_event.new.self.said) (sym why) ((own, refused.same.said), refl);
+      memory = λ silent roomy. absurd (false≢true (refused.memory silent roomy));
+    })
+
+pub returns : goal.returns
+returns g c =
+    let same = c.in_ok-reserve_for_event.ensures.same in
+    let done = c.read_into.ensures in
+    let own = sym c.client.ensures ∙ c.if-client.false ∙ c.client-2.ensures ∙ sym (ap (λ (s : SessionValue). s.client) c.session.view_is) in
+    rw (← c.session.view_is) (record {
+      client = done.client ∙ same.client;
+      before = done.before ∙ same.before;
+      seen = done.seen;
+      free = done.free;
+      stranger = λ not. absurd (not own);
+      outcome = rw (same.client, same.said) at done.outcome;
+      memory = λ silent roomy. done.memory silent;
+    })
