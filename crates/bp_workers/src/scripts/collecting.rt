@@ -56,6 +56,7 @@ fn add_left<P: Port>(
     ensures fault { IfErr result (NotAdded (Disagrees trail.now (left_value left))) }
 {
     if !is_agreed(trail, &left) {
+        drop(left);
         return Err(Refusal::Disagree);
     }
     let Left {
@@ -65,14 +66,14 @@ fn add_left<P: Port>(
         held: _,
         all_went_back: _,
     } = left;
-    append(refused, worker.refused())?;
-    let Ok(()) = ports.push(port) else {
+    // The worker goes by a call, before the exits: what an exit drops is proved there, field by field.
+    let entries = book.into_said();
+    let appended = append(refused, worker.refused());
+    drop(worker);
+    if ports.push(port).is_err() || said.push(entries).is_err() {
         return Err(Refusal::OutOfMemory);
-    };
-    match said.push(book.into_said()) {
-        Ok(()) => Ok(()),
-        Err(_) => Err(Refusal::OutOfMemory),
     }
+    appended
 }
 
 /// Adds what the clients left, one after the other. `Disagree` where a script was not run whole or a pass did not go

@@ -29,39 +29,52 @@ loop-round-preserved g c =
       work = goes-on-work _ _ _ _ _ _ _ _ _ _ _ _ _ (work-on _ _ _ _ _ _ _ _ i.work (c.in-Err.ensures.work known)) goes;
     }
 
-pub returns-in-Ok-clause-outcome : goal.returns-in-Ok-clause-outcome
-returns-in-Ok-clause-outcome g c =
+pub returns-in-Ok : goal.returns-in-Ok
+returns-in-Ok g c =
     let i = c.loop-round.invariant in
-    leads-fixed _ _ _ _ _ _ _ _ _ _ _ _ _ _ i.leads (omega (arith, c.loop-round-test.true)) (rw i.client at c.in-Ok.ensures.gives)
+    record {
+      client = c.ask_fix.ensures.client ∙ i.client;
+      before = c.ask_fix.ensures.before ∙ i.before;
+      seen = c.ask_fix.ensures.seen ∙ i.seen;
+      free = c.ask_fix.ensures.free ∙ i.free;
+      port = c.ask_fix.ensures.port ∙ i.port;
+      lent = i.lent;
+      raises = i.raises;
+      outcome = leads-fixed _ _ _ _ _ _ _ _ _ _ _ _ _ _ i.leads (omega (arith, c.loop-round-test.true)) (rw i.client at c.in-Ok.ensures.gives);
+      work = λ known. work-on _ _ _ _ _ _ _ _ i.work (c.in-Ok.ensures.work known);
+    }
 
-pub returns-in-Ok-clause-work : goal.returns-in-Ok-clause-work
-returns-in-Ok-clause-work g c =
-    let i = c.loop-round.invariant in
-    λ known. work-on _ _ _ _ _ _ _ _ i.work (c.in-Ok.ensures.work known)
-
-pub returns-in_err-overcome-in-Err-clause-outcome : goal.returns-in_err-overcome-in-Err-clause-outcome
-returns-in_err-overcome-in-Err-clause-outcome g c =
-    let i = c.loop-round.invariant in
-    let ends = rw (c.ask_fix.ensures.client ∙ i.client) at c.in_err-overcome-in-Err.ensures.gives_up in
-    let is = err_from_is_err_and c.from_residual.result c.from_residual.ensures.1 in
-    rw (is.1 ∙ ap Err is.2)
-    (leads-given_up _ _ _ _ _ _ _ _ _ _ _ _ _ _ _ _ _ i.leads c.loop-round-test.true c.overcome.ensures.raises.rises (rw i.client at c.in-Err.ensures.gives) ends)
-
-pub returns-in_err-overcome-in-Err-clause-work : goal.returns-in_err-overcome-in-Err-clause-work
-returns-in_err-overcome-in-Err-clause-work g c =
+pub returns-in_err-overcome-in-Err : goal.returns-in_err-overcome-in-Err
+returns-in_err-overcome-in-Err g c =
     let i = c.loop-round.invariant in
     let ends = rw (c.ask_fix.ensures.client ∙ i.client) at c.in_err-overcome-in-Err.ensures.gives_up in
     let client = c.args.client.now.session.client in
     let steps = c.args.patience.ticks in
     let is = err_from_is_err_and c.from_residual.result c.from_residual.ensures.1 in
-    λ known. gives-up-work _ _ g.A.Asked.ticks client steps _ _ _ _ _ _ _ _ _ (work-on _ _ _ _ _ _ _ _ i.work (c.in-Err.ensures.work (gives-up-known g.A.Asked.ticks client steps _ _ _ _ _ _ ends (λ unknown. known (is.1 ∙ ap Err is.2 ∙ unknown))))) ends
+    record {
+      client = c.overcome.ensures.client ∙ c.ask_fix.ensures.client ∙ i.client;
+      before = c.overcome.ensures.before ∙ c.ask_fix.ensures.before ∙ i.before;
+      seen = c.overcome.ensures.seen ∙ c.ask_fix.ensures.seen ∙ i.seen;
+      free = c.overcome.ensures.free ∙ c.ask_fix.ensures.free ∙ i.free;
+      port = c.ask_fix.ensures.port ∙ i.port;
+      lent = c.overcome.ensures.lent ∙ i.lent;
+      raises = raises-then _ _ _ _ _ _ i.raises c.overcome.ensures.raises;
+      outcome = rw (is.1 ∙ ap Err is.2)
+          (leads-given_up _ _ _ _ _ _ _ _ _ _ _ _ _ _ _ _ _ i.leads c.loop-round-test.true c.overcome.ensures.raises.rises (rw i.client at c.in-Err.ensures.gives) ends);
+      work = λ known. gives-up-work _ _ g.A.Asked.ticks client steps _ _ _ _ _ _ _ _ _ (work-on _ _ _ _ _ _ _ _ i.work (c.in-Err.ensures.work (gives-up-known g.A.Asked.ticks client steps _ _ _ _ _ _ ends (λ unknown. known (is.1 ∙ ap Err is.2 ∙ unknown))))) ends;
+    }
 
-pub returns-clause-outcome : goal.returns-clause-outcome
-returns-clause-outcome g c =
+pub returns : goal.returns
+returns g c =
     let i = c.loop-round.invariant in
-    leads-end _ _ _ _ _ _ _ _ _ _ _ _ _ _ i.leads (omega (arith, c.loop-round.auto._round-end, c.loop-round-test.false)) (rw i.client at c.ask_fix-2.ensures.gives)
-
-pub returns-clause-work : goal.returns-clause-work
-returns-clause-work g c =
-    let i = c.loop-round.invariant in
-    λ known. work-on _ _ _ _ _ _ _ _ i.work (c.ask_fix-2.ensures.work known)
+    record {
+      client = c.ask_fix-2.ensures.client ∙ i.client;
+      before = c.ask_fix-2.ensures.before ∙ i.before;
+      seen = c.ask_fix-2.ensures.seen ∙ i.seen;
+      free = c.ask_fix-2.ensures.free ∙ i.free;
+      port = c.ask_fix-2.ensures.port ∙ i.port;
+      lent = i.lent;
+      raises = i.raises;
+      outcome = leads-end _ _ _ _ _ _ _ _ _ _ _ _ _ _ i.leads (omega (arith, c.loop-round.auto._round-end, c.loop-round-test.false)) (rw i.client at c.ask_fix-2.ensures.gives);
+      work = λ known. work-on _ _ _ _ _ _ _ _ i.work (c.ask_fix-2.ensures.work known);
+    }

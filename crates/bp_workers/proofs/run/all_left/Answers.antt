@@ -38,7 +38,7 @@ loop-job-init g c =
 pub returns-clause-left : goal.returns-clause-left
 returns-clause-left g c =
     left_of_each g.N.PoolName.parameters g.P.Port.geometry_of g.N.PoolName.past c.loop-job.pool.past 0 _ _
-    (all_beside (IsLeftAt g.N.PoolName.parameters g.P.Port.geometry_of g.N.PoolName.past c.loop-job.pool.past) c.args.jobs.items (into_iter_items c.loop-job.job-iterator) c.loop-job.left.items c.loop-job.invariant.made (search (rules, c.in-None.ensures.steps)))
+    (all_beside (IsLeftAt g.N.PoolName.parameters g.P.Port.geometry_of g.N.PoolName.past c.loop-job.pool.past) c.args.jobs.items (into_iter_items c.loop-job.job-iterator) c.loop-job.left.items c.loop-job.invariant.made (omega (arith, c.in-None.ensures.steps.0, c.loop-job.job-iterator.rest.ok)))
 
 pub push_reserved-requires : goal.push_reserved-requires
 push_reserved-requires g c =

@@ -1,5 +1,5 @@
 -- One job after the other.
-use Rattle.std.proofs.Common.{◌≡◌, sym, ◌∙◌, ap, suc, length, vec_len, arith, rules, Some}
+use Rattle.std.proofs.Common.{◌≡◌, sym, ◌∙◌, ap, suc, length, vec_len, arith, Some}
 use Rattle.std.proofs.lemmas.List.Elements.{All-head, All-tail, All-same}
 use Rattle.std.specs.Prelude.{zip}
 use Rattle.std.specs.Vec.Iter.{into_iter_items}
@@ -11,16 +11,16 @@ use Rattle.bp_workers.proofs.run.make_jobs.Goals as goal
 
 pub loop-worker-init : goal.loop-worker-init
 loop-worker-init g c =
-    let sessions : into_iter_items c.into_iter-sessions.result ≡ c.args.sessions.items = search rules in
-    let none : vec_len c.in-Ok.jobs ≡ 0 = search rules in
-    let workers : into_iter_items c.into_iter-worker-iterator.result ≡ c.args.workers.items = search rules in
-    let ports : into_iter_items c.into_iter-ports.result ≡ c.args.ports.items = search rules in
-    let count : length (into_iter_items c.into_iter-worker-iterator.result) ≡ vec_len c.args.workers = search rules in
+    let sessions = c.into_iter-sessions.ensures.rest in
+    let none : vec_len c.in-Ok.jobs ≡ 0 = c.in-Ok.ensures.len in
+    let workers = c.into_iter-worker-iterator.ensures.into_iter_gives.0 in
+    let ports = c.into_iter-ports.ensures.rest in
+    let count : length (into_iter_items c.into_iter-worker-iterator.result) ≡ vec_len c.args.workers = omega (arith, ap length workers, c.args.workers.ok) in
     record {
       made = none_beside IsNewJob _ _ _ (ap (λ ws. zip ws (into_iter_items c.into_iter-ports.result)) workers ∙ ap (zip c.args.workers.items) ports) c.in-Ok.ensures.items;
       sessions = sessions ∙ c.requires.sessions ∙ in_order (vec_len c.args.workers) ∙ ap (λ n. sessions_from n (vec_len c.args.workers)) (sym none) ∙ ap (sessions_from (vec_len c.in-Ok.jobs)) (sym count);
-      ports = search rules;
-      of_pool = All-same (λ p. IsOfPool g.N.PoolName.parameters (g.P.Port.geometry_of p)) _ _ (search rules) c.requires.of_pool;
+      ports = omega (arith, count, ap length ports, c.args.ports.ok, c.requires.ports);
+      of_pool = All-same (λ p. IsOfPool g.N.PoolName.parameters (g.P.Port.geometry_of p)) _ _ ports c.requires.of_pool;
       upkeep = ap Some c.requires.unused ∙ ap new_upkeep (sym none);
       room = omega (arith, none, count, c.in-Ok.ensures.capacity, c.len.ensures);
     }
@@ -56,5 +56,5 @@ pub returns-clause-jobs : goal.returns-clause-jobs
 returns-clause-jobs g c =
     let workers = into_iter_items c.loop-worker.worker-iterator in
     let ports = into_iter_items c.loop-worker.ports in
-    let none : length workers ≡ 0 = search (rules, c.in-None.ensures.steps) in
+    let none : length workers ≡ 0 = omega (arith, c.in-None.ensures.steps.0, c.loop-worker.worker-iterator.rest.ok) in
     all_beside IsNewJob (zip c.args.workers.items c.args.ports.items) (zip workers ports) c.loop-worker.jobs.items c.loop-worker.invariant.made (none_of_each workers ports none)

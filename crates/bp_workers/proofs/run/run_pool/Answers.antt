@@ -1,5 +1,5 @@
 -- From the jobs that were made to what they left.
-use Rattle.std.proofs.Common.{◌≡◌, sym, ◌∙◌, ap, subst, arith, drop, length}
+use Rattle.std.proofs.Common.{◌≡◌, refl, sym, ◌∙◌, ap, subst, arith, drop, length}
 use Rattle.std.proofs.lemmas.List.{take_at}
 use Rattle.std.specs.Prelude.{IsSome}
 use Rattle.bp_core.specs.CoreView.{CoreView}
@@ -26,8 +26,8 @@ all_left-upkeep-requires-clause-numbered g c =
     let back = take_at new (drop (length new) old) c.args.jobs.len (omega (arith, kept, c.args.jobs.ok)) in
     subst (AreNumbered 0) (sym back) (ran_numbered g.W.Worker.leaves 0 old new kept (rw lent at c.run_jobs.ensures.ran) c.requires.numbered)
 
-pub returns-clause-left : goal.returns-clause-left
-returns-clause-left g c given are =
+pub returns : goal.returns
+returns g c =
     let old = c.args.jobs.items in
     let new = c.run_jobs.new.jobs in
     let lent : c.as_mut_slice.result.now ≡ old = c.as_mut_slice.ensures.value in
@@ -35,5 +35,17 @@ returns-clause-left g c given are =
     let back = take_at new (drop (length new) old) c.args.jobs.len (omega (arith, kept, c.args.jobs.ok)) in
     let end = c.into_core-core.ensures in
     let whole : c.all_left-upkeep.new.pool.past ≡ c.into_core-core.result.0.past = sym (ap (λ (core : CoreView). core.past) end.core) in
-    all_left_by g.N.PoolName.parameters g.P.Port.geometry_of c.into_core-core.result.0 g.W.Worker.leaves (upkeep_value c.all_left-upkeep.result.0) given old new c.all_left-upkeep.result.1.items are kept (rw lent at c.run_jobs.ensures.ran) (rw whole at (rw c.requires.new at (rw back at c.all_left-upkeep.ensures.left))) (sym end.parameters)
-    (rw back at c.all_left-upkeep.ensures.upkeep) (sym end.before, omega (arith, end.seen, c.close.ensures.seen, c.close.ensures.frontier, c.into_log_end.ensures.frontier))
+    record {
+      parameters = end.parameters;
+      left = λ given are. all_left_by g.N.PoolName.parameters g.P.Port.geometry_of c.into_core-core.result.0 g.W.Worker.leaves (upkeep_value c.all_left-upkeep.result.0) given old new c.all_left-upkeep.result.1.items are kept (rw lent at c.run_jobs.ensures.ran) (rw whole at (rw c.requires.new at (rw back at c.all_left-upkeep.ensures.left))) (sym end.parameters)
+          (rw back at c.all_left-upkeep.ensures.upkeep) (sym end.before, omega (arith, end.seen, c.close.ensures.seen, c.close.ensures.frontier, c.into_log_end.ensures.frontier));
+      refused = tt;
+    }
+
+pub returns-in_default : goal.returns-in_default
+returns-in_default g c = record { parameters = tt; left = λ given are. tt; refused = refl }
+
+pub close-requires : goal.close-requires
+close-requires g c =
+    let end = c.into_core-core.ensures in
+    record { log_end = c.into_log_end.ensures.mark ∙ sym end.mark; reader = end.reader ∙ sym end.mark }

@@ -1,5 +1,6 @@
 -- A run that ends well, or for which there was no memory, could be made.
 use Rattle.std.proofs.Common.{ℕ, ◌≡◌, ◌∙◌, ap, sym, subst, rules, vec_len, List, Result, Ok, Err}
+use Rattle.std.proofs.lemmas.Bool.{false≢true}
 use Rattle.bp_page.specs.declared.limits.Geometry.{Geometry}
 use Rattle.bp_page.specs.declared.refusals.Refusal.{Refusal}
 use Rattle.bp_page.specs.declared.refusals.Refusal.TheVariants as refusal
@@ -41,3 +42,11 @@ run_named-ran-requires-clause-of_pool g c κs within k d lt =
       pages = ap (λ (geometry : Geometry). geometry.pages) alike ∙ sym (ap (λ (core : CoreView). core.parameters.pages) made);
       size = ap (λ (geometry : Geometry). geometry.size) alike ∙ sym (ap (λ (core : CoreView). core.parameters.size) made);
     }
+
+pub returns-then-not-fit_together : goal.returns-then-not-fit_together
+returns-then-not-fit_together g c = record {
+  legal = tt;
+  parameters = tt;
+  left = tt;
+  answers = λ can. absurd (false≢true (sym c.if-not-fit_together.true ∙ c.fit_together.ensures.1 (lent g.P.Port.geometry_of c.args.config c.deref.result.now c.args.ports.items c.len.result (vec_len c.args.workers) (sym c.deref.ensures.value) (sym c.len.ensures) can.fit)));
+}
