@@ -1,5 +1,7 @@
 -- Each row adds its piece to those of the rows before it.
 use Rattle.std.proofs.Common.{◌≡◌, sym, ◌∙◌, ap, subst, ◌+◌, ◌++◌, ◌∷◌, [], take, add-one, arith, reverse, false}
+use Rattle.std.proofs.lemmas.Bool.{false≢true}
+use Rattle.std.proofs.lemmas.List.{take_all}
 use Rattle.std.proofs.Math.Seq.{take-suc}
 use Rattle.std.proofs.lemmas.List.Elements.{All-get_or}
 use Rattle.bp_trail.specs.Pieces.{outcome_of}
@@ -7,6 +9,7 @@ use Rattle.bp_trail.specs.Pieces.Manner.{session}
 use Rattle.bp_trail.specs.Script.{FollowsBy}
 use Rattle.bp_shared.proofs.Working.{work-on}
 use Rattle.bp_workers.specs.Steps.{is_fault}
+use Rattle.bp_workers.specs.Players.{PlaysRows}
 use Rattle.bp_workers.specs.Scripts.{IsRowOf}
 use Rattle.bp_workers.proofs.Following.{follows-more, known-more}
 use Rattle.bp_workers.proofs.Playing.{known_step, step-work}
@@ -38,4 +41,26 @@ loop-row-preserved g c =
       few_refused = omega (arith, c.note_refused.ensures.more, i.few_refused);
       ends_capacity = c.push_reserved.ensures.capacity ∙ i.ends_capacity;
       refused_capacity = c.note_refused.ensures.capacity ∙ i.refused_capacity;
+    }
+
+pub returns-then-is_fault : goal.returns-then-is_fault
+returns-then-is_fault g c =
+    let i = c.loop-row.invariant in
+    record {
+      same = (c.step-outcome.ensures.same.0 ∙ i.same.0, c.step-outcome.ensures.same.1 ∙ i.same.1);
+      plays = λ no. absurd (false≢true no);
+      ends_capacity = i.ends_capacity;
+      refused_capacity = i.refused_capacity;
+    }
+
+pub returns : goal.returns
+returns g c =
+    let i = c.loop-row.invariant in
+    let now = c.loop-row.client in
+    record {
+      same = i.same;
+      plays = λ yes. subst (λ rows. PlaysRows g.P.Port.read_gives g.P.Port.write_gives rows now.session.said (reverse c.loop-row.ends.items) c.loop-row.refused.items c.args.client.now.port now.port)
+          (take_all c.loop-row.row-index c.args.script.now (omega (arith, c.loop-row-test.false))) i.plays;
+      ends_capacity = i.ends_capacity;
+      refused_capacity = i.refused_capacity;
     }
