@@ -18,20 +18,23 @@ returns-then-len-clients g c =
     let count : length g.N.PoolName.ring.rings ≡ length c.ring.inside.producers.items = ap length (sym rings) ∙ length-map c.ring.inside.producers.items ring_of in
     record { sessions = tt; clients = λ not. refl; refused = λ same. absurd (c.if-len-clients.true (c.len.ensures ∙ sym (long c.ring.inside.producers) ∙ sym count ∙ same ∙ sym c.requires.clients)) }
 
-pub new_clients-requires : goal.new_clients-requires
-new_clients-requires g c =
-    let is = c.ring.view_is ∙ c.requires.ring in
-    let rings = ap (λ (r : PoolRing). r.rings) is in
-    record {
-      clients = c.requires.clients;
-      size = c.requires.size;
-      rings = rings;
-      unused = c.ring.invariant.6.unused;
-      count = long c.ring.inside.producers ∙ sym c.len.ensures ∙ c.if-len-clients.false;
-      board = ap (λ (r : PoolRing). r.board) is;
-      seen = ap (λ (r : PoolRing). r.seen) is;
-      empty = (c.ring.invariant.4, c.ring.invariant.5);
-    }
+pub new_clients-requires-clause-rings : goal.new_clients-requires-clause-rings
+new_clients-requires-clause-rings g c = ap (λ (r : PoolRing). r.rings) (c.ring.view_is ∙ c.requires.ring)
+
+pub new_clients-requires-clause-unused : goal.new_clients-requires-clause-unused
+new_clients-requires-clause-unused g c = c.ring.invariant.6.unused
+
+pub new_clients-requires-clause-count : goal.new_clients-requires-clause-count
+new_clients-requires-clause-count g c = long c.ring.inside.producers ∙ sym c.len.ensures ∙ c.if-len-clients.false
+
+pub new_clients-requires-clause-board : goal.new_clients-requires-clause-board
+new_clients-requires-clause-board g c = ap (λ (r : PoolRing). r.board) (c.ring.view_is ∙ c.requires.ring)
+
+pub new_clients-requires-clause-seen : goal.new_clients-requires-clause-seen
+new_clients-requires-clause-seen g c = ap (λ (r : PoolRing). r.seen) (c.ring.view_is ∙ c.requires.ring)
+
+pub new_clients-requires-clause-empty : goal.new_clients-requires-clause-empty
+new_clients-requires-clause-empty g c = (c.ring.invariant.4, c.ring.invariant.5)
 
 pub returns-in_err-sessions : goal.returns-in_err-sessions
 returns-in_err-sessions g c =
