@@ -2,7 +2,7 @@
 """Runs `bench pool` or `bench threads` and Berkeley DB's memory pool in turn, over the same pages; prints the ratios.
 
     apt-get install libdb5.3-dev           (a C compiler is needed too)
-    (cd crates/bench && rt run)            builds the bench; with no argument it makes long runs of seconds
+    (cd crates/bench && rt run)            builds the bench, and makes its long runs of seconds
     peers/side_by_side.py ROUNDS [ROOM ..]
     peers/side_by_side.py ROUNDS threads [silent]
 

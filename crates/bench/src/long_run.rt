@@ -26,7 +26,7 @@ const PIECES: u64 = 2500;
 const ROOM: usize = 4096;
 
 // Room for all entries.
-const GREAT_ROOM: usize = 10500000;
+const ROOM_FOR_ALL: usize = 10500000;
 
 const SILENT_ROUNDS: u64 = 2500;
 
@@ -312,7 +312,7 @@ pub(crate) fn run_once(
     if is_cut {
         run_recorded(rt, PIECES, ROOM)
     } else {
-        run_recorded(rt, 1, GREAT_ROOM)
+        run_recorded(rt, 1, ROOM_FOR_ALL)
     }
 }
 

@@ -1,7 +1,7 @@
 //! Measures a core or a pool, as its first argument says. docs/BENCHMARKS.md has the results.
 //!
 //!     bench                            both long runs, and four threads for a moment: what `stdout` has
-//!     bench cut | uncut                the first, with a trail that is cut as it goes, or has room for all entries
+//!     bench cut | uncut                the first long run, with a trail that is cut as it goes, or has room for all
 //!     bench silent ROUNDS SIZE         the second, of so many rounds over pages of so many bytes
 //!     bench calls FRAMES               each call of a core of so many frames
 //!     bench pool FILE [ROOM | silent]  fixes and unfixes over a page file
@@ -9,7 +9,7 @@
 //!     bench blocks                     the calls of LRU-K that take the number of a page's block
 //!
 //! With a room the trail is cut each time it is half full, and continues in the memory of the piece before; without one
-//! it is never cut. With `silent` the core only counts its entries. Other words do nothing.
+//! it is never cut. With `silent` the core only counts its entries. Other words, and fewer, are an error.
 #![tactic(auto)]
 
 ghost use Rattle.std.specs.Prelude.{◌<◌};
@@ -56,8 +56,8 @@ fn tell(
     Ok(())
 }
 
-/// Times a pool over a page file.
-fn time_pool(
+/// Times a pool over a page file, with a trail of this room, of room for all entries, or only counted.
+fn time_pool_of_room(
     rt: &(impl Runtime<A = Global> + CpuClock + Files<File = File> + Wait),
     path: &str,
     room: Option<&str>,
@@ -89,13 +89,13 @@ fn measure(
         "uncut" => long_run::run_once(rt, false),
         "silent" => long_run::run_silent(rt, number(of)?, number(more)? as usize),
         "calls" => calls::time_calls(rt, number(of)?),
-        "pool" => time_pool(rt, of.context("no page file is named")?, more),
+        "pool" => time_pool_of_room(rt, of.context("no page file is named")?, more),
         "threads" => {
             let path = of.context("no page file is named")?;
-            threads::time_pool(rt, path, more == Some("silent"))
+            threads::time_pools(rt, path, more == Some("silent"))
         }
         "blocks" => blocks::time_blocks(rt),
-        _ => Ok(()),
+        _ => None.context("no such measurement"),
     }
 }
 

@@ -101,7 +101,7 @@ fn time_kind<K: Kind, R: Runtime<A = Global> + Clock + Files<File = File> + Thre
 }
 
 /// Times threads over the pages of a file. The pool keeps its trail and its lists, or is silent.
-pub(crate) fn time_pool(
+pub(crate) fn time_pools(
     rt: &(impl Runtime<A = Global> + Clock + Files<File = File> + Threads + Wait + Sync),
     path: &str,
     is_silent: bool,

@@ -441,7 +441,7 @@ fn program_command<'a>(alloc: Global) -> Result<Command<'a>, AllocError>
         .bin_name("bpool")
 }
 
-/// Adds a command to the program, if there was memory to make it.
+/// Adds a command to the program, if there was memory to make it. Here alone the program is dropped.
 fn with_command<'a>(
     program: Command<'a>,
     made: Result<Command<'a>, AllocError>,

@@ -163,7 +163,7 @@ fn make_workers(alloc: Global, log: &SharedLog) -> Result<Vec<Adding>, anyhow::E
     Ok(workers)
 }
 
-/// Tells what each worker last wrote.
+/// Prints each worker's latest counter, up to one that was refused.
 fn tell(
     rt: &HostRuntime,
     left: &[Left<FilePort, Adding, SilentKeeper>],
@@ -182,6 +182,7 @@ fn main(rt: HostRuntime) -> Result<(), anyhow::Error> {
     let workers = make_workers(alloc, &open_log(rt, &log)?)?;
     let config = Config::new(geometry).with_frames(8);
     let run = run_workers_over::<SilentKeeper, _, _, _>(rt, alloc, config, ports, workers)?;
+    // A run is dropped by a call: to drop it at each exit takes longer to prove.
     let told = tell(rt, &run.left);
     drop(run);
     told

@@ -1,4 +1,4 @@
-//! Tests of what fails around a pool: memory that is refused, and readers and writers of the program.
+//! Tests of refused memory (`memory`), and of input and output of the program, also where they fail (`io`).
 //!
 //! The tests are on top of the crates that they call, so that none of those is proved again for them. The library
 //! itself has no item.

@@ -2,6 +2,7 @@
 ghost use Rattle.std.specs.Prelude.{◌≡◌, ◌<◌, ◌≤◌};
 ghost use Rattle.bench.specs.declared.threads.TheConstants.{FILE_PAGES};
 
+use crate::next;
 use crate::threads::kinds::Kind;
 use crate::threads::{FILE_PAGES, FRAMES};
 use bp_core::Entry;
@@ -51,13 +52,6 @@ pub(crate) struct Job<N: PoolName, P: Port, K: Kind> {
     pub(crate) spare: Vec<Entry>,
     ghost port_is: { (P.geometry_of port).size ≡ N.parameters.size },
     ghost pages_are: { N.parameters.pages ≡ FILE_PAGES },
-}
-
-// The next number of a linear congruential generator.
-fn next(state: u64) -> u64 {
-    state
-        .wrapping_mul(6364136223846793005)
-        .wrapping_add(1442695040888963407)
 }
 
 impl<N: PoolName, P: Port, K: Kind> Job<N, P, K> {

@@ -9,7 +9,7 @@ use std::process::Abort;
 use std::rt::{Files, Runtime};
 use std::sync::Wait;
 
-/// Opens two ports to a page file.
+/// Opens two ports to the pages that a word names.
 fn two_ports(
     rt: &(impl Runtime<A = Global> + Files<File = File> + Abort),
     word: &str,

@@ -104,8 +104,10 @@ fn expect_left<R: Abort + AllocGlobal>(rt: &R, rows: &[Row], kept: usize, most: 
     match &got {
         Ok(script) => {
             let whole = rows.get(..left.rows).expect(rt, "the rows");
-            assert!(rt;
-                wanted.is_none() && script.as_slice() == whole,
+            assert_eq!(rt; wanted, None, "{kept} bytes in pieces of {most}");
+            assert_eq!(rt;
+                script.as_slice(),
+                whole,
                 "{kept} bytes in pieces of {most}"
             );
         }

@@ -22,7 +22,7 @@ fn new_core<R: Abort + AllocGlobal>(rt: &R, geometry: Geometry) -> Core
     core.expect(rt, "the core")
 }
 
-/// That core after the rows of the write-ahead rule, of which row 6 was refused.
+/// A core of one frame after the rows of the write-ahead rule, of which row 6 was refused.
 fn driven<R: Wait + Abort + AllocGlobal>(rt: &R) -> Core {
     let device = MemDevice::new(rt.alloc(), sixteen_pages(rt)).expect(rt, "the device");
     let mut port = device.port().expect(rt, "the port");

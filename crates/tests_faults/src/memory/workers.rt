@@ -159,7 +159,7 @@ fn run_visitors<K: Kind, R: Threads + Wait + Sync + Abort + AllocGlobal>(
     }
 }
 
-/// Each visitor has read its own byte in the end, and holds no pass. At most one visit was refused, for want of memory
+/// Asserts that each visitor read its own byte in the end, and holds no pass. At most one visit was refused, for want of memory
 /// of the pool, or of the port at the end of a read. A visit has six entries. A refused one adds none where its fix was
 /// refused, two where its read failed, three where the write or the read by its pass was refused, and four where the
 /// tick was.
