@@ -6,7 +6,7 @@ use bp_core::{Pass, PassNote, PoolCore};
 use bp_keeper::{Keeper, ListKeeper, RecordingKeeper};
 use bp_page::{Geometry, Refusal};
 use bp_session_log::{Book, Line, Shows};
-use rtrb::{Producer, PushError};
+use rtrb::Producer;
 use std::alloc::Global;
 use std::marker::{Model, PhantomData};
 
@@ -168,16 +168,15 @@ impl<N: PoolName, K: ListKeeper> Session<N, K> {
         ensures seen { self.new.seen ≡ self.old.seen }
         ensures outcome { UnfixSaid self.old pass result self.new }
     {
-        if !self.book.holds(&pass) {
-            return Err((pass, Refusal::UnknownPass));
+        // The ring is looked at anew for a pass that is held alone, as the refusal of another changes nothing.
+        if self.producer.cached_slots() == 0 && self.book.holds(&pass) && self.producer.is_full() {
+            return Err((pass, Refusal::RingFull));
         }
         let note = pass.note();
-        match self.producer.push(note) {
-            Ok(()) => {
-                self.book.tell_unfix(note);
-                Ok(())
-            }
-            Err(PushError::Full(back)) => Err((back.pass(), Refusal::RingFull)),
+        if !self.book.tell_unfix(note) {
+            return Err((note.pass(), Refusal::UnknownPass));
         }
+        self.producer.push_reserved(note);
+        Ok(())
     }
 }

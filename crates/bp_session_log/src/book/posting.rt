@@ -1,5 +1,5 @@
 //! The passes that a list holds, and those that go back.
-ghost use Rattle.std.specs.Prelude.{◌≡◌, ◌==◌, true, not, filter, reverse, vec_capacity};
+ghost use Rattle.std.specs.Prelude.{◌≡◌, ◌==◌, IsTrue, IsFalse, not, filter, reverse, vec_capacity};
 ghost use Rattle.bp_trail.specs.declared.entries.Call.TheVariants as Call;
 ghost use Rattle.bp_trail.specs.declared.entries.Reply.TheVariants as Reply;
 ghost use Rattle.bp_trail.specs.Event.{grant, same_grant};
@@ -20,20 +20,27 @@ impl<K: ListKeeper> Book<K> {
         self.held.has(pass.client(), pass.page(), pass.serial())
     }
 
-    /// Adds the entry of a pass that goes back, which is held no more. It takes no memory. The core is not asked:
-    /// whoever calls this sees that the pass reaches it.
-    pub fn tell_unfix(&mut self, note: PassNote)
-        requires held { is_out note (passes_out self.old.said) ≡ true }
-        ensures whose { note.client ≡ self.old.client }
-        ensures told { Tells self.old (Call.Unfix note.serial note.page) Reply.Done self.new }
+    /// Takes a pass back that the list holds, and adds the entry. Returns true if it was held; else nothing changes. It
+    /// takes no memory. The core is not asked: whoever calls this sees that the pass reaches it.
+    pub fn tell_unfix(&mut self, note: PassNote) -> bool
+        ensures was { result ≡ is_out note (passes_out self.old.said) }
+        ensures whose { IsTrue result → note.client ≡ self.old.client }
+        ensures told { IsTrue result →
+            Tells self.old (Call.Unfix note.serial note.page) Reply.Done self.new }
+        ensures same { IsFalse result → self.new ≡ self.old }
     {
+        if !self
+            .held
+            .take_back(note.client(), note.page(), note.serial())
+        {
+            return false;
+        }
+        self.held.trim_front();
         let call = Call::Unfix {
             pass: note.serial(),
             page: note.page(),
         };
         self.said.record(self.client, call, Reply::Done);
-        self.held
-            .take_back(note.client(), note.page(), note.serial());
-        self.held.trim_front();
+        true
     }
 }
