@@ -159,10 +159,10 @@ fn run_visitors<K: Kind, R: Threads + Wait + Sync + Abort + AllocGlobal>(
     }
 }
 
-/// Asserts that each visitor read its own byte in the end, and holds no pass. At most one visit was refused, for want of memory
-/// of the pool, or of the port at the end of a read. A visit has six entries. A refused one adds none where its fix was
-/// refused, two where its read failed, three where the write or the read by its pass was refused, and four where the
-/// tick was.
+/// Asserts that each visitor read its own byte in the end, and holds no pass. At most one visit was refused, for want
+/// of memory of the pool, or of the port at the end of a read. A visit has six entries. A refused one adds none where
+/// its fix was refused, two where its read failed, three where the write or the read by its pass was refused, and four
+/// where the tick was.
 fn expect_visits<K: Kind>(rt: &impl Abort, run: &Run<MemPort, Visitor, K>) {
     assert_eq!(rt; run.left.len(), 2);
     let mut refused = None;
