@@ -6,7 +6,6 @@
 //!     bench calls FRAMES               each call of a core of so many frames
 //!     bench pool FILE [ROOM | silent]  fixes and unfixes over a page file
 //!     bench threads FILE [silent]      the same by client threads over one shared pool
-//!     bench blocks                     the calls of LRU-K that take the number of a page's block
 //!
 //! With a room the trail is cut each time it is half full, and continues in the memory of the piece before; without one
 //! it is never cut. With `silent` the core only counts its entries. Other words, and fewer, are an error.
@@ -14,7 +13,6 @@
 
 ghost use Rattle.std.specs.Prelude.{◌<◌};
 
-mod blocks;
 mod calls;
 mod long_run;
 mod pool;
@@ -94,7 +92,6 @@ fn measure(
             let path = of.context("no page file is named")?;
             threads::time_pools(rt, path, more == Some("silent"))
         }
-        "blocks" => blocks::time_blocks(rt),
         _ => None.context("no such measurement"),
     }
 }

@@ -1,53 +1,38 @@
-//! `Kind`, the two kinds of pool, and how a client keeps within the room of each.
+//! `Timed`, the two kinds of pool, and how a client keeps within the room of each.
 
-use crate::threads::jobs::Takings;
 use bp_core::{Entry, Keeper};
-use bp_keeper::{GhostImage, ListKeeper, RecordingKeeper, SilentKeeper};
-use bp_page::{Bytes, Image};
-use bp_shared::{PoolName, Session, SharedPool};
+use bp_keeper::{ListKeeper, RecordingKeeper, SilentKeeper};
+use bp_shared::{PoolName, Session, SharedPool, Taker};
 use std::alloc::Global;
-use std::marker::Send;
 use std::mem;
-use std::sync::{Mutex, Wait};
+use std::sync::Wait;
 
-// The room of a trail in memory.
-const RECORDING_ROOM: usize = 65536;
+// The room of a trail in memory, of which little is used unless client 0, which cuts it, is late.
+const RECORDING_ROOM: usize = 1048576;
 
-/// A kind of pool. The types that its keeper works with are named here, since they must be `Send`.
-pub(crate) trait Kind: ListKeeper<
-    SpareImage = <Self as Kind>::SentImage,
-    SpareBytes = <Self as Kind>::SentBytes,
-    Blank = <Self as Kind>::SentBlank,
->
-    + Send {
-    type SentImage: Drop + Send;
-
-    type SentBytes: Drop + Send;
-
-    type SentBlank: Drop + Send;
+/// A kind of pool that is timed.
+pub(crate) trait Timed: ListKeeper {
+    ghost use Rattle.std.specs.Prelude.{◌≡◌};
 
     fn name() -> &'static str;
 
     fn room() -> usize;
 
-    /// Lets go of the entries of the trail and of the session's list, where they are in memory.
-    fn let_go<N: PoolName, R: Wait>(
+    /// Lets go of the entries of the trail, where they are in memory. The next cut gets the memory of this one's piece.
+    fn cut_trail<N: PoolName, R: Wait>(
         rt: &R,
         alloc: Global,
         pool: &SharedPool<N, Self>,
-        takings: &Mutex<Takings<N>>,
-        session: &mut Session<N, Self>,
-        spare: &mut Vec<Entry>,
+        taker: &mut Taker<N>,
+        piece: &mut Vec<Entry>,
     );
+
+    /// Does so with the entries of a session's list.
+    fn cut_list<N: PoolName>(alloc: Global, session: &mut Session<N, Self>, piece: &mut Vec<Entry>)
+        ensures client { session.new.client ≡ session.old.client };
 }
 
-impl Kind for RecordingKeeper {
-    type SentImage = Image;
-
-    type SentBytes = Bytes;
-
-    type SentBlank = Image;
-
+impl Timed for RecordingKeeper {
     fn name() -> &'static str {
         "recording"
     }
@@ -56,30 +41,32 @@ impl Kind for RecordingKeeper {
         RECORDING_ROOM
     }
 
-    // Cuts both, and leaves each the memory of its last piece, whose entries are dropped.
-    fn let_go<N: PoolName, R: Wait>(
+    fn cut_trail<N: PoolName, R: Wait>(
         rt: &R,
         alloc: Global,
         pool: &SharedPool<N, RecordingKeeper>,
-        takings: &Mutex<Takings<N>>,
-        session: &mut Session<N, RecordingKeeper>,
-        spare: &mut Vec<Entry>,
+        taker: &mut Taker<N>,
+        piece: &mut Vec<Entry>,
     ) {
-        cut_trail(rt, alloc, pool, takings);
-        let last = mem::replace(spare, Vec::new(alloc));
-        if let Ok(list) = session.cut_into(last) {
-            *spare = list;
+        let last = mem::replace(piece, Vec::new(alloc));
+        if let Ok(next) = pool.cut_into(rt, taker, last) {
+            *piece = next;
+        }
+    }
+
+    fn cut_list<N: PoolName>(
+        alloc: Global,
+        session: &mut Session<N, RecordingKeeper>,
+        piece: &mut Vec<Entry>,
+    ) {
+        let last = mem::replace(piece, Vec::new(alloc));
+        if let Ok(next) = session.cut_into(last) {
+            *piece = next;
         }
     }
 }
 
-impl Kind for SilentKeeper {
-    type SentImage = GhostImage;
-
-    type SentBytes = ();
-
-    type SentBlank = ();
-
+impl Timed for SilentKeeper {
     fn name() -> &'static str {
         "silent"
     }
@@ -88,26 +75,17 @@ impl Kind for SilentKeeper {
         SilentKeeper::MOST_ROOM
     }
 
-    fn let_go<N: PoolName, R: Wait>(
+    fn cut_trail<N: PoolName, R: Wait>(
         _rt: &R,
         _alloc: Global,
         _pool: &SharedPool<N, SilentKeeper>,
-        _takings: &Mutex<Takings<N>>,
-        _session: &mut Session<N, SilentKeeper>,
-        _spare: &mut Vec<Entry>,
+        _taker: &mut Taker<N>,
+        _piece: &mut Vec<Entry>,
     ) {}
-}
 
-// Cuts the trail, and leaves it the memory of the last piece, whose entries are dropped.
-fn cut_trail<N: PoolName, R: Wait>(
-    rt: &R,
-    alloc: Global,
-    pool: &SharedPool<N>,
-    takings: &Mutex<Takings<N>>,
-) {
-    let mut takings = takings.lock(rt);
-    let spare = mem::replace(&mut takings.spare, Vec::new(alloc));
-    if let Ok(piece) = pool.cut_into(rt, &mut takings.taker, spare) {
-        takings.spare = piece;
-    }
+    fn cut_list<N: PoolName>(
+        _alloc: Global,
+        _session: &mut Session<N, SilentKeeper>,
+        _piece: &mut Vec<Entry>,
+    ) {}
 }
