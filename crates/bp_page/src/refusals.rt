@@ -2,70 +2,69 @@
 ghost use Rattle.std.specs.Prelude.{◌≡◌};
 ghost use Rattle.bp_page.specs.Refusals.{needed_by, number_of};
 
+use crate::explained::explanation_of;
 use crate::numbers::Lsn;
 use std::alloc::AllocError;
-use thiserror::Error;
+use std::error::Error;
+use std::fmt;
 
-/// Why a call was refused. The comment of the call says what holds afterwards.
-#[derive(Clone, Copy, PartialEq, Eq, Debug, Error)]
+/// Why a call was refused. The comment of the call says what holds afterwards. It is printed as its number is
+/// explained, except that `NeedLog` names its LSN, and `BadGeometry` no references.
+#[derive(Clone, Copy, PartialEq, Eq, Debug)]
 pub enum Refusal {
     /// The file has no page or more than 1,048,576, or the bytes of a page are no multiple of 16 from 16 to 65,536.
-    #[error("the number of pages or the page size is out of its limits")]
     BadGeometry,
     /// K, a period, the frames, the clients or the room of the trail are out of their limits.
-    #[error("a setting of the pool is out of its limits")]
     BadSettings,
     /// The bytes of a page file are no whole number of pages from 1 to 1,048,576.
-    #[error("the page file is no positive number of whole pages, or has too many")]
     BadLength,
     /// No frame is free, and the page of each is pinned, is being read or written out, or was referenced within the
     /// correlated period.
-    #[error("no page may leave its frame")]
     NoVictim,
     /// The page has a change whose log record, this LSN, lies beyond the durable mark.
-    #[error("the log must first be durable up to {0}")]
     NeedLog(Lsn),
     /// A read of the page is out, or for a flush a write-out of it, even if it is the caller's own.
-    #[error("a device operation on the page is under way")]
     Busy,
     /// The core did not give this pass, or has taken it back.
-    #[error("no such pass is out")]
     UnknownPass,
     /// The core did not give this ticket, or its operation has ended.
-    #[error("no such ticket is out")]
     UnknownTicket,
     /// The read failed, by its device or for want of memory; the page is in no frame.
-    #[error("the page could not be read")]
     ReadFailed,
     /// The write failed; the page is in its frame, and not saved.
-    #[error("the page could not be written")]
     WriteFailed,
     /// The read found the number of another page; the page is in no frame.
-    #[error("the page's place in its file has another page")]
     WrongPage,
     /// The entries left until the next cut do not suffice for the call and what it would owe.
-    #[error("the trail has no room for the call")]
     TrailFull,
     /// The clock would stand above 2^62, the greatest time; of a cut, more than 2^62 passes or tickets were given.
-    #[error("the clock would pass its end")]
     ClockFull,
     /// The memory that the call needs could not be had.
-    #[error("out of memory")]
     OutOfMemory,
     /// Each of the 32 places of the session's ring has a pass that the pool has not taken yet.
-    #[error("the ring of passes to give back is full")]
     RingFull,
     /// In a run of threads a client held a pass that the pool did not know, or could not give one back. Or after it a
     /// client's list is not its part of the trail, or the log was marked ahead of client 0's rows.
-    #[error("the clients' lists and the trail do not agree")]
     Disagree,
     /// The core has no client with this number, or the pool's rings are for another number of clients.
-    #[error("no client has this number here")]
     BadClient,
     /// The file has no such page, or the last byte would stand past the end of the page.
-    #[error("the page is not of the file, or the bytes are not within the page")]
     OutOfPage,
 }
+
+impl fmt::Display for Refusal {
+    fn fmt<W: fmt::Write>(&self, f: &mut fmt::Formatter<W>) -> fmt::Result {
+        match self {
+            Refusal::BadGeometry => {
+                f.write_str("the number of pages or the page size is out of its limits")
+            }
+            Refusal::NeedLog(lsn) => write!(f, "the log must first be durable up to {lsn}"),
+            other => f.write_str(explanation_of(u64::from(other.number())).unwrap()),
+        }
+    }
+}
+
+impl Error for Refusal {}
 
 impl From<AllocError> for Refusal {
     ghost use Rattle.bp_page.specs.declared.refusals.Refusal.TheVariants.{OutOfMemory};
@@ -117,7 +116,7 @@ impl Refusal {
 }
 
 /// Why a device operation failed.
-#[derive(Clone, Copy, PartialEq, Eq, Debug, Error)]
+#[derive(Clone, Copy, PartialEq, Eq, Debug, thiserror::Error)]
 pub enum PortFault {
     /// The device failed. How much of the operation it did is not known.
     #[error("the device failed")]

@@ -3,44 +3,50 @@ ghost use Rattle.std.specs.Prelude.{◌≡◌};
 ghost use Rattle.bp_trace.specs.Faults.{fault_number};
 ghost use Rattle.bp_trace.specs.Script.{fault};
 
+use bp_page::explanation_of;
 use std::alloc::AllocError;
-use thiserror::Error;
+use std::error::Error;
+use std::fmt;
 
-/// What is wrong with a trace or a list of references: with one record or line, or with the whole.
-#[derive(Clone, Copy, PartialEq, Eq, Debug, Error)]
+/// What is wrong with a trace or a list of references: with one record or line, or with the whole. It is printed as its
+/// number is explained, except that `TooManyPages` says what alone it stands for.
+#[derive(Clone, Copy, PartialEq, Eq, Debug)]
 pub enum InputFault {
     /// The references are of more than 1,048,576 different pages.
-    #[error("the references are of too many different pages")]
     TooManyPages,
     /// Memory was refused.
-    #[error("out of memory")]
     OutOfMemory,
     /// The record does not have six fields, or a field that its operation does not use is not empty. In a list of
     /// references: the record lacks the field.
-    #[error("a record does not have the fields of its operation")]
     BadShape,
     /// The client is not a number from 0 to 63, or in a `log` row not 0.
-    #[error("no client has this number here")]
     BadClient,
     /// The word of the operation is not one of the eight.
-    #[error("no operation has this name")]
     BadOp,
     /// A page, offset, LSN, number of ticks or reference is not a decimal number within its limits.
-    #[error("a field is not a number within the limits")]
     BadNumber,
     /// The number of hex digits is odd, or one of them is not 0 to 9, a to f or A to F.
-    #[error("the bytes are not pairs of hexadecimal digits")]
     BadHex,
     /// The file has no such page, or the last byte would be past the end of the page.
-    #[error("the page is not of the file, or the bytes are not within the page")]
     OutOfPage,
     /// The trace has more than 262,144 rows or 67,108,864 bytes, or the list more than 268,435,456 references.
-    #[error("the trace is too long")]
     TooLong,
     /// A read of the trace or of the list failed.
-    #[error("the trace could not be read")]
     ReadFault,
 }
+
+impl fmt::Display for InputFault {
+    fn fmt<W: fmt::Write>(&self, f: &mut fmt::Formatter<W>) -> fmt::Result {
+        match self {
+            InputFault::TooManyPages => {
+                f.write_str("the references are of too many different pages")
+            }
+            other => f.write_str(explanation_of(u64::from(other.number())).unwrap()),
+        }
+    }
+}
+
+impl Error for InputFault {}
 
 impl From<AllocError> for InputFault {
     ghost use Rattle.bp_trace.specs.declared.faults.InputFault.TheVariants.{OutOfMemory};
@@ -73,7 +79,7 @@ impl InputFault {
 }
 
 /// Why a trace has no script: the number of the fault, and the record with the fault.
-#[derive(Clone, Copy, PartialEq, Eq, Debug, Error)]
+#[derive(Clone, Copy, PartialEq, Eq, Debug, thiserror::Error)]
 #[error("trace row {row} refused {number}")]
 pub struct TraceFault {
     /// The number of the record, from 1, or 0 for the trace as a whole.
