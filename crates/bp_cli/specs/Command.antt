@@ -9,6 +9,10 @@ use Rattle.clap.specs.declared.builder.value_parser.ValueParser.TheVariants as p
 abbrev pub positional : Text → Rule
 positional id = record (new_rule id) { value_names = 1; required = true }
 
+-- an option that takes any word
+abbrev pub valued : Text → Rule
+valued id = record (new_rule id) { long = Some id; value_names = 1 }
+
 -- an option that takes a whole number from low to high
 abbrev pub number_option : Text → ℕ → ℕ → Text → Rule
 number_option id low high default =

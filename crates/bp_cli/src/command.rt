@@ -3,13 +3,13 @@ ghost use Rattle.std.specs.Prelude.{◌≡◌, map, false, IfOk, All};
 ghost use Rattle.clap.specs.Words.{app_of, rule_of, shape_of, with_subcommand};
 ghost use Rattle.clap.specs.Simple.{new_shape};
 ghost use Rattle.clap.specs.declared.builder.command.Command.TheViews.{out-Command as fields_of};
-ghost use Rattle.bp_cli.specs.Command.{bpool_app, migrate_rules, migrate_shape, program_app, run_rules, run_shape};
-ghost use Rattle.bp_cli.specs.Command.{explain_rules, explain_shape, sweep_rules, sweep_shape};
+ghost use Rattle.bp_cli.specs.Command.{bpool_app, migrate_rules, program_app, run_rules};
+ghost use Rattle.bp_cli.specs.Command.{explain_rules, sweep_rules};
 ghost use Rattle.bp_cli.specs.Command as spec;
 
 use crate::ending::VERSION;
 use clap::builder::ValueParser;
-use clap::{Arg, ArgAction, Command, value_parser};
+use clap::{Arg, ArgAction, Command};
 use std::alloc::{AllocError, Global};
 
 /// The end of the help of `bpool run`.
@@ -114,6 +114,14 @@ Each page gets its number and LSN 0. NEW is written beside itself as NEW.migrati
 name once it is whole. Status 0: NEW is made. Status 2: one line on standard error says why it is
 not; OLD is as it was.";
 
+const RUN: &str = "Runs a trace over a buffer pool and reports what the pool did";
+
+const SWEEP: &str = "Counts hits and faults for many numbers of frames and many K, in a table";
+
+const MIGRATE: &str = "Writes a page file of version 1 anew in version 2";
+
+const EXPLAIN: &str = "Says what the number of a refusal stands for";
+
 const TRACE: &str = "The trace: a path, or stdin for the standard input";
 
 const PAGE_FILE: &str = "The page file: a path, or mem:N for N pages of zero bytes in memory";
@@ -126,6 +134,7 @@ const CORRELATED: &str = "Correlated reference period in ticks, from 0 to 2^62";
 
 const RETAINED: &str = "Retained information period in ticks, from 0 to 2^62";
 
+/// That it is a multiple of 16 is checked later.
 const PAGE_SIZE: &str = "Bytes of a page, a multiple of 16 from 16 to 65536";
 
 const FORMAT: &str = "Version of a page file at a path: 1 plain, 2 with page numbers";
@@ -171,40 +180,8 @@ it is the file of REFERENCES.
 Status 0: all lines are printed, and FILE is made. Status 2: one line on standard error says why
 there is no table, or only a part of it, or no picture.";
 
-/// The limits of a number of frames, and of a column.
-fn up_to_65536<'a>() -> ValueParser<'a>
-    ensures { result ≡ ValueParser.Unsigned 1 65536 }
-{
-    value_parser!(usize).range(1..=65_536)
-}
-
-/// The limits of K.
-fn stamp_counts<'a>() -> ValueParser<'a>
-    ensures { result ≡ ValueParser.Unsigned 1 16 }
-{
-    value_parser!(usize).range(1..=16)
-}
-
-/// The limits of a page size. That it is a multiple of 16 is checked later.
-fn page_sizes<'a>() -> ValueParser<'a>
-    ensures { result ≡ ValueParser.Unsigned 16 65536 }
-{
-    value_parser!(usize).range(16..=65_536)
-}
-
-/// The versions of page files.
-fn versions<'a>() -> ValueParser<'a>
-    ensures { result ≡ ValueParser.Unsigned 1 2 }
-{
-    value_parser!(usize).range(1..=2)
-}
-
-/// The limits of a period, in ticks or references.
-fn periods<'a>() -> ValueParser<'a>
-    ensures { result ≡ ValueParser.Unsigned 0 4611686018427387904 }
-{
-    value_parser!(u64).range(0..=4_611_686_018_427_387_904)
-}
+/// The longest period, in ticks or references: 2^62.
+const MAX_PERIOD: u64 = 4_611_686_018_427_387_904;
 
 /// Returns an argument that must be there.
 fn positional<'a>(alloc: Global, id: &'a str, shown: &'a str, help: &'a str) -> Arg<'a>
@@ -217,67 +194,12 @@ fn positional<'a>(alloc: Global, id: &'a str, shown: &'a str, help: &'a str) -> 
         .help(help)
 }
 
-/// Returns an option that takes a number, with a default.
-fn number_option<'a>(
-    alloc: Global,
-    id: &'a str,
-    numbers: ValueParser<'a>,
-    default: &'a str,
-    help: &'a str,
-) -> Arg<'a>
-    ensures rule { (low high : _) → numbers.entry ≡ ValueParser.Unsigned low high →
-        rule_of result ≡ spec.number_option id.entry.now low high default.entry.now }
+/// Returns an option that takes a value.
+fn valued<'a>(alloc: Global, id: &'a str, shown: &'a str, help: &'a str) -> Arg<'a>
+    ensures rule { rule_of result ≡ spec.valued id.entry.now }
     ensures local { result.global ≡ false }
 {
-    Arg::new(alloc, id)
-        .long(id)
-        .value_name("N")
-        .value_parser(numbers)
-        .default_value(default)
-        .help(help)
-}
-
-/// Returns an option that takes a number, without a default.
-fn bare_number<'a>(
-    alloc: Global,
-    id: &'a str,
-    must: bool,
-    numbers: ValueParser<'a>,
-    help: &'a str,
-) -> Arg<'a>
-    ensures rule { (low high : _) → numbers.entry ≡ ValueParser.Unsigned low high →
-        rule_of result ≡ spec.bare_number id.entry.now must low high }
-    ensures local { result.global ≡ false }
-{
-    Arg::new(alloc, id)
-        .long(id)
-        .value_name("N")
-        .required(must)
-        .value_parser(numbers)
-        .help(help)
-}
-
-/// Returns an option that takes a word, without a default. The word is checked later.
-fn bare_word<'a>(alloc: Global, id: &'a str, must: bool, shown: &'a str, help: &'a str) -> Arg<'a>
-    ensures rule { rule_of result ≡ spec.bare_word id.entry.now must }
-    ensures local { result.global ≡ false }
-{
-    Arg::new(alloc, id)
-        .long(id)
-        .value_name(shown)
-        .required(must)
-        .help(help)
-}
-
-/// Returns an option without a value.
-fn flag<'a>(alloc: Global, id: &'a str, help: &'a str) -> Arg<'a>
-    ensures rule { rule_of result ≡ spec.flag id.entry.now }
-    ensures local { result.global ≡ false }
-{
-    Arg::new(alloc, id)
-        .long(id)
-        .action(ArgAction::SetTrue)
-        .help(help)
+    Arg::new(alloc, id).long(id).value_name(shown).help(help)
 }
 
 /// Returns an option that takes a word, with a default. The word is checked later.
@@ -291,31 +213,79 @@ fn word_option<'a>(
     ensures rule { rule_of result ≡ spec.word_option id.entry.now default.entry.now }
     ensures local { result.global ≡ false }
 {
+    valued(alloc, id, shown, help).default_value(default)
+}
+
+/// Returns an option that takes a number from `low` to `high`, with a default.
+fn number_option<'a>(
+    alloc: Global,
+    id: &'a str,
+    low: u64,
+    high: u64,
+    default: &'a str,
+    help: &'a str,
+) -> Arg<'a>
+    ensures rule { rule_of result ≡ spec.number_option id.entry.now low high default.entry.now }
+    ensures local { result.global ≡ false }
+{
+    word_option(alloc, id, "N", default, help).value_parser(ValueParser::Unsigned(low, high))
+}
+
+/// Returns an option that takes a word, without a default. The word is checked later.
+fn bare_word<'a>(alloc: Global, id: &'a str, must: bool, shown: &'a str, help: &'a str) -> Arg<'a>
+    ensures rule { rule_of result ≡ spec.bare_word id.entry.now must }
+    ensures local { result.global ≡ false }
+{
+    valued(alloc, id, shown, help).required(must)
+}
+
+/// Returns an option that takes a number from `low` to `high`, without a default.
+fn bare_number<'a>(
+    alloc: Global,
+    id: &'a str,
+    must: bool,
+    low: u64,
+    high: u64,
+    help: &'a str,
+) -> Arg<'a>
+    ensures rule { rule_of result ≡ spec.bare_number id.entry.now must low high }
+    ensures local { result.global ≡ false }
+{
+    bare_word(alloc, id, must, "N", help).value_parser(ValueParser::Unsigned(low, high))
+}
+
+/// Returns an option without a value.
+fn flag<'a>(alloc: Global, id: &'a str, help: &'a str) -> Arg<'a>
+    ensures rule { rule_of result ≡ spec.flag id.entry.now }
+    ensures local { result.global ≡ false }
+{
     Arg::new(alloc, id)
         .long(id)
-        .value_name(shown)
-        .default_value(default)
+        .action(ArgAction::SetTrue)
         .help(help)
 }
 
-/// Returns a command that takes these arguments.
+/// Returns a command that takes these arguments, if there was memory to make them.
 fn command_of<'a>(
     alloc: Global,
     name: &'a str,
     about: &'a str,
     help: &'a str,
-    arguments: Vec<Arg<'a>>,
+    made: Result<Vec<Arg<'a>>, AllocError>,
 ) -> Result<Command<'a>, AllocError>
-    ensures shape { All (λ a. a.global ≡ false) arguments.entry.items →
-        IfOk result (λ c. shape_of c
-        ≡ record (new_shape name.entry.now) { rules = map rule_of arguments.entry.items }) }
-    ensures local { All (λ a. a.global ≡ false) arguments.entry.items →
+    ensures shape { (rules : _) → IfOk made.entry (λ arguments. map rule_of arguments.items ≡ rules) →
+        IfOk made.entry (λ arguments. All (λ a. a.global ≡ false) arguments.items) →
+        IfOk result (λ c. shape_of c ≡ record (new_shape name.entry.now) { rules = rules }) }
+    ensures local { IfOk made.entry (λ arguments. All (λ a. a.global ≡ false) arguments.items) →
         IfOk result (λ c. (fields_of c).has_globals ≡ false) }
 {
-    Command::new(alloc, name)
-        .about(about)
-        .after_help(help)
-        .args(arguments)
+    match made {
+        Ok(arguments) => Command::new(alloc, name)
+            .about(about)
+            .after_help(help)
+            .args(arguments),
+        Err(refused) => Err(refused),
+    }
 }
 
 fn run_arguments<'a>(alloc: Global) -> Result<Vec<Arg<'a>>, AllocError>
@@ -325,30 +295,16 @@ fn run_arguments<'a>(alloc: Global) -> Result<Vec<Arg<'a>>, AllocError>
     let arguments = vec![in alloc;
         positional(alloc, "trace", "TRACE", TRACE),
         positional(alloc, "page-file", "PAGEFILE", PAGE_FILE),
-        number_option(alloc, "frames", up_to_65536(), "8", FRAMES),
-        number_option(alloc, "k", stamp_counts(), "2", STAMPS),
-        number_option(alloc, "correlated", periods(), "0", CORRELATED),
-        number_option(alloc, "retained", periods(), "1000", RETAINED),
-        number_option(alloc, "page-size", page_sizes(), "64", PAGE_SIZE),
-        number_option(alloc, "format", versions(), "1", FORMAT),
+        number_option(alloc, "frames", 1, 65_536, "8", FRAMES),
+        number_option(alloc, "k", 1, 16, "2", STAMPS),
+        number_option(alloc, "correlated", 0, MAX_PERIOD, "0", CORRELATED),
+        number_option(alloc, "retained", 0, MAX_PERIOD, "1000", RETAINED),
+        number_option(alloc, "page-size", 16, 65_536, "64", PAGE_SIZE),
+        number_option(alloc, "format", 1, 2, "1", FORMAT),
         word_option(alloc, "order", "ORDER", "trace", ORDER),
         flag(alloc, "totals", TOTALS),
     ]?;
     Ok(arguments)
-}
-
-fn run_command<'a>(alloc: Global) -> Result<Command<'a>, AllocError>
-    ensures shape { IfOk result (λ c. shape_of c ≡ run_shape) }
-    ensures local { IfOk result (λ c. (fields_of c).has_globals ≡ false) }
-{
-    let arguments = run_arguments(alloc)?;
-    command_of(
-        alloc,
-        "run",
-        "Runs a trace over a buffer pool and reports what the pool did",
-        STATUSES,
-        arguments,
-    )
 }
 
 fn migrate_arguments<'a>(alloc: Global) -> Result<Vec<Arg<'a>>, AllocError>
@@ -358,23 +314,9 @@ fn migrate_arguments<'a>(alloc: Global) -> Result<Vec<Arg<'a>>, AllocError>
     let arguments = vec![in alloc;
         positional(alloc, "old", "OLD", OLD),
         positional(alloc, "new", "NEW", NEW),
-        bare_number(alloc, "page-size", true, page_sizes(), PAGE_SIZE),
+        bare_number(alloc, "page-size", true, 16, 65_536, PAGE_SIZE),
     ]?;
     Ok(arguments)
-}
-
-fn migrate_command<'a>(alloc: Global) -> Result<Command<'a>, AllocError>
-    ensures shape { IfOk result (λ c. shape_of c ≡ migrate_shape) }
-    ensures local { IfOk result (λ c. (fields_of c).has_globals ≡ false) }
-{
-    let arguments = migrate_arguments(alloc)?;
-    command_of(
-        alloc,
-        "migrate",
-        "Writes a page file of version 1 anew in version 2",
-        MIGRATION,
-        arguments,
-    )
 }
 
 fn sweep_arguments<'a>(alloc: Global) -> Result<Vec<Arg<'a>>, AllocError>
@@ -385,25 +327,11 @@ fn sweep_arguments<'a>(alloc: Global) -> Result<Vec<Arg<'a>>, AllocError>
         positional(alloc, "references", "REFERENCES", REFERENCES),
         bare_word(alloc, "frames", true, "LIST", SWEPT_FRAMES),
         word_option(alloc, "k", "LIST", "1,2", SWEPT_STAMPS),
-        number_option(alloc, "correlated", periods(), "0", APART),
-        bare_number(alloc, "column", false, up_to_65536(), COLUMN),
+        number_option(alloc, "correlated", 0, MAX_PERIOD, "0", APART),
+        bare_number(alloc, "column", false, 1, 65_536, COLUMN),
         bare_word(alloc, "svg", false, "FILE", SVG),
     ]?;
     Ok(arguments)
-}
-
-fn sweep_command<'a>(alloc: Global) -> Result<Command<'a>, AllocError>
-    ensures shape { IfOk result (λ c. shape_of c ≡ sweep_shape) }
-    ensures local { IfOk result (λ c. (fields_of c).has_globals ≡ false) }
-{
-    let arguments = sweep_arguments(alloc)?;
-    command_of(
-        alloc,
-        "sweep",
-        "Counts hits and faults for many numbers of frames and many K, in a table",
-        SWEEPING,
-        arguments,
-    )
 }
 
 fn explain_arguments<'a>(alloc: Global) -> Result<Vec<Arg<'a>>, AllocError>
@@ -412,20 +340,6 @@ fn explain_arguments<'a>(alloc: Global) -> Result<Vec<Arg<'a>>, AllocError>
 {
     let arguments = vec![in alloc; positional(alloc, "number", "N", NUMBER)]?;
     Ok(arguments)
-}
-
-fn explain_command<'a>(alloc: Global) -> Result<Command<'a>, AllocError>
-    ensures shape { IfOk result (λ c. shape_of c ≡ explain_shape) }
-    ensures local { IfOk result (λ c. (fields_of c).has_globals ≡ false) }
-{
-    let arguments = explain_arguments(alloc)?;
-    command_of(
-        alloc,
-        "explain",
-        "Says what the number of a refusal stands for",
-        NUMBERS,
-        arguments,
-    )
 }
 
 /// Returns the program without its commands. The words that it parses do not have the program's name.
@@ -441,16 +355,22 @@ fn program_command<'a>(alloc: Global) -> Result<Command<'a>, AllocError>
         .bin_name("bpool")
 }
 
-/// Adds a command to the program, if there was memory to make it. Here alone the program is dropped.
+/// Adds a command with these arguments to the program, if there was memory to make them. Here alone the program is
+/// dropped.
 fn with_command<'a>(
+    alloc: Global,
     program: Command<'a>,
-    made: Result<Command<'a>, AllocError>,
+    name: &'a str,
+    about: &'a str,
+    help: &'a str,
+    made: Result<Vec<Arg<'a>>, AllocError>,
 ) -> Result<Command<'a>, AllocError>
-    ensures { (shape : _) → IfOk made.entry (λ c. shape_of c ≡ shape) →
-        IfOk made.entry (λ c. (fields_of c).has_globals ≡ false) →
-        IfOk result (λ c. app_of c ≡ with_subcommand (app_of program.entry) shape) }
+    ensures { (rules : _) → IfOk made.entry (λ arguments. map rule_of arguments.items ≡ rules) →
+        IfOk made.entry (λ arguments. All (λ a. a.global ≡ false) arguments.items) →
+        IfOk result (λ c. app_of c ≡ with_subcommand (app_of program.entry)
+        (record (new_shape name.entry.now) { rules = rules })) }
 {
-    match made {
+    match command_of(alloc, name, about, help, made) {
         Ok(command) => program.subcommand(command),
         Err(refused) => {
             drop(program);
@@ -464,8 +384,12 @@ pub fn bpool_command<'a>(alloc: Global) -> Result<Command<'a>, AllocError>
     ensures { IfOk result (λ c. app_of c ≡ bpool_app) }
 {
     let program = program_command(alloc)?;
-    let with_run = with_command(program, run_command(alloc))?;
-    let with_sweep = with_command(with_run, sweep_command(alloc))?;
-    let with_migrate = with_command(with_sweep, migrate_command(alloc))?;
-    with_command(with_migrate, explain_command(alloc))
+    let arguments = run_arguments(alloc);
+    let with_run = with_command(alloc, program, "run", RUN, STATUSES, arguments)?;
+    let arguments = sweep_arguments(alloc);
+    let with_sweep = with_command(alloc, with_run, "sweep", SWEEP, SWEEPING, arguments)?;
+    let arguments = migrate_arguments(alloc);
+    let with_migrate = with_command(alloc, with_sweep, "migrate", MIGRATE, MIGRATION, arguments)?;
+    let arguments = explain_arguments(alloc);
+    with_command(alloc, with_migrate, "explain", EXPLAIN, NUMBERS, arguments)
 }

@@ -9,7 +9,7 @@ ghost use Rattle.bp_cli.specs.Words.{options_by_rows};
 ghost use Rattle.bp_cli.specs.Words as spec;
 ghost use Rattle.bp_cli.specs.Asked.{AreInLimits, asked_by, asked_in, asked_of, migration_by_rows};
 ghost use Rattle.bp_cli.specs.Asked.{sweep_by_rows, sweep_with};
-ghost use Rattle.bp_cli.specs.Asked.Asked.{a_migration, a_run, a_sweep};
+ghost use Rattle.bp_cli.specs.Asked.Asked.{a_migration, a_run, a_sweep, an_explanation};
 ghost use Rattle.bp_cli.specs.Decision.{size_asked};
 
 use crate::command::bpool_command;
@@ -295,26 +295,28 @@ fn sweep_task<'a>(alloc: Global, matches: &ArgMatches<'a>) -> Result<Option<Task
     Ok(sweep_with(matches, frames, ks))
 }
 
+fn explanation_task<'a>(matches: &ArgMatches<'a>) -> Option<Task<'a>>
+    ensures { option_map asked_of result
+        ≡ option_map an_explanation (explanation_at (rows_of (found_of matches.now))) }
+{
+    let text = explanation_at(matches)?;
+    Some(Task::Explain(text))
+}
+
 /// Returns the task that the words name, or None where the word of an option names nothing.
 fn task_in<'a>(alloc: Global, matches: &ArgMatches<'a>) -> Result<Option<Task<'a>>, AllocError>
     ensures { IfOk result (λ task. option_map asked_of task
         ≡ asked_in (subcommand_rows_of matches.now)) }
 {
-    if let Some(run) = matches.subcommand_matches("run") {
-        return Ok(run_task(run));
-    }
-    if let Some(sweep) = matches.subcommand_matches("sweep") {
-        return sweep_task(alloc, sweep);
-    }
-    if let Some(migration) = matches.subcommand_matches("migrate") {
-        return Ok(migration_task(migration));
-    }
-    let Some(explain) = matches.subcommand_matches("explain") else {
+    let Some((command, own)) = matches.subcommand() else {
         return Ok(None);
     };
-    match explanation_at(explain) {
-        Some(text) => Ok(Some(Task::Explain(text))),
-        None => Ok(None),
+    match command {
+        "run" => Ok(run_task(own)),
+        "sweep" => sweep_task(alloc, own),
+        "migrate" => Ok(migration_task(own)),
+        "explain" => Ok(explanation_task(own)),
+        _ => Ok(None),
     }
 }
 

@@ -57,10 +57,17 @@ fn boxed(alloc: Global, config: &HzConfig) -> Result<Box<Pool, Global>, Refusal>
     ensures made { IfOk result (λ pool. Opens config.now (Ok pool.value)) }
     ensures refused { IfErr result (λ why. Opens config.now (Err why)) }
 {
-    let pool = Pool::new(alloc, config)?;
+    // A `?` here would take the prover longer: its result holds a pool.
+    let pool = match Pool::new(alloc, config) {
+        Ok(pool) => pool,
+        Err(refusal) => return Err(refusal),
+    };
     match Box::new(alloc, pool) {
         Ok(whole) => Ok(whole),
-        Err(_) => Err(Refusal::OutOfMemory),
+        Err(pool) => {
+            drop(pool);
+            Err(Refusal::OutOfMemory)
+        }
     }
 }
 

@@ -3,11 +3,11 @@ ghost use Rattle.std.specs.Prelude.{◌≡◌};
 
 use crate::kinds::Kind;
 use crate::making::Noting;
-use bp_core::{Call, Entry, Reply};
+use bp_core::{Call, Entry, Pass, Reply};
 use bp_device::Port;
-use bp_page::Lsn;
+use bp_page::{Geometry, Lsn, Refusal};
 use bp_shared::{PoolName, Session, SharedPool};
-use bp_trail::{Grant, agrees};
+use bp_trail::agrees;
 use scenario_cores::{
     Lists, bytes_read, content, done, flushed, flushed_all, forgot, grant_of, lsn_or_none,
     page_or_none, pass_of, span_of, stats_of, went,
@@ -111,8 +111,16 @@ pub(crate) fn tell<N: PoolName, K: Kind>(
     }
 }
 
-/// Fixes a page, or a new one.
-fn fix<N: PoolName, K: Kind, R: Wait>(
+/// Keeps the pass of a fix, and returns the answer of the fix.
+fn fixed(lists: &mut Lists, outcome: Result<Pass, Refusal>) -> Answer {
+    match outcome {
+        Ok(pass) => lists.keep_given(pass),
+        Err(refusal) => Answer::Refused(refusal),
+    }
+}
+
+/// Fixes a page, or a new one, or flushes one.
+fn by_page<N: PoolName, K: Kind, R: Wait>(
     rt: &R,
     pool: &SharedPool<N, K>,
     session: &mut Session<N, K>,
@@ -127,92 +135,56 @@ fn fix<N: PoolName, K: Kind, R: Wait>(
     let Some(page) = port.geometry().page(call.numbers.list[1]) else {
         return Answer::BadLine;
     };
-    let fixed = match call.verb {
-        Verb::New => pool.fix_new(rt, session, port, page),
-        _ => pool.fix(rt, session, port, page),
-    };
-    match fixed {
-        Ok(pass) => lists.keep_given(pass),
-        Err(refusal) => Answer::Refused(refusal),
+    match call.verb {
+        Verb::Flush => flushed(pool.flush(rt, session, port, page)),
+        Verb::New => fixed(lists, pool.fix_new(rt, session, port, page)),
+        _ => fixed(lists, pool.fix(rt, session, port, page)),
     }
 }
 
-fn flush<N: PoolName, K: Kind, R: Wait>(
-    rt: &R,
-    pool: &SharedPool<N, K>,
-    session: &mut Session<N, K>,
-    port: &mut Noting,
-    number: u64,
-) -> Answer
-    requires pages { port.old.inner.inner.device.pages ≡ N.parameters.pages }
-    requires size { port.old.inner.inner.device.size ≡ N.parameters.size }
-    ensures port { port.new.inner.inner.device ≡ port.old.inner.inner.device }
-{
-    let Some(page) = port.geometry().page(number) else {
-        return Answer::BadLine;
-    };
-    flushed(pool.flush(rt, session, port, page))
-}
-
-fn read<N: PoolName, K: Kind, R: Wait>(
-    rt: &R,
-    pool: &SharedPool<N, K>,
-    session: &mut Session<N, K>,
-    grant: Grant,
-) -> Answer {
-    let pass = pass_of(grant);
-    let read = pool.read(rt, session, &pass);
-    pass.note();
-    content(read)
-}
-
-/// Reads bytes of a page. The line is a bad one where they do not lie within a page of the client's port.
+/// Reads bytes of a page. The line is a bad one where they do not lie within a page.
 fn read_into<N: PoolName, K: Kind, R: Wait>(
     rt: &R,
     pool: &SharedPool<N, K>,
     session: &mut Session<N, K>,
-    port: &Noting,
+    geometry: &Geometry,
     alloc: Global,
-    grant: Grant,
+    pass: &Pass,
     call: &Said,
 ) -> Answer
-    requires size { port.now.inner.inner.device.size ≡ N.parameters.size }
+    requires size { geometry.now.size ≡ N.parameters.size }
 {
     let [_, offset, count] = call.numbers.list;
-    let Some(mut span) = span_of(alloc, &port.geometry(), offset, count) else {
+    let Some(mut span) = span_of(alloc, geometry, offset, count) else {
         return Answer::BadLine;
     };
-    let pass = pass_of(grant);
-    let read = pool.read_into(rt, session, &pass, span.offset, &mut span.into);
-    pass.note();
+    let read = pool.read_into(rt, session, pass, span.offset, &mut span.into);
     bytes_read(read, span)
 }
 
-/// Writes the bytes of a line, as a list or from a slice, if they fit the pages of the client's port.
+/// Writes the bytes of a line, as a list or from a slice, if they fit a page.
 fn write<N: PoolName, K: Kind, R: Wait>(
     rt: &R,
     pool: &SharedPool<N, K>,
     session: &mut Session<N, K>,
-    port: &Noting,
-    grant: Grant,
+    geometry: &Geometry,
+    pass: &Pass,
     call: &Said,
 ) -> Answer
-    requires size { port.now.inner.inner.device.size ≡ N.parameters.size }
+    requires size { geometry.now.size ≡ N.parameters.size }
 {
     let [_, offset, lsn] = call.numbers.list;
     let Some(bytes) = &call.bytes else {
         return Answer::BadLine;
     };
-    let fits = port.geometry().fits(offset as usize, bytes.bytes().len());
+    let fits = geometry.fits(offset as usize, bytes.bytes().len());
     match u32::try_from(offset) {
         Ok(offset) if fits => {
-            let pass = pass_of(grant);
             let lsn = Lsn::new(lsn);
             let written = match call.verb {
-                Verb::WriteFrom => pool.write_from(rt, session, &pass, offset, bytes.bytes(), lsn),
-                _ => pool.write(rt, session, &pass, offset, bytes, lsn),
+                Verb::WriteFrom => pool.write_from(rt, session, pass, offset, bytes.bytes(), lsn),
+                _ => pool.write(rt, session, pass, offset, bytes, lsn),
             };
-            pass.note();
             done(written)
         }
         _ => Answer::BadLine,
@@ -222,10 +194,10 @@ fn write<N: PoolName, K: Kind, R: Wait>(
 fn unfix<N: PoolName, K: Kind>(
     pool: &SharedPool<N, K>,
     session: &mut Session<N, K>,
-    grant: Grant,
+    pass: Pass,
 ) -> Answer {
-    match pool.unfix(session, pass_of(grant)) {
-        Ok(()) => done(Ok(())),
+    match pool.unfix(session, pass) {
+        Ok(()) => Answer::Reply(Reply::Done),
         Err((pass, refusal)) => Answer::Back(refusal, grant_of(pass), None),
     }
 }
@@ -235,20 +207,49 @@ fn by_pass<N: PoolName, K: Kind, R: Wait>(
     rt: &R,
     pool: &SharedPool<N, K>,
     session: &mut Session<N, K>,
-    port: &Noting,
+    geometry: &Geometry,
     lists: &Lists,
     call: &Said,
 ) -> Answer
-    requires size { port.now.inner.inner.device.size ≡ N.parameters.size }
+    requires size { geometry.now.size ≡ N.parameters.size }
 {
-    let Some(pass) = named(&lists.passes, &call.name) else {
+    let Some(grant) = named(&lists.passes, &call.name) else {
         return Answer::BadLine;
     };
+    let pass = pass_of(grant);
+    if matches!(call.verb, Verb::Unfix) {
+        return unfix(pool, session, pass);
+    }
+    let answer = match call.verb {
+        Verb::Read => content(pool.read(rt, session, &pass)),
+        Verb::ReadInto => read_into(rt, pool, session, geometry, lists.alloc, &pass, call),
+        Verb::Write | Verb::WriteFrom => write(rt, pool, session, geometry, &pass, call),
+        _ => Answer::BadLine,
+    };
+    pass.note();
+    answer
+}
+
+/// Makes a call that needs neither a port nor a pass. `unread` reads of the pool failed only for want of memory.
+fn by_session<N: PoolName, K: Kind, R: Wait>(
+    rt: &R,
+    pool: &SharedPool<N, K>,
+    session: &mut Session<N, K>,
+    alloc: Global,
+    unread: u64,
+    call: &Said,
+) -> Answer {
+    let [_, second, _] = call.numbers.list;
     match call.verb {
-        Verb::Read => read(rt, pool, session, pass),
-        Verb::ReadInto => read_into(rt, pool, session, port, lists.alloc, pass, call),
-        Verb::Unfix => unfix(pool, session, pass),
-        Verb::Write | Verb::WriteFrom => write(rt, pool, session, port, pass, call),
+        Verb::Next => page_or_none(pool.next_unsaved(rt, session, second)),
+        Verb::Redo => lsn_or_none(pool.redo_from(rt, session)),
+        Verb::Stats => stats_of(alloc, &pool.stats(rt, session), unread),
+        Verb::Tick => done(pool.tick(rt, session, second)),
+        Verb::Purge => forgot(pool.purge(rt, session)),
+        Verb::Settle => {
+            pool.settle(rt);
+            Answer::Reply(Reply::Done)
+        }
         _ => Answer::BadLine,
     }
 }
@@ -268,21 +269,13 @@ pub(crate) fn call<N: PoolName, K: Kind, R: Wait>(
     requires size { port.old.inner.inner.device.size ≡ N.parameters.size }
     ensures port { port.new.inner.inner.device ≡ port.old.inner.inner.device }
 {
-    let [_, second, _] = call.numbers.list;
     match call.verb {
-        Verb::Fix | Verb::New => fix(rt, pool, session, port, lists, call),
-        Verb::Flush => flush(rt, pool, session, port, second),
+        Verb::Fix | Verb::New | Verb::Flush => by_page(rt, pool, session, port, lists, call),
         Verb::FlushAll => flushed_all(pool.flush_all(rt, session, port)),
         Verb::Sync => went(port.sync(rt)),
-        Verb::Next => page_or_none(pool.next_unsaved(rt, session, second)),
-        Verb::Redo => lsn_or_none(pool.redo_from(rt, session)),
-        Verb::Stats => stats_of(lists.alloc, &pool.stats(rt, session), unread),
-        Verb::Tick => done(pool.tick(rt, session, second)),
-        Verb::Purge => forgot(pool.purge(rt, session)),
-        Verb::Settle => {
-            pool.settle(rt);
-            done(Ok(()))
+        Verb::Read | Verb::ReadInto | Verb::Unfix | Verb::Write | Verb::WriteFrom => {
+            by_pass(rt, pool, session, &port.geometry(), lists, call)
         }
-        _ => by_pass(rt, pool, session, port, lists, call),
+        _ => by_session(rt, pool, session, lists.alloc, unread, call),
     }
 }

@@ -43,6 +43,15 @@ impl Beside {
         }
         unread
     }
+
+    /// Returns the number of failures of a client's port, and the page LSN of its newest write, or 0.
+    pub(crate) fn told_by_port(&self, client: u64) -> (u64, u64) {
+        if client == 0 {
+            (self.first.failures(), self.first.lsn())
+        } else {
+            (self.others.failures(), self.others.lsn())
+        }
+    }
 }
 
 /// All that a pool and its clients need, so that nothing can fail once the pool is there.
@@ -93,12 +102,11 @@ fn new_beside(alloc: Global, geometry: Geometry, shape: &Shape) -> Result<Beside
     };
     let notes = new_notes(alloc, shape.clients)?;
     let device = new_device(alloc, geometry, 0, false)?;
-    let first = NotingPort::new(new_port(alloc, &device.memory, shape.fuse, shape.spoils)?);
-    let others = NotingPort::new(new_port(alloc, &device.memory, 0, false)?);
+    let (first, others) = new_ports(alloc, &device.memory, shape)?;
     Ok(Beside {
         device,
-        first,
-        others,
+        first: NotingPort::new(first),
+        others: NotingPort::new(others),
         notes,
         lists,
     })
@@ -128,4 +136,18 @@ pub(crate) fn new_port(
         Ok(port) => FusePort::new(alloc, port, n, spoils),
         Err(refusal) => Err(refusal),
     }
+}
+
+/// Makes two ports to the device. One call of the first may fail.
+pub(crate) fn new_ports(
+    alloc: Global,
+    device: &MemDevice,
+    shape: &Shape,
+) -> Result<(Fused, Fused), Refusal>
+    ensures first { IfOk result (λ ports. ports.0.inner.device ≡ device.now) }
+    ensures others { IfOk result (λ ports. ports.1.inner.device ≡ device.now) }
+{
+    let first = new_port(alloc, device, shape.fuse, shape.spoils)?;
+    let others = new_port(alloc, device, 0, false)?;
+    Ok((first, others))
 }

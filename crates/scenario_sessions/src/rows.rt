@@ -44,16 +44,13 @@ fn image_after(alloc: Global, list: &[Entry], before: u64) -> Answer {
     Answer::Word("nothing")
 }
 
-/// Returns the number of reads of a client among the first of these lines, without those that were refused.
-fn reads_of(asked: &[Option<Asked>], count: usize, refused: &[Refused], client: u8) -> u64 {
+/// Returns the number of reads of a client among these lines, the first of all, without those that were refused.
+fn reads_of(asked: &[Option<Asked>], refused: &[Refused], client: u8) -> u64 {
     let (mut reads, mut row) = (0u64, 0u64);
-    for it in asked.iter().take(count) {
+    for it in asked {
         row = row.saturating_add(1);
-        if let Some(it) = it
-            && it.client == client
-            && it.reads
-            && refusal_of(refused, row).is_none()
-        {
+        let is_read = matches!(it, Some(it) if it.client == client && it.reads);
+        if is_read && refusal_of(refused, row).is_none() {
             reads = reads.saturating_add(1);
         }
     }
@@ -71,7 +68,7 @@ fn answer_at(alloc: Global, asked: &[Option<Asked>], at: usize, outcome: &Outcom
     if !it.reads {
         return Answer::Reply(Reply::Done);
     }
-    let before = reads_of(asked, at, &outcome.refused, it.client);
+    let before = reads_of(&asked[..at], &outcome.refused, it.client);
     match outcome.said.get(it.client as usize) {
         Some(list) => image_after(alloc, list, before),
         None => Answer::BadLine,

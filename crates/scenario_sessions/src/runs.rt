@@ -3,7 +3,7 @@ ghost use Rattle.std.specs.Prelude.{◌≡◌, All, IfOk};
 ghost use Rattle.bp_page.specs.declared.limits.Geometry.{Geometry as AGeometry};
 
 use crate::answers::Answers;
-use crate::making::new_port;
+use crate::making::{new_port, new_ports};
 use crate::ran::Ran;
 use crate::scripts::{Asked, Script, script_of};
 use bp_check::Setup;
@@ -52,8 +52,7 @@ fn gates(
 ) -> Result<Vec<GatePort<FusePort<MemPort>>>, Refusal>
     ensures { IfOk result (λ ports. All (λ p. p.inner.inner.device ≡ device.now) ports.items) }
 {
-    let first = new_port(alloc, device, shape.fuse, shape.spoils)?;
-    let second = new_port(alloc, device, 0, false)?;
+    let (first, second) = new_ports(alloc, device, shape)?;
     let (first, second) = GatePort::pair(alloc, first, second, shape.turns)?;
     let mut ports = Vec::with_capacity(alloc, 2)?;
     ports.push_reserved(first);

@@ -120,16 +120,32 @@ fn drains(verb: Verb) -> bool {
     )
 }
 
-/// Returns the answer of a cut if it is neither a number nor refused memory. Refused memory is counted.
-fn fault_of(answer: Answer, answers: &mut Answers) -> Option<Answer> {
+/// Returns the first fault of some cuts, of which the last has this answer. A number is no fault; refused memory is
+/// none either, and is counted.
+fn first_fault(first: Option<Answer>, answer: Answer, answers: &mut Answers) -> Option<Answer> {
     match answer {
-        Answer::Number(_) => None,
+        Answer::Number(_) => first,
         Answer::Refused(Refusal::OutOfMemory) => {
             answers.count();
-            None
+            first
         }
-        answer => Some(answer),
+        answer => first.or(Some(answer)),
     }
+}
+
+/// Cuts each session's list. It returns the first fault of a cut, which may be one from before.
+fn cut_lists<N: PoolName, K: Kind>(
+    sessions: &mut [Session<N, K>],
+    notes: &mut [Note],
+    before: Option<Answer>,
+    answers: &mut Answers,
+) -> Option<Answer> {
+    let mut first = before;
+    for (session, note) in sessions.iter_mut().zip(notes.iter_mut()) {
+        let answer = K::cut_list(session, &mut note.cut);
+        first = first_fault(first, answer, answers);
+    }
+    first
 }
 
 /// Parses a line as a call. Where memory may have been refused, it tries again.
@@ -150,28 +166,10 @@ impl<N: PoolName, K: Kind> Table<N, K> {
         K::cut_trail(rt, &self.pool, &mut self.taker, &mut self.beside.lists)
     }
 
-    /// Returns the number of failures of a client's port.
-    fn failures(&self, client: u64) -> u64 {
-        if client == 0 {
-            self.beside.first.failures()
-        } else {
-            self.beside.others.failures()
-        }
-    }
-
-    /// Returns the page LSN of the newest write of a client's port, or 0.
-    fn newest_lsn(&self, client: u64) -> u64 {
-        if client == 0 {
-            self.beside.first.lsn()
-        } else {
-            self.beside.others.lsn()
-        }
-    }
-
     /// Makes the call of a line that names a client.
     fn ask_client<R: Wait>(&mut self, rt: &R, line: &Said) -> Answer {
         let [client, _, _] = line.numbers.list;
-        let (failures, lsn) = (self.failures(client), self.newest_lsn(client));
+        let (failures, lsn) = self.beside.told_by_port(client);
         let unread = self.beside.unread();
         let at = client as usize;
         let (Some(session), Some(note)) = (self.sessions.get_mut(at), self.beside.notes.get_mut(at))
@@ -214,8 +212,9 @@ impl<N: PoolName, K: Kind> Table<N, K> {
     }
 
     fn told(&self, client: u64) -> Standing {
+        let (failures, _) = self.beside.told_by_port(client);
         match self.sessions.get(client as usize) {
-            Some(session) => standing_of(session, self.failures(client)),
+            Some(session) => standing_of(session, failures),
             None => Standing {
                 held: 0,
                 entries: 0,
@@ -257,14 +256,8 @@ impl<N: PoolName, K: Kind> Table<N, K> {
     /// Cuts the trail and all lists, and counts each cut that is refused memory: the next one must have its entries. It
     /// returns any other answer of a cut.
     fn cut_all<R: Wait>(&mut self, rt: &R, answers: &mut Answers) -> Option<Answer> {
-        let mut wrong = fault_of(self.cut(rt), answers);
-        for (session, note) in self.sessions.iter_mut().zip(self.beside.notes.iter_mut()) {
-            let fault = fault_of(K::cut_list(session, &mut note.cut), answers);
-            if wrong.is_none() {
-                wrong = fault;
-            }
-        }
-        wrong
+        let first = first_fault(None, self.cut(rt), answers);
+        cut_lists(&mut self.sessions, &mut self.beside.notes, first, answers)
     }
 
     /// Takes a line. It returns None where the line asks for something that is not there in a way that cuts.
@@ -343,8 +336,11 @@ fn end_pool<N: PoolName, K: Kind>(
     notes: &mut [Note],
 ) -> PoolCore<K> {
     let mut pool = pool.close();
-    for (session, note) in sessions.into_iter().zip(notes.iter_mut()) {
-        end_session(&mut pool, session, note);
+    let mut sessions = sessions.into_iter();
+    for note in notes {
+        if let Some(session) = sessions.next() {
+            end_session(&mut pool, session, note);
+        }
     }
     let (core, _, _) = pool.into_core(taker);
     core

@@ -146,9 +146,14 @@ fn pages_of<R: Files<File = File> + Abort + AllocGlobal>(
 fn file_lengths(rt: HostRuntime) {
     let path = scratch(&rt, process::id(rt.process()), "lengths");
     let name = path.as_path().as_str();
-    assert_eq!(rt; pages_of(&rt, name, 40), None);
-    assert_eq!(rt; pages_of(&rt, name, 0), None);
-    assert_eq!(rt; pages_of(&rt, name, 32), Some(2));
+    assert_eq!(rt;
+        (
+            pages_of(&rt, name, 40),
+            pages_of(&rt, name, 0),
+            pages_of(&rt, name, 32)
+        ),
+        (None, None, Some(2))
+    );
     fs::remove_file(&rt, path.as_path()).expect(&rt, "the file is removed");
     let absent = FilePort::open(&rt, rt.alloc(), path.as_path(), 16, Format::Plain);
     assert!(rt; matches!(absent, Err(OpenFault::Port(PortFault::Device))));
@@ -272,8 +277,7 @@ fn expect_slot<R: Abort + AllocGlobal>(rt: &R, image: &Image) {
 fn expect_unslot<R: Abort + AllocGlobal>(rt: &R, image: &Image) {
     match unslot2(rt.alloc(), PageNo::new(3), &SLOT) {
         Ok((lsn, found)) => {
-            assert_eq!(rt; lsn, Lsn::new(7));
-            assert_eq!(rt; found, *image);
+            assert_eq!(rt; (lsn, &found), (Lsn::new(7), image));
         }
         Err(fault) => panic!(rt; "{fault}"),
     }

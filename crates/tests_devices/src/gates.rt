@@ -56,8 +56,7 @@ fn expect_read<R: Abort>(rt: &R, read: &Result<Image, PortFault>, bytes: &[u8]) 
 /// Asserts that a job read these bytes, that it wrote, and that its port counted no failure.
 fn expect_done<R: Abort>(rt: &R, job: &Job, bytes: &[u8]) {
     expect_read(rt, &job.read, bytes);
-    assert_eq!(rt; job.written, Ok(()));
-    assert_eq!(rt; job.port.failures(), 0);
+    assert_eq!(rt; (job.written, job.port.failures()), (Ok(()), 0));
 }
 
 #[test]

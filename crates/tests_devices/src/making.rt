@@ -32,10 +32,8 @@ pub(crate) fn put<P: Port, R: Wait + Abort + AllocGlobal>(
 
 /// Asserts the bytes of a page that a port reads.
 pub(crate) fn expect_page<P: Port, R: Wait + Abort>(rt: &R, port: &mut P, page: u64, bytes: &[u8]) {
-    match port.read(rt, PageNo::new(page)) {
-        Ok(image) => assert_eq!(rt; image.bytes(), bytes, "page {page}"),
-        Err(fault) => panic!(rt; "page {page}: {fault}"),
-    }
+    let image = port.read(rt, PageNo::new(page)).expect(rt, "the page");
+    assert_eq!(rt; image.bytes(), bytes, "page {page}");
 }
 
 /// The configuration of a run: one frame, K 1 and no periods.

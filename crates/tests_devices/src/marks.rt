@@ -46,6 +46,9 @@ fn what_is_seen_never_falls(rt: HostRuntime) {
             ensures { result.mark ≡ shared.entry.now }
         { look_a_thousand_times(&rt, shared, reader) },
     );
-    assert_eq!(rt; reader.look(&mark), Lsn::new(1000));
-    assert_eq!(rt; mark.close(end, reader), Lsn::new(1000));
+    let seen = reader.look(&mark);
+    assert_eq!(rt;
+        (seen, mark.close(end, reader)),
+        (Lsn::new(1000), Lsn::new(1000))
+    );
 }

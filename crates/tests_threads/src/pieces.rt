@@ -369,12 +369,16 @@ fn a_million_entries_in_little_room(rt: HostRuntime) {
         keeps: false,
     };
     let tally = run_threads(&rt, plan);
-    assert_eq!(rt; tally.passes, 250000);
     // Each round has four entries, and a client's first fix has one more.
-    assert_eq!(rt; (tally.entries, tally.told), (1000002, 1000002));
+    assert_eq!(rt;
+        (tally.passes, tally.entries, tally.told),
+        (250000, 1000002, 1000002)
+    );
     // Each thread cuts the trail and its list once in 250 rounds. The capacity of the first pieces never grows.
-    assert_eq!(rt; (tally.cuts, tally.list_cuts), (1000, 1000));
-    assert_eq!(rt; tally.capacity, 4096);
+    assert_eq!(rt;
+        (tally.cuts, tally.list_cuts, tally.capacity),
+        (1000, 1000, 4096)
+    );
 }
 
 /// The joined pieces are legal. The run is a hundredth of the one above, which the judge would take too long over.
@@ -388,8 +392,12 @@ fn pieces_that_threads_cut_are_legal(rt: HostRuntime) {
         keeps: true,
     };
     let tally = run_threads(&rt, plan);
-    assert_eq!(rt; tally.passes, 2500);
-    assert_eq!(rt; (tally.entries, tally.told), (10002, 10002));
-    assert_eq!(rt; (tally.cuts, tally.list_cuts), (10, 10));
-    assert_eq!(rt; (tally.capacity, tally.faults), (4096, 2));
+    assert_eq!(rt;
+        (tally.passes, tally.entries, tally.told),
+        (2500, 10002, 10002)
+    );
+    assert_eq!(rt;
+        (tally.cuts, tally.list_cuts, tally.capacity, tally.faults),
+        (10, 10, 4096, 2)
+    );
 }

@@ -74,11 +74,12 @@ fn dead_ports<R: Abort + AllocGlobal>(rt: &R, geometry: Geometry, count: usize) 
 
 /// Asserts that each fix of a worker was refused.
 fn expect_refused<R: Abort>(rt: &R, left: &Left<DeadPort, Writer>) {
-    assert_eq!(rt; left.worker.done, 0);
-    assert_eq!(rt; left.worker.refused, 13);
-    assert_eq!(rt; left.worker.latest, Some(Refusal::ReadFailed));
-    assert_eq!(rt; left.port.failures(), 13);
-    assert_eq!(rt; left.held, 0);
+    let worker = &left.worker;
+    assert_eq!(rt;
+        (worker.done, worker.refused, worker.latest),
+        (0, 13, Some(Refusal::ReadFailed))
+    );
+    assert!(rt; left.port.failures() == 13 && left.held == 0);
 }
 
 fn expect_all_refused<R: Abort + AllocGlobal>(rt: &R, run: &Run<DeadPort, Writer>) {

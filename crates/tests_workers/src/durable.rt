@@ -181,23 +181,27 @@ fn ticks(entries: &[Entry]) -> usize {
 
 /// Asserts that the fix was done, and that the log was asked once, for LSN 5.
 fn expect_fixed<R: Abort>(rt: &R, waiter: &Waiter) {
-    assert!(rt; waiter.is_fixed);
-    assert_eq!(rt; waiter.log.asked, 5);
-    assert_eq!(rt; waiter.log.times, 1);
-    assert_eq!(rt; waiter.log.durable, 5);
+    let log = &waiter.log;
+    assert_eq!(rt;
+        (waiter.is_fixed, log.asked, log.times, log.durable),
+        (true, 5, 1, 5)
+    );
 }
 
 /// Asserts that the fix was refused, and how often the log was asked.
 fn expect_refused<R: Abort>(rt: &R, waiter: &Waiter, why: Refusal, times: u64) {
-    assert!(rt; !waiter.is_fixed);
-    assert_eq!(rt; waiter.refused, Some(why));
-    assert_eq!(rt; waiter.log.times, times);
+    assert_eq!(rt;
+        (waiter.is_fixed, waiter.refused, waiter.log.times),
+        (false, Some(why), times)
+    );
 }
 
 /// Asserts how many calls were refused, and how often the clock was moved.
 fn expect_tries<R: Abort>(rt: &R, entries: &[Entry], refused: u64, moved: usize) {
-    assert_eq!(rt; Totals::of(entries).refused, refused);
-    assert_eq!(rt; ticks(entries), moved);
+    assert_eq!(rt;
+        (Totals::of(entries).refused, ticks(entries)),
+        (refused, moved)
+    );
 }
 
 /// Asserts the list of a fix that waited for the log.
@@ -210,9 +214,10 @@ fn expect_entries<R: Abort>(rt: &R, entries: &[Entry]) {
         failed: 0,
         refused: 2,
     };
-    assert_eq!(rt; Totals::of(entries), wanted);
-    assert_eq!(rt; ticks(entries), 1);
-    assert_eq!(rt; entries.len(), 13);
+    assert_eq!(rt;
+        (Totals::of(entries), ticks(entries), entries.len()),
+        (wanted, 1, 13)
+    );
 }
 
 /// The first fix finds no victim, the second needs the log, and the third writes page 0 out and reads page 1.

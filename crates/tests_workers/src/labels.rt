@@ -128,20 +128,23 @@ fn labelers<R: Abort + AllocGlobal>(rt: &R) -> Vec<Labeler> {
 
 /// Asserts that each label was put and found.
 fn expect_labels<R: Abort>(rt: &R, left: &Left<MemPort, Labeler, SilentKeeper>) {
-    assert_eq!(rt; left.worker.latest, None);
-    assert_eq!(rt; left.worker.put, PAGES);
-    assert_eq!(rt; left.worker.found, PAGES);
-    assert_eq!(rt; left.held, 0);
+    let worker = &left.worker;
+    assert_eq!(rt;
+        (worker.latest, worker.put, worker.found, left.held),
+        (None, PAGES, PAGES, 0)
+    );
 }
 
 /// Asserts what holds of a run of one worker.
 fn expect_run<R: Abort>(rt: &R, run: &Run<MemPort, Labeler, SilentKeeper>) {
-    assert_eq!(rt; run.left.len(), 1);
     for left in &run.left {
         expect_labels(rt, left);
     }
-    assert_eq!(rt; run.core.clock(), 9);
-    assert_eq!(rt; run.core.durable(), Lsn::new(DURABLE));
+    let core = &run.core;
+    assert_eq!(rt;
+        (run.left.len(), core.clock(), core.durable()),
+        (1, 9, Lsn::new(DURABLE))
+    );
 }
 
 /// Two of four pages are in no frame at any time, so labels are written out and read again.

@@ -127,14 +127,15 @@ fn visitors<R: Abort + AllocGlobal>(rt: &R) -> Vec<Visitor> {
 
 /// Asserts that the port of client 0 failed once, so that its fix was refused, and that each other client has a pass.
 fn expect_client<R: Abort>(rt: &R, left: &Left<FusePort<MemPort>, Visitor>, client: usize) {
-    let (failures, refused, held) = if client == 0 {
+    let wanted = if client == 0 {
         (1, Some(Refusal::ReadFailed), 0)
     } else {
         (0, None, 1)
     };
-    assert_eq!(rt; left.port.failures(), failures);
-    assert_eq!(rt; left.worker.refused, refused);
-    assert_eq!(rt; left.held, held);
+    assert_eq!(rt;
+        (left.port.failures(), left.worker.refused, left.held),
+        wanted
+    );
 }
 
 fn expect_clients<R: Abort + AllocGlobal>(rt: &R, run: &Run<FusePort<MemPort>, Visitor>) {

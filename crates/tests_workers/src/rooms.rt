@@ -82,8 +82,7 @@ fn count<K: Kind>(clients: &[Left<MemPort, Ticker, K>]) -> (u64, u64) {
 
 /// Asserts that ten ticks were done, each by one entry, and that six found no room.
 fn expect_counted<K: Kind, R: Abort>(rt: &R, run: &Run<MemPort, Ticker, K>) {
-    assert_eq!(rt; count(&run.left), (10, 6));
-    assert_eq!(rt; run.core.clock(), 11);
+    assert_eq!(rt; (count(&run.left), run.core.clock()), ((10, 6), 11));
 }
 
 /// Runs two workers that tick, over a pool with room for ten entries. Of their sixteen ticks ten are done, and the

@@ -39,20 +39,21 @@ fn count_marks(trail: &[Entry]) -> usize {
 fn expect_client<R: Abort>(rt: &R, trail: &[Entry], left: &Left<MemPort, Writer>, client: usize) {
     let number = u8::try_from(client).expect(rt, "the client's number");
     assert!(rt; agrees(trail, left.said(), number));
-    assert_eq!(rt; left.worker.done, 12);
-    assert_eq!(rt; left.worker.refused, 0);
-    assert_eq!(rt; left.held, 0);
-    assert!(rt; left.all_went_back);
+    let worker = &left.worker;
+    assert_eq!(rt;
+        (worker.done, worker.refused, left.held, left.all_went_back),
+        (12, 0, 0, true)
+    );
 }
 
 /// Asserts that each list is its client's part of the trail, that all passes went back, and that the trail has
 /// one mark.
 fn expect_clients<R: Abort>(rt: &R, run: &Run<MemPort, Writer>, count: usize) {
-    assert_eq!(rt; run.left.len(), count);
+    let trail = run.core.trail();
     for client in 0..run.left.len() {
-        expect_client(rt, run.core.trail(), &run.left[client], client);
+        expect_client(rt, trail, &run.left[client], client);
     }
-    assert_eq!(rt; count_marks(run.core.trail()), 1);
+    assert_eq!(rt; (run.left.len(), count_marks(trail)), (count, 1));
 }
 
 fn expect_shared<R: Abort + AllocGlobal + Threads + Wait + Sync>(
@@ -80,8 +81,7 @@ fn sixty_four_workers(rt: HostRuntime) {
 /// Asserts that each client still held a pass, which was given back: the unfix is in its list.
 fn expect_given_back<R: Abort>(rt: &R, clients: &[Left<MemPort, Writer>]) {
     for left in clients {
-        assert_eq!(rt; left.held, 1);
-        assert!(rt; left.all_went_back);
+        assert_eq!(rt; (left.held, left.all_went_back), (1, true));
         assert!(rt;
             matches!(left.said().last(), Some(entry) if matches!(entry.call, Call::Unfix { .. }))
         );

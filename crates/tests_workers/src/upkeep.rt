@@ -106,8 +106,11 @@ fn gather<R: Abort>(
 ) -> usize {
     let mut said = 0usize;
     for left in clients {
-        assert_eq!(rt; (left.worker.taken, left.worker.given), (PASSES, PASSES));
-        assert_eq!(rt; left.held, 0);
+        let worker = &left.worker;
+        assert_eq!(rt;
+            (worker.taken, worker.given, left.held),
+            (PASSES, PASSES, 0)
+        );
         said = said.saturating_add(left.said().len());
         trail.append(&mut left.worker.cut).expect(rt, "the entries");
     }

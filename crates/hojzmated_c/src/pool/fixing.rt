@@ -93,11 +93,11 @@ impl Pool {
         if image.len() != self.core.geometry().size {
             return Err(Refusal::OutOfPage);
         }
-        match self.core.flush(client, page)? {
-            Flush::Clean => *out = HzFixed::of(CLEAN, client, page, 0),
-            Flush::Absent => *out = HzFixed::of(ABSENT, client, page, 0),
-            Flush::WriteFirst(ticket) => *out = send(ticket, image),
-        }
+        *out = match self.core.flush(client, page)? {
+            Flush::Clean => HzFixed::of(CLEAN, client, page, 0),
+            Flush::Absent => HzFixed::of(ABSENT, client, page, 0),
+            Flush::WriteFirst(ticket) => send(ticket, image),
+        };
         Ok(())
     }
 }

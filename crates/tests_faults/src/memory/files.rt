@@ -98,8 +98,7 @@ fn expect_zeros<R: Wait + Abort>(rt: &R, mut port: FilePort) {
             Err(fault) => panic!(rt; "{fault}"),
         }
     }
-    assert_eq!(rt; port.sync(rt), Ok(()));
-    assert!(rt; port.failures() == 0);
+    assert!(rt; port.sync(rt).is_ok() && port.failures() == 0);
 }
 
 /// Makes a page file, and asserts that it has two pages of zeros in these slots, and that it can't be made again.

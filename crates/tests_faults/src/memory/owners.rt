@@ -129,8 +129,7 @@ fn change_two_pages<R: Wait + Abort>(rt: &R, owner: &mut Owner) {
     let pass = fix(rt, owner, two);
     change(rt, owner, pass, 8);
     flush_all(rt, owner, two);
-    assert!(rt; look(rt, owner, one) == Some(9));
-    assert!(rt; look(rt, owner, two) == Some(8));
+    assert!(rt; look(rt, owner, one) == Some(9) && look(rt, owner, two) == Some(8));
     assert!(rt; owner.port().failures() == 0);
 }
 

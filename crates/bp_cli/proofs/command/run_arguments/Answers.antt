@@ -7,7 +7,7 @@ use Rattle.bp_cli.proofs.command.run_arguments.Goals as goal
 pub returns-clause-rules : goal.returns-clause-rules
 returns-clause-rules c =
     ap (map rule_of) c.in_ok-arguments.ensures.items
-    ∙ (λ i. c.positional.ensures.rule i ∷ c.positional-2.ensures.rule i ∷ c.number_option.ensures.rule 1 65536 c.up_to_65536.ensures i ∷ c.number_option-2.ensures.rule 1 16 c.stamp_counts.ensures i ∷ c.number_option-3.ensures.rule 0 4611686018427387904 c.periods.ensures i ∷ c.number_option-4.ensures.rule 0 4611686018427387904 c.periods-2.ensures i ∷ c.number_option-5.ensures.rule 16 65536 c.page_sizes.ensures i ∷ c.number_option-6.ensures.rule 1 2 c.versions.ensures i ∷ c.word_option.ensures.rule i ∷ c.flag.ensures.rule i ∷ [])
+    ∙ (λ i. c.positional.ensures.rule i ∷ c.positional-2.ensures.rule i ∷ c.number_option.ensures.rule i ∷ c.number_option-2.ensures.rule i ∷ c.number_option-3.ensures.rule i ∷ c.number_option-4.ensures.rule i ∷ c.number_option-5.ensures.rule i ∷ c.number_option-6.ensures.rule i ∷ c.word_option.ensures.rule i ∷ c.flag.ensures.rule i ∷ [])
 
 pub returns-clause-local : goal.returns-clause-local
 returns-clause-local c =

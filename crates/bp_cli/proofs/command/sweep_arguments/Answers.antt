@@ -7,7 +7,7 @@ use Rattle.bp_cli.proofs.command.sweep_arguments.Goals as goal
 pub returns-clause-rules : goal.returns-clause-rules
 returns-clause-rules c =
     ap (map rule_of) c.in_ok-arguments.ensures.items
-    ∙ (λ i. c.positional.ensures.rule i ∷ c.bare_word.ensures.rule i ∷ c.word_option.ensures.rule i ∷ c.number_option.ensures.rule 0 4611686018427387904 c.periods.ensures i ∷ c.bare_number.ensures.rule 1 65536 c.up_to_65536.ensures i ∷ c.bare_word-2.ensures.rule i ∷ [])
+    ∙ (λ i. c.positional.ensures.rule i ∷ c.bare_word.ensures.rule i ∷ c.word_option.ensures.rule i ∷ c.number_option.ensures.rule i ∷ c.bare_number.ensures.rule i ∷ c.bare_word-2.ensures.rule i ∷ [])
 
 pub returns-clause-local : goal.returns-clause-local
 returns-clause-local c =
