@@ -1,8 +1,10 @@
 -- The command line as clap reads it: what each word and option takes, and its default.
-use Rattle.std.specs.Prelude.{ℕ, Bool, false, true, List, [], ◌∷◌, codes, Some}
-use Rattle.clap.specs.Words.{App, Rule, Shape, Text, new_app, new_rule, with_subcommand}
+use Rattle.std.specs.Prelude.{◌≡◌, ℕ, Bool, false, true, List, [], ◌∷◌, codes, map, Some, All, Result, IfOk, Vec}
+use Rattle.std.specs.declared.alloc.Global.{Global}
+use Rattle.clap.specs.Words.{App, Rule, Shape, Text, new_app, new_rule, rule_of, with_subcommand}
 use Rattle.clap.specs.Simple.{new_shape}
 use Rattle.clap.specs.declared.builder.action.ArgAction.TheVariants.{SetTrue}
+use Rattle.clap.specs.declared.builder.arg.Arg.{Arg}
 use Rattle.clap.specs.declared.builder.value_parser.ValueParser.TheVariants as parser
 
 -- a word that must be there
@@ -45,6 +47,14 @@ flag id = record (new_rule id) { long = Some id; action = Some SetTrue }
 abbrev pub word_option : Text → Text → Rule
 word_option id default =
     record (new_rule id) { long = Some id; value_names = 1; defaults = default ∷ [] }
+
+-- the arguments that were made have these rules
+abbrev pub HaveRules : {E : Type 0} → List Rule → Result (Vec Arg Global) E → Type 0
+HaveRules rules made = IfOk made (λ arguments. map rule_of arguments.items ≡ rules)
+
+-- none of the arguments that were made is one of all commands
+abbrev pub AreLocal : {E : Type 0} → Result (Vec Arg Global) E → Type 0
+AreLocal made = IfOk made (λ arguments. All (λ a. a.global ≡ false) arguments.items)
 
 abbrev pub run_rules : List Rule
 run_rules =

@@ -1,13 +1,14 @@
 //! `bpool_command`, the command line of the program: its words, options, limits and help.
-ghost use Rattle.std.specs.Prelude.{◌≡◌, map, false, IfOk, All};
+ghost use Rattle.std.specs.Prelude.{◌≡◌, false, IfOk};
 ghost use Rattle.clap.specs.Words.{app_of, rule_of, shape_of, with_subcommand};
 ghost use Rattle.clap.specs.Simple.{new_shape};
 ghost use Rattle.clap.specs.declared.builder.command.Command.TheViews.{out-Command as fields_of};
-ghost use Rattle.bp_cli.specs.Command.{bpool_app, migrate_rules, program_app, run_rules};
-ghost use Rattle.bp_cli.specs.Command.{explain_rules, sweep_rules};
+ghost use Rattle.bp_cli.specs.Command.{bpool_app, explain_rules, migrate_rules, program_app, run_rules, sweep_rules};
+ghost use Rattle.bp_cli.specs.Command.{AreLocal, HaveRules};
 ghost use Rattle.bp_cli.specs.Command as spec;
 
 use crate::ending::VERSION;
+use bp_replacer::settings::MAX_PERIOD;
 use clap::builder::ValueParser;
 use clap::{Arg, ArgAction, Command};
 use std::alloc::{AllocError, Global};
@@ -180,9 +181,6 @@ it is the file of REFERENCES.
 Status 0: all lines are printed, and FILE is made. Status 2: one line on standard error says why
 there is no table, or only a part of it, or no picture.";
 
-/// The longest period, in ticks or references: 2^62.
-const MAX_PERIOD: u64 = 4_611_686_018_427_387_904;
-
 /// Returns an argument that must be there.
 fn positional<'a>(alloc: Global, id: &'a str, shown: &'a str, help: &'a str) -> Arg<'a>
     ensures rule { rule_of result ≡ spec.positional id.entry.now }
@@ -273,11 +271,9 @@ fn command_of<'a>(
     help: &'a str,
     made: Result<Vec<Arg<'a>>, AllocError>,
 ) -> Result<Command<'a>, AllocError>
-    ensures shape { (rules : _) → IfOk made.entry (λ arguments. map rule_of arguments.items ≡ rules) →
-        IfOk made.entry (λ arguments. All (λ a. a.global ≡ false) arguments.items) →
+    ensures shape { (rules : _) → HaveRules rules made.entry → AreLocal made.entry →
         IfOk result (λ c. shape_of c ≡ record (new_shape name.entry.now) { rules = rules }) }
-    ensures local { IfOk made.entry (λ arguments. All (λ a. a.global ≡ false) arguments.items) →
-        IfOk result (λ c. (fields_of c).has_globals ≡ false) }
+    ensures local { AreLocal made.entry → IfOk result (λ c. (fields_of c).has_globals ≡ false) }
 {
     match made {
         Ok(arguments) => Command::new(alloc, name)
@@ -289,8 +285,8 @@ fn command_of<'a>(
 }
 
 fn run_arguments<'a>(alloc: Global) -> Result<Vec<Arg<'a>>, AllocError>
-    ensures rules { IfOk result (λ arguments. map rule_of arguments.items ≡ run_rules) }
-    ensures local { IfOk result (λ arguments. All (λ a. a.global ≡ false) arguments.items) }
+    ensures rules { HaveRules run_rules result }
+    ensures local { AreLocal result }
 {
     let arguments = vec![in alloc;
         positional(alloc, "trace", "TRACE", TRACE),
@@ -308,8 +304,8 @@ fn run_arguments<'a>(alloc: Global) -> Result<Vec<Arg<'a>>, AllocError>
 }
 
 fn migrate_arguments<'a>(alloc: Global) -> Result<Vec<Arg<'a>>, AllocError>
-    ensures rules { IfOk result (λ arguments. map rule_of arguments.items ≡ migrate_rules) }
-    ensures local { IfOk result (λ arguments. All (λ a. a.global ≡ false) arguments.items) }
+    ensures rules { HaveRules migrate_rules result }
+    ensures local { AreLocal result }
 {
     let arguments = vec![in alloc;
         positional(alloc, "old", "OLD", OLD),
@@ -320,8 +316,8 @@ fn migrate_arguments<'a>(alloc: Global) -> Result<Vec<Arg<'a>>, AllocError>
 }
 
 fn sweep_arguments<'a>(alloc: Global) -> Result<Vec<Arg<'a>>, AllocError>
-    ensures rules { IfOk result (λ arguments. map rule_of arguments.items ≡ sweep_rules) }
-    ensures local { IfOk result (λ arguments. All (λ a. a.global ≡ false) arguments.items) }
+    ensures rules { HaveRules sweep_rules result }
+    ensures local { AreLocal result }
 {
     let arguments = vec![in alloc;
         positional(alloc, "references", "REFERENCES", REFERENCES),
@@ -335,8 +331,8 @@ fn sweep_arguments<'a>(alloc: Global) -> Result<Vec<Arg<'a>>, AllocError>
 }
 
 fn explain_arguments<'a>(alloc: Global) -> Result<Vec<Arg<'a>>, AllocError>
-    ensures rules { IfOk result (λ arguments. map rule_of arguments.items ≡ explain_rules) }
-    ensures local { IfOk result (λ arguments. All (λ a. a.global ≡ false) arguments.items) }
+    ensures rules { HaveRules explain_rules result }
+    ensures local { AreLocal result }
 {
     let arguments = vec![in alloc; positional(alloc, "number", "N", NUMBER)]?;
     Ok(arguments)
@@ -365,8 +361,7 @@ fn with_command<'a>(
     help: &'a str,
     made: Result<Vec<Arg<'a>>, AllocError>,
 ) -> Result<Command<'a>, AllocError>
-    ensures { (rules : _) → IfOk made.entry (λ arguments. map rule_of arguments.items ≡ rules) →
-        IfOk made.entry (λ arguments. All (λ a. a.global ≡ false) arguments.items) →
+    ensures { (rules : _) → HaveRules rules made.entry → AreLocal made.entry →
         IfOk result (λ c. app_of c ≡ with_subcommand (app_of program.entry)
         (record (new_shape name.entry.now) { rules = rules })) }
 {
