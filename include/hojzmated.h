@@ -134,10 +134,17 @@ uint16_t hz_core_new(const hz_config *config, hz_core *core);
 uint16_t hz_core_free(hz_core *core);
 
 /* Fixes a page, which pins it. The buffer has the page size: where a page is to be written out first, its image is
- * copied there, and else it stays as it was. Refused: 41. 45 where the page is not of the file or len is not the page
- * size. 20. 13 where a read of the page is under way. 11 where no page may leave its frame: each is being read, pinned,
- * being written out, or was referenced within the correlated period. 12 where the victim's log record is not durable
- * yet: out->lsn tells it. 22 where the page is here, or is to be read or written. */
+ * copied there, and else it stays as it was. Refused:
+ *
+ *     41  where the core has no such client
+ *     45  where the page is not of the file, or len is not the page size
+ *     20  where the room left is less than 3
+ *     13  where a read of the page is under way
+ *     11  where no page may leave its frame: each is being read, pinned, being written out, or was referenced within
+ *         the correlated period
+ *     12  where the victim's log record is not durable yet: out->lsn tells it
+ *     22  where the page is here, or is to be read or written
+ */
 uint16_t hz_fix(hz_core *core, uint8_t client, uint64_t page, uint8_t *buffer, size_t len, hz_fixed *out);
 
 /* Ends a read: the page is in a frame, and pass is a pass for it. Refused: 45 where len is not the page size; 16; 22,

@@ -1,30 +1,30 @@
-/* The peer of `bench pool` and `bench threads`: the memory pool of Berkeley DB. A fix is memp_fget, an unfix memp_fput.
+/* The peer of `bench pool`: the memory pool of Berkeley DB. A fix is memp_fget, an unfix memp_fput.
  *
- *     cc -O2 mpool.c -ldb -lpthread -o mpool
- *     ./mpool THREADS SECONDS PAGES FRAMES PAGESIZE HOT
+ *     cc -O2 mpool.c -ldb -o mpool
+ *     ./mpool SECONDS PAGES FRAMES PAGESIZE HOT
  *
- * A file of PAGES pages is made in the present folder and filled. Each thread then fixes and unfixes pages of the first
- * HOT ones, by the same generator of numbers as those two. The cache has FRAMES * (PAGESIZE + 256)
- * bytes; Berkeley DB enlarges a small one, so for runs with evictions FRAMES is chosen such that the hit rate, which is
- * printed, is the one wanted.
+ * A file of PAGES pages is made in the present folder and filled. Then pages of the first HOT ones are fixed and
+ * unfixed for SECONDS of processor time, by the same generator of numbers as in `bench pool`. The cache has FRAMES *
+ * (PAGESIZE + 256) bytes; Berkeley DB enlarges a small one, so for runs with evictions FRAMES is chosen such that the
+ * hit rate, which is printed, is the one wanted.
  *
- * Printed: fixes and unfixes a second of processor time, of wall clock time, and the hit rate.
+ * Printed: fixes and unfixes a second of processor time, and the hit rate.
  */
 #include <db.h>
-#include <pthread.h>
 #include <stdio.h>
 #include <stdlib.h>
 #include <string.h>
 #include <time.h>
 
-static DB_MPOOLFILE *file;
-static volatile int stop;
-static unsigned hot;
+/* The fixes between two looks at the clock. */
+#define STRIDE 1024
 
-static double seconds_of(clockid_t clock)
+static DB_MPOOLFILE *file;
+
+static double processor_seconds(void)
 {
     struct timespec t;
-    clock_gettime(clock, &t);
+    clock_gettime(CLOCK_PROCESS_CPUTIME_ID, &t);
     return t.tv_sec + t.tv_nsec * 1e-9;
 }
 
@@ -34,19 +34,24 @@ static void fail(const char *what)
     exit(1);
 }
 
-static void *client(void *number)
+/* Fixes and unfixes pages for so many seconds, and returns their number a second. */
+static double rate(double seconds, unsigned hot)
 {
-    unsigned long state = (unsigned long)number * 7919 + 1, done = 0;
-    while (!stop) {
-        state = state * 6364136223846793005UL + 1442695040888963407UL;
-        db_pgno_t page = (state >> 33) % hot;
-        void *address;
-        if (file->get(file, &page, NULL, 0, &address))
-            fail("memp_fget");
-        file->put(file, address, DB_PRIORITY_UNCHANGED, 0);
-        done++;
+    unsigned long state = 1, done = 0;
+    double began = processor_seconds(), spent = 0;
+    while (spent < seconds) {
+        for (int i = 0; i < STRIDE; i++) {
+            state = state * 6364136223846793005UL + 1442695040888963407UL;
+            db_pgno_t page = (state >> 33) % hot;
+            void *address;
+            if (file->get(file, &page, NULL, 0, &address))
+                fail("memp_fget");
+            file->put(file, address, DB_PRIORITY_UNCHANGED, 0);
+        }
+        done += STRIDE;
+        spent = processor_seconds() - began;
     }
-    return (void *)done;
+    return done / spent;
 }
 
 static void fill(unsigned pages, unsigned size)
@@ -64,12 +69,9 @@ static void fill(unsigned pages, unsigned size)
 
 int main(int argc, char **argv)
 {
-    if (argc != 7)
-        fail("THREADS SECONDS PAGES FRAMES PAGESIZE HOT");
-    int threads = atoi(argv[1]);
-    double length = atof(argv[2]);
-    unsigned pages = atoi(argv[3]), frames = atoi(argv[4]), size = atoi(argv[5]);
-    hot = atoi(argv[6]);
+    if (argc != 6)
+        fail("SECONDS PAGES FRAMES PAGESIZE HOT");
+    unsigned pages = atoi(argv[2]), frames = atoi(argv[3]), size = atoi(argv[4]), hot = atoi(argv[5]);
 
     DB_ENV *env;
     if (system("rm -rf mpool.d && mkdir mpool.d") || db_env_create(&env, 0))
@@ -83,26 +85,9 @@ int main(int argc, char **argv)
 
     DB_MPOOL_STAT *before, *after;
     env->memp_stat(env, &before, NULL, 0);
-    double wall = seconds_of(CLOCK_MONOTONIC), processor = seconds_of(CLOCK_PROCESS_CPUTIME_ID);
-    pthread_t running[64];
-    for (long i = 0; i < threads; i++)
-        pthread_create(&running[i], NULL, client, (void *)i);
-    while (seconds_of(CLOCK_MONOTONIC) - wall < length) {
-        struct timespec turn = {0, 10000000};
-        nanosleep(&turn, NULL);
-    }
-    stop = 1;
-    unsigned long total = 0;
-    for (int i = 0; i < threads; i++) {
-        void *done;
-        pthread_join(running[i], &done);
-        total += (unsigned long)done;
-    }
-    wall = seconds_of(CLOCK_MONOTONIC) - wall;
-    processor = seconds_of(CLOCK_PROCESS_CPUTIME_ID) - processor;
+    double each = rate(atof(argv[1]), hot);
     env->memp_stat(env, &after, NULL, 0);
     double hits = after->st_cache_hit - before->st_cache_hit, misses = after->st_cache_miss - before->st_cache_miss;
-    printf("%.0f a processor second, %.0f a second, hit rate %.3f\n",
-           total / processor, total / wall, hits / (hits + misses));
+    printf("%.0f a processor second, hit rate %.3f\n", each, hits / (hits + misses));
     return 0;
 }

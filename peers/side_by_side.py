@@ -1,16 +1,14 @@
 #!/usr/bin/env python3
-"""Runs `bench pool` or `bench threads` and Berkeley DB's memory pool in turn, over the same pages; prints the ratios.
+"""Runs `bench pool` and Berkeley DB's memory pool in turn, over the same pages; prints the ratios.
 
     apt-get install libdb5.3-dev           (a C compiler is needed too)
     (cd crates/bench && rt run)            builds the bench, and makes its long runs of seconds
     peers/side_by_side.py ROUNDS [ROOM ..]
-    peers/side_by_side.py ROUNDS threads [silent]
 
 For each ROOM the trail has that room and is cut when half full; ROOM 0 is a trail that is never cut, and ROOM
-`silent` one that is only counted. Each number is in fixes and unfixes a second of processor time. With `threads` it
-is in those of all client threads together, a second of wall clock time, over a pool that is cut as they go; with
-`silent` too each round has a silent pool as well. A ratio is of one round, above 1 where the proved pool is faster.
-The median of the rounds comes first, and then the least and the greatest.
+`silent` one that is only counted. Each number is in fixes and unfixes a second of processor time. A ratio is of one
+round, above 1 where the proved pool is faster. The median of the rounds comes first, and then the least and the
+greatest.
 """
 import os
 import re
@@ -31,12 +29,6 @@ COLUMNS = [
     ("hits, 65,536 frames", 65536, 65536, 65536),
     ("evictions, 65,536 frames", 262144, 46200, 262144),
 ]
-# For each line of `bench threads`: threads, and then as above.
-THREAD_COLUMNS = [
-    (f"{name}, {threads} thread{'s' * (threads > 1)}", threads, pages, frames, hot)
-    for threads in (1, 2, 4)
-    for name, pages, frames, hot in [("64 hot pages of 4,096", 4096, 4096, 64), COLUMNS[3]]
-]
 
 
 def said(words, folder):
@@ -48,24 +40,13 @@ def ours(pages, room, folder):
     return [int(it) for it in re.findall(r"pages: (\d+) fixes", said(words, folder))]
 
 
-def ours_in_threads(pages, kind, folder):
-    return [int(it) for it in re.findall(r"pages: (\d+) fixes", said([BENCH, "threads", pages, kind], folder))]
-
-
-def mpool_said(mpool, threads, pages, frames, hot, folder):
-    return said([mpool, str(threads), "1", str(pages), str(frames), "1024", str(hot)], folder)
-
-
 def theirs(mpool, folder):
-    return [int(mpool_said(mpool, 1, pages, frames, hot, folder).split()[0]) for _, pages, frames, hot in COLUMNS]
-
-
-def theirs_in_threads(mpool, folder):
-    found = []
-    for _, *numbers in THREAD_COLUMNS:
-        line = mpool_said(mpool, *numbers, folder)
-        found.append(int(re.search(r"(\d+) a second", line)[1]))
-    return found
+    """The rates of Berkeley DB's pool, each over one second of processor time."""
+    rates = []
+    for _, *numbers, hot in COLUMNS:
+        line = said([mpool, "1", *map(str, [*numbers, 1024, hot])], folder)
+        rates.append(int(line.split()[0]))
+    return rates
 
 
 def spread(values, digits=2):
@@ -86,29 +67,23 @@ def print_table(title, names, runs, peer):
 
 
 def main():
-    rounds, in_threads = int(sys.argv[1]), sys.argv[2:3] == ["threads"]
-    kinds = ["recording"] + sys.argv[3:4] if in_threads else []
-    rooms = [] if in_threads else [it if it == "silent" else int(it) for it in sys.argv[2:]] or [0]
+    rounds = int(sys.argv[1])
+    rooms = [it if it == "silent" else int(it) for it in sys.argv[2:]] or [0]
     with tempfile.TemporaryDirectory(prefix="side-by-side-") as folder:
         mpool, pages = f"{folder}/mpool", f"{folder}/pages.bin"
-        subprocess.run(["cc", "-O2", f"{TOP}/peers/mpool.c", "-ldb", "-lpthread", "-o", mpool], check=True)
+        subprocess.run(["cc", "-O2", f"{TOP}/peers/mpool.c", "-ldb", "-o", mpool], check=True)
         with open(pages, "wb") as it:
             it.write(bytes(FILE_BYTES))
         runs = {room: [] for room in rooms}
-        peer, of_threads = [], {kind: [] for kind in kinds}
+        peer = []
         for _ in range(rounds):
-            peer.append((theirs_in_threads if in_threads else theirs)(mpool, folder))
+            peer.append(theirs(mpool, folder))
             for room in rooms:
                 runs[room].append(ours(pages, room, folder))
-            for kind in kinds:
-                of_threads[kind].append(ours_in_threads(pages, kind, folder))
+    titles = {0: "never cut", "silent": "only counted"}
     for room in rooms:
-        titles = {0: "never cut", "silent": "only counted"}
         title = titles.get(room, f"room {room}, cut when half full")
         print_table(title, [name for name, *_ in COLUMNS], runs[room], peer)
-    for kind in kinds:
-        title = {"recording": "client threads, cut as they go", "silent": "client threads, only counted"}[kind]
-        print_table(title, [name for name, *_ in THREAD_COLUMNS], of_threads[kind], peer)
 
 
 if __name__ == "__main__":

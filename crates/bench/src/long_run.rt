@@ -240,9 +240,9 @@ fn run_recorded(
     requires { 0 < pieces }
 {
     let mut pool = new_pool(rt.alloc(), PAGES as usize, 16, room)?;
-    let told = tell_recorded(rt, &mut pool, pieces);
+    let result = tell_recorded(rt, &mut pool, pieces);
     drop(pool);
-    told
+    result
 }
 
 fn print_end<K: Keeper>(
@@ -299,9 +299,9 @@ pub(crate) fn run_silent(
     size: usize,
 ) -> Result<(), anyhow::Error> {
     let mut pool = new_pool::<SilentKeeper>(rt.alloc(), 2, size, SilentKeeper::MOST_ROOM)?;
-    let told = tell_silent(rt, &mut pool, rounds);
+    let result = tell_silent(rt, &mut pool, rounds);
     drop(pool);
-    told
+    result
 }
 
 /// Makes the first run. The trail is cut as it goes, or else has room for all entries.

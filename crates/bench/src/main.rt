@@ -1,11 +1,10 @@
 //! Measures a core or a pool, as its first argument says. docs/BENCHMARKS.md has the results.
 //!
-//!     bench                            both long runs, and four threads for a moment: what `stdout` has
+//!     bench                            both long runs: what `stdout` has
 //!     bench cut | uncut                the first long run, with a trail that is cut as it goes, or has room for all
 //!     bench silent ROUNDS SIZE         the second, of so many rounds over pages of so many bytes
 //!     bench calls FRAMES               each call of a core of so many frames
 //!     bench pool FILE [ROOM | silent]  fixes and unfixes over a page file
-//!     bench threads FILE [silent]      the same by client threads over one shared pool
 //!
 //! With a room the trail is cut each time it is half full, and continues in the memory of the piece before; without one
 //! it is never cut. With `silent` the core only counts its entries. Other words, and fewer, are an error.
@@ -16,17 +15,14 @@ ghost use Rattle.std.specs.Prelude.{◌<◌};
 mod calls;
 mod long_run;
 mod pool;
-mod threads;
 
 use anyhow::Context;
 use bp_core::{Keeper, RecordingKeeper, SilentKeeper};
 use std::alloc::Global;
 use std::env;
 use std::fs::File;
-use std::marker::Sync;
-use std::rt::{Clock, Files, Runtime};
+use std::rt::{Files, Runtime};
 use std::sync::Wait;
-use std::thread::Threads;
 use std::time::{CpuClock, Duration};
 
 // The room of a trail that is never cut.
@@ -77,7 +73,7 @@ fn number(word: Option<&str>) -> Result<u64, anyhow::Error> {
 
 /// Measures what the words of the command line say.
 fn measure(
-    rt: &(impl Runtime<A = Global> + Clock + CpuClock + Files<File = File> + Threads + Wait + Sync),
+    rt: &(impl Runtime<A = Global> + CpuClock + Files<File = File> + Wait),
     what: &str,
     of: Option<&str>,
     more: Option<&str>,
@@ -88,10 +84,6 @@ fn measure(
         "silent" => long_run::run_silent(rt, number(of)?, number(more)? as usize),
         "calls" => calls::time_calls(rt, number(of)?),
         "pool" => time_pool_of_room(rt, of.context("no page file is named")?, more),
-        "threads" => {
-            let path = of.context("no page file is named")?;
-            threads::time_pools(rt, path, more == Some("silent"))
-        }
         _ => None.context("no such measurement"),
     }
 }
@@ -100,10 +92,7 @@ fn main(rt: HostRuntime) -> Result<(), anyhow::Error> {
     let mut words = env::args(&rt)?.skip(1);
     let (what, of, more) = (words.next(), words.next(), words.next());
     match what {
-        None => {
-            long_run::run_both(&rt)?;
-            threads::try_both(&rt)
-        }
+        None => long_run::run_both(&rt),
         Some(what) => measure(&rt, what.as_str(), of.as_deref(), more.as_deref()),
     }
 }

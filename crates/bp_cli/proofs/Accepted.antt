@@ -154,9 +154,9 @@ both_given false h e = cc
 
 -- what the rows tell a run in either order
 record Tells (rows : List Row) : Type 0 where
-  told : Order → RunOptions
-  tells : options_by_rows rows ≡ option_map told (order_at rows)
-  limits : (order : Order) → IsInLimits (told order)
+  options : Order → RunOptions
+  tells : options_by_rows rows ≡ option_map options (order_at rows)
+  limits : (order : Order) → IsInLimits (options order)
 
 last_bound : {A B : Type 0} (f : A → B) (o : Option A) → (o >>= λ x. Some (f x)) ≡ option_map f o
 last_bound f None = refl
@@ -164,7 +164,7 @@ last_bound f (Some x) = refl
 
 rows_tell : (rows : List Row) → IsFilled run_built rows → Tells rows
 rows_tell rows filled = record {
-  told = told_in_order;
+  options = told_in_order;
   tells = rw (trace.as_text, pages.as_text, frames.is, k.is, correlated.is, retained.is, size.is, version.is) (last_bound told_in_order (order_at rows));
   limits = λ order. record {
     some_frames = frames.at_least;
@@ -246,13 +246,13 @@ three_given false h k e = cc
 
 -- what the rows tell a migration
 record TellsMigration (rows : List Row) : Type 0 where
-  told : Migration
-  tells : migration_by_rows rows ≡ Some told
-  limits : HasPageSize told.size
+  options : Migration
+  tells : migration_by_rows rows ≡ Some options
+  limits : HasPageSize options.size
 
 rows_tell_migration : (rows : List Row) → IsFilled migrate_built rows → TellsMigration rows
 rows_tell_migration rows filled = record {
-  told = record { old = old.word; new = new.word; size = size.number };
+  options = record { old = old.word; new = new.word; size = size.number };
   tells = rw (old.as_text, new.as_text, size.is) refl;
   limits = record { some_bytes = size.at_least; few_bytes = size.at_most };
 }
@@ -312,13 +312,13 @@ apart_from word (Some path) other = go (bytes_eq word (codes "stdin"))
 
 -- what the rows tell a sweep, with the numbers of its lists
 record TellsSweep (rows : List Row) : Type 0 where
-  told : List ℕ → List ℕ → Sweep
-  tells : (frames ks : List ℕ) → sweep_with frames ks rows ≡ Some (told frames ks)
-  limits : (frames ks : List ℕ) → frames_at rows ≡ Some frames → ks_at rows ≡ Some ks → draws_over rows ≡ false → SweepsInLimits (told frames ks)
+  options : List ℕ → List ℕ → Sweep
+  tells : (frames ks : List ℕ) → sweep_with frames ks rows ≡ Some (options frames ks)
+  limits : (frames ks : List ℕ) → frames_at rows ≡ Some frames → ks_at rows ≡ Some ks → draws_over rows ≡ false → SweepsInLimits (options frames ks)
 
 rows_tell_sweep : (rows : List Row) → IsFilled sweep_built rows → TellsSweep rows
 rows_tell_sweep rows filled = record {
-  told = told_with;
+  options = told_with;
   tells = λ frames ks. rw (references.as_text, correlated.is) refl;
   limits = λ frames ks f k other.
       let sizes = frames_listed (first_of (codes "frames") rows) frames f in
@@ -417,7 +417,7 @@ record IsAccepted (words : List Text) : Type 0 where
 
 run_tells : (words : List Text) (run : IsMet run_built (stop_after (built bpool_app).top.rules (names_of (built bpool_app)) words))
     → Tells (finished run_built.rules (walk run_built.rules [] nothing_held run.words).held) → IsAccepted words
-run_tells words run told = go (order_at rows) refl
+run_tells words run tells = go (order_at rows) refl
   where
     rows : List Row
     rows = finished run_built.rules (walk run_built.rules [] nothing_held run.words).held
@@ -430,30 +430,30 @@ run_tells words run told = go (order_at rows) refl
 
     go : (order : Option Order) → order_at rows ≡ order → IsAccepted words
     go (Some order) is = record {
-      asked = Some (a_run (told.told order));
-      asks = met ∙ ap (λ (o : Option RunOptions). option_map a_run o) (told.tells ∙ ap (λ (o : Option Order). option_map told.told o) is);
-      limits = told.limits order;
+      asked = Some (a_run (tells.options order));
+      asks = met ∙ ap (λ (o : Option RunOptions). option_map a_run o) (tells.tells ∙ ap (λ (o : Option Order). option_map tells.options o) is);
+      limits = tells.limits order;
       fault = named ∙ ap (λ (o : Option Order). if is_some o then [] else InvalidValue ∷ []) is;
     }
     go None is = record {
       asked = None;
-      asks = met ∙ ap (λ (o : Option RunOptions). option_map a_run o) (told.tells ∙ ap (λ (o : Option Order). option_map told.told o) is);
+      asks = met ∙ ap (λ (o : Option RunOptions). option_map a_run o) (tells.tells ∙ ap (λ (o : Option Order). option_map tells.options o) is);
       limits = tt;
       fault = named ∙ ap (λ (o : Option Order). if is_some o then [] else InvalidValue ∷ []) is;
     }
 
 migration_tells : (words : List Text) (migrate : IsMet migrate_built (stop_after (built bpool_app).top.rules (names_of (built bpool_app)) words))
     → TellsMigration (finished migrate_built.rules (walk migrate_built.rules [] nothing_held migrate.words).held) → IsAccepted words
-migration_tells words migrate told = record {
-  asked = Some (a_migration told.told);
-  asks = ap asked_in migrate.met ∙ ap (λ (o : Option Migration). option_map a_migration o) told.tells;
-  limits = told.limits;
+migration_tells words migrate tells = record {
+  asked = Some (a_migration tells.options);
+  asks = ap asked_in migrate.met ∙ ap (λ (o : Option Migration). option_map a_migration o) tells.tells;
+  limits = tells.limits;
   fault = ap naming_fault migrate.met;
 }
 
 sweep_tells : (words : List Text) (sweep : IsMet sweep_built (stop_after (built bpool_app).top.rules (names_of (built bpool_app)) words))
     → TellsSweep (finished sweep_built.rules (walk sweep_built.rules [] nothing_held sweep.words).held) → IsAccepted words
-sweep_tells words sweep told = go (frames_at rows) (ks_at rows) (draws_over rows) refl refl refl
+sweep_tells words sweep tells = go (frames_at rows) (ks_at rows) (draws_over rows) refl refl refl
   where
     rows : List Row
     rows = finished sweep_built.rules (walk sweep_built.rules [] nothing_held sweep.words).held
@@ -481,9 +481,9 @@ sweep_tells words sweep told = go (frames_at rows) (ks_at rows) (draws_over rows
 
     go : (frames ks : Option (List ℕ)) (over : Bool) → frames_at rows ≡ frames → ks_at rows ≡ ks → draws_over rows ≡ over → IsAccepted words
     go (Some frames) (Some ks) false f k d = record {
-      asked = Some (a_sweep (told.told frames ks));
-      asks = asks_by (Some frames) (Some ks) false f k d ∙ ap (λ (o : Option Sweep). option_map a_sweep o) (told.tells frames ks);
-      limits = told.limits frames ks f k d;
+      asked = Some (a_sweep (tells.options frames ks));
+      asks = asks_by (Some frames) (Some ks) false f k d ∙ ap (λ (o : Option Sweep). option_map a_sweep o) (tells.tells frames ks);
+      limits = tells.limits frames ks f k d;
       fault = faults_by (Some frames) (Some ks) false f k d;
     }
     go (Some frames) (Some ks) true f k d = record { asked = None; asks = asks_by (Some frames) (Some ks) true f k d; limits = tt; fault = faults_by (Some frames) (Some ks) true f k d }
@@ -580,14 +580,14 @@ matches_told app words m same matches fault = go found.asked found.asks found.li
 -- what is asked for is what the words ask for
 pub task_is : {X : Type 0} (asked_as : X → Asked) (x : X) (words : List Text) (m : ArgMatches) → IsTold words m ⊎ IsUntold words m → Some (asked_as x) ≡ asked_in (subcommand_rows_of m)
     → (asked_by words ≡ Some (asked_as x)) × AreInLimits (asked_as x) × (fault_in words ≡ [])
-task_is asked_as x words m (inl told) is =
-    let same : told.asked ≡ asked_as x = (let both : Some (asked_as x) ≡ Some told.asked = is ∙ told.by_matches in cc) in
-    (told.by_words ∙ ap Some same, subst AreInLimits same told.limits, told.fault)
+task_is asked_as x words m (inl tells) is =
+    let same : tells.asked ≡ asked_as x = (let both : Some (asked_as x) ≡ Some tells.asked = is ∙ tells.by_matches in cc) in
+    (tells.by_words ∙ ap Some same, subst AreInLimits same tells.limits, tells.fault)
 task_is asked_as x words m (inr untold) is = let bad : Some (asked_as x) ≡ None = is ∙ untold.by_matches in cc
 
 -- where nothing is asked for the order is at fault
 pub no_order_is : (words : List Text) (m : ArgMatches) (e : Error) → IsTold words m ⊎ IsUntold words m → None ≡ asked_in (subcommand_rows_of m) → kind_of e ≡ InvalidValue → HasKind (fault_in words) e
-no_order_is words m e (inl told) is kind = let bad : None ≡ Some told.asked = is ∙ told.by_matches in cc
+no_order_is words m e (inl tells) is kind = let bad : None ≡ Some tells.asked = is ∙ tells.by_matches in cc
 no_order_is words m e (inr untold) is kind = inr (subst (IsAmong (kind_of e)) (sym untold.fault) (inl kind))
 
 among_either : (kind : ErrorKind) (first next : Kinds) → IsAmong kind first → IsAmong kind (or_else first next)

@@ -117,7 +117,7 @@ pub record SweepsInLimits (s : Sweep) : Type 0 where
   pub apart : IfSome s.svg (λ path. s.references ≢ at_path path)
 
 abbrev pub AreInLimits : Asked → Type 0
-AreInLimits (a_run told) = IsInLimits told
+AreInLimits (a_run options) = IsInLimits options
 AreInLimits (a_migration m) = HasPageSize m.size
 AreInLimits (a_sweep s) = SweepsInLimits s
 AreInLimits (an_explanation text) = Unit {0}

@@ -13,9 +13,9 @@ use Rattle.bp_cli.specs.declared.ending.Ending.{Ending}
 use Rattle.bp_cli.specs.declared.ending.Ending.TheVariants as ending
 
 -- a run can begin with what it is told
-pub record IsRunnable (told : RunOptions) : Type 0 where
-  pub limits : IsInLimits told
-  pub in_sixteens : told.size % 16 ≡ 0
+pub record IsRunnable (options : RunOptions) : Type 0 where
+  pub limits : IsInLimits options
+  pub in_sixteens : options.size % 16 ≡ 0
 
 -- and a migration with what it is told
 pub record IsMigratable (m : Migration) : Type 0 where
@@ -23,14 +23,14 @@ pub record IsMigratable (m : Migration) : Type 0 where
   pub in_sixteens : m.size % 16 ≡ 0
 
 abbrev pub CanBegin : Asked → Type 0
-CanBegin (a_run told) = IsRunnable told
+CanBegin (a_run options) = IsRunnable options
 CanBegin (a_migration m) = IsMigratable m
 CanBegin (a_sweep s) = SweepsInLimits s
 CanBegin (an_explanation text) = Unit {0}
 
 -- how many bytes a page is to have, where there are pages
 abbrev pub size_asked : Asked → Option ℕ
-size_asked (a_run told) = Some told.size
+size_asked (a_run options) = Some options.size
 size_asked (a_migration m) = Some m.size
 size_asked (a_sweep s) = None
 size_asked (an_explanation text) = None

@@ -152,12 +152,12 @@ abbrev pub fault_in : List Text → Kinds
 fault_in words = or_else (fault_of bpool_app words) (naming_fault (subcommand_of bpool_app words))
 
 -- the numbers are in the limits of the options
-pub record IsInLimits (told : RunOptions) : Type 0 where
-  pub some_frames : 1 ≤ told.frames
-  pub few_frames : told.frames ≤ 65536
-  pub settings : IsWithinLimits told.k told.correlated told.retained
-  pub some_bytes : 16 ≤ told.size
-  pub few_bytes : told.size ≤ 65536
+pub record IsInLimits (options : RunOptions) : Type 0 where
+  pub some_frames : 1 ≤ options.frames
+  pub few_frames : options.frames ≤ 65536
+  pub settings : IsWithinLimits options.k options.correlated options.retained
+  pub some_bytes : 16 ≤ options.size
+  pub few_bytes : options.size ≤ 65536
 
 -- no words at all act as these
 abbrev pub default_words : List Text

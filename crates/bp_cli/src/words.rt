@@ -401,14 +401,14 @@ fn names_nothing(alloc: Global, matches: &ArgMatches<'_>) -> Result<Error, Alloc
 ///
 /// An `Err` has the kind of the words' first fault: a mistake, a call for help or the version, or refused memory.
 pub fn read_words<'a>(alloc: Global, words: &'a [&'a str]) -> Result<Task<'a>, Error>
-    ensures told { IfOk result (λ task. asked_by (texts words.now) ≡ Some (asked_of task)) }
+    ensures asked { IfOk result (λ task. asked_by (texts words.now) ≡ Some (asked_of task)) }
     ensures limits { IfOk result (λ task. AreInLimits (asked_of task)) }
     ensures faults { FailsBy (fault_in (texts words.now)) result }
 {
     let command = bpool_command(alloc)?;
     let matches = command.try_get_matches_from(words)?;
-    let told = task_in(alloc, &matches)?;
-    match told {
+    let found = task_in(alloc, &matches)?;
+    match found {
         Some(task) => Ok(task),
         None => Err(names_nothing(alloc, &matches)?),
     }

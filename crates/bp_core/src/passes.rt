@@ -48,7 +48,6 @@ impl Model for PassNote {
     ghost inverse = { λ g. record { client = g.client; page = g.page; serial = g.serial } };
 }
 
-/// The result of `fix`.
 pub enum Fix {
     /// The page is in a frame: the pass of it.
     Hit(Pass),
@@ -59,7 +58,6 @@ pub enum Fix {
     WriteFirst(WriteTicket),
 }
 
-/// The result of `flush`.
 pub enum Flush {
     /// The page is in a frame and not unsaved: nothing is to be written.
     Clean,

@@ -59,7 +59,7 @@ impl State {
     /// Returns the number of the block of the page's references, with no look-up by the page.
     pub(crate) fn block(&self, slot: &FrameSlot) -> BlockNo
         requires at { IsSlotIn self.now.frames slot.now }
-        requires told { TellBlocks self.now.histories self.now.frames.frames }
+        requires blocks { TellBlocks self.now.histories self.now.frames.frames }
         ensures { place_of self.now.histories slot.now.page ≡ Some result }
     {
         self.frames.frame(slot).block.unwrap()
@@ -69,7 +69,7 @@ impl State {
     /// stamp.
     pub(crate) fn end_use(&mut self, slot: &FrameSlot, k: usize)
         requires at { IsSlotIn self.old.frames slot.now }
-        requires told { TellBlocks self.old.histories self.old.frames.frames }
+        requires blocks { TellBlocks self.old.histories self.old.frames.frames }
         requires apart { entry_of self.old.frames.candidates slot.now.page ≡ None }
         ensures same { self.new ≡ record self.old {
           frames = record self.old.frames { candidates = self.new.frames.candidates };

@@ -272,6 +272,7 @@ impl GrantList {
         if !self.mark(client, page, serial) {
             return false;
         }
+        // Two slots that were left are let go for each one that is, so that the list stays short and a call O(log n).
         self.trim();
         self.trim();
         true

@@ -46,7 +46,7 @@ impl Keeper for SilentKeeper {
 
     ghost MOST_ROOM = { 2 ^ 61 };
 
-    const MOST_ROOM: usize = 2305843009213693952;
+    const MOST_ROOM: usize = 1 << 61;
 
     ghost REFUSES = { false };
 

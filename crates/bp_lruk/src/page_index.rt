@@ -86,7 +86,7 @@ impl PageIndex {
     /// Takes a page out. Returns the K-th stamp and the last time with which it was entered.
     pub fn leave(&mut self, page: PageNo) -> (u64, u64)
         requires { IsSome (find_entry self.old.entries page) }
-        ensures told { find_entry self.old.entries page ≡ Some result }
+        ensures found { find_entry self.old.entries page ≡ Some result }
         ensures left { find_entry self.new.entries page ≡ None }
         ensures others { (q : ℕ) → q ≢ page → find_entry self.new.entries q
             ≡ find_entry self.old.entries q }

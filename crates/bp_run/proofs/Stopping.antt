@@ -78,14 +78,14 @@ no_help_trace traces bytes_of from_stdin g bytes ended help not = (let none = ap
 no_help_trace traces bytes_of (at_path path) g bytes ended help (inl not) = (let none = ap is_help not.1 in cc)
 no_help_trace traces bytes_of (at_path path) g bytes ended help (inr not) = (let none = ap is_help not.2.said in cc)
 
-no_help_run : {F P T : Type 0} (ways : Ways F P T) (bytes_of : T → Option (List ℕ)) (told : RunOptions) (bytes : Option (List ℕ)) (ended : Ending) → is_help ended ≡ true → StopsRun ways bytes_of told bytes ended → ⊥
-no_help_run ways bytes_of told bytes ended help (inl not) = (let none = ap is_help not.said ∙ not_help not.fault in cc)
-no_help_run ways bytes_of told bytes ended help (inr (inl at)) = no_help_trace ways.traces bytes_of told.trace (ways.geometry at.file) bytes ended help at.not_read
-no_help_run ways bytes_of told bytes ended help (inr (inr after)) = go after.stopped
+no_help_run : {F P T : Type 0} (ways : Ways F P T) (bytes_of : T → Option (List ℕ)) (options : RunOptions) (bytes : Option (List ℕ)) (ended : Ending) → is_help ended ≡ true → StopsRun ways bytes_of options bytes ended → ⊥
+no_help_run ways bytes_of options bytes ended help (inl not) = (let none = ap is_help not.said ∙ not_help not.fault in cc)
+no_help_run ways bytes_of options bytes ended help (inr (inl at)) = no_help_trace ways.traces bytes_of options.trace (ways.geometry at.file) bytes ended help at.not_read
+no_help_run ways bytes_of options bytes ended help (inr (inr after)) = go after.stopped
   where
-    go : NotConnected ways after.file (ports_for told.order after.rows) ended ⊎ NotReported told.order ended → ⊥
+    go : NotConnected ways after.file (ports_for options.order after.rows) ended ⊎ NotReported options.order ended → ⊥
     go (inl not) = (let none = ap is_help not.said ∙ not_help not.fault in cc)
-    go (inr not) = no_help_reported told.order ended help not
+    go (inr not) = no_help_reported options.order ended help not
 
 no_help_taken : {T : Type 0} (traces : Text → Option T → Type 0) (bytes_of : T → Option (List ℕ)) (at : TraceAt) (column : Option ℕ) (bytes : Option (List ℕ)) (ended : Ending) → is_help ended ≡ true → NotTaken traces bytes_of at column bytes ended → ⊥
 no_help_taken traces bytes_of from_stdin column bytes ended help not = (let none = ap is_help not.said in cc)
@@ -109,8 +109,8 @@ no_help_sweep ways bytes_of s bytes old new ended help (inr after) = no_help_sho
 pub help_asked : {F P T : Type 0} (ways : Ways F P T) (bytes_of : T → Option (List ℕ)) (words : List Text) (bytes old new : Option (List ℕ)) (ended : Ending) → EndsBy ways bytes_of words bytes old new ended → is_help ended ≡ true → AsksForAnswer words
 help_asked ways bytes_of words bytes old new (ending.Help text) (inl decided) help = inl decided
 help_asked ways bytes_of words bytes old new ending.Version (inl decided) help = inr decided
-help_asked ways bytes_of words bytes old new ended (inr (inl run)) help = absurd (no_help_run ways bytes_of run.told bytes ended help run.stops)
-help_asked ways bytes_of words bytes old new ended (inr (inr (inl sweep))) help = absurd (no_help_sweep ways bytes_of sweep.told bytes old new ended help sweep.stops)
+help_asked ways bytes_of words bytes old new ended (inr (inl run)) help = absurd (no_help_run ways bytes_of run.options bytes ended help run.stops)
+help_asked ways bytes_of words bytes old new ended (inr (inr (inl sweep))) help = absurd (no_help_sweep ways bytes_of sweep.options bytes old new ended help sweep.stops)
 help_asked ways bytes_of words bytes old new (ending.Help text) (inr (inr (inr (inl migration)))) help = absurd migration.stops
 help_asked ways bytes_of words bytes old new ending.Version (inr (inr (inr (inl migration)))) help = absurd migration.stops
 help_asked ways bytes_of words bytes old new ended (inr (inr (inr (inr explanation)))) help = absurd (let none = ap is_help explanation.stops in cc)
@@ -120,8 +120,8 @@ help_asked ways bytes_of words bytes old new other by help = cc
 pub is_version : {F P T : Type 0} (ways : Ways F P T) (bytes_of : T → Option (List ℕ)) (words : List Text) (bytes old new : Option (List ℕ)) (ended : Ending) → EndsBy ways bytes_of words bytes old new ended → is_help ended ≡ true
     → (AsksForHelp words → ⊥) → ended ≡ ending.Version
 is_version ways bytes_of words bytes old new (ending.Help text) (inl decided) help unasked = absurd (unasked decided)
-is_version ways bytes_of words bytes old new (ending.Help text) (inr (inl run)) help unasked = absurd (no_help_run ways bytes_of run.told bytes (ending.Help text) help run.stops)
-is_version ways bytes_of words bytes old new (ending.Help text) (inr (inr (inl sweep))) help unasked = absurd (no_help_sweep ways bytes_of sweep.told bytes old new (ending.Help text) help sweep.stops)
+is_version ways bytes_of words bytes old new (ending.Help text) (inr (inl run)) help unasked = absurd (no_help_run ways bytes_of run.options bytes (ending.Help text) help run.stops)
+is_version ways bytes_of words bytes old new (ending.Help text) (inr (inr (inl sweep))) help unasked = absurd (no_help_sweep ways bytes_of sweep.options bytes old new (ending.Help text) help sweep.stops)
 is_version ways bytes_of words bytes old new (ending.Help text) (inr (inr (inr (inl migration)))) help unasked = absurd migration.stops
 is_version ways bytes_of words bytes old new (ending.Help text) (inr (inr (inr (inr explanation)))) help unasked = absurd (let none = ap is_help explanation.stops in cc)
 is_version ways bytes_of words bytes old new ending.Version by help unasked = refl
@@ -168,9 +168,9 @@ then_kept old mid new (inr kept) later = inr (later ∙ kept)
 -- words that name something ask for no answer
 pub does_no_help : {F P T : Type 0} (ways : Ways F P T) (bytes_of : T → Option (List ℕ)) (reads : Reads P) (writes : Writes P) (words : List Text) (bytes : Option (List ℕ)) (status : ℕ) (old new : Option (List ℕ))
     → DoesWords ways bytes_of reads writes words bytes status old new → AsksForAnswer words → ⊥
-does_no_help ways bytes_of reads writes words bytes status old new (inl run) asks = no_help words (a_run run.told) run.named asks
-does_no_help ways bytes_of reads writes words bytes status old new (inr (inl sweep)) asks = no_help words (a_sweep sweep.told) sweep.named asks
-does_no_help ways bytes_of reads writes words bytes status old new (inr (inr (inl migration))) asks = no_help words (a_migration migration.told) migration.named asks
+does_no_help ways bytes_of reads writes words bytes status old new (inl run) asks = no_help words (a_run run.options) run.named asks
+does_no_help ways bytes_of reads writes words bytes status old new (inr (inl sweep)) asks = no_help words (a_sweep sweep.options) sweep.named asks
+does_no_help ways bytes_of reads writes words bytes status old new (inr (inr (inl migration))) asks = no_help words (a_migration migration.options) migration.named asks
 does_no_help ways bytes_of reads writes words bytes status old new (inr (inr (inr explanation))) asks = no_help words (an_explanation explanation.text) explanation.named asks
 
 -- an answer is no failure of the output, and no picture
@@ -205,7 +205,7 @@ pub ends_the_same : {F P T : Type 0} (ways : Ways F P T) (bytes_of : T → Optio
 ends_the_same ways bytes_of words bytes old mid new ended kept (inl decided) = inl decided
 ends_the_same ways bytes_of words bytes old mid new ended kept (inr (inl run)) = inr (inl run)
 ends_the_same ways bytes_of words bytes old mid new ended kept (inr (inr (inl sweep))) =
-    inr (inr (inl (record { told = sweep.told; named = sweep.named; stops = stops_the_same ways bytes_of sweep.told bytes old mid new ended kept sweep.stops })))
+    inr (inr (inl (record { options = sweep.options; named = sweep.named; stops = stops_the_same ways bytes_of sweep.options bytes old mid new ended kept sweep.stops })))
 ends_the_same ways bytes_of words bytes old mid new ended kept (inr (inr (inr other))) = inr (inr (inr other))
 
 -- somebody watches what takes long, or it says nothing
@@ -213,5 +213,5 @@ shown_or : {X : Type 0} (watched : Bool) (words : List Text) (asked : Asked) (ol
 shown_or true words asked old new named long kept = inl (record { asked = asked; named = named; long = long; seen = refl })
 shown_or false words asked old new named long kept = inr (kept refl)
 
-pub sweep_shown_or_kept : {X : Type 0} (watched : Bool) (words : List Text) (told : Sweep) (old new : X) → asked_by words ≡ Some (a_sweep told) → (watched ≡ false → new ≡ old) → IsShown watched words ⊎ (new ≡ old)
-sweep_shown_or_kept watched words told old new named kept = shown_or watched words (a_sweep told) old new named tt kept
+pub sweep_shown_or_kept : {X : Type 0} (watched : Bool) (words : List Text) (options : Sweep) (old new : X) → asked_by words ≡ Some (a_sweep options) → (watched ≡ false → new ≡ old) → IsShown watched words ⊎ (new ≡ old)
+sweep_shown_or_kept watched words options old new named kept = shown_or watched words (a_sweep options) old new named tt kept

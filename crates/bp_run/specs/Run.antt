@@ -48,11 +48,11 @@ ports_for order.Free rows = clients_of rows
 -- what the core of a run in this order is made with, over a page file of this geometry, for these
 -- rows
 abbrev pub parameters_for : Order → RunOptions → Geometry → List Row → Parameters
-parameters_for in_order told g rows = record {
-  frames = told.frames;
-  k = told.k;
-  correlated = told.correlated;
-  retained = told.retained;
+parameters_for in_order options g rows = record {
+  frames = options.frames;
+  k = options.k;
+  correlated = options.correlated;
+  retained = options.retained;
   pages = g.pages;
   size = g.size;
   clients = clients_for in_order rows;
@@ -121,18 +121,18 @@ AreRead {T} traces bytes_of (at_path path) g bytes rows =
 -- what was written is the report of such a run of the rows of the trace, over ports to the page
 -- file that was opened as the words name it
 pub record Runs {F P T : Type 0} (ways : Ways F P T) (bytes_of : T → Option (List ℕ))
-    (reads : Reads P) (writes : Writes P) (told : RunOptions) (bytes : Option (List ℕ))
+    (reads : Reads P) (writes : Writes P) (options : RunOptions) (bytes : Option (List ℕ))
     (all_accepted : Bool) (old new : Option (List ℕ)) : Type 0 where
   pub file : F
-  pub opened : ways.opens told.page_file told.size told.format (Ok file)
-  pub named : IsNamed told.page_file told.size told.format (ways.memory file) (ways.geometry file)
-      (ways.headed file)
+  pub opened : ways.opens options.page_file options.size options.format (Ok file)
+  pub named : IsNamed options.page_file options.size options.format (ways.memory file)
+      (ways.geometry file) (ways.headed file)
   pub rows : List Row
-  pub read : AreRead ways.traces bytes_of told.trace (ways.geometry file) bytes rows
+  pub read : AreRead ways.traces bytes_of options.trace (ways.geometry file) bytes rows
   pub ports : Vec P Global
-  pub connected : ways.connects file (ports_for told.order rows) (Ok ports)
-  pub reports : ReportsIn reads writes told.order told.totals
-      (parameters_for told.order told (ways.geometry file) rows) ports.items rows all_accepted
+  pub connected : ways.connects file (ports_for options.order rows) (Ok ports)
+  pub reports : ReportsIn reads writes options.order options.totals
+      (parameters_for options.order options (ways.geometry file) rows) ports.items rows all_accepted
       old new
 
 -- what was written is the report of such a run, with what the words name; the status is 0 where all
@@ -140,16 +140,16 @@ pub record Runs {F P T : Type 0} (ways : Ways F P T) (bytes_of : T → Option (L
 pub record RunsWords {F P T : Type 0} (ways : Ways F P T) (bytes_of : T → Option (List ℕ))
     (reads : Reads P) (writes : Writes P) (words : List Text) (bytes : Option (List ℕ)) (status : ℕ)
     (old new : Option (List ℕ)) : Type 0 where
-  pub told : RunOptions
-  pub named : asked_by words ≡ Some (a_run told)
+  pub options : RunOptions
+  pub named : asked_by words ≡ Some (a_run options)
   pub all_accepted : Bool
-  pub runs : Runs ways bytes_of reads writes told bytes all_accepted old new
+  pub runs : Runs ways bytes_of reads writes options bytes all_accepted old new
   pub status_is : status ≡ (if all_accepted then 0 else 1)
 
 -- the words name a migration; nothing was written here, and the status is 0
 pub record MigratesWords (words : List Text) (status : ℕ) (old new : Option (List ℕ)) : Type 0 where
-  pub told : Migration
-  pub named : asked_by words ≡ Some (a_migration told)
+  pub options : Migration
+  pub named : asked_by words ≡ Some (a_migration options)
   pub written : Appends old new []
   pub status_is : status ≡ 0
 

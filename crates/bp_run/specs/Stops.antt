@@ -24,11 +24,11 @@ use Rattle.bp_run.specs.Ways.{Ways}
 use Rattle.bp_run.specs.Run.{AreRead, ports_for}
 
 -- the page file is not opened
-pub record NotOpened {F P T : Type 0} (ways : Ways F P T) (told : RunOptions)
+pub record NotOpened {F P T : Type 0} (ways : Ways F P T) (options : RunOptions)
     (ended : Ending) : Type 0 where
   pub fault : OpenFault
-  pub gave : ways.opens told.page_file told.size told.format (Err fault)
-  pub cause : IsOpenFault (memory_named told.page_file) told.size fault
+  pub gave : ways.opens options.page_file options.size options.format (Err fault)
+  pub cause : IsOpenFault (memory_named options.page_file) options.size fault
   pub said : ended ≡ ending_of fault
 
 -- no rows can be read: the bytes have this fault, where they are known, but for want of memory and
@@ -65,28 +65,29 @@ NotReported in_order ended =
 
 -- the page file was opened, and the trace has no rows
 pub record StopsAtTrace {F P T : Type 0} (ways : Ways F P T) (bytes_of : T → Option (List ℕ))
-    (told : RunOptions) (bytes : Option (List ℕ)) (ended : Ending) : Type 0 where
+    (options : RunOptions) (bytes : Option (List ℕ)) (ended : Ending) : Type 0 where
   pub file : F
-  pub opened : ways.opens told.page_file told.size told.format (Ok file)
-  pub not_read : NotRead ways.traces bytes_of told.trace (ways.geometry file) bytes ended
+  pub opened : ways.opens options.page_file options.size options.format (Ok file)
+  pub not_read : NotRead ways.traces bytes_of options.trace (ways.geometry file) bytes ended
 
 -- the page file was opened and the rows were read, and then the run came to no end, or its report
 -- to none
 pub record StopsAfterRead {F P T : Type 0} (ways : Ways F P T) (bytes_of : T → Option (List ℕ))
-    (told : RunOptions) (bytes : Option (List ℕ)) (ended : Ending) : Type 0 where
+    (options : RunOptions) (bytes : Option (List ℕ)) (ended : Ending) : Type 0 where
   pub file : F
-  pub opened : ways.opens told.page_file told.size told.format (Ok file)
+  pub opened : ways.opens options.page_file options.size options.format (Ok file)
   pub rows : List Row
-  pub read : AreRead ways.traces bytes_of told.trace (ways.geometry file) bytes rows
-  pub stopped : NotConnected ways file (ports_for told.order rows) ended
-      ⊎ NotReported told.order ended
+  pub read : AreRead ways.traces bytes_of options.trace (ways.geometry file) bytes rows
+  pub stopped : NotConnected ways file (ports_for options.order rows) ended
+      ⊎ NotReported options.order ended
 
 -- why a run makes no report
 abbrev pub StopsRun : {F P T : Type 0} → Ways F P T → (T → Option (List ℕ)) → RunOptions → Option (List ℕ)
     → Ending → Type 0
-StopsRun ways bytes_of told bytes ended =
-    NotOpened ways told ended
-    ⊎ (StopsAtTrace ways bytes_of told bytes ended ⊎ StopsAfterRead ways bytes_of told bytes ended)
+StopsRun ways bytes_of options bytes ended =
+    NotOpened ways options ended
+    ⊎ (StopsAtTrace ways bytes_of options bytes ended
+    ⊎ StopsAfterRead ways bytes_of options bytes ended)
 
 -- and a migration no page file
 abbrev pub StopsMigration : Ending → Type 0
@@ -100,13 +101,13 @@ StopsMigration _ = ⊥
 -- the words name such a run, or such a migration
 pub record StopsRunOf {F P T : Type 0} (ways : Ways F P T) (bytes_of : T → Option (List ℕ))
     (words : List Text) (bytes : Option (List ℕ)) (ended : Ending) : Type 0 where
-  pub told : RunOptions
-  pub named : asked_by words ≡ Some (a_run told)
-  pub stops : StopsRun ways bytes_of told bytes ended
+  pub options : RunOptions
+  pub named : asked_by words ≡ Some (a_run options)
+  pub stops : StopsRun ways bytes_of options bytes ended
 
 pub record StopsMigrationOf (words : List Text) (ended : Ending) : Type 0 where
-  pub told : Migration
-  pub named : asked_by words ≡ Some (a_migration told)
+  pub options : Migration
+  pub named : asked_by words ≡ Some (a_migration options)
   pub stops : StopsMigration ended
 
 -- the words name the number of a refusal, and not all of its text was written
@@ -148,8 +149,8 @@ pub record Prints (old new : Option (List ℕ)) : Type 0 where
 
 -- how far these come is shown
 abbrev pub TakesLong : Asked → Type 0
-TakesLong (a_migration told) = Unit {0}
-TakesLong (a_sweep told) = Unit {0}
+TakesLong (a_migration options) = Unit {0}
+TakesLong (a_sweep options) = Unit {0}
 TakesLong _ = ⊥
 
 -- the words name a migration or a sweep, and somebody watches how far it comes

@@ -66,9 +66,9 @@ pub record Sweeps {F P T : Type 0} (ways : Ways F P T) (bytes_of : T → Option 
 pub record SweepsWords {F P T : Type 0} (ways : Ways F P T) (bytes_of : T → Option (List ℕ))
     (words : List Text) (bytes : Option (List ℕ)) (status : ℕ)
     (old new : Option (List ℕ)) : Type 0 where
-  pub told : Sweep
-  pub named : asked_by words ≡ Some (a_sweep told)
-  pub sweeps : Sweeps ways bytes_of told bytes old new
+  pub options : Sweep
+  pub named : asked_by words ≡ Some (a_sweep options)
+  pub sweeps : Sweeps ways bytes_of options bytes old new
   pub status_is : status ≡ 0
 
 -- ---- why there is no table
@@ -148,6 +148,6 @@ StopsSweep ways bytes_of s bytes old new ended =
 -- the words name such a sweep
 pub record StopsSweepOf {F P T : Type 0} (ways : Ways F P T) (bytes_of : T → Option (List ℕ))
     (words : List Text) (bytes old new : Option (List ℕ)) (ended : Ending) : Type 0 where
-  pub told : Sweep
-  pub named : asked_by words ≡ Some (a_sweep told)
-  pub stops : StopsSweep ways bytes_of told bytes old new ended
+  pub options : Sweep
+  pub named : asked_by words ≡ Some (a_sweep options)
+  pub stops : StopsSweep ways bytes_of options bytes old new ended

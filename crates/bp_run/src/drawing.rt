@@ -3,9 +3,8 @@ ghost use Rattle.std.specs.Prelude.{◌≡◌, ◌++◌, map, IfOk, OnOk};
 ghost use Rattle.bp_run.specs.Drawing.{AreShown, Pictures, cell_of, if_among, names_of};
 
 use bp_charts::{Cell, Line, Point, Which, lines_of, write_chart};
+use bp_core::MAX_STAMPS;
 use std::alloc::{AllocError, Global};
-
-const MAX_K: usize = 16;
 
 fn cell_of(line: &Line) -> Cell
     ensures { result ≡ cell_of line.now }
@@ -59,7 +58,7 @@ fn names_of(alloc: Global, ks: &[usize]) -> Result<Vec<Which>, AllocError>
     ensures { IfOk result (λ names. names.items ≡ names_of ks.now) }
 {
     let mut names = Vec::new(alloc);
-    for less in 0..MAX_K {
+    for less in 0..MAX_STAMPS {
         add_name(&mut names, ks, less + 1)?;
     }
     names.push(Which::Optimum)?;

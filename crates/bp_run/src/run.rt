@@ -24,7 +24,7 @@ use crate::scripts::client_count;
 use crate::sweeping::sweep_as_asked;
 use bp_cli::{Ending, Order, RunWords, Task, TraceSource, decide};
 use bp_core::config::MAX_CLIENTS;
-use bp_core::{Core, Entry, Refused, Row, Settings};
+use bp_core::{Core, Entry, Keeper, RecordingKeeper, Refused, Row, Settings};
 use bp_device::drive_all;
 use bp_page::{Geometry, PortFault, Refusal};
 use bp_ports::{OpenFault, Port};
@@ -38,9 +38,6 @@ use std::sync::Wait;
 use std::thread::Threads;
 use std::time::Clock;
 
-/// The greatest room of a trail, in entries.
-const MAX_ROOM: usize = 16_777_216;
-
 /// Returns the room of the trail for so many rows, in entries.
 pub(crate) fn room_for(order: Order, rows: usize) -> usize
     ensures { result ≡ room_for order rows }
@@ -49,7 +46,7 @@ pub(crate) fn room_for(order: Order, rows: usize) -> usize
         Order::Trace => rows.saturating_mul(8).saturating_add(16),
         Order::Free => rows.saturating_mul(64).saturating_add(1_024),
     };
-    room.min(MAX_ROOM)
+    room.min(RecordingKeeper::MOST_ROOM)
 }
 
 /// Returns the number of ports of a run: in free order one for each client, as each is a thread, else 1.

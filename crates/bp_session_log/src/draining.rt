@@ -65,19 +65,9 @@ pub fn drain_known<K: Keeper>(
     }
 }
 
-/// Looks into a client's ring, and gives at most 32 of the passes back that wait there.
-fn drain<K: Keeper>(core: &mut PoolCore<K>, client: usize, consumer: &mut Consumer<PassNote>)
-    ensures parameters { core.new.parameters ≡ core.old.parameters }
-    ensures before { core.new.before ≡ core.old.before }
-    ensures drained { DrainsRing 32 client (ring_view consumer.old) (ring_view consumer.new)
-        core.old.past core.new.past }
-{
-    consumer.slots();
-    drain_known(core, client, consumer, RING);
-}
-
-/// Drains a client's ring that is to be asked, or in which a pass is known to wait.
-fn drain_asked<K: Keeper>(
+/// Gives back at most 32 of the passes that wait in a client's ring, if the ring is to be asked, or a pass is known to
+/// wait in it.
+fn drain<K: Keeper>(
     core: &mut PoolCore<K>,
     client: usize,
     consumer: &mut Consumer<PassNote>,
@@ -88,9 +78,11 @@ fn drain_asked<K: Keeper>(
     ensures drained { DrainsRing 32 client (ring_view consumer.old) (ring_view consumer.new)
         core.old.past core.new.past }
 {
-    if is_asked || consumer.cached_slots() > 0 {
-        drain(core, client, consumer);
+    if !is_asked && consumer.cached_slots() == 0 {
+        return;
     }
+    consumer.slots();
+    drain_known(core, client, consumer, RING);
 }
 
 /// Drains each ring that is to be asked, and each in which a pass is known to wait, the first client's first, at most
@@ -109,7 +101,7 @@ pub fn drain_all<K: Keeper>(
 {
     let mut word = asked;
     for client in 0..consumers.len() {
-        drain_asked(core, client, &mut consumers[client], word % 2 == 1);
+        drain(core, client, &mut consumers[client], word % 2 == 1);
         word /= 2;
     }
 }

@@ -32,7 +32,6 @@ impl Model for PendingWrite {
     ghost view = { λ p. p.ticket };
 }
 
-/// The result of a fix.
 pub enum Fix {
     /// A pass of the page.
     Hit(Pass),
@@ -42,7 +41,6 @@ pub enum Fix {
     WriteFirst(PendingWrite),
 }
 
-/// The result of a flush.
 pub enum Flush {
     /// The page is saved.
     Clean,

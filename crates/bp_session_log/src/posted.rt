@@ -14,7 +14,7 @@ const FEW: u8 = 16;
 pub struct Posted {
     has_many: bool,
     /// Bit c: client c announced a pass.
-    told: AtomicU64,
+    announced: AtomicU64,
 }
 
 impl Posted {
@@ -22,7 +22,7 @@ impl Posted {
     pub fn nothing(clients: u8) -> Posted {
         Posted {
             has_many: clients > FEW,
-            told: AtomicU64::new(0),
+            announced: AtomicU64::new(0),
         }
     }
 
@@ -30,7 +30,7 @@ impl Posted {
     pub fn tell(&self, client: u8) {
         if self.has_many {
             let bit = 1u64.wrapping_shl(u32::from(client));
-            self.told.fetch_or(bit, Ordering::SeqCst);
+            self.announced.fetch_or(bit, Ordering::SeqCst);
         }
     }
 
@@ -40,9 +40,9 @@ impl Posted {
         if !self.has_many {
             return u64::MAX;
         }
-        if self.told.load(Ordering::SeqCst) == 0 {
+        if self.announced.load(Ordering::SeqCst) == 0 {
             return 0;
         }
-        self.told.swap(0, Ordering::SeqCst)
+        self.announced.swap(0, Ordering::SeqCst)
     }
 }

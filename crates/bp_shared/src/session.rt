@@ -168,7 +168,7 @@ impl<N: PoolName, K: ListKeeper> Session<N, K> {
         ensures seen { self.new.seen ≡ self.old.seen }
         ensures outcome { UnfixSaid self.old pass result self.new }
     {
-        // The ring is looked at anew for a pass that is held alone, as the refusal of another changes nothing.
+        // The ring is looked at anew only for a pass that is held, since the refusal of another changes nothing.
         if self.producer.cached_slots() == 0 && self.book.holds(&pass) && self.producer.is_full() {
             return Err((pass, Refusal::RingFull));
         }

@@ -6,7 +6,8 @@ use Rattle.std.specs.Prelude.{IfSome}
 use Rattle.csv.specs.Reading.{ReadRecord, Ready, reader_trim}
 use Rattle.csv.specs.declared.reader.Reader.{Reader}
 use Rattle.csv.specs.declared.reader.Trim.TheVariants as trim
-use Rattle.bp_trace.proofs.CsvRecords.{Leaves, takes_next, takes_none}
+use Rattle.bp_trace.specs.Reading.{Leaves}
+use Rattle.bp_trace.proofs.CsvRecords.{takes_next, takes_none}
 use Rattle.bp_sweep.specs.declared.dense.Gathered.{Gathered}
 use Rattle.bp_sweep.specs.declared.faults.ReferenceFault.{ReferenceFault}
 use Rattle.bp_sweep.specs.Dense.{Pages}

@@ -12,15 +12,14 @@ ghost use Rattle.bp_sweep.specs.Referring.{AreFrames, CellRefused, EndsCell, Fix
 ghost use Rattle.bp_sweep.specs.Referring.{IsTallied, is_passed_over};
 
 use crate::progress::{Progress, Turn, Unwatched, tell};
-use bp_core::{EndRefusal, Fix, Pass, ReadTicket, Reply, Settings, SilentCore};
+use bp_core::{
+    EndRefusal, Fix, Keeper, Pass, ReadTicket, Reply, Settings, SilentCore, SilentKeeper,
+};
 use bp_page::{Image, PageNo, PortFault, Refusal};
 use bp_ports::Port;
 use bp_trail::Totals;
 use std::alloc::Global;
 use std::sync::Wait;
-
-/// The room of a cell's core.
-const ROOM: usize = 1 << 61;
 
 fn end_load(
     core: &mut SilentCore,
@@ -181,7 +180,14 @@ pub(crate) fn count_cell<P: Port, R: Wait, G: Progress>(
     ensures fault { IfErr result (CellRefused frames) }
     ensures geometry { P.geometry_of port.new ≡ P.geometry_of port.old }
 {
-    let mut core = SilentCore::new(alloc, port.geometry(), settings, frames, 1, ROOM)?;
+    let mut core = SilentCore::new(
+        alloc,
+        port.geometry(),
+        settings,
+        frames,
+        1,
+        SilentKeeper::MOST_ROOM,
+    )?;
     let mut totals = Totals::none();
     let made = refer_all(rt, &mut core, port, references, &mut totals, progress, turn);
     core.keeps_the_rules();

@@ -1,4 +1,4 @@
-//! A law of references.
+//! What the numbers of a list's pages say of the list: one page for each different number.
 ghost use Rattle.std.specs.Prelude.{◌≡◌, ◌<◌, ◌↔◌, ℕ, List, All, length, slice_index};
 ghost use Rattle.bp_sweep.specs.Dense.{AreDense};
 

@@ -2,6 +2,7 @@ pub mod CsvRecords
 pub mod Digits
 pub mod Entries
 pub mod Fitting
+pub mod Inputs
 pub mod ReadBack
 pub mod RowSteps
 pub mod SixFields

@@ -4,6 +4,7 @@ pub mod Faults
 pub mod Fields
 pub mod Record
 pub mod Script
+pub mod Reading
 pub mod Input
 pub mod InRange
 pub mod Written

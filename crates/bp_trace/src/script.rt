@@ -1,8 +1,10 @@
 //! `read_script`, which reads a trace whole and parses its rows.
-ghost use Rattle.std.specs.Prelude.{◌≡◌, ◌≤◌, ◌⊎◌, All, IfOk, IfSome, OnOk, length};
+ghost use Rattle.std.specs.Prelude.{◌≡◌, ◌≤◌, ◌⊎◌, ℕ, List, [], Some, All, IfOk, IfSome, OnOk, length};
 ghost use Rattle.std.specs.Io.KnownBytes.{IsAtEnd};
-ghost use Rattle.csv.specs.Reading.{default_config, error_kind, records, strip_bom};
+ghost use Rattle.csv.specs.Reading.{Ready, default_config, error_kind, reader_trim, records, strip_bom};
+ghost use Rattle.csv.specs.declared.reader.Trim.TheVariants as trim;
 ghost use Rattle.bp_trace.specs.InRange.{AreNumberedFrom, IsInRange};
+ghost use Rattle.bp_trace.specs.Reading.{HasRead, Leaves};
 ghost use Rattle.bp_trace.specs.Script.{Answers, IsScriptOfSome, fault, fault_at, fault_of_kind, most_rows, script_from, script_of};
 
 use crate::faults::{InputFault, TraceFault};
@@ -10,7 +12,7 @@ use crate::input::read_all;
 use crate::record::parse_row;
 use bp_page::Geometry;
 use bp_trail::Row;
-use csv::{ByteRecord, Error, ErrorKind, ReaderBuilder};
+use csv::{ByteRecord, Error, ErrorKind, Reader, ReaderBuilder};
 use std::alloc::Global;
 use std::io::Read;
 
@@ -36,6 +38,47 @@ fn fault_at(row: u64, why: InputFault) -> TraceFault
     }
 }
 
+/// Reads the records that a reader has left into an empty list, as rows numbered from 1, up to the first fault. It owns
+/// nothing that an exit must drop, so its proof is short.
+fn read_rows(
+    alloc: Global,
+    geometry: &Geometry,
+    reader: &mut Reader<&[u8]>,
+    record: &mut ByteRecord,
+    rows: &mut Vec<Row>,
+) -> Result<(), TraceFault>
+    requires trim { reader_trim reader.old ≡ trim.None }
+    requires ready { Ready reader.old }
+    requires empty { rows.old.items ≡ [] }
+    ensures { (left : List (List (List ℕ))) → Leaves (λ source. Some source.now) reader.old left →
+        HasRead result rows.new.items (script_from geometry.now 1 left) }
+{
+    for number in 1..MAX_ROWS + 1 {
+        let found = match reader.read_byte_record(record) {
+            Ok(found) => found,
+            Err(e) => return Err(fault_of(e)),
+        };
+        if !found {
+            return Ok(());
+        }
+        let row = match parse_row(alloc, geometry, number, record) {
+            Ok(row) => row,
+            Err(why) => return Err(fault_at(number, why)),
+        };
+        if rows.push(row).is_err() {
+            return Err(TraceFault::new(0, InputFault::OutOfMemory));
+        }
+    }
+    let more = match reader.read_byte_record(record) {
+        Ok(more) => more,
+        Err(e) => return Err(fault_of(e)),
+    };
+    if more {
+        return Err(TraceFault::new(MAX_ROWS + 1, InputFault::TooLong));
+    }
+    Ok(())
+}
+
 fn rows_of(alloc: Global, bytes: &[u8], geometry: &Geometry) -> Result<Vec<Row>, TraceFault>
     ensures { Answers result (script_from geometry.now 1
         (records default_config (strip_bom bytes.now))) }
@@ -44,31 +87,9 @@ fn rows_of(alloc: Global, bytes: &[u8], geometry: &Geometry) -> Result<Vec<Row>,
         .has_headers(false)
         .flexible(true)
         .from_reader(alloc, bytes);
-    let mut rows = Vec::new(alloc);
     let mut record = ByteRecord::new(alloc);
-    for number in 1..MAX_ROWS + 1 {
-        let found = match reader.read_byte_record(&mut record) {
-            Ok(found) => found,
-            Err(e) => return Err(fault_of(e)),
-        };
-        if !found {
-            return Ok(rows);
-        }
-        let row = match parse_row(alloc, geometry, number, &record) {
-            Ok(row) => row,
-            Err(why) => return Err(fault_at(number, why)),
-        };
-        if rows.push(row).is_err() {
-            return Err(TraceFault::new(0, InputFault::OutOfMemory));
-        }
-    }
-    let more = match reader.read_byte_record(&mut record) {
-        Ok(more) => more,
-        Err(e) => return Err(fault_of(e)),
-    };
-    if more {
-        return Err(TraceFault::new(MAX_ROWS + 1, InputFault::TooLong));
-    }
+    let mut rows = Vec::new(alloc);
+    read_rows(alloc, geometry, &mut reader, &mut record, &mut rows)?;
     Ok(rows)
 }
 

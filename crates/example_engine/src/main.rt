@@ -183,7 +183,7 @@ fn main(rt: HostRuntime) -> Result<(), anyhow::Error> {
     let config = Config::new(geometry).with_frames(8);
     let run = run_workers_over::<SilentKeeper, _, _, _>(rt, alloc, config, ports, workers)?;
     // A run is dropped by a call: to drop it at each exit takes longer to prove.
-    let told = tell(rt, &run.left);
+    let result = tell(rt, &run.left);
     drop(run);
-    told
+    result
 }

@@ -103,10 +103,10 @@ ShowsLoad ticket (Some gone) fixed =
       has_evicted = 1;
     }
 
--- an answer that was told where it is good
-abbrev pub told : {A B : Type 0} → Result A Refusal → B → Result B Refusal
-told (Ok done) answer = Ok answer
-told (Err why) answer = Err why
+-- this answer where the result is good, else the refusal
+abbrev pub answer_of : {A B : Type 0} → Result A Refusal → B → Result B Refusal
+answer_of (Ok done) answer = Ok answer
+answer_of (Err why) answer = Err why
 
 -- what a fix gave, as C sees it: 1 is a pass, 2 a page to read, 3 one to write out first
 abbrev pub ShowsFix : Fix → List ℕ → HzFixed → List ℕ → Type 0

@@ -8,7 +8,7 @@
 
 ghost use Rattle.std.specs.Prelude.{◌≡◌, None, is_some, if◌then◌else◌, Ok, Err, IfOk, IfErr, length};
 ghost use Rattle.hojzmated_c.specs.Texts.{begun_with, text_of};
-ghost use Rattle.hojzmated_c.specs.Outcomes.{Opens, told};
+ghost use Rattle.hojzmated_c.specs.Outcomes.{Opens, answer_of};
 ghost use Rattle.hojzmated_c.specs.Exports.{code_of, Made, Ticked, Marked, Purged, Asked, Flushed, ReadEnded, ReadFailed, WriteEnded, PageLent, LsnTold, PartRead, PartWrote, Unfixed, NextTold, RedoTold, StatsTold, ResidentTold, shown_fix};
 
 mod forms;
@@ -45,7 +45,7 @@ fn code<T>(answer: &Result<T, Refusal>) -> u16
 
 /// Puts a refusal into `out`. Where nothing was refused, `out` already has the answer.
 fn shown(client: u8, page: u64, answer: &Result<(), Refusal>, out: &mut HzFixed)
-    ensures { out.new ≡ shown_fix client page (told answer.now out.old) }
+    ensures { out.new ≡ shown_fix client page (answer_of answer.now out.old) }
 {
     if let Err(refusal) = answer {
         *out = HzFixed::refused(client, page, refusal);
@@ -372,9 +372,9 @@ pub extern "C" fn proved_hz_page_lsn(
     let Some(pool) = core.take(alloc) else {
         return NO_CORE;
     };
-    let told = pool.page_lsn(pass);
+    let found = pool.page_lsn(pass);
     *core = HzCore::of(pool);
-    let Some(page_lsn) = told else {
+    let Some(page_lsn) = found else {
         return Refusal::UnknownPass.number();
     };
     *lsn = page_lsn.number();
@@ -455,12 +455,12 @@ pub extern "C" fn proved_hz_is_resident(
     let Some(pool) = core.take(alloc) else {
         return NO_CORE;
     };
-    let told = pool.is_resident(page);
+    let found = pool.is_resident(page);
     *core = HzCore::of(pool);
-    if let Ok(is_here) = told {
+    if let Ok(is_here) = found {
         *is_resident = if is_here { 1 } else { 0 };
     }
-    code(&told)
+    code(&found)
 }
 
 /// Writes the text of a refusal's number, as much as fits, and returns its whole length in bytes.

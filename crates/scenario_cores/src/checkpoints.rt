@@ -1,7 +1,7 @@
 //! Calls for checkpoints, counters, and device work of more than one page.
 ghost use Rattle.std.specs.Prelude.{◌<◌};
 
-use crate::observing::told_of_page;
+use crate::observing::answer_of_page;
 use crate::outcomes::{flushed_all, lsn_or_none, stats_of, went};
 use crate::pools::Pool;
 use bp_core::Keeper;
@@ -16,7 +16,7 @@ impl<K: Keeper> Pool<K> {
         match call.verb {
             Verb::Redo => lsn_or_none(self.core.redo_from()),
             Verb::Stats => stats_of(self.alloc, &self.core.stats(), self.unread),
-            _ => told_of_page(&self.core, call),
+            _ => answer_of_page(&self.core, call),
         }
     }
 

@@ -9,7 +9,7 @@ use scenario_words::{Answer, Said, Verb, mixed};
 const PAGES: u64 = 16;
 
 /// Answers what a core tells of a page, or from a page on.
-pub(crate) fn told_of_page<K: Keeper>(core: &PoolCore<K>, call: &Said) -> Answer {
+pub(crate) fn answer_of_page<K: Keeper>(core: &PoolCore<K>, call: &Said) -> Answer {
     let [number, i, _] = call.numbers.list;
     let page = PageNo::new(number);
     match call.verb {

@@ -3,7 +3,7 @@
 use crate::buffers::{Span, bytes_read};
 use crate::devices::{Device, call_device, new_device};
 use crate::lists::{LOST, Lists, grant_of, new_lists, pass_of};
-use crate::observing::{digest_of, told_of_page};
+use crate::observing::{answer_of_page, digest_of};
 use crate::outcomes::{done, flushed, flushed_all, forgot, lsn_or_none, stats_of, went};
 use crate::pools::{Pool, pool_of};
 use bp_core::{Keeper, PoolCore, Settings};
@@ -231,7 +231,7 @@ impl<K: Keeper> Owned<K> {
             Verb::Free => Answer::Number(core.free() as u64),
             Verb::Stats => stats_of(self.alloc, &core.stats(), self.unread),
             Verb::Put | Verb::Device => call_device(self.alloc, rt, &self.memory, call),
-            _ => told_of_page(core, call),
+            _ => answer_of_page(core, call),
         }
     }
 

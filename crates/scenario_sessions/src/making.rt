@@ -45,7 +45,7 @@ impl Beside {
     }
 
     /// Returns the number of failures of a client's port, and the page LSN of its newest write, or 0.
-    pub(crate) fn told_by_port(&self, client: u64) -> (u64, u64) {
+    pub(crate) fn port_state(&self, client: u64) -> (u64, u64) {
         if client == 0 {
             (self.first.failures(), self.first.lsn())
         } else {

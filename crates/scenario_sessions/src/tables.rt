@@ -169,7 +169,7 @@ impl<N: PoolName, K: Kind> Table<N, K> {
     /// Makes the call of a line that names a client.
     fn ask_client<R: Wait>(&mut self, rt: &R, line: &Said) -> Answer {
         let [client, _, _] = line.numbers.list;
-        let (failures, lsn) = self.beside.told_by_port(client);
+        let (failures, lsn) = self.beside.port_state(client);
         let unread = self.beside.unread();
         let at = client as usize;
         let (Some(session), Some(note)) = (self.sessions.get_mut(at), self.beside.notes.get_mut(at))
@@ -211,8 +211,8 @@ impl<N: PoolName, K: Kind> Table<N, K> {
         }
     }
 
-    fn told(&self, client: u64) -> Standing {
-        let (failures, _) = self.beside.told_by_port(client);
+    fn standing(&self, client: u64) -> Standing {
+        let (failures, _) = self.beside.port_state(client);
         match self.sessions.get(client as usize) {
             Some(session) => standing_of(session, failures),
             None => Standing {
@@ -233,9 +233,9 @@ impl<N: PoolName, K: Kind> Table<N, K> {
     /// Makes a call, and makes it again where memory was refused. That must have changed nothing that is told.
     fn ask<R: Wait>(&mut self, rt: &R, call: &Said, answers: &mut Answers) -> Answer {
         let [client, _, _] = call.numbers.list;
-        let before = self.told(client);
+        let before = self.standing(client);
         let answer = self.obey(rt, call);
-        let lack = lack_of(call.verb, &answer, before, self.told(client));
+        let lack = lack_of(call.verb, &answer, before, self.standing(client));
         if matches!(lack, Lack::Nothing) {
             return answer;
         }

@@ -199,7 +199,7 @@ struct Tally {
     passes: usize,
     /// The entries of the trail, and of all lists.
     entries: usize,
-    told: usize,
+    listed: usize,
     /// The cuts of the trail, and of all lists.
     cuts: usize,
     list_cuts: usize,
@@ -213,17 +213,17 @@ fn tally_of<N: PoolName>(pieces: &Pieces, left: usize, runners: &[Runner<N>]) ->
     let mut tally = Tally {
         passes: 0,
         entries: pieces.entries.saturating_add(left),
-        told: 0,
+        listed: 0,
         cuts: pieces.cuts,
         list_cuts: 0,
         capacity: pieces.capacity,
         faults: 0,
     };
     for runner in runners {
-        let told = runner.pieces.entries;
+        let listed = runner.pieces.entries;
         let left = runner.client.session.said().len();
         tally.passes = tally.passes.saturating_add(runner.passes);
-        tally.told = tally.told.saturating_add(told).saturating_add(left);
+        tally.listed = tally.listed.saturating_add(listed).saturating_add(left);
         tally.list_cuts = tally.list_cuts.saturating_add(runner.pieces.cuts);
         tally.capacity = tally.capacity.max(runner.pieces.capacity);
     }
@@ -371,7 +371,7 @@ fn a_million_entries_in_little_room(rt: HostRuntime) {
     let tally = run_threads(&rt, plan);
     // Each round has four entries, and a client's first fix has one more.
     assert_eq!(rt;
-        (tally.passes, tally.entries, tally.told),
+        (tally.passes, tally.entries, tally.listed),
         (250000, 1000002, 1000002)
     );
     // Each thread cuts the trail and its list once in 250 rounds. The capacity of the first pieces never grows.
@@ -393,7 +393,7 @@ fn pieces_that_threads_cut_are_legal(rt: HostRuntime) {
     };
     let tally = run_threads(&rt, plan);
     assert_eq!(rt;
-        (tally.passes, tally.entries, tally.told),
+        (tally.passes, tally.entries, tally.listed),
         (2500, 10002, 10002)
     );
     assert_eq!(rt;

@@ -2,7 +2,7 @@
 ghost use Rattle.std.specs.Prelude.{◌≡◌, length, Option};
 ghost use Rattle.bp_trail.specs.Event.{grant};
 ghost use Rattle.hojzmated_c.specs.Forms.{shown};
-ghost use Rattle.hojzmated_c.specs.Outcomes.{Fixes, Flushes, Sends, ShowsLoad, told};
+ghost use Rattle.hojzmated_c.specs.Outcomes.{Fixes, Flushes, Sends, ShowsLoad, answer_of};
 
 use crate::forms::{ABSENT, CLEAN, HIT, HzFixed, LOAD, WRITE_FIRST};
 use crate::pool::Pool;
@@ -55,7 +55,8 @@ impl Pool {
         image: &mut [u8],
         out: &mut HzFixed,
     ) -> Result<(), Refusal>
-        ensures { Fixes self.old client page image.old (told result out.new) image.new self.new }
+        ensures { Fixes self.old client page image.old (answer_of result out.new) image.new
+            self.new }
     {
         if client >= self.core.clients() {
             return Err(Refusal::BadClient);
@@ -82,7 +83,8 @@ impl Pool {
         image: &mut [u8],
         out: &mut HzFixed,
     ) -> Result<(), Refusal>
-        ensures { Flushes self.old client page image.old (told result out.new) image.new self.new }
+        ensures { Flushes self.old client page image.old (answer_of result out.new) image.new
+            self.new }
     {
         if client >= self.core.clients() {
             return Err(Refusal::BadClient);

@@ -17,8 +17,8 @@ fail_write_out-requires g c = (found c.self.inside.state.frames c.args.ticket.pa
 pub end_use-requires-clause-at : goal.end_use-requires-clause-at
 end_use-requires-clause-at g c = rw c.fail_write_out.ensures (found c.self.inside.state.frames c.args.ticket.page c.find.result c.unwrap-slot.result c.find.ensures.found c.unwrap-slot.ensures).0
 
-pub end_use-requires-clause-told : goal.end_use-requires-clause-told
-end_use-requires-clause-told g c = rw c.fail_write_out.ensures (told-after _ _ _ c.self.invariant c.unwrap-slot.result.page not_saved (λ f. refl) (λ f. refl))
+pub end_use-requires-clause-blocks : goal.end_use-requires-clause-blocks
+end_use-requires-clause-blocks g c = rw c.fail_write_out.ensures (told-after _ _ _ c.self.invariant c.unwrap-slot.result.page not_saved (λ f. refl) (λ f. refl))
 
 pub end_use-requires-clause-apart : goal.end_use-requires-clause-apart
 end_use-requires-clause-apart g c =

@@ -40,8 +40,8 @@ evict_for-requires-clause-full g c =
     subst (λ v. has_free_frame v.parameters v.past ≡ false) c.self.view_is
     (le-ltb _ i.config.frames (omega (arith, occupied_is _ _ _ c.self.invariant.agrees, c.len.ensures, c.len-in_default.ensures, c.if-len-self.false)))
 
-pub block-block-requires-clause-told : goal.block-block-requires-clause-told
-block-block-requires-clause-told g c = tell-blocks _ _ _ c.self.invariant
+pub block-block-requires-clause-blocks : goal.block-block-requires-clause-blocks
+block-block-requires-clause-blocks g c = tell-blocks _ _ _ c.self.invariant
 
 pub pin-requires-clause-few : goal.pin-requires-clause-few
 pin-requires-clause-few g c =

@@ -11,8 +11,8 @@ unwrap-slot-requires g c = c.find.ensures.here ∙ victim-here _ _ _ c.self.inva
 pub block-block-requires-clause-at : goal.block-block-requires-clause-at
 block-block-requires-clause-at g c = (found c.self.inside.state.frames c.args.gone c.find.result c.unwrap-slot.result c.find.ensures.found c.unwrap-slot.ensures).0
 
-pub block-block-requires-clause-told : goal.block-block-requires-clause-told
-block-block-requires-clause-told g c = tell-blocks _ _ _ c.self.invariant
+pub block-block-requires-clause-blocks : goal.block-block-requires-clause-blocks
+block-block-requires-clause-blocks g c = tell-blocks _ _ _ c.self.invariant
 
 pub withdraw-requires : goal.withdraw-requires
 withdraw-requires g c = (found c.self.inside.state.frames c.args.gone c.find.result c.unwrap-slot.result c.find.ensures.found c.unwrap-slot.ensures).0

@@ -9,7 +9,7 @@ use Rattle.bp_lruk.proofs.candidates.Candidates.leave.Goals as goal
 
 pub remove-requires : goal.remove-requires
 remove-requires c =
-    let there = stands_at c.self.inside.order.items c.deref.result.now c.self.inside.pages.entries (c.leave-hist_k.result.0, c.leave-hist_k.result.1, c.args.page) c.order_place-at.result c.deref.ensures.value c.self.invariant.0 c.self.invariant.2 c.order_place-at.ensures c.leave-hist_k.ensures.told in
+    let there = stands_at c.self.inside.order.items c.deref.result.now c.self.inside.pages.entries (c.leave-hist_k.result.0, c.leave-hist_k.result.1, c.args.page) c.order_place-at.result c.deref.ensures.value c.self.invariant.0 c.self.invariant.2 c.order_place-at.ensures c.leave-hist_k.ensures.found in
     omega (arith, there.in_range, c.self.inside.order.ok)
 
 abbrev gone : goal.After-remove → Candidate
@@ -17,7 +17,7 @@ gone c = (c.leave-hist_k.result.0, c.leave-hist_k.result.1, c.args.page)
 
 module _ (c : goal.After-remove) where
   there : StandsAt c.self.inside.order.items (gone c) c.order_place-at.result
-  there = stands_at c.self.inside.order.items c.deref.result.now c.self.inside.pages.entries (gone c) c.order_place-at.result c.deref.ensures.value c.self.invariant.0 c.self.invariant.2 c.order_place-at.ensures c.leave-hist_k.ensures.told
+  there = stands_at c.self.inside.order.items c.deref.result.now c.self.inside.pages.entries (gone c) c.order_place-at.result c.deref.ensures.value c.self.invariant.0 c.self.invariant.2 c.order_place-at.ensures c.leave-hist_k.ensures.found
 
   page_is : (get_or c.self.inside.order.items c.order_place-at.result (gone c)).2 ≡ c.args.page
   page_is = ap (λ (e : Candidate). e.2) (there.here (gone c))

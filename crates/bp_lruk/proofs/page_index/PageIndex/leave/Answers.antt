@@ -22,8 +22,8 @@ there c = stands c.self.inside.entries.items c.deref.result.now c.args.page c.un
 leaves : (c : goal.After-self-1) → Leaves (entered_in c.self.inside.entries.items) (entered_in (set c.self.inside.entries.items c.unwrap-at.result (record { page = c.index_mut.result.now.page; entered = None }))) c.args.page
 leaves c = left_from c.self.inside.entries.items c.args.page c.unwrap-at.result c.index.result.now c.index_mut.result.now c.unwrap-entered.result c.self.invariant.0 (there c) c.index.ensures c.index_mut.ensures.value c.unwrap-entered.ensures
 
-pub returns-clause-told : goal.returns-clause-told
-returns-clause-told c =
+pub returns-clause-found : goal.returns-clause-found
+returns-clause-found c =
     ap (λ (l : Listed). find_entry l.entries c.args.page) (sym c.self.view_is)
     ∙ told_at c.self.inside.entries.items c.args.page c.unwrap-at.result c.index.result.now c.self.invariant.0 (there c) c.index.ensures
     ∙ c.unwrap-entered.ensures
