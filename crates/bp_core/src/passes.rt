@@ -48,6 +48,7 @@ impl Model for PassNote {
     ghost inverse = { λ g. record { client = g.client; page = g.page; serial = g.serial } };
 }
 
+/// What a fix gave: a pass, or a ticket for the read or the write-out that is to be done first.
 pub enum Fix {
     /// The page is in a frame: the pass of it.
     Hit(Pass),
@@ -58,6 +59,7 @@ pub enum Fix {
     WriteFirst(WriteTicket),
 }
 
+/// What a flush gave: a ticket to write the page out, or why there is nothing to write out.
 pub enum Flush {
     /// The page is in a frame and not unsaved: nothing is to be written.
     Clean,

@@ -272,7 +272,8 @@ impl GrantList {
         if !self.mark(client, page, serial) {
             return false;
         }
-        // Two slots that were left are let go for each one that is, so that the list stays short and a call O(log n).
+        // At each end up to two slots that were left go: more than this call left, so that they do not gather there,
+        // and no more, so that the call takes O(log n).
         self.trim();
         self.trim();
         true

@@ -5,6 +5,7 @@ ghost use Rattle.bp_ports.specs.Ports.{has_headers};
 use bp_page::{Format, Geometry};
 use bp_ports::{FilePort, MemDevice};
 
+/// A page file in memory, whose device gives each client its port.
 #[derive(Drop)]
 pub struct OpenMemory {
     pub geometry: Geometry,
@@ -25,6 +26,7 @@ pub struct OpenFile {
     pub ghost headed: { first.headed ≡ has_headers format },
 }
 
+/// The page file of a run, in memory or on disk.
 #[derive(Drop)]
 pub enum OpenPages {
     Mem(OpenMemory),

@@ -32,15 +32,17 @@ impl Model for PendingWrite {
     ghost view = { λ p. p.ticket };
 }
 
+/// What `Book::ask_fix` gave: a pass, or the device work that it began, which is to be done first.
 pub enum Fix {
     /// A pass of the page.
     Hit(Pass),
-    /// The page is to be read, after the other one left its frame.
+    /// The page is to be read. The page that left its frame for it is named; none where a frame was free.
     Load(PendingRead, Option<PageNo>),
     /// A page that is to leave its frame is to be written out first.
     WriteFirst(PendingWrite),
 }
 
+/// What `Book::ask_flush` gave: the write-out that it began, or why there is nothing to write out.
 pub enum Flush {
     /// The page is saved.
     Clean,

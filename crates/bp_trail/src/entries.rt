@@ -11,6 +11,7 @@ pub struct Entry {
     pub reply: Reply,
 }
 
+/// What a client asks of the core, or tells it, by a call that makes an entry.
 #[derive(PartialEq, Eq, Debug, Drop)]
 pub enum Call {
     /// The clock moves on by so many ticks, 0 or more.

@@ -2,6 +2,7 @@
 
 use bp_page::{Bytes, Lsn, PageNo};
 
+/// One step of a script, which may take several calls of the core: a fix that loads has the end of its read too.
 #[derive(PartialEq, Eq, Debug, Drop)]
 pub struct Row {
     /// The number of the row in its trace, from 1.

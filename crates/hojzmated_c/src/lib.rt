@@ -2,8 +2,9 @@
 //! them without `proved_` in their names: `bindings/c/pointers.c` has those calls, which look for null pointers and
 //! then make these. `docs/C.md` says how to use them.
 //!
-//! Each call tests what the core requires, and returns 0 or the number of a refusal. Not tested are that the handle is
-//! one that these calls made, and that each pointer leads to memory of its type.
+//! A call on a core takes its pool out of the handle, which owns it by a raw pointer, and puts it back or, to end it,
+//! frees it. It tests what the core requires, and returns 0 or the number of a refusal. Not tested are that the handle
+//! is zero or as these calls left it, and that each pointer leads to memory of its type.
 #![tactic(auto)]
 
 ghost use Rattle.std.specs.Prelude.{◌≡◌, None, is_some, if◌then◌else◌, Ok, Err, IfOk, IfErr, length};
