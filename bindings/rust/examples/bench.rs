@@ -70,7 +70,7 @@ impl Bench {
 
     fn update(&mut self, number: u64) -> Outcome<u64> {
         let page = self.fix(number)?;
-        page.write(64, &number.to_le_bytes(), 1)?;
+        page.put(64, &number.to_le_bytes(), 1)?;
         Ok(0)
     }
 

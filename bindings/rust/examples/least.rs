@@ -33,7 +33,7 @@ fn main() -> Result<(), Box<dyn Error>> {
         let page = pager.fix(0, number)?;
         let word = page.bytes()?[..8].try_into()?; // looks at the page in place
         count = u64::from_le_bytes(word) + 1;
-        page.write(0, &count.to_le_bytes(), 0)?;
+        page.put(0, &count.to_le_bytes(), 0)?;
     }
     pager.checkpoint(0)?; // writes out what is unsaved, and syncs the device
     println!("the last page counts {count}");

@@ -3,11 +3,17 @@ use crate::sys;
 use std::fmt;
 use std::result;
 
-/// A refusal of the pool. It changes nothing, except that 11, 12 and 13 count as calls, and 17, 18
-/// and 19 end the ticket.
+/// A refusal of a [`Pool`](crate::Pool). It changes nothing, except that 11, 12 and 13 count as
+/// calls, and 17, 18 and 19 end the ticket.
+///
+/// It is the error of calls that do not use the device: those of a `Pool` and of guards, and those
+/// that make a pager. A call of a [`Pager`](crate::Pager) or a
+/// [`SharedPager`](crate::SharedPager) that may use the device or the log has a
+/// [`PagerError`](crate::PagerError), which is a refusal or a fault of these.
 ///
 /// Each has the number of `hojzmated.h` and its text, which [`Display`](fmt::Display) shows, except
-/// for [`Lent`](Error::Lent), which is this crate's own.
+/// for [`Lent`](Error::Lent) and [`VersionMismatch`](Error::VersionMismatch), which are this
+/// crate's own.
 #[derive(Clone, Copy, Debug, PartialEq, Eq, Hash)]
 #[non_exhaustive]
 pub enum Error {
@@ -33,7 +39,8 @@ pub enum Error {
     ReadFailed,
     /// 18: the page could not be written.
     WriteFailed,
-    /// 19: another page was found in the page's place in the file.
+    /// 19: another page was found in the page's place in the file. A pager answers
+    /// [`PagerError::WrongPage`](crate::PagerError::WrongPage), which names the page.
     WrongPage,
     /// 20: the pool has answered nearly as many calls as [`Config::room`](crate::Config::room).
     /// What is left is kept for the passes and tickets that are out.
@@ -47,17 +54,27 @@ pub enum Error {
     /// 45: the file has no such page, or the bytes are not within the page, or the buffer does not
     /// have the page size.
     OutOfPage,
-    /// 50: the handle has no core. No call of this crate gives it.
+    // No call of this crate gives the next three: it sees to it that none of them has cause.
+    /// 50: the handle has no core.
+    #[doc(hidden)]
     NoCore,
-    /// 51: the handle has a core already. No call of this crate gives it.
+    /// 51: the handle has a core already.
+    #[doc(hidden)]
     HasCore,
-    /// 52: a pointer is null. No call of this crate gives it.
+    /// 52: a pointer is null.
+    #[doc(hidden)]
     Null,
     /// 60, a number of this crate alone: bytes of the page are lent ([`PageBytes`]), and it is not
     /// written to.
     ///
     /// [`PageBytes`]: crate::PageBytes
     Lent,
+    /// 61, a number of this crate alone: the program was linked with a library of another version,
+    /// and no pool is made.
+    VersionMismatch {
+        /// The version of the library, as [`version`](crate::version) gives it.
+        library: u32,
+    },
     /// A number that a newer library has.
     Other(u16),
 }
@@ -88,7 +105,8 @@ static NUMBERED: [Error; 18] = [
 ];
 
 impl Error {
-    /// Returns the number of `hojzmated.h`. That of [`Lent`](Error::Lent) is beyond those.
+    /// Returns the number of `hojzmated.h`. Those of [`Lent`](Error::Lent) and
+    /// [`VersionMismatch`](Error::VersionMismatch) are beyond those.
     pub const fn number(self) -> u16 {
         match self {
             Error::BadGeometry => 1,
@@ -110,6 +128,7 @@ impl Error {
             Error::HasCore => 51,
             Error::Null => 52,
             Error::Lent => 60,
+            Error::VersionMismatch { .. } => 61,
             Error::Other(number) => number,
         }
     }
@@ -153,8 +172,17 @@ impl Error {
 
 impl fmt::Display for Error {
     fn fmt(&self, f: &mut fmt::Formatter<'_>) -> fmt::Result {
-        if *self == Error::Lent {
-            return f.write_str("bytes of the page are lent");
+        match *self {
+            Error::Lent => return f.write_str("bytes of the page are lent"),
+            Error::VersionMismatch { library } => {
+                let (major, minor, patch) = (library / 10_000, library / 100 % 100, library % 100);
+                return write!(
+                    f,
+                    "the library has version {major}.{minor}.{patch}, and this crate {}",
+                    env!("CARGO_PKG_VERSION")
+                );
+            }
+            _ => {}
         }
         let mut text = [0; 128];
         // SAFETY: the pointer leads to `text`, which has this length and may be written to.
@@ -225,6 +253,7 @@ mod tests {
         assert_eq!(Error::numbered(15, 7), Error::Other(15));
         let last = NUMBERED.map(Error::number).into_iter().max();
         assert!(last < Some(Error::Lent.number()));
+        assert_eq!(Error::VersionMismatch { library: 0 }.number(), 61);
         assert_eq!(Error::check(0), Ok(()));
     }
 
@@ -258,5 +287,8 @@ mod tests {
         ] {
             assert_eq!(error.to_string(), text);
         }
+        let told = Error::VersionMismatch { library: 20_304 }.to_string();
+        let here = concat!("and this crate ", env!("CARGO_PKG_VERSION"));
+        assert_eq!(told, format!("the library has version 2.3.4, {here}"));
     }
 }

@@ -30,13 +30,13 @@ struct Look {
 /// # let page = pool.end_read(ticket, &[7; 16])?;
 /// let bytes = page.bytes()?;
 /// assert_eq!(bytes[..4], [7, 7, 7, 7]);
-/// assert_eq!(page.write(0, b"new", 1), Err(Error::Lent));
+/// assert_eq!(page.put(0, b"new", 1), Err(Error::Lent));
 /// drop(bytes);
-/// page.write(0, b"new", 1)?;
+/// page.put(0, b"new", 1)?;
 ///
 /// // This is lent to the end of the statement, and so is copied before the write.
 /// let first = page.bytes()?[0];
-/// page.write(0, &[first + 1], 2)?;
+/// page.put(0, &[first + 1], 2)?;
 /// # Ok(())
 /// # }
 /// ```

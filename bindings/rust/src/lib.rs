@@ -57,7 +57,7 @@
 //!
 //! // Client 0 changes page 7 under the log record 1. The guard keeps the page in its frame until it is dropped.
 //! let page = pager.fix(0, 7)?;
-//! page.write(100, b"forty-two", 1)?;
+//! page.put(100, b"forty-two", 1)?;
 //! assert_eq!(page.bytes()?[100..105], *b"forty");
 //! drop(page);
 //!
@@ -73,7 +73,12 @@
 //!
 //! [`PageGuard::bytes`] lends the page where it is, without a copy. What is lent stays as it is
 //! while the [`PageBytes`] is there: a write to that page is refused until then, and a program in
-//! which the page could leave its frame before does not compile. [`PageGuard::read`] copies a part.
+//! which the page could leave its frame before does not compile. [`PageGuard::copy_to`] copies a
+//! part.
+//!
+//! A call of a pager that may use the device or the log fails with a [`PagerError`], which has the
+//! page or LSN and the fault, or a refusal of the pool. All other calls, also those of guards, fail
+//! with an [`Error`], which is such a refusal alone.
 //!
 //! An engine that reads and writes by its own means calls a [`Pool`]. That does no input or output,
 //! and says what is to be read or written by tickets, which may be kept while a mutex is open.

@@ -181,21 +181,21 @@ impl PageGuard<'_> {
     /// Copies a part of the page from the offset on, into all of `into`.
     ///
     /// # Errors
-    /// Those of [`Pool::read`]. `into` is then unchanged.
+    /// Those of [`Pool::copy_to`]. `into` is then unchanged.
     #[inline]
-    pub fn read(&self, offset: usize, into: &mut [u8]) -> Result<()> {
-        self.pool.read(&self.pass, offset, into)
+    pub fn copy_to(&self, offset: usize, into: &mut [u8]) -> Result<()> {
+        self.pool.copy_to(&self.pass, offset, into)
     }
 
     /// Writes bytes into the page from the offset on, under the log record with this LSN. The page
     /// is not written out before the log is durable up to this LSN.
     ///
     /// # Errors
-    /// Those of [`Pool::write`], such as [`Lent`](crate::Error::Lent) while bytes of the page are
+    /// Those of [`Pool::put`], such as [`Lent`](crate::Error::Lent) while bytes of the page are
     /// lent, by this guard or another. The page is then unchanged.
     #[inline]
-    pub fn write(&self, offset: usize, bytes: &[u8], lsn: u64) -> Result<()> {
-        self.pool.write(&self.pass, offset, bytes, lsn)
+    pub fn put(&self, offset: usize, bytes: &[u8], lsn: u64) -> Result<()> {
+        self.pool.put(&self.pass, offset, bytes, lsn)
     }
 
     /// The page LSN: the greatest LSN of the page's writes since it was read, or 0.

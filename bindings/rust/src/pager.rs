@@ -4,6 +4,7 @@ use crate::{
     UnsavedPage, WriteTicket,
 };
 use std::cell::Cell;
+use std::sync::Arc;
 use std::{error, fmt, io};
 
 /// An engine's device and log, as a [`Pager`] or a [`SharedPager`](crate::SharedPager) uses them.
@@ -13,6 +14,9 @@ use std::{error, fmt, io};
 /// from several threads at once. It holds none of its locks meanwhile, but a calling thread may
 /// hold latches of pages. So [`make_log_durable`](PageIo::make_log_durable) must not need a lock
 /// that a thread holds while it waits for a page.
+///
+/// A pager may also have its device behind a `&`, a `Box` or an `Arc`, so that the engine keeps the
+/// device, or chooses one at run time by `Box<dyn PageIo>`.
 pub trait PageIo {
     /// Reads the page into the image, which has the page size.
     ///
@@ -48,6 +52,32 @@ pub trait PageIo {
     fn sync(&self) -> io::Result<()>;
 }
 
+/// What owns or borrows a device is one too, also where its type is not known:
+/// `Pager<Box<dyn PageIo>>`.
+macro_rules! page_io_of {
+    ($($owner:ty)*) => {$(
+        impl<T: PageIo + ?Sized> PageIo for $owner {
+            fn read_page(&self, page: u64, image: &mut [u8]) -> Result<(), ReadFault> {
+                (**self).read_page(page, image)
+            }
+
+            fn write_page(&self, page: u64, image: &mut [u8], lsn: u64) -> io::Result<()> {
+                (**self).write_page(page, image, lsn)
+            }
+
+            fn make_log_durable(&self, lsn: u64) -> io::Result<()> {
+                (**self).make_log_durable(lsn)
+            }
+
+            fn sync(&self) -> io::Result<()> {
+                (**self).sync()
+            }
+        }
+    )*};
+}
+
+page_io_of!(&T Box<T> Arc<T>);
+
 /// Why a page could not be read.
 #[derive(Debug)]
 pub enum ReadFault {
@@ -63,7 +93,11 @@ impl From<io::Error> for ReadFault {
     }
 }
 
-/// The fault of a call of a [`Pager`].
+/// The fault of a call of a [`Pager`] or a [`SharedPager`](crate::SharedPager): a refusal of the
+/// pool, or a fault of the engine's device or log.
+///
+/// An [`Error`] is a refusal alone, as calls have it that do not use the device, such as those of a
+/// guard. By `?` it becomes a `PagerError`, and [`PagerError::refusal`] makes one of each fault.
 #[derive(Debug)]
 #[non_exhaustive]
 pub enum PagerError {
@@ -82,6 +116,12 @@ pub enum PagerError {
         page: u64,
         /// The fault of the device.
         source: io::Error,
+    },
+    /// Another page was found in a page's place, as [`ReadFault::WrongPage`] told. The page is in no
+    /// frame.
+    WrongPage {
+        /// The page that was to be read.
+        page: u64,
     },
     /// A page could not be written out, and is still unsaved.
     Write {
@@ -105,21 +145,22 @@ pub enum PagerError {
 }
 
 impl PagerError {
-    /// Returns the refusal for this fault: 17 for a read, 18 for a write-out or a sync, 12 for the
-    /// log.
+    /// Returns the refusal for this fault: 17 for a read, 19 where another page was found, 18 for a
+    /// write-out or a sync, 12 for the log.
     pub fn refusal(&self) -> Error {
         match *self {
             PagerError::Refused(error) | PagerError::RefusedPage { error, .. } => error,
             PagerError::Read { .. } => Error::ReadFailed,
+            PagerError::WrongPage { .. } => Error::WrongPage,
             PagerError::Write { .. } | PagerError::Sync { .. } => Error::WriteFailed,
             PagerError::Log { lsn, .. } => Error::NeedLog { lsn },
         }
     }
 
-    fn of_read(page: u64, fault: ReadFault) -> PagerError {
+    pub(crate) fn of_read(page: u64, fault: ReadFault) -> PagerError {
         match fault {
             ReadFault::Device(source) => PagerError::Read { page, source },
-            ReadFault::WrongPage => PagerError::Refused(Error::WrongPage),
+            ReadFault::WrongPage => PagerError::WrongPage { page },
         }
     }
 }
@@ -136,6 +177,9 @@ impl fmt::Display for PagerError {
             PagerError::Refused(error) => error.fmt(f),
             PagerError::RefusedPage { page, error } => write!(f, "page {page}: {error}"),
             PagerError::Read { page, .. } => write!(f, "page {page} could not be read"),
+            PagerError::WrongPage { page } => {
+                write!(f, "another page was found in the place of page {page}")
+            }
             PagerError::Write { page, .. } => write!(f, "page {page} could not be written"),
             PagerError::Log { lsn, .. } => {
                 write!(f, "the log could not be made durable as far as LSN {lsn}")
@@ -148,7 +192,9 @@ impl fmt::Display for PagerError {
 impl error::Error for PagerError {
     fn source(&self) -> Option<&(dyn error::Error + 'static)> {
         match self {
-            PagerError::Refused(_) | PagerError::RefusedPage { .. } => None,
+            PagerError::Refused(_)
+            | PagerError::RefusedPage { .. }
+            | PagerError::WrongPage { .. } => None,
             PagerError::Read { source, .. }
             | PagerError::Write { source, .. }
             | PagerError::Log { source, .. }
@@ -206,11 +252,11 @@ impl<F: PageIo> Pager<F> {
     ///
     /// # Errors
     /// [`PagerError::Read`], [`PagerError::Write`] and [`PagerError::Log`] where the device or the
-    /// log failed. [`PagerError::Refused`] for the other refusals of [`Pool::tick`], [`Pool::fix`]
-    /// and [`Pool::mark`], and where the page's place has another page. Pages that were written out
-    /// before are saved.
+    /// log failed. [`PagerError::WrongPage`] where the page's place has another page.
+    /// [`PagerError::Refused`] for the other refusals of [`Pool::tick`], [`Pool::fix`] and
+    /// [`Pool::mark`], and with [`OutOfMemory`](Error::OutOfMemory) where there is none for a buffer
+    /// of the page size. Pages that were written out before are saved.
     pub fn fix(&self, client: u8, page: u64) -> Result<PageGuard<'_>, PagerError> {
-        self.pool.tick(client, 1)?;
         self.with_image(|image| self.fix_by(client, page, image, false))
     }
 
@@ -221,9 +267,8 @@ impl<F: PageIo> Pager<F> {
     /// written out.
     ///
     /// # Errors
-    /// Those of [`Pager::fix`], except for [`PagerError::Read`].
+    /// Those of [`Pager::fix`], except for [`PagerError::Read`] and [`PagerError::WrongPage`].
     pub fn new_page(&self, client: u8, page: u64) -> Result<PageGuard<'_>, PagerError> {
-        self.pool.tick(client, 1)?;
         self.with_image(|image| self.fix_by(client, page, image, true))
     }
 
@@ -231,7 +276,8 @@ impl<F: PageIo> Pager<F> {
     ///
     /// # Errors
     /// [`PagerError::Write`] and [`PagerError::Log`] where the device or the log failed.
-    /// [`PagerError::Refused`] for the other refusals of [`Pool::flush`] and [`Pool::mark`].
+    /// [`PagerError::Refused`] for the other refusals of [`Pool::flush`] and [`Pool::mark`], and
+    /// with [`OutOfMemory`](Error::OutOfMemory) where there is none for a buffer of the page size.
     pub fn flush(&self, client: u8, page: u64) -> Result<(), PagerError> {
         self.with_image(|image| self.flush_by(client, page, image, 0))
     }
@@ -287,10 +333,16 @@ impl<F: PageIo> Pager<F> {
         self.pool.stats()
     }
 
-    /// Calls `work` with a buffer of the page size.
-    fn with_image<T>(&self, work: impl FnOnce(&mut [u8]) -> T) -> T {
-        let mut image = self.spare.take();
-        image.resize(self.pool.config().page_size, 0);
+    /// Calls `work` with a buffer of the page size, if there is memory for one.
+    fn with_image<T>(
+        &self,
+        work: impl FnOnce(&mut [u8]) -> Result<T, PagerError>,
+    ) -> Result<T, PagerError> {
+        let (mut image, size) = (self.spare.take(), self.pool.config().page_size);
+        if image.try_reserve_exact(size - image.len()).is_err() {
+            return Err(Error::OutOfMemory.into());
+        }
+        image.resize(size, 0);
         let done = work(&mut image);
         self.spare.set(image);
         done
@@ -303,6 +355,7 @@ impl<F: PageIo> Pager<F> {
         image: &mut [u8],
         is_new: bool,
     ) -> Result<PageGuard<'_>, PagerError> {
+        self.pool.tick(client, 1)?;
         loop {
             match self.pool.fix(client, page, image) {
                 Ok(Fixed::Hit(guard)) => return Ok(guard),

@@ -41,7 +41,7 @@ use std::sync::atomic::{AtomicU64, Ordering};
 ///     }
 /// };
 /// assert_eq!(page.bytes()?[..4], [0; 4]);
-/// page.write(0, b"seven", 1)?;
+/// page.put(0, b"seven", 1)?;
 /// # Ok(())
 /// # }
 /// ```
@@ -57,6 +57,26 @@ pub struct Pool {
 }
 
 static NUMBERS: AtomicU64 = AtomicU64::new(0);
+
+/// The version of this crate without its patch, as major * 100 + minor.
+const SERIES: u32 =
+    number_of(env!("CARGO_PKG_VERSION_MAJOR")) * 100 + number_of(env!("CARGO_PKG_VERSION_MINOR"));
+
+const fn number_of(part: &str) -> u32 {
+    match u32::from_str_radix(part, 10) {
+        Ok(number) => number,
+        Err(_) => panic!("a part of a version is a number"),
+    }
+}
+
+/// Refuses a library of another version, whose structs and calls may be others. A patch changes
+/// neither.
+fn check_version(library: u32) -> Result<()> {
+    if library / 100 != SERIES {
+        return Err(Error::VersionMismatch { library });
+    }
+    Ok(())
+}
 
 // SAFETY: the library keeps nothing of a thread: a core may be used by any thread, one at a time.
 // There is no other way to the handle, and only `Pool` has its pointers.
@@ -172,8 +192,10 @@ impl Pool {
     /// # Errors
     /// [`BadGeometry`](Error::BadGeometry) where the number of pages or the page size is out of its
     /// limits, [`BadSettings`](Error::BadSettings) where another number is,
-    /// [`OutOfMemory`](Error::OutOfMemory).
+    /// [`OutOfMemory`](Error::OutOfMemory), [`VersionMismatch`](Error::VersionMismatch) where the
+    /// program was linked with a library whose major or minor version is not this crate's.
     pub fn new(config: &Config) -> Result<Pool> {
+        check_version(sys::hz_version())?;
         let asked = hz_config {
             pages: config.pages,
             page_size: config.page_size,
@@ -457,7 +479,7 @@ impl Pool {
     /// # let Fixed::Load { ticket, .. } = pool.fix(0, 3, &mut [0; 16])? else { return Ok(()) };
     /// # let pass = pool.end_read(ticket, b"sixteen of bytes")?.into_pass();
     /// assert_eq!(pool.bytes(&pass)?[..7], *b"sixteen");
-    /// pool.write(&pass, 0, b"twelve ", 1)?;
+    /// pool.put(&pass, 0, b"twelve ", 1)?;
     /// assert_eq!(pool.bytes(&pass)?[..10], *b"twelve  of");
     /// # Ok(pool.unfix(pass)?)
     /// # }
@@ -475,7 +497,7 @@ impl Pool {
         let bytes = self.place(pass)?;
         // SAFETY: the page has this size. Its bytes are there while the pass is out and the pool is
         // there: both are borrowed, and no other pass goes back for this one. Nothing but
-        // `hz_write` to this page changes them, which `write` does not call while it is lent.
+        // `hz_write` to this page changes them, which `put` does not call while it is lent.
         unsafe { self.lent.lend(pass.page(), bytes) }
     }
 
@@ -497,7 +519,7 @@ impl Pool {
     /// [`OutOfPage`](Error::OutOfPage) where the part is not within the page;
     /// [`TrailFull`](Error::TrailFull).
     #[inline]
-    pub fn read(&self, pass: &Pass, offset: usize, into: &mut [u8]) -> Result<()> {
+    pub fn copy_to(&self, pass: &Pass, offset: usize, into: &mut [u8]) -> Result<()> {
         let grant = self.own_pass(pass)?;
         let (bytes, len) = (into.as_mut_ptr(), into.len());
         // SAFETY: the handle is free, the pass a grant, and `into` has this length and may be
@@ -515,7 +537,7 @@ impl Pool {
     /// or pass; [`OutOfPage`](Error::OutOfPage) where the bytes are not within the page;
     /// [`TrailFull`](Error::TrailFull).
     #[inline]
-    pub fn write(&self, pass: &Pass, offset: usize, bytes: &[u8], lsn: u64) -> Result<()> {
+    pub fn put(&self, pass: &Pass, offset: usize, bytes: &[u8], lsn: u64) -> Result<()> {
         let grant = self.own_pass(pass)?;
         if self.lent.has(grant.page) {
             return Err(Error::Lent);
@@ -665,6 +687,24 @@ impl fmt::Debug for Pool {
 #[cfg(test)]
 mod tests {
     use super::*;
+
+    // `check/bindings` has one of these libraries linked.
+    #[test]
+    fn library_of_another_version() {
+        assert_eq!(check_version(SERIES * 100), Ok(()));
+        assert_eq!(check_version(SERIES * 100 + 99), Ok(()));
+        for library in [
+            0,
+            SERIES * 100 - 1,
+            (SERIES + 1) * 100,
+            SERIES * 100 + 10_000,
+        ] {
+            assert_eq!(
+                check_version(library),
+                Err(Error::VersionMismatch { library })
+            );
+        }
+    }
 
     // Bytes of the library's own memory are copied before the library gets them. Other bytes are
     // not, also where they are more than a page.

@@ -32,17 +32,17 @@ fn write_to_a_lent_page() {
     let (one, second, other) = (fix(&pool, 1), fix(&pool, 1), fix(&pool, 2));
     let pass = fix(&pool, 1).into_pass();
     let bytes = one.bytes().unwrap();
-    assert_eq!(one.write(0, b"a", 0), Err(Error::Lent));
-    assert_eq!(second.write(1, b"b", 0), Err(Error::Lent));
-    assert_eq!(pool.write(&pass, 2, b"c", 0), Err(Error::Lent));
-    assert_eq!(one.write(17, b"", 0), Err(Error::Lent));
-    other.write(0, b"other", 0).unwrap();
+    assert_eq!(one.put(0, b"a", 0), Err(Error::Lent));
+    assert_eq!(second.put(1, b"b", 0), Err(Error::Lent));
+    assert_eq!(pool.put(&pass, 2, b"c", 0), Err(Error::Lent));
+    assert_eq!(one.put(17, b"", 0), Err(Error::Lent));
+    other.put(0, b"other", 0).unwrap();
     assert_eq!(*bytes, [1; 16]);
     drop(bytes);
-    one.write(0, b"a", 0).unwrap();
-    second.write(1, b"b", 0).unwrap();
-    pool.write(&pass, 2, b"c", 0).unwrap();
-    assert_eq!(one.write(17, b"", 0), Err(Error::OutOfPage));
+    one.put(0, b"a", 0).unwrap();
+    second.put(1, b"b", 0).unwrap();
+    pool.put(&pass, 2, b"c", 0).unwrap();
+    assert_eq!(one.put(17, b"", 0), Err(Error::OutOfPage));
     assert_eq!(second.bytes().unwrap()[..4], *b"abc\x01");
     assert_eq!(other.bytes().unwrap()[..6], *b"other\x02");
     pool.unfix(pass).unwrap();
@@ -59,12 +59,12 @@ fn several_looks() {
             .into();
         assert_eq!(looks[0].as_ptr(), looks[2].as_ptr());
         drop(looks.remove(1));
-        other.write(0, b"x", 0).unwrap();
+        other.put(0, b"x", 0).unwrap();
         for place in [turn % 3, turn % 2, 0] {
-            assert_eq!(one.write(0, b"y", 0), Err(Error::Lent));
+            assert_eq!(one.put(0, b"y", 0), Err(Error::Lent));
             drop(looks.remove(place));
         }
-        one.write(0, b"y", 0).unwrap();
+        one.put(0, b"y", 0).unwrap();
     }
 }
 
@@ -73,14 +73,14 @@ fn several_looks() {
 fn looks_within_a_statement() {
     let pool = pool(1);
     let page = fix(&pool, 1);
-    let told = page.write(0, &[page.bytes().unwrap()[0] + 1], 0);
+    let told = page.put(0, &[page.bytes().unwrap()[0] + 1], 0);
     assert_eq!(told, Err(Error::Lent));
     match page.bytes().unwrap()[0] {
-        1 => assert_eq!(page.write(0, &[2], 0), Err(Error::Lent)),
+        1 => assert_eq!(page.put(0, &[2], 0), Err(Error::Lent)),
         _ => panic!("page 1 has ones"),
     }
     let first = page.bytes().unwrap()[0];
-    page.write(0, &[first + 1], 0).unwrap();
+    page.put(0, &[first + 1], 0).unwrap();
     assert_eq!(page.bytes().unwrap()[..2], [2, 1]);
 }
 
@@ -89,19 +89,19 @@ fn looks_within_a_statement() {
 fn forgotten_look() {
     let pool = pool(1);
     let page = fix(&pool, 1);
-    page.write(0, b"before", 0).unwrap();
+    page.put(0, b"before", 0).unwrap();
     mem::forget(page.bytes().unwrap());
-    assert_eq!(page.write(0, b"after", 0), Err(Error::Lent));
+    assert_eq!(page.put(0, b"after", 0), Err(Error::Lent));
     assert_eq!(page.bytes().unwrap()[..7], *b"before\x01");
     drop(page);
-    fix(&pool, 2).write(0, b"two", 0).unwrap();
+    fix(&pool, 2).put(0, b"two", 0).unwrap();
     let page = fix(&pool, 1);
     assert_eq!(*page.bytes().unwrap(), [1; 16]);
-    assert_eq!(page.write(0, b"after", 0), Err(Error::Lent));
+    assert_eq!(page.put(0, b"after", 0), Err(Error::Lent));
     drop(page);
     let moved = thread::spawn(move || {
-        fix(&pool, 2).write(0, b"two", 0).unwrap();
-        fix(&pool, 1).write(0, b"after", 0)
+        fix(&pool, 2).put(0, b"two", 0).unwrap();
+        fix(&pool, 1).put(0, b"after", 0)
     });
     assert_eq!(moved.join().unwrap(), Err(Error::Lent));
 }
@@ -112,11 +112,11 @@ fn panic_ends_a_look() {
     let page = fix(&pool, 1);
     let caught = catch_unwind(AssertUnwindSafe(|| {
         let _bytes = page.bytes().unwrap();
-        assert_eq!(page.write(0, b"a", 0), Err(Error::Lent));
+        assert_eq!(page.put(0, b"a", 0), Err(Error::Lent));
         resume_unwind(Box::new("the engine's own code"));
     }));
     assert!(caught.is_err());
-    page.write(0, b"a", 0).unwrap();
+    page.put(0, b"a", 0).unwrap();
 }
 
 // Looks are no calls that the room counts: they go on where it is full.
@@ -135,8 +135,8 @@ fn looks_where_the_trail_is_full() {
     for _ in 0..10 {
         assert_eq!(*page.bytes().unwrap(), [1; 16]);
     }
-    assert_eq!(page.read(0, &mut [0; 4]), Err(Error::TrailFull));
-    assert_eq!(page.write(0, b"a", 0), Err(Error::TrailFull));
+    assert_eq!(page.copy_to(0, &mut [0; 4]), Err(Error::TrailFull));
+    assert_eq!(page.put(0, b"a", 0), Err(Error::TrailFull));
     pool.unfix(page.into_pass()).unwrap();
 }
 
@@ -152,8 +152,8 @@ fn pass_with_the_numbers_of_another() {
     assert_ne!(pass, twin);
     let bytes = own.bytes(&pass).unwrap();
     assert_eq!(own.bytes(&twin).err(), Some(Error::UnknownPass));
-    assert_eq!(own.read(&twin, 0, &mut [0; 4]), Err(Error::UnknownPass));
-    assert_eq!(own.write(&twin, 0, b"a", 0), Err(Error::UnknownPass));
+    assert_eq!(own.copy_to(&twin, 0, &mut [0; 4]), Err(Error::UnknownPass));
+    assert_eq!(own.put(&twin, 0, b"a", 0), Err(Error::UnknownPass));
     let refused = own.unfix(twin).unwrap_err();
     assert_eq!(refused.error, Error::UnknownPass);
     drop(own.guard(refused.token));
@@ -177,7 +177,7 @@ fn ticket_to_read(pool: &Pool) -> hojzmated::ReadTicket {
 
 /// Writes to page 1 and asks that it be written out.
 fn ticket_to_write(pool: &Pool) -> hojzmated::WriteTicket {
-    fix(pool, 1).write(0, b"a", 0).unwrap();
+    fix(pool, 1).put(0, b"a", 0).unwrap();
     match pool.flush(0, 1, &mut [0; 16]) {
         Ok(Flushed::WriteFirst(ticket)) => ticket,
         other => panic!("{other:?}"),
@@ -214,7 +214,7 @@ fn ticket_with_the_numbers_of_another() {
 fn flush_of_a_lent_page() {
     let pool = pool(1);
     let page = fix(&pool, 1);
-    page.write(0, b"unsaved", 0).unwrap();
+    page.put(0, b"unsaved", 0).unwrap();
     let bytes = page.bytes().unwrap();
     let mut image = [0; 16];
     let Flushed::WriteFirst(ticket) = pool.flush(0, 1, &mut image).unwrap() else {
@@ -222,7 +222,7 @@ fn flush_of_a_lent_page() {
     };
     assert_eq!(image, *bytes);
     image.fill(0);
-    assert_eq!(page.write(0, b"a", 0), Err(Error::Lent));
+    assert_eq!(page.put(0, b"a", 0), Err(Error::Lent));
     assert_eq!(pool.end_write(ticket), Ok(Saved::Clean));
     assert_eq!(pool.flush(0, 1, &mut image), Ok(Flushed::Clean));
     assert_eq!(bytes[..8], *b"unsaved\x01");
@@ -232,19 +232,19 @@ fn flush_of_a_lent_page() {
 fn from_one_page_to_another() {
     let pool = pool(2);
     let (from, to) = (fix(&pool, 1), fix(&pool, 2));
-    from.write(0, b"from page 1", 0).unwrap();
+    from.put(0, b"from page 1", 0).unwrap();
     let (bytes, before) = (from.bytes().unwrap(), to.bytes().unwrap());
-    assert_eq!(to.write(2, &bytes[5..], 0), Err(Error::Lent));
+    assert_eq!(to.put(2, &bytes[5..], 0), Err(Error::Lent));
     drop(before);
-    to.write(2, &bytes[5..], 0).unwrap();
+    to.put(2, &bytes[5..], 0).unwrap();
     assert_eq!(to.bytes().unwrap()[..9], *b"\x02\x02page 1\x01");
     let mut part = [0; 4];
-    from.read(5, &mut part).unwrap();
+    from.copy_to(5, &mut part).unwrap();
     assert_eq!(part, bytes[5..9]);
     // Nothing and too much are answered as ever.
-    to.write(16, &bytes[16..], 0).unwrap();
-    assert_eq!(to.write(1, &bytes, 0), Err(Error::OutOfPage));
-    assert_eq!(to.write(0, &[7; 100], 0), Err(Error::OutOfPage));
+    to.put(16, &bytes[16..], 0).unwrap();
+    assert_eq!(to.put(1, &bytes, 0), Err(Error::OutOfPage));
+    assert_eq!(to.put(0, &[7; 100], 0), Err(Error::OutOfPage));
     drop(to);
     // A page is taken for the image of another one.
     pool.tick(0, 1).unwrap();
@@ -259,7 +259,7 @@ fn from_one_page_to_another() {
     assert_eq!(error, Error::OutOfPage);
     let third = pool.end_read(token, &bytes).unwrap();
     assert_eq!(*third.bytes().unwrap(), *bytes);
-    third.write(0, b"third", 0).unwrap();
+    third.put(0, b"third", 0).unwrap();
     assert_eq!(bytes[..11], *b"from page 1");
 }
 
@@ -273,7 +273,7 @@ fn slices_in_other_threads() {
         let slice: &[u8] = &bytes;
         let sums = [0; 2].map(|_| threads.spawn(|| slice.iter().sum::<u8>()));
         for number in 2..16 {
-            fix(&pool, number).write(0, b"new", 0).unwrap();
+            fix(&pool, number).put(0, b"new", 0).unwrap();
         }
         assert_eq!(sums.map(|sum| sum.join().unwrap()), [16, 16]);
     });
@@ -286,10 +286,10 @@ fn looks_under_a_mutex() {
     let count = |_: u32| {
         let pool = pool.lock().unwrap();
         let bytes = pool.bytes(&pass).unwrap();
-        assert_eq!(pool.write(&pass, 0, b"a", 0), Err(Error::Lent));
+        assert_eq!(pool.put(&pass, 0, b"a", 0), Err(Error::Lent));
         let next = bytes[0] + 1;
         drop(bytes);
-        pool.write(&pass, 0, &[next], 0).unwrap();
+        pool.put(&pass, 0, &[next], 0).unwrap();
     };
     thread::scope(|threads| {
         for _ in 0..2 {

@@ -8,6 +8,7 @@ use std::error::Error as _;
 use std::io;
 use std::panic::{AssertUnwindSafe, catch_unwind};
 use std::rc::{Rc, Weak};
+use std::sync::Arc;
 
 /// What the device and the log were asked for.
 #[derive(Clone, Copy, Debug, PartialEq, Eq)]
@@ -100,14 +101,14 @@ fn pager(frames: usize) -> Pager<Memory> {
 
 fn first_byte(page: &PageGuard<'_>) -> u8 {
     let mut byte = [0];
-    page.read(0, &mut byte).unwrap();
+    page.copy_to(0, &mut byte).unwrap();
     byte[0]
 }
 
 /// A pager with one frame, in which page 1 is unsaved: it starts with a 9 under LSN 5.
 fn with_an_unsaved_page() -> Pager<Memory> {
     let pager = pager(1);
-    pager.fix(0, 1).unwrap().write(0, &[9], 5).unwrap();
+    pager.fix(0, 1).unwrap().put(0, &[9], 5).unwrap();
     assert_eq!(pager.io().asked(), [Asked::Read(1)]);
     pager
 }
@@ -144,7 +145,7 @@ fn flush_writes_what_is_unsaved_once() {
     assert_eq!(pager.io().asked(), []);
     // The log is durable as far as LSN 5, and is not asked for less. The page LSN is the greatest of
     // the page's writes since it was read.
-    pager.fix(0, 1).unwrap().write(0, &[8], 4).unwrap();
+    pager.fix(0, 1).unwrap().put(0, &[8], 4).unwrap();
     pager.flush(0, 1).unwrap();
     assert_eq!(pager.io().asked(), [Asked::Write(1, 8, 5)]);
 }
@@ -153,7 +154,7 @@ fn flush_writes_what_is_unsaved_once() {
 fn flush_of_all_pages() {
     let pager = pager(3);
     for (page, byte, lsn) in [(7, 70, 1), (2, 20, 3), (5, 50, 2)] {
-        pager.fix(0, page).unwrap().write(0, &[byte], lsn).unwrap();
+        pager.fix(0, page).unwrap().put(0, &[byte], lsn).unwrap();
     }
     assert_eq!(pager.io().asked().len(), 3);
     pager.flush_all(0).unwrap();
@@ -172,7 +173,7 @@ fn flush_of_all_pages() {
 fn checkpoint() {
     let pager = pager(3);
     for (page, byte, lsn) in [(7, 70, 4), (2, 20, 3), (5, 50, 6)] {
-        pager.fix(0, page).unwrap().write(0, &[byte], lsn).unwrap();
+        pager.fix(0, page).unwrap().put(0, &[byte], lsn).unwrap();
     }
     pager.io().asked();
     assert_eq!(pager.redo_from(), Some(3));
@@ -197,7 +198,7 @@ fn checkpoint() {
 fn checkpoint_tells_which_page_is_refused() {
     let pager = pager(3);
     for page in [2, 5, 7] {
-        pager.fix(0, page).unwrap().write(0, &[1], 0).unwrap();
+        pager.fix(0, page).unwrap().put(0, &[1], 0).unwrap();
     }
     pager.io().asked();
     let Flushed::WriteFirst(ticket) = pager.pool().flush(0, 5, &mut [0; 16]).unwrap() else {
@@ -231,7 +232,7 @@ fn new_page_is_not_read() {
     let pager = pager(2);
     let page = pager.new_page(0, 3).unwrap();
     assert_eq!((first_byte(&page), page.lsn()), (0, Ok(0)));
-    page.write(0, &[7], 4).unwrap();
+    page.put(0, &[7], 4).unwrap();
     drop(page);
     let page = pager.new_page(0, 3).unwrap();
     assert_eq!((first_byte(&page), page.lsn()), (7, Ok(4)));
@@ -245,13 +246,13 @@ fn what_a_pool_tells() {
     let (pager, other) = (pager(3), pager(1));
     let pool = pager.pool();
     let page = pager.fix(0, 4).unwrap();
-    page.write(0, &[1], 9).unwrap();
-    pager.fix(0, 6).unwrap().write(0, &[1], 3).unwrap();
+    page.put(0, &[1], 9).unwrap();
+    pager.fix(0, 6).unwrap().put(0, &[1], 3).unwrap();
     pool.mark(0, 9).unwrap();
     let Flushed::WriteFirst(ticket) = pool.flush(0, 4, &mut [0; 16]).unwrap() else {
         panic!("nothing to write");
     };
-    page.write(0, &[2], 5).unwrap();
+    page.put(0, &[2], 5).unwrap();
     let told = |page, lsn, first_lsn| UnsavedPage {
         page,
         lsn,
@@ -289,7 +290,7 @@ fn several_guards() {
         pager.fix(0, 1).unwrap(),
         pager.fix(0, 2).unwrap(),
     );
-    one.write(0, &[7], 1).unwrap();
+    one.put(0, &[7], 1).unwrap();
     assert_eq!((first_byte(&other), first_byte(&third)), (7, 0));
     let refused = pager.fix(0, 3).map(|page| page.page());
     assert_eq!(refused.map_err(|it| it.refusal()), Err(Error::NoVictim));
@@ -307,14 +308,14 @@ fn several_guards() {
 fn parts_of_a_page() {
     let pager = pager(1);
     let page = pager.fix(0, 1).unwrap();
-    page.write(13, &[1, 2, 3], 1).unwrap();
+    page.put(13, &[1, 2, 3], 1).unwrap();
     let mut into = [0xa5; 4];
-    page.read(12, &mut into).unwrap();
+    page.copy_to(12, &mut into).unwrap();
     assert_eq!(into, [0, 1, 2, 3]);
-    page.read(16, &mut []).unwrap();
-    assert_eq!(page.read(13, &mut into), Err(Error::OutOfPage));
-    assert_eq!(page.read(usize::MAX, &mut into), Err(Error::OutOfPage));
-    assert_eq!(page.write(14, &[4, 5, 6], 2), Err(Error::OutOfPage));
+    page.copy_to(16, &mut []).unwrap();
+    assert_eq!(page.copy_to(13, &mut into), Err(Error::OutOfPage));
+    assert_eq!(page.copy_to(usize::MAX, &mut into), Err(Error::OutOfPage));
+    assert_eq!(page.put(14, &[4, 5, 6], 2), Err(Error::OutOfPage));
     assert_eq!(into, [0, 1, 2, 3]);
 }
 
@@ -329,7 +330,10 @@ fn failed_read_leaves_the_frame_free() {
     assert_eq!(error.source().unwrap().to_string(), "no such luck");
     pager.io().is_next(Fate::FindsAnother);
     let error = pager.fix(0, 1).map(drop).unwrap_err();
+    assert!(matches!(error, PagerError::WrongPage { page: 1 }));
     assert_eq!(error.refusal(), Error::WrongPage);
+    let text = "another page was found in the place of page 1";
+    assert_eq!(error.to_string(), text);
     assert!(error.source().is_none());
     assert_eq!(pager.fix(0, 2).unwrap().page(), 2);
     assert_eq!(pager.io().asked(), [1, 1, 2].map(Asked::Read));
@@ -426,12 +430,12 @@ fn image_that_is_stamped() {
     let pager = Pager::new(&Config::new(16, 16, 1), Stamping(Memory::of(16))).unwrap();
     let on_device = || pager.io().0.pages.borrow()[1][15];
     let page = pager.fix(0, 1).unwrap();
-    page.write(0, &[9], 7).unwrap();
+    page.put(0, &[9], 7).unwrap();
     let bytes = page.bytes().unwrap();
     pager.flush(0, 1).unwrap();
     assert_eq!((on_device(), bytes[0], bytes[15]), (7, 9, 0));
     drop(bytes);
-    page.write(1, &[9], 8).unwrap();
+    page.put(1, &[9], 8).unwrap();
     drop(page);
     // Page 1 makes way, and is stamped then too.
     assert_eq!(pager.fix(0, 2).unwrap().bytes().unwrap()[15], 0);
@@ -439,6 +443,42 @@ fn image_that_is_stamped() {
     let page = pager.fix(0, 1).unwrap();
     let bytes = page.bytes().unwrap();
     assert_eq!((bytes[0], bytes[1], bytes[15]), (9, 9, 8));
+}
+
+/// Has page 1 of a device changed, and another page read in its one frame, by each of the four
+/// functions.
+fn use_all_functions(io: impl PageIo) {
+    let pager = Pager::new(&Config::new(16, 16, 1), io).unwrap();
+    pager.fix(0, 1).unwrap().put(0, &[9], 5).unwrap();
+    pager.checkpoint(0).unwrap();
+    assert_eq!(first_byte(&pager.fix(0, 2).unwrap()), 0);
+    assert_eq!(first_byte(&pager.fix(0, 1).unwrap()), 9);
+}
+
+// The engine still has the device, or it need not know its type.
+#[test]
+fn device_behind_a_pointer() {
+    let asked = [
+        Asked::Read(1),
+        Asked::Log(5),
+        Asked::Write(1, 9, 5),
+        Asked::Sync,
+        Asked::Read(2),
+        Asked::Read(1),
+    ];
+    let memory = Memory::of(16);
+    use_all_functions(&memory);
+    assert_eq!(memory.asked(), asked);
+
+    let memory = Memory::of(16);
+    let boxed: Box<dyn PageIo + '_> = Box::new(&memory);
+    use_all_functions(boxed);
+    assert_eq!(memory.asked(), asked);
+
+    #[expect(clippy::arc_with_non_send_sync, reason = "one thread has both")]
+    let memory = Arc::new(Memory::of(16));
+    use_all_functions(Arc::clone(&memory));
+    assert_eq!(memory.asked(), asked);
 }
 
 /// A device that fixes page 2 while page 1 is read. Each page has its number in each byte.
@@ -474,7 +514,7 @@ fn device_that_uses_its_pager() {
     pager.io().0.replace(Rc::downgrade(&pager));
     let page = pager.fix(0, 1).unwrap();
     let mut image = [0; 16];
-    page.read(0, &mut image).unwrap();
+    page.copy_to(0, &mut image).unwrap();
     assert_eq!(image, [1; 16]);
     assert_eq!(pager.pool().totals().faults, 2);
 }
@@ -530,12 +570,12 @@ fn random_walk() {
         let number = numbers.below(16) as usize;
         let page = pager.fix(0, number as u64).unwrap();
         let mut found = [0; 16];
-        page.read(0, &mut found).unwrap();
+        page.copy_to(0, &mut found).unwrap();
         assert_eq!(found, newest[number]);
         if numbers.below(3) == 0 {
             let at = numbers.below(16) as usize;
             let byte = numbers.below(256) as u8;
-            page.write(at, &[byte], lsn).unwrap();
+            page.put(at, &[byte], lsn).unwrap();
             newest[number][at] = byte;
         }
         if numbers.below(50) == 0 {
@@ -568,7 +608,7 @@ fn step(pager: &Pager<Memory>, newest: &mut [[u8; 16]], lent: &[u64], numbers: &
     assert_eq!(*page.bytes().unwrap(), newest[number as usize]);
     if numbers.below(2) == 0 {
         let (at, byte) = (numbers.below(16) as usize, numbers.below(256) as u8);
-        let told = page.write(at, &[byte], numbers.below(100));
+        let told = page.put(at, &[byte], numbers.below(100));
         if lent.contains(&number) {
             assert_eq!(told, Err(Error::Lent));
         } else {

@@ -118,7 +118,7 @@ impl Engine {
         let [_, count] = words(&page.bytes().unwrap());
         self.log_end += 1;
         self.newest[page.page() as usize] = self.log_end;
-        page.write(0, &bytes_of([self.log_end, count + 1]), self.log_end)
+        page.put(0, &bytes_of([self.log_end, count + 1]), self.log_end)
             .unwrap();
         drop(page);
         self.pool.tick(client, 1).unwrap();
@@ -242,7 +242,7 @@ fn pager_under_a_mutex() {
                     let pager = pager.lock().unwrap();
                     let page = pager.fix(client, next(&mut state)).unwrap();
                     let [_, count] = words(&page.bytes().unwrap());
-                    page.write(0, &bytes_of([lsn, count + 1]), lsn).unwrap();
+                    page.put(0, &bytes_of([lsn, count + 1]), lsn).unwrap();
                 }
             });
         }

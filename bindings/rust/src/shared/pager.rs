@@ -314,7 +314,7 @@ impl<F: PageIo> SharedPager<F> {
             Err(ReadFault::Device(source)) => Err(PagerError::Read { page, source }),
             Err(ReadFault::WrongPage) => {
                 reading.fail_with_wrong_page();
-                Err(Error::WrongPage.into())
+                Err(PagerError::WrongPage { page })
             }
         }
     }

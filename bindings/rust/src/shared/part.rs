@@ -250,7 +250,7 @@ impl Part {
         let copy = scratch.get_mut(..bytes.len()).ok_or(Error::OutOfPage)?;
         copy.copy_from_slice(bytes);
         let pass = pool.pass_of(seat.page(), seat.pinned().serial);
-        pool.write(&pass, offset, copy, lsn)?;
+        pool.put(&pass, offset, copy, lsn)?;
         firsts.write(number, lsn);
         Ok(())
     }

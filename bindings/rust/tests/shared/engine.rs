@@ -54,7 +54,7 @@ fn unless_pinned<T>(told: Result<Option<T>, PagerError>) -> Result<Option<T>, Pa
 /// Whether a call came to this by a fault of the device.
 fn is_of_device(error: &PagerError) -> bool {
     match error {
-        PagerError::Refused(error) => *error == Error::WrongPage,
+        PagerError::WrongPage { .. } => true,
         _ => std::error::Error::source(error).is_some_and(|it| it.to_string() == "no such luck"),
     }
 }

@@ -158,7 +158,7 @@ fn failed_read() {
     assert!(!pager.is_resident(1));
     pager.io().is_next(Fate::FindsAnother);
     let error = pager.write(1).map(drop).unwrap_err();
-    assert!(matches!(error, PagerError::Refused(Error::WrongPage)));
+    assert!(matches!(error, PagerError::WrongPage { page: 1 }));
     assert_eq!(pager.read(2).unwrap().page(), 2);
     assert_eq!(pager.read(1).unwrap().page(), 1);
     assert_eq!(pager.io().asked(), [1, 1, 2, 1].map(Asked::Read));

@@ -199,7 +199,7 @@ impl Run {
             return Gives::NotCalled;
         };
         let mut image = [0xa5; 16];
-        match self.pool.read(pass, 0, &mut image) {
+        match self.pool.copy_to(pass, 0, &mut image) {
             Ok(()) => {
                 assert_eq!(*self.pool.bytes(pass).unwrap(), image);
                 Gives::Page(first_byte(&image))
@@ -213,7 +213,7 @@ impl Run {
 
     fn write(&self, serial: usize, byte: u8, lsn: u64) -> Gives {
         self.pass(serial).map_or(Gives::NotCalled, |pass| {
-            done(self.pool.write(pass, 0, &[byte], lsn))
+            done(self.pool.put(pass, 0, &[byte], lsn))
         })
     }
 
