@@ -11,15 +11,19 @@
  *     update     8 bytes are written, under LSN 1
  *     tree       a look-up in a B+tree of three levels: three pages, each searched in place
  *     evict      look, over four times as many pages as there are frames
+ *     write-out  update, over as many: a page that leaves is written out before
  *
- * There are 4,096 frames, or as many as $FRAMES says, and but for evict all pages are resident. The clock of this pool
- * moves once in 16 fixes.
- * Before it counts, the program uses each page once, and ends where it finds other bytes there than belong there.
+ * There are 4,096 frames, or as many as $FRAMES says, and but for the last two uses all pages are resident. This pool
+ * has the settings of Config::new in the Rust crate: K is 2, or what $K says, the correlated period an eighth of the
+ * frames, or what $PERIOD says, and the clock moves at each fix.
+ * Before it counts, the program uses each page once, and ends where it finds other bytes there than belong there. Then
+ * it operates eight times for each frame, so that the pool is in its steady state. It ends where an update leaves its
+ * page clean, or where pages leave that are not written out.
  *
  * THREADS threads operate at once, or one. More than one there are over Berkeley DB alone: a core of this pool has one
  * owner. bindings/rust/examples/bench_shared.rs has more over this pool.
  *
- * Printed: operations a second of the wall clock, over all threads, and the hit rate.
+ * Printed: operations a second of the wall clock, over all threads, and the hit rate; K and the period of this pool.
  */
 #include <fcntl.h>
 #include <string.h>
@@ -29,11 +33,27 @@
 
 enum { PLACE = 64 };
 static size_t frames = 4096; /* or as many as $FRAMES says */
-enum use { NOTHING, LOOK, PAGE, UPDATE, TREE, EVICT, USES };
-static const char *const names[USES] = {"nothing", "look", "page", "update", "tree", "evict"};
+enum use { NOTHING, LOOK, PAGE, UPDATE, TREE, EVICT, WRITE_OUT, USES };
+static const char *const names[USES] = {"nothing", "look", "page", "update", "tree", "evict", "write-out"};
 
 static enum use use;
-static unsigned pages, size;
+static unsigned pages, size, k;
+static uint64_t period;
+
+/* What the pool has counted since it was made, and how many pages are unsaved now. */
+struct counts {
+    uint64_t hits, misses, writes, unsaved;
+};
+
+static bool has_evictions(void)
+{
+    return use == EVICT || use == WRITE_OUT;
+}
+
+static bool has_updates(void)
+{
+    return use == UPDATE || use == WRITE_OUT;
+}
 
 /* A word of a page, which need not be aligned. */
 static uint64_t word(const uint8_t *page, size_t at)
@@ -53,13 +73,24 @@ static void fill(unsigned page, uint8_t *image);
 static DB_ENV *env;
 static DB_MPOOLFILE *mpool;
 static _Thread_local uint8_t *fixed;
-static const bool is_shared = true;
+static const bool is_peer = true;
+
+/* The library's own way to write to a page, which it exports and db.h does not have: the page is dirty then, and its
+ * latch exclusive. With DB_MPOOL_DIRTY memp_fget does neither for a page that the file has (5.3.28). The page may be at
+ * another place afterwards. */
+int __memp_dirty(DB_MPOOLFILE *of, void *place, void *thread, DB_TXN *txn, DB_CACHE_PRIORITY priority, u_int32_t flags);
 
 static void fix(uint64_t number)
 {
     db_pgno_t page = (db_pgno_t)number;
-    if (mpool->get(mpool, &page, NULL, use == UPDATE ? DB_MPOOL_DIRTY : 0, &fixed))
+    if (mpool->get(mpool, &page, NULL, 0, &fixed))
         fail("memp_fget");
+}
+
+static void make_dirty(void)
+{
+    if (__memp_dirty(mpool, &fixed, NULL, NULL, DB_PRIORITY_UNCHANGED, 0))
+        fail("memp_dirty");
 }
 
 static const uint8_t *look(void)
@@ -69,6 +100,7 @@ static const uint8_t *look(void)
 
 static void update(uint64_t with)
 {
+    make_dirty();
     memcpy(fixed + PLACE, &with, sizeof with);
 }
 
@@ -78,11 +110,11 @@ static void unfix(void)
         fail("memp_fput");
 }
 
-/* Berkeley DB enlarges a small cache. For evict it gets one in which it hits a quarter too, and else twice what the
- * pages need. */
+/* Berkeley DB enlarges a small cache. Where pages are evicted it gets one in which it hits a quarter too, and else
+ * twice what the pages need. */
 static size_t cache(void)
 {
-    return use == EVICT ? frames * (size * 4 / 5 + 90) : frames * (size + 1024) * 2;
+    return has_evictions() ? frames * (size * 4 / 5 + 90) : frames * (size + 1024) * 2;
 }
 
 static void start(void)
@@ -95,21 +127,24 @@ static void start(void)
     if (env->memp_fcreate(env, &mpool, 0) || mpool->open(mpool, "pages", DB_CREATE, 0644, size))
         fail("the page file");
     for (db_pgno_t page = 0; page < pages; page++) {
-        if (mpool->get(mpool, &page, NULL, DB_MPOOL_CREATE | DB_MPOOL_DIRTY, &fixed))
+        if (mpool->get(mpool, &page, NULL, DB_MPOOL_CREATE, &fixed))
             fail("memp_fget of a new page");
+        make_dirty();
         fill(page, fixed);
         unfix();
     }
-    mpool->sync(mpool);
+    if (mpool->sync(mpool))
+        fail("memp_fsync");
 }
 
-static void counts(double *hits, double *misses)
+static struct counts counted(void)
 {
     DB_MPOOL_STAT *stat;
-    env->memp_stat(env, &stat, NULL, 0);
-    *hits = (double)stat->st_cache_hit;
-    *misses = (double)stat->st_cache_miss;
+    if (env->memp_stat(env, &stat, NULL, 0))
+        fail("memp_stat");
+    struct counts counts = {stat->st_cache_hit, stat->st_cache_miss, stat->st_page_out, stat->st_page_dirty};
     free(stat);
+    return counts;
 }
 #else
 #include "hojzmated.h"
@@ -118,17 +153,31 @@ static hz_core core;
 static int file;
 static uint8_t *image;
 static hz_fixed asked;
-static const bool is_shared = false;
+static const bool is_peer = false;
+
+/* Writes out the page that has to make way. */
+static void write_out(void)
+{
+    uint8_t is_still_dirty;
+    if (pwrite(file, image, size, (off_t)asked.grant.page * size) != (ssize_t)size)
+        fail("pwrite");
+    if (hz_write_end(&core, &asked.grant, true, &is_still_dirty))
+        fail("write_end");
+}
 
 static void fix(uint64_t page)
 {
-    static unsigned turn;
-    if (turn++ % 16 == 0 && hz_tick(&core, 0, 1))
+    if (hz_tick(&core, 0, 1))
         fail("tick");
     if (hz_fix(&core, 0, page, image, size, &asked))
         fail("fix");
     if (asked.kind == HZ_HIT)
         return;
+    while (asked.kind == HZ_WRITE_FIRST) {
+        write_out();
+        if (hz_fix(&core, 0, page, image, size, &asked))
+            fail("fix");
+    }
     if (asked.kind != HZ_LOAD || pread(file, image, size, (off_t)page * size) != (ssize_t)size)
         fail("pread");
     if (hz_read_end(&core, &asked.grant, image, size, &asked.grant))
@@ -158,10 +207,10 @@ static void unfix(void)
 static void start(void)
 {
     hz_config config = {.pages = pages, .page_size = size, .frames = frames, .room = (size_t)1 << 61,
-                        .correlated = 0, .retained = 100000, .k = 2, .clients = 1};
+                        .correlated = period, .retained = (uint64_t)1 << 62, .k = (uint8_t)k, .clients = 1};
     file = open("bench.pages", O_RDWR | O_CREAT | O_TRUNC, 0600);
     image = malloc(size);
-    if (file < 0 || !image || hz_core_new(&config, &core))
+    if (file < 0 || !image || hz_core_new(&config, &core) || hz_mark(&core, 0, 1))
         fail("the pool");
     for (unsigned page = 0; page < pages; page++) {
         fill(page, image);
@@ -170,13 +219,12 @@ static void start(void)
     }
 }
 
-static void counts(double *hits, double *misses)
+static struct counts counted(void)
 {
     hz_stats stats;
     if (hz_stats_of(&core, &stats))
         fail("stats");
-    *hits = (double)stats.hits;
-    *misses = (double)stats.faults;
+    return (struct counts){stats.hits, stats.faults, stats.writes, stats.unsaved};
 }
 #endif
 
@@ -293,13 +341,13 @@ static uint64_t operate(uint64_t number)
         found = two_words(look());
     else if (use == PAGE)
         found = sum(look());
-    else if (use == UPDATE)
+    else if (has_updates())
         update(number);
     unfix();
     return found;
 }
 
-/* Uses each page once, and looks whether it finds there what belongs there. */
+/* Uses each page once, and looks whether it finds there what belongs there, and whether updates are to be saved. */
 static void use_all(void)
 {
     for (uint64_t page = 0; page < pages; page++) {
@@ -316,6 +364,32 @@ static void use_all(void)
         if (operate(page) != page * words)
             fail("a wrong word");
     }
+    if (use == UPDATE && counted().unsaved != pages)
+        fail("an update left its page clean");
+}
+
+/* The number in a variable of the environment, or another. */
+static uint64_t asked_for(const char *name, uint64_t otherwise)
+{
+    const char *wanted = getenv(name);
+    return wanted ? strtoull(wanted, NULL, 10) : otherwise;
+}
+
+/* Measures, and prints what came of it. */
+static void measure(unsigned threads, double seconds)
+{
+    unsigned below = use == TREE ? keys() : pages;
+    settle(8 * frames, below);
+    struct counts before = counted();
+    double rate = rate_of(threads, below, seconds);
+    struct counts after = counted();
+    uint64_t hits = after.hits - before.hits, misses = after.misses - before.misses;
+    if (use == WRITE_OUT && (after.writes - before.writes) * 10 < misses * 9)
+        fail("pages left that were not written out");
+    printf("%.0f %.3f", rate, (double)hits / (double)(hits + misses));
+    if (!is_peer)
+        printf(" K %u period %lu", k, (unsigned long)period);
+    printf("\n");
 }
 
 int main(int argc, char **argv)
@@ -327,21 +401,15 @@ int main(int argc, char **argv)
     if (use == USES || size % 16 != 0 || size < 128 || size > 65536)
         fail("USE SIZE SECONDS [THREADS]");
     int threads = argc == 5 ? atoi(argv[4]) : 1;
-    if (threads < 1 || threads > (is_shared ? MOST_THREADS : 1))
+    if (threads < 1 || threads > (is_peer ? MOST_THREADS : 1))
         fail("so many threads do not share the pool");
-    const char *wanted = getenv("FRAMES");
-    frames = wanted ? strtoul(wanted, NULL, 10) : frames;
+    frames = asked_for("FRAMES", frames), k = (unsigned)asked_for("K", 2), period = asked_for("PERIOD", frames / 8);
     if (frames < 256 || frames > 65536)
         fail("FRAMES is 256 to 65536");
     shape_tree();
-    pages = use == TREE ? nodes() : use == EVICT ? 4 * frames : frames;
+    pages = use == TREE ? nodes() : has_evictions() ? 4 * (unsigned)frames : (unsigned)frames;
     start();
     use_all();
-    double hits, misses, hits_before, misses_before;
-    counts(&hits_before, &misses_before);
-    double rate = rate_of((unsigned)threads, use == TREE ? keys() : pages, atof(argv[3]));
-    counts(&hits, &misses);
-    hits -= hits_before, misses -= misses_before;
-    printf("%.0f %.3f\n", rate, hits / (hits + misses));
+    measure((unsigned)threads, atof(argv[3]));
     return 0;
 }

@@ -10,12 +10,16 @@ Berkeley DB. A round runs the three one after the other for each use and page si
 rounds of a second, where nothing else is said. Printed is a table: millions of operations a second of the wall clock,
 the median of the rounds, and the ratio to Berkeley DB in the same round: the median, and the least to the greatest.
 
+The settings are those of Config::new: K 2, a correlated period of an eighth of the frames, and a clock that moves at
+each fix. Where pages are evicted a second row has no period, beside the same figures of Berkeley DB. Each pool is in
+its steady state: eight operations for each frame come before those that count.
+
 With FRAMES in the environment, 256 to 65,536, the pools have so many in place of 4,096, and pages are of 4,096 bytes
-alone.
+alone; with K they have another K.
 
 With `threads` it measures the pager that many threads share, bindings/rust/examples/bench_shared.rs, in pages of 4,096
-bytes and with 1, 2 and 4 threads. Beside it is peers/c/bench.c with Berkeley DB, and for look-ups in a tree also LMDB,
-by peers/c/lmdb.c. The operations are those of all threads.
+bytes and with 1, 2 and 4 threads. It has 4,096 frames. Beside it is peers/c/bench.c with Berkeley DB, and for look-ups
+in a tree also LMDB, by peers/c/lmdb.c. The operations are those of all threads.
 
 What stands on cargo, Berkeley DB or LMDB is left out where that is not there. The library comes of the proved one of
 $LIBRARY, or of the one that `rt lib` left in crates/hojzmated_c.
@@ -36,14 +40,21 @@ CC = [os.environ.get("CC", "cc"), "-std=gnu11", "-O3"]  # as cargo has it
 C, RUST, SHARED, PEER, LMDB = "C", "Rust", "SharedPager", "Berkeley DB", "LMDB"
 PEERS = (PEER, LMDB)
 SIZES, THREADS = (4096,) if "FRAMES" in os.environ else (1024, 4096, 8192), (1, 2, 4)
+FRAMES, SHARED_FRAMES = int(os.environ.get("FRAMES", "4096")), 4096
+EVICTING = "evict", "write-out"
 MOST_FOR_OTHERS = 0.1  # of a processor
 
 
+def periods_of(use, frames):
+    """The correlated periods with which a use is measured."""
+    return (frames // 8, 0) if use in EVICTING else (frames // 8,)
+
+
 class Owner:
-    """With one thread. A cell is a use and a page size."""
+    """With one thread. A cell is a use, a page size and a correlated period."""
     columns = "Use", "Page"
-    cells = [(use, size) for use in ("nothing", "look", "page", "update", "tree", "evict")
-             for size in SIZES]
+    cells = [(use, size, period) for use in ("nothing", "look", "page", "update", "tree", *EVICTING)
+             for size in SIZES for period in periods_of(use, FRAMES)]
 
     @staticmethod
     def benches(folder, prefix):
@@ -55,13 +66,14 @@ class Owner:
     def words(name, cell, seconds):
         """The words with which a bench runs for a cell, or none where it does not: what Rust adds to C shows without
         evictions."""
-        return None if name == RUST and cell[0] == "evict" else [cell[0], str(cell[1]), seconds]
+        return None if name == RUST and cell[0] in EVICTING else [cell[0], str(cell[1]), seconds]
 
 
 class Shared:
-    """With many threads. A cell is a use and how many."""
+    """With many threads. A cell is a use, how many threads and a correlated period."""
     columns = "Use", "Threads"
-    cells = [(use, threads) for use in ("look", "page", "update", "evict", "tree") for threads in THREADS]
+    cells = [(use, threads, period) for use in ("look", "page", "update", *EVICTING, "tree")
+             for threads in THREADS for period in periods_of(use, SHARED_FRAMES)]
 
     @staticmethod
     def benches(folder, prefix):
@@ -97,30 +109,42 @@ def example(folder, prefix, name):
     return f"{folder}/target/release/examples/{name}"
 
 
-def built(measure, folder):
-    """Builds the benches, and returns the path of each under its name."""
+def installed(folder):
+    """Installs the library in a prefix in the folder, and returns the prefix."""
     prefix, library = f"{folder}/prefix", os.environ.get("LIBRARY")
     words = ["make", "-s", "-C", f"{TOP}/bindings/c", "install", f"PREFIX={prefix}"]
     words += [f"LIBRARY={os.path.abspath(library)}"] if library else []
     subprocess.run(words, check=True)
-    return {name: bench for name, bench in measure.benches(folder, prefix).items() if bench}
+    return prefix
 
 
-def measured(name, command, use, folder):
+def built(measure, folder):
+    """Builds the benches, and returns the path of each under its name."""
+    benches = measure.benches(folder, installed(folder))
+    return {name: bench for name, bench in benches.items() if bench}
+
+
+def measured(name, command, cell, folder):
     """The operations a second of a bench. Some also tell the hit rate."""
-    said = subprocess.run(command, cwd=folder, check=True, stdout=subprocess.PIPE, text=True).stdout.split()
-    if name not in (RUST, LMDB) and use != "evict" and float(said[1]) < 1:
+    env = {**os.environ, "PERIOD": str(cell[2])}
+    said = subprocess.run(command, cwd=folder, check=True, stdout=subprocess.PIPE, text=True, env=env).stdout.split()
+    if name not in (RUST, LMDB) and cell[0] not in EVICTING and float(said[1]) < 1:
         sys.exit(f"bench.py: {' '.join(command)}: not all pages are resident")
     return float(said[0])
 
 
 def round_of(measure, benches, seconds, folder, rates):
-    """Runs each bench for each cell, and adds what it told to the rates."""
+    """Runs each bench for each cell, and adds what it told to the rates. A peer has no period: it runs for the first of
+    some cells that differ in that alone."""
+    before = None
     for cell in measure.cells:
         for name, bench in benches.items():
             words = measure.words(name, cell, str(seconds))
-            if words:
-                rates[cell, name].append(measured(name, [bench, *words], cell[0], folder))
+            if words and name in PEERS and before and before[:2] == cell[:2]:
+                rates[cell, name].append(rates[before, name][-1])
+            elif words:
+                rates[cell, name].append(measured(name, [bench, *words], cell, folder))
+        before = cell
 
 
 def spent():
@@ -130,6 +154,18 @@ def spent():
     own = os.times()
     return (time.monotonic(), (user + nice + system + irq + softirq + steal) / os.sysconf("SC_CLK_TCK"),
             own.user + own.system + own.children_user + own.children_system)
+
+
+def others_since(before):
+    """How many processors other work had since `spent` gave this."""
+    wall, every, own = (b - a for a, b in zip(before, spent()))
+    return (every - own) / wall
+
+
+def warn(others):
+    """Tells if other work had too much in a round."""
+    if max(others) > MOST_FOR_OTHERS:
+        print(f"\nThe machine was not quiet: other work had up to {max(others):.2f} processors in a round.")
 
 
 def median_of(rates):
@@ -145,13 +181,14 @@ def table(measure, benches, rates):
     """The lines of the table. A column is there for each bench, and one for the ratio of each own one to each peer."""
     pairs = [(name, other) for name in benches if name not in PEERS for other in benches if other in PEERS]
     ratios = [f"{name}, ratio" + (f" to {LMDB}" if other == LMDB else "") for name, other in pairs]
-    columns = [*measure.columns, *benches, *ratios]
+    columns = [*measure.columns, "K", "Period", *benches, *ratios]
     yield "| " + " | ".join(columns) + " |"
     yield "|---" * len(columns) + "|"
     for cell in measure.cells:
         medians = [median_of(rates[cell, name]) for name in benches]
         ratios = [ratio_of(rates[cell, name], rates[cell, other]) for name, other in pairs]
-        yield "| " + " | ".join([cell[0], f"{cell[1]:,}", *medians, *ratios]) + " |"
+        settings = [cell[0], f"{cell[1]:,}", os.environ.get("K", "2"), f"{cell[2]:,}"]
+        yield "| " + " | ".join([*settings, *medians, *ratios]) + " |"
 
 
 def numbers_of(words):
@@ -176,12 +213,10 @@ def main(words):
         for number in range(numbers[0]):
             before = spent()
             round_of(measure, benches, numbers[1], folder, rates)
-            wall, every, own = (b - a for a, b in zip(before, spent()))
-            others.append((every - own) / wall)
+            others.append(others_since(before))
             print(f"round {number + 1}: other work had {others[-1]:.2f} processors", file=sys.stderr, flush=True)
     print("\n".join(table(measure, benches, rates)))
-    if max(others) > MOST_FOR_OTHERS:
-        print(f"\nThe machine was not quiet: other work had up to {max(others):.2f} processors in a round.")
+    warn(others)
     return 0
 
 

@@ -4,12 +4,15 @@
  *     peers/c/tail FRAMES burst ROUNDS
  *
  * A page has 128 bytes, and there are twice as many pages as frames. The pages come at random, and the clock moves by
- * one at each fix; K is 2, with no correlated period. In the first form HITS fixes of resident pages come between two
- * loads, each of which has a page leave. In the second each frame's page is hit once, and then a page is loaded: only
- * that fix is timed. The time is that of hz_fix alone, with some 20 ns for the clock itself.
+ * one at each fix. In the first form HITS fixes of resident pages come between two loads, each of which has a page
+ * leave. In the second each frame's page is hit once, and then a page is loaded: only that fix is timed. Before, eight
+ * fixes for each frame come in the same way. The time is that of hz_fix alone, with some 20 ns for the clock itself.
  *
- * Printed: how many fixes were timed, and their median, 99.9 in 100 and greatest, in nanoseconds; in the first form
- * also operations a second, of fix and unfix.
+ * It measures a pool whose correlated period is an eighth of the frames, as Config::new in the Rust crate has it, and
+ * one with no period; or with $PERIOD alone. K is 2, or what $K says.
+ *
+ * Printed for each: K, the period, how many fixes were timed, and their median, 99.9 in 100 and greatest, in
+ * nanoseconds; in the first form also operations a second, of fix and unfix.
  */
 #include <stdbool.h>
 #include <stdint.h>
@@ -24,7 +27,7 @@ enum { SIZE = 128, MOST = 1 << 24 };
 
 static hz_core core;
 static uint8_t image[SIZE];
-static unsigned pages, frames, resident_count;
+static unsigned pages, frames, resident_count, k;
 static unsigned *residents; /* the resident pages */
 static unsigned *place_of;  /* one more than the place of a page among them, or 0 */
 static uint32_t *times;
@@ -94,53 +97,79 @@ static int by_time(const void *a, const void *b)
     return (x > y) - (x < y);
 }
 
-static void start(void)
+static void burst(unsigned round)
 {
-    pages = 2 * frames;
-    hz_config config = {.pages = pages, .page_size = SIZE, .frames = frames, .room = (size_t)1 << 61,
-                        .correlated = 0, .retained = (uint64_t)1 << 62, .k = 2, .clients = 1};
-    residents = calloc(frames, sizeof *residents);
-    place_of = calloc(pages, sizeof *place_of);
-    times = malloc(MOST * sizeof *times);
-    if (!residents || !place_of || !times || hz_core_new(&config, &core))
-        fail("the pool");
-    memset(times, 0, MOST * sizeof *times);
-    for (unsigned page = 0; page < frames; page++)
-        fix(page, false);
-    for (unsigned i = 0; i < 4 * frames; i++)
-        fix(residents[draw(frames)], false);
+    for (unsigned at = 0; at < frames; at++)
+        fix(residents[(at * 40503u + round) % frames], false);
+    fix(absent(), true);
 }
 
-int main(int argc, char **argv)
+static void mix(unsigned hits)
 {
-    frames = argc == 4 ? (unsigned)atoi(argv[1]) : 0;
-    if (frames < 1 || frames > 65536)
-        fail("FRAMES HITS SECONDS, or FRAMES burst ROUNDS");
-    start();
-    uint64_t begin = now(), operations = 0;
-    if (!strcmp(argv[2], "burst")) {
-        for (int round = atoi(argv[3]); round > 0; round--) {
-            for (unsigned at = 0; at < frames; at++)
-                fix(residents[(at * 40503u + (unsigned)round) % frames], false);
-            fix(absent(), true);
-        }
-    } else {
-        unsigned hits = (unsigned)atoi(argv[2]);
-        for (double seconds = atof(argv[3]); (double)(now() - begin) < seconds * 1e9;) {
-            for (unsigned i = 0; i < hits; i++)
-                fix(residents[draw(frames)], true);
-            fix(absent(), true);
-            operations += hits + 1;
-        }
-    }
+    for (unsigned i = 0; i < hits; i++)
+        fix(residents[draw(frames)], true);
+    fix(absent(), true);
+}
+
+/* Makes a pool with a page in each frame. */
+static void start(uint64_t period)
+{
+    hz_config config = {.pages = pages, .page_size = SIZE, .frames = frames, .room = (size_t)1 << 61,
+                        .correlated = period, .retained = (uint64_t)1 << 62, .k = (uint8_t)k, .clients = 1};
+    if (hz_core_new(&config, &core))
+        fail("the pool");
+    memset(place_of, 0, pages * sizeof *place_of);
+    resident_count = 0;
+    for (unsigned page = 0; page < frames; page++)
+        fix(page, false);
+}
+
+/* Measures a pool with this period in one of the two forms, and prints what came of it. */
+static void measure(uint64_t period, const char *form, double much)
+{
+    bool is_burst = !strcmp(form, "burst");
+    unsigned hits = is_burst ? 0 : (unsigned)atoi(form);
+    uint64_t operations = 0;
+    start(period);
+    for (uint64_t fixes = 0; fixes < 8 * (uint64_t)frames; fixes += is_burst ? frames : hits + 1)
+        is_burst ? burst((unsigned)fixes) : mix(hits);
+    timed = 0;
+    uint64_t begin = now();
+    for (int round = is_burst ? (int)much : 0; round > 0; round--)
+        burst((unsigned)round);
+    for (; !is_burst && (double)(now() - begin) < much * 1e9; operations += hits + 1)
+        mix(hits);
     double took = (double)(now() - begin) * 1e-9;
     if (timed == 0)
         fail("nothing was timed");
     qsort(times, timed, sizeof *times, by_time);
-    printf("%zu fixes, median %u ns, 99.9 in 100 %u ns, greatest %u ns", timed, times[timed / 2],
-           times[timed - 1 - timed / 1000], times[timed - 1]);
+    printf("K %u, period %lu: %zu fixes, median %u ns, 99.9 in 100 %u ns, greatest %u ns", k, (unsigned long)period,
+           timed, times[timed / 2], times[timed - 1 - timed / 1000], times[timed - 1]);
     if (operations)
         printf(", %.0f operations a second", (double)operations / took);
     printf("\n");
-    return hz_core_free(&core) ? 1 : 0;
+    if (hz_core_free(&core))
+        fail("the pool's end");
+}
+
+int main(int argc, char **argv)
+{
+    const char *period = getenv("PERIOD"), *wanted = getenv("K");
+    frames = argc == 4 ? (unsigned)atoi(argv[1]) : 0;
+    if (frames < 1 || frames > 65536)
+        fail("FRAMES HITS SECONDS, or FRAMES burst ROUNDS");
+    pages = 2 * frames, k = wanted ? (unsigned)atoi(wanted) : 2;
+    residents = calloc(frames, sizeof *residents);
+    place_of = calloc(pages, sizeof *place_of);
+    times = malloc(MOST * sizeof *times);
+    if (!residents || !place_of || !times)
+        fail("the lists");
+    memset(times, 0, MOST * sizeof *times);
+    if (period) {
+        measure(strtoull(period, NULL, 10), argv[2], atof(argv[3]));
+        return 0;
+    }
+    measure(frames / 8, argv[2], atof(argv[3]));
+    measure(0, argv[2], atof(argv[3]));
+    return 0;
 }

@@ -37,18 +37,29 @@ static double now(void)
     return (double)t.tv_sec + (double)t.tv_nsec * 1e-9;
 }
 
-/* Operates until it is over. The numbers come at random, by the generator of peers/mpool.c, which begins elsewhere in
- * each thread. */
+/* The next number at random, by the generator of peers/mpool.c. */
+static uint64_t draw(uint64_t *state, uint64_t below)
+{
+    *state = *state * 6364136223846793005u + 1442695040888963407u;
+    return (*state >> 33) % below;
+}
+
+/* Operates so often with numbers below the end, before anything is measured. */
+static inline void settle(uint64_t operations, uint64_t below)
+{
+    for (uint64_t state = MOST_THREADS * 7919 + 1; operations > 0; operations--)
+        operate(draw(&state, below));
+}
+
+/* Operates until it is over. The numbers begin elsewhere in each thread. */
 static void *work(void *own)
 {
     struct worker *worker = own;
     uint64_t state = worker->number * 7919 + 1, below = worker->below, done = 0, found = 0;
     pthread_barrier_wait(&all_are_here);
     while (!atomic_load_explicit(&is_over, memory_order_relaxed)) {
-        for (int i = 0; i < 64; i++) {
-            state = state * 6364136223846793005u + 1442695040888963407u;
-            found += operate((state >> 33) % below);
-        }
+        for (int i = 0; i < 64; i++)
+            found += operate(draw(&state, below));
         done += 64;
     }
     worker->done = done;

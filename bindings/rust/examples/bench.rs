@@ -3,14 +3,15 @@
 //!
 //!     bench USE SIZE SECONDS
 //!
-//! 4,096 pages of SIZE bytes, or as many as $FRAMES says, each with its number in each word, are all in
-//! frames, and are taken at random. USE is what is done with each: `nothing`; `look` at 16 bytes; the sum of the `page`; an
-//! `update` of 8 bytes. With `tree` it is a look-up in a B+tree of three levels, which has nearly as
-//! many pages. Pages are looked at in place. The clock moves once in 16 fixes.
+//! 4,096 pages of SIZE bytes, or as many as $FRAMES says, each with its number in each word, are all
+//! in frames, and are taken at random. USE is what is done with each: `nothing`; `look` at 16 bytes;
+//! the sum of the `page`; an `update` of 8 bytes. With `tree` it is a look-up in a B+tree of three
+//! levels, which has nearly as many pages. Pages are looked at in place. The settings are those of
+//! `Config::new`, but for $K and $PERIOD, and the clock moves at each fix.
 //!
 //! Printed: operations a second of wall clock, and the sum of what was seen.
 use hojzmated::{Config, Fixed, PageGuard, Pool};
-use pages::{Numbers, fill, sum_of, tree, two_words};
+use pages::{Numbers, asked_for, fill, sum_of, tree, two_words};
 use std::error::Error;
 use std::time::{Duration, Instant};
 
@@ -23,17 +24,14 @@ struct Bench {
     pool: Pool,
     /// For pages that go out, of which there are none.
     buffer: Vec<u8>,
-    turn: u64,
 }
 
 impl Bench {
     /// A pool with all pages in it, each filled by the function.
     fn new(pages: u64, size: usize, fill: impl Fn(u64, &mut [u8])) -> Outcome<Bench> {
-        let config = Config {
-            correlated: 0,
-            retained: 100_000,
-            ..Config::new(pages, size, pages as usize)
-        };
+        let mut config = Config::new(pages, size, pages as usize);
+        config.k = asked_for("K", config.k.into())?.try_into()?;
+        config.correlated = asked_for("PERIOD", config.correlated)?;
         let pool = Pool::new(&config)?;
         let (mut image, mut buffer) = (vec![0; size], vec![0; size]);
         for page in 0..pages {
@@ -45,19 +43,12 @@ impl Bench {
             drop(pool.end_read(ticket, &image)?);
             pool.tick(0, 1)?;
         }
-        Ok(Bench {
-            pool,
-            buffer,
-            turn: 0,
-        })
+        Ok(Bench { pool, buffer })
     }
 
     #[inline]
     fn fix(&mut self, page: u64) -> Outcome<PageGuard<'_>> {
-        if self.turn % 16 == 0 {
-            self.pool.tick(0, 1)?;
-        }
-        self.turn += 1;
+        self.pool.tick(0, 1)?;
         match self.pool.fix(0, page, &mut self.buffer)? {
             Fixed::Hit(page) => Ok(page),
             _ => Err("a page is away".into()),
@@ -107,7 +98,7 @@ fn main() -> Outcome<()> {
         return Err("bench USE SIZE SECONDS".into());
     };
     let (size, seconds) = (size.parse()?, seconds.parse()?);
-    let frames = std::env::var("FRAMES").map_or(Ok(4096), |frames| frames.parse())?;
+    let frames = asked_for("FRAMES", 4096)?;
     if what == "tree" {
         let tree = tree::Tree::new(size, frames);
         let mut bench = Bench::new(tree.pages(), size, |page, image| tree.node(page, image))?;

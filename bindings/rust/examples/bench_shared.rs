@@ -7,13 +7,15 @@
 //! are taken at random. USE is what is done with each: `nothing`, so it is pinned and let go; `look`
 //! at 16 bytes; the sum of the `page`; an `update` of 8 bytes. With `tree` it is a look-up in a
 //! B+tree of three levels, which has nearly as many pages: each is let go before the next is asked
-//! for. With `evict` it is `look` over four times as many pages as frames. The pages are in the file
-//! `bench.pages` of the folder, which is made anew, and each is used once before it counts.
+//! for. With `evict` it is `look` over four times as many pages as frames, and with `write-out` an
+//! `update` of these, so that a page that leaves is written out before. The pages are in the file
+//! `bench.pages` of the folder, which is made anew. Before it counts each is used once, and then some
+//! at random, eight for each frame.
 //!
-//! The settings are those of `SharedConfig::new`, but for PARTS. Printed: operations a second of
-//! wall clock, over all threads, and the hit rate.
-use hojzmated::{PageIo, ReadFault, SharedConfig, SharedPager};
-use pages::{Numbers, fill, sum_of, tree, two_words};
+//! The settings are those of `SharedConfig::new`, but for PARTS, $K and $PERIOD. Printed: operations a
+//! second of wall clock, over all threads, the hit rate, K and the correlated period.
+use hojzmated::{PageIo, ReadFault, SharedConfig, SharedPager, Totals};
+use pages::{Numbers, asked_for, fill, sum_of, tree, two_words};
 use std::error::Error;
 use std::fs::File;
 use std::io;
@@ -29,6 +31,8 @@ mod pages;
 type Outcome<T> = Result<T, Box<dyn Error + Send + Sync>>;
 
 const FRAMES: usize = 4096;
+/// As `peers/c/threads.h` has it.
+const MOST_THREADS: u64 = 64;
 
 /// A file of pages, and a log that is always durable.
 struct Pages(File);
@@ -105,7 +109,12 @@ impl Bench {
     }
 
     /// Has all threads do something again and again, with numbers of which each is below the end.
+    /// Before, one does it until the pager is in its steady state.
     fn measure(&self, end: u64, work: impl Fn(u64) -> Outcome<u64> + Sync) -> Outcome<()> {
+        let mut numbers = Numbers::of_thread(MOST_THREADS);
+        for _ in 0..8 * FRAMES {
+            work(numbers.next(end))?;
+        }
         let (all_are_here, is_over) = (
             Barrier::new(self.threads as usize + 1),
             AtomicBool::new(false),
@@ -136,9 +145,22 @@ impl Bench {
             }
             Ok(done as f64 / began.elapsed().as_secs_f64())
         })?;
-        let totals = self.pager.stats().totals;
-        let (hits, faults) = (totals.hits - before.hits, totals.faults - before.faults);
-        println!("{rate:.0} {:.3}", hits as f64 / (hits + faults) as f64);
+        self.tell(rate, &before)
+    }
+
+    /// Prints what was measured since these counts. Where pages were updated, those that left were
+    /// written out, or it fails.
+    fn tell(&self, rate: f64, before: &Totals) -> Outcome<()> {
+        let (stats, config) = (self.pager.stats(), self.pager.config());
+        let hits = stats.totals.hits - before.hits;
+        let faults = stats.totals.faults - before.faults;
+        let writes = stats.totals.writes - before.writes;
+        if stats.unsaved > 0 && writes * 10 < faults * 9 {
+            return Err("pages left that were not written out".into());
+        }
+        let rate_of_hits = hits as f64 / (hits + faults) as f64;
+        let (k, period) = (config.k, config.correlated);
+        println!("{rate:.0} {rate_of_hits:.3} K {k} period {period}");
         Ok(())
     }
 }
@@ -152,10 +174,12 @@ fn main() -> Outcome<()> {
     let tree = tree::Tree::new(size, FRAMES as u64);
     let pages = match what.as_str() {
         "tree" => tree.pages(),
-        "evict" => 4 * FRAMES as u64,
+        "evict" | "write-out" => 4 * FRAMES as u64,
         _ => FRAMES as u64,
     };
     let mut config = SharedConfig::new(pages, size, FRAMES);
+    config.k = asked_for("K", config.k.into())?.try_into()?;
+    config.correlated = asked_for("PERIOD", config.correlated)?;
     if let Some(parts) = words.get(4) {
         config.parts = parts.parse()?;
     }
@@ -176,8 +200,8 @@ fn main() -> Outcome<()> {
         }),
         "look" | "evict" => bench.measure(pages, |page| bench.look(page)),
         "page" => bench.measure(pages, |page| Ok(sum_of(&bench.pager.read(page)?))),
-        "update" => bench.measure(pages, |page| bench.update(page)),
+        "update" | "write-out" => bench.measure(pages, |page| bench.update(page)),
         "tree" => bench.measure(tree.keys(), |key| bench.look_up(2 * key)),
-        _ => Err("USE is nothing, look, page, update, tree or evict".into()),
+        _ => Err("USE is nothing, look, page, update, tree, evict or write-out".into()),
     }
 }

@@ -26,6 +26,11 @@ pub fn fill(page: u64, image: &mut [u8]) {
     words.for_each(|word| word.copy_from_slice(&page.to_le_bytes()));
 }
 
+/// The number in a variable of the environment, or another.
+pub fn asked_for(name: &str, otherwise: u64) -> Result<u64, std::num::ParseIntError> {
+    std::env::var(name).map_or(Ok(otherwise), |told| told.parse())
+}
+
 /// Numbers at random, as `peers/c/threads.h` has them.
 pub struct Numbers(u64);
 
