@@ -36,6 +36,9 @@ pub struct SharedConfig {
     /// The correlated reference period in fixes of the pager: 0 to 2^62. So long after its newest
     /// reference a page is not evicted, and further references to it count as the same one. Each
     /// part counts its own fixes, up to its share of these.
+    ///
+    /// With 0 each reference is told to LRU-K at once, which takes a lock. Else a page that was used
+    /// a short while ago is pinned again without one.
     pub correlated: u64,
     /// The retained information period in fixes: 0 to 2^62. The references of a page in no frame
     /// are kept so long after its newest one, and then until the next

@@ -1,36 +1,27 @@
 //! The guards of a page: `PagePin` without a latch, `PageRef` under a shared one, `PageMut` alone.
 use super::part::Part;
-use super::seats::Seat;
+use super::seats::{PIN, READER, Seat, WRITER};
 use crate::Result;
 use std::fmt;
+use std::marker::PhantomData;
 use std::ops::Deref;
 use std::slice;
-use std::sync::{RwLockReadGuard, RwLockWriteGuard};
+use std::sync::RwLockReadGuard;
 
 /// A pinned page without a latch: it stays in its frame until this is dropped.
 ///
 /// It can be sent to another thread. To look at the page or to change it, take its latch by
 /// [`read`](PagePin::read) or [`write`](PagePin::write), as often as needed. Where such a guard is
-/// forgotten ([`std::mem::forget`]) and the pin is dropped, the latch stays taken, also for a page
-/// that has the frame later.
+/// forgotten ([`std::mem::forget`]) the latch stays taken, and the page in its frame.
 #[must_use = "the page is unpinned when its pin is dropped"]
-pub struct PagePin<'a> {
-    part: &'a Part,
-    seat: usize,
-    /// Whether its end wakes the threads that wait to write the page out.
-    is_writers: bool,
-}
+pub struct PagePin<'a>(Share<'a, PIN>);
 
 /// The bytes of a page under a shared latch: a `[u8]` of the page size, in place.
 ///
 /// While it exists nobody writes to the page, and the page stays in its frame. Other threads may
 /// look at the page too, and it may be written out. When it is dropped the latch is free again.
 #[must_use = "the latch is free again when this is dropped"]
-pub struct PageRef<'a> {
-    // In this order: the latch is let go before the pin.
-    _latch: RwLockReadGuard<'a, ()>,
-    pin: Held<'a>,
-}
+pub struct PageRef<'a>(Share<'a, READER>, OfThread<'a>);
 
 /// A page under an exclusive latch: nobody else looks at it or writes to it meanwhile, nor is it
 /// written out.
@@ -38,46 +29,29 @@ pub struct PageRef<'a> {
 /// When it is dropped the latch is free again, also where the engine panics. What was put until
 /// then stays.
 #[must_use = "the latch is free again when this is dropped"]
-pub struct PageMut<'a> {
-    // In this order: the latch is let go before the pin, and then the end of the writer is told.
-    _latch: RwLockWriteGuard<'a, ()>,
-    pin: Held<'a>,
-    _end: Option<WriterEnd<'a>>,
+pub struct PageMut<'a>(Share<'a, WRITER>, OfThread<'a>);
+
+/// A latch does not go to another thread, as one of the standard library does not.
+type OfThread<'a> = PhantomData<RwLockReadGuard<'a, ()>>;
+
+/// A share in the word of a seat whose pass is out: so the page stays in its frame, and its bytes
+/// where they are.
+pub(super) struct Share<'a, const KIND: u64> {
+    part: &'a Part,
+    seat: &'a Seat,
 }
 
-/// The pin of a guard: its own, or the one that it was made from.
-enum Held<'a> {
-    Own(PagePin<'a>),
-    Lent(&'a PagePin<'a>),
-}
-
-/// Wakes the threads that wait to write the page out. A pin that goes back does so itself.
-struct WriterEnd<'a>(&'a Part);
-
-impl Drop for WriterEnd<'_> {
-    fn drop(&mut self) {
-        self.0.end_writer();
-    }
-}
-
-impl<'a> PagePin<'a> {
-    /// Makes a pin of a seat that is pinned.
-    ///
+impl<'a, const KIND: u64> Share<'a, KIND> {
     /// # Safety
     ///
-    /// The pin is counted in the seat, and no other `PagePin` is made of it.
+    /// The pass is out, the share is in the word, and no other `Share` is made of it.
     #[inline]
-    pub(super) unsafe fn new(part: &'a Part, seat: usize) -> PagePin<'a> {
-        PagePin {
-            part,
-            seat,
-            is_writers: false,
-        }
+    pub(super) unsafe fn new(part: &'a Part, seat: &'a Seat) -> Share<'a, KIND> {
+        Share { part, seat }
     }
 
-    /// The number of the page.
-    pub fn page(&self) -> u64 {
-        self.part.in_file(self.seat().page())
+    fn page(&self) -> u64 {
+        self.part.in_file(self.seat.page())
     }
 
     /// The bytes of the page.
@@ -86,10 +60,28 @@ impl<'a> PagePin<'a> {
     /// Nobody writes to the page while they are looked at.
     #[inline]
     unsafe fn bytes(&self) -> &[u8] {
-        let bytes = self.seat().pinned().bytes;
         // SAFETY: the page has this size. Its bytes are there while its pass is out, and so while a
-        // pin is. They change by `Part::write` to this page alone, which does not come meanwhile.
-        unsafe { slice::from_raw_parts(bytes, self.part.page_size) }
+        // share is. They change by `Part::write` to this page alone, which does not come meanwhile.
+        unsafe { slice::from_raw_parts(self.seat.bytes(), self.part.page_size) }
+    }
+}
+
+impl<const KIND: u64> Drop for Share<'_, KIND> {
+    #[inline]
+    fn drop(&mut self) {
+        self.part.leave(self.seat, KIND);
+    }
+}
+
+impl<'a> PagePin<'a> {
+    #[inline]
+    pub(super) fn new(share: Share<'a, PIN>) -> PagePin<'a> {
+        PagePin(share)
+    }
+
+    /// The number of the page.
+    pub fn page(&self) -> u64 {
+        self.0.page()
     }
 
     /// Waits for the page's shared latch.
@@ -98,19 +90,19 @@ impl<'a> PagePin<'a> {
     /// latch, while another waits for the exclusive one.
     #[inline]
     pub fn read(&self) -> PageRef<'_> {
-        PageRef {
-            _latch: self.seat().read(),
-            pin: Held::Lent(self),
-        }
+        let Share { part, seat } = self.0;
+        seat.take_latch(READER, 0, part.sleepers());
+        // SAFETY: the latch was taken, while a pin is out.
+        PageRef::new(unsafe { Share::new(part, seat) })
     }
 
     /// Returns the page under its shared latch, or None where that can't be had without waiting.
     #[inline]
     pub fn try_read(&self) -> Option<PageRef<'_>> {
-        Some(PageRef {
-            _latch: self.seat().try_read()?,
-            pin: Held::Lent(self),
-        })
+        let Share { part, seat } = self.0;
+        let is_had = seat.try_latch(READER, 0, false);
+        // SAFETY: the latch was taken, while a pin is out.
+        is_had.then(|| PageRef::new(unsafe { Share::new(part, seat) }))
     }
 
     /// Waits for the page's exclusive latch.
@@ -118,91 +110,73 @@ impl<'a> PagePin<'a> {
     /// A thread that has a latch of the page waits for ever.
     #[inline]
     pub fn write(&self) -> PageMut<'_> {
-        PageMut {
-            _latch: self.seat().write(),
-            pin: Held::Lent(self),
-            _end: Some(WriterEnd(self.part)),
-        }
+        let Share { part, seat } = self.0;
+        seat.take_latch(WRITER, 0, part.sleepers());
+        // SAFETY: the latch was taken, while a pin is out.
+        PageMut::new(unsafe { Share::new(part, seat) })
     }
 
     /// Returns the page under its exclusive latch, or None where that can't be had without waiting.
     #[inline]
     pub fn try_write(&self) -> Option<PageMut<'_>> {
-        Some(PageMut {
-            _latch: self.seat().try_write()?,
-            pin: Held::Lent(self),
-            _end: Some(WriterEnd(self.part)),
-        })
+        let Share { part, seat } = self.0;
+        let is_had = seat.try_latch(WRITER, 0, false);
+        // SAFETY: the latch was taken, while a pin is out.
+        is_had.then(|| PageMut::new(unsafe { Share::new(part, seat) }))
+    }
+
+    /// Turns the pin into a latch: its share becomes that of the latch.
+    #[inline]
+    fn into_latch<const KIND: u64>(self) -> Share<'a, KIND> {
+        let Share { part, seat } = self.0;
+        seat.take_latch(KIND, PIN, part.sleepers());
+        std::mem::forget(self);
+        // SAFETY: the pass is out while the share is that of the pin, which is no more, or of the
+        // latch.
+        unsafe { Share::new(part, seat) }
+    }
+
+    #[inline]
+    fn try_into_latch<const KIND: u64>(self) -> Option<Share<'a, KIND>> {
+        let Share { part, seat } = self.0;
+        if !seat.try_latch(KIND, PIN, false) {
+            return None;
+        }
+        std::mem::forget(self);
+        // SAFETY: as in `into_latch`.
+        Some(unsafe { Share::new(part, seat) })
     }
 
     #[inline]
     pub(super) fn into_read(self) -> PageRef<'a> {
-        PageRef {
-            _latch: self.seat().read(),
-            pin: Held::Own(self),
-        }
+        PageRef::new(self.into_latch())
     }
 
     #[inline]
     pub(super) fn try_into_read(self) -> Option<PageRef<'a>> {
-        Some(PageRef {
-            _latch: self.seat().try_read()?,
-            pin: Held::Own(self),
-        })
+        self.try_into_latch().map(PageRef::new)
     }
 
     #[inline]
-    pub(super) fn into_write(mut self) -> PageMut<'a> {
-        self.is_writers = true;
-        PageMut {
-            _latch: self.seat().write(),
-            pin: Held::Own(self),
-            _end: None,
-        }
+    pub(super) fn into_write(self) -> PageMut<'a> {
+        PageMut::new(self.into_latch())
     }
 
     #[inline]
-    pub(super) fn try_into_write(mut self) -> Option<PageMut<'a>> {
-        self.is_writers = true;
-        Some(PageMut {
-            _latch: self.seat().try_write()?,
-            pin: Held::Own(self),
-            _end: None,
-        })
-    }
-
-    #[inline]
-    fn seat(&self) -> &'a Seat {
-        self.part.seats.seat(self.seat)
+    pub(super) fn try_into_write(self) -> Option<PageMut<'a>> {
+        self.try_into_latch().map(PageMut::new)
     }
 }
 
-impl Drop for PagePin<'_> {
+impl<'a> PageRef<'a> {
     #[inline]
-    fn drop(&mut self) {
-        let seat = self.seat();
-        if self.is_writers || !seat.leave() {
-            self.part.unpin(seat);
-        }
+    pub(super) fn new(share: Share<'a, READER>) -> PageRef<'a> {
+        PageRef(share, PhantomData)
     }
-}
 
-impl<'a> Deref for Held<'a> {
-    type Target = PagePin<'a>;
-
-    #[inline]
-    fn deref(&self) -> &PagePin<'a> {
-        match self {
-            Held::Own(pin) => pin,
-            Held::Lent(pin) => pin,
-        }
-    }
-}
-
-impl PageRef<'_> {
     /// The number of the page.
     pub fn page(&self) -> u64 {
-        self.pin.page()
+        self.0.page()
     }
 }
 
@@ -212,7 +186,7 @@ impl Deref for PageRef<'_> {
     #[inline]
     fn deref(&self) -> &[u8] {
         // SAFETY: only a `PageMut` of the page writes to it, which the latch keeps away.
-        unsafe { self.pin.bytes() }
+        unsafe { self.0.bytes() }
     }
 }
 
@@ -223,10 +197,15 @@ impl AsRef<[u8]> for PageRef<'_> {
     }
 }
 
-impl PageMut<'_> {
+impl<'a> PageMut<'a> {
+    #[inline]
+    pub(super) fn new(share: Share<'a, WRITER>) -> PageMut<'a> {
+        PageMut(share, PhantomData)
+    }
+
     /// The number of the page.
     pub fn page(&self) -> u64 {
-        self.pin.page()
+        self.0.page()
     }
 
     /// The bytes of the page, in place, with all that was put so far.
@@ -234,7 +213,7 @@ impl PageMut<'_> {
     pub fn bytes(&self) -> &[u8] {
         // SAFETY: only a `PageMut` of the page writes to it. That is this one, which `put` borrows
         // as a whole.
-        unsafe { self.pin.bytes() }
+        unsafe { self.0.bytes() }
     }
 
     /// Writes bytes into the page from the offset on, under the log record with this LSN. The page
@@ -248,7 +227,7 @@ impl PageMut<'_> {
     /// unchanged.
     #[inline]
     pub fn put(&mut self, offset: usize, bytes: &[u8], lsn: u64) -> Result<()> {
-        self.pin.part.write(self.pin.seat, offset, bytes, lsn)
+        self.0.part.write(self.0.seat, offset, bytes, lsn)
     }
 }
 

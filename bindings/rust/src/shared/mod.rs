@@ -2,6 +2,7 @@
 mod config;
 mod firsts;
 mod guards;
+mod kept;
 mod log;
 mod pager;
 mod part;

@@ -2,7 +2,7 @@
 use super::SharedConfig;
 use super::guards::{PageMut, PagePin, PageRef};
 use super::log::Log;
-use super::part::{Fix, Locked, Part, Reading, Writing};
+use super::part::{Fix, Joined, Locked, PASSES, Part, Reading, Writing};
 use super::seats::list_of;
 use crate::{Error, PageIo, PagerError, ReadFault, Result};
 use std::fmt;
@@ -83,7 +83,10 @@ use std::time::{Duration, Instant};
 /// # What counts as a reference
 /// Each call that returns a page is a reference to it, by which LRU-K chooses victims, and moves
 /// the clock of its part on by one. But a page that is pinned already is pinned again without a
-/// lock, and one in 16 of such pins is a reference.
+/// lock. So is one that was used a short while ago, where the [correlated
+/// period](SharedConfig::correlated) is not 0: within it the page could not be evicted anyway, and
+/// further references would count as the same one. Such pins are counted, with their time and as
+/// one reference, when a page is to make way, and at the latest after 32 of them.
 ///
 /// # Where a call fails
 /// Nothing is lost where the device or the log fails or panics: the page that was to be read is in
@@ -190,9 +193,29 @@ impl<F: PageIo> SharedPager<F> {
     /// no such page; [`NoVictim`](Error::NoVictim) where all possible victims were pinned for too
     /// long; [`WrongPage`](Error::WrongPage) where another page was found in the page's place;
     /// [`OutOfMemory`](Error::OutOfMemory).
-    #[inline]
+    // Always: else what it gives goes through memory.
+    #[inline(always)]
     pub fn read(&self, page: u64) -> Result<PageRef<'_>, PagerError> {
-        self.fix(page, WAITING).map(PagePin::into_read)
+        let (part, own) = self.place(page)?;
+        match part.join_read(own) {
+            Joined::Latched(page) => Ok(page),
+            other => self.read_slowly(part, own, other),
+        }
+    }
+
+    #[cold]
+    #[inline(never)]
+    fn read_slowly<'a>(
+        &'a self,
+        part: &'a Part,
+        own: u64,
+        joined: Joined<'a, PageRef<'a>>,
+    ) -> Result<PageRef<'a>, PagerError> {
+        match joined {
+            Joined::Latched(page) => Ok(page),
+            Joined::Pinned(pin) => Ok(pin.into_read()),
+            Joined::Not => self.fix(part, own, WAITING).map(PagePin::into_read),
+        }
     }
 
     /// Returns a page under its shared latch, without waiting for a latch or a pin: None where the
@@ -203,16 +226,35 @@ impl<F: PageIo> SharedPager<F> {
     /// Those of [`SharedPager::read`]; [`NoVictim`](Error::NoVictim) comes at once.
     #[inline]
     pub fn try_read(&self, page: u64) -> Result<Option<PageRef<'_>>, PagerError> {
-        self.fix(page, NOT_WAITING).map(PagePin::try_into_read)
+        let (part, own) = self.place(page)?;
+        match part.join_read(own) {
+            Joined::Latched(page) => Ok(Some(page)),
+            Joined::Pinned(pin) => Ok(pin.try_into_read()),
+            Joined::Not => {
+                let pin = self.fix(part, own, NOT_WAITING);
+                pin.map(PagePin::try_into_read)
+            }
+        }
     }
 
     /// Returns a page under its exclusive latch.
     ///
     /// # Errors
     /// Those of [`SharedPager::read`].
-    #[inline]
+    // Always: else what it gives goes through memory.
+    #[inline(always)]
     pub fn write(&self, page: u64) -> Result<PageMut<'_>, PagerError> {
-        self.fix(page, WAITING).map(PagePin::into_write)
+        let (part, own) = self.place(page)?;
+        match part.join_write(own) {
+            Some(page) => Ok(page),
+            None => self.write_slowly(part, own),
+        }
+    }
+
+    #[cold]
+    #[inline(never)]
+    fn write_slowly<'a>(&'a self, part: &'a Part, own: u64) -> Result<PageMut<'a>, PagerError> {
+        self.pinned(part, own, WAITING).map(PagePin::into_write)
     }
 
     /// Returns a page under its exclusive latch, without waiting for a latch or a pin: None where
@@ -222,7 +264,14 @@ impl<F: PageIo> SharedPager<F> {
     /// Those of [`SharedPager::try_read`].
     #[inline]
     pub fn try_write(&self, page: u64) -> Result<Option<PageMut<'_>>, PagerError> {
-        self.fix(page, NOT_WAITING).map(PagePin::try_into_write)
+        let (part, own) = self.place(page)?;
+        match part.join_write(own) {
+            Some(page) => Ok(Some(page)),
+            None => {
+                let pin = self.pinned(part, own, NOT_WAITING);
+                pin.map(PagePin::try_into_write)
+            }
+        }
     }
 
     /// Pins a page, without a latch.
@@ -231,7 +280,8 @@ impl<F: PageIo> SharedPager<F> {
     /// Those of [`SharedPager::read`].
     #[inline]
     pub fn pin(&self, page: u64) -> Result<PagePin<'_>, PagerError> {
-        self.fix(page, WAITING)
+        let (part, own) = self.place(page)?;
+        self.pinned(part, own, WAITING)
     }
 
     /// Returns a page that was never written under its exclusive latch: its bytes are zeros, and it
@@ -243,19 +293,41 @@ impl<F: PageIo> SharedPager<F> {
     /// # Errors
     /// Those of [`SharedPager::read`], except for [`PagerError::Read`].
     pub fn new_page(&self, page: u64) -> Result<PageMut<'_>, PagerError> {
-        self.fix(page, NEW).map(PagePin::into_write)
+        let (part, own) = self.place(page)?;
+        self.pinned(part, own, NEW).map(PagePin::into_write)
     }
 
     #[inline]
-    fn fix(&self, page: u64, asked: Asked) -> Result<PagePin<'_>, PagerError> {
-        let (part, own) = self.place(page)?;
-        if let Some(pin) = part.join(own) {
+    fn pinned<'a>(
+        &'a self,
+        part: &'a Part,
+        own: u64,
+        asked: Asked,
+    ) -> Result<PagePin<'a>, PagerError> {
+        match part.join(own) {
+            Some(pin) => Ok(pin),
+            None => self.fix(part, own, asked),
+        }
+    }
+
+    /// Pins a page whose pass was not out.
+    #[inline(never)]
+    fn fix<'a>(
+        &'a self,
+        part: &'a Part,
+        own: u64,
+        asked: Asked,
+    ) -> Result<PagePin<'a>, PagerError> {
+        let mut state = part.with_image(part.lock())?;
+        if let Some(pin) = part.join_under(&state, own) {
             return Ok(pin);
         }
-        let mut state = part.with_image(part.lock())?;
-        state.pool.tick(0, 1)?;
+        if part.seats.of(own).is_none() {
+            part.make_way(&mut state, PASSES);
+        }
+        part.tick(&mut state, 1)?;
         match part.ask(&mut state, own) {
-            Ok(Fix::Here(pass)) => Ok(part.pinned(state, pass)?),
+            Ok(Fix::Here(pass)) => Ok(part.pinned(state, pass, true)?),
             fixed => self.go_on(part, own, state, asked, fixed),
         }
     }
@@ -273,7 +345,7 @@ impl<F: PageIo> SharedPager<F> {
         let mut patience = Patience::new(asked.may_wait.then_some(self.config.pin_wait));
         loop {
             state = match fixed {
-                Ok(Fix::Here(pass)) => return Ok(part.pinned(state, pass)?),
+                Ok(Fix::Here(pass)) => return Ok(part.pinned(state, pass, true)?),
                 Ok(Fix::Read(ticket)) => {
                     return self.load(part, own, asked, Reading::new(part, state, ticket));
                 }
@@ -287,7 +359,10 @@ impl<F: PageIo> SharedPager<F> {
                     reached.inspect_err(|_| part.refer_to_page_of(lsn))?
                 }
                 Err(Error::Busy) => part.wait_for_work(state),
-                Err(Error::NoVictim) => patience.wait(part, state)?,
+                Err(Error::NoVictim) => match part.make_way(&mut state, usize::MAX) {
+                    0 => patience.wait(part, state)?,
+                    _ => state,
+                },
                 Err(error) => return Err(error.into()),
             };
             state = part.with_image(state)?;
@@ -363,19 +438,23 @@ impl Patience {
         }
     }
 
-    /// Moves the clock on, so that no page is too young; if that was not enough, sleeps until a
-    /// page is unpinned.
-    fn wait<'a>(&mut self, part: &'a Part, state: Locked<'a>) -> Result<Locked<'a>> {
+    /// Gives all passes back that are not used, and moves the clock on, so that no page is too
+    /// young; if that was not enough, sleeps until a page is unpinned.
+    fn wait<'a>(&mut self, part: &'a Part, mut state: Locked<'a>) -> Result<Locked<'a>> {
         self.has_aged = !self.has_aged;
         if self.has_aged {
+            part.give_all_back(&mut state);
             let period = state.pool.config().correlated;
             // At the end of its clock the part can only wait.
-            let _ = state.pool.tick(0, period + 1);
+            let _ = part.tick(&mut state, period + 1);
             return Ok(state);
         }
         let began = *self.began.get_or_insert_with(Instant::now);
         match self.most.and_then(|most| most.checked_sub(began.elapsed())) {
-            Some(left) if !left.is_zero() => Ok(part.wait_for_pins(state, left)),
+            Some(left) if !left.is_zero() => {
+                let has_come = |state: &mut _| part.give_all_back(state) > 0;
+                Ok(part.wait_for_pins(state, left, has_come))
+            }
             _ => Err(Error::NoVictim),
         }
     }

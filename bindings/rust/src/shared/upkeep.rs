@@ -1,6 +1,6 @@
 //! A shared pager's flushes and checkpoints, its counters, and the thread that cleans pages.
 use super::pager::SharedPager;
-use super::part::{Locked, Part, Writing};
+use super::part::{Latch, Locked, Part, Writing};
 use super::seats::list_of;
 use crate::{Error, PageIo, PagerError, Result, Totals};
 use std::io;
@@ -56,11 +56,12 @@ impl<F> SharedPager<F> {
             stats.memory += config.pages as usize * OF_PAGE + config.frames * OF_FRAME;
             stats.memory += (state.free.most() + SPARE_IMAGES) * config.page_size;
             stats.resident += counts.resident;
-            stats.pinned += counts.pinned;
+            let (unused, joins) = part.kept(&state);
+            stats.pinned += counts.pinned - unused;
             stats.unsaved += counts.unsaved;
             stats.waits += state.waits;
             stats.totals.add(&counts.totals);
-            stats.totals.hits += state.joined;
+            stats.totals.hits += state.joined + joins - state.referred;
         }
         stats
     }
@@ -71,7 +72,11 @@ impl<F> SharedPager<F> {
     /// # Errors
     /// None, so long as no pool answers 2^61 calls.
     pub fn purge(&self) -> Result<u64> {
-        let forgotten = self.parts.iter().map(|part| part.lock().pool.purge(0));
+        let forgotten = self.parts.iter().map(|part| {
+            let mut state = part.lock();
+            part.make_way(&mut state, usize::MAX);
+            state.pool.purge(0)
+        });
         forgotten.sum()
     }
 
@@ -120,21 +125,28 @@ impl<F: PageIo> SharedPager<F> {
         loop {
             state = part.with_image(state)?;
             let Some(number) = part.unsaved_seat(&state, own) else {
+                // The lock is opened before the latch is freed.
+                drop(state);
                 return Ok(());
             };
             // A page is written out between the writes of its writers, and not within them.
-            let latch = match kept.take() {
-                Some((seat, latch)) if seat == number => latch,
-                _ => match part.seats.seat(number).try_read() {
-                    Some(latch) => latch,
-                    None => {
-                        state = part.wait_for_pins(state, Duration::MAX);
-                        continue;
+            let kept_latch: Option<Latch<'_>> = kept.take();
+            let latch = match kept_latch {
+                Some(latch) if latch.is_of(number) => latch,
+                other => {
+                    if let Some(latch) = other {
+                        latch.free(&mut state);
                     }
-                },
+                    let Some(latch) = part.try_latch(number) else {
+                        let seat = part.seats.seat(number);
+                        let has_come = |_: &mut _| !seat.word().is_written();
+                        state = part.wait_for_pins(state, Duration::MAX, has_come);
+                        continue;
+                    };
+                    latch
+                }
             };
             state = match part.ask_out(&mut state, own) {
-                Ok(None) => return Ok(()),
                 Ok(Some(ticket)) => {
                     let lsn = ticket.lsn();
                     let writing = Writing::latched(part, state, latch, ticket);
@@ -142,14 +154,16 @@ impl<F: PageIo> SharedPager<F> {
                 }
                 Err(Error::NeedLog { lsn }) => {
                     // Nobody writes to the page meanwhile, so the log need not get further.
-                    kept = Some((number, latch));
+                    kept = Some(latch);
                     self.reach_log(part, state, lsn)?
                 }
-                Err(Error::Busy) => {
-                    drop(latch);
-                    part.wait_for_work(state)
+                other => {
+                    latch.free(&mut state);
+                    match other {
+                        Err(Error::Busy) => part.wait_for_work(state),
+                        other => return Ok(other.map(drop)?),
+                    }
                 }
-                Err(error) => return Err(error.into()),
             };
         }
     }
@@ -221,7 +235,7 @@ impl<F: PageIo> SharedPager<F> {
             return Ok(false);
         };
         state.pool.mark(0, durable)?;
-        let Some(latch) = part.seats.seat(seat).try_read() else {
+        let Some(latch) = part.try_latch(seat) else {
             return Ok(false);
         };
         match part.ask_out(&mut state, own) {
@@ -231,8 +245,13 @@ impl<F: PageIo> SharedPager<F> {
                 self.write_out(part.in_file(own), lsn, writing)?;
                 Ok(true)
             }
-            Ok(None) | Err(Error::Busy | Error::NeedLog { .. }) => Ok(false),
-            Err(error) => Err(error.into()),
+            told => {
+                latch.free(&mut state);
+                match told {
+                    Ok(_) | Err(Error::Busy | Error::NeedLog { .. }) => Ok(false),
+                    Err(error) => Err(error.into()),
+                }
+            }
         }
     }
 }
@@ -260,7 +279,7 @@ fn next_ready<'a>(
             break;
         };
         state.clean_from = next.page + 1;
-        let loose = |seat: &usize| !part.seats.seat(*seat).is_pinned();
+        let loose = |seat: &usize| !part.seats.seat(*seat).word().is_used();
         let seat = part.seats.of(next.page).filter(loose);
         if let Some(seat) = seat.filter(|_| next.lsn <= durable) {
             return Ok(Some((state, next.page, seat)));

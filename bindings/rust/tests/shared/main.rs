@@ -3,6 +3,7 @@ mod calls;
 mod device;
 mod engine;
 mod faulty;
+mod kept;
 mod latches;
 mod others;
 mod overlap;

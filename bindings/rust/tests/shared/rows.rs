@@ -298,16 +298,17 @@ fn counts(k: u8, correlated: u64, references: &[u64]) -> (u64, u64, u64) {
     (totals.hits, totals.faults, totals.evictions)
 }
 
-// The counts are reckoned in check/program.cases: sweep_keeps_what_came_twice, and
-// sweep_where_two_references_count_as_one.
+// The first counts are reckoned in check/program.cases: sweep_keeps_what_came_twice. In the second
+// list each of two pages is used twice in a row: with a correlated period of one that is one
+// reference, so page 4 came as often as they did, and they make way.
 #[test]
 fn periods_and_k_count_calls() {
     let twice = [1, 2, 1, 2, 3, 4, 5, 6, 1, 2];
     assert_eq!(counts(1, 0, &twice), (2, 8, 5));
     assert_eq!(counts(2, 0, &twice), (4, 6, 3));
-    let as_one = [1, 1, 2, 2, 1, 4, 3, 1, 2];
-    assert_eq!(counts(2, 0, &as_one), (5, 4, 1));
-    assert_eq!(counts(2, 1, &as_one), (4, 5, 2));
+    let as_one = [1, 1, 2, 2, 4, 3, 1, 2];
+    assert_eq!(counts(2, 0, &as_one), (4, 4, 1));
+    assert_eq!(counts(2, 1, &as_one), (2, 6, 3));
 }
 
 // With a correlated period without end no page is old enough, and the clock is moved for it.
