@@ -142,6 +142,9 @@ pub enum PagerError {
         /// The fault of the device.
         source: io::Error,
     },
+    /// The device could not be synced by an earlier call. What was written out before may be lost,
+    /// though a later sync goes well: end the pager, and redo from the log.
+    SyncFailedBefore,
 }
 
 impl PagerError {
@@ -152,7 +155,9 @@ impl PagerError {
             PagerError::Refused(error) | PagerError::RefusedPage { error, .. } => error,
             PagerError::Read { .. } => Error::ReadFailed,
             PagerError::WrongPage { .. } => Error::WrongPage,
-            PagerError::Write { .. } | PagerError::Sync { .. } => Error::WriteFailed,
+            PagerError::Write { .. } | PagerError::Sync { .. } | PagerError::SyncFailedBefore => {
+                Error::WriteFailed
+            }
             PagerError::Log { lsn, .. } => Error::NeedLog { lsn },
         }
     }
@@ -185,6 +190,9 @@ impl fmt::Display for PagerError {
                 write!(f, "the log could not be made durable as far as LSN {lsn}")
             }
             PagerError::Sync { .. } => write!(f, "the device could not keep what was written"),
+            PagerError::SyncFailedBefore => {
+                write!(f, "the device could not keep what was written before")
+            }
         }
     }
 }
@@ -194,7 +202,8 @@ impl error::Error for PagerError {
         match self {
             PagerError::Refused(_)
             | PagerError::RefusedPage { .. }
-            | PagerError::WrongPage { .. } => None,
+            | PagerError::WrongPage { .. }
+            | PagerError::SyncFailedBefore => None,
             PagerError::Read { source, .. }
             | PagerError::Write { source, .. }
             | PagerError::Log { source, .. }

@@ -28,7 +28,8 @@ pub struct SharedConfig {
     /// The most pages in memory: 1 to 65,536 for each part, so at most 4,194,304.
     pub frames: usize,
     /// The number of pools side by side, each with a lock of its own: 1 to 64, and no more than
-    /// pages or frames. Page p is in part p mod `parts`.
+    /// pages or frames. Of `parts` pages in a row, the first of which is a multiple of `parts`, one is
+    /// in each part; and pages that are a multiple of `parts` apart are in different ones.
     ///
     /// More parts let more threads work at once. Fewer parts choose victims better: each part has
     /// its share of the frames, and its victim is that of LRU-K among the pages of the part.
@@ -37,9 +38,11 @@ pub struct SharedConfig {
     /// reference a page is not evicted, and further references to it count as the same one. Each
     /// part counts its own fixes, up to its share of these.
     ///
-    /// With 0 each reference is told to LRU-K at once, which takes a lock. Else a page that was used
-    /// a short while ago is pinned again without one.
     pub correlated: u64,
+    /// Whether each call that returns a page is told to LRU-K at once. That takes a lock. Where it is
+    /// false, as [`SharedConfig::new`] has it, a page that is pinned, or was used a short while ago,
+    /// is pinned again without one: see [`SharedPager`](crate::SharedPager#what-counts-as-a-reference).
+    pub tells_each_pin: bool,
     /// The retained information period in fixes: 0 to 2^62. The references of a page in no frame
     /// are kept so long after its newest one, and then until the next
     /// [`purge`](crate::SharedPager::purge). Each part counts as with `correlated`.
@@ -86,14 +89,15 @@ impl SharedConfig {
             frames,
             parts: parts.min(most),
             correlated: frames as u64 / 8,
+            tells_each_pin: false,
             retained: 1 << 62,
             k: 2,
             pin_wait: Duration::from_secs(10),
         }
     }
 
-    /// Returns the settings of a part. The first parts have one more page and frame, where the
-    /// numbers do not divide evenly.
+    /// Returns the settings of a part. The first parts have one more frame, where the number does not
+    /// divide evenly.
     pub(super) fn of_part(&self, part: usize) -> Result<Config> {
         let parts = self.parts;
         let is_good = (1..=MOST_PARTS).contains(&parts)
@@ -105,7 +109,8 @@ impl SharedConfig {
         }
         let of = parts as u64;
         Ok(Config {
-            pages: self.pages / of + u64::from((part as u64) < self.pages % of),
+            // Which part has the last pages is by their numbers.
+            pages: self.pages.div_ceil(of),
             page_size: self.page_size,
             frames: self.frames / parts + usize::from(part < self.frames % parts),
             room: 1 << 61,

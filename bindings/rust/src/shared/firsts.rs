@@ -14,6 +14,8 @@ struct First {
     waiting: u64,
     /// Of the writes in the image that is being written out.
     going_out: u64,
+    /// Whether one is.
+    is_going_out: bool,
 }
 
 /// Returns the lesser of two LSNs, where 0 stands for none.
@@ -40,11 +42,14 @@ impl Firsts {
         let first = &mut self.0[seat];
         first.going_out = first.waiting;
         first.waiting = 0;
+        first.is_going_out = true;
     }
 
     /// Notes that the image is on the device.
     pub(super) fn arrive(&mut self, seat: usize) {
-        self.0[seat].going_out = 0;
+        let first = &mut self.0[seat];
+        first.going_out = 0;
+        first.is_going_out = false;
     }
 
     /// Notes that the image is not on the device.
@@ -52,6 +57,13 @@ impl Firsts {
         let first = &mut self.0[seat];
         first.waiting = least(first.waiting, first.going_out);
         first.going_out = 0;
+        first.is_going_out = false;
+    }
+
+    /// Iterates over the seats of pages that are being written out.
+    pub(super) fn going_out(&self) -> impl Iterator<Item = usize> {
+        let of_seats = self.0.iter().enumerate();
+        of_seats.filter_map(|(seat, first)| first.is_going_out.then_some(seat))
     }
 
     /// Returns the least LSN of a write with a record that is in no image on the device.

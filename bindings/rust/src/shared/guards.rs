@@ -1,6 +1,7 @@
 //! The guards of a page: `PagePin` without a latch, `PageRef` under a shared one, `PageMut` alone.
 use super::part::Part;
-use super::seats::{PIN, READER, Seat, WRITER};
+use super::seats::Seat;
+use super::word::{PIN, READER, WRITER};
 use crate::Result;
 use std::fmt;
 use std::marker::PhantomData;
@@ -73,6 +74,14 @@ impl<const KIND: u64> Drop for Share<'_, KIND> {
     }
 }
 
+/// Panics where a latch was not had.
+#[inline]
+fn had(latched: Result<()>) {
+    if latched.is_err() {
+        panic!("a function of the engine waits for a latch longer than for a pin");
+    }
+}
+
 impl<'a> PagePin<'a> {
     #[inline]
     pub(super) fn new(share: Share<'a, PIN>) -> PagePin<'a> {
@@ -88,10 +97,13 @@ impl<'a> PagePin<'a> {
     ///
     /// A thread that has the page's exclusive latch waits for ever. So may one that has its shared
     /// latch, while another waits for the exclusive one.
+    ///
+    /// # Panics
+    /// In a function of the engine that the pager called, after the time of a pin wait.
     #[inline]
     pub fn read(&self) -> PageRef<'_> {
         let Share { part, seat } = self.0;
-        seat.take_latch(READER, 0, part.sleepers());
+        had(part.take_latch(seat, READER, 0));
         // SAFETY: the latch was taken, while a pin is out.
         PageRef::new(unsafe { Share::new(part, seat) })
     }
@@ -100,7 +112,7 @@ impl<'a> PagePin<'a> {
     #[inline]
     pub fn try_read(&self) -> Option<PageRef<'_>> {
         let Share { part, seat } = self.0;
-        let is_had = seat.try_latch(READER, 0, false);
+        let is_had = seat.try_latch(READER, 0);
         // SAFETY: the latch was taken, while a pin is out.
         is_had.then(|| PageRef::new(unsafe { Share::new(part, seat) }))
     }
@@ -108,10 +120,13 @@ impl<'a> PagePin<'a> {
     /// Waits for the page's exclusive latch.
     ///
     /// A thread that has a latch of the page waits for ever.
+    ///
+    /// # Panics
+    /// As [`read`](PagePin::read) does.
     #[inline]
     pub fn write(&self) -> PageMut<'_> {
         let Share { part, seat } = self.0;
-        seat.take_latch(WRITER, 0, part.sleepers());
+        had(part.take_latch(seat, WRITER, 0));
         // SAFETY: the latch was taken, while a pin is out.
         PageMut::new(unsafe { Share::new(part, seat) })
     }
@@ -120,26 +135,26 @@ impl<'a> PagePin<'a> {
     #[inline]
     pub fn try_write(&self) -> Option<PageMut<'_>> {
         let Share { part, seat } = self.0;
-        let is_had = seat.try_latch(WRITER, 0, false);
+        let is_had = seat.try_latch(WRITER, 0);
         // SAFETY: the latch was taken, while a pin is out.
         is_had.then(|| PageMut::new(unsafe { Share::new(part, seat) }))
     }
 
     /// Turns the pin into a latch: its share becomes that of the latch.
     #[inline]
-    fn into_latch<const KIND: u64>(self) -> Share<'a, KIND> {
+    fn into_latch<const KIND: u64>(self) -> Result<Share<'a, KIND>> {
         let Share { part, seat } = self.0;
-        seat.take_latch(KIND, PIN, part.sleepers());
+        part.take_latch(seat, KIND, PIN)?;
         std::mem::forget(self);
         // SAFETY: the pass is out while the share is that of the pin, which is no more, or of the
         // latch.
-        unsafe { Share::new(part, seat) }
+        Ok(unsafe { Share::new(part, seat) })
     }
 
     #[inline]
     fn try_into_latch<const KIND: u64>(self) -> Option<Share<'a, KIND>> {
         let Share { part, seat } = self.0;
-        if !seat.try_latch(KIND, PIN, false) {
+        if !seat.try_latch(KIND, PIN) {
             return None;
         }
         std::mem::forget(self);
@@ -148,8 +163,8 @@ impl<'a> PagePin<'a> {
     }
 
     #[inline]
-    pub(super) fn into_read(self) -> PageRef<'a> {
-        PageRef::new(self.into_latch())
+    pub(super) fn into_read(self) -> Result<PageRef<'a>> {
+        self.into_latch().map(PageRef::new)
     }
 
     #[inline]
@@ -158,8 +173,8 @@ impl<'a> PagePin<'a> {
     }
 
     #[inline]
-    pub(super) fn into_write(self) -> PageMut<'a> {
-        PageMut::new(self.into_latch())
+    pub(super) fn into_write(self) -> Result<PageMut<'a>> {
+        self.into_latch().map(PageMut::new)
     }
 
     #[inline]

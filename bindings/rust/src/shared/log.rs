@@ -1,8 +1,9 @@
 //! How far the log is durable, and whose turn it is to make it durable further.
+use super::within::{self, Work};
 use crate::{PageIo, PagerError};
-use std::mem;
 use std::sync::atomic::{AtomicU64, Ordering};
 use std::sync::{Condvar, Mutex, MutexGuard, PoisonError};
+use std::{io, mem};
 
 /// The LSN up to which the engine's log is durable. One thread at a time makes it durable further,
 /// for all threads that wait.
@@ -20,6 +21,9 @@ struct Turn {
     wanted: u64,
 }
 
+/// What a call is told that would wait for the function of the engine in which it is.
+const OWN_TURN: &str = "make_log_durable called the pager, which needs the log for that";
+
 impl Log {
     pub(super) fn durable(&self) -> u64 {
         self.durable.load(Ordering::Acquire)
@@ -30,32 +34,59 @@ impl Log {
         self.durable.fetch_max(lsn, Ordering::AcqRel);
     }
 
-    /// Makes the log durable up to this LSN. A thread that comes while another does this waits, and
-    /// has the next turn if that was not far enough.
-    pub(super) fn reach<F: PageIo>(&self, io: &F, lsn: u64) -> Result<(), PagerError> {
+    /// Makes the log durable up to this LSN, for the pager with this number. A thread that comes while
+    /// another does this waits, and has the next turn if that was not far enough.
+    ///
+    /// Who has the turn asks for the greatest LSN that a thread waits for. If that can't be had it asks
+    /// for its own alone: the others' faults are not its own.
+    pub(super) fn reach<F: PageIo>(&self, io: &F, pager: u64, own: u64) -> Result<(), PagerError> {
+        let mut is_alone = false;
         let mut turn = self.turn();
-        while self.durable() < lsn {
-            turn.wanted = turn.wanted.max(lsn);
+        while self.durable() < own {
             if turn.is_taken {
-                turn = self
-                    .ended
-                    .wait(turn)
-                    .unwrap_or_else(PoisonError::into_inner);
+                turn = self.wait_for_turn(turn, pager, own)?;
                 continue;
             }
             turn.is_taken = true;
             // A thread that still waits after this turn asks for its own LSN again.
-            let lsn = mem::take(&mut turn.wanted);
+            let wanted = if is_alone {
+                own
+            } else {
+                own.max(mem::take(&mut turn.wanted))
+            };
             drop(turn);
-            let taken = Taken(self);
-            let made = io.make_log_durable(lsn);
-            if made.is_ok() {
-                self.mark(lsn);
+            if let Err(source) = self.make_durable(io, pager, wanted) {
+                if wanted == own {
+                    return Err(PagerError::Log { lsn: own, source });
+                }
+                is_alone = true;
             }
-            drop(taken);
-            made.map_err(|source| PagerError::Log { lsn, source })?;
             turn = self.turn();
         }
+        Ok(())
+    }
+
+    /// Sleeps until a turn ends.
+    fn wait_for_turn<'a>(
+        &'a self,
+        mut turn: MutexGuard<'a, Turn>,
+        pager: u64,
+        own: u64,
+    ) -> Result<MutexGuard<'a, Turn>, PagerError> {
+        if within::is_within(pager, |work| work == Work::Log) {
+            let source = io::Error::new(io::ErrorKind::Deadlock, OWN_TURN);
+            return Err(PagerError::Log { lsn: own, source });
+        }
+        turn.wanted = turn.wanted.max(own);
+        let waited = self.ended.wait(turn);
+        Ok(waited.unwrap_or_else(PoisonError::into_inner))
+    }
+
+    /// Has the engine make the log durable, in this thread's turn, which ends here.
+    fn make_durable<F: PageIo>(&self, io: &F, pager: u64, lsn: u64) -> io::Result<()> {
+        let _taken = Taken(self);
+        within::call(pager, Work::Log, || io.make_log_durable(lsn))?;
+        self.mark(lsn);
         Ok(())
     }
 

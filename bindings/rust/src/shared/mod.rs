@@ -3,11 +3,16 @@ mod config;
 mod firsts;
 mod guards;
 mod kept;
+mod latch;
 mod log;
 mod pager;
 mod part;
+mod pins;
 mod seats;
 mod upkeep;
+mod within;
+mod word;
+mod work;
 
 pub use config::SharedConfig;
 pub use guards::{PageMut, PagePin, PageRef};

@@ -2,11 +2,15 @@
 use super::SharedConfig;
 use super::guards::{PageMut, PagePin, PageRef};
 use super::log::Log;
-use super::part::{Fix, Joined, Locked, PASSES, Part, Reading, Writing};
+use super::part::{Fix, Locked, Part, turn_of};
+use super::pins::{Joined, PASSES};
 use super::seats::list_of;
+use super::upkeep::Syncs;
+use super::within::{self, Work};
+use super::work::{Reading, Writing};
 use crate::{Error, PageIo, PagerError, ReadFault, Result};
 use std::fmt;
-use std::sync::atomic::AtomicUsize;
+use std::sync::atomic::{AtomicU64, AtomicUsize, Ordering};
 use std::time::{Duration, Instant};
 
 /// A pool for many threads, with its device and log. `docs/C.md` of the repository has an engine
@@ -73,20 +77,43 @@ use std::time::{Duration, Instant};
 /// record is not durable, one thread makes the log durable for all. Where all possible victims are
 /// pinned, a call waits for [`SharedConfig::pin_wait`].
 ///
-/// A thread that waits for a latch sleeps until it is free. Threads that hold a latch and want
-/// another could wait for each other for ever. So an engine takes latches in one order, such as
-/// from the root of a tree down and from left to right. Against that order it takes them by
-/// [`try_read`](SharedPager::try_read) and [`try_write`](SharedPager::try_write), and frees its own
-/// latches where they return None. A thread that has a latch must not ask for the same page again,
-/// nor have it written out.
+/// Latches are fair by phase. Writers get a page's latch in the order in which they came. Who waits
+/// to read gets it after the writer that has it, or the one that is next, with all others that wait
+/// to read. [`flush`](SharedPager::flush) waits as one who reads. So nobody waits without end while
+/// others let their latches go, and a checkpoint ends beside any number of readers and writers.
+///
+/// Threads that hold a latch and want another could wait for each other for ever. So an engine takes
+/// latches in one order, such as from the root of a tree down and from left to right. Against that
+/// order it takes them by [`try_read`](SharedPager::try_read) and
+/// [`try_write`](SharedPager::try_write), and frees its own latches where they return None. A thread
+/// that has a latch must not ask for the same page again, nor have it written out.
+///
+/// # What the functions of the engine may call
+/// While the device or the log works the pager has no latch of a page. One is excepted:
+/// [`flush`](SharedPager::flush) keeps the shared latch of its page while the log is made durable, where
+/// the page was written to each time before. The calling thread may have latches. So
+/// [`make_log_durable`](PageIo::make_log_durable) must not need a lock that a thread has while it waits
+/// for a page.
+///
+/// These functions may call the pager, but what they wait for there may wait for them. So such a call
+/// is refused where it would wait for the function that it is in: with [`Error::Busy`] for a page that
+/// the function is to read or write out; with [`PagerError::Log`] in `make_log_durable`, where a page
+/// has to make way whose record is not durable; with [`PagerError::Sync`] in [`sync`](PageIo::sync).
+/// And it waits for a latch, or for another thread's device work, no longer than
+/// [`SharedConfig::pin_wait`], after which it is refused with [`Error::Busy`].
 ///
 /// # What counts as a reference
 /// Each call that returns a page is a reference to it, by which LRU-K chooses victims, and moves
 /// the clock of its part on by one. But a page that is pinned already is pinned again without a
 /// lock. So is one that was used a short while ago, where the [correlated
 /// period](SharedConfig::correlated) is not 0: within it the page could not be evicted anyway, and
-/// further references would count as the same one. Such pins are counted, with their time and as
-/// one reference, when a page is to make way, and at the latest after 32 of them.
+/// further references would count as the same one.
+///
+/// Such pins are told to LRU-K later: when a page is to make way, and at the latest after 32 of them.
+/// The clock moves on by their number, and they are one reference, at the time of the newest of them.
+/// What is given up by that is the order of such pins among each other between two reads of pages, and
+/// how many references they are where they are further apart than the correlated period but no page
+/// was read meanwhile. With [`SharedConfig::tells_each_pin`] nothing is given up.
 ///
 /// # Where a call fails
 /// Nothing is lost where the device or the log fails or panics: the page that was to be read is in
@@ -97,12 +124,17 @@ pub struct SharedPager<F> {
     pub(super) parts: Box<[Part]>,
     /// If the number of parts is a power of two, its exponent.
     shift: Option<u32>,
+    /// A number that no other pager of this process has.
+    pub(super) number: u64,
     pub(super) log: Log,
+    pub(super) syncs: Syncs,
     /// The number of calls of `clean`, which begin with the parts in turn.
     pub(super) cleaned: AtomicUsize,
     config: SharedConfig,
     pub(super) io: F,
 }
+
+static NUMBERS: AtomicU64 = AtomicU64::new(0);
 
 /// What a call wants of a page that is in no frame, and whether it waits for a pin.
 #[derive(Clone, Copy)]
@@ -133,15 +165,18 @@ impl<F> SharedPager<F> {
     /// is; [`OutOfMemory`](Error::OutOfMemory).
     pub fn new(config: &SharedConfig, io: F) -> Result<SharedPager<F>> {
         config.of_part(0)?;
+        let own = NUMBERS.fetch_add(1, Ordering::Relaxed);
         let mut parts = list_of(config.parts)?;
         for number in 0..config.parts {
-            parts.push(Part::new(&config.of_part(number)?, number, config.parts)?);
+            parts.push(Part::new(config, number, own)?);
         }
         let is_power = config.parts.is_power_of_two();
         Ok(SharedPager {
             parts: parts.into_boxed_slice(),
             shift: is_power.then(|| config.parts.ilog2()),
+            number: own,
             log: Log::default(),
+            syncs: Syncs::default(),
             cleaned: AtomicUsize::default(),
             config: config.clone(),
             io,
@@ -175,9 +210,15 @@ impl<F> SharedPager<F> {
             return Err(Error::OutOfPage);
         }
         let parts = self.parts.len() as u64;
-        let (part, own) = match self.shift {
+        let (place, own) = match self.shift {
             Some(shift) => (page & (parts - 1), page >> shift),
             None => (page % parts, page / parts),
+        };
+        let turned = place + turn_of(own, parts);
+        let part = if turned < parts {
+            turned
+        } else {
+            turned - parts
         };
         Ok((&self.parts[part as usize], own))
     }
@@ -192,7 +233,7 @@ impl<F: PageIo> SharedPager<F> {
     /// log failed. [`PagerError::Refused`] with [`OutOfPage`](Error::OutOfPage) where the file has
     /// no such page; [`NoVictim`](Error::NoVictim) where all possible victims were pinned for too
     /// long; [`WrongPage`](Error::WrongPage) where another page was found in the page's place;
-    /// [`OutOfMemory`](Error::OutOfMemory).
+    /// [`OutOfMemory`](Error::OutOfMemory); [`Busy`](Error::Busy) in a function of the engine.
     // Always: else what it gives goes through memory.
     #[inline(always)]
     pub fn read(&self, page: u64) -> Result<PageRef<'_>, PagerError> {
@@ -213,8 +254,8 @@ impl<F: PageIo> SharedPager<F> {
     ) -> Result<PageRef<'a>, PagerError> {
         match joined {
             Joined::Latched(page) => Ok(page),
-            Joined::Pinned(pin) => Ok(pin.into_read()),
-            Joined::Not => self.fix(part, own, WAITING).map(PagePin::into_read),
+            Joined::Pinned(pin) => Ok(pin.into_read()?),
+            Joined::Not => Ok(self.fix(part, own, WAITING)?.into_read()?),
         }
     }
 
@@ -254,7 +295,7 @@ impl<F: PageIo> SharedPager<F> {
     #[cold]
     #[inline(never)]
     fn write_slowly<'a>(&'a self, part: &'a Part, own: u64) -> Result<PageMut<'a>, PagerError> {
-        self.pinned(part, own, WAITING).map(PagePin::into_write)
+        Ok(self.pinned(part, own, WAITING)?.into_write()?)
     }
 
     /// Returns a page under its exclusive latch, without waiting for a latch or a pin: None where
@@ -294,7 +335,7 @@ impl<F: PageIo> SharedPager<F> {
     /// Those of [`SharedPager::read`], except for [`PagerError::Read`].
     pub fn new_page(&self, page: u64) -> Result<PageMut<'_>, PagerError> {
         let (part, own) = self.place(page)?;
-        self.pinned(part, own, NEW).map(PagePin::into_write)
+        Ok(self.pinned(part, own, NEW)?.into_write()?)
     }
 
     #[inline]
@@ -325,7 +366,7 @@ impl<F: PageIo> SharedPager<F> {
         if part.seats.of(own).is_none() {
             part.make_way(&mut state, PASSES);
         }
-        part.tick(&mut state, 1)?;
+        part.tick_for_call(&mut state)?;
         match part.ask(&mut state, own) {
             Ok(Fix::Here(pass)) => Ok(part.pinned(state, pass, true)?),
             fixed => self.go_on(part, own, state, asked, fixed),
@@ -342,7 +383,7 @@ impl<F: PageIo> SharedPager<F> {
         asked: Asked,
         mut fixed: Result<Fix>,
     ) -> Result<PagePin<'a>, PagerError> {
-        let mut patience = Patience::new(asked.may_wait.then_some(self.config.pin_wait));
+        let mut patience = Patience::new(part, asked.may_wait.then_some(self.config.pin_wait));
         loop {
             state = match fixed {
                 Ok(Fix::Here(pass)) => return Ok(part.pinned(state, pass, true)?),
@@ -351,18 +392,16 @@ impl<F: PageIo> SharedPager<F> {
                 }
                 Ok(Fix::Write(ticket)) => {
                     let (victim, lsn) = (part.in_file(ticket.page()), ticket.lsn());
-                    self.write_out(victim, lsn, Writing::victim(part, state, ticket))?;
+                    self.write_out(victim, lsn, Writing::new(part, state, ticket, true))?;
                     part.lock()
                 }
                 Err(Error::NeedLog { lsn }) => {
-                    let reached = self.reach_log(part, state, lsn);
-                    reached.inspect_err(|_| part.refer_to_page_of(lsn))?
+                    drop(state);
+                    let reached = self.reach_log(part, lsn);
+                    reached.inspect_err(|_| part.pass_over(lsn))?
                 }
-                Err(Error::Busy) => part.wait_for_work(state),
-                Err(Error::NoVictim) => match part.make_way(&mut state, usize::MAX) {
-                    0 => patience.wait(part, state)?,
-                    _ => state,
-                },
+                Err(Error::Busy) => part.wait_for_work(state, own)?,
+                Err(Error::NoVictim) => patience.make_way(state)?,
                 Err(error) => return Err(error.into()),
             };
             state = part.with_image(state)?;
@@ -382,7 +421,9 @@ impl<F: PageIo> SharedPager<F> {
             reading.image.fill(0);
             Ok(())
         } else {
-            self.io.read_page(page, &mut reading.image)
+            within::call(self.number, Work::Page(page), || {
+                self.io.read_page(page, &mut reading.image)
+            })
         };
         match read {
             Ok(()) => Ok(reading.end()?),
@@ -400,62 +441,79 @@ impl<F: PageIo> SharedPager<F> {
         lsn: u64,
         mut writing: Writing<'_>,
     ) -> Result<(), PagerError> {
-        match self.io.write_page(page, &mut writing.image, lsn) {
+        let written = within::call(self.number, Work::Page(page), || {
+            self.io.write_page(page, &mut writing.image, lsn)
+        });
+        match written {
             Ok(()) => Ok(writing.end()?),
             Err(source) => Err(PagerError::Write { page, source }),
         }
     }
 
-    /// Unlocks the part, makes the log durable, and marks it in the part.
-    pub(super) fn reach_log<'a>(
-        &self,
-        part: &'a Part,
-        state: Locked<'a>,
-        lsn: u64,
-    ) -> Result<Locked<'a>, PagerError> {
-        drop(state);
-        self.log.reach(&self.io, lsn)?;
+    /// Makes the log durable, and marks it in the part, which is locked then.
+    pub(super) fn reach_log<'a>(&self, part: &'a Part, lsn: u64) -> Result<Locked<'a>, PagerError> {
+        self.log.reach(&self.io, self.number, lsn)?;
         let state = part.lock();
         state.pool.mark(0, self.log.durable())?;
         Ok(state)
     }
 }
 
-/// How long a call waits for a page that can be evicted.
-struct Patience {
+/// How long a call waits for a page that can be evicted. If it is dropped, and had slept, another
+/// thread that waits is woken: what woke this one may be of use to that.
+struct Patience<'a> {
+    part: &'a Part,
     /// None where it does not wait.
     most: Option<Duration>,
     began: Option<Instant>,
     has_aged: bool,
 }
 
-impl Patience {
-    fn new(most: Option<Duration>) -> Patience {
+impl<'a> Patience<'a> {
+    fn new(part: &'a Part, most: Option<Duration>) -> Patience<'a> {
         Patience {
+            part,
             most,
             began: None,
             has_aged: false,
         }
     }
 
-    /// Gives all passes back that are not used, and moves the clock on, so that no page is too
-    /// young; if that was not enough, sleeps until a page is unpinned.
-    fn wait<'a>(&mut self, part: &'a Part, mut state: Locked<'a>) -> Result<Locked<'a>> {
-        self.has_aged = !self.has_aged;
+    /// Gives passes back that are not used; if all pages that could make way are too young, moves the
+    /// clock on; and if there are none, sleeps until a page is unpinned.
+    fn make_way(&mut self, mut state: Locked<'a>) -> Result<Locked<'a>> {
+        let part = self.part;
+        if part.make_way(&mut state, usize::MAX) > 0 {
+            return Ok(state);
+        }
+        part.give_all_back(&mut state);
+        self.has_aged = !self.has_aged && part.has_unused(&state);
         if self.has_aged {
-            part.give_all_back(&mut state);
             let period = state.pool.config().correlated;
             // At the end of its clock the part can only wait.
             let _ = part.tick(&mut state, period + 1);
             return Ok(state);
         }
+        if let Some(left) = self.left() {
+            let has_come = |state: &mut _| part.give_all_back(state) > 0;
+            return Ok(part.wait_for_frame(state, left, has_come));
+        }
+        state.unused_ticks += 1;
+        Err(Error::NoVictim)
+    }
+
+    /// How long it may still wait. None where it may not.
+    fn left(&mut self) -> Option<Duration> {
+        let most = self.most?;
         let began = *self.began.get_or_insert_with(Instant::now);
-        match self.most.and_then(|most| most.checked_sub(began.elapsed())) {
-            Some(left) if !left.is_zero() => {
-                let has_come = |state: &mut _| part.give_all_back(state) > 0;
-                Ok(part.wait_for_pins(state, left, has_come))
-            }
-            _ => Err(Error::NoVictim),
+        most.checked_sub(began.elapsed()).filter(|it| !it.is_zero())
+    }
+}
+
+impl Drop for Patience<'_> {
+    fn drop(&mut self) {
+        if self.began.is_some() {
+            self.part.wake_for_frame();
         }
     }
 }

@@ -1,17 +1,17 @@
 //! A part: one proved pool under a lock, with what its pins, latches and waiting threads need.
+use super::SharedConfig;
 use super::firsts::Firsts;
-use super::guards::{PageMut, PagePin, PageRef, Share};
 use super::kept::Kept;
-use super::seats::{FreeSeats, PIN, Pinned, READER, Seat, Seats, Word, filled, list_of};
-use crate::{
-    Config, Error, Fixed, Flushed, PageGuard, Pass, Pool, ReadFault, ReadTicket, Refused, Result,
-    WriteTicket,
-};
+use super::latch::Queues;
+use super::seats::{FreeSeats, Seat, Seats, filled, list_of};
+use super::within::{self, Work};
+use crate::{Error, Fixed, Flushed, Pass, Pool, ReadTicket, Result, WriteTicket};
 use std::hint::spin_loop;
 use std::mem;
 use std::sync::atomic::{AtomicU64, AtomicUsize, Ordering};
 use std::sync::{Condvar, Mutex, MutexGuard, PoisonError, TryLockError};
-use std::time::Duration;
+use std::thread;
+use std::time::{Duration, Instant};
 
 /// A proved pool under a lock, with the latches of the pages in its frames. It has cache lines of
 /// its own. No thread does device work or waits while it holds the lock.
@@ -26,13 +26,18 @@ pub(super) struct Part {
     pub(super) page_size: usize,
     /// What the clock of the pool is. It changes under the lock.
     now: AtomicU64,
-    /// The number of threads that wait for a page to be unpinned, or for the end of a writer.
+    /// The number of threads that wait for a page to be unpinned.
     waiting: AtomicUsize,
     /// Whether any pass stays out.
-    keeps: bool,
-    /// The number of this part and of all parts: its page p is page p * parts + part of the file.
+    pub(super) keeps: bool,
+    /// Whether each pin is told to the pool.
+    pub(super) tells_each: bool,
+    /// The number of this part and of all parts.
     number: u64,
     parts: u64,
+    /// The number of the pager.
+    pager: u64,
+    pin_wait: Duration,
     locked: Apart,
 }
 
@@ -40,18 +45,17 @@ pub(super) struct Part {
 #[repr(align(128))]
 struct Apart {
     state: Mutex<State>,
-    /// Held for a moment by a thread that is to wait for a latch, and by one that wakes it.
-    sleepers: Mutex<()>,
-    /// The device work on a page has ended.
-    worked: Condvar,
-    /// A page was unpinned, or its writer has ended, or the device work on it has.
+    queues: Queues,
+    /// The device work on a page has ended, which has the place of its number.
+    worked: [Condvar; PLACES],
+    /// A page was unpinned, or the device work on it has ended.
     let_go: Condvar,
 }
 
 pub(super) struct State {
     pub(super) pool: Pool,
     pub(super) free: FreeSeats,
-    firsts: Firsts,
+    pub(super) firsts: Firsts,
     /// Buffers of the page size that no call uses.
     images: Vec<Vec<u8>>,
     /// A buffer for a page: see [`Part::write`].
@@ -59,9 +63,11 @@ pub(super) struct State {
     /// The passes that are out, where they stay out.
     pub(super) kept: Kept,
     /// The clock of the pool.
-    now: u64,
-    /// The number of threads that sleep until the device work on some page has ended.
-    for_work: usize,
+    pub(super) now: u64,
+    /// The ticks of calls that were refused since all pages were pinned. Later calls use them.
+    pub(super) unused_ticks: u64,
+    /// The number of threads at each place that sleep until the device work on their page has ended.
+    for_work: [usize; PLACES],
     /// The pins that were made without asking the pool, as far as they were counted; and the
     /// references that the pool was asked for afterwards, which are hits to it.
     pub(super) joined: u64,
@@ -73,16 +79,6 @@ pub(super) struct State {
 }
 
 pub(super) type Locked<'a> = MutexGuard<'a, State>;
-
-/// What came of a pin without the lock.
-pub(super) enum Joined<'a, G> {
-    /// The page is pinned, with its latch.
-    Latched(G),
-    /// The page is pinned. Its latch was not free.
-    Pinned(PagePin<'a>),
-    /// The pass of the page is not out.
-    Not,
-}
 
 /// What a fix needs while the lock is open.
 pub(super) enum Fix {
@@ -97,15 +93,23 @@ const KEPT_IMAGES: usize = 4;
 /// The number of times that a thread tries the lock before it sleeps. A call holds it for some
 /// hundred nanoseconds.
 const LOOKS: u32 = 12;
-/// At most so many passes are looked at before a page is read.
-pub(super) const PASSES: usize = 32;
+/// The places at which threads sleep that wait for device work. Those that wait for different pages
+/// may share one, and then are woken in vain.
+const PLACES: usize = 8;
 /// So many bytes are copied without the lock.
 const FEW: usize = 64;
+/// So many unsaved pages are looked at in one go under the lock.
+pub(super) const FEW_PAGES: usize = 64;
+/// How long a thread rests between two looks at a latch for which it may not queue.
+const REST: Duration = Duration::from_micros(200);
 
 impl Part {
-    pub(super) fn new(config: &Config, number: usize, parts: usize) -> Result<Part> {
+    pub(super) fn new(config: &SharedConfig, number: usize, pager: u64) -> Result<Part> {
+        let (parts, pin_wait) = (config.parts as u64, config.pin_wait);
+        let tells_each = config.tells_each_pin;
         // The limits are checked before the lists take memory.
-        let pool = Pool::new(config)?;
+        let config = config.of_part(number)?;
+        let pool = Pool::new(&config)?;
         let mut images = list_of(KEPT_IMAGES)?;
         images.push(filled(config.page_size)?);
         let state = State {
@@ -116,7 +120,8 @@ impl Part {
             scratch: filled(config.page_size)?,
             kept: Kept::new(config.frames)?,
             now: 1,
-            for_work: 0,
+            unused_ticks: 0,
+            for_work: [0; PLACES],
             joined: 0,
             referred: 0,
             waits: 0,
@@ -127,13 +132,16 @@ impl Part {
             page_size: config.page_size,
             now: AtomicU64::new(1),
             waiting: AtomicUsize::new(0),
-            keeps: config.correlated > 0,
+            keeps: config.correlated > 0 && !tells_each,
+            tells_each,
             number: number as u64,
-            parts: parts as u64,
+            parts,
+            pager,
+            pin_wait,
             locked: Apart {
                 state: Mutex::new(state),
-                sleepers: Mutex::new(()),
-                worked: Condvar::new(),
+                queues: Queues::new(config.frames)?,
+                worked: [const { Condvar::new() }; PLACES],
                 let_go: Condvar::new(),
             },
         })
@@ -141,7 +149,8 @@ impl Part {
 
     /// Returns the number in the file of a page of this part.
     pub(super) fn in_file(&self, page: u64) -> u64 {
-        page * self.parts + self.number
+        let row = self.number + self.parts - turn_of(page, self.parts);
+        page * self.parts + row % self.parts
     }
 
     #[inline]
@@ -193,22 +202,36 @@ impl Part {
         Ok(state)
     }
 
-    /// Sleeps until the device work on some page has ended.
-    pub(super) fn wait_for_work<'a>(&self, mut state: Locked<'a>) -> Locked<'a> {
-        state.for_work += 1;
+    /// Sleeps until the device work on a page has ended.
+    ///
+    /// # Errors
+    /// [`Error::Busy`] in a function of the engine which does that work itself, or which another
+    /// thread waits for: there it waits for the pin wait at most.
+    pub(super) fn wait_for_work<'a>(&self, mut state: Locked<'a>, page: u64) -> Result<Locked<'a>> {
+        let work = Work::Page(self.in_file(page));
+        if within::is_within(self.pager, |it| it == work) {
+            return Err(Error::Busy);
+        }
+        let place = place_of(page);
+        let worked = &self.locked.worked[place];
+        state.for_work[place] += 1;
         state.waits += 1;
-        state = self
-            .locked
-            .worked
-            .wait(state)
-            .unwrap_or_else(PoisonError::into_inner);
-        state.for_work -= 1;
-        state
+        let has_ended = if self.is_within() {
+            let waited = worked.wait_timeout(state, self.pin_wait);
+            let (locked, end) = waited.unwrap_or_else(PoisonError::into_inner);
+            state = locked;
+            !end.timed_out()
+        } else {
+            state = worked.wait(state).unwrap_or_else(PoisonError::into_inner);
+            true
+        };
+        state.for_work[place] -= 1;
+        has_ended.then_some(state).ok_or(Error::Busy)
     }
 
-    /// Sleeps until some page is unpinned, or a writer has ended, or for at most `most`. It does not
-    /// where what is waited for has come: that is asked once other threads see that one waits.
-    pub(super) fn wait_for_pins<'a>(
+    /// Sleeps until some page is unpinned, or for at most `most`. It does not where what is waited
+    /// for has come: that is asked once other threads see that one waits.
+    pub(super) fn wait_for_frame<'a>(
         &self,
         mut state: Locked<'a>,
         most: Duration,
@@ -228,29 +251,86 @@ impl Part {
     }
 
     #[inline]
-    fn has_waiting(&self) -> bool {
+    pub(super) fn has_waiting(&self) -> bool {
         self.waiting.load(Ordering::SeqCst) != 0
     }
 
-    /// Unlocks the part, and wakes the threads that wait for what has happened.
-    fn wake(&self, state: Locked<'_>, has_worked: bool) {
-        let for_work = has_worked && state.for_work > 0;
-        drop(state);
-        if for_work {
-            self.locked.worked.notify_all();
-        }
+    /// Wakes a thread that waits for a page to be unpinned, if there is one. What has happened did so
+    /// under the lock, or the lock was taken since.
+    pub(super) fn wake_for_frame(&self) {
         if self.has_waiting() {
-            self.locked.let_go.notify_all();
+            self.locked.let_go.notify_one();
         }
     }
 
-    /// The lock for threads that are to wait for a latch.
-    pub(super) fn sleepers(&self) -> &Mutex<()> {
-        &self.locked.sleepers
+    /// Unlocks the part, and wakes the threads that wait for the end of the device work on a page.
+    pub(super) fn wake(&self, state: Locked<'_>, page: u64) {
+        let has_sleepers = state.has_sleepers(page);
+        drop(state);
+        self.wake_for_work(page, has_sleepers);
+        self.wake_for_frame();
+    }
+
+    pub(super) fn wake_for_work(&self, page: u64, has_sleepers: bool) {
+        if has_sleepers {
+            self.locked.worked[place_of(page)].notify_all();
+        }
+    }
+
+    /// Whether this thread is in a function of the engine that the pager called.
+    fn is_within(&self) -> bool {
+        within::is_within(self.pager, |_| true)
+    }
+
+    /// Waits for a latch, in place of another share.
+    ///
+    /// # Errors
+    /// [`Error::Busy`] in a function of the engine, where it waits for the pin wait at most.
+    #[inline]
+    pub(super) fn take_latch(&self, seat: &Seat, latch: u64, in_place_of: u64) -> Result<()> {
+        if seat.try_latch(latch, in_place_of) {
+            return Ok(());
+        }
+        self.wait_for_latch(seat, latch, in_place_of)
+    }
+
+    #[cold]
+    fn wait_for_latch(&self, seat: &Seat, latch: u64, in_place_of: u64) -> Result<()> {
+        if seat.latch_soon(latch, in_place_of) {
+            return Ok(());
+        }
+        if self.is_within() {
+            // A thread that has the latch may wait for this one: so it does not queue.
+            let began = Instant::now();
+            while !seat.try_latch(latch, in_place_of) {
+                if began.elapsed() >= self.pin_wait {
+                    return Err(Error::Busy);
+                }
+                thread::sleep(REST);
+            }
+            return Ok(());
+        }
+        let number = self.seats.number_of(seat);
+        self.locked.queues.wait(seat, number, latch);
+        if in_place_of > 0 {
+            seat.leave(in_place_of);
+        }
+        Ok(())
+    }
+
+    /// The number of times that a thread waited for a latch.
+    pub(super) fn latch_waits(&self) -> u64 {
+        self.locked.queues.waits()
+    }
+
+    /// Gives the latch of a seat's page to the threads that are next.
+    pub(super) fn hand_over(&self, seat: &Seat) {
+        let number = self.seats.number_of(seat);
+        self.locked.queues.hand_over(seat, number);
     }
 
     #[inline]
-    fn now(&self) -> u64 {
+    pub(super) fn now(&self) -> u64 {
         self.now.load(Ordering::Relaxed)
     }
 
@@ -263,288 +343,14 @@ impl Part {
         Ok(())
     }
 
-    /// Pins a page whose pass is out under its shared latch, without the lock and without asking the
-    /// pool.
+    /// Moves the clock on by one, for a call that is to return a page.
     #[inline]
-    pub(super) fn join_read(&self, page: u64) -> Joined<'_, PageRef<'_>> {
-        let Some(seat) = self.seats.out(page) else {
-            return Joined::Not;
-        };
-        let before = seat.join(READER);
-        if !before.is_readable_at_once() || seat.page() != page {
-            return self.join_read_slowly(seat, before, page);
+    pub(super) fn tick_for_call(&self, state: &mut State) -> Result<()> {
+        match state.unused_ticks.checked_sub(1) {
+            Some(left) => state.unused_ticks = left,
+            None => self.tick(state, 1)?,
         }
-        seat.touch(self.now());
-        // SAFETY: the pass was out, and the latch free.
-        Joined::Latched(PageRef::new(unsafe { Share::new(self, seat) }))
-    }
-
-    #[cold]
-    #[inline(never)]
-    fn join_read_slowly<'a>(
-        &'a self,
-        seat: &'a Seat,
-        before: Word,
-        page: u64,
-    ) -> Joined<'a, PageRef<'a>> {
-        if !before.is_pinnable() || seat.page() != page {
-            self.leave(seat, READER);
-            return Joined::Not;
-        }
-        seat.touch(self.now());
-        if before.is_readable() {
-            self.count(seat);
-            // SAFETY: the pass was out, and the latch free.
-            return Joined::Latched(PageRef::new(unsafe { Share::new(self, seat) }));
-        }
-        if seat.turn_to_pin().is_awaited() {
-            seat.wake(self.sleepers());
-        }
-        // SAFETY: the pass was out.
-        Joined::Pinned(PagePin::new(unsafe { Share::new(self, seat) }))
-    }
-
-    /// The same with the exclusive latch, if that is free.
-    #[inline]
-    pub(super) fn join_write(&self, page: u64) -> Option<PageMut<'_>> {
-        let seat = self.seats.out(page)?;
-        let before = seat.join_alone()?;
-        // SAFETY: the pass was out, and the latch free.
-        let share = unsafe { Share::new(self, seat) };
-        // Another page may have the seat since it was looked up.
-        if seat.page() != page {
-            return None;
-        }
-        seat.touch(self.now());
-        if before.is_due() {
-            self.count(seat);
-        }
-        Some(PageMut::new(share))
-    }
-
-    /// The same without a latch.
-    #[inline]
-    pub(super) fn join(&self, page: u64) -> Option<PagePin<'_>> {
-        let seat = self.seats.out(page)?;
-        let before = seat.join(PIN);
-        if !before.is_pinnable() || seat.page() != page {
-            self.leave(seat, PIN);
-            return None;
-        }
-        seat.touch(self.now());
-        if before.is_due() {
-            self.count(seat);
-        }
-        // SAFETY: the pass was out.
-        Some(PagePin::new(unsafe { Share::new(self, seat) }))
-    }
-
-    /// Takes a share of a seat's word back.
-    #[inline]
-    pub(super) fn leave(&self, seat: &Seat, share: u64) {
-        let left = seat.leave(share);
-        if !left.is_quiet() || self.has_waiting() {
-            self.leave_slowly(seat, left);
-        }
-    }
-
-    #[inline(never)]
-    fn leave_slowly(&self, seat: &Seat, left: Word) {
-        if left.is_awaited() {
-            seat.wake(self.sleepers());
-        }
-        if left.is_over() || self.has_waiting() {
-            let mut state = self.lock();
-            self.end_use(&mut state, seat);
-            self.wake(state, false);
-        }
-    }
-
-    /// Takes a share back under the lock, and wakes who waits for that.
-    fn leave_under(&self, state: &mut State, seat: &Seat, share: u64) {
-        let left = seat.leave(share);
-        if left.is_awaited() {
-            seat.wake(self.sleepers());
-        }
-        self.end_use(state, seat);
-        if self.has_waiting() {
-            self.locked.let_go.notify_all();
-        }
-    }
-
-    /// Gives the pass of a seat back, if nobody uses the page and it need not stay out. It stays
-    /// where others joined who used the page.
-    fn end_use(&self, state: &mut State, seat: &Seat) {
-        let word = seat.word();
-        if word.is_over() {
-            if self.keeps && word.joins() > 0 {
-                seat.stay();
-                self.keep(state, self.seats.number_of(seat));
-            } else {
-                self.give_back(state, seat);
-            }
-        }
-    }
-
-    /// Notes that a pass stays out.
-    fn keep(&self, state: &mut State, number: usize) {
-        let due = state.now.saturating_add(state.pool.config().correlated);
-        state.kept.put(number, due);
-    }
-
-    /// Pins the page of a pass that was just given, and notes whether it was found in its frame.
-    #[inline]
-    pub(super) fn pinned(
-        &self,
-        mut state: Locked<'_>,
-        pass: Pass,
-        was_here: bool,
-    ) -> Result<PagePin<'_>> {
-        let page = pass.page();
-        let (Some(number), Ok(bytes)) = (self.seats.of(page), state.pool.place(&pass)) else {
-            // This can't be: the page is in a frame, and its pass is out.
-            let _ = state.pool.unfix_by(&pass);
-            return Err(Error::UnknownPass);
-        };
-        let seat = self.seats.seat(number);
-        let now = state.now;
-        state.kept.refer(number, now);
-        if seat.word().is_out() {
-            // All pins of a page share one pass.
-            let _ = state.pool.unfix_by(&pass);
-            return Ok(self.add_pin(seat, Seat::add_pin));
-        }
-        let (bytes, serial) = (bytes.cast(), pass.serial());
-        let stays = self.keeps && was_here;
-        seat.begin(page, &Pinned { bytes, serial }, now, stays);
-        self.seats.set_out(page, number, true);
-        if stays {
-            self.keep(&mut state, number);
-        }
-        drop(state);
-        // SAFETY: the pass is out, and the pin in the word.
-        Ok(PagePin::new(unsafe { Share::new(self, seat) }))
-    }
-
-    /// Pins a page under the lock if its pass is out, without asking the pool.
-    pub(super) fn join_under(&self, state: &State, page: u64) -> Option<PagePin<'_>> {
-        let seat = self.seats.out(page)?;
-        seat.touch(state.now);
-        Some(self.add_pin(seat, |seat| seat.join(PIN)))
-    }
-
-    /// Makes a pin under the lock, while the pass is out.
-    fn add_pin<'a>(&'a self, seat: &'a Seat, add: impl FnOnce(&Seat) -> Word) -> PagePin<'a> {
-        let before = add(seat);
-        // SAFETY: the pass is out, and the pin in the word.
-        let pin = PagePin::new(unsafe { Share::new(self, seat) });
-        if !before.is_pinnable() {
-            std::mem::forget(pin);
-            seat.leave(PIN);
-            panic!("too many pins of one page");
-        }
-        pin
-    }
-
-    /// Gives a pass back, if it is out and nobody uses its page.
-    fn give_back(&self, state: &mut State, seat: &Seat) -> bool {
-        let Some(joins) = seat.end() else {
-            return false;
-        };
-        state.joined += joins;
-        let page = seat.page();
-        self.seats.set_out(page, self.seats.number_of(seat), false);
-        let pass = state.pool.pass_of(page, seat.serial());
-        // A pass of this pool that is out is always taken.
-        let _ = state.pool.unfix_by(&pass);
-        true
-    }
-
-    /// Counts the pins that were made without the lock, of a page that the caller has pinned.
-    #[cold]
-    fn count(&self, seat: &Seat) {
-        self.count_under(&mut self.lock(), self.seats.number_of(seat));
-    }
-
-    /// Counts the pins of a seat's page, while its pass is out, that were made without the lock. The
-    /// clock moves on by their number. They are one reference, if the newest of them is: with the
-    /// one before it, if it came within the correlated period.
-    fn count_under(&self, state: &mut State, number: usize) {
-        let seat = self.seats.seat(number);
-        if seat.word().joins() == 0 {
-            return;
-        }
-        let joins = seat.take_joins();
-        state.joined += joins;
-        let (last, period) = (state.kept.last(number), state.pool.config().correlated);
-        let is_new = seat.touched().saturating_sub(last) > period || period == 0;
-        // If it is too late for one that moves LAST of the page, LAST stays.
-        if is_new || state.now - last <= period {
-            if self.refer_to(state, seat.page()) {
-                state.referred += 1;
-            }
-            let now = state.now;
-            state.kept.refer(number, now);
-        }
-        // At the end of its clock the part goes on.
-        let _ = self.tick(state, joins);
-    }
-
-    /// Gives passes back that were not touched for the correlated period, and returns how many.
-    /// Until then their pages may not be evicted anyway. It looks at no more than `most` passes.
-    pub(super) fn make_way(&self, state: &mut State, most: usize) -> usize {
-        let mut given = 0;
-        for _ in 0..most.min(state.kept.len()) {
-            if state.kept.next(state.now).is_none() {
-                break;
-            }
-            given += usize::from(self.look_at_next(state, false));
-        }
-        given
-    }
-
-    /// Gives all passes back whose pages nobody uses, and returns how many.
-    pub(super) fn give_all_back(&self, state: &mut State) -> usize {
-        let looks = 0..state.kept.len();
-        looks.filter(|_| self.look_at_next(state, true)).count()
-    }
-
-    /// Gives the pass back that is next, if it is time for that or `at_once` is so, and its page is
-    /// not used. Else it is last.
-    fn look_at_next(&self, state: &mut State, at_once: bool) -> bool {
-        let Some(number) = state.kept.take_next() else {
-            return false;
-        };
-        self.count_under(state, number);
-        let seat = self.seats.seat(number);
-        let period = state.pool.config().correlated;
-        let last = seat.touched().max(state.kept.last(number));
-        let mut due = last.saturating_add(period);
-        if due <= state.now || at_once {
-            if self.give_back(state, seat) {
-                return true;
-            }
-            due = due.max(state.now.saturating_add(period));
-        }
-        state.kept.put(number, due);
-        false
-    }
-
-    /// Of the passes that stay out, returns the number of those whose pages nobody uses, and the
-    /// number of pins that were not counted so far.
-    pub(super) fn kept(&self, state: &State) -> (usize, u64) {
-        let words = state.kept.seats().map(|seat| self.seats.seat(seat).word());
-        words.fold((0, 0), |(unused, joins), word| {
-            let is_unused = usize::from(!word.is_used());
-            (unused + is_unused, joins + word.joins())
-        })
-    }
-
-    /// Takes the shared latch of a seat under the lock, if no other thread has the exclusive one.
-    pub(super) fn try_latch(&self, number: usize) -> Option<Latch<'_>> {
-        let seat = self.seats.seat(number);
-        let is_had = seat.try_latch(READER, 0, true);
-        is_had.then(|| Latch { part: self, seat })
+        Ok(())
     }
 
     /// Writes to a pinned page. The bytes are copied first: they may be those of another page of
@@ -610,26 +416,28 @@ impl Part {
         Ok(fix)
     }
 
-    /// Adds a reference to a page, if it is still in a frame, as to one that could not be written out:
-    /// so it is not the next victim. It returns true if the pool has counted a hit.
+    /// Adds a reference to a page, if it is still in a frame. It returns true if the pool has counted
+    /// a hit.
     pub(super) fn refer_to(&self, state: &mut State, page: u64) -> bool {
         if self.seats.of(page).is_none() {
             return false;
         }
-        let asked = self.ask(state, page);
-        if let Ok(Fix::Here(pass)) = &asked {
-            // A pass of this pool that is out is always taken.
-            let _ = state.pool.unfix_by(pass);
-        }
-        asked.is_ok()
+        // A page that is in a frame needs no image.
+        let State { pool, scratch, .. } = state;
+        matches!(pool.fix(0, page, scratch), Ok(Fixed::Hit(_)))
     }
 
-    /// The same for the unsaved page with this page LSN, up to which the log is not durable.
-    pub(super) fn refer_to_page_of(&self, lsn: u64) {
+    /// Has the next call choose another victim than one whose log record, with this LSN, could not be
+    /// made durable. A record may be of several pages, and the pool does not tell which of them is
+    /// the victim: so each of them counts as used now.
+    pub(super) fn pass_over(&self, lsn: u64) {
         let mut state = self.lock();
-        let found = state.pool.unsaved(0).find(|it| it.lsn == lsn);
-        if let Some(found) = found {
-            self.refer_to(&mut state, found.page);
+        let mut from = 0;
+        while let Some(found) = state.pool.next_unsaved(from) {
+            if found.lsn == lsn {
+                self.refer_to(&mut state, found.page);
+            }
+            from = found.page + 1;
         }
     }
 
@@ -639,20 +447,25 @@ impl Part {
         self.seats.of(page).filter(|_| next.page == page)
     }
 
-    /// Returns the least LSN of a write that has a log record and is in no image on the device.
+    /// Returns the least LSN of a write that has a log record and is in no image on the device. A
+    /// write that comes meanwhile may be left out.
     pub(super) fn redo_from(&self) -> Option<u64> {
-        let state = self.lock();
-        match state.pool.redo_from() {
-            // A write without a record hides the others.
-            Some(0) => {
-                let seats = state
-                    .pool
-                    .unsaved(0)
-                    .filter_map(|it| self.seats.of(it.page));
-                seats.filter_map(|seat| state.firsts.of(seat)).min()
+        let mut state = self.lock();
+        let mut least = state.pool.redo_from();
+        // A write without a record hides the others.
+        if least == Some(0) {
+            let mut from = Some(0);
+            least = None;
+            while let Some(first) = from {
+                let (few, next) = least_of(&self.seats, &state, first);
+                least = few.into_iter().chain(least).min();
+                from = next;
+                // Other threads may have the lock now and then.
+                drop(state);
+                state = self.lock();
             }
-            least => least,
         }
+        least
     }
 
     /// Asks once that a page be written out. It returns None where the page is clean or in no
@@ -689,9 +502,37 @@ fn fetch(byte: *const u8) {
     let _ = byte;
 }
 
+/// By how much the parts of a row of pages are turned: else pages that are a multiple of the parts
+/// apart were all in one. A row is as many pages as there are parts.
+#[inline]
+pub(super) fn turn_of(row: u64, parts: u64) -> u64 {
+    let mixed = row.wrapping_mul(0x9e37_79b9_7f4a_7c15) >> 32;
+    (mixed * parts) >> 32
+}
+
+/// Returns the place where threads sleep that wait for the device work on a page.
+fn place_of(page: u64) -> usize {
+    (page % PLACES as u64) as usize
+}
+
+/// Returns the least LSN of a write with a record among some unsaved pages, from this number on, and
+/// the number from which the next ones are to be looked for.
+fn least_of(seats: &Seats, state: &State, first: u64) -> (Option<u64>, Option<u64>) {
+    let (mut least, mut from) = (None, first);
+    for _ in 0..FEW_PAGES {
+        let Some(found) = state.pool.next_unsaved(from) else {
+            return (least, None);
+        };
+        let lsn = seats.of(found.page).and_then(|seat| state.firsts.of(seat));
+        least = lsn.into_iter().chain(least).min();
+        from = found.page + 1;
+    }
+    (least, Some(from))
+}
+
 impl State {
     /// Keeps a buffer for later calls, or returns it where enough are kept.
-    fn keep(&mut self, image: Vec<u8>) -> Option<Vec<u8>> {
+    pub(super) fn keep(&mut self, image: Vec<u8>) -> Option<Vec<u8>> {
         if self.images.len() == KEPT_IMAGES || image.is_empty() {
             return Some(image);
         }
@@ -699,168 +540,12 @@ impl State {
         None
     }
 
+    /// Whether threads sleep until the device work on a page has ended.
+    pub(super) fn has_sleepers(&self, page: u64) -> bool {
+        self.for_work[place_of(page)] > 0
+    }
+
     pub(super) fn image(&mut self) -> Vec<u8> {
         self.images.pop().unwrap_or_default()
-    }
-}
-
-/// A shared latch that was taken under the lock, without a pin of its own. If it is dropped the lock
-/// is taken: where it is held, [`Latch::free`] ends it.
-pub(super) struct Latch<'a> {
-    part: &'a Part,
-    seat: &'a Seat,
-}
-
-impl Latch<'_> {
-    pub(super) fn free(self, state: &mut State) {
-        self.part.leave_under(state, self.seat, READER);
-        mem::forget(self);
-    }
-
-    pub(super) fn is_of(&self, number: usize) -> bool {
-        self.part.seats.number_of(self.seat) == number
-    }
-}
-
-impl Drop for Latch<'_> {
-    fn drop(&mut self) {
-        self.part.leave(self.seat, READER);
-    }
-}
-
-/// A read that is under way. If it is dropped before its end it ends as failed, also where the
-/// engine's code panicked or memory for the page was refused. So no frame waits for ever.
-pub(super) struct Reading<'a> {
-    part: &'a Part,
-    ticket: Option<ReadTicket>,
-    pub(super) image: Vec<u8>,
-    /// The fault with which it ends then.
-    fault: ReadFault,
-}
-
-impl<'a> Reading<'a> {
-    pub(super) fn new(part: &'a Part, mut state: Locked<'a>, ticket: ReadTicket) -> Reading<'a> {
-        Reading {
-            part,
-            ticket: Some(ticket),
-            image: state.image(),
-            fault: ReadFault::Device(std::io::ErrorKind::Other.into()),
-        }
-    }
-
-    /// Ends the read where it succeeded, and pins the page.
-    pub(super) fn end(mut self) -> Result<PagePin<'a>> {
-        let ticket = self.ticket.take().ok_or(Error::UnknownTicket)?;
-        let part = self.part;
-        let mut state = part.lock();
-        let ended = state.pool.end_read(ticket, &self.image);
-        let pass = match ended.map(PageGuard::into_pass) {
-            Ok(pass) => pass,
-            Err(Refused { error, token }) => {
-                drop(state);
-                self.ticket = Some(token);
-                return Err(error);
-            }
-        };
-        state.free.give(&part.seats, pass.page());
-        self.image = state.keep(mem::take(&mut self.image)).unwrap_or_default();
-        let has_sleepers = state.for_work > 0;
-        let pin = part.pinned(state, pass, false);
-        if has_sleepers {
-            part.locked.worked.notify_all();
-        }
-        pin
-    }
-
-    pub(super) fn fail_with_wrong_page(&mut self) {
-        self.fault = ReadFault::WrongPage;
-    }
-}
-
-impl Drop for Reading<'_> {
-    fn drop(&mut self) {
-        if let Some(ticket) = self.ticket.take() {
-            let mut state = self.part.lock();
-            // A ticket of this pool that is out is always taken.
-            let _ = state.pool.fail_read(ticket, &self.fault);
-            self.image = state.keep(mem::take(&mut self.image)).unwrap_or_default();
-            self.part.wake(state, true);
-        }
-    }
-}
-
-/// A write-out that is under way. If it is dropped before its end it ends as failed.
-pub(super) struct Writing<'a> {
-    part: &'a Part,
-    ticket: Option<WriteTicket>,
-    pub(super) image: Vec<u8>,
-    /// Whether the page is a victim.
-    is_victim: bool,
-}
-
-impl<'a> Writing<'a> {
-    /// Begins to write a victim out, which nobody has pinned. The lock is opened.
-    pub(super) fn victim(
-        part: &'a Part,
-        mut state: Locked<'a>,
-        ticket: WriteTicket,
-    ) -> Writing<'a> {
-        Writing {
-            part,
-            ticket: Some(ticket),
-            image: state.image(),
-            is_victim: true,
-        }
-    }
-
-    /// Begins to write a page out, between its writers: the image was taken under this latch, which
-    /// is then freed. The lock is opened.
-    pub(super) fn latched(
-        part: &'a Part,
-        mut state: Locked<'a>,
-        latch: Latch<'_>,
-        ticket: WriteTicket,
-    ) -> Writing<'a> {
-        latch.free(&mut state);
-        Writing {
-            part,
-            ticket: Some(ticket),
-            image: state.image(),
-            is_victim: false,
-        }
-    }
-
-    /// Ends the write-out where it succeeded.
-    pub(super) fn end(&mut self) -> Result<()> {
-        let ticket = self.ticket.take().ok_or(Error::UnknownTicket)?;
-        let page = ticket.page();
-        let mut state = self.part.lock();
-        state.pool.end_write(ticket)?;
-        if let Some(seat) = self.part.seats.of(page) {
-            state.firsts.arrive(seat);
-        }
-        self.image = state.keep(mem::take(&mut self.image)).unwrap_or_default();
-        self.part.wake(state, true);
-        Ok(())
-    }
-}
-
-impl Drop for Writing<'_> {
-    fn drop(&mut self) {
-        let Some(ticket) = self.ticket.take() else {
-            return;
-        };
-        let page = ticket.page();
-        let mut state = self.part.lock();
-        // A ticket of this pool that is out is always taken.
-        let _ = state.pool.fail_write(ticket);
-        if let Some(seat) = self.part.seats.of(page) {
-            state.firsts.come_back(seat);
-        }
-        self.image = state.keep(mem::take(&mut self.image)).unwrap_or_default();
-        if self.is_victim {
-            self.part.refer_to(&mut state, page);
-        }
-        self.part.wake(state, true);
     }
 }

@@ -1,14 +1,48 @@
 //! Seats: for each frame of a part its page, and in one word the page's latch and its pins.
+//!
+//! # Which field changes under what, and who sees it
+//!
+//! - **Shares.** A guard is a share in the word of its page's seat: a READER, a PIN or a WRITER. Each
+//!   share keeps the page in its frame. Every change of a word is one atomic read-modify-write, so
+//!   what a release wrote is seen by each later acquire, whatever changes are between.
+//! - **The pass.** `page`, `bytes` and `serial` are stored under the part's lock while the word has
+//!   no OUT; then OUT is set (Release). Who adds a share (Acquire) and finds OUT sees them. They stay
+//!   as long as the share: OUT goes by a compare-and-swap under the lock that finds no share. A share
+//!   that was added where there was no OUT, or whose seat has another page, is taken back at once: so
+//!   any word may have shares for a moment that are no guards, and no rule here relies on their
+//!   absence.
+//! - **Latches.** A READER is added blindly (Acquire). It is a latch if OUT was there, and neither
+//!   WRITER nor QUEUED; else it is turned into a PIN, or taken back. A WRITER is added by a
+//!   compare-and-swap (Acquire) that finds OUT and no READER, WRITER or QUEUED.
+//! - **Letting go** takes the share from the word (SeqCst, so a Release): all use of the page is before
+//!   the next latch, and before OUT goes (SeqCst, so an Acquire).
+//! - **Bytes** of a page change by [`Part::write`], under a WRITER and the part's lock. They are looked
+//!   at under a READER or by the WRITER, or are copied under the lock where there is no WRITER: one
+//!   that comes then writes nothing before the lock is open.
+//! - **QUEUED** changes under the mutex of [`Queues`] alone: it is set where the latch is not free, and
+//!   goes as the last thread of the queue is let in. While it is there nobody takes the latch. Who
+//!   leaves a word that has it, and no READER or WRITER any more, calls [`Queues::hand_over`], which
+//!   adds the shares of those who are next (AcqRel). They see that by the mutex.
+//! - **Who waits for a frame** adds to the part's `waiting` (SeqCst), looks at the words (SeqCst), and
+//!   sleeps, all under the part's lock. Who lets go looks at `waiting` (SeqCst) after it took its share
+//!   back (SeqCst), and takes the lock before it wakes: so one of both sees the other.
+//! - **STAYS and joins** are for [`Part::make_way`]. Without STAYS the last share gives the pass back,
+//!   under the lock. Joins are counted as shares are added, and taken under the lock.
+//! - **The seat of a page** changes under the lock, and else is a hint (Relaxed): `page` is compared
+//!   under a share. So are `touched` and the part's `now` (Relaxed), on which no safety relies.
+//! - **Order of locks:** a latch, then the part's lock, then the mutex of the queues. Nobody waits for a
+//!   latch, sleeps for anything else than the lock itself, or calls the engine with the part's lock.
+//!
+//! [`Part::write`]: super::part::Part::write
+//! [`Part::make_way`]: super::part::Part::make_way
+//! [`Queues`]: super::latch::Queues
+//! [`Queues::hand_over`]: super::latch::Queues::hand_over
+use super::word::{JOIN, PIN, READER, WRITER, Word};
 use crate::{Error, Result};
 use std::sync::atomic::{AtomicPtr, AtomicU32, AtomicU64, Ordering};
-use std::sync::{Condvar, Mutex, PoisonError};
 
 /// The part of a frame that this crate adds, on a cache line of its own. All guards of a page share
-/// one pass of the pool, which the seat has while it is [`OUT`].
-///
-/// Who makes a guard adds its share to the word: [`PIN`], [`READER`] or [`WRITER`]. While a share is
-/// in the word and the pass is out, the pass stays out, and so page and bytes stay. The pass goes
-/// out, and back, under the part's lock.
+/// one pass of the pool.
 #[derive(Default)]
 #[repr(align(64))]
 pub(super) struct Seat {
@@ -20,135 +54,15 @@ pub(super) struct Seat {
     serial: AtomicU64,
     /// What the part's clock was when the page was pinned without the lock.
     touched: AtomicU64,
-    /// The latch has come free.
-    freed: Condvar,
 }
 
-/// A shared latch, which is a pin too.
-pub(super) const READER: u64 = 1;
-/// A pin without a latch.
-pub(super) const PIN: u64 = 1 << 20;
-/// The exclusive latch, which is a pin too.
-pub(super) const WRITER: u64 = 1 << 40;
-/// A thread sleeps until the latch comes free, or is about to: so the word is not what others take
-/// it by at once.
-const WAITED: u64 = 1 << 41;
-/// The pass is out.
-const OUT: u64 = 1 << 42;
-/// The pass stays out when nobody uses the page.
-const STAYS: u64 = 1 << 43;
-/// A pin that was made without the lock, of those that the part has not counted so far. The highest
-/// bits: what does not fit is lost.
-const JOIN: u64 = 1 << 44;
-/// After so many of them, a power of two, one is a reference.
-const JOINS: u64 = 32;
-
-const DUE: u64 = !(JOINS * JOIN - 1);
-
-const READERS: u64 = PIN - READER;
-const PINS: u64 = WRITER - PIN;
-const JOINED: u64 = !(JOIN - 1);
-const LATCHED: u64 = READERS | WRITER;
-const USERS: u64 = READERS | PINS | WRITER;
-/// More guards than this of a page are too many, though as many again fit in the word: so many
-/// threads may find that at once.
-const TOO_MANY: u64 = (READERS / 2 + 1) | (PINS / 2 + PIN / 2);
-/// The number of times that a thread looks whether the latch is free before it sleeps.
+/// How often a thread looks whether the latch is free before it waits in the queue.
 const LOOKS: u32 = 60;
 
 /// What a seat has of a page whose pass is out.
 pub(super) struct Pinned {
     pub(super) bytes: *const u8,
     pub(super) serial: u64,
-}
-
-/// What a word was before something was added to it or taken from it, or what it is.
-#[derive(Clone, Copy)]
-pub(super) struct Word(u64);
-
-impl Word {
-    /// The page is pinned, or latched.
-    #[inline]
-    pub(super) fn is_used(self) -> bool {
-        self.0 & USERS != 0
-    }
-
-    /// A thread has the exclusive latch.
-    pub(super) fn is_written(self) -> bool {
-        self.0 & WRITER != 0
-    }
-
-    #[inline]
-    pub(super) fn is_out(self) -> bool {
-        self.0 & OUT != 0
-    }
-
-    /// Nobody uses the page, and its pass is out but need not stay.
-    #[inline]
-    pub(super) fn is_over(self) -> bool {
-        self.0 & (OUT | STAYS | USERS) == OUT
-    }
-
-    /// Nothing has to be done by who let the page go: the pass stays, and no thread waits for the
-    /// latch.
-    #[inline]
-    pub(super) fn is_quiet(self) -> bool {
-        self.0 & (STAYS | WAITED) == STAYS
-    }
-
-    /// Whether a share could be added, other than of the latch.
-    #[inline]
-    fn has_room(self) -> bool {
-        self.0 & TOO_MANY == 0
-    }
-
-    /// Whether a shared latch that was added to this is one: the pass is out, nobody has the
-    /// exclusive latch or waits for one, and there is room.
-    #[inline]
-    pub(super) fn is_readable(self) -> bool {
-        self.0 & (OUT | WRITER | WAITED | TOO_MANY) == OUT
-    }
-
-    /// The same, and it is not time for a reference.
-    #[inline]
-    pub(super) fn is_readable_at_once(self) -> bool {
-        self.0 & (OUT | WRITER | WAITED | TOO_MANY | DUE) == OUT
-    }
-
-    #[inline]
-    pub(super) fn is_pinnable(self) -> bool {
-        self.0 & (OUT | TOO_MANY) == OUT
-    }
-
-    /// The latch came free, for which a thread waits.
-    #[inline]
-    pub(super) fn is_awaited(self) -> bool {
-        self.0 & (WAITED | LATCHED) == WAITED
-    }
-
-    #[inline]
-    pub(super) fn has_waited(self) -> bool {
-        self.0 & WAITED != 0
-    }
-
-    /// So many pins were made without the lock that it is time for a reference.
-    #[inline]
-    pub(super) fn is_due(self) -> bool {
-        self.0 & DUE != 0
-    }
-
-    pub(super) fn joins(self) -> u64 {
-        self.0 / JOIN
-    }
-
-    /// The latch that may be had in place of a share: a shared one also while a thread waits, where
-    /// `may_pass` is so.
-    fn with_latch(self, latch: u64, in_place_of: u64, may_pass: bool) -> Option<u64> {
-        let in_the_way = if latch == READER { WRITER } else { LATCHED };
-        let waited = if may_pass { 0 } else { WAITED };
-        let is_free = self.0 & (in_the_way | waited) == 0 && self.has_room();
-        is_free.then(|| self.0 - in_place_of + latch)
-    }
 }
 
 impl Seat {
@@ -168,7 +82,7 @@ impl Seat {
     #[inline]
     pub(super) fn join_alone(&self) -> Option<Word> {
         let word = Word(self.word.load(Ordering::Relaxed));
-        if word.0 & (OUT | LATCHED | WAITED) != OUT {
+        if !word.is_writable() {
             return None;
         }
         let next = word.0.wrapping_add(WRITER + JOIN);
@@ -197,64 +111,53 @@ impl Seat {
         Word(self.word.fetch_add(PIN, Ordering::Acquire))
     }
 
-    /// Waits for a latch, in place of a pin.
+    /// Takes a latch in place of another share, if that is free and nobody waits for it.
     #[inline]
-    pub(super) fn take_latch(&self, latch: u64, in_place_of: u64, sleepers: &Mutex<()>) {
-        if !self.try_latch(latch, in_place_of, false) {
-            self.wait_for_latch(latch, in_place_of, sleepers);
-        }
+    pub(super) fn try_latch(&self, latch: u64, in_place_of: u64) -> bool {
+        let latched = |word| Word(word).with_latch(latch, in_place_of);
+        self.change(Ordering::Acquire, latched).is_ok()
     }
 
-    /// Takes a latch in place of another share, if that can be had at once.
-    #[inline]
-    pub(super) fn try_latch(&self, latch: u64, in_place_of: u64, may_pass: bool) -> bool {
-        let taken = self
-            .word
-            .fetch_update(Ordering::Acquire, Ordering::Relaxed, |word| {
-                Word(word).with_latch(latch, in_place_of, may_pass)
-            });
-        taken.is_ok()
-    }
-
-    #[cold]
-    fn wait_for_latch(&self, latch: u64, in_place_of: u64, sleepers: &Mutex<()>) {
-        for _ in 0..LOOKS {
+    /// The same, and looks for a while whether the latch comes free.
+    pub(super) fn latch_soon(&self, latch: u64, in_place_of: u64) -> bool {
+        (0..LOOKS).any(|_| {
             std::hint::spin_loop();
-            if self.word().has_waited() {
-                break;
+            self.try_latch(latch, in_place_of)
+        })
+    }
+
+    /// Takes a latch beside a pin, if that is free and nobody waits for it. Else it notes that a
+    /// thread waits, and returns what was there. The queues are locked.
+    pub(super) fn latch_or_queue(&self, latch: u64) -> Option<Word> {
+        loop {
+            if self.try_latch(latch, 0) {
+                return None;
             }
-            if self.try_latch(latch, in_place_of, false) {
-                return;
-            }
-        }
-        let mut turn = sleepers.lock().unwrap_or_else(PoisonError::into_inner);
-        while !self.try_latch(latch, in_place_of, true) {
-            // Only where the latch is taken now: then who lets it go finds this, and wakes.
-            let noted = self
-                .word
-                .fetch_update(Ordering::Relaxed, Ordering::Relaxed, |word| {
-                    assert!(
-                        Word(word).has_room(),
-                        "too many latches or pins of one page"
-                    );
-                    let free = Word(word).with_latch(latch, in_place_of, true);
-                    free.is_none().then_some(word | WAITED)
-                });
-            if noted.is_ok() {
-                turn = self
-                    .freed
-                    .wait(turn)
-                    .unwrap_or_else(PoisonError::into_inner);
+            // Only where the latch is not free now: so who lets it go finds this.
+            match self.change(Ordering::Acquire, |word| Word(word).with_queue(latch)) {
+                Ok(before) => return Some(before),
+                Err(word) => assert!(word.has_room(), "too many latches or pins of one page"),
             }
         }
     }
 
-    /// Wakes all threads that wait for the latch. They note again what they still wait for.
-    #[cold]
-    pub(super) fn wake(&self, sleepers: &Mutex<()>) {
-        let _turn = sleepers.lock().unwrap_or_else(PoisonError::into_inner);
-        self.word.fetch_and(!WAITED, Ordering::Relaxed);
-        self.freed.notify_all();
+    /// Adds the latches of readers that waited, if no writer is there. The queues are locked.
+    pub(super) fn let_readers_in(&self, readers: u64, is_queue_empty: bool) -> bool {
+        let let_in = |word| Word(word).with_readers(readers, is_queue_empty);
+        self.change(Ordering::AcqRel, let_in).is_ok()
+    }
+
+    /// Adds the latch of a writer that waited, if nobody has one. The queues are locked.
+    pub(super) fn let_writer_in(&self, is_queue_empty: bool) -> bool {
+        let let_in = |word| Word(word).with_writer(is_queue_empty);
+        self.change(Ordering::AcqRel, let_in).is_ok()
+    }
+
+    /// Changes the word, if it is to be changed, and returns what was there.
+    #[inline]
+    fn change(&self, order: Ordering, change: impl Fn(u64) -> Option<u64>) -> Result<Word, Word> {
+        let changed = self.word.fetch_update(order, Ordering::Relaxed, change);
+        changed.map(Word).map_err(Word)
     }
 
     /// Returns the page. It is valid while the pass is out, or the part's lock is held.
@@ -294,37 +197,28 @@ impl Seat {
         self.bytes.store(pinned.bytes.cast_mut(), Ordering::Relaxed);
         self.serial.store(pinned.serial, Ordering::Relaxed);
         self.touched.store(now, Ordering::Relaxed);
-        let flags = if stays { OUT | STAYS } else { OUT };
         // Who finds that it is out sees all this.
-        let begun = |word| Some((word & !JOINED) + flags + PIN);
-        let _ = self
-            .word
-            .fetch_update(Ordering::Release, Ordering::Relaxed, begun);
+        let _ = self.change(Ordering::Release, |word| Some(Word(word).with_pass(stays)));
     }
 
     /// Has the pass stay out when nobody uses the page, under the part's lock.
     pub(super) fn stay(&self) {
-        self.word.fetch_or(STAYS, Ordering::Relaxed);
+        let _ = self.change(Ordering::Relaxed, |word| Some(Word(word).staying()));
     }
 
     /// Takes the joins that were not counted so far.
     pub(super) fn take_joins(&self) -> u64 {
-        Word(self.word.fetch_and(!JOINED, Ordering::Relaxed)).joins()
+        let taken = self.change(Ordering::Relaxed, |word| Some(Word(word).without_joins()));
+        taken.map_or(0, Word::joins)
     }
 
     /// Ends that the pass is out, under the part's lock, if nobody uses the page. It returns the
     /// joins that were not counted so far.
     #[inline]
     pub(super) fn end(&self) -> Option<u64> {
-        let ended = |word| {
-            let is_unused = word & (OUT | USERS) == OUT;
-            is_unused.then_some(word & !(OUT | STAYS | JOINED))
-        };
         // This sees all use of the page.
-        let before = self
-            .word
-            .fetch_update(Ordering::SeqCst, Ordering::SeqCst, ended);
-        before.ok().map(|word| Word(word).joins())
+        let ended = self.change(Ordering::SeqCst, |word| Word(word).without_pass());
+        ended.ok().map(Word::joins)
     }
 }
 

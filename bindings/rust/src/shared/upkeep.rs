@@ -1,14 +1,17 @@
 //! A shared pager's flushes and checkpoints, its counters, and the thread that cleans pages.
+use super::guards::PageRef;
 use super::pager::SharedPager;
-use super::part::{Latch, Locked, Part, Writing};
+use super::part::{FEW_PAGES, Locked, Part};
 use super::seats::list_of;
+use super::within::{self, Work};
+use super::work::Writing;
 use crate::{Error, PageIo, PagerError, Result, Totals};
-use std::io;
 use std::panic::{AssertUnwindSafe, catch_unwind};
-use std::sync::atomic::Ordering;
+use std::sync::atomic::{AtomicBool, Ordering};
 use std::sync::{Arc, Condvar, Mutex, PoisonError};
 use std::thread::{self, JoinHandle};
 use std::time::Duration;
+use std::{io, mem};
 
 /// The counters of a [`SharedPager`]. While other threads use it, each part is counted at a
 /// different moment.
@@ -24,8 +27,8 @@ pub struct Stats {
     pub pinned: usize,
     /// Pages that were written to since they were saved.
     pub unsaved: usize,
-    /// The number of times that a thread slept until a page was read, written out or unpinned.
-    /// Waits for latches are not counted.
+    /// The number of times that a thread slept until a page was read, written out or unpinned, or its
+    /// latch was free.
     pub waits: u64,
     /// The memory of the pager in bytes, approximately: images, frames, lists. The references that
     /// are kept of pages in no frame come on top.
@@ -33,10 +36,10 @@ pub struct Stats {
 }
 
 /// The bytes of memory for a frame besides its image, and for a page of the file.
-const OF_FRAME: usize = 300;
+const OF_FRAME: usize = 350;
 const OF_PAGE: usize = 8;
-/// So many unsaved pages are looked at in one go under the lock of a part.
-const LOOKS: usize = 64;
+/// A flush makes the log durable so often without a latch of its page. Then it keeps the latch.
+const MOST_ROUNDS: u32 = 2;
 /// The buffers that a part has besides those of its frames.
 const SPARE_IMAGES: usize = 3;
 
@@ -59,7 +62,7 @@ impl<F> SharedPager<F> {
             let (unused, joins) = part.kept(&state);
             stats.pinned += counts.pinned - unused;
             stats.unsaved += counts.unsaved;
-            stats.waits += state.waits;
+            stats.waits += state.waits + part.latch_waits();
             stats.totals.add(&counts.totals);
             stats.totals.hits += state.joined + joins - state.referred;
         }
@@ -94,15 +97,17 @@ impl<F> SharedPager<F> {
             let mut from = Some(0);
             while let Some(first) = from {
                 // Memory is asked for with the lock open.
-                pages.try_reserve(LOOKS).map_err(|_| Error::OutOfMemory)?;
+                pages
+                    .try_reserve(FEW_PAGES)
+                    .map_err(|_| Error::OutOfMemory)?;
                 let state = part.lock();
                 let (before, mut last) = (pages.len(), first);
-                for found in state.pool.unsaved(first).take(LOOKS) {
+                for found in state.pool.unsaved(first).take(FEW_PAGES) {
                     pages.push(part.in_file(found.page));
                     greatest = greatest.max(found.lsn);
                     last = found.page;
                 }
-                from = (pages.len() - before == LOOKS).then_some(last + 1);
+                from = (pages.len() - before == FEW_PAGES).then_some(last + 1);
             }
         }
         pages.sort_unstable();
@@ -110,66 +115,109 @@ impl<F> SharedPager<F> {
     }
 }
 
+/// The turn to sync the device, and whether a sync failed.
+#[derive(Default)]
+pub(super) struct Syncs {
+    turn: Mutex<()>,
+    has_failed: AtomicBool,
+}
+
+/// A sync that is under way. If it is dropped before its end it has failed.
+struct Syncing<'a>(&'a AtomicBool);
+
+impl Drop for Syncing<'_> {
+    fn drop(&mut self) {
+        self.0.store(true, Ordering::SeqCst);
+    }
+}
+
+impl Syncs {
+    /// # Errors
+    /// [`PagerError::SyncFailedBefore`] where an earlier sync failed.
+    fn check(&self) -> Result<(), PagerError> {
+        match self.has_failed.load(Ordering::SeqCst) {
+            false => Ok(()),
+            true => Err(PagerError::SyncFailedBefore),
+        }
+    }
+
+    /// Syncs the device for the pager with this number. One thread does so at a time: a sync that goes
+    /// well beside one that fails does not say that all was kept.
+    fn sync<F: PageIo>(&self, io: &F, pager: u64) -> Result<(), PagerError> {
+        if within::is_within(pager, |work| work == Work::Sync) {
+            let why = "sync called for a checkpoint, which needs another sync";
+            let source = io::Error::new(io::ErrorKind::Deadlock, why);
+            return Err(PagerError::Sync { source });
+        }
+        let _turn = self.turn.lock().unwrap_or_else(PoisonError::into_inner);
+        self.check()?;
+        let syncing = Syncing(&self.has_failed);
+        within::call(pager, Work::Sync, || io.sync())
+            .map_err(|source| PagerError::Sync { source })?;
+        mem::forget(syncing);
+        Ok(())
+    }
+}
+
 impl<F: PageIo> SharedPager<F> {
-    /// Writes a page out if it is unsaved. It waits for a thread that writes to the page, and for
-    /// one that writes it out. The page may be unsaved again by later writes.
+    /// Writes a page out if it is unsaved. It waits for a thread that writes to the page, as one that
+    /// wants to read it, and for one that writes it out. The page may be unsaved again by later
+    /// writes.
+    ///
+    /// While the device or the log works it has no latch: the page can be written to. But where that
+    /// was done twice before the log was durable, it has the shared latch while the log is made
+    /// durable once more.
     ///
     /// # Errors
     /// [`PagerError::Write`] and [`PagerError::Log`] where the device or the log failed, and the
     /// page is unsaved. [`PagerError::Refused`] with [`OutOfPage`](Error::OutOfPage) where the file
-    /// has no such page, and with [`OutOfMemory`](Error::OutOfMemory).
+    /// has no such page, with [`OutOfMemory`](Error::OutOfMemory), and in a function of [`PageIo`]
+    /// with [`Busy`](Error::Busy).
     pub fn flush(&self, page: u64) -> Result<(), PagerError> {
         let (part, own) = self.place(page)?;
-        let mut state = part.lock();
-        let mut kept = None;
+        let mut latch: Option<PageRef<'_>> = None;
+        let mut rounds = 0;
         loop {
-            state = part.with_image(state)?;
+            let mut state = part.with_image(part.lock())?;
             let Some(number) = part.unsaved_seat(&state, own) else {
-                // The lock is opened before the latch is freed.
-                drop(state);
                 return Ok(());
             };
-            // A page is written out between the writes of its writers, and not within them.
-            let kept_latch: Option<Latch<'_>> = kept.take();
-            let latch = match kept_latch {
-                Some(latch) if latch.is_of(number) => latch,
-                other => {
-                    if let Some(latch) = other {
-                        latch.free(&mut state);
-                    }
-                    let Some(latch) = part.try_latch(number) else {
-                        let seat = part.seats.seat(number);
-                        let has_come = |_: &mut _| !seat.word().is_written();
-                        state = part.wait_for_pins(state, Duration::MAX, has_come);
-                        continue;
-                    };
-                    latch
-                }
-            };
-            state = match part.ask_out(&mut state, own) {
+            // A page is written out between the writes of its writers, and not within them. They write
+            // under the lock: so where nobody has the page now, no latch is needed for its image.
+            if latch.is_none() && (rounds >= MOST_ROUNDS || part.is_written(number)) {
+                latch = Some(part.pin_under(state, own)?.into_read()?);
+                continue;
+            }
+            match part.ask_out(&mut state, own) {
                 Ok(Some(ticket)) => {
                     let lsn = ticket.lsn();
-                    let writing = Writing::latched(part, state, latch, ticket);
+                    let writing = Writing::new(part, state, ticket, false);
+                    drop(latch);
                     return self.write_out(page, lsn, writing);
                 }
                 Err(Error::NeedLog { lsn }) => {
-                    // Nobody writes to the page meanwhile, so the log need not get further.
-                    kept = Some(latch);
-                    self.reach_log(part, state, lsn)?
+                    // The lock is opened before the latch is freed, here and below.
+                    drop(state);
+                    latch = latch.filter(|_| rounds >= MOST_ROUNDS);
+                    rounds += 1;
+                    drop(self.reach_log(part, lsn)?);
                 }
+                Err(Error::Busy) if latch.is_some() => {
+                    drop(state);
+                    latch = None;
+                }
+                Err(Error::Busy) => drop(part.wait_for_work(state, own)?),
                 other => {
-                    latch.free(&mut state);
-                    match other {
-                        Err(Error::Busy) => part.wait_for_work(state),
-                        other => return Ok(other.map(drop)?),
-                    }
+                    drop(state);
+                    return Ok(other.map(drop)?);
                 }
-            };
+            }
         }
     }
 
     /// Writes out each page that was unsaved when the call began, in the order of the file, and
-    /// then syncs the device, by [`PageIo::sync`].
+    /// then syncs the device, by [`PageIo::sync`]. It ends however many threads read and write
+    /// meanwhile: see [`SharedPager::flush`].
     ///
     /// It returns the LSN from which redo must begin, which counts writes of other threads
     /// meanwhile: the least among the writes that may not be on the device. It is None where there
@@ -179,19 +227,24 @@ impl<F: PageIo> SharedPager<F> {
     /// ever.
     ///
     /// # Errors
-    /// Those of [`SharedPager::flush`], after which pages before the one that failed are written
-    /// out; [`PagerError::Sync`] where the sync failed. Then all that was written out since the
-    /// last successful sync may be lost, and later checkpoints do not count it: end the pager, and
-    /// redo from the log.
+    /// The first of those of [`SharedPager::flush`], after which all pages are written out that could
+    /// be, and the device is not synced; [`OutOfMemory`](Error::OutOfMemory) in
+    /// [`PagerError::Refused`].
+    ///
+    /// [`PagerError::Sync`] where the sync failed. Then all that was written out since the last
+    /// successful sync may be lost, and the pager counts it as saved. From then on each checkpoint
+    /// is refused with [`PagerError::SyncFailedBefore`], also one that was under way: end the pager,
+    /// and redo from the log.
     pub fn checkpoint(&self) -> Result<Option<u64>, PagerError> {
+        self.syncs.check()?;
         let (pages, greatest) = self.unsaved_pages()?;
         // Makes the log durable once for all of them.
-        self.log.reach(&self.io, greatest)?;
-        pages.into_iter().try_for_each(|page| self.flush(page))?;
+        let logged = self.log.reach(&self.io, self.number, greatest);
+        let flushed = pages.into_iter().map(|page| self.flush(page));
+        flushed.fold(logged, Result::and)?;
         // Before the sync: what goes out during it may not be kept by it.
         let redo = self.redo_from();
-        let synced = self.io.sync();
-        synced.map_err(|source| PagerError::Sync { source })?;
+        self.syncs.sync(&self.io, self.number)?;
         Ok(redo)
     }
 
@@ -217,7 +270,7 @@ impl<F: PageIo> SharedPager<F> {
             // Each unsaved page is looked at once, but not all of them where few may be written
             // out.
             let unsaved = part.lock().pool.stats().unsaved;
-            let mut looks = unsaved.min(share.saturating_mul(4).saturating_add(LOOKS));
+            let mut looks = unsaved.min(share.saturating_mul(4).saturating_add(FEW_PAGES));
             while looks > 0 && cleaned < end {
                 match self.clean_next(part, durable, &mut looks) {
                     Ok(is_clean) => cleaned += usize::from(is_clean),
@@ -231,46 +284,38 @@ impl<F: PageIo> SharedPager<F> {
     /// Writes out the next page of a part that may be, if nobody is in the way. It returns true if
     /// one was written out.
     fn clean_next(&self, part: &Part, durable: u64, looks: &mut usize) -> Result<bool, PagerError> {
-        let Some((mut state, own, seat)) = next_ready(part, durable, looks)? else {
+        let Some((mut state, own)) = next_ready(part, durable, looks)? else {
             return Ok(false);
         };
         state.pool.mark(0, durable)?;
-        let Some(latch) = part.try_latch(seat) else {
-            return Ok(false);
-        };
         match part.ask_out(&mut state, own) {
             Ok(Some(ticket)) => {
                 let lsn = ticket.lsn();
-                let writing = Writing::latched(part, state, latch, ticket);
+                let writing = Writing::new(part, state, ticket, false);
                 self.write_out(part.in_file(own), lsn, writing)?;
                 Ok(true)
             }
-            told => {
-                latch.free(&mut state);
-                match told {
-                    Ok(_) | Err(Error::Busy | Error::NeedLog { .. }) => Ok(false),
-                    Err(error) => Err(error.into()),
-                }
-            }
+            Ok(None) | Err(Error::Busy | Error::NeedLog { .. }) => Ok(false),
+            Err(error) => Err(error.into()),
         }
     }
 }
 
-/// Returns the next page of a part that may be written out, if one is found at once, and its seat.
+/// Returns the next page of a part that may be written out, if one is found at once: nobody uses it.
 /// The search begins after the page that was found last: so a page whose write-out panics is not
 /// always the first.
 fn next_ready<'a>(
     part: &'a Part,
     durable: u64,
     looks: &mut usize,
-) -> Result<Option<(Locked<'a>, u64, usize)>> {
+) -> Result<Option<(Locked<'a>, u64)>> {
     let locked = part.with_image(part.lock());
     if locked.is_err() {
         // The next page would need memory too.
         *looks = 0;
     }
     let mut state = locked?;
-    for _ in 0..LOOKS.min(*looks) {
+    for _ in 0..FEW_PAGES.min(*looks) {
         *looks -= 1;
         let from = state.clean_from;
         let next = state.pool.next_unsaved(from);
@@ -279,10 +324,9 @@ fn next_ready<'a>(
             break;
         };
         state.clean_from = next.page + 1;
-        let loose = |seat: &usize| !part.seats.seat(*seat).word().is_used();
-        let seat = part.seats.of(next.page).filter(loose);
-        if let Some(seat) = seat.filter(|_| next.lsn <= durable) {
-            return Ok(Some((state, next.page, seat)));
+        let is_unused = |seat| !part.seats.seat(seat).word().is_used();
+        if next.lsn <= durable && part.seats.of(next.page).is_some_and(is_unused) {
+            return Ok(Some((state, next.page)));
         }
     }
     Ok(None)

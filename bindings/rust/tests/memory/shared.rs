@@ -160,7 +160,7 @@ fn use_pages_of(pager: &SharedPager<Memory>) {
         pager.write(page).unwrap().put(0, &[7], page).unwrap();
     }
     let pin = pager.pin(0).unwrap();
-    let told = pager.try_read(2).map(drop).unwrap_err();
+    let told = pager.try_read(3).map(drop).unwrap_err();
     assert_eq!(told.refusal(), Error::NoVictim);
     drop(pin);
     pager.checkpoint().unwrap();

@@ -30,7 +30,12 @@ pub enum Fate {
     Panics,
 }
 
-type Work = Arc<dyn Fn(Asked) + Send + Sync>;
+type Work = Arc<dyn Fn(Asked) -> Result<(), ReadFault> + Send + Sync>;
+
+/// The fault of a request.
+pub fn fault() -> ReadFault {
+    io::Error::other("no such luck").into()
+}
 
 /// Pages of 16 bytes and a log. A request is written down, then the work is done that the test has
 /// for it, and then it ends.
@@ -54,6 +59,14 @@ impl Device {
 
     /// Has something done within each request.
     pub fn within(&self, work: impl Fn(Asked) + Send + Sync + 'static) {
+        self.ends_as(move |asked| {
+            work(asked);
+            Ok(())
+        });
+    }
+
+    /// Has something done within each request, which says how it ends.
+    pub fn ends_as(&self, work: impl Fn(Asked) -> Result<(), ReadFault> + Send + Sync + 'static) {
         *self.work.lock().unwrap() = Some(Arc::new(work));
     }
 
@@ -61,12 +74,10 @@ impl Device {
         self.asked.lock().unwrap().push(asked);
         let fate = mem::take(&mut *self.fate.lock().unwrap());
         let work = self.work.lock().unwrap().clone();
-        if let Some(work) = work {
-            work(asked);
-        }
+        work.map_or(Ok(()), |work| work(asked))?;
         match fate {
             Fate::Well => Ok(()),
-            Fate::Fails => Err(io::Error::other("no such luck").into()),
+            Fate::Fails => Err(fault()),
             Fate::FindsAnother => Err(ReadFault::WrongPage),
             Fate::Panics => resume_unwind(Box::new("the engine's own code")),
         }

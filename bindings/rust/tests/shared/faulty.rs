@@ -115,13 +115,17 @@ impl Device {
         &self.places[page as usize]
     }
 
-    /// Takes its time, and may fail.
-    fn work(&self) -> Result<(), ReadFault> {
+    fn rest(&self) {
         match self.below(8) {
             0 => thread::sleep(Duration::from_micros(self.below(5))),
             1 => thread::yield_now(),
             _ => {}
         }
+    }
+
+    /// Takes its time, and may fail.
+    fn work(&self) -> Result<(), ReadFault> {
+        self.rest();
         match self.faults_in.load(Ordering::Relaxed) {
             0 => Ok(()),
             faults_in => match self.below(faults_in) {
@@ -198,13 +202,14 @@ impl PageIo for Device {
         Ok(())
     }
 
+    /// It does not fail: after that an engine ends its pager.
     fn sync(&self) -> io::Result<()> {
         let saved = self
             .places
             .iter()
             .map(|it| it.saved.load(Ordering::Acquire));
         let saved: Vec<_> = saved.collect();
-        self.write_or_fail()?;
+        self.rest();
         for (place, lsn) in self.places.iter().zip(saved) {
             place.kept.fetch_max(lsn, Ordering::AcqRel);
         }

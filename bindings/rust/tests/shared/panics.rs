@@ -1,6 +1,6 @@
 //! The engine's own code panics within a request. The page is as it was, and it and others can be used.
 use crate::device::{Asked, Device, Fate, pager, put, with_an_unsaved_page};
-use hojzmated::SharedPager;
+use hojzmated::{PagerError, SharedPager};
 use std::panic::{AssertUnwindSafe, catch_unwind};
 use std::thread;
 
@@ -73,6 +73,7 @@ fn panic_of_the_log() {
     assert_eq!(pager.io().asked(), [Asked::Log(5), Asked::Write(1, 9, 5)]);
 }
 
+// What the sync had to keep may be lost. So no later checkpoint goes well, but pages go out.
 #[test]
 fn panic_of_a_sync() {
     let pager = with_an_unsaved_page(1);
@@ -80,12 +81,9 @@ fn panic_of_a_sync() {
     pager.flush(1).unwrap();
     panics(&pager, || pager.checkpoint());
     put(&pager, 1, 8, 5);
-    assert_eq!(pager.checkpoint().unwrap(), None);
-    let asked = [
-        Asked::Write(1, 9, 5),
-        Asked::Sync,
-        Asked::Write(1, 8, 5),
-        Asked::Sync,
-    ];
+    let refused = pager.checkpoint().unwrap_err();
+    assert!(matches!(refused, PagerError::SyncFailedBefore));
+    pager.flush(1).unwrap();
+    let asked = [Asked::Write(1, 9, 5), Asked::Sync, Asked::Write(1, 8, 5)];
     assert_eq!(pager.io().asked(), asked);
 }

@@ -196,11 +196,10 @@ fn failed_write_out() {
 #[test]
 fn failed_log() {
     let pager = with_an_unsaved_page(1);
-    let calls: [Call; 4] = [
+    let calls: [Call; 3] = [
         |it| it.read(2).map(drop),
         |it| it.new_page(2).map(drop),
         |it| it.flush(1),
-        |it| it.checkpoint().map(drop),
     ];
     for call in calls {
         pager.io().is_next(Fate::Fails);
@@ -209,8 +208,14 @@ fn failed_log() {
         assert_eq!(pager.io().asked(), [Asked::Log(5)]);
         assert_eq!(pager.read(1).unwrap()[0], 9);
     }
-    pager.flush(1).unwrap();
-    assert_eq!(pager.io().asked(), [Asked::Log(5), Asked::Write(1, 9, 5)]);
+    // A checkpoint asks for all pages at once, and then for each page.
+    pager.io().is_next(Fate::Fails);
+    let error = pager.checkpoint().unwrap_err();
+    assert!(matches!(error, PagerError::Log { lsn: 5, .. }));
+    let asked = [Asked::Log(5), Asked::Log(5), Asked::Write(1, 9, 5)];
+    assert_eq!(pager.io().asked(), asked);
+    assert_eq!(pager.checkpoint().unwrap(), None);
+    assert_eq!(pager.io().asked(), [Asked::Sync]);
 }
 
 // A checkpoint that could not go on left what was before written out.
@@ -251,6 +256,16 @@ fn failed_sync() {
         error.to_string(),
         "the device could not keep what was written"
     );
-    assert_eq!(pager.checkpoint().unwrap(), None);
-    assert_eq!(pager.io().asked(), [Asked::Sync; 2]);
+    // It is remembered: what was written out before is not kept by a later sync that goes well.
+    for _ in 0..2 {
+        let error = pager.checkpoint().unwrap_err();
+        assert!(matches!(error, PagerError::SyncFailedBefore));
+        assert_eq!(error.refusal(), Error::WriteFailed);
+        assert!(error.source().is_none());
+        assert_eq!(
+            error.to_string(),
+            "the device could not keep what was written before"
+        );
+    }
+    assert_eq!(pager.io().asked(), [Asked::Sync]);
 }

@@ -1,0 +1,320 @@
+//! How the guards of a part's pages are made and end, and which passes of the pool stay out.
+use super::guards::{PageMut, PagePin, PageRef, Share};
+use super::part::{Fix, Locked, Part, State};
+use super::seats::{Pinned, Seat};
+use super::word::{PIN, READER, Word};
+use crate::{Error, Pass, Result};
+
+/// What came of a pin without the lock.
+pub(super) enum Joined<'a, G> {
+    /// The page is pinned, with its latch.
+    Latched(G),
+    /// The page is pinned. Its latch was not free.
+    Pinned(PagePin<'a>),
+    /// The pass of the page is not out.
+    Not,
+}
+
+/// At most so many passes are looked at before a page is read.
+pub(super) const PASSES: usize = 32;
+
+impl Part {
+    /// Pins a page whose pass is out under its shared latch, without the lock and without asking the
+    /// pool.
+    #[inline]
+    pub(super) fn join_read(&self, page: u64) -> Joined<'_, PageRef<'_>> {
+        let Some(seat) = self.seats.out(page) else {
+            return Joined::Not;
+        };
+        let before = seat.join(READER);
+        if !before.is_readable_at_once() || seat.page() != page {
+            return self.join_read_slowly(seat, before, page);
+        }
+        seat.touch(self.now());
+        // SAFETY: the pass was out, and the latch free.
+        Joined::Latched(PageRef::new(unsafe { Share::new(self, seat) }))
+    }
+
+    #[cold]
+    #[inline(never)]
+    fn join_read_slowly<'a>(
+        &'a self,
+        seat: &'a Seat,
+        before: Word,
+        page: u64,
+    ) -> Joined<'a, PageRef<'a>> {
+        if !before.is_pinnable() || seat.page() != page {
+            self.leave(seat, READER);
+            return Joined::Not;
+        }
+        seat.touch(self.now());
+        if before.is_readable() {
+            self.count(seat);
+            // SAFETY: the pass was out, and the latch free.
+            return Joined::Latched(PageRef::new(unsafe { Share::new(self, seat) }));
+        }
+        // The share may have been in the way of a thread that waits.
+        if seat.turn_to_pin().is_awaited() {
+            self.hand_over(seat);
+        }
+        // SAFETY: the pass was out.
+        Joined::Pinned(PagePin::new(unsafe { Share::new(self, seat) }))
+    }
+
+    /// The same with the exclusive latch, if that is free.
+    #[inline]
+    pub(super) fn join_write(&self, page: u64) -> Option<PageMut<'_>> {
+        let seat = self.seats.out(page)?;
+        let before = seat.join_alone()?;
+        // SAFETY: the pass was out, and the latch free.
+        let share = unsafe { Share::new(self, seat) };
+        // Another page may have the seat since it was looked up.
+        if seat.page() != page {
+            return None;
+        }
+        seat.touch(self.now());
+        if before.is_due() {
+            self.count(seat);
+        }
+        Some(PageMut::new(share))
+    }
+
+    /// The same without a latch.
+    #[inline]
+    pub(super) fn join(&self, page: u64) -> Option<PagePin<'_>> {
+        let seat = self.seats.out(page)?;
+        let before = seat.join(PIN);
+        if !before.is_pinnable() || seat.page() != page {
+            self.leave(seat, PIN);
+            return None;
+        }
+        seat.touch(self.now());
+        if before.is_due() {
+            self.count(seat);
+        }
+        // SAFETY: the pass was out.
+        Some(PagePin::new(unsafe { Share::new(self, seat) }))
+    }
+
+    /// Takes a share of a seat's word back.
+    #[inline]
+    pub(super) fn leave(&self, seat: &Seat, share: u64) {
+        let left = seat.leave(share);
+        if !left.is_quiet() || self.has_waiting() {
+            self.leave_slowly(seat, left);
+        }
+    }
+
+    #[inline(never)]
+    fn leave_slowly(&self, seat: &Seat, left: Word) {
+        if left.is_awaited() {
+            self.hand_over(seat);
+        }
+        if left.is_over() || (!left.is_used() && self.has_waiting()) {
+            self.end_use(&mut self.lock(), seat);
+            self.wake_for_frame();
+        }
+    }
+
+    /// Gives the pass of a seat back, if nobody uses the page and it need not stay out. It stays
+    /// where others joined who used the page.
+    fn end_use(&self, state: &mut State, seat: &Seat) {
+        let word = seat.word();
+        if word.is_over() {
+            if self.keeps && word.joins() > 0 {
+                seat.stay();
+                self.keep(state, self.seats.number_of(seat));
+            } else {
+                self.give_back(state, seat);
+            }
+        }
+    }
+
+    /// Notes that a pass stays out.
+    fn keep(&self, state: &mut State, number: usize) {
+        let due = state.now.saturating_add(state.pool.config().correlated);
+        state.kept.put(number, due);
+    }
+
+    /// Pins the page of a pass that was just given, and notes whether it was found in its frame.
+    #[inline]
+    pub(super) fn pinned(
+        &self,
+        mut state: Locked<'_>,
+        pass: Pass,
+        was_here: bool,
+    ) -> Result<PagePin<'_>> {
+        let page = pass.page();
+        let (Some(number), Ok(bytes)) = (self.seats.of(page), state.pool.place(&pass)) else {
+            // This can't be: the page is in a frame, and its pass is out.
+            let _ = state.pool.unfix_by(&pass);
+            return Err(Error::UnknownPass);
+        };
+        let seat = self.seats.seat(number);
+        let now = state.now;
+        state.kept.refer(number, now);
+        if seat.word().is_out() {
+            // All pins of a page share one pass.
+            let _ = state.pool.unfix_by(&pass);
+            return Ok(self.add_pin(seat, Seat::add_pin));
+        }
+        let (bytes, serial) = (bytes.cast(), pass.serial());
+        let stays = self.keeps && was_here;
+        seat.begin(page, &Pinned { bytes, serial }, now, stays);
+        if !self.tells_each {
+            self.seats.set_out(page, number, true);
+        }
+        if stays {
+            self.keep(&mut state, number);
+        }
+        drop(state);
+        // SAFETY: the pass is out, and the pin in the word.
+        Ok(PagePin::new(unsafe { Share::new(self, seat) }))
+    }
+
+    /// Pins a page under the lock if its pass is out, without asking the pool.
+    pub(super) fn join_under(&self, state: &State, page: u64) -> Option<PagePin<'_>> {
+        let seat = self.seats.out(page)?;
+        seat.touch(state.now);
+        Some(self.add_pin(seat, |seat| seat.join(PIN)))
+    }
+
+    /// Pins a page that is in a frame, for the pager itself. The lock is opened.
+    pub(super) fn pin_under<'a>(&'a self, mut state: Locked<'a>, page: u64) -> Result<PagePin<'a>> {
+        let seat = self.seats.of(page).map(|number| self.seats.seat(number));
+        if let Some(seat) = seat.filter(|it| it.word().is_out()) {
+            return Ok(self.add_pin(seat, Seat::add_pin));
+        }
+        match self.ask(&mut state, page)? {
+            Fix::Here(pass) => self.pinned(state, pass, true),
+            // This can't be.
+            Fix::Read(_) | Fix::Write(_) => Err(Error::UnknownTicket),
+        }
+    }
+
+    /// Whether a thread has the exclusive latch of a seat's page. If none has it nobody writes to the
+    /// page before the lock is open, and what was written before is there.
+    pub(super) fn is_written(&self, number: usize) -> bool {
+        self.seats.seat(number).word().is_written()
+    }
+
+    /// Makes a pin under the lock, while the pass is out.
+    fn add_pin<'a>(&'a self, seat: &'a Seat, add: impl FnOnce(&Seat) -> Word) -> PagePin<'a> {
+        let before = add(seat);
+        // SAFETY: the pass is out, and the pin in the word.
+        let pin = PagePin::new(unsafe { Share::new(self, seat) });
+        if !before.is_pinnable() {
+            std::mem::forget(pin);
+            seat.leave(PIN);
+            panic!("too many pins of one page");
+        }
+        pin
+    }
+
+    /// Gives a pass back, if it is out and nobody uses its page.
+    fn give_back(&self, state: &mut State, seat: &Seat) -> bool {
+        let Some(joins) = seat.end() else {
+            return false;
+        };
+        state.joined += joins;
+        let page = seat.page();
+        self.seats.set_out(page, self.seats.number_of(seat), false);
+        let pass = state.pool.pass_of(page, seat.serial());
+        // A pass of this pool that is out is always taken.
+        let _ = state.pool.unfix_by(&pass);
+        true
+    }
+
+    /// Counts the pins that were made without the lock, of a page that the caller has pinned.
+    #[cold]
+    fn count(&self, seat: &Seat) {
+        self.count_under(&mut self.lock(), self.seats.number_of(seat));
+    }
+
+    /// Counts the pins of a seat's page, while its pass is out, that were made without the lock. The
+    /// clock moves on by their number. They are one reference, if the newest of them is: with the
+    /// one before it, if it came within the correlated period.
+    fn count_under(&self, state: &mut State, number: usize) {
+        let seat = self.seats.seat(number);
+        if seat.word().joins() == 0 {
+            return;
+        }
+        let joins = seat.take_joins();
+        state.joined += joins;
+        let (last, period) = (state.kept.last(number), state.pool.config().correlated);
+        let is_new = seat.touched().saturating_sub(last) > period || period == 0;
+        // If it is too late for one that moves LAST of the page, LAST stays.
+        if is_new || state.now - last <= period {
+            if self.refer_to(state, seat.page()) {
+                state.referred += 1;
+            }
+            let now = state.now;
+            state.kept.refer(number, now);
+        }
+        // At the end of its clock the part goes on.
+        let _ = self.tick(state, joins);
+    }
+
+    /// Gives passes back that were not touched for the correlated period, and returns how many.
+    /// Until then their pages may not be evicted anyway. It looks at no more than `most` passes.
+    pub(super) fn make_way(&self, state: &mut State, most: usize) -> usize {
+        let mut given = 0;
+        for _ in 0..most.min(state.kept.len()) {
+            if state.kept.next(state.now).is_none() {
+                break;
+            }
+            given += usize::from(self.look_at_next(state, false));
+        }
+        given
+    }
+
+    /// Gives all passes back whose pages nobody uses, and returns how many.
+    pub(super) fn give_all_back(&self, state: &mut State) -> usize {
+        let looks = 0..state.kept.len();
+        looks.filter(|_| self.look_at_next(state, true)).count()
+    }
+
+    /// Gives the pass back that is next, if it is time for that or `at_once` is so, and its page is
+    /// not used. Else it is last.
+    fn look_at_next(&self, state: &mut State, at_once: bool) -> bool {
+        let Some(number) = state.kept.take_next() else {
+            return false;
+        };
+        self.count_under(state, number);
+        let seat = self.seats.seat(number);
+        let period = state.pool.config().correlated;
+        let last = seat.touched().max(state.kept.last(number));
+        let mut due = last.saturating_add(period);
+        if due <= state.now || at_once {
+            if self.give_back(state, seat) {
+                return true;
+            }
+            due = due.max(state.now.saturating_add(period));
+        }
+        state.kept.put(number, due);
+        false
+    }
+
+    /// Of the passes that stay out, returns the number of those whose pages nobody uses, and the
+    /// number of pins that were not counted so far.
+    pub(super) fn kept(&self, state: &State) -> (usize, u64) {
+        let words = state.kept.seats().map(|seat| self.seats.seat(seat).word());
+        words.fold((0, 0), |(unused, joins), word| {
+            let is_unused = usize::from(!word.is_used());
+            (unused + is_unused, joins + word.joins())
+        })
+    }
+
+    /// Whether a page could make way if it were old enough: one that nobody uses and on which the
+    /// device does not work. The passes of pages that nobody uses are not out.
+    pub(super) fn has_unused(&self, state: &State) -> bool {
+        let counts = state.pool.stats();
+        let unused = counts.resident - counts.pinned;
+        if unused == 0 || unused > counts.writing {
+            return unused > 0;
+        }
+        let used = |seat: &usize| self.seats.seat(*seat).word().is_out();
+        let going_out = state.firsts.going_out();
+        unused + going_out.filter(used).count() > counts.writing
+    }
+}

@@ -1,0 +1,160 @@
+//! The word of a seat: the shares of the guards of its page, and what is so of the page's pass.
+
+/// A shared latch, which is a pin too.
+pub(super) const READER: u64 = 1;
+/// A pin without a latch.
+pub(super) const PIN: u64 = 1 << 20;
+/// The exclusive latch, which is a pin too.
+pub(super) const WRITER: u64 = 1 << 40;
+/// Threads wait for the latch, in a queue: who comes now waits behind them.
+const QUEUED: u64 = 1 << 41;
+/// The pass is out.
+const OUT: u64 = 1 << 42;
+/// The pass stays out when nobody uses the page.
+const STAYS: u64 = 1 << 43;
+/// A pin that was made without the lock, of those that the part has not counted so far. The highest
+/// bits: what does not fit is lost.
+pub(super) const JOIN: u64 = 1 << 44;
+/// After so many of them, a power of two, one is a reference.
+const JOINS: u64 = 32;
+
+const DUE: u64 = !(JOINS * JOIN - 1);
+
+const READERS: u64 = PIN - READER;
+const PINS: u64 = WRITER - PIN;
+const JOINED: u64 = !(JOIN - 1);
+const LATCHED: u64 = READERS | WRITER;
+const USERS: u64 = READERS | PINS | WRITER;
+/// More guards than this of a page are too many, though as many again fit in the word: so many
+/// threads may find that at once.
+const TOO_MANY: u64 = (READERS / 2 + 1) | (PINS / 2 + PIN / 2);
+
+/// What a word was before something was added to it or taken from it, or what it is.
+#[derive(Clone, Copy)]
+pub(super) struct Word(pub(super) u64);
+
+impl Word {
+    /// The page is pinned, or latched.
+    #[inline]
+    pub(super) fn is_used(self) -> bool {
+        self.0 & USERS != 0
+    }
+
+    /// A thread has the exclusive latch.
+    pub(super) fn is_written(self) -> bool {
+        self.0 & WRITER != 0
+    }
+
+    #[inline]
+    pub(super) fn is_out(self) -> bool {
+        self.0 & OUT != 0
+    }
+
+    /// Nobody uses the page, and its pass is out but need not stay.
+    #[inline]
+    pub(super) fn is_over(self) -> bool {
+        self.0 & (OUT | STAYS | USERS) == OUT
+    }
+
+    /// Nothing has to be done by who let the page go: the pass stays, and no thread waits for the
+    /// latch.
+    #[inline]
+    pub(super) fn is_quiet(self) -> bool {
+        self.0 & (STAYS | QUEUED) == STAYS
+    }
+
+    /// Whether a share may be added.
+    #[inline]
+    pub(super) fn has_room(self) -> bool {
+        self.0 & TOO_MANY == 0
+    }
+
+    /// Whether a shared latch that was added to this is one: the pass is out, nobody has the
+    /// exclusive latch or waits for a latch, and there is room.
+    #[inline]
+    pub(super) fn is_readable(self) -> bool {
+        self.0 & (OUT | WRITER | QUEUED | TOO_MANY) == OUT
+    }
+
+    /// The same, and it is not time for a reference.
+    #[inline]
+    pub(super) fn is_readable_at_once(self) -> bool {
+        self.0 & (OUT | WRITER | QUEUED | TOO_MANY | DUE) == OUT
+    }
+
+    /// Whether the exclusive latch may be added: the pass is out, and nobody has a latch or waits
+    /// for one.
+    #[inline]
+    pub(super) fn is_writable(self) -> bool {
+        self.0 & (OUT | LATCHED | QUEUED) == OUT
+    }
+
+    #[inline]
+    pub(super) fn is_pinnable(self) -> bool {
+        self.0 & (OUT | TOO_MANY) == OUT
+    }
+
+    /// The latch came free, for which a thread waits.
+    #[inline]
+    pub(super) fn is_awaited(self) -> bool {
+        self.0 & (QUEUED | LATCHED) == QUEUED
+    }
+
+    /// So many pins were made without the lock that it is time for a reference.
+    #[inline]
+    pub(super) fn is_due(self) -> bool {
+        self.0 & DUE != 0
+    }
+
+    pub(super) fn joins(self) -> u64 {
+        self.0 / JOIN
+    }
+
+    /// With a latch in place of a share, if the latch is free and nobody waits for it.
+    #[inline]
+    pub(super) fn with_latch(self, latch: u64, in_place_of: u64) -> Option<u64> {
+        let in_the_way = if latch == READER { WRITER } else { LATCHED };
+        let is_free = self.0 & (in_the_way | QUEUED) == 0 && self.has_room();
+        is_free.then(|| self.0 - in_place_of + latch)
+    }
+
+    /// With a thread in the queue for the latch, if that is not free or others wait.
+    pub(super) fn with_queue(self, latch: u64) -> Option<u64> {
+        let is_free = self.with_latch(latch, 0).is_some();
+        (self.has_room() && !is_free).then_some(self.0 | QUEUED)
+    }
+
+    /// With so many readers of the queue let in, if no writer is there.
+    pub(super) fn with_readers(self, readers: u64, is_queue_empty: bool) -> Option<u64> {
+        let queue = if is_queue_empty { QUEUED } else { 0 };
+        (!self.is_written()).then_some((self.0 & !queue) + readers * READER)
+    }
+
+    /// With a writer of the queue let in, if nobody has the latch.
+    pub(super) fn with_writer(self, is_queue_empty: bool) -> Option<u64> {
+        let queue = if is_queue_empty { QUEUED } else { 0 };
+        (self.0 & LATCHED == 0).then_some((self.0 & !queue) + WRITER)
+    }
+
+    /// With the pass out, and a pin.
+    #[inline]
+    pub(super) fn with_pass(self, stays: bool) -> u64 {
+        let flags = if stays { OUT | STAYS } else { OUT };
+        (self.0 & !JOINED) + flags + PIN
+    }
+
+    /// Without the pass, if nobody uses the page.
+    #[inline]
+    pub(super) fn without_pass(self) -> Option<u64> {
+        let is_unused = self.0 & (OUT | USERS) == OUT;
+        is_unused.then_some(self.0 & !(OUT | STAYS | JOINED))
+    }
+
+    pub(super) fn without_joins(self) -> u64 {
+        self.0 & !JOINED
+    }
+
+    pub(super) fn staying(self) -> u64 {
+        self.0 | STAYS
+    }
+}

@@ -1,0 +1,126 @@
+//! Device work that is under way: a read, and a write-out. On every way out it ends.
+use super::guards::PagePin;
+use super::part::{Locked, Part};
+use crate::{Error, PageGuard, ReadFault, ReadTicket, Refused, Result, WriteTicket};
+use std::mem;
+
+/// A read that is under way. If it is dropped before its end it ends as failed, also where the
+/// engine's code panicked or memory for the page was refused. So no frame waits for ever.
+pub(super) struct Reading<'a> {
+    part: &'a Part,
+    ticket: Option<ReadTicket>,
+    pub(super) image: Vec<u8>,
+    /// The fault with which it ends then.
+    fault: ReadFault,
+}
+
+impl<'a> Reading<'a> {
+    pub(super) fn new(part: &'a Part, mut state: Locked<'a>, ticket: ReadTicket) -> Reading<'a> {
+        Reading {
+            part,
+            ticket: Some(ticket),
+            image: state.image(),
+            fault: ReadFault::Device(std::io::ErrorKind::Other.into()),
+        }
+    }
+
+    /// Ends the read where it succeeded, and pins the page.
+    pub(super) fn end(mut self) -> Result<PagePin<'a>> {
+        let ticket = self.ticket.take().ok_or(Error::UnknownTicket)?;
+        let part = self.part;
+        let mut state = part.lock();
+        let ended = state.pool.end_read(ticket, &self.image);
+        let pass = match ended.map(PageGuard::into_pass) {
+            Ok(pass) => pass,
+            Err(Refused { error, token }) => {
+                drop(state);
+                self.ticket = Some(token);
+                return Err(error);
+            }
+        };
+        let page = pass.page();
+        state.free.give(&part.seats, page);
+        self.image = state.keep(mem::take(&mut self.image)).unwrap_or_default();
+        let has_sleepers = state.has_sleepers(page);
+        let pin = part.pinned(state, pass, false);
+        part.wake_for_work(page, has_sleepers);
+        pin
+    }
+
+    pub(super) fn fail_with_wrong_page(&mut self) {
+        self.fault = ReadFault::WrongPage;
+    }
+}
+
+impl Drop for Reading<'_> {
+    fn drop(&mut self) {
+        if let Some(ticket) = self.ticket.take() {
+            let page = ticket.page();
+            let mut state = self.part.lock();
+            // A ticket of this pool that is out is always taken.
+            let _ = state.pool.fail_read(ticket, &self.fault);
+            self.image = state.keep(mem::take(&mut self.image)).unwrap_or_default();
+            self.part.wake(state, page);
+        }
+    }
+}
+
+/// A write-out that is under way. If it is dropped before its end it ends as failed.
+pub(super) struct Writing<'a> {
+    part: &'a Part,
+    ticket: Option<WriteTicket>,
+    pub(super) image: Vec<u8>,
+    /// Whether the page is a victim.
+    is_victim: bool,
+}
+
+impl<'a> Writing<'a> {
+    /// Begins to write a page out whose image was just taken. The lock is opened.
+    pub(super) fn new(
+        part: &'a Part,
+        mut state: Locked<'a>,
+        ticket: WriteTicket,
+        is_victim: bool,
+    ) -> Writing<'a> {
+        Writing {
+            part,
+            ticket: Some(ticket),
+            image: state.image(),
+            is_victim,
+        }
+    }
+
+    /// Ends the write-out where it succeeded.
+    pub(super) fn end(&mut self) -> Result<()> {
+        let ticket = self.ticket.take().ok_or(Error::UnknownTicket)?;
+        let page = ticket.page();
+        let mut state = self.part.lock();
+        state.pool.end_write(ticket)?;
+        if let Some(seat) = self.part.seats.of(page) {
+            state.firsts.arrive(seat);
+        }
+        self.image = state.keep(mem::take(&mut self.image)).unwrap_or_default();
+        self.part.wake(state, page);
+        Ok(())
+    }
+}
+
+impl Drop for Writing<'_> {
+    fn drop(&mut self) {
+        let Some(ticket) = self.ticket.take() else {
+            return;
+        };
+        let page = ticket.page();
+        let mut state = self.part.lock();
+        // A ticket of this pool that is out is always taken.
+        let _ = state.pool.fail_write(ticket);
+        if let Some(seat) = self.part.seats.of(page) {
+            state.firsts.come_back(seat);
+        }
+        self.image = state.keep(mem::take(&mut self.image)).unwrap_or_default();
+        if self.is_victim {
+            self.part.refer_to(&mut state, page);
+        }
+        self.part.wake(state, page);
+    }
+}
