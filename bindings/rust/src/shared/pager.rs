@@ -232,7 +232,7 @@ impl<F: PageIo> SharedPager<F> {
     /// [`PagerError::Read`], [`PagerError::Write`] and [`PagerError::Log`] where the device or the
     /// log failed. [`PagerError::Refused`] with [`OutOfPage`](Error::OutOfPage) where the file has
     /// no such page; [`NoVictim`](Error::NoVictim) where all possible victims were pinned for too
-    /// long; [`WrongPage`](Error::WrongPage) where another page was found in the page's place;
+    /// long; [`PagerError::WrongPage`] where another page was found in the page's place;
     /// [`OutOfMemory`](Error::OutOfMemory); [`Busy`](Error::Busy) in a function of the engine.
     // Always: else what it gives goes through memory.
     #[inline(always)]
