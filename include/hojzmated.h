@@ -195,6 +195,11 @@ uint16_t hz_page_lsn(hz_core *core, const hz_grant *pass, uint64_t *lsn);
 /* Tells the first unsaved page from this number on, in the order of the file, if there is one. */
 uint16_t hz_next_unsaved(hz_core *core, uint64_t from, hz_unsaved *out);
 
+/* Tells the page whose frame the next hz_fix takes, if that is of a page that is away: an unsaved one is written out
+ * first, and where the log is not durable up to its page LSN that fix is refused with 12. has_page gets 1, or 0 where a
+ * frame is free or no page may leave; page gets 0 then. */
+uint16_t hz_victim(hz_core *core, uint64_t *page, uint8_t *has_page);
+
 /* Tells from where redo has to begin: the least LSN of all writes that are in no image on the device, one of LSN 0 too.
  * has_lsn gets 1, or 0 where there is no such write; lsn gets 0 then. Ask before the device is synced: what goes out
  * meanwhile may not be kept by that. */

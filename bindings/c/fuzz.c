@@ -514,6 +514,17 @@ static void try_next_unsaved(void)
         same_unsaved(&next);
 }
 
+static void try_victim(void)
+{
+    how h = picked(3);
+    *count = *flag = ODD;
+    uint16_t number = noted(hz_victim(h.core, UNLESS(1, count), UNLESS(2, flag))), wanted = early(h, false);
+    unsigned next = model_next_victim();
+    SAME(wanted, number);
+    SAME(wanted ? ODD : next < PAGES, *flag);
+    SAME(wanted ? ODD : next < PAGES ? next : 0, *count);
+}
+
 static void try_redo_from(void)
 {
     how h = picked(3);
@@ -553,6 +564,10 @@ static void look_at_all_that_is_told(void)
     hz_stats counts = model_stats();
     SAME(HZ_DONE, hz_stats_of(live, stats));
     SAME(0, memcmp(stats, &counts, sizeof counts));
+    unsigned gone = model_next_victim();
+    SAME(HZ_DONE, hz_victim(live, count, flag));
+    SAME(gone < PAGES, *flag);
+    SAME(gone < PAGES ? gone : 0, *count);
     hz_unsaved next = model_next_unsaved(0);
     SAME(HZ_DONE, hz_redo_from(live, count, flag));
     SAME(next.has_page, *flag);
@@ -660,7 +675,8 @@ typedef void trial(void);
 /* Returns one of the calls that change nothing. */
 static trial *a_teller(void)
 {
-    static trial *const tellers[] = {try_page_lsn, try_next_unsaved, try_redo_from, try_stats, try_is_resident};
+    static trial *const tellers[] = {try_page_lsn,  try_next_unsaved, try_victim,
+                                     try_redo_from, try_stats,        try_is_resident};
     return tellers[below(sizeof tellers / sizeof *tellers)];
 }
 

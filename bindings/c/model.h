@@ -249,6 +249,12 @@ static hz_unsaved model_next_unsaved(uint64_t from)
     return (hz_unsaved){.has_page = 0};
 }
 
+/* Returns the page whose frame a fix takes for one that is away, or PAGES. */
+static unsigned model_next_victim(void)
+{
+    return has_free_frame() ? PAGES : victim();
+}
+
 /* Returns the least LSN of all unsaved writes, or UINT64_MAX where all is saved. */
 static uint64_t model_redo_from(void)
 {

@@ -24,6 +24,7 @@ PROVED(hz_flush);
 PROVED(hz_purge);
 PROVED(hz_page_lsn);
 PROVED(hz_next_unsaved);
+PROVED(hz_victim);
 PROVED(hz_redo_from);
 PROVED(hz_stats_of);
 PROVED(hz_is_resident);
@@ -166,6 +167,18 @@ uint16_t hz_page_lsn(hz_core *core, const hz_grant *pass, uint64_t *lsn)
 uint16_t hz_next_unsaved(hz_core *core, uint64_t from, hz_unsaved *out)
 {
     return core && out ? proved_hz_next_unsaved(core, from, out) : HZ_NULL;
+}
+
+uint16_t hz_victim(hz_core *core, uint64_t *page, uint8_t *has_page)
+{
+    if (!core || !page || !has_page)
+        return HZ_NULL;
+    uint64_t next = *page;
+    uint8_t has_next = *has_page;
+    uint16_t number = proved_hz_victim(core, &next, &has_next);
+    *page = next;
+    *has_page = has_next;
+    return number;
 }
 
 uint16_t hz_redo_from(hz_core *core, uint64_t *lsn, uint8_t *has_lsn)

@@ -138,6 +138,7 @@ static void no_core(void)
     CALL(HZ_NO_CORE, hz_purge(&core, 0, &count));
     CALL(HZ_NO_CORE, hz_page_lsn(&core, &grant, &count));
     CALL(HZ_NO_CORE, hz_next_unsaved(&core, 0, &page));
+    CALL(HZ_NO_CORE, hz_victim(&core, &count, &dirty));
     CALL(HZ_NO_CORE, hz_redo_from(&core, &count, &dirty));
     CALL(HZ_NO_CORE, hz_stats_of(&core, &stats));
     CALL(HZ_NO_CORE, hz_is_resident(&core, 0, &dirty));
@@ -204,6 +205,9 @@ static void nulls(void)
     CALL(HZ_NULL, hz_page_lsn(&core, &grant, NULL));
     CALL(HZ_NULL, hz_next_unsaved(NULL, 0, &page));
     CALL(HZ_NULL, hz_next_unsaved(&core, 0, NULL));
+    CALL(HZ_NULL, hz_victim(NULL, &count, &dirty));
+    CALL(HZ_NULL, hz_victim(&core, NULL, &dirty));
+    CALL(HZ_NULL, hz_victim(&core, &count, NULL));
     CALL(HZ_NULL, hz_redo_from(NULL, &count, &dirty));
     CALL(HZ_NULL, hz_redo_from(&core, NULL, &dirty));
     CALL(HZ_NULL, hz_redo_from(&core, &count, NULL));

@@ -618,6 +618,17 @@ impl Pool {
         })
     }
 
+    /// Returns the page whose frame the next fix takes, if that is of a page that is away. If it is
+    /// unsaved it is written out first, or the fix is refused with
+    /// [`NeedLog`](Error::NeedLog). It is None where a frame is free, and where no page may leave.
+    pub fn victim(&self) -> Option<u64> {
+        let (mut page, mut has_page) = (0, 0);
+        // SAFETY: the handle is free, and both may be written to. It is refused only where the
+        // handle has no core.
+        let _ = unsafe { sys::hz_victim(self.core(), &mut page, &mut has_page) };
+        (has_page != 0).then_some(page)
+    }
+
     /// Returns the LSN from which redo must begin: the least LSN of all writes that are in no image
     /// on the device, also if it is 0. It is None where there is no such write.
     pub fn redo_from(&self) -> Option<u64> {

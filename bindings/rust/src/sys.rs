@@ -143,6 +143,7 @@ unsafe extern "C" {
     pub(crate) fn hz_purge(core: *mut hz_core, client: u8, count: *mut u64) -> u16;
     pub(crate) fn hz_page_lsn(core: *mut hz_core, pass: *const hz_grant, lsn: *mut u64) -> u16;
     pub(crate) fn hz_next_unsaved(core: *mut hz_core, from: u64, out: *mut hz_unsaved) -> u16;
+    pub(crate) fn hz_victim(core: *mut hz_core, page: *mut u64, has_page: *mut u8) -> u16;
     pub(crate) fn hz_redo_from(core: *mut hz_core, lsn: *mut u64, has_lsn: *mut u8) -> u16;
     pub(crate) fn hz_stats_of(core: *mut hz_core, out: *mut hz_stats) -> u16;
     pub(crate) fn hz_is_resident(core: *mut hz_core, page: u64, is_resident: *mut u8) -> u16;

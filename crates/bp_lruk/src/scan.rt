@@ -1,6 +1,6 @@
 //! Candidates for replacement as a plain list, which `victim` scans from end to end, as figure 2.1 of "The LRU-K Page
-//! Replacement Algorithm" (SIGMOD 1993) does. It is the body that others are compared with. For use take
-//! [`crate::Candidates`], which has the same contract.
+//! Replacement Algorithm" (SIGMOD 1993) does. It is the body that others are compared with. The
+//! core uses `bp_replacer::seats`; [`crate::Candidates`] has the same contract as this.
 ghost use Rattle.std.specs.Prelude.{◌≡◌, ◌≢◌, ℕ, ◌+◌, ◌-◌, ◌<◌, ◌≤◌, ◌==◌, ◌↔◌, nat_lt, [], IsTrue, IsFalse, IsSome, Some, None, IfOk, OnErr, IfSome, IfNone, length, filter, position};
 ghost use Rattle.std.specs.List.{list_any, reduce};
 ghost use Rattle.bp_references.specs.Candidates.{earlier, entry_of, is_entered, is_eligible, IsVictim, NoPageTwice, SameLimits};

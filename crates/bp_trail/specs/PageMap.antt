@@ -17,6 +17,11 @@ use Rattle.bp_trail.specs.Victim.{victim}
 abbrev pub has_free_frame : Parameters → Trail → Bool
 has_free_frame c past = nat_lt (length (residents past) + length (reads_out past)) c.frames
 
+-- the page whose frame a fix takes for a page that is away: none where a frame is free, and none
+-- where no page may leave
+abbrev pub next_victim : Parameters → Trail → Option ℕ
+next_victim c past = if has_free_frame c past then None else victim c past
+
 -- a write-out of p, once the log is durable as far as p's writes
 abbrev pub write_out_reply : Trail → ℕ → Reply
 write_out_reply past p =

@@ -166,6 +166,11 @@ abbrev pub NextTold : Option CoreView → Option CoreView → ℕ → HzUnsaved 
 NextTold old new from out out' number =
     OnSame old new number (out' ≡ out) (λ core. (number ≡ 0) × TellsUnsaved core from out')
 
+abbrev pub VictimTold : Option CoreView → Option CoreView → ℕ → ℕ → ℕ → ℕ → ℕ → Type 0
+VictimTold old new page page' has has' number =
+    OnSame old new number ((page' ≡ page) × (has' ≡ has))
+    (λ core. (number ≡ 0) × TellsVictim core page' has')
+
 abbrev pub RedoTold : Option CoreView → Option CoreView → ℕ → ℕ → ℕ → ℕ → ℕ → Type 0
 RedoTold old new lsn lsn' has has' number =
     OnSame old new number ((lsn' ≡ lsn) × (has' ≡ has))

@@ -4,6 +4,7 @@ use Rattle.bp_page.specs.declared.refusals.Refusal.{Refusal}
 use Rattle.bp_page.specs.declared.refusals.Refusal.TheVariants as refusal
 use Rattle.bp_trail.specs.Trail.{Trail}
 use Rattle.bp_trail.specs.Places.{resident}
+use Rattle.bp_trail.specs.PageMap.{next_victim}
 use Rattle.bp_trail.specs.Saved.{page_lsn, first_lsn, IsRedoFrom}
 use Rattle.bp_core.specs.declared.stats.Stats.{Stats}
 use Rattle.bp_core.specs.CoreView.{CoreView, EachPast}
@@ -28,14 +29,20 @@ TellsUnsaved core from out =
     (found : Option ℕ) × FindsUnsaved core.parameters.pages from past found
     × ShowsUnsaved past found out)
 
--- from where redo has to begin: an LSN, and whether there is one
-abbrev pub ShowsLsn : Option ℕ → ℕ → ℕ → Type 0
-ShowsLsn (Some lsn) out has = (out ≡ lsn) × (has ≡ 1)
-ShowsLsn None out has = (out ≡ 0) × (has ≡ 0)
+-- a number that may be there: what is written, and whether there is one
+abbrev pub ShowsNumber : Option ℕ → ℕ → ℕ → Type 0
+ShowsNumber (Some n) out has = (out ≡ n) × (has ≡ 1)
+ShowsNumber None out has = (out ≡ 0) × (has ≡ 0)
 
+-- the page whose frame the next fix takes for one that is away
+abbrev pub TellsVictim : CoreView → ℕ → ℕ → Type 0
+TellsVictim core out has =
+    EachPast core (λ past. ShowsNumber (next_victim core.parameters past) out has)
+
+-- from where redo has to begin
 abbrev pub TellsRedo : CoreView → ℕ → ℕ → Type 0
 TellsRedo core out has =
-    EachPast core (λ past. (found : Option ℕ) × IsRedoFrom past found × ShowsLsn found out has)
+    EachPast core (λ past. (found : Option ℕ) × IsRedoFrom past found × ShowsNumber found out has)
 
 -- what the core counts
 abbrev pub TellsStats : CoreView → HzStats → Type 0

@@ -10,7 +10,7 @@
 ghost use Rattle.std.specs.Prelude.{◌≡◌, None, is_some, if◌then◌else◌, Ok, Err, IfOk, IfErr, length};
 ghost use Rattle.hojzmated_c.specs.Texts.{begun_with, text_of};
 ghost use Rattle.hojzmated_c.specs.Outcomes.{Opens, answer_of};
-ghost use Rattle.hojzmated_c.specs.Exports.{code_of, Made, Ticked, Marked, Purged, Asked, Flushed, ReadEnded, ReadFailed, WriteEnded, PageLent, LsnTold, PartRead, PartWrote, Unfixed, NextTold, RedoTold, StatsTold, ResidentTold, shown_fix};
+ghost use Rattle.hojzmated_c.specs.Exports.{code_of, Made, Ticked, Marked, Purged, Asked, Flushed, ReadEnded, ReadFailed, WriteEnded, PageLent, LsnTold, PartRead, PartWrote, Unfixed, NextTold, VictimTold, RedoTold, StatsTold, ResidentTold, shown_fix};
 
 mod forms;
 mod handle;
@@ -397,6 +397,35 @@ pub extern "C" fn proved_hz_next_unsaved(
     };
     *out = pool.next_unsaved(from);
     *core = HzCore::of(pool);
+    0
+}
+
+/// Tells the page whose frame the next fix takes, if that is of a page that is away. No entry is added.
+#[unsafe(no_mangle)]
+pub extern "C" fn proved_hz_victim(
+    alloc: Global,
+    core: &mut HzCore,
+    page: &mut u64,
+    has_page: &mut u8,
+) -> u16
+    ensures { VictimTold core.old.seal.pool core.new.seal.pool page.old page.new has_page.old
+        has_page.new result }
+{
+    let Some(mut pool) = core.take(alloc) else {
+        return NO_CORE;
+    };
+    let victim = pool.victim();
+    *core = HzCore::of(pool);
+    match victim {
+        Some(next) => {
+            *page = next.number();
+            *has_page = 1;
+        }
+        None => {
+            *page = 0;
+            *has_page = 0;
+        }
+    }
     0
 }
 

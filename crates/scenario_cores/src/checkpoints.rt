@@ -2,7 +2,7 @@
 ghost use Rattle.std.specs.Prelude.{◌<◌};
 
 use crate::observing::answer_of_page;
-use crate::outcomes::{flushed_all, lsn_or_none, stats_of, went};
+use crate::outcomes::{flushed_all, lsn_or_none, page_or_none, stats_of, went};
 use crate::pools::Pool;
 use bp_core::Keeper;
 use bp_device::{Port, drive_flush_all, drive_new};
@@ -15,6 +15,7 @@ impl<K: Keeper> Pool<K> {
     pub(crate) fn observe(&mut self, call: &Said) -> Answer {
         match call.verb {
             Verb::Redo => lsn_or_none(self.core.redo_from()),
+            Verb::NextVictim => page_or_none(self.core.victim()),
             Verb::Stats => stats_of(self.alloc, &self.core.stats(), self.unread),
             _ => answer_of_page(&self.core, call),
         }

@@ -221,6 +221,7 @@ impl<K: Keeper> Pool<K> {
             }
             Verb::Next
             | Verb::Redo
+            | Verb::NextVictim
             | Verb::First
             | Verb::TopLsn
             | Verb::Resident

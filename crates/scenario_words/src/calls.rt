@@ -32,6 +32,8 @@ pub enum Verb {
     /// What a checkpoint asks: the next unsaved page, where redo begins, and the least unsaved LSN of a page.
     Next,
     Redo,
+    /// The page whose frame the next fix takes.
+    NextVictim,
     First,
     /// The page LSN of a resident page, and that of the page of a pass.
     TopLsn,

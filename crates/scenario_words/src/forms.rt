@@ -4,7 +4,7 @@ use crate::calls::Verb;
 use bp_page::PortFault;
 
 /// The calls of what lines make.
-pub(crate) const CALLS: [(&str, Verb); 64] = [
+pub(crate) const CALLS: [(&str, Verb); 65] = [
     ("fix N N", Verb::Fix),
     ("flush N N", Verb::Flush),
     ("tick N N", Verb::Tick),
@@ -35,6 +35,7 @@ pub(crate) const CALLS: [(&str, Verb); 64] = [
     ("unsaved N", Verb::Unsaved),
     ("next N", Verb::Next),
     ("redo", Verb::Redo),
+    ("victim", Verb::NextVictim),
     ("first N", Verb::First),
     ("lsn N", Verb::TopLsn),
     ("page_lsn G", Verb::PageLsn),

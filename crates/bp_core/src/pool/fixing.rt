@@ -1,7 +1,7 @@
 //! `fix`: pins a page that is resident, or begins what brings it into a frame.
 ghost use Rattle.std.specs.Prelude.{◌≡◌, ◌<◌, false};
 ghost use Rattle.bp_trail.specs.Places.{loading, resident};
-ghost use Rattle.bp_trail.specs.Victim.{victim};
+ghost use Rattle.bp_trail.specs.PageMap.{has_free_frame, next_victim};
 ghost use Rattle.bp_core.specs.CoreView.{EachPast, HasRoomFor};
 ghost use Rattle.bp_core.specs.Outcomes.{FixOutcome, IsFull, TakesMemory};
 
@@ -35,7 +35,7 @@ impl<K: Keeper> PoolCore<K> {
                 self.record_unchanged(client, Call::Fix(page), Reply::Busy);
                 return Err(Refusal::Busy);
             }
-            if self.state.frames.len() + self.state.reads.len() < self.config.frames {
+            if self.has_free_frame() {
                 return self.load_into_free_frame(client, page);
             }
             return self.evict_for(client, page);
@@ -80,11 +80,23 @@ impl<K: Keeper> PoolCore<K> {
         Ok(Fix::WriteFirst(ticket))
     }
 
-    /// Returns the victim at this time, or `None` where no page may leave.
-    fn victim(&mut self) -> Option<PageNo>
+    /// Returns the page whose frame the next fix takes, if that is of a page that is away; an unsaved one is written out
+    /// first. `None` where a frame is free, and where no page may leave. It adds no entry, and costs what choosing the
+    /// victim of that fix costs, which then costs less.
+    pub fn victim(&mut self) -> Option<PageNo>
         ensures same { self.new ≡ self.old }
-        ensures chosen { EachPast self.old (λ past. result ≡ victim self.old.parameters past) }
+        ensures next { EachPast self.old (λ past. result ≡ next_victim self.old.parameters past) }
     {
+        if self.has_free_frame() {
+            return None;
+        }
         self.state.frames.victim(self.state.clock)
+    }
+
+    /// Returns true if fewer pages are resident or loading than there are frames.
+    fn has_free_frame(&self) -> bool
+        ensures { EachPast self.now (λ past. result ≡ has_free_frame self.now.parameters past) }
+    {
+        self.state.frames.len() + self.state.reads.len() < self.config.frames
     }
 }

@@ -1,12 +1,13 @@
 //! The calls that need no pass and change nothing. They add no entry.
 ghost use Rattle.std.specs.Prelude.{◌≡◌};
+ghost use Rattle.bp_trail.specs.PageMap.{next_victim};
 ghost use Rattle.bp_trail.specs.Saved.{IsRedoFrom};
 ghost use Rattle.bp_core.specs.CoreView.{EachPast};
 ghost use Rattle.hojzmated_c.specs.Tellers.{TellsResident, TellsStats, TellsUnsaved};
 
 use crate::forms::{HzStats, HzUnsaved};
 use crate::pool::Pool;
-use bp_page::{Lsn, Refusal};
+use bp_page::{Lsn, PageNo, Refusal};
 
 impl Pool {
     /// Returns the first unsaved page whose number is at least `from`.
@@ -31,6 +32,14 @@ impl Pool {
             first_lsn: first.number(),
             has_page: 1,
         }
+    }
+
+    /// Returns the page whose frame the next fix of a page that is away takes, or None.
+    pub(crate) fn victim(&mut self) -> Option<PageNo>
+        ensures same { self.new ≡ self.old }
+        ensures next { EachPast self.old (λ past. result ≡ next_victim self.old.parameters past) }
+    {
+        self.core.victim()
     }
 
     /// Returns the LSN from which redo must begin, or None where all is saved.
