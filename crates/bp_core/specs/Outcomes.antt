@@ -24,7 +24,7 @@ use Rattle.bp_trail.specs.declared.entries.Call.TheVariants.{Write, Unfix, Flush
 use Rattle.bp_trail.specs.declared.entries.Reply.{Reply}
 use Rattle.bp_trail.specs.declared.entries.Reply.TheVariants.{Done, Hit, Load, WriteFirst, NoVictim}
 use Rattle.bp_trail.specs.declared.entries.Reply.TheVariants.{NeedLog, Busy, Fixed}
-use Rattle.bp_trail.specs.declared.entries.Reply.TheVariants.{StillDirty, WriteFailed, Content}
+use Rattle.bp_trail.specs.declared.entries.Reply.TheVariants.{WriteFailed, Content}
 use Rattle.bp_trail.specs.declared.entries.Reply.TheVariants.{Clean, Absent, Forgot}
 use Rattle.bp_core.specs.declared.passes.Pass.{Pass}
 use Rattle.bp_core.specs.declared.passes.ReadTicket.{ReadTicket}

@@ -1,4 +1,4 @@
-use Rattle.std.proofs.Common.{◌≡◌, sym, ◌∙◌, Some, subst, false}
+use Rattle.std.proofs.Common.{◌≡◌, sym, ◌∙◌, ap, if◌then◌else◌, Some, None, subst, false}
 use Rattle.bp_trail.specs.Places.{resident}
 use Rattle.bp_core.specs.CoreView.{CoreView, EachPast}
 use Rattle.std.proofs.lemmas.Bool.{true≢false}
@@ -15,7 +15,7 @@ record_unchanged-requires-clause-quiet g c = fix_none c.args.page
 pub unwrap-frame-requires : goal.unwrap-frame-requires
 unwrap-frame-requires g c =
     let v = c.args.self.now in
-    let chosen : victim v.parameters v.past ≡ Some c.in-Some.victim = sym c.victim.ensures.chosen ∙ c.in-Some.is in
+    let chosen : victim v.parameters v.past ≡ Some c.in-Some.victim = sym (ap (λ b. if b then None else victim v.parameters v.past) c.requires.full) ∙ sym c.victim.ensures.next ∙ c.in-Some.is in
     is_there c.frame.result _ c.frame.ensures.away (λ gone.
     true≢false (sym (candidate-resident v.parameters v.past c.in-Some.victim (victim-is v.parameters v.past c.in-Some.victim chosen).eligible) ∙ subst (λ (v : CoreView). EachPast v (λ past. resident past c.in-Some.victim ≡ false)) c.victim.ensures.same gone))
 

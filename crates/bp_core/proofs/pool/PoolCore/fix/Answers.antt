@@ -1,12 +1,10 @@
-use Rattle.std.proofs.Common.{◌≡◌, ap, sym, ◌∙◌, subst, true, false, arith}
+use Rattle.std.proofs.Common.{◌≡◌, ap, sym, ◌∙◌, true, arith}
 use Rattle.bp_trail.specs.declared.entries.Call.TheVariants.{Fix}
 use Rattle.bp_trail.specs.declared.entries.Reply.TheVariants.{Hit}
 use Rattle.bp_trail.specs.Places.{resident}
 use Rattle.bp_core.specs.CoreView.{EachPast, HasRoomFor}
-use Rattle.std.proofs.lemmas.Bool.{lt-ltb, le-ltb}
-use Rattle.bp_trail.specs.PageMap.{has_free_frame}
 use Rattle.bp_core.specs.Outcomes.IsQuiet.{fix_busy}
-use Rattle.bp_core.proofs.Seen.{few_pins, now_is, known_is, resident_seen, occupied_is, within_frames}
+use Rattle.bp_core.proofs.Seen.{few_pins, now_is, known_is, resident_seen}
 use Rattle.bp_core.proofs.Keeps.{adds}
 use Rattle.bp_core.proofs.Placed.{held-here, tell-blocks}
 use Rattle.bp_core.proofs.KeepsPasses.{keeps-hit}
@@ -25,20 +23,11 @@ evict_for-requires-clause-away g c = ap (λ v. resident v.past c.args.page) (sym
 pub record_unchanged-requires-clause-quiet : goal.record_unchanged-requires-clause-quiet
 record_unchanged-requires-clause-quiet g c = fix_busy c.args.page
 
-pub overflow_add-len : goal.overflow_add-len
-overflow_add-len g c = omega (arith, within_frames _ _ _ c.self.invariant.agrees, c.len.ensures, c.len-in_default.ensures, c.self.invariant.frame_room.few)
-
 pub load_into_free_frame-requires-clause-frame : goal.load_into_free_frame-requires-clause-frame
-load_into_free_frame-requires-clause-frame g c =
-    let i = c.self.inside in
-    subst (λ v. has_free_frame v.parameters v.past ≡ true) c.self.view_is
-    (lt-ltb _ i.config.frames (omega (arith, occupied_is _ _ _ c.self.invariant.agrees, c.len.ensures, c.len-in_default.ensures, c.if-len-self.true)))
+load_into_free_frame-requires-clause-frame g c = sym c.has_free_frame.ensures ∙ c.if-has_free_frame.true
 
 pub evict_for-requires-clause-full : goal.evict_for-requires-clause-full
-evict_for-requires-clause-full g c =
-    let i = c.self.inside in
-    subst (λ v. has_free_frame v.parameters v.past ≡ false) c.self.view_is
-    (le-ltb _ i.config.frames (omega (arith, occupied_is _ _ _ c.self.invariant.agrees, c.len.ensures, c.len-in_default.ensures, c.if-len-self.false)))
+evict_for-requires-clause-full g c = sym c.has_free_frame.ensures ∙ c.if-has_free_frame.false
 
 pub block-block-requires-clause-blocks : goal.block-block-requires-clause-blocks
 block-block-requires-clause-blocks g c = tell-blocks _ _ _ c.self.invariant

@@ -1,9 +1,8 @@
-use Rattle.std.proofs.Common.{◌≡◌, ◌<◌, sym, ◌∙◌, ap, subst, arith, length, true}
+use Rattle.std.proofs.Common.{◌≡◌, ◌<◌, ◌∙◌, ap, subst, arith, length, true}
 use Rattle.std.proofs.lemmas.Bool.{ltb-true}
 use Rattle.bp_trail.specs.declared.entries.Call.TheVariants.{Read}
 use Rattle.bp_trail.specs.declared.entries.Reply.TheVariants.{Content}
 use Rattle.bp_trail.specs.Event.{grant}
-use Rattle.bp_trail.specs.Images.{held}
 use Rattle.bp_trail.specs.Legal.{is_out}
 use Rattle.bp_trail.specs.Passes.{passes_out}
 use Rattle.bp_trail.proofs.Ranges.{owned, owner}
