@@ -21,7 +21,7 @@ use Rattle.hojzmated_c.specs.declared.forms.HzUnsaved.{HzUnsaved}
 use Rattle.hojzmated_c.specs.Forms.{pass_of, shown_refusal, fault_of}
 use Rattle.hojzmated_c.specs.Outcomes.{Opens, Ticks, Marks, Purges, Fixes, Flushes, EndsRead, EndsWrite}
 use Rattle.hojzmated_c.specs.Outcomes.{FailsRead, ReadsPart, WritesPart}
-use Rattle.hojzmated_c.specs.Tellers.{TellsUnsaved, TellsRedo, TellsStats, TellsResident}
+use Rattle.hojzmated_c.specs.Tellers.{TellsUnsaved, TellsVictim, TellsRedo, TellsStats, TellsResident}
 
 -- 0, or the number of the refusal
 abbrev pub code_of : {A : Type 0} → Result A Refusal → ℕ

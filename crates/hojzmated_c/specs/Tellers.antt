@@ -37,7 +37,8 @@ ShowsNumber None out has = (out ≡ 0) × (has ≡ 0)
 -- the page whose frame the next fix takes for one that is away
 abbrev pub TellsVictim : CoreView → ℕ → ℕ → Type 0
 TellsVictim core out has =
-    EachPast core (λ past. ShowsNumber (next_victim core.parameters past) out has)
+    EachPast core (λ past.
+    (found : Option ℕ) × (found ≡ next_victim core.parameters past) × ShowsNumber found out has)
 
 -- from where redo has to begin
 abbrev pub TellsRedo : CoreView → ℕ → ℕ → Type 0
