@@ -1,12 +1,12 @@
 -- A tree that lags behind the seats: who comes first in it, and how far behind it is.
-use Rattle.std.proofs.Common.{◌≡◌, ◌≢◌, ◌∙◌, ◌⊎◌, ℕ, zero, suc, ◌+◌, ◌<◌, ◌≤◌, ◌==◌, nat_lt, Bool, true, false, List, [], ◌∷◌, length, set, replicate, Option, Some, None, refl, sym, ap, subst, inl, inr, arith}
-use Rattle.std.proofs.lemmas.Bool.{cases_Bool, cases_eq, eq-eqb, true≢false}
+use Rattle.std.proofs.Common.{◌≡◌, ◌∙◌, ◌⊎◌, ℕ, zero, suc, ◌<◌, ◌≤◌, true, false, List, [], ◌∷◌, length, set, replicate, Option, Some, None, refl, sym, ap, subst, inl, inr, arith}
+use Rattle.std.proofs.lemmas.Bool.{cases_eq, eq-eqb, true≢false}
 use Rattle.std.proofs.lemmas.Bool.Decides.{nat_tests}
 use Rattle.std.proofs.lemmas.Option.{none-some, same_Some}
 use Rattle.std.proofs.lemmas.List.{get_or-set_same, get_or-set_other, length-set}
 use Rattle.bp_references.specs.Candidates.{Candidate, is_before}
-use Rattle.bp_replacer.specs.Seats.{winner, seat_at, IsFirst, IsFirstAt, same_seat, FollowsOn, Lags, LagsBehind, unsettled}
-use Rattle.bp_replacer.proofs.SeatLaws.{leads_later, winner_from_not_before, seat_empty}
+use Rattle.bp_replacer.specs.Seats.{winner, seat_at, IsFirst, IsFirstAt, same_seat, Lags, LagsBehind, unsettled}
+use Rattle.bp_replacer.proofs.SeatLaws.{leads_later, winner_from_not_before}
 use Rattle.bp_references.proofs.VictimLaws.{not_before_itself}
 
 -- ---- two that are the same

@@ -9,3 +9,4 @@ pub mod PurgeWalk
 pub mod SeatListLaws
 pub mod SeatLaws
 pub mod SeatSteps
+pub mod YoungLaws

@@ -1,11 +1,13 @@
 //! `LaggingTree`: the candidate at each seat, and the first of them in the order of replacement, by a tree of winners
 //! that is brought up to date only where a look needs it.
-ghost use Rattle.std.specs.Prelude.{◌≡◌, ◌⊎◌, ◌<◌, IsTrue, Some, None, IfOk, length, replicate, set};
-ghost use Rattle.bp_replacer.specs.Seats.{seat_at, same_seat, Lags, LagsBehind, IsFirst};
+ghost use Rattle.std.specs.Prelude.{◌≡◌, ◌<◌, IsTrue, IsFalse, Some, None, IfOk, length, replicate, set};
+ghost use Rattle.bp_replacer.specs.Seats.{seat_at, same_seat, Lags, IsFirst};
+ghost use Rattle.bp_replacer.specs.Young.{since, AreYoung, IsLater, IsSettled};
 
 use crate::marks::Marks;
 use crate::seat_list::SeatList;
 use crate::tournament::{Seat, Tournament, precedes};
+use crate::young::Young;
 use std::alloc::{AllocError, Global};
 use std::marker::Model;
 
@@ -31,18 +33,20 @@ pub struct LaggingTree {
     tree: Tournament,
     /// The seats that the tree may lag behind: it lags behind no other.
     behind: Marks,
+    /// The seats whose candidates wait to come of age, out of the tree.
+    young: Young,
 }
 
 impl Model for LaggingTree {
     ghost use Rattle.std.specs.Prelude.{List, Option};
     ghost use Rattle.bp_references.specs.Candidates.{Candidate};
-    ghost use Rattle.bp_replacer.specs.Seats.{LagsBehind};
+    ghost use Rattle.bp_replacer.specs.Young.{AreCovered};
 
     ghost Value = { List (Option Candidate) };
 
     ghost view = { λ s. s.seats };
 
-    ghost invariant = { λ s. LagsBehind s.tree s.seats };
+    ghost invariant = { λ s. AreCovered s.tree s.young s.seats };
 }
 
 // Returns true if a tree that has the first at a seat may lag behind the second there.
@@ -67,18 +71,47 @@ fn same_seat(a: &Seat, b: &Seat) -> bool
     }
 }
 
-// Brings the tree up to date at one seat, by a walk, or at all seats, by a pass.
-fn settle(tree: &mut Tournament, seats: &SeatList, behind: &mut Marks, seat: usize, all: bool)
+// Lets the candidate of a seat wait, if it was not last referenced before a time. Returns false, and changes nothing,
+// where it was, or does not wait.
+fn wait_from(young: &mut Young, seat: usize, entry: &Seat, time: u64) -> bool
+    requires { seat < length young.old }
+    ensures waits { IsTrue result → AreYoung (since young.new seat) entry.now }
+    ensures refused { IsFalse result → young.new ≡ young.old }
+    ensures later { IsLater time seat young.old young.new }
+{
+    match entry {
+        None => false,
+        Some(x) => x.1 >= time && young.wait(seat, x.1),
+    }
+}
+
+// Brings the tree up to date at one seat, by a walk, or at all seats, by a pass. Who stands at the seat, and was not last
+// referenced before the time, waits apart instead.
+fn settle(
+    tree: &mut Tournament,
+    seats: &SeatList,
+    behind: &mut Marks,
+    young: &mut Young,
+    seat: usize,
+    time: u64,
+    all: bool,
+)
     requires as_many { length tree.old ≡ length seats.now }
+    requires waiting { length young.old ≡ length seats.now }
     requires seat { seat < length seats.now }
-    ensures { (tree.new ≡ set tree.old seat (seat_at seats.now seat)) ⊎ (tree.new ≡ seats.now) }
+    ensures { IsSettled tree.old young.old seats.now seat time tree.new young.new }
 {
     if all {
         tree.put_all(seats);
         behind.unset_all();
+        return;
+    }
+    behind.unset(seat);
+    let entry = seats.find(seat);
+    if wait_from(young, seat, &entry, time) {
+        tree.put(seat, None);
     } else {
-        tree.put(seat, seats.find(seat));
-        behind.unset(seat);
+        tree.put(seat, entry);
     }
 }
 
@@ -90,34 +123,52 @@ impl LaggingTree {
         let seats = SeatList::new(alloc, size)?;
         let tree = Tournament::new(alloc, size)?;
         let behind = Marks::new(alloc, size)?;
+        let young = Young::new(alloc, size)?;
         Ok(LaggingTree {
             seats,
             tree,
             behind,
+            young,
         })
     }
 
-    /// Puts a candidate on a seat, or empties it. The tree is left to lag behind the seat where it may.
-    pub fn put(&mut self, seat: usize, entry: Seat)
+    /// Puts a candidate on a seat, or empties it. The tree is left to lag behind the seat where it may. Else the
+    /// candidate waits `apart`, if that is asked for, and is put in its place in the tree otherwise.
+    pub fn put(&mut self, seat: usize, entry: Seat, apart: bool)
         requires { seat < length self.old }
         ensures { self.new ≡ set self.old seat entry }
     {
         self.seats.put(seat, entry);
-        if !may_lag(&self.tree.find(seat), &entry) {
-            self.tree.put(seat, entry);
-            self.behind.unset(seat);
-        } else {
+        if may_lag(&self.tree.find(seat), &entry) {
             self.behind.set(seat);
+            return;
+        }
+        self.behind.unset(seat);
+        if apart && wait_from(&mut self.young, seat, &entry, 0) {
+            self.tree.put(seat, None);
+        } else {
+            self.tree.put(seat, entry);
         }
     }
 
-    /// Returns the first candidate of those last referenced before a time, or `None` where there is none. The tree
-    /// catches up with each seat that comes first in it wrongly, until one comes first rightly. After a pass the next
-    /// look finds it.
+    /// Returns the first candidate of those last referenced before a time, or `None` where there is none. Whoever
+    /// waited apart and was last referenced before the time comes into the tree. The tree catches up with each seat
+    /// that comes first in it wrongly, until one comes first rightly. After a pass the next look finds it.
     pub fn first_before(&mut self, time: u64) -> Seat
         ensures same { self.new ≡ self.old }
         ensures first { IsFirst self.new (λ e. e.1 < time) result }
     {
+        while let Some(seat) = self.young.take_below(time) {
+            settle(
+                &mut self.tree,
+                &self.seats,
+                &mut self.behind,
+                &mut self.young,
+                seat,
+                time,
+                false,
+            );
+        }
         let mut walks = 0usize;
         loop {
             let Some(seat) = self.tree.first_before(time) else {
@@ -129,7 +180,15 @@ impl LaggingTree {
             }
             let many = self.seats.len() / SEATS_A_WALK;
             let all = walks >= FEW_WALKS && self.behind.count() >= many;
-            settle(&mut self.tree, &self.seats, &mut self.behind, seat, all);
+            settle(
+                &mut self.tree,
+                &self.seats,
+                &mut self.behind,
+                &mut self.young,
+                seat,
+                time,
+                all,
+            );
             walks = walks.saturating_add(1);
         }
     }

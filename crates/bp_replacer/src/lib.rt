@@ -9,6 +9,7 @@ mod seat_list;
 pub mod seats;
 pub mod settings;
 pub mod tournament;
+mod young;
 
 pub use histories::{BlockNo, Histories};
 pub use settings::Settings;

@@ -1,5 +1,5 @@
 //! `Queue`: the pages that wait to be purged, the one of the least time first.
-ghost use Rattle.std.specs.Prelude.{◌≡◌, ◌<◌, ◌≤◌, [], ◌∷◌, All, IfSome, IfNone, OnOk, length};
+ghost use Rattle.std.specs.Prelude.{◌≡◌, ◌<◌, ◌≤◌, [], ◌∷◌, All, IsTrue, IfSome, IfNone, OnOk, length};
 ghost use Rattle.std.specs.List.Sorted.{IsPermutation};
 
 use std::alloc::{AllocError, Global};
@@ -48,6 +48,13 @@ impl Queue {
         ensures room { OnOk result (room ≤ self.new.room) }
     {
         self.pages.reserve(room.saturating_sub(self.pages.len()))
+    }
+
+    /// Returns true if there is room for one more page.
+    pub(crate) fn has_room(&self) -> bool
+        ensures { IsTrue result → length self.now.pages < self.now.room }
+    {
+        self.pages.len() < self.pages.capacity()
     }
 
     /// Adds a page; a page that waits already is added again. It takes no memory.

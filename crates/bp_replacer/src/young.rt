@@ -1,0 +1,78 @@
+//! `Young`: the seats whose candidates wait to come of age.
+ghost use Rattle.std.specs.Prelude.{◌≡◌, ◌⊎◌, ℕ, ◌<◌, ◌≤◌, IsTrue, IsFalse, IfOk, IfSome, IfNone, length, replicate, set};
+ghost use Rattle.bp_replacer.specs.Young.{since, IsYoung, NoneBelow};
+
+use crate::queue::Queue;
+use std::alloc::{AllocError, Global};
+use std::marker::Model;
+
+/// The time since which each seat waits, or 0 where it does not wait. A queue has the seats that wait, the least time
+/// first. A seat that is asked to wait again from a later time on stays where it is. The memory is taken once, by
+/// `new`: 24 bytes a seat.
+#[derive(Drop)]
+pub(crate) struct Young {
+    since: Vec<u64>,
+    queue: Queue,
+}
+
+impl Model for Young {
+    ghost use Rattle.std.specs.Prelude.{ℕ, List};
+    ghost use Rattle.bp_replacer.specs.Young.{AreQueued};
+
+    ghost Value = { List ℕ };
+
+    ghost view = { λ y. y.since.items };
+
+    ghost invariant = { λ y. AreQueued y.since.items y.queue.pages };
+}
+
+impl Young {
+    /// Makes `size` seats, none of which waits. It fails by want of memory alone; no other call takes any.
+    pub(crate) fn new(alloc: Global, size: usize) -> Result<Young, AllocError>
+        ensures { IfOk result (λ y. y ≡ replicate size 0) }
+    {
+        let since = vec![in alloc; 0; size]?;
+        let mut queue = Queue::new(alloc);
+        queue.reserve(size)?;
+        Ok(Young { since, queue })
+    }
+
+    /// Lets a seat wait since a time, or an earlier one since which it waits already. Returns false, and changes
+    /// nothing, where there is no room, or the time is 0.
+    pub(crate) fn wait(&mut self, seat: usize, time: u64) -> bool
+        requires { seat < length self.old }
+        ensures waits { IsTrue result → IsYoung (since self.new seat) time }
+        ensures refused { IsFalse result → self.new ≡ self.old }
+        ensures others { (self.new ≡ self.old) ⊎ (self.new ≡ set self.old seat time) }
+    {
+        let known = self.since[seat];
+        if known > 0 && known <= time {
+            return true;
+        }
+        if time == 0 || !self.queue.has_room() {
+            return false;
+        }
+        self.queue.push(time, seat as u64);
+        self.since[seat] = time;
+        true
+    }
+
+    /// Takes out a seat that waits since before a time. `None` where none does.
+    pub(crate) fn take_below(&mut self, time: u64) -> Option<usize>
+        ensures in_range { IfSome result (λ seat. seat < length self.old) }
+        ensures waited { IfSome result (λ seat. 0 < since self.old seat) }
+        ensures below { IfSome result (λ seat. since self.old seat < time) }
+        ensures taken { IfSome result (λ seat. self.new ≡ set self.old seat 0) }
+        ensures unchanged { IfNone result (self.new ≡ self.old) }
+        ensures none_below { IfNone result (NoneBelow self.new time) }
+    {
+        while let Some((known, seat)) = self.queue.pop_below(time) {
+            let seat = seat as usize;
+            if known > 0 && seat < self.since.len() && self.since[seat] == known {
+                self.since[seat] = 0;
+                return Some(seat);
+            }
+        }
+        None
+    }
+}
