@@ -2,7 +2,6 @@
 -- frame.
 use Rattle.std.specs.Prelude.{◌≡◌, ◌⊎◌, ℕ, ◌*◌, ◌+◌, ◌-◌, ◌/◌, ◌≢◌, ◌<◌, ◌≤◌, ◌&&◌, ◌==◌, nat_lt, zero, suc, Bool, true, false, IsFalse, List, [], ◌∷◌, length, slice_index_or, set, Option, Some, None, if◌then◌else◌}
 use Rattle.bp_references.specs.Candidates.{Candidate, Entered, is_before}
-use Rattle.bp_replacer.specs.declared.tournament.Winners.{Winners}
 
 -- the candidates that are seated, by seats, and the correlated period
 pub record Seated : Type 0 where
@@ -84,77 +83,30 @@ unsettled (known ∷ others) (here ∷ seats) =
 
 -- ---- a tree of winners: below the node i stand the nodes 2 i and 2 i + 1
 
--- whom a node knows: who stands at the seats whose numbers it has
-pub record Known : Type 0 where
-  pub first : Option Candidate
-  pub older : Option Candidate
-
--- nobody stands at a number past the seats
-abbrev pub known_by : List (Option Candidate) → Winners → Known
-known_by seats w = record { first = seat_at seats w.first; older = seat_at seats w.older }
-
 -- nobody stands there, or one who was last referenced before a time
 abbrev pub is_aged : ℕ → Option Candidate → Bool
 is_aged time None = true
 is_aged time (Some e) = nat_lt e.1 time
 
--- who comes first of those last referenced before a time; one who was not where the node does not
--- know
-unfoldable pub aged_first : ℕ → Known → Option Candidate
-aged_first time w = if is_aged time w.first then w.first else w.older
-
--- below two nodes, who comes first of those last referenced before `first`; where a node does not
--- know, `first` again
-unfoldable pub older_of : Known → Known → Option Candidate → Option Candidate
-older_of a b None = None
-older_of a b (Some e) =
-    if is_aged e.1 (aged_first e.1 a) && is_aged e.1 (aged_first e.1 b)
-    then winner (aged_first e.1 a) (aged_first e.1 b)
-    else Some e
-
--- the same by numbers
-abbrev pub older_at : List (Option Candidate) → Winners → Winners → ℕ → Option Candidate
-older_at seats a b first = older_of (known_by seats a) (known_by seats b) (seat_at seats first)
-
--- who is known above two nodes, when they have played each other
-unfoldable pub played : Known → Known → Known
-played a b =
-    record { first = winner a.first b.first; older = older_of a b (winner a.first b.first) }
-
--- below the nodes stand the seats, each a node that knows itself
-unfoldable pub node : List Winners → ℕ → Winners
+-- a node has the number of a seat; below the nodes stand the seats, each a node with its own number
+unfoldable pub node : List ℕ → ℕ → ℕ
 node nodes i =
-    if nat_lt i (length nodes)
-    then slice_index_or nodes i (record { first = 0; older = 0 })
-    else record { first = i - length nodes; older = length nodes }
+    if nat_lt i (length nodes) then slice_index_or nodes i 0 else i - length nodes
 
-abbrev pub IsWon : List Winners → List (Option Candidate) → ℕ → Type 0
+-- of the two nodes below, it has the one whose candidate comes first
+abbrev pub IsWon : List ℕ → List (Option Candidate) → ℕ → Type 0
 IsWon nodes seats i =
-    known_by seats (node nodes i)
-    ≡ played (known_by seats (node nodes (2 * i))) (known_by seats (node nodes (2 * i + 1)))
+    seat_at seats (node nodes i)
+    ≡ winner (seat_at seats (node nodes (2 * i))) (seat_at seats (node nodes (2 * i + 1)))
 
--- a node has the number of a seat
-abbrev pub Has : Winners → ℕ → Type 0
-Has w seat = (w.first ≡ seat) ⊎ (w.older ≡ seat)
+-- it has the number of one of the two nodes below
+abbrev pub IsFromBelow : List ℕ → ℕ → Type 0
+IsFromBelow nodes i =
+    (node nodes (2 * i) ≡ node nodes i) ⊎ (node nodes (2 * i + 1) ≡ node nodes i)
 
--- each number that a node has is of one of the two others
-abbrev pub IsOfBoth : Winners → Winners → Winners → Type 0
-IsOfBoth a b w = (seat : ℕ) → Has w seat → Has a seat ⊎ Has b seat
-
-abbrev pub IsFromBelow : List Winners → ℕ → Type 0
-IsFromBelow nodes i = IsOfBoth (node nodes (2 * i)) (node nodes (2 * i + 1)) (node nodes i)
-
--- whoever's number a node has stands at that seat, if it is one of a seat
-abbrev pub IsTaken : List (Option Candidate) → ℕ → Type 0
-IsTaken seats seat = seat < length seats → seat_at seats seat ≢ None
-
-abbrev pub AreTaken : List (Option Candidate) → Winners → Type 0
-AreTaken seats w = (seat : ℕ) → Has w seat → IsTaken seats seat
-
--- each node knows whom the two nodes below it know to win, by numbers that these have
-pub record IsTournament (nodes : List Winners) (seats : List (Option Candidate)) : Type 0 where
+-- each node has the winner of the two nodes below it
+pub record IsTournament (nodes : List ℕ) (seats : List (Option Candidate)) : Type 0 where
   pub length_is : length nodes ≡ length seats
-  pub taken : (i : ℕ) → 1 ≤ i → i < length nodes → AreTaken seats (node nodes i)
   pub from_below : (i : ℕ) → 1 ≤ i → i < length nodes → IsFromBelow nodes i
   pub won : (i : ℕ) → 1 ≤ i → i < length nodes → IsWon nodes seats i
 

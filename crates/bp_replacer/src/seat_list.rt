@@ -1,15 +1,15 @@
 //! `SeatList`: numbered seats, each empty or with a candidate.
 ghost use Rattle.std.specs.Prelude.{◌≡◌, ◌<◌, Some, None, IfOk, length, replicate, set};
 ghost use Rattle.std.specs.Option.{is_some};
-ghost use Rattle.bp_replacer.specs.Seats.{seat_at, IsTaken};
+ghost use Rattle.bp_replacer.specs.Seats.{seat_at};
 
 use crate::tournament::Seat;
 use bp_page::PageNo;
 use std::alloc::{AllocError, Global};
 use std::marker::Model;
 
-/// The candidate at each seat. The candidates stand apart from the flags that tell whether a seat is taken, so that a
-/// candidate that is known to be there is read with no second test: 25 bytes a seat.
+/// The candidate at each seat. The candidates stand apart from the flags that tell whether a seat is taken: 25 bytes a
+/// seat.
 #[derive(Drop)]
 pub struct SeatList {
     taken: Vec<bool>,
@@ -51,25 +51,24 @@ impl SeatList {
         self.taken[seat]
     }
 
-    /// Returns the candidate at a seat that is known to be taken, and `None` for a number past the seats.
-    pub fn at(&self, seat: usize) -> Seat
-        requires { IsTaken self.now seat }
-        ensures { result ≡ seat_at self.now seat }
-    {
-        if seat < self.entries.len() {
-            Some(self.entries[seat])
-        } else {
-            None
-        }
-    }
-
     /// Returns the candidate at a seat, or `None` where it is empty.
     pub fn find(&self, seat: usize) -> Seat
         requires { seat < length self.now }
         ensures { result ≡ seat_at self.now seat }
     {
         if self.is_taken(seat) {
-            self.at(seat)
+            Some(self.entries[seat])
+        } else {
+            None
+        }
+    }
+
+    /// Returns the candidate at a seat, or `None` where it is empty, and for a number past the seats.
+    pub fn at(&self, seat: usize) -> Seat
+        ensures { result ≡ seat_at self.now seat }
+    {
+        if seat < self.entries.len() {
+            self.find(seat)
         } else {
             None
         }

@@ -1,7 +1,7 @@
 //! `Tournament`: a tree of winners over seats, which finds the first candidate that was last referenced before a time.
-ghost use Rattle.std.specs.Prelude.{◌≡◌, ◌⊎◌, ℕ, ◌*◌, ◌+◌, ◌-◌, ◌/◌, ◌^◌, ◌<◌, ◌≤◌, [], IsTrue, IsFalse, Some, None, IfOk, IfSome, IfNone, IsSome, length, replicate, set, slice_index_or};
+ghost use Rattle.std.specs.Prelude.{◌≡◌, ◌⊎◌, ◌*◌, ◌+◌, ◌/◌, ◌^◌, ◌<◌, ◌≤◌, IfOk, IfSome, IfNone, None, length, replicate, set};
 ghost use Rattle.bp_references.specs.Candidates.{Candidate, is_before};
-ghost use Rattle.bp_replacer.specs.Seats.{winner, seat_at, is_aged, aged_first, older_of, played, node, known_by, Has, IsOfBoth, IsTaken, AreTaken, IsFirst, IsFirstAt, IsFirstBelow, IsTournament, older_at};
+ghost use Rattle.bp_replacer.specs.Seats.{winner, seat_at, is_aged, node, IsFirst, IsFirstAt, IsFirstBelow, IsTournament};
 ghost use Rattle.bp_replacer.specs.Replay.{IsWonUpTo};
 
 use crate::seat_list::SeatList;
@@ -12,31 +12,21 @@ use std::marker::Model;
 /// A candidate as (K-th stamp, last time, page), or `None` for an empty seat.
 pub type Seat = Option<(u64, u64, PageNo)>;
 
-/// What a node knows of the seats below it, by the numbers of their seats: the first candidate, and the first of those
-/// that were last referenced before that one. Where the node does not know the second, it has the first again. The
-/// number of seats stands for no candidate.
-#[derive(Clone, Copy)]
-struct Winners {
-    first: usize,
-    older: usize,
-}
-
-/// Seats, and a tree over them that knows at each node the first candidate of the seats below it.
+/// Seats, and a tree over them that has at each node the number of the seat below it whose candidate comes first.
 ///
-/// `put` goes up from its seat as far as it changes what a node knows, at most to the root: O(log seats). It ends at
-/// the first node that has the numbers it had, none of them that of the seat: no node above has the candidate that
+/// `put` goes up from its seat as far as it changes what a node has, at most to the root: O(log seats). It ends at the
+/// first node that has the number it had, if that is not the number of the seat: no node above has the candidate that
 /// stood there or stands there now. So it takes one step where the seat, before and after the change, comes after its
-/// neighbour and was not last referenced before that one. `put_all` changes all seats at once, and computes each node
-/// from scratch, from the last one to the root: O(seats), and no walk.
+/// neighbour. `put_all` changes all seats at once, and computes each node from scratch, from the last one to the root:
+/// O(seats), and no walk.
 ///
-/// `first_before` asks the root, and then looks below those nodes that do not know. Below each of them stand two that
-/// were not last referenced before the time that is asked for, nor at the same time. So the root knows the answer where
-/// no candidate was referenced after that time, and else `first_before` looks at O(log seats) nodes for each candidate
-/// that was not last referenced before it, and never at more than two for each seat. The memory is taken once, by
-/// `new`: 41 bytes a seat.
+/// `first_before` asks the root, and goes down below those nodes whose candidate was not last referenced before the
+/// time that is asked for. So the root knows the answer where none was that comes first of all, and else `first_before`
+/// looks at O(log seats) nodes for each candidate that was not, and never at more than two for each seat. The memory is
+/// taken once, by `new`: 33 bytes a seat.
 #[derive(Drop)]
 pub struct Tournament {
-    nodes: Vec<Winners>,
+    nodes: Vec<usize>,
     seats: SeatList,
 }
 
@@ -54,8 +44,6 @@ impl Model for Tournament {
 
 // Of two seats, the one whose candidate comes first.
 fn winner(seats: &SeatList, a: usize, b: usize) -> usize
-    requires a { IsTaken seats.now a }
-    requires b { IsTaken seats.now b }
     ensures either { (result ≡ a) ⊎ (result ≡ b) }
     ensures first { seat_at seats.now result ≡ winner (seat_at seats.now a) (seat_at seats.now b) }
 {
@@ -68,7 +56,6 @@ fn winner(seats: &SeatList, a: usize, b: usize) -> usize
 
 // Returns true if a seat is empty, or its candidate was last referenced before a time.
 fn is_aged(seats: &SeatList, seat: usize, time: u64) -> bool
-    requires { IsTaken seats.now seat }
     ensures { result ≡ is_aged time (seat_at seats.now seat) }
 {
     match seats.at(seat) {
@@ -77,71 +64,14 @@ fn is_aged(seats: &SeatList, seat: usize, time: u64) -> bool
     }
 }
 
-// The seat of the first candidate last referenced before a time. Where the node does not know it, a seat whose
-// candidate was not.
-fn aged_first(seats: &SeatList, winners: &Winners, time: u64) -> usize
-    requires { AreTaken seats.now winners.now }
-    ensures had { Has winners.now result }
-    ensures first { seat_at seats.now result ≡ aged_first time (known_by seats.now winners.now) }
-{
-    if is_aged(seats, winners.first, time) {
-        winners.first
-    } else {
-        winners.older
-    }
-}
-
-// Of the candidates below two nodes, the first of those last referenced before `first`, the first of all. Where the
-// nodes do not know it, `first` again.
-fn older_of(seats: &SeatList, a: &Winners, b: &Winners, first: usize) -> usize
-    requires a { AreTaken seats.now a.now }
-    requires b { AreTaken seats.now b.now }
-    requires first { IsTaken seats.now first }
-    ensures had { (Has a.now result ⊎ Has b.now result) ⊎ (result ≡ first) }
-    ensures older { seat_at seats.now result ≡ older_at seats.now a.now b.now first }
-{
-    let Some(entry) = seats.at(first) else {
-        return first;
-    };
-    let x = aged_first(seats, a, entry.1);
-    let y = aged_first(seats, b, entry.1);
-    if is_aged(seats, x, entry.1) && is_aged(seats, y, entry.1) {
-        winner(seats, x, y)
-    } else {
-        first
-    }
-}
-
-// Computes what the node above two others knows.
-fn play(seats: &SeatList, a: &Winners, b: &Winners) -> Winners
-    requires a { AreTaken seats.now a.now }
-    requires b { AreTaken seats.now b.now }
-    ensures had { IsOfBoth a.now b.now result }
-    ensures known { let knows = known_by seats.now in
-        knows result ≡ played (knows a.now) (knows b.now) }
-{
-    let first = winner(seats, a.first, b.first);
-    let older = older_of(seats, a, b, first);
-    Winners { first, older }
-}
-
-// The node at a place: the seats stand below the others, and an empty one knows no candidate.
-fn node(nodes: &[Winners], seats: &SeatList, at: usize) -> Winners
-    requires as_many { length nodes.now ≡ length seats.now }
-    requires in_range { at < 2 * length nodes.now }
-    requires taken { at < length nodes.now → AreTaken seats.now (node nodes.now at) }
-    ensures taken { AreTaken seats.now result }
-    ensures had { (seat : ℕ) → Has result seat → Has (node nodes.now at) seat }
-    ensures known { known_by seats.now result ≡ known_by seats.now (node nodes.now at) }
+// The number that a node has: the seats stand below the others, and have their own.
+fn node(nodes: &[usize], at: usize) -> usize
+    ensures { result ≡ node nodes.now at }
 {
     if at < nodes.len() {
-        return nodes[at];
-    }
-    let nobody = nodes.len();
-    let seat = at - nobody;
-    Winners {
-        first: if seats.is_taken(seat) { seat } else { nobody },
-        older: nobody,
+        nodes[at]
+    } else {
+        at - nodes.len()
     }
 }
 
@@ -154,60 +84,53 @@ fn beside(at: usize) -> usize
     if at % 2 == 0 { at + 1 } else { at - 1 }
 }
 
-// Returns true if a node has these numbers already, and neither is that of the seat.
-fn is_settled(winners: &Winners, found: &Winners, seat: usize) -> bool
-    ensures same { IsTrue result → winners.now ≡ found.now }
-    ensures apart { IsTrue result → Has found.now seat → ⊥ }
-{
-    let is_same = winners.first == found.first && winners.older == found.older;
-    is_same && found.first != seat && found.older != seat
-}
-
-// Recomputes the nodes above a changed seat, up to the first that is settled.
-fn replay(nodes: &mut [Winners], seats: &SeatList, seat: usize)
+// Recomputes the nodes above a changed seat, up to the first that has the number it had, and not that of the seat.
+fn replay(nodes: &mut [usize], seats: &SeatList, seat: usize)
     requires seat { seat < length seats.now }
     requires changed { IsWonUpTo nodes.old seats.now seat (length seats.now + seat) }
     ensures won { IsTournament nodes.new seats.now }
 {
     let mut at = seats.len() + seat;
-    let mut winners = node(nodes, seats, at);
+    let mut first = node(nodes, at);
     while at > 1 {
-        let other = node(nodes, seats, beside(at));
+        let other = node(nodes, beside(at));
         at /= 2;
-        winners = play(seats, &winners, &other);
-        if is_settled(&nodes[at], &winners, seat) {
+        first = winner(seats, first, other);
+        if first != seat && nodes[at] == first {
             return;
         }
-        nodes[at] = winners;
+        nodes[at] = first;
     }
 }
 
 // Recomputes each node, from the last one to the root: so each comes after the two below it.
-fn replay_all(nodes: &mut [Winners], seats: &SeatList)
+fn replay_all(nodes: &mut [usize], seats: &SeatList)
     requires { length nodes.old ≡ length seats.now }
     ensures won { IsTournament nodes.new seats.now }
 {
     let mut at = nodes.len();
     while at > 1 {
         at -= 1;
-        let left = node(nodes, seats, 2 * at);
-        let right = node(nodes, seats, 2 * at + 1);
-        nodes[at] = play(seats, &left, &right);
+        let left = node(nodes, 2 * at);
+        let right = node(nodes, 2 * at + 1);
+        nodes[at] = winner(seats, left, right);
     }
 }
 
-// The seat of the first candidate below a node that was last referenced before a time. It looks below nodes that do not
-// know it.
-fn first_below(nodes: &[Winners], seats: &SeatList, at: usize, time: u64) -> usize
+// The seat of the first candidate below a node that was last referenced before a time; the number of seats where there
+// is none. It looks below nodes whose candidate was not.
+fn first_below(nodes: &[usize], seats: &SeatList, at: usize, time: u64) -> usize
     requires won { IsTournament nodes.now seats.now }
     requires positive { 1 ≤ at }
     requires in_range { at < 2 * length seats.now }
-    ensures taken { IsTaken seats.now result }
     ensures first { IsFirstBelow seats.now at (λ e. e.1 < time) (seat_at seats.now result) }
 {
-    let first = aged_first(seats, &node(nodes, seats, at), time);
+    let first = node(nodes, at);
     if is_aged(seats, first, time) {
         return first;
+    }
+    if at >= nodes.len() {
+        return nodes.len();
     }
     let left = first_below(nodes, seats, 2 * at, time);
     let right = first_below(nodes, seats, 2 * at + 1, time);
@@ -219,12 +142,9 @@ impl Tournament {
     pub fn new(alloc: Global, size: usize) -> Result<Tournament, AllocError>
         ensures { IfOk result (λ t. t ≡ replicate size None) }
     {
-        let nobody = Winners {
-            first: size,
-            older: size,
-        };
-        let nodes = vec![in alloc; nobody; size]?;
+        let mut nodes = vec![in alloc; 0; size]?;
         let seats = SeatList::new(alloc, size)?;
+        replay_all(&mut nodes, &seats);
         Ok(Tournament { nodes, seats })
     }
 
@@ -245,7 +165,7 @@ impl Tournament {
             return None;
         }
         let first = first_below(&self.nodes, &self.seats, 1, time);
-        if first < self.seats.len() {
+        if self.seats.at(first).is_some() {
             Some(first)
         } else {
             None

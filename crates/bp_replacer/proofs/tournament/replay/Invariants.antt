@@ -1,5 +1,5 @@
 use Rattle.std.proofs.Common.{◌≡◌, ℕ, ◌*◌, ◌<◌, ◌≤◌, length}
-use Rattle.bp_replacer.specs.Seats.{known_by, node, Has, AreTaken}
+use Rattle.bp_replacer.specs.Seats.{node}
 use Rattle.bp_replacer.specs.Replay.{IsWonUpTo}
 use Rattle.bp_replacer.proofs.tournament.replay.Given as goal
 
@@ -7,9 +7,7 @@ abbrev pub invariant-loop-at : goal.invariant-loop-at
 invariant-loop-at l = record {
   positive : 1 ≤ l.at;
   in_range : l.at < 2 * length l.seats;
-  taken : AreTaken l.seats l.winners;
-  had : (k : ℕ) → Has l.winners k → Has (node l.nodes l.at) k;
-  known : known_by l.seats l.winners ≡ known_by l.seats (node l.nodes l.at);
+  has : l.first ≡ node l.nodes l.at;
   changed : IsWonUpTo l.nodes l.seats l.seat l.at;
 }
 
