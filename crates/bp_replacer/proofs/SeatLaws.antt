@@ -1,5 +1,5 @@
 -- A tree of winners: what its nodes know is right.
-use Rattle.std.proofs.Common.{◌≡◌, ◌≢◌, ◌⊎◌, ℕ, zero, suc, ◌+◌, ◌*◌, ◌-◌, ◌/◌, ◌<◌, ◌≤◌, nat_lt, true, false, List, length, get_or, set, replicate, Option, Some, None, refl, sym, ap, ◌∙◌, subst, inl, inr, arith}
+use Rattle.std.proofs.Common.{◌≡◌, ◌≢◌, ◌⊎◌, ℕ, zero, suc, ◌+◌, ◌*◌, ◌-◌, ◌/◌, ◌<◌, ◌≤◌, nat_lt, true, false, List, length, get_or, set, Option, Some, None, refl, sym, ap, ◌∙◌, subst, inl, inr, arith}
 use Rattle.std.proofs.lemmas.Bool.{cases_Bool, cases_eq, cases_lt, true≢false, lt-ltb}
 use Rattle.std.proofs.lemmas.Bool.Decides.{nat_tests}
 use Rattle.std.proofs.lemmas.Option.{none-some, same_Some}
@@ -52,7 +52,7 @@ winner_swapped (Some a) (Some b) = elim (cases_Bool (is_before b a)) [
         λ i. (stamp i, last i, page i)
 
 -- the winner leads both
-leads_left : (a b : Option Candidate) → winner (winner a b) a ≡ winner a b
+pub leads_left : (a b : Option Candidate) → winner (winner a b) a ≡ winner a b
 leads_left None None = refl
 leads_left None (Some b) = refl
 leads_left (Some a) None = leads_itself (Some a)
@@ -67,7 +67,7 @@ leads_left (Some a) (Some b) = elim (cases_Bool (is_before b a)) [
       | inl sooner ↦ absurd (true≢false (sym lower ∙ not_both a b sooner))
     ]
 
-leads_right : (a b : Option Candidate) → winner (winner a b) b ≡ winner a b
+pub leads_right : (a b : Option Candidate) → winner (winner a b) b ≡ winner a b
 leads_right None b = leads_itself b
 leads_right (Some a) None = refl
 leads_right (Some a) (Some b) = elim (cases_Bool (is_before b a)) [

@@ -1,16 +1,16 @@
 -- Those who wait to come of age, apart from a tree that lags behind the others.
-use Rattle.std.proofs.Common.{◌≡◌, ◌≢◌, ◌∙◌, ℕ, zero, suc, ◌+◌, ◌<◌, ◌≤◌, nat_lt, if◌then◌else◌, true, false, List, [], ◌∷◌, length, get_or, set, replicate, Contains, Option, Some, None, refl, sym, ap, subst, inl, inr, arith}
+use Rattle.std.proofs.Common.{◌≡◌, ◌≢◌, ◌∙◌, ◌⊎◌, ℕ, zero, suc, ◌+◌, ◌<◌, ◌≤◌, nat_lt, if◌then◌else◌, true, false, List, [], ◌∷◌, length, get_or, set, replicate, Contains, Option, Some, None, refl, sym, ap, subst, inl, inr, arith}
 use Rattle.std.specs.List.Sorted.{IsPermutation}
 use Rattle.std.proofs.lemmas.Bool.{cases_Bool, cases_eq}
 use Rattle.std.proofs.lemmas.Bool.Decides.{nat_tests}
 use Rattle.std.proofs.lemmas.Option.{none-some}
-use Rattle.std.proofs.lemmas.List.{get_or-set_same, get_or-set_other, length-set, length-replicate}
+use Rattle.std.proofs.lemmas.List.{get_or-set_same, get_or-set_other, get_or_past, length-set, length-replicate}
 use Rattle.std.proofs.lemmas.List.Sorted.{Contains-permutation}
 use Rattle.bp_references.specs.Candidates.{Candidate}
 use Rattle.bp_replacer.specs.Seats.{winner, seat_at, IsFirst, IsFirstAt, same_seat, Lags}
-use Rattle.bp_replacer.specs.Young.{since, AreQueued, NoneBelow, AreYoung, Covers, AreCovered, IsLater, IsSettled, stray, astray}
-use Rattle.bp_replacer.proofs.SeatLaws.{leads_later, winner_from_not_before}
-use Rattle.bp_replacer.proofs.LaggingLaws.{alike_seats, itself, settled_lags}
+use Rattle.bp_replacer.specs.Young.{since, AreQueued, NoneBelow, AreYoung, Covers, AreCovered, IsHeld, IsLater, AreAnew, AreKnown, IsSettled, stray, astray}
+use Rattle.bp_replacer.proofs.SeatLaws.{leads_left, leads_right, leads_later, winner_is, winner_from_not_before}
+use Rattle.bp_replacer.proofs.LaggingLaws.{alike_seats, itself, nobody_lags, settled_lags}
 
 -- ---- the queue
 
@@ -79,13 +79,13 @@ count_set time (t ∷ times) (suc k) n lt = (let rest = count_set time times k n
 -- ---- one seat changed
 
 -- every other seat is as it was
-pub covered_after : (known known' : List (Option Candidate)) (times times' : List ℕ) (seats seats' : List (Option Candidate)) (seat : ℕ) → length known' ≡ length seats' → length times' ≡ length seats' → ((k : ℕ) → k ≢ seat → seat_at known' k ≡ seat_at known k) → ((k : ℕ) → k ≢ seat → since times' k ≡ since times k) → ((k : ℕ) → k ≢ seat → seat_at seats' k ≡ seat_at seats k) → ((k : ℕ) → k ≢ seat → Covers (seat_at known k) (since times k) (seat_at seats k)) → Covers (seat_at known' seat) (since times' seat) (seat_at seats' seat) → AreCovered known' times' seats'
-covered_after known known' times times' seats seats' seat len many same_known same_times same_seats others own = record {
+pub covered_after : (known known' : List (Option Candidate)) (times times' : List ℕ) (seats seats' : List (Option Candidate)) (seat hand : ℕ) → length known' ≡ length seats' → length times' ≡ length seats' → ((k : ℕ) → k ≢ seat → seat_at known' k ≡ seat_at known k) → ((k : ℕ) → k ≢ seat → since times' k ≡ since times k) → ((k : ℕ) → k ≢ seat → seat_at seats' k ≡ seat_at seats k) → ((k : ℕ) → k ≢ hand → k ≢ seat → Covers (seat_at known k) (since times k) (seat_at seats k)) → (seat ≢ hand → Covers (seat_at known' seat) (since times' seat) (seat_at seats' seat)) → AreCovered known' times' seats' hand
+covered_after known known' times times' seats seats' seat hand len many same_known same_times same_seats others own = record {
   length_is = len;
   as_many = many;
-  covers = λ k. elim (cases_eq k seat) [
-    | inl same ↦ subst (λ n. Covers (seat_at known' n) (since times' n) (seat_at seats' n)) (sym same) own
-    | inr other ↦ rw (same_known k other, same_times k other, same_seats k other) (others k other)
+  covers = λ k free. elim (cases_eq k seat) [
+    | inl same ↦ subst (λ n. Covers (seat_at known' n) (since times' n) (seat_at seats' n)) (sym same) (own (subst (λ n. n ≢ hand) same free))
+    | inr other ↦ rw (same_known k other, same_times k other, same_seats k other) (others k free other)
   ];
 }
 
@@ -125,10 +125,10 @@ since_past (t ∷ times) (suc k) le = since_past times k (omega arith)
 
 -- ---- who comes first
 
-module _ (known : List (Option Candidate)) (times : List ℕ) (seats : List (Option Candidate)) (c : AreCovered known times seats) (time : ℕ) (none : NoneBelow times time) where
+module _ (known : List (Option Candidate)) (times : List ℕ) (seats : List (Option Candidate)) (hand : ℕ) (c : AreCovered known times seats hand) (time : ℕ) (none : NoneBelow times time) where
   -- whoever stands here, and is old enough, comes after the first that is known
-  known_leads : (first : Option Candidate) → IsFirst known (λ x. x.1 < time) first → (k : ℕ) (y : Candidate) → seat_at seats k ≡ Some y → y.1 < time → winner first (Some y) ≡ first
-  known_leads first f k y here old = elim (c.covers k) [
+  known_leads : (first : Option Candidate) → IsFirst known (λ x. x.1 < time) first → (k : ℕ) (y : Candidate) → k ≢ hand → seat_at seats k ≡ Some y → y.1 < time → winner first (Some y) ≡ first
+  known_leads first f k y free here old = elim (c.covers k free) [
     | inl lags ↦ after (seat_at known k) refl lags
     | inr waits ↦ (let young = waits y here in absurd (omega (arith, old, young.early, none k young.some)))
   ]
@@ -139,88 +139,149 @@ module _ (known : List (Option Candidate)) (times : List ℕ) (seats : List (Opt
           let le = lags.no_earlier y here in
           leads_later first (Some x) (Some y) (f.none_before k x is (omega (arith, le, old))) (winner_from_not_before x y (lags.not_before y here))
 
-  -- the first that is known, where it stands here too
-  pub first_stands : (seat : ℕ) (a b : Option Candidate) → IsFirstAt known (λ x. x.1 < time) seat → a ≡ seat_at known seat → b ≡ seat_at seats seat → same_seat a b ≡ true → IsFirst seats (λ x. x.1 < time) b
-  first_stands seat a b f is_a is_b same =
-      let here : seat_at known seat ≡ seat_at seats seat = sym is_a ∙ alike_seats a b same ∙ is_b in
-      subst (IsFirst seats (λ x. x.1 < time)) (sym is_b) (record {
-        there = λ x is. (let at = f.first.there x (here ∙ is) in (seat, is, at.2));
-        none_before = λ k y stands old. subst (λ w. winner w (Some y) ≡ w) here (known_leads (seat_at known seat) f.first k y stands old);
-      })
+  -- the first of those that are known, if it stands here, and the one in hand
+  with_hand : (first held : Option Candidate) → IsFirst known (λ x. x.1 < time) first → ((x : Candidate) → first ≡ Some x → (k : ℕ) × (seat_at seats k ≡ Some x) × (x.1 < time)) → IsHeld seats hand time held → IsFirst seats (λ x. x.1 < time) (winner first held)
+  with_hand first held f there h = record {
+    there = λ x is. elim (winner_is first held) [
+      | inl which ↦ there x (sym which ∙ is)
+      | inr which ↦ (let at = h.there x (sym which ∙ is) in (hand, at.0, at.1))
+    ];
+    none_before = λ k y here old. elim (cases_eq k hand) [
+      | inl same ↦
+          let is : held ≡ Some y = h.aged y (subst (λ n. seat_at seats n ≡ Some y) same here) old in
+          subst (λ e. winner (winner first held) e ≡ winner first held) is (leads_right first held)
+      | inr free ↦ leads_later (winner first held) first (Some y) (leads_left first held) (known_leads first f k y free here old)
+    ];
+  }
 
-  pub nobody_here : IsFirst known (λ x. x.1 < time) None → IsFirst seats (λ x. x.1 < time) None
-  nobody_here f = record { there = λ x is. absurd (none-some x is); none_before = known_leads None f }
+  -- the first that is known, where it stands here too
+  pub first_stands : (seat : ℕ) (a b held : Option Candidate) → IsFirstAt known (λ x. x.1 < time) seat → a ≡ seat_at known seat → b ≡ seat_at seats seat → same_seat a b ≡ true → IsHeld seats hand time held → IsFirst seats (λ x. x.1 < time) (winner b held)
+  first_stands seat a b held f is_a is_b same h =
+      let is : a ≡ b = alike_seats a b same in
+      let first : IsFirst known (λ x. x.1 < time) b = subst (IsFirst known (λ x. x.1 < time)) (sym is_a ∙ is) f.first in
+      with_hand b held first (λ x stands. (seat, sym is_b ∙ stands, (first.there x stands).2)) h
+
+  pub hand_alone : (held : Option Candidate) → IsFirst known (λ x. x.1 < time) None → IsHeld seats hand time held → IsFirst seats (λ x. x.1 < time) held
+  hand_alone held f h = with_hand None held f (λ x is. absurd (none-some x is)) h
 
 -- ---- one seat is settled, or each
 
-module _ (known : List (Option Candidate)) (times : List ℕ) (seats : List (Option Candidate)) (seat time : ℕ) (known' : List (Option Candidate)) (times' : List ℕ) (len : length known ≡ length seats) (many : length times ≡ length seats) (lt : seat < length seats) (settled : IsSettled known times seats seat time known' times') where
-  within : seat < length known
-  within = omega (arith, len, lt)
+early_late : (time n : ℕ) → time ≤ n → early time n ≡ 0
+early_late time n le = elim (cases_Bool (nat_lt 0 n)) [
+  | inr none ↦ rw none refl
+  | inl some ↦ (let not : nat_lt n time ≡ false = grind (arith, nat_tests) in rw (some, not) refl)
+]
 
+-- all wait anew
+anew_early : (time : ℕ) (times : List ℕ) → ((k : ℕ) → (since times k ≡ 0) ⊎ (time ≤ since times k)) → count_early time times ≡ 0
+anew_early time [] anew = refl
+anew_early time (t ∷ times) anew =
+    let rest = anew_early time times (λ k. anew (suc k)) in
+    let own : early time t ≡ 0 = elim (anew zero) [ inl none ↦ none_early time t none | inr late ↦ early_late time t late ] in
+    omega (arith, rest, own)
+  where
+    none_early : (time n : ℕ) → n ≡ 0 → early time n ≡ 0
+    none_early time n none = rw none refl
+
+late_or_not : (time : ℕ) (times : List ℕ) (seats : List (Option Candidate)) → AreAnew time times seats → (k : ℕ) → (since times k ≡ 0) ⊎ (time ≤ since times k)
+late_or_not time times seats a k = elim (a.anew k) [ inl none ↦ inl none | inr young ↦ inr young.0 ]
+
+anew_covers : (known : List (Option Candidate)) (time : ℕ) (times : List ℕ) (seats : List (Option Candidate)) → AreAnew time times seats → AreKnown known times seats → (k : ℕ) → Covers (seat_at known k) (since times k) (seat_at seats k)
+anew_covers known time times seats a is k = elim (a.anew k) [
+  | inl none ↦ inl (subst (λ e. Lags e (seat_at seats k)) (sym ((is.known_is k).0 none)) (settled_lags (seat_at seats k)))
+  | inr young ↦ inr young.1
+]
+
+at_home : (here : Option Candidate) → stray here here ≡ 0
+at_home None = refl
+at_home (Some x) = rw (itself (Some x)) refl
+
+none_astray : (known seats : List (Option Candidate)) → ((k : ℕ) → (seat_at known k ≡ None) ⊎ (seat_at known k ≡ seat_at seats k)) → astray known seats ≡ 0
+none_astray [] seats home = refl
+none_astray (x ∷ known) [] home = refl
+none_astray (x ∷ known) (s ∷ seats) home =
+    let rest = none_astray known seats (λ k. home (suc k)) in
+    let own : stray x s ≡ 0 = elim (home zero) [ inl none ↦ ap (λ e. stray e s) none | inr same ↦ ap (λ e. stray e s) same ∙ at_home s ] in
+    omega (arith, rest, own)
+
+known_home : (known : List (Option Candidate)) (times : List ℕ) (seats : List (Option Candidate)) → AreKnown known times seats → (k : ℕ) → (seat_at known k ≡ None) ⊎ (seat_at known k ≡ seat_at seats k)
+known_home known times seats is k = elim (cases_eq (since times k) 0) [
+  | inl none ↦ inr ((is.known_is k).0 none)
+  | inr some ↦ inl ((is.known_is k).1 (omega arith))
+]
+
+module _ (known : List (Option Candidate)) (times : List ℕ) (seats : List (Option Candidate)) (seat time : ℕ) (known' : List (Option Candidate)) (times' : List ℕ) (len : length known ≡ length seats) (many : length times ≡ length seats) (settled : IsSettled known times seats seat time known' times') where
   -- every other one is covered
-  pub settled_covered : ((k : ℕ) → k ≢ seat → Covers (seat_at known k) (since times k) (seat_at seats k)) → AreCovered known' times' seats
-  settled_covered others = elim settled [
-    | inr apart ↦ covered_after known known' times times' seats seats seat
-        (ap length apart.known_is ∙ length-set known seat None ∙ len) (later_length time seat times times' apart.later ∙ many)
-        (λ k other. ap (λ ss. seat_at ss k) apart.known_is ∙ get_or-set_other known seat k None None other)
-        (later_others time seat times times' apart.later) (λ k other. refl) others (inr apart.young)
-    | inl tree ↦ elim tree.1 [
-      | inl one ↦ covered_after known known' times times' seats seats seat
-          (ap length one ∙ length-set known seat (seat_at seats seat) ∙ len) (ap length tree.0 ∙ many)
-          (λ k other. ap (λ ss. seat_at ss k) one ∙ get_or-set_other known seat k (seat_at seats seat) None other)
-          (λ k other. ap (λ ts. since ts k) tree.0) (λ k other. refl) others
-          (inl (rw (one, get_or-set_same known seat (seat_at seats seat) None within) (settled_lags (seat_at seats seat))))
-      | inr all ↦ record {
-        length_is = ap length all;
-        as_many = ap length tree.0 ∙ many;
-        covers = λ k. inl (rw all (settled_lags (seat_at seats k)));
+  pub settled_covered : (hand : ℕ) → ((k : ℕ) → k ≢ hand → k ≢ seat → Covers (seat_at known k) (since times k) (seat_at seats k)) → AreCovered known' times' seats hand
+  settled_covered hand others = elim settled [
+    | inl at ↦ elim at.1 [
+      | inr apart ↦ covered_after known known' times times' seats seats seat hand
+          (ap length apart.known_is ∙ length-set known seat None ∙ len) (later_length time seat times times' apart.later ∙ many)
+          (λ k other. ap (λ ss. seat_at ss k) apart.known_is ∙ get_or-set_other known seat k None None other)
+          (later_others time seat times times' apart.later) (λ k other. refl) others (λ free. inr apart.young)
+      | inl one ↦ covered_after known known' times times' seats seats seat hand
+          (ap length one.1 ∙ length-set known seat (seat_at seats seat) ∙ len) (ap length one.0 ∙ many)
+          (λ k other. ap (λ ss. seat_at ss k) one.1 ∙ get_or-set_other known seat k (seat_at seats seat) None other)
+          (λ k other. ap (λ ts. since ts k) one.0) (λ k other. refl) others
+          (λ free. inl (subst (λ e. Lags e (seat_at seats seat)) (sym (ap (λ ss. seat_at ss seat) one.1 ∙ get_or-set_same known seat (seat_at seats seat) None (omega (arith, len, at.0)))) (settled_lags (seat_at seats seat))))
+    ]
+    | inr rest ↦ elim rest [
+      | inl all ↦ record {
+        length_is = all.1.length_is;
+        as_many = all.0.as_many;
+        covers = λ k free. anew_covers known' time times' seats all.0 all.1 k;
       }
+      | inr past ↦ covered_after known known' times times' seats seats seat hand
+          (ap length past.2 ∙ len) (ap length past.1 ∙ many)
+          (λ k other. ap (λ ss. seat_at ss k) past.2) (λ k other. ap (λ ts. since ts k) past.1) (λ k other. refl) others
+          (λ free. inl (subst (λ e. Lags (seat_at known' seat) e) (sym (get_or_past seats seat None past.0)) (nobody_lags (seat_at known' seat))))
     ]
   ]
 
   pub settled_none_below : NoneBelow times time → NoneBelow times' time
   settled_none_below none = elim settled [
-    | inr apart ↦ later_none_below time seat times times' apart.later none (omega (arith, many, lt))
-    | inl tree ↦ subst (λ ts. NoneBelow ts time) (sym tree.0) none
+    | inl at ↦ elim at.1 [
+      | inr apart ↦ later_none_below time seat times times' apart.later none (omega (arith, many, at.0))
+      | inl one ↦ subst (λ ts. NoneBelow ts time) (sym one.0) none
+    ]
+    | inr rest ↦ elim rest [
+      | inl all ↦ λ k waits. elim (late_or_not time times' seats all.0 k) [ inl not ↦ absurd (omega (arith, waits, not)) | inr late ↦ late ]
+      | inr past ↦ subst (λ ts. NoneBelow ts time) (sym past.1) none
+    ]
   ]
 
   -- no more wait since before the time
   pub settled_early : count_early time times' ≤ count_early time times
   settled_early = elim settled [
-    | inl tree ↦ omega (arith, ap (count_early time) tree.0)
-    | inr apart ↦ elim apart.later.times_are [
-      | inl same ↦ omega (arith, ap (count_early time) same)
-      | inr one ↦ (let counted = count_set time times seat apart.later.from (omega (arith, many, lt)) in let late = early_late time apart.later.from apart.later.late in omega (arith, ap (count_early time) one, counted, late))
+    | inl at ↦ elim at.1 [
+      | inl one ↦ omega (arith, ap (count_early time) one.0)
+      | inr apart ↦ elim apart.later.times_are [
+        | inl same ↦ omega (arith, ap (count_early time) same)
+        | inr one ↦ (let counted = count_set time times seat apart.later.from (omega (arith, many, at.0)) in let late = early_late time apart.later.from apart.later.late in omega (arith, ap (count_early time) one, counted, late))
+      ]
+    ]
+    | inr rest ↦ elim rest [
+      | inl all ↦ omega (arith, anew_early time times' (late_or_not time times' seats all.0))
+      | inr past ↦ omega (arith, ap (count_early time) past.1)
     ]
   ]
-    where
-      early_late : (time n : ℕ) → time ≤ n → early time n ≡ 0
-      early_late time n le = elim (cases_Bool (nat_lt 0 n)) [
-        | inr none ↦ rw none refl
-        | inl some ↦ (let not : nat_lt n time ≡ false = grind (arith, nat_tests) in rw (some, not) refl)
-      ]
 
   -- fewer are known who do not stand there
-  pub settled_less : (a b : Option Candidate) → a ≡ seat_at known seat → b ≡ seat_at seats seat → seat_at known seat ≢ None → same_seat a b ≡ false → astray known' seats < astray known seats
-  settled_less a b is_a is_b stands differ =
+  pub settled_less : (a b : Option Candidate) → seat < length seats → a ≡ seat_at known seat → b ≡ seat_at seats seat → seat_at known seat ≢ None → same_seat a b ≡ false → astray known' seats < astray known seats
+  settled_less a b lt is_a is_b stands differ =
       let other : same_seat (seat_at known seat) (seat_at seats seat) ≡ false = (λ i. same_seat (sym is_a i) (sym is_b i)) ∙ differ in
       let less : (e : Option Candidate) → stray e (seat_at seats seat) ≡ 0 → astray (set known seat e) seats < astray known seats = λ e none. settling known seats seat e len lt stands other none in
       elim settled [
-        | inr apart ↦ subst (λ ss. astray ss seats < astray known seats) (sym apart.known_is) (less None refl)
-        | inl tree ↦ elim tree.1 [
-          | inl one ↦ subst (λ ss. astray ss seats < astray known seats) (sym one) (less (seat_at seats seat) (at_home (seat_at seats seat)))
-          | inr all ↦ subst (λ ss. astray ss seats < astray known seats) (sym all) (omega (arith, less None refl, all_home seats))
+        | inl at ↦ elim at.1 [
+          | inr apart ↦ subst (λ ss. astray ss seats < astray known seats) (sym apart.known_is) (less None refl)
+          | inl one ↦ subst (λ ss. astray ss seats < astray known seats) (sym one.1) (less (seat_at seats seat) (at_home (seat_at seats seat)))
+        ]
+        | inr rest ↦ elim rest [
+          | inl all ↦ omega (arith, less None refl, none_astray known' seats (known_home known' times' seats all.1))
+          | inr past ↦ absurd (omega (arith, lt, past.0))
         ]
       ]
     where
-      at_home : (here : Option Candidate) → stray here here ≡ 0
-      at_home None = refl
-      at_home (Some x) = rw (itself (Some x)) refl
-
-      all_home : (seats : List (Option Candidate)) → astray seats seats ≡ 0
-      all_home [] = refl
-      all_home (s ∷ seats) = rw (at_home s) (omega (arith, all_home seats))
-
       one_astray : (known here : Option Candidate) → known ≢ None → same_seat known here ≡ false → stray known here ≡ 1
       one_astray None here stands differ = absurd (stands refl)
       one_astray (Some x) here stands differ = rw differ refl
@@ -232,9 +293,15 @@ module _ (known : List (Option Candidate)) (times : List ℕ) (seats : List (Opt
       settling (x ∷ known) (s ∷ seats) zero e len lt stands differ none = omega (arith, none, one_astray x s stands differ)
       settling (x ∷ known) (s ∷ seats) (suc k) e len lt stands differ none = (let less = settling known seats k e (omega arith) (omega arith) stands differ none in omega (arith, less))
 
--- one that waited is taken out: every other one is covered
-pub taken_others : (known : List (Option Candidate)) (times times' : List ℕ) (seats : List (Option Candidate)) (seat : ℕ) → times' ≡ set times seat 0 → AreCovered known times seats → (k : ℕ) → k ≢ seat → Covers (seat_at known k) (since times' k) (seat_at seats k)
-taken_others known times times' seats seat is c k other = rw (is, get_or-set_other times seat k 0 0 other) (c.covers k)
+-- one that waited is taken out, and sorted with the one in hand: every other one is covered
+pub taken_others : (known : List (Option Candidate)) (times times' : List ℕ) (seats : List (Option Candidate)) (seat hand : ℕ) (pair : ℕ × ℕ) → times' ≡ set times seat 0 → AreCovered known times seats hand → (pair ≡ (hand, seat)) ⊎ (pair ≡ (seat, hand)) → (k : ℕ) → k ≢ pair.0 → k ≢ pair.1 → Covers (seat_at known k) (since times' k) (seat_at seats k)
+taken_others known times times' seats seat hand pair is c which k free apart = elim which [
+  | inl same ↦ neither (λ e. free (e ∙ sym (ap (λ (p : ℕ × ℕ). p.0) same))) (λ e. apart (e ∙ sym (ap (λ (p : ℕ × ℕ). p.1) same)))
+  | inr swapped ↦ neither (λ e. apart (e ∙ sym (ap (λ (p : ℕ × ℕ). p.1) swapped))) (λ e. free (e ∙ sym (ap (λ (p : ℕ × ℕ). p.0) swapped)))
+]
+  where
+    neither : k ≢ hand → k ≢ seat → Covers (seat_at known k) (since times' k) (seat_at seats k)
+    neither not_hand not_seat = rw (is, get_or-set_other times seat k 0 0 not_seat) (c.covers k not_hand)
 
 pub taken_less : (times times' : List ℕ) (seat time : ℕ) → seat < length times → 0 < since times seat → since times seat < time → times' ≡ set times seat 0 → count_early time times' < count_early time times
 taken_less times times' seat time lt some below is =
@@ -246,22 +313,32 @@ taken_less times times' seat time lt some below is =
 
 -- ---- one enters, or leaves
 
-module _ (known : List (Option Candidate)) (times : List ℕ) (seats : List (Option Candidate)) (seat : ℕ) (e : Option Candidate) (lt : seat < length seats) (c : AreCovered known times seats) where
-  in_tree : seat < length known
-  in_tree = omega (arith, c.length_is, lt)
+module _ (known : List (Option Candidate)) (times : List ℕ) (seats : List (Option Candidate)) (hand seat : ℕ) (e : Option Candidate) (lt : seat < length seats) (c : AreCovered known times seats hand) where
+  same_length : length seats ≡ length (set seats seat e)
+  same_length = sym (length-set seats seat e)
 
-  pub put_lags : Lags (seat_at known seat) e → AreCovered known times (set seats seat e)
-  put_lags may = covered_after known known times times seats (set seats seat e) seat (c.length_is ∙ sym (length-set seats seat e)) (c.as_many ∙ sym (length-set seats seat e)) (λ k other. refl) (λ k other. refl) (λ k other. get_or-set_other seats seat k e None other) (λ k other. c.covers k) (inl (rw (get_or-set_same seats seat e None lt) may))
+  here : seat_at (set seats seat e) seat ≡ e
+  here = get_or-set_same seats seat e None lt
 
-  pub put_both : AreCovered (set known seat e) times (set seats seat e)
-  put_both = covered_after known (set known seat e) times times seats (set seats seat e) seat (length-set known seat e ∙ c.length_is ∙ sym (length-set seats seat e)) (c.as_many ∙ sym (length-set seats seat e)) (λ k other. get_or-set_other known seat k e None other) (λ k other. refl) (λ k other. get_or-set_other seats seat k e None other) (λ k other. c.covers k) (inl (rw (get_or-set_same known seat e None in_tree, get_or-set_same seats seat e None lt) (settled_lags e)))
+  -- the seat alone
+  put_alone : (seat ≢ hand → Covers (seat_at known seat) (since times seat) e) → AreCovered known times (set seats seat e) hand
+  put_alone own = covered_after known known times times seats (set seats seat e) seat hand (c.length_is ∙ same_length) (c.as_many ∙ same_length) (λ k other. refl) (λ k other. refl) (λ k other. get_or-set_other seats seat k e None other) (λ k free other. c.covers k free) (λ free. subst (Covers (seat_at known seat) (since times seat)) (sym here) (own free))
 
-  pub put_apart : (times' : List ℕ) (time : ℕ) → IsLater time seat times times' → AreYoung (since times' seat) e → AreCovered (set known seat None) times' (set seats seat e)
-  put_apart times' time later young = covered_after known (set known seat None) times times' seats (set seats seat e) seat (length-set known seat None ∙ c.length_is ∙ sym (length-set seats seat e)) (later_length time seat times times' later ∙ c.as_many ∙ sym (length-set seats seat e)) (λ k other. get_or-set_other known seat k None None other) (later_others time seat times times' later) (λ k other. get_or-set_other seats seat k e None other) (λ k other. c.covers k) (inr (subst (AreYoung (since times' seat)) (sym (get_or-set_same seats seat e None lt)) young))
+  pub put_held : seat ≡ hand → AreCovered known times (set seats seat e) hand
+  put_held is = put_alone (λ free. absurd (free is))
 
-pub none_covered : (n : ℕ) → AreCovered (replicate n None) (replicate n 0) (replicate n None)
+  pub put_lags : Lags (seat_at known seat) e → AreCovered known times (set seats seat e) hand
+  put_lags may = put_alone (λ free. inl may)
+
+  pub put_both : AreCovered (set known seat e) times (set seats seat e) hand
+  put_both = covered_after known (set known seat e) times times seats (set seats seat e) seat hand (length-set known seat e ∙ c.length_is ∙ same_length) (c.as_many ∙ same_length) (λ k other. get_or-set_other known seat k e None other) (λ k other. refl) (λ k other. get_or-set_other seats seat k e None other) (λ k free other. c.covers k free) (λ free. inl (rw (get_or-set_same known seat e None (omega (arith, c.length_is, lt)), here) (settled_lags e)))
+
+  pub put_waits : (times' : List ℕ) (time : ℕ) → IsLater time seat times times' → AreYoung (since times' seat) e → AreCovered known times' (set seats seat e) hand
+  put_waits times' time later young = covered_after known known times times' seats (set seats seat e) seat hand (c.length_is ∙ same_length) (later_length time seat times times' later ∙ c.as_many ∙ same_length) (λ k other. refl) (later_others time seat times times' later) (λ k other. get_or-set_other seats seat k e None other) (λ k free other. c.covers k free) (λ free. inr (subst (AreYoung (since times' seat)) (sym here) young))
+
+pub none_covered : (n : ℕ) → AreCovered (replicate n None) (replicate n 0) (replicate n None) n
 none_covered n = record {
   length_is = refl;
   as_many = length-replicate n 0 ∙ sym (length-replicate n None);
-  covers = λ k. inl (settled_lags (seat_at (replicate n None) k));
+  covers = λ k free. inl (settled_lags (seat_at (replicate n None) k));
 }

@@ -70,17 +70,6 @@ abbrev pub Lags : Option Candidate → Option Candidate → Type 0
 Lags None here = here ≡ None
 Lags (Some known) here = FollowsOn known here
 
-pub record LagsBehind (known seats : List (Option Candidate)) : Type 0 where
-  pub length_is : length known ≡ length seats
-  pub lags : (k : ℕ) → Lags (seat_at known k) (seat_at seats k)
-
--- at how many seats another stands than is known
-abbrev pub unsettled : List (Option Candidate) → List (Option Candidate) → ℕ
-unsettled [] seats = 0
-unsettled (known ∷ others) [] = 0
-unsettled (known ∷ others) (here ∷ seats) =
-    (if same_seat known here then 0 else 1) + unsettled others seats
-
 -- ---- a tree of winners: below the node i stand the nodes 2 i and 2 i + 1
 
 -- nobody stands there, or one who was last referenced before a time

@@ -1,5 +1,5 @@
 -- The seats whose candidates wait to come of age.
-use Rattle.std.specs.Prelude.{◌≡◌, ◌⊎◌, ℕ, ◌+◌, ◌<◌, ◌≤◌, List, [], ◌∷◌, Contains, length, slice_index_or, set, Option, Some, None, if◌then◌else◌}
+use Rattle.std.specs.Prelude.{◌≡◌, ◌≢◌, ◌⊎◌, ℕ, ◌+◌, ◌<◌, ◌≤◌, List, [], ◌∷◌, Contains, length, slice_index_or, set, Option, Some, None, if◌then◌else◌}
 use Rattle.bp_references.specs.Candidates.{Candidate}
 use Rattle.bp_replacer.specs.Seats.{seat_at, same_seat, Lags}
 
@@ -30,11 +30,18 @@ AreYoung waits here = (x : Candidate) → here ≡ Some x → IsYoung waits x.1
 abbrev pub Covers : Option Candidate → ℕ → Option Candidate → Type 0
 Covers known waits here = Lags known here ⊎ AreYoung waits here
 
+-- at each seat but the one in hand
 pub record AreCovered (known : List (Option Candidate)) (times : List ℕ)
-    (seats : List (Option Candidate)) : Type 0 where
+    (seats : List (Option Candidate)) (hand : ℕ) : Type 0 where
   pub length_is : length known ≡ length seats
   pub as_many : length times ≡ length seats
-  pub covers : (k : ℕ) → Covers (seat_at known k) (since times k) (seat_at seats k)
+  pub covers : (k : ℕ) → k ≢ hand → Covers (seat_at known k) (since times k) (seat_at seats k)
+
+-- of the candidate at a seat: it is this one, if it was last referenced before a time
+pub record IsHeld (seats : List (Option Candidate)) (seat time : ℕ)
+    (held : Option Candidate) : Type 0 where
+  pub there : (x : Candidate) → held ≡ Some x → (seat_at seats seat ≡ Some x) × (x.1 < time)
+  pub aged : (x : Candidate) → seat_at seats seat ≡ Some x → x.1 < time → held ≡ Some x
 
 -- a seat waits since this time or a later one, if that is changed
 pub record IsLater (time seat : ℕ) (times times' : List ℕ) : Type 0 where
@@ -50,12 +57,38 @@ pub record IsApart (known : List (Option Candidate)) (times : List ℕ)
   pub young : AreYoung (since times' seat) (seat_at seats seat)
   pub later : IsLater time seat times times'
 
--- the tree is brought up to date at one seat, or at all, or lets that seat wait
+-- a seat waits anew: not, or since no earlier than this time
+abbrev pub WaitsAnew : ℕ → ℕ → Option Candidate → Type 0
+WaitsAnew time waits here = (waits ≡ 0) ⊎ ((time ≤ waits) × AreYoung waits here)
+
+-- where a seat waits, the tree knows nobody, and else who stands there
+abbrev pub IsKnown : Option Candidate → ℕ → Option Candidate → Type 0
+IsKnown known waits here = (waits ≡ 0 → known ≡ here) × (0 < waits → known ≡ None)
+
+pub record AreKnown (known : List (Option Candidate)) (times : List ℕ)
+    (seats : List (Option Candidate)) : Type 0 where
+  pub length_is : length known ≡ length seats
+  pub known_is : (k : ℕ) → IsKnown (seat_at known k) (since times k) (seat_at seats k)
+
+-- all seats wait anew
+pub record AreAnew (time : ℕ) (times : List ℕ) (seats : List (Option Candidate)) : Type 0 where
+  pub as_many : length times ≡ length seats
+  pub anew : (k : ℕ) → WaitsAnew time (since times k) (seat_at seats k)
+
+-- the tree is brought up to date at one seat, or lets it wait
+abbrev pub IsSettledAt : List (Option Candidate) → List ℕ → List (Option Candidate) → ℕ → ℕ
+    → List (Option Candidate) → List ℕ → Type 0
+IsSettledAt known times seats seat time known' times' =
+    ((times' ≡ times) × (known' ≡ set known seat (seat_at seats seat)))
+    ⊎ IsApart known times seats seat time known' times'
+
+-- or it is so at all seats; at a number past the seats nothing changes
 abbrev pub IsSettled : List (Option Candidate) → List ℕ → List (Option Candidate) → ℕ → ℕ
     → List (Option Candidate) → List ℕ → Type 0
 IsSettled known times seats seat time known' times' =
-    ((times' ≡ times) × ((known' ≡ set known seat (seat_at seats seat)) ⊎ (known' ≡ seats)))
-    ⊎ IsApart known times seats seat time known' times'
+    ((seat < length seats) × IsSettledAt known times seats seat time known' times')
+    ⊎ ((AreAnew time times' seats × AreKnown known' times' seats)
+    ⊎ ((length seats ≤ seat) × (times' ≡ times) × (known' ≡ known)))
 
 -- somebody is known who does not stand there
 abbrev pub stray : Option Candidate → Option Candidate → ℕ

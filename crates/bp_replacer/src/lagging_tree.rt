@@ -1,8 +1,8 @@
 //! `LaggingTree`: the candidate at each seat, and the first of them in the order of replacement, by a tree of winners
 //! that is brought up to date only where a look needs it.
-ghost use Rattle.std.specs.Prelude.{◌≡◌, ◌<◌, IsTrue, IsFalse, Some, None, IfOk, length, replicate, set};
-ghost use Rattle.bp_replacer.specs.Seats.{seat_at, same_seat, Lags, IsFirst};
-ghost use Rattle.bp_replacer.specs.Young.{since, AreYoung, IsLater, IsSettled};
+ghost use Rattle.std.specs.Prelude.{◌≡◌, ◌⊎◌, ◌<◌, IsTrue, IsFalse, Some, None, IfOk, length, replicate, set};
+ghost use Rattle.bp_replacer.specs.Seats.{winner, seat_at, same_seat, Lags, IsFirst};
+ghost use Rattle.bp_replacer.specs.Young.{since, AreYoung, AreAnew, IsHeld, IsLater, IsSettled};
 
 use crate::marks::Marks;
 use crate::seat_list::SeatList;
@@ -12,10 +12,16 @@ use std::alloc::{AllocError, Global};
 use std::marker::Model;
 
 /// The most walks of one look before a pass may take their place.
-const FEW_WALKS: usize = 8;
+const FEW_WALKS: usize = 16;
 
 /// A pass may take the place of walks where the tree lags behind at least one seat in so many.
 const SEATS_A_WALK: usize = 16;
+
+/// The fewest seats that one look takes out of the queue before a pass takes the place of the others.
+const FEW_TAKEN: usize = 64;
+
+/// A look takes one more seat out of the queue for so many seats before a pass takes the place of the others.
+const SEATS_A_TAKE: usize = 128;
 
 /// The candidate at each seat, and a tree of winners over them.
 ///
@@ -24,17 +30,25 @@ const SEATS_A_WALK: usize = 16;
 /// lags behind its seat. A page that is referenced again only falls in the order: it stays where it was in the tree
 /// until it would come first there, and is put in its place then, by a walk up the tree from its seat.
 ///
-/// Where one look took 8 walks already, and the tree may lag behind one in 16 of the seats, a pass takes the place of
-/// the next walk: the tree copies all seats, and each node is computed once from scratch. So a pass comes to less than
-/// 32 nodes for each seat that was changed since the pass before.
+/// Whoever enters at a seat that the tree may not lag behind waits apart, in a queue by last time, so that no one who
+/// is too young hides the others in the tree. A look first takes out of the queue who came of age. One of them is kept
+/// in hand, out of the tree too: whoever comes first. So one that is replaced as soon as it is old enough takes no walk;
+/// each of the others takes one.
+///
+/// Where one look took 16 walks already, and the tree may lag behind one in 16 of the seats, a pass takes the place of
+/// the next walk: the tree copies all seats of those old enough, each node is computed once from scratch, and the others
+/// wait anew. So it does where more than 64 and one in 128 of the seats came out of the queue in one look. So a pass
+/// comes to less than 32 nodes for each seat that was changed since the pass before, or 128 for each that came of age.
 #[derive(Drop)]
 pub struct LaggingTree {
     seats: SeatList,
     tree: Tournament,
-    /// The seats that the tree may lag behind: it lags behind no other.
+    /// The seats that the tree may lag behind: but for those that wait and the one in hand, it lags behind no other.
     behind: Marks,
-    /// The seats whose candidates wait to come of age, out of the tree.
+    /// The seats whose candidates wait to come of age.
     young: Young,
+    /// The seat that is in hand, or the number of seats.
+    hand: usize,
 }
 
 impl Model for LaggingTree {
@@ -46,7 +60,7 @@ impl Model for LaggingTree {
 
     ghost view = { λ s. s.seats };
 
-    ghost invariant = { λ s. AreCovered s.tree s.young s.seats };
+    ghost invariant = { λ s. AreCovered s.tree s.young s.seats s.hand };
 }
 
 // Returns true if a tree that has the first at a seat may lag behind the second there.
@@ -85,8 +99,22 @@ fn wait_from(young: &mut Young, seat: usize, entry: &Seat, time: u64) -> bool
     }
 }
 
-// Brings the tree up to date at one seat, by a walk, or at all seats, by a pass. Who stands at the seat, and was not last
-// referenced before the time, waits apart instead.
+// Lets each seat wait whose candidate was not last referenced before a time, and no other.
+fn renew(young: &mut Young, seats: &SeatList, time: u64)
+    requires { length young.old ≡ length seats.now }
+    ensures { AreAnew time young.new seats.now }
+{
+    young.clear();
+    let mut seat = 0usize;
+    while seat < seats.len() {
+        let entry = seats.find(seat);
+        wait_from(young, seat, &entry, time);
+        seat += 1;
+    }
+}
+
+// Brings the tree up to date at one seat, by a walk, or at all seats, by a pass. Who was not last referenced before the
+// time waits apart instead. A number past the seats stands for none.
 fn settle(
     tree: &mut Tournament,
     seats: &SeatList,
@@ -98,20 +126,57 @@ fn settle(
 )
     requires as_many { length tree.old ≡ length seats.now }
     requires waiting { length young.old ≡ length seats.now }
-    requires seat { seat < length seats.now }
     ensures { IsSettled tree.old young.old seats.now seat time tree.new young.new }
 {
     if all {
-        tree.put_all(seats);
+        renew(young, seats, time);
+        tree.put_all(seats, young);
         behind.unset_all();
+        return;
+    }
+    if seat >= seats.len() {
         return;
     }
     behind.unset(seat);
     let entry = seats.find(seat);
-    if wait_from(young, seat, &entry, time) {
-        tree.put(seat, None);
-    } else {
+    if !wait_from(young, seat, &entry, time) {
         tree.put(seat, entry);
+    } else if tree.find(seat).is_some() {
+        tree.put(seat, None);
+    }
+}
+
+// The candidate at a seat, if it was last referenced before a time.
+fn aged_at(seats: &SeatList, seat: usize, time: u64) -> Seat
+    ensures { IsHeld seats.now seat time result }
+{
+    let entry = seats.at(seat)?;
+    if entry.1 < time { Some(entry) } else { None }
+}
+
+// Of two candidates, the one that comes first.
+fn earlier(a: Seat, b: Seat) -> Seat
+    ensures { result ≡ winner a b }
+{
+    match (a, b) {
+        (None, _) => b,
+        (Some(_), None) => a,
+        (Some(x), Some(y)) => if precedes(&y, &x) { b } else { a },
+    }
+}
+
+// The seat that stays in hand, and the other: of those old enough, the first stays.
+fn sorted(seats: &SeatList, hand: usize, seat: usize, time: u64) -> (usize, usize)
+    ensures { (result ≡ (hand, seat)) ⊎ (result ≡ (seat, hand)) }
+{
+    match (aged_at(seats, hand, time), aged_at(seats, seat, time)) {
+        (None, _) => (seat, hand),
+        (Some(_), None) => (hand, seat),
+        (Some(x), Some(y)) => if precedes(&y, &x) {
+            (seat, hand)
+        } else {
+            (hand, seat)
+        },
     }
 }
 
@@ -129,54 +194,62 @@ impl LaggingTree {
             tree,
             behind,
             young,
+            hand: size,
         })
     }
 
     /// Puts a candidate on a seat, or empties it. The tree is left to lag behind the seat where it may. Else the
-    /// candidate waits `apart`, if that is asked for, and is put in its place in the tree otherwise.
-    pub fn put(&mut self, seat: usize, entry: Seat, apart: bool)
+    /// candidate waits apart; one whose last time is 0 is put in its place in the tree.
+    pub fn put(&mut self, seat: usize, entry: Seat)
         requires { seat < length self.old }
         ensures { self.new ≡ set self.old seat entry }
     {
         self.seats.put(seat, entry);
+        if seat == self.hand {
+            return;
+        }
         if may_lag(&self.tree.find(seat), &entry) {
             self.behind.set(seat);
             return;
         }
         self.behind.unset(seat);
-        if apart && wait_from(&mut self.young, seat, &entry, 0) {
-            self.tree.put(seat, None);
-        } else {
+        if !wait_from(&mut self.young, seat, &entry, 0) {
             self.tree.put(seat, entry);
         }
     }
 
     /// Returns the first candidate of those last referenced before a time, or `None` where there is none. Whoever
-    /// waited apart and was last referenced before the time comes into the tree. The tree catches up with each seat
-    /// that comes first in it wrongly, until one comes first rightly. After a pass the next look finds it.
+    /// waited apart and was last referenced before the time comes into hand, or into the tree. The tree catches up with
+    /// each seat that comes first in it wrongly, until one comes first rightly. After a pass the next look finds it.
     pub fn first_before(&mut self, time: u64) -> Seat
         ensures same { self.new ≡ self.old }
         ensures first { IsFirst self.new (λ e. e.1 < time) result }
     {
+        let many = self.seats.len() / SEATS_A_TAKE + FEW_TAKEN;
+        let mut taken = 0usize;
         while let Some(seat) = self.young.take_below(time) {
+            let (kept, other) = sorted(&self.seats, self.hand, seat, time);
+            self.hand = kept;
+            let all = taken >= many;
             settle(
                 &mut self.tree,
                 &self.seats,
                 &mut self.behind,
                 &mut self.young,
-                seat,
+                other,
                 time,
-                false,
+                all,
             );
+            taken = taken.saturating_add(1);
         }
         let mut walks = 0usize;
         loop {
             let Some(seat) = self.tree.first_before(time) else {
-                return None;
+                return aged_at(&self.seats, self.hand, time);
             };
             let entry = self.seats.find(seat);
             if same_seat(&self.tree.find(seat), &entry) {
-                return entry;
+                return earlier(entry, aged_at(&self.seats, self.hand, time));
             }
             let many = self.seats.len() / SEATS_A_WALK;
             let all = walks >= FEW_WALKS && self.behind.count() >= many;

@@ -57,6 +57,14 @@ impl Queue {
         self.pages.len() < self.pages.capacity()
     }
 
+    /// Takes all pages out.
+    pub(crate) fn clear(&mut self)
+        ensures pages { self.new.pages ≡ [] }
+        ensures room { self.new.room ≡ self.old.room }
+    {
+        self.pages.clear();
+    }
+
     /// Adds a page; a page that waits already is added again. It takes no memory.
     pub(crate) fn push(&mut self, time: u64, page: u64)
         requires { length self.old.pages < self.old.room }

@@ -59,8 +59,7 @@ impl Candidates {
         requires empty { seat_of self.old seat ≡ None }
         ensures { self.new ≡ with_seat self.old seat (Some (hist_k, last, page)) }
     {
-        self.tree
-            .put(seat, Some((hist_k, last, page)), self.correlated > 0);
+        self.tree.put(seat, Some((hist_k, last, page)));
     }
 
     /// Empties a seat, which may be empty already.
@@ -68,7 +67,7 @@ impl Candidates {
         requires { seat < length self.old.seats }
         ensures { self.new ≡ with_seat self.old seat None }
     {
-        self.tree.put(seat, None, false);
+        self.tree.put(seat, None);
     }
 
     /// Returns the victim at the time `t`: of the pages last referenced more than the correlated period before, the

@@ -3,8 +3,10 @@ ghost use Rattle.std.specs.Prelude.{◌≡◌, ◌⊎◌, ◌*◌, ◌+◌, ◌/
 ghost use Rattle.bp_references.specs.Candidates.{Candidate, is_before};
 ghost use Rattle.bp_replacer.specs.Seats.{winner, seat_at, is_aged, node, IsFirst, IsFirstAt, IsFirstBelow, IsTournament};
 ghost use Rattle.bp_replacer.specs.Replay.{IsWonUpTo};
+ghost use Rattle.bp_replacer.specs.Young.{AreKnown};
 
 use crate::seat_list::SeatList;
+use crate::young::Young;
 use bp_page::PageNo;
 use std::alloc::{AllocError, Global};
 use std::marker::Model;
@@ -137,6 +139,21 @@ fn first_below(nodes: &[usize], seats: &SeatList, at: usize, time: u64) -> usize
     winner(seats, left, right)
 }
 
+// Empties the seats that wait.
+fn empty_waiting(seats: &mut SeatList, young: &Young)
+    requires { length young.now ≡ length seats.old }
+    ensures { AreKnown seats.new young.now seats.old }
+{
+    let mut next = 0usize;
+    while next < seats.len() {
+        let seat = next;
+        next += 1;
+        if young.waits(seat) {
+            seats.put(seat, None);
+        }
+    }
+}
+
 impl Tournament {
     /// Makes `size` empty seats. It fails by want of memory alone; no other call takes any.
     pub fn new(alloc: Global, size: usize) -> Result<Tournament, AllocError>
@@ -181,12 +198,14 @@ impl Tournament {
         replay(&mut self.nodes, &self.seats, seat);
     }
 
-    /// Copies all seats of a list of as many.
-    pub fn put_all(&mut self, seats: &SeatList)
-        requires { length seats.now ≡ length self.old }
-        ensures { self.new ≡ seats.now }
+    /// Copies all seats of a list of as many, but for those that wait: these are emptied.
+    pub fn put_all(&mut self, seats: &SeatList, young: &Young)
+        requires as_many { length seats.now ≡ length self.old }
+        requires waiting { length young.now ≡ length self.old }
+        ensures { AreKnown self.new young.now seats.now }
     {
         self.seats.copy_from(seats);
+        empty_waiting(&mut self.seats, young);
         replay_all(&mut self.nodes, &self.seats);
     }
 }

@@ -1,5 +1,5 @@
 //! `Young`: the seats whose candidates wait to come of age.
-ghost use Rattle.std.specs.Prelude.{◌≡◌, ◌⊎◌, ℕ, ◌<◌, ◌≤◌, IsTrue, IsFalse, IfOk, IfSome, IfNone, length, replicate, set};
+ghost use Rattle.std.specs.Prelude.{◌≡◌, ◌⊎◌, ℕ, ◌<◌, ◌≤◌, nat_lt, IsTrue, IsFalse, IfOk, IfSome, IfNone, length, replicate, set};
 ghost use Rattle.bp_replacer.specs.Young.{since, IsYoung, NoneBelow};
 
 use crate::queue::Queue;
@@ -10,7 +10,7 @@ use std::marker::Model;
 /// first. A seat that is asked to wait again from a later time on stays where it is. The memory is taken once, by
 /// `new`: 24 bytes a seat.
 #[derive(Drop)]
-pub(crate) struct Young {
+pub struct Young {
     since: Vec<u64>,
     queue: Queue,
 }
@@ -28,7 +28,7 @@ impl Model for Young {
 
 impl Young {
     /// Makes `size` seats, none of which waits. It fails by want of memory alone; no other call takes any.
-    pub(crate) fn new(alloc: Global, size: usize) -> Result<Young, AllocError>
+    pub fn new(alloc: Global, size: usize) -> Result<Young, AllocError>
         ensures { IfOk result (λ y. y ≡ replicate size 0) }
     {
         let since = vec![in alloc; 0; size]?;
@@ -37,9 +37,25 @@ impl Young {
         Ok(Young { since, queue })
     }
 
+    /// Returns true if a seat waits.
+    pub fn waits(&self, seat: usize) -> bool
+        requires { seat < length self.now }
+        ensures { result ≡ nat_lt 0 (since self.now seat) }
+    {
+        self.since[seat] > 0
+    }
+
+    /// Lets no seat wait any more.
+    pub fn clear(&mut self)
+        ensures { self.new ≡ replicate (length self.old) 0 }
+    {
+        self.since.fill(0);
+        self.queue.clear();
+    }
+
     /// Lets a seat wait since a time, or an earlier one since which it waits already. Returns false, and changes
     /// nothing, where there is no room, or the time is 0.
-    pub(crate) fn wait(&mut self, seat: usize, time: u64) -> bool
+    pub fn wait(&mut self, seat: usize, time: u64) -> bool
         requires { seat < length self.old }
         ensures waits { IsTrue result → IsYoung (since self.new seat) time }
         ensures refused { IsFalse result → self.new ≡ self.old }
@@ -58,7 +74,7 @@ impl Young {
     }
 
     /// Takes out a seat that waits since before a time. `None` where none does.
-    pub(crate) fn take_below(&mut self, time: u64) -> Option<usize>
+    pub fn take_below(&mut self, time: u64) -> Option<usize>
         ensures in_range { IfSome result (λ seat. seat < length self.old) }
         ensures waited { IfSome result (λ seat. 0 < since self.old seat) }
         ensures below { IfSome result (λ seat. since self.old seat < time) }

@@ -1,6 +1,6 @@
-use Rattle.std.proofs.Common.{◌∙◌, ◌+◌, ◌/◌, ap, sym, inl, inr, arith, length}
-use Rattle.bp_replacer.specs.Seats.{winner, seat_at, node}
-use Rattle.bp_replacer.proofs.SeatLaws.{node_inner, node_seat, node_changed, IsRenewed, renewed_beside, won_up, won_settled, won_at_root}
+use Rattle.std.proofs.Common.{◌∙◌, ◌/◌, sym, inl, inr, arith}
+use Rattle.bp_replacer.specs.Seats.{winner, seat_at}
+use Rattle.bp_replacer.proofs.SeatLaws.{node_inner, node_changed, IsRenewed, renewed_beside, won_up, won_settled, won_at_root}
 use Rattle.bp_replacer.proofs.tournament.replay.Goals as goal
 use Rattle.bp_replacer.proofs.tournament.replay.Goals.{After-winner-first}
 

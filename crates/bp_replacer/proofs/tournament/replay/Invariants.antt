@@ -1,4 +1,4 @@
-use Rattle.std.proofs.Common.{◌≡◌, ℕ, ◌*◌, ◌<◌, ◌≤◌, length}
+use Rattle.std.proofs.Common.{◌≡◌, ◌*◌, ◌<◌, ◌≤◌, length}
 use Rattle.bp_replacer.specs.Seats.{node}
 use Rattle.bp_replacer.specs.Replay.{IsWonUpTo}
 use Rattle.bp_replacer.proofs.tournament.replay.Given as goal

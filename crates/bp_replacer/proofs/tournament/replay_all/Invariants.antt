@@ -1,4 +1,4 @@
-use Rattle.std.proofs.Common.{ℕ, ◌≤◌, length}
+use Rattle.std.proofs.Common.{◌≤◌, length}
 use Rattle.bp_replacer.specs.Replay.{IsWonFrom}
 use Rattle.bp_replacer.proofs.tournament.replay_all.Given as goal
 

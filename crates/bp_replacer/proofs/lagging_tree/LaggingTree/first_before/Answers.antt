@@ -1,5 +1,7 @@
-use Rattle.std.proofs.Common.{◌≡◌, ◌∙◌, ◌<◌, length, sym, ap, arith}
+use Rattle.std.proofs.Common.{◌≡◌, ◌∙◌, ◌<◌, length, sym, ap, subst, arith}
 use Rattle.std.proofs.lemmas.List.{length-set}
+use Rattle.bp_references.specs.Candidates.{Candidate}
+use Rattle.bp_replacer.specs.Seats.{IsFirst}
 use Rattle.bp_replacer.proofs.YoungLaws.{taken_others, taken_less, settled_covered, settled_early, settled_none_below, settled_less, first_stands}
 use Rattle.bp_replacer.proofs.lagging_tree.LaggingTree.first_before.Goals as goal
 use Rattle.bp_replacer.proofs.lagging_tree.LaggingTree.first_before.Goals.{After-settle}
@@ -12,27 +14,26 @@ loop-seat-smaller c =
     let i = c.loop-seat.self-inside in
     let v = c.loop-seat.invariant.covered in
     let e = c.in-Some.ensures in
-    let in_range : c.in-Some.seat < length i.seats = omega (arith, e.in_range, v.as_many) in
     let less = taken_less i.young c.take_below.new.self c.in-Some.seat c.args.time e.in_range e.waited e.below e.taken in
-    let no_more = settled_early i.tree c.take_below.new.self i.seats c.in-Some.seat c.args.time c.settle.new.tree c.settle.new.young v.length_is (many (goal.at.loop-seat-smaller c).After-settle) in_range c.settle.ensures in
+    let no_more = settled_early i.tree c.take_below.new.self i.seats c.sorted-kept.result.1 c.args.time c.settle.new.tree c.settle.new.young v.length_is (many (goal.at.loop-seat-smaller c).After-settle) c.settle.ensures in
     omega (arith, less, no_more)
 
 pub loop-seat-preserved : goal.loop-seat-preserved
 loop-seat-preserved c =
     let i = c.loop-seat.self-inside in
     let v = c.loop-seat.invariant.covered in
-    let e = c.in-Some.ensures in
-    let in_range : c.in-Some.seat < length i.seats = omega (arith, e.in_range, v.as_many) in
+    let others = taken_others i.tree i.young c.take_below.new.self i.seats c.in-Some.seat i.hand c.sorted-kept.result c.in-Some.ensures.taken v c.sorted-kept.ensures in
     record {
       same = c.loop-seat.invariant.same;
-      covered = settled_covered i.tree c.take_below.new.self i.seats c.in-Some.seat c.args.time c.settle.new.tree c.settle.new.young v.length_is (many (goal.at.loop-seat-preserved c).After-settle) in_range c.settle.ensures (taken_others i.tree i.young c.take_below.new.self i.seats c.in-Some.seat e.taken v);
+      covered = settled_covered i.tree c.take_below.new.self i.seats c.sorted-kept.result.1 c.args.time c.settle.new.tree c.settle.new.young v.length_is (many (goal.at.loop-seat-preserved c).After-settle) c.settle.ensures c.sorted-kept.result.0 others;
     }
 
 pub returns-then-same_seat-clause-first : goal.returns-then-same_seat-clause-first
 returns-then-same_seat-clause-first c =
     let i = c.loop-seat-2.self-inside in
     let v = c.loop-seat-2.invariant in
-    first_stands i.tree i.young i.seats v.covered c.args.time v.none_below c.in-Some-first_before.seat c.find.result c.find-entry.result c.in-Some-first_before.ensures.found c.find.ensures c.find-entry.ensures (sym c.same_seat.ensures ∙ c.if-same_seat.true)
+    subst (IsFirst i.seats (λ (e : Candidate). e.1 < c.args.time)) (sym c.earlier.ensures)
+    (first_stands i.tree i.young i.seats i.hand v.covered c.args.time v.none_below c.in-Some-first_before.seat c.find.result c.find-entry.result c.aged_at-then-same_seat.result c.in-Some-first_before.ensures.found c.find.ensures c.find-entry.ensures (sym c.same_seat.ensures ∙ c.if-same_seat.true) c.aged_at-then-same_seat.ensures)
 
 pub loop-seat-2-smaller : goal.loop-seat-2-smaller
 loop-seat-2-smaller c =
@@ -40,19 +41,16 @@ loop-seat-2-smaller c =
     let v = c.loop-seat-2.invariant.covered in
     let found = c.in-Some-first_before.ensures.found in
     let s = c.settle-in-loop-seat-2 in
-    let in_range : c.in-Some-first_before.seat < length i.seats = omega (arith, found.in_range, v.length_is) in
-    settled_less i.tree i.young i.seats c.in-Some-first_before.seat c.args.time s.new.tree s.new.young v.length_is v.as_many in_range s.ensures c.find.result c.find-entry.result c.find.ensures c.find-entry.ensures found.stands (sym c.same_seat.ensures ∙ c.if-same_seat.false)
+    settled_less i.tree i.young i.seats c.in-Some-first_before.seat c.args.time s.new.tree s.new.young v.length_is v.as_many s.ensures c.find.result c.find-entry.result (omega (arith, found.in_range, v.length_is)) c.find.ensures c.find-entry.ensures found.stands (sym c.same_seat.ensures ∙ c.if-same_seat.false)
 
 pub loop-seat-2-preserved : goal.loop-seat-2-preserved
 loop-seat-2-preserved c =
     let i = c.loop-seat-2.self-inside in
     let v = c.loop-seat-2.invariant.covered in
-    let found = c.in-Some-first_before.ensures.found in
     let s = c.settle-in-loop-seat-2 in
     let seat = c.in-Some-first_before.seat in
-    let in_range : seat < length i.seats = omega (arith, found.in_range, v.length_is) in
     record {
       same = c.loop-seat-2.invariant.same;
-      covered = settled_covered i.tree i.young i.seats seat c.args.time s.new.tree s.new.young v.length_is v.as_many in_range s.ensures (λ k other. v.covers k);
-      none_below = settled_none_below i.tree i.young i.seats seat c.args.time s.new.tree s.new.young v.length_is v.as_many in_range s.ensures c.loop-seat-2.invariant.none_below;
+      covered = settled_covered i.tree i.young i.seats seat c.args.time s.new.tree s.new.young v.length_is v.as_many s.ensures i.hand (λ k free other. v.covers k free);
+      none_below = settled_none_below i.tree i.young i.seats seat c.args.time s.new.tree s.new.young v.length_is v.as_many s.ensures c.loop-seat-2.invariant.none_below;
     }

@@ -6,7 +6,7 @@ use Rattle.bp_replacer.proofs.lagging_tree.LaggingTree.first_before.Given as goa
 abbrev pub invariant-loop-seat : goal.invariant-loop-seat
 invariant-loop-seat l = record {
   same : l.self-inside.seats ≡ l.initial.self-inside.seats;
-  covered : AreCovered l.self-inside.tree l.self-inside.young l.self-inside.seats;
+  covered : AreCovered l.self-inside.tree l.self-inside.young l.self-inside.seats l.self-inside.hand;
 }
 
 abbrev pub decreases-loop-seat : goal.decreases-loop-seat
@@ -15,7 +15,7 @@ decreases-loop-seat l = count_early l.time l.self-inside.young
 abbrev pub invariant-loop-seat-2 : goal.invariant-loop-seat-2
 invariant-loop-seat-2 l = record {
   same : l.self-inside.seats ≡ l.initial.self-inside.seats;
-  covered : AreCovered l.self-inside.tree l.self-inside.young l.self-inside.seats;
+  covered : AreCovered l.self-inside.tree l.self-inside.young l.self-inside.seats l.self-inside.hand;
   none_below : NoneBelow l.self-inside.young l.time;
 }
 

@@ -1,4 +1,4 @@
-use Rattle.std.proofs.Common.{◌≡◌, ◌∙◌, true, false, None, ap, sym, arith, length, Some}
+use Rattle.std.proofs.Common.{◌≡◌, ◌∙◌, true, ap, sym, arith, length, Some}
 use Rattle.std.specs.Option.{is_some}
 use Rattle.std.proofs.lemmas.Bool.{true≢false}
 use Rattle.bp_replacer.specs.Seats.{seat_at}

@@ -1,4 +1,4 @@
-use Rattle.std.proofs.Common.{◌∙◌, ap, sym, length, arith}
+use Rattle.std.proofs.Common.{ap, length, arith}
 use Rattle.bp_replacer.proofs.tournament.Tournament.put_all.Goals as goal
 
 pub replay_all-requires : goal.replay_all-requires
