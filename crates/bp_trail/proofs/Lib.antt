@@ -33,3 +33,9 @@ pub mod Comparing
 pub mod Logged
 pub mod InPieces
 pub mod Replies
+pub mod OnePage
+pub mod Bytes
+pub mod Recovered
+pub mod Stamped
+pub mod Crashes
+pub mod CrashExamples

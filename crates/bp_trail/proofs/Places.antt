@@ -80,7 +80,7 @@ began-ended : (past : Trail) (e : Entry) (p : ℕ) (r : Reply) → began_saving 
 began-ended past e p (WriteFirst t q image) k = let a = and_parts (q == p) _ k in and_from (q == p) _ a.0 (or_right (ends_well t e.call) _ a.1)
 began-ended past e p _ k = cc
 
-unsaved-ended : (past : Trail) (e : Entry) (p : ℕ) → since (writes p) (λ d. began_saving (e ∷ past) p d.reply) past ≡ true → unsaved past p ≡ true
+pub unsaved-ended : (past : Trail) (e : Entry) (p : ℕ) → since (writes p) (λ d. began_saving (e ∷ past) p d.reply) past ≡ true → unsaved past p ≡ true
 unsaved-ended past e p m =
     since-mono (writes p) (λ d. began_saving past p d.reply) (λ d. began_saving (e ∷ past) p d.reply) past (λ x h. began-ended past e p x.reply h) m
 

@@ -21,6 +21,8 @@ pub mod Safety
 pub mod Claims
 pub mod Sentences
 pub mod Wording
+-- What a crash leaves, and what redo makes of it.
+pub mod Recovery
 -- What the rows of a script make of a trail.
 pub mod Pieces
 pub mod Script

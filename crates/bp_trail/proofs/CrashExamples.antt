@@ -1,0 +1,398 @@
+-- A crash that redo mends, and for each premise a crash that it does not mend without it. All of it computes.
+use Rattle.std.proofs.Common.{◌≡◌, inl, inr, refl, ap, ℕ, ◌+◌, ◌≤◌, nat_lt, true, ◌==◌, if◌then◌else◌, List, [], ◌∷◌, ◌++◌, get_or, Some, None, arith}
+use Rattle.std.proofs.lemmas.Option.{none-some}
+use Rattle.bp_trail.specs.declared.entries.Entry.{Entry}
+use Rattle.bp_trail.specs.declared.entries.Call.TheVariants.{Mark, Fix, ReadEnd, WriteEnd, Write, Flush}
+use Rattle.bp_trail.specs.declared.entries.Reply.TheVariants.{Done, Load, WriteFirst, Fixed, Cleaned}
+use Rattle.bp_trail.specs.declared.records.LogRecord.{LogRecord}
+use Rattle.bp_trail.specs.Parameters.{Parameters}
+use Rattle.bp_trail.specs.Lists.{every}
+use Rattle.bp_trail.specs.Trail.{Trail}
+use Rattle.bp_trail.specs.Clock.{durable}
+use Rattle.bp_trail.specs.Places.{resident}
+use Rattle.bp_trail.specs.Images.{held, plain_map}
+use Rattle.bp_trail.specs.Saved.{IsRedoFrom}
+use Rattle.bp_trail.specs.Legal.{Legal}
+use Rattle.bp_trail.specs.Pieces.{by}
+use Rattle.bp_trail.specs.Standing.{Content}
+use Rattle.bp_trail.specs.Recovery.{records, records_from, within, NeverFall, Rise, patch, redo, redo_by_lsn, ActsAlike, act_all, redo_point, NoneSafe, MayHave, MayHaveStamped, IsRedoPoint, HonestOf, LogHas, Stopped}
+
+-- one frame, and a file of one page of two bytes
+abbrev c : Parameters
+c = record { frames = 1; k = 1; correlated = 0; retained = 0; pages = 1; size = 2; clients = 1; room = 100 }
+
+abbrev zeros : ℕ → List ℕ
+zeros p = 0 ∷ 0 ∷ []
+
+abbrev put_at : ℕ → ℕ → ℕ → Entry
+put_at offset byte lsn = by 0 (Write 0 0 offset (byte ∷ []) lsn) Done
+
+abbrev told : ℕ → ℕ → ℕ → LogRecord
+told offset byte lsn = record { page = 0; offset = offset; bytes = byte ∷ []; lsn = lsn }
+
+-- the page is read, and written to under LSN 1; the log is durable so far; the page goes out, and is saved; it is written to again
+abbrev opened : Trail
+opened = by 0 (ReadEnd 0 0 (Some (0 ∷ 0 ∷ []))) (Fixed 0) ∷ by 0 (Fix 0) (Load 0 None) ∷ []
+
+abbrev written_once : Trail
+written_once = put_at 0 7 1 ∷ opened
+
+abbrev marked_once : Trail
+marked_once = by 0 (Mark 1) Done ∷ written_once
+
+abbrev flush_of : Entry
+flush_of = by 0 (Flush 0) (WriteFirst 1 0 (7 ∷ 0 ∷ []))
+
+abbrev going_out : Trail
+going_out = flush_of ∷ marked_once
+
+abbrev saved_once : Trail
+saved_once = by 0 (WriteEnd 1 0 true) Cleaned ∷ going_out
+
+abbrev written_twice : Trail
+written_twice = put_at 1 8 2 ∷ saved_once
+
+lawful-opened : Legal c opened
+lawful-opened = record {
+  here = record { client = refl; allowed = refl; reply = inl refl };
+  before = record { here = record { client = refl; allowed = refl; reply = inl refl }; before = tt };
+}
+
+lawful-once : Legal c written_once
+lawful-once = record { here = record { client = refl; allowed = refl; reply = inl refl }; before = lawful-opened }
+
+lawful-marked : Legal c marked_once
+lawful-marked = record { here = record { client = refl; allowed = refl; reply = inl refl }; before = lawful-once }
+
+lawful-going : Legal c going_out
+lawful-going = record { here = record { client = refl; allowed = refl; reply = inl refl }; before = lawful-marked }
+
+lawful-saved : Legal c saved_once
+lawful-saved = record { here = record { client = refl; allowed = refl; reply = inl refl }; before = lawful-going }
+
+lawful-twice : Legal c written_twice
+lawful-twice = record { here = record { client = refl; allowed = refl; reply = inl refl }; before = lawful-saved }
+
+honest-opened : HonestOf zeros 0 opened
+honest-opened = record { here = λ i image h d. cc; before = record { here = λ i image h d. cc; before = tt } }
+
+honest-once : HonestOf zeros 0 written_once
+honest-once = record { here = λ i image h d. cc; before = honest-opened }
+
+honest-going : HonestOf zeros 0 going_out
+honest-going = record { here = λ i image h d. cc; before = record { here = λ i image h d. cc; before = honest-once } }
+
+honest-saved : HonestOf zeros 0 saved_once
+honest-saved = record { here = λ i image h d. cc; before = honest-going }
+
+honest-twice : HonestOf zeros 0 written_twice
+honest-twice = record { here = λ i image h d. cc; before = honest-saved }
+
+-- two images that differ at a byte
+differ : (i : ℕ) (xs ys : List ℕ) → (get_or xs i 0 ≡ get_or ys i 0 → ⊥) → xs ≡ ys → ⊥
+differ i xs ys n e = n (ap (λ zs. get_or zs i 0) e)
+
+abbrev first_record : LogRecord
+first_record = told 0 7 1
+
+abbrev second_record : LogRecord
+second_record = told 1 8 2
+
+-- ---- crashes that are mended
+
+-- the second write is in the log and not on the device; redo begins at it
+mended-stopped : Stopped c zeros written_twice written_twice (second_record ∷ first_record ∷ []) 0 2 2 0
+mended-stopped = record {
+  legal = lawful-twice;
+  honest = honest-twice;
+  mark = omega arith;
+  has = record { unwritten = []; stands = refl; unwritten_from = refl };
+  from_start = omega arith;
+  point = λ least e. (let is : 2 ≡ least = cc in omega arith);
+}
+
+mended-has : MayHave zeros written_twice written_twice 0 (7 ∷ 0 ∷ [])
+mended-has = inl (record { later = put_at 1 8 2 ∷ by 0 (WriteEnd 1 0 true) Cleaned ∷ []; entry = flush_of; earlier = marked_once; ticket = 1; image = 7 ∷ 0 ∷ []; stands = refl; begins = refl; last = refl }, refl)
+
+mended : redo 2 (second_record ∷ first_record ∷ []) 0 (7 ∷ 0 ∷ []) ≡ 7 ∷ 8 ∷ []
+mended = refl
+
+mended-is_plain : plain_map zeros (within 2 written_twice) 0 ≡ 7 ∷ 8 ∷ []
+mended-is_plain = refl
+
+-- where the log ends before it, it is not there
+ends-sooner : plain_map zeros (within 1 written_twice) 0 ≡ 7 ∷ 0 ∷ []
+ends-sooner = refl
+
+-- while a page goes out, the device may have either image
+before-it : MayHave zeros going_out going_out 0 (0 ∷ 0 ∷ [])
+before-it = inr (refl, refl)
+
+after-it : MayHave zeros going_out going_out 0 (7 ∷ 0 ∷ [])
+after-it = inl (record { later = []; entry = flush_of; earlier = marked_once; ticket = 1; image = 7 ∷ 0 ∷ []; stands = refl; begins = refl; last = refl }, refl)
+
+-- once it is saved it has the newer one
+saved-has : MayHave zeros saved_once saved_once 0 (7 ∷ 0 ∷ [])
+saved-has = inl (record { later = by 0 (WriteEnd 1 0 true) Cleaned ∷ []; entry = flush_of; earlier = marked_once; ticket = 1; image = 7 ∷ 0 ∷ []; stands = refl; begins = refl; last = refl }, refl)
+
+saved-not_first : NoneSafe saved_once saved_once 0 → ⊥
+saved-not_first none = cc
+
+-- unless the last sync began before, and then redo has to begin sooner
+unsynced-has : MayHave zeros marked_once saved_once 0 (0 ∷ 0 ∷ [])
+unsynced-has = inr (refl, refl)
+
+unsynced-stopped : Stopped c zeros marked_once saved_once (first_record ∷ []) 0 1 1 0
+unsynced-stopped = record {
+  legal = lawful-saved;
+  honest = honest-saved;
+  mark = omega arith;
+  has = record { unwritten = []; stands = refl; unwritten_from = refl };
+  from_start = omega arith;
+  point = λ least e. (let is : 1 ≡ least = cc in omega arith);
+}
+
+unsynced : redo 1 (first_record ∷ []) 0 (0 ∷ 0 ∷ []) ≡ 7 ∷ 0 ∷ []
+unsynced = refl
+
+-- ---- each premise is needed: the others hold, and the page is not mended
+
+-- mark: the log ends below the durable mark, and the image is ahead of it
+without-mark : Legal c going_out × HonestOf zeros 0 going_out × LogHas [] 0 0 0 going_out 0 × IsRedoPoint 0 going_out going_out 0 × MayHave zeros going_out going_out 0 (7 ∷ 0 ∷ [])
+    × (redo 0 [] 0 (7 ∷ 0 ∷ []) ≡ redo 0 [] 0 (0 ∷ 0 ∷ []) → ⊥)
+without-mark = (lawful-going, honest-going, record { unwritten = []; stands = refl; unwritten_from = refl }, λ least e. omega arith, after-it, differ 0 _ _ (λ e. absurd (omega arith)))
+
+-- legal: the image goes out with no mark
+abbrev sent_early : Trail
+sent_early = flush_of ∷ written_once
+
+without-legal : HonestOf zeros 0 sent_early × (durable sent_early ≤ 0) × LogHas [] 0 0 0 sent_early 0 × IsRedoPoint 0 sent_early sent_early 0 × MayHave zeros sent_early sent_early 0 (7 ∷ 0 ∷ [])
+    × (redo 0 [] 0 (7 ∷ 0 ∷ []) ≡ redo 0 [] 0 (0 ∷ 0 ∷ []) → ⊥)
+without-legal = (
+  record { here = λ i image h d. cc; before = honest-once },
+  omega arith,
+  record { unwritten = []; stands = refl; unwritten_from = refl },
+  λ least e. omega arith,
+  inl (record { later = []; entry = flush_of; earlier = written_once; ticket = 1; image = 7 ∷ 0 ∷ []; stands = refl; begins = refl; last = refl }, refl),
+  differ 0 _ _ (λ e. absurd (omega arith)),
+)
+
+-- honest: the device gives back what it never had
+abbrev misread : Trail
+misread = by 0 (Mark 1) Done ∷ put_at 0 7 1 ∷ by 0 (ReadEnd 0 0 (Some (5 ∷ 5 ∷ []))) (Fixed 0) ∷ by 0 (Fix 0) (Load 0 None) ∷ []
+
+abbrev flush_misread : Entry
+flush_misread = by 0 (Flush 0) (WriteFirst 1 0 (7 ∷ 5 ∷ []))
+
+without-honest : Legal c (flush_misread ∷ misread) × (durable (flush_misread ∷ misread) ≤ 1) × LogHas (first_record ∷ []) 0 0 1 (flush_misread ∷ misread) 0 × IsRedoPoint 0 (flush_misread ∷ misread) (flush_misread ∷ misread) 0
+    × MayHave zeros (flush_misread ∷ misread) (flush_misread ∷ misread) 0 (7 ∷ 5 ∷ [])
+    × (redo 0 (first_record ∷ []) 0 (7 ∷ 5 ∷ []) ≡ redo 0 (first_record ∷ []) 0 (0 ∷ 0 ∷ []) → ⊥)
+without-honest = (
+  record {
+    here = record { client = refl; allowed = refl; reply = inl refl };
+    before = record {
+      here = record { client = refl; allowed = refl; reply = inl refl };
+      before = record {
+        here = record { client = refl; allowed = refl; reply = inl refl };
+        before = record {
+          here = record { client = refl; allowed = refl; reply = inl refl };
+          before = record { here = record { client = refl; allowed = refl; reply = inl refl }; before = tt };
+        };
+      };
+    };
+  },
+  omega arith,
+  record { unwritten = []; stands = refl; unwritten_from = refl },
+  λ least e. omega arith,
+  inl (record { later = []; entry = flush_misread; earlier = misread; ticket = 1; image = 7 ∷ 5 ∷ []; stands = refl; begins = refl; last = refl }, refl),
+  differ 1 _ _ (λ e. absurd (omega arith)),
+)
+
+-- has: a write has no record
+without-has : Legal c saved_once × HonestOf zeros 0 saved_once × (durable saved_once ≤ 1) × IsRedoPoint 2 saved_once saved_once 0 × MayHave zeros saved_once saved_once 0 (7 ∷ 0 ∷ [])
+    × (redo 2 [] 0 (7 ∷ 0 ∷ []) ≡ redo 0 [] 0 (0 ∷ 0 ∷ []) → ⊥)
+without-has = (lawful-saved, honest-saved, omega arith, λ least e. absurd (none-some least e), saved-has, differ 0 _ _ (λ e. absurd (omega arith)))
+
+-- its order: two clients append records of the page, and write in the other order. The log's LSNs rise, and the page had the bytes of the older record last
+abbrev crossed : Trail
+crossed = put_at 0 7 5 ∷ put_at 0 8 6 ∷ opened
+
+abbrev log_crossed : List LogRecord
+log_crossed = told 0 8 6 ∷ told 0 7 5 ∷ []
+
+without-order : Legal c crossed × HonestOf zeros 0 crossed × (durable crossed ≤ 6) × NeverFall (records_from 0 log_crossed 0) × MayHave zeros crossed crossed 0 (0 ∷ 0 ∷ [])
+    × (redo 0 log_crossed 0 (0 ∷ 0 ∷ []) ≡ plain_map zeros (within 6 crossed) 0 → ⊥)
+without-order = (
+  record {
+    here = record { client = refl; allowed = refl; reply = inl refl };
+    before = record { here = record { client = refl; allowed = refl; reply = inl refl }; before = lawful-opened };
+  },
+  record { here = λ i image h d. cc; before = record { here = λ i image h d. cc; before = honest-opened } },
+  omega arith,
+  record { here = refl; before = record { here = refl; before = tt } },
+  inr (refl, refl),
+  differ 0 _ _ (λ e. absurd (omega arith)),
+)
+
+-- unwritten_from: a record whose write never came to be is below the redo point
+without-unwritten_from : Legal c opened × HonestOf zeros 0 opened × (durable opened ≤ 1) × (records_from 0 (first_record ∷ []) 0 ≡ (first_record ∷ []) ++ records 0 (within 1 opened))
+    × IsRedoPoint 2 opened opened 0 × MayHave zeros opened opened 0 (0 ∷ 0 ∷ [])
+    × (redo 2 (first_record ∷ []) 0 (0 ∷ 0 ∷ []) ≡ redo 0 (first_record ∷ []) 0 (0 ∷ 0 ∷ []) → ⊥)
+without-unwritten_from = (lawful-opened, honest-opened, omega arith, refl, λ least e. absurd (none-some least e), inr (refl, refl), differ 0 _ _ (λ e. absurd (omega arith)))
+
+-- from_start: redo begins before the point from which the log has the writes of this run
+without-from_start : Legal c opened × HonestOf zeros 0 opened × (durable opened ≤ 1) × LogHas (first_record ∷ []) 2 0 1 opened 0 × IsRedoPoint 0 opened opened 0 × MayHave zeros opened opened 0 (0 ∷ 0 ∷ [])
+    × (redo 0 (first_record ∷ []) 0 (0 ∷ 0 ∷ []) ≡ redo 2 (first_record ∷ []) 0 (0 ∷ 0 ∷ []) → ⊥)
+without-from_start = (lawful-opened, honest-opened, omega arith, record { unwritten = []; stands = refl; unwritten_from = refl }, λ least e. omega arith, inr (refl, refl), differ 0 _ _ (λ e. absurd (omega arith)))
+
+-- point: redo begins too late
+without-point : Legal c written_once × HonestOf zeros 0 written_once × (durable written_once ≤ 1) × LogHas (first_record ∷ []) 0 2 1 written_once 0 × MayHave zeros written_once written_once 0 (0 ∷ 0 ∷ [])
+    × (redo 2 (first_record ∷ []) 0 (0 ∷ 0 ∷ []) ≡ redo 0 (first_record ∷ []) 0 (0 ∷ 0 ∷ []) → ⊥)
+without-point = (lawful-once, honest-once, omega arith, record { unwritten = []; stands = refl; unwritten_from = refl }, inr (refl, refl), differ 0 _ _ (λ e. absurd (omega arith)))
+
+-- MayHave: the device has lost a write-out that ended well
+without-has_it : Stopped c zeros saved_once saved_once (first_record ∷ []) 0 2 1 0
+    × (redo 2 (first_record ∷ []) 0 (0 ∷ 0 ∷ []) ≡ redo 0 (first_record ∷ []) 0 (0 ∷ 0 ∷ []) → ⊥)
+without-has_it = (
+  record { legal = lawful-saved; honest = honest-saved; mark = omega arith; has = record { unwritten = []; stands = refl; unwritten_from = refl }; from_start = omega arith; point = λ least e. absurd (none-some least e) },
+  differ 0 _ _ (λ e. absurd (omega arith)),
+)
+
+-- NeverFall: the newer write of two has the lesser LSN, and redo begins between them
+abbrev fallen : Trail
+fallen = by 0 (Mark 5) Done ∷ put_at 0 8 3 ∷ put_at 0 7 5 ∷ opened
+
+abbrev flush_fallen : Entry
+flush_fallen = by 0 (Flush 0) (WriteFirst 1 0 (8 ∷ 0 ∷ []))
+
+abbrev saved_fallen : Trail
+saved_fallen = by 0 (WriteEnd 1 0 true) Cleaned ∷ flush_fallen ∷ fallen
+
+without-never_fall : Stopped c zeros saved_fallen saved_fallen (told 0 8 3 ∷ told 0 7 5 ∷ []) 0 4 5 0 × MayHave zeros saved_fallen saved_fallen 0 (8 ∷ 0 ∷ [])
+    × (redo 4 (told 0 8 3 ∷ told 0 7 5 ∷ []) 0 (8 ∷ 0 ∷ []) ≡ redo 0 (told 0 8 3 ∷ told 0 7 5 ∷ []) 0 (0 ∷ 0 ∷ []) → ⊥)
+without-never_fall = (
+  record {
+    legal = record {
+      here = record { client = refl; allowed = refl; reply = inl refl };
+      before = record {
+        here = record { client = refl; allowed = refl; reply = inl refl };
+        before = record {
+          here = record { client = refl; allowed = refl; reply = inl refl };
+          before = record {
+            here = record { client = refl; allowed = refl; reply = inl refl };
+            before = record { here = record { client = refl; allowed = refl; reply = inl refl }; before = lawful-opened };
+          };
+        };
+      };
+    };
+    honest = record {
+      here = λ i image h d. cc;
+      before = record {
+        here = λ i image h d. cc;
+        before = record { here = λ i image h d. cc; before = record { here = λ i image h d. cc; before = record { here = λ i image h d. cc; before = honest-opened } } };
+      };
+    };
+    mark = omega arith;
+    has = record { unwritten = []; stands = refl; unwritten_from = refl };
+    from_start = omega arith;
+    point = λ least e. absurd (none-some least e);
+  },
+  inl (record { later = by 0 (WriteEnd 1 0 true) Cleaned ∷ []; entry = flush_fallen; earlier = fallen; ticket = 1; image = 8 ∷ 0 ∷ []; stands = refl; begins = refl; last = refl }, refl),
+  differ 0 _ _ (λ e. absurd (omega arith)),
+)
+
+-- Rise, for redo by page LSN: two writes have one LSN, and the page goes out between them. Redo that looks at no page LSN mends it
+abbrev stamped_first : ℕ → Content
+stamped_first p = record { image = 0 ∷ 0 ∷ []; page_lsn = 0 }
+
+abbrev written_meanwhile : Trail
+written_meanwhile = put_at 0 8 1 ∷ going_out
+
+without-rise : Stopped c zeros written_meanwhile written_meanwhile (told 0 8 1 ∷ first_record ∷ []) 0 0 1 0 × NeverFall (records_from 0 (told 0 8 1 ∷ first_record ∷ []) 0)
+    × (every (λ r. nat_lt 0 r.lsn) (records_from 0 (told 0 8 1 ∷ first_record ∷ []) 0) ≡ true)
+    × MayHaveStamped stamped_first written_meanwhile written_meanwhile 0 (record { image = 7 ∷ 0 ∷ []; page_lsn = 1 })
+    × ((redo_by_lsn patch 0 (told 0 8 1 ∷ first_record ∷ []) 0 (record { image = 7 ∷ 0 ∷ []; page_lsn = 1 })).image ≡ redo 0 (told 0 8 1 ∷ first_record ∷ []) 0 (0 ∷ 0 ∷ []) → ⊥)
+    × (redo 0 (told 0 8 1 ∷ first_record ∷ []) 0 (7 ∷ 0 ∷ []) ≡ 8 ∷ 0 ∷ [])
+without-rise = (
+  record {
+    legal = record { here = record { client = refl; allowed = refl; reply = inl refl }; before = lawful-going };
+    honest = record { here = λ i image h d. cc; before = honest-going };
+    mark = omega arith;
+    has = record { unwritten = []; stands = refl; unwritten_from = refl };
+    from_start = omega arith;
+    point = λ least e. omega arith;
+  },
+  record { here = refl; before = record { here = refl; before = tt } },
+  refl,
+  inl (record { later = put_at 0 8 1 ∷ []; entry = flush_of; earlier = marked_once; ticket = 1; image = 7 ∷ 0 ∷ []; stands = refl; begins = refl; last = refl }, refl),
+  differ 0 _ _ (λ e. absurd (omega arith)),
+  refl,
+)
+
+-- and the device has at first a page LSN that is not below those of the log
+without-first_below : Rise (records_from 0 (first_record ∷ []) 0) × Stopped c zeros written_once written_once (first_record ∷ []) 0 0 1 0
+    × MayHaveStamped (λ p. record { image = 0 ∷ 0 ∷ []; page_lsn = 5 }) written_once written_once 0 (record { image = 0 ∷ 0 ∷ []; page_lsn = 5 })
+    × ((redo_by_lsn patch 0 (first_record ∷ []) 0 (record { image = 0 ∷ 0 ∷ []; page_lsn = 5 })).image ≡ redo 0 (first_record ∷ []) 0 (0 ∷ 0 ∷ []) → ⊥)
+without-first_below = (
+  record { here = refl; before = tt },
+  record { legal = lawful-once; honest = honest-once; mark = omega arith; has = record { unwritten = []; stands = refl; unwritten_from = refl }; from_start = omega arith; point = λ least e. omega arith },
+  inr (refl, refl),
+  differ 0 _ _ (λ e. absurd (omega arith)),
+)
+
+-- Records that are acted on may tell what to add, and not what comes of it. Redo by page LSN then adds 1 to the byte where it is not yet added
+abbrev add_one : LogRecord → List ℕ → List ℕ
+add_one r image = (get_or image 0 0 + 1) ∷ get_or image 1 0 ∷ []
+
+abbrev counted : Trail
+counted = put_at 0 2 2 ∷ by 0 (Flush 0) (WriteFirst 1 0 (1 ∷ 0 ∷ [])) ∷ by 0 (Mark 1) Done ∷ put_at 0 1 1 ∷ opened
+
+counted-alike : ActsAlike add_one (records 0 counted) (0 ∷ 0 ∷ [])
+counted-alike = record { here = refl; before = record { here = refl; before = tt } }
+
+counted-mended : (redo_by_lsn add_one 0 (records 0 counted) 0 (record { image = 1 ∷ 0 ∷ []; page_lsn = 1 })).image ≡ 2 ∷ 0 ∷ []
+counted-mended = refl
+
+-- where the log has a whole page and then what was added, a torn page is made from the log alone
+abbrev begun_whole : Trail
+begun_whole = put_at 0 2 2 ∷ by 0 (Write 0 0 0 (1 ∷ 0 ∷ []) 1) Done ∷ opened
+
+abbrev whole_or_one_more : LogRecord → List ℕ → List ℕ
+whole_or_one_more r image = if r.lsn == 1 then r.bytes else add_one r image
+
+made-anew : act_all whole_or_one_more (records_from 1 (records 0 begun_whole) 0) (9 ∷ 9 ∷ []) ≡ 2 ∷ 0 ∷ []
+made-anew = refl
+
+-- a checkpoint: a write after it has an LSN below the one that was noted
+without-writes_from : IsRedoFrom opened None × (IsRedoPoint (redo_point None 2) opened (put_at 0 7 1 ∷ opened) 0 → ⊥)
+without-writes_from = (λ p. refl, λ point. (let le = point 1 refl in absurd (omega arith)))
+
+-- redo that is cut off: a record reaches beyond the page
+without-fit : redo 0 ([] ++ told 5 7 1 ∷ []) 0 (redo 0 (told 5 7 1 ∷ []) 0 []) ≡ redo 0 ([] ++ told 5 7 1 ∷ []) 0 [] → ⊥
+without-fit = differ 1 _ _ (λ e. absurd (omega arith))
+
+-- ---- the second run
+
+-- it reads what the device has, and redoes the second write
+abbrev run_again : Trail
+run_again = put_at 1 8 2 ∷ by 0 (ReadEnd 0 0 (Some (7 ∷ 0 ∷ []))) (Fixed 0) ∷ by 0 (Fix 0) (Load 0 None) ∷ []
+
+abbrev left : ℕ → List ℕ
+left p = 7 ∷ 0 ∷ []
+
+run_again-redoes : Legal c run_again × HonestOf left 0 run_again × (records 0 run_again ≡ [] ++ records_from 2 (second_record ∷ first_record ∷ []) 0) × (resident run_again 0 ≡ true)
+run_again-redoes = (
+  record {
+    here = record { client = refl; allowed = refl; reply = inl refl };
+    before = record {
+      here = record { client = refl; allowed = refl; reply = inl refl };
+      before = record { here = record { client = refl; allowed = refl; reply = inl refl }; before = tt };
+    };
+  },
+  record { here = λ i image h d. cc; before = record { here = λ i image h d. cc; before = record { here = λ i image h d. cc; before = tt } } },
+  refl,
+  refl,
+)
+
+run_again-holds : held run_again 0 ≡ 7 ∷ 8 ∷ []
+run_again-holds = refl

@@ -1,0 +1,330 @@
+-- Redo by page LSN: an image has the writes up to its page LSN, and no others.
+use Rattle.std.proofs.Common.{◌≡◌, inl, inr, refl, sym, ap, subst, ◌∙◌, ℕ, ◌+◌, max, ◌≤◌, ◌<◌, nat_lt, nat_le, Bool, true, false, not, ◌&&◌, ◌||◌, ◌==◌, if◌then◌else◌, cond, List, [], ◌∷◌, ◌++◌, filter, filter_map, append_assoc, append-nil, unwrap_or, Some, None, arith}
+use Rattle.std.specs.List.{cons_option}
+use Rattle.std.proofs.lemmas.Bool.{eqb-true, eq-eqb, and_parts, and_from, ltb-true, ltb-false, lt-ltb, le-ltb, leb-true, leb-false, le-leb, lt-leb, cases_lt, false_from_ne_true}
+use Rattle.bp_page.specs.Patched.{patched}
+use Rattle.bp_trail.specs.declared.entries.Entry.{Entry}
+use Rattle.bp_trail.specs.declared.entries.Call.{Call}
+use Rattle.bp_trail.specs.declared.entries.Reply.{Reply}
+use Rattle.bp_trail.specs.declared.records.LogRecord.{LogRecord}
+use Rattle.bp_trail.specs.Parameters.{Parameters}
+use Rattle.bp_trail.specs.Lists.{greatest, every, after_last, since, least_since}
+use Rattle.bp_trail.specs.Event.{writes, loads, lsn_of, lsn_written, begins_of}
+use Rattle.bp_trail.specs.Trail.{Trail}
+use Rattle.bp_trail.specs.Passes.{reads_out}
+use Rattle.bp_trail.specs.Places.{resident}
+use Rattle.bp_trail.specs.Saved.{began_saving, unsaved, page_lsn}
+use Rattle.bp_trail.specs.Legal.{Legal}
+use Rattle.bp_trail.specs.Standing.{Content}
+use Rattle.bp_trail.specs.Recovery.{record_of, records, within, records_from, Rise, patch, put, act_newer, act_all_newer, redo, redo_by_lsn, ActsAlike, MayHaveStamped, Stopped}
+use Rattle.bp_trail.proofs.Lists.{greatest-with}
+use Rattle.bp_trail.proofs.Events.{Event, event-of}
+use Rattle.bp_trail.proofs.Events.Event.{fix_write, flush_write, read_good, page_written}
+use Rattle.bp_trail.proofs.Places.{places, out-of_page, unsaved-ended}
+use Rattle.bp_trail.proofs.WriteAhead.{written_lsn}
+use Rattle.bp_trail.proofs.Logged.{each_before}
+use Rattle.bp_trail.proofs.Bytes.{from_lsn, none-older}
+use Rattle.bp_trail.proofs.Recovered.{record-lsn, every-within, AtLeast, later-from, wanted-split, legal-there, split, is-plain}
+
+abbrev entry : ℕ → Call → Reply → Entry
+entry who call reply = record { client = who; call = call; reply = reply }
+
+-- ---- the page LSN of what goes out
+
+pub page_lsn-less : (p : ℕ) (past : Trail) → page_lsn past p ≤ written_lsn p past
+page_lsn-less p [] = omega arith
+page_lsn-less p (e ∷ past) = go (loads p e) (page_lsn-less p past)
+  where
+    go : (b : Bool) → page_lsn past p ≤ written_lsn p past → greatest (filter_map (lsn_written p) (if b then [] else e ∷ after_last (loads p) past)) ≤ written_lsn p (e ∷ past)
+    go true ih = omega arith
+    go false ih =
+        let x : written_lsn p (e ∷ after_last (loads p) past) ≡ max (unwrap_or (lsn_written p e) 0) (page_lsn past p) = greatest-with (lsn_written p) e (after_last (loads p) past) in
+        let w : written_lsn p (e ∷ past) ≡ max (unwrap_or (lsn_written p e) 0) (written_lsn p past) = greatest-with (lsn_written p) e past in
+        let goal : written_lsn p (e ∷ after_last (loads p) past) ≤ written_lsn p (e ∷ past) = omega arith in
+        goal
+
+-- a bound on the records of p is one on its LSNs
+module _ (p n : ℕ) where
+  go-bound : (e : Entry) (past : Trail) (b : Bool) → writes p e ≡ b → every (λ o. nat_lt o.lsn n) (cons_option (if b then Some (record_of e.call) else None) (records p past)) ≡ true
+      → (every (λ o. nat_lt o.lsn n) (records p past) ≡ true → 0 < n → written_lsn p past < n) → 0 < n → written_lsn p (e ∷ past) < n
+  go-bound e past true w h ih pos =
+      let a = and_parts (nat_lt (record_of e.call).lsn n) _ h in
+      let lt = ltb-true (record_of e.call).lsn n a.0 in
+      let same = record-lsn e.call in
+      let is : lsn_written p e ≡ Some (lsn_of e.call) = ap (λ b. if b then Some (lsn_of e.call) else None) w in
+      let m : written_lsn p (e ∷ past) ≡ max (lsn_of e.call) (written_lsn p past) = subst (λ o. written_lsn p (e ∷ past) ≡ max (unwrap_or o 0) (written_lsn p past)) is (greatest-with (lsn_written p) e past) in
+      let older = ih a.1 pos in
+      omega arith
+  go-bound e past false w h ih pos =
+      let is : lsn_written p e ≡ None = ap (λ b. if b then Some (lsn_of e.call) else None) w in
+      let m : written_lsn p (e ∷ past) ≡ max 0 (written_lsn p past) = subst (λ o. written_lsn p (e ∷ past) ≡ max (unwrap_or o 0) (written_lsn p past)) is (greatest-with (lsn_written p) e past) in
+      let older = ih h pos in
+      omega arith
+
+  pub lsn-below : (past : Trail) → every (λ o. nat_lt o.lsn n) (records p past) ≡ true → 0 < n → written_lsn p past < n
+  lsn-below [] h pos = omega arith
+  lsn-below (e ∷ past) h pos = go-bound e past (writes p e) refl h (lsn-below past) pos
+
+pub below-zero : (rs : List LogRecord) (n : ℕ) → n ≡ 0 → every (λ o. nat_lt o.lsn n) rs ≡ true → rs ≡ []
+below-zero [] n z h = refl
+below-zero (r ∷ rs) n z h = let lt = ltb-true r.lsn n (and_parts (nat_lt r.lsn n) _ h).0 in absurd (omega arith)
+
+-- and one on its LSNs is one on its records
+pub records-below : (p n : ℕ) (past : Trail) → written_lsn p past ≤ n → every (λ r. nat_le r.lsn n) (records p past) ≡ true
+records-below p n [] h = refl
+records-below p n (e ∷ past) h = go (writes p e) refl (records-below p n past)
+  where
+    go : (b : Bool) → writes p e ≡ b → (written_lsn p past ≤ n → every (λ r. nat_le r.lsn n) (records p past) ≡ true) → every (λ r. nat_le r.lsn n) (cons_option (if b then Some (record_of e.call) else None) (records p past)) ≡ true
+    go true w ih =
+        let is : lsn_written p e ≡ Some (lsn_of e.call) = ap (λ b. if b then Some (lsn_of e.call) else None) w in
+        let m : written_lsn p (e ∷ past) ≡ max (lsn_of e.call) (written_lsn p past) = subst (λ o. written_lsn p (e ∷ past) ≡ max (unwrap_or o 0) (written_lsn p past)) is (greatest-with (lsn_written p) e past) in
+        let same = record-lsn e.call in
+        and_from _ _ (le-leb (record_of e.call).lsn n (omega arith)) (ih (omega arith))
+    go false w ih =
+        let m = greatest-with (lsn_written p) e past in
+        ih (omega arith)
+
+pub lsn-none : (p : ℕ) (past : Trail) → records p past ≡ [] → written_lsn p past ≤ 0
+lsn-none p [] h = omega arith
+lsn-none p (e ∷ past) h = go (writes p e) refl h (lsn-none p past)
+  where
+    go : (b : Bool) → writes p e ≡ b → cons_option (if b then Some (record_of e.call) else None) (records p past) ≡ [] → (records p past ≡ [] → written_lsn p past ≤ 0) → written_lsn p (e ∷ past) ≤ 0
+    go true w h ih = cc
+    go false w h ih =
+        let is : lsn_written p e ≡ None = ap (λ b. if b then Some (lsn_of e.call) else None) w in
+        let m : written_lsn p (e ∷ past) ≡ max 0 (written_lsn p past) = subst (λ o. written_lsn p (e ∷ past) ≡ max (unwrap_or o 0) (written_lsn p past)) is (greatest-with (lsn_written p) e past) in
+        let older = ih h in
+        omega arith
+
+load-away : (c : Parameters) (past : Trail) (who : ℕ) (call : Call) (reply : Reply) → Legal c past → Event c past who call reply → (p : ℕ) → loads p (entry who call reply) ≡ true → resident past p ≡ false
+load-away c past who _ _ l (read_good t q image o) p h = subst (λ x. resident past x ≡ false) (eqb-true q p h) ((places c past l).away q (out-of_page who q t (reads_out past) o))
+load-away c past who _ _ l _ p h = cc
+
+write-no_load : (c : Parameters) (past : Trail) (who : ℕ) (call : Call) (reply : Reply) → Event c past who call reply → (p : ℕ) → writes p (entry who call reply) ≡ true → loads p (entry who call reply) ≡ false
+write-no_load c past who _ _ (page_written n q offset bytes lsn o) p h = refl
+write-no_load c past who _ _ _ p h = cc
+
+-- the page LSN of an unsaved page is the greatest LSN of all of its writes, where these rise
+pub lsn-top : (c : Parameters) (p : ℕ) (past : Trail) → Legal c past → Rise (records p past) → unsaved past p ≡ true → page_lsn past p ≡ written_lsn p past
+lsn-top c p [] l r u = cc
+lsn-top c p (e ∷ past) l r u = go (writes p e) refl (lsn-top c p past l.before) r u
+  where
+    told : written_lsn p (e ∷ past) ≡ max (unwrap_or (lsn_written p e) 0) (written_lsn p past)
+    told = greatest-with (lsn_written p) e past
+
+    since_load : written_lsn p (e ∷ after_last (loads p) past) ≡ max (unwrap_or (lsn_written p e) 0) (page_lsn past p)
+    since_load = greatest-with (lsn_written p) e (after_last (loads p) past)
+
+    go : (b : Bool) → writes p e ≡ b → (Rise (records p past) → unsaved past p ≡ true → page_lsn past p ≡ written_lsn p past)
+        → Rise (cons_option (if b then Some (record_of e.call) else None) (records p past))
+        → (b || (not (began_saving (e ∷ past) p e.reply) && since (writes p) (λ d. began_saving (e ∷ past) p d.reply) past)) ≡ true
+        → page_lsn (e ∷ past) p ≡ written_lsn p (e ∷ past)
+    go true w ih rise u =
+        let no_load = write-no_load c past e.client e.call e.reply (event-of c past e l.here) p w in
+        let is : lsn_written p e ≡ Some (lsn_of e.call) = ap (λ b. if b then Some (lsn_of e.call) else None) w in
+        let x : written_lsn p (e ∷ past) ≡ max (lsn_of e.call) (written_lsn p past) = subst (λ o. written_lsn p (e ∷ past) ≡ max (unwrap_or o 0) (written_lsn p past)) is told in
+        let y : written_lsn p (e ∷ after_last (loads p) past) ≡ max (lsn_of e.call) (page_lsn past p) = subst (λ o. written_lsn p (e ∷ after_last (loads p) past) ≡ max (unwrap_or o 0) (page_lsn past p)) is since_load in
+        let same = record-lsn e.call in
+        let less = page_lsn-less p past in
+        let top : written_lsn p past ≤ lsn_of e.call = rises (lsn_of e.call) same rise.here in
+        let equal : written_lsn p (e ∷ after_last (loads p) past) ≡ written_lsn p (e ∷ past) = omega arith in
+        ap (λ (b : Bool). greatest (filter_map (lsn_written p) (if b then [] else e ∷ after_last (loads p) past))) no_load ∙ equal
+      where
+        rises : (n : ℕ) → (record_of e.call).lsn ≡ n → every (λ o. nat_lt o.lsn (record_of e.call).lsn) (records p past) ≡ true → written_lsn p past ≤ n
+        rises n same h = elim (cases_lt 0 n) [
+          | inl pos ↦ (let lt = lsn-below p n past (subst (λ k. every (λ o. nat_lt o.lsn k) (records p past) ≡ true) same h) pos in omega arith)
+          | inr none ↦ (let z : (record_of e.call).lsn ≡ 0 = omega arith in let empty = below-zero (records p past) (record_of e.call).lsn z h in let k = lsn-none p past empty in omega arith)
+        ]
+    go false w ih rise u =
+        let s = unsaved-ended past e p (and_parts (not (began_saving (e ∷ past) p e.reply)) _ u).1 in
+        let is : lsn_written p e ≡ None = ap (λ b. if b then Some (lsn_of e.call) else None) w in
+        let x : written_lsn p (e ∷ past) ≡ max 0 (written_lsn p past) = subst (λ o. written_lsn p (e ∷ past) ≡ max (unwrap_or o 0) (written_lsn p past)) is told in
+        let y : written_lsn p (e ∷ after_last (loads p) past) ≡ max 0 (page_lsn past p) = subst (λ o. written_lsn p (e ∷ after_last (loads p) past) ≡ max (unwrap_or o 0) (page_lsn past p)) is since_load in
+        let same = ih rise s in
+        let equal : written_lsn p (e ∷ after_last (loads p) past) ≡ written_lsn p (e ∷ past) = omega arith in
+        let here = (places c past l.before).dirty p s in
+        let no_load : loads p e ≡ false = false_from_ne_true (loads p e) (λ h. (let away = load-away c past e.client e.call e.reply l.before (event-of c past e l.here) p h in cc)) in
+        ap (λ (b : Bool). greatest (filter_map (lsn_written p) (if b then [] else e ∷ after_last (loads p) past))) no_load ∙ equal
+
+-- ---- redo by page LSN
+
+pub every-append : {X : Type 0} (f : X → Bool) (xs ys : List X) → every f (xs ++ ys) ≡ true → (every f xs ≡ true) × (every f ys ≡ true)
+every-append f [] ys h = (refl, h)
+every-append f (x ∷ xs) ys h = let a = and_parts (f x) _ h in let b = every-append f xs ys a.1 in (and_from (f x) _ a.0 b.0, b.1)
+
+pub every-filtered : {X : Type 0} (f g : X → Bool) (xs : List X) → every f xs ≡ true → every f (filter g xs) ≡ true
+every-filtered f g [] h = refl
+every-filtered f g (x ∷ xs) h = let a = and_parts (f x) (every f xs) h in go (g x) a.0 (every-filtered f g xs a.1)
+  where
+    go : (b : Bool) → f x ≡ true → every f (filter g xs) ≡ true → every f (cond b (x ∷ filter g xs) (filter g xs)) ≡ true
+    go true i ih = and_from (f x) _ i ih
+    go false i ih = ih
+
+rise-front : (newer older : List LogRecord) → Rise (newer ++ older) → Rise newer
+rise-front [] older h = tt
+rise-front (r ∷ newer) older h = record { here = (every-append (λ o. nat_lt o.lsn r.lsn) newer older h.here).0; before = rise-front newer older h.before }
+
+act_all_newer-append : (act : LogRecord → List ℕ → List ℕ) (newer older : List LogRecord) (x : Content) → act_all_newer act (newer ++ older) x ≡ act_all_newer act newer (act_all_newer act older x)
+act_all_newer-append act [] older x = refl
+act_all_newer-append act (r ∷ newer) older x = ap (act_newer act r) (act_all_newer-append act newer older x)
+
+-- records that the page has
+passed-over : (act : LogRecord → List ℕ → List ℕ) (rs : List LogRecord) (x : Content) → every (λ r. nat_le r.lsn x.page_lsn) rs ≡ true → act_all_newer act rs x ≡ x
+passed-over act [] x h = refl
+passed-over act (r ∷ rs) x h =
+    let a = and_parts (nat_le r.lsn x.page_lsn) _ h in
+    let test = le-ltb x.page_lsn r.lsn (leb-true r.lsn x.page_lsn a.0) in
+    ap (act_newer act r) (passed-over act rs x a.1) ∙ ap (λ (b : Bool). if b then record { image = act r x.image; page_lsn = r.lsn } else x) test
+
+-- and records that it has not
+record Newer (act : LogRecord → List ℕ → List ℕ) (rs older : List LogRecord) (image : List ℕ) (x : Content) : Type 0 where
+  image_is : (act_all_newer act rs x).image ≡ put (rs ++ older) image
+  below : (n : ℕ) → x.page_lsn < n → every (λ o. nat_lt o.lsn n) rs ≡ true → (act_all_newer act rs x).page_lsn < n
+
+all-newer : (act : LogRecord → List ℕ → List ℕ) (rs older : List LogRecord) (image : List ℕ) (x : Content) → x.image ≡ put older image → Rise rs → every (λ r. nat_lt x.page_lsn r.lsn) rs ≡ true → ActsAlike act (rs ++ older) image
+    → Newer act rs older image x
+all-newer act [] older image x is rise h alike = record { image_is = is; below = λ n lt e. lt }
+all-newer act (r ∷ rs) older image x is rise h alike =
+    let a = and_parts (nat_lt x.page_lsn r.lsn) _ h in
+    let before = all-newer act rs older image x is rise.before a.1 alike.before in
+    let test : nat_lt (act_all_newer act rs x).page_lsn r.lsn ≡ true = lt-ltb (act_all_newer act rs x).page_lsn r.lsn (before.below r.lsn (ltb-true x.page_lsn r.lsn a.0) rise.here) in
+    let acted : act_newer act r (act_all_newer act rs x) ≡ record { image = act r (act_all_newer act rs x).image; page_lsn = r.lsn } =
+    ap (λ (b : Bool). if b then record { image = act r (act_all_newer act rs x).image; page_lsn = r.lsn } else act_all_newer act rs x) test in
+    record {
+      image_is = ap (λ (y : Content). y.image) acted ∙ ap (act r) before.image_is ∙ alike.here;
+      below = λ n lt e. subst (λ (y : Content). y.page_lsn < n) (sym acted) (ltb-true r.lsn n (and_parts (nat_lt r.lsn n) _ e).0);
+    }
+
+newer-above : (p least : ℕ) (earlier : Trail) (newer : List LogRecord) → Rise (newer ++ records p earlier) → every (λ r. nat_lt least r.lsn) newer ≡ true → every (λ r. nat_lt (written_lsn p earlier) r.lsn) newer ≡ true
+newer-above p least earlier [] rise h = refl
+newer-above p least earlier (r ∷ newer) rise h =
+    let a = and_parts (nat_lt least r.lsn) _ h in
+    let above = ltb-true least r.lsn a.0 in
+    let older = (every-append (λ o. nat_lt o.lsn r.lsn) newer (records p earlier) rise.here).1 in
+    let pos : 0 < r.lsn = omega arith in
+    and_from _ _ (lt-ltb (written_lsn p earlier) r.lsn (lsn-below p r.lsn earlier older pos)) (newer-above p least earlier newer rise.before a.1)
+
+stamped-older : (act : LogRecord → List ℕ → List ℕ) (log : List LogRecord) (start from p : ℕ) (image : List ℕ) (x : Content) (unwritten newer older : List LogRecord)
+    → records_from start log p ≡ unwritten ++ (newer ++ older) → start ≤ from → every (from_lsn from) unwritten ≡ true → every (from_lsn from) newer ≡ true
+    → x.image ≡ put older image → every (λ r. nat_le r.lsn x.page_lsn) older ≡ true → Rise (unwritten ++ newer) → every (λ r. nat_lt x.page_lsn r.lsn) (unwritten ++ newer) ≡ true
+    → ActsAlike act (records_from start log p) image → (redo_by_lsn act from log p x).image ≡ redo start log p image
+stamped-older act log start from p image x unwritten newer older stands le u n is below rise above alike =
+    let f = filter (from_lsn from) in
+    let wants : records_from from log p ≡ (unwritten ++ newer) ++ f older = wanted-split log start from p unwritten newer older stands le u n ∙ sym (append_assoc unwritten newer (f older)) in
+    let joined : records_from start log p ≡ (unwritten ++ newer) ++ older = stands ∙ sym (append_assoc unwritten newer older) in
+    let over : act_all_newer act (f older) x ≡ x = passed-over act (f older) x (every-filtered (λ r. nat_le r.lsn x.page_lsn) (from_lsn from) older below) in
+    let made : redo_by_lsn act from log p x ≡ act_all_newer act (unwritten ++ newer) x =
+    ap (λ rs. act_all_newer act rs x) wants ∙ act_all_newer-append act (unwritten ++ newer) (f older) x ∙ ap (act_all_newer act (unwritten ++ newer)) over in
+    ap (λ (y : Content). y.image) made
+    ∙ (all-newer act (unwritten ++ newer) older image x is rise above (subst (λ rs. ActsAlike act rs image) joined alike)).image_is
+    ∙ ap (λ rs. put rs image) (sym joined)
+
+begin-unsaved : (c : Parameters) (past : Trail) (who : ℕ) (call : Call) (reply : Reply) → Event c past who call reply → (p : ℕ) → begins_of p reply ≡ true → unsaved past p ≡ true
+begin-unsaved c past who _ _ (fix_write q v m w g) p h = subst (λ x. unsaved past x ≡ true) (eqb-true v p h) g.unsaved_page
+begin-unsaved c past who _ _ (flush_write v r w g) p h = subst (λ x. unsaved past x ≡ true) (eqb-true v p h) g.unsaved_page
+begin-unsaved c past who _ _ _ p h = cc
+
+pub recovers-by_lsn : (act : LogRecord → List ℕ → List ℕ) (c : Parameters) (first : ℕ → Content) (synced past : Trail) (log : List LogRecord) (start from end p : ℕ) (x : Content)
+    → Stopped c (λ q. (first q).image) synced past log start from end p → Rise (records_from start log p) → every (λ r. nat_lt (first p).page_lsn r.lsn) (records_from start log p) ≡ true
+    → ActsAlike act (records_from start log p) (first p).image → MayHaveStamped first synced past p x → (redo_by_lsn act from log p x).image ≡ redo start log p (first p).image
+recovers-by_lsn act c first synced past log start from end p x s rises firsts alike (inl (out, is)) =
+    let l = s.legal in
+    let m : ℕ → List ℕ = λ q. (first q).image in
+    let u = s.has.unwritten in
+    let newer = records p (within end out.later) in
+    let older = records p out.earlier in
+    let cut = split c m past out.later out.earlier out.entry p out.ticket out.image out.stands out.begins l end s.mark in
+    let whole : records_from start log p ≡ u ++ (newer ++ older) = s.has.stands ∙ ap (λ rs. u ++ rs) cut in
+    let joined : records_from start log p ≡ (u ++ newer) ++ older = whole ∙ sym (append_assoc u newer older) in
+    let point : AtLeast from (least_since (lsn_written p) (λ d. began_saving synced p d.reply) (out.later ++ out.entry ∷ out.earlier)) = subst (λ s. AtLeast from (least_since (lsn_written p) (λ d. began_saving synced p d.reply) s)) out.stands s.point in
+    let rising : Rise ((u ++ newer) ++ older) = subst Rise joined rises in
+    let there = legal-there c m past out.later out.earlier out.entry p out.ticket out.image out.stands out.begins l in
+    let begins : begins_of p out.entry.reply ≡ true = rw out.begins (eq-eqb p p refl) in
+    let dirty = begin-unsaved c out.earlier out.entry.client out.entry.call out.entry.reply (event-of c out.earlier out.entry there.here) p begins in
+    let top : page_lsn out.earlier p ≡ written_lsn p out.earlier = lsn-top c p out.earlier there.before (each_before _ (u ++ newer) older rising) dirty in
+    let above = newer-above p (first p).page_lsn out.earlier (u ++ newer) rising (every-append (λ r. nat_lt (first p).page_lsn r.lsn) (u ++ newer) older (subst (λ rs. every (λ r. nat_lt (first p).page_lsn r.lsn) rs ≡ true) joined firsts)).0 in
+    let lsn : x.page_lsn ≡ written_lsn p out.earlier = ap (λ (y : Content). y.page_lsn) is ∙ top in
+    stamped-older act log start from p (first p).image x u newer older whole s.from_start s.has.unwritten_from
+    (every-within (from_lsn from) p end out.later (later-from from p (λ d. began_saving synced p d.reply) out.later (out.entry ∷ out.earlier) out.last point))
+    (ap (λ (y : Content). y.image) is ∙ is-plain c m past out.later out.earlier out.entry p out.ticket out.image out.stands out.begins l s.honest)
+    (records-below p x.page_lsn out.earlier (omega arith))
+    (rise-front (u ++ newer) older rising)
+    (subst (λ n. every (λ r. nat_lt n r.lsn) (u ++ newer) ≡ true) (sym lsn) above)
+    alike
+recovers-by_lsn act c first synced past log start from end p x s rises firsts alike (inr (none, is)) =
+    let u = s.has.unwritten in
+    let newer = records p (within end past) in
+    let whole : records_from start log p ≡ u ++ (newer ++ []) = s.has.stands ∙ ap (λ rs. u ++ rs) (sym (append-nil newer)) in
+    let point : AtLeast from (least_since (lsn_written p) (λ d. began_saving synced p d.reply) (past ++ [])) = subst (λ s. AtLeast from (least_since (lsn_written p) (λ d. began_saving synced p d.reply) s)) (sym (append-nil past)) s.point in
+    stamped-older act log start from p (first p).image x u newer [] whole s.from_start s.has.unwritten_from
+    (every-within (from_lsn from) p end past (later-from from p (λ d. began_saving synced p d.reply) past [] none point))
+    (ap (λ (y : Content). y.image) is) refl (subst Rise s.has.stands rises)
+    (subst (λ (y : Content). every (λ r. nat_lt y.page_lsn r.lsn) (u ++ newer) ≡ true) (sym is) (subst (λ rs. every (λ r. nat_lt (first p).page_lsn r.lsn) rs ≡ true) s.has.stands firsts))
+    alike
+
+-- ---- what redo by page LSN is
+
+every-less : (m n : ℕ) (rs : List LogRecord) → m ≤ n → every (λ o. nat_lt o.lsn m) rs ≡ true → every (λ o. nat_le o.lsn n) rs ≡ true
+every-less m n [] le h = refl
+every-less m n (r ∷ rs) le h =
+    let a = and_parts (nat_lt r.lsn m) _ h in
+    let lt = ltb-true r.lsn m a.0 in
+    and_from _ _ (le-leb r.lsn n (omega arith)) (every-less m n rs le a.1)
+
+record NewerOf (rs : List LogRecord) (x : Content) : Type 0 where
+  image : (act_all_newer patch rs x).image ≡ put (filter (from_lsn (x.page_lsn + 1)) rs) x.image
+  below : (n : ℕ) → x.page_lsn < n → every (λ o. nat_lt o.lsn n) rs ≡ true → (act_all_newer patch rs x).page_lsn < n
+
+newer-of : (rs : List LogRecord) (x : Content) → Rise rs → NewerOf rs x
+newer-of [] x rise = record { image = refl; below = λ n lt e. lt }
+newer-of (r ∷ rs) x rise = go (nat_lt x.page_lsn r.lsn) refl (newer-of rs x rise.before)
+  where
+    f : List LogRecord → List LogRecord
+    f = filter (from_lsn (x.page_lsn + 1))
+
+    go : (b : Bool) → nat_lt x.page_lsn r.lsn ≡ b → NewerOf rs x → NewerOf (r ∷ rs) x
+    go true i older =
+        let above = ltb-true x.page_lsn r.lsn i in
+        let kept : from_lsn (x.page_lsn + 1) r ≡ true = le-leb (x.page_lsn + 1) r.lsn (omega arith) in
+        let test : nat_lt (act_all_newer patch rs x).page_lsn r.lsn ≡ true = lt-ltb (act_all_newer patch rs x).page_lsn r.lsn (older.below r.lsn above rise.here) in
+        let is : act_newer patch r (act_all_newer patch rs x) ≡ record { image = patched r.offset r.bytes (act_all_newer patch rs x).image; page_lsn = r.lsn } =
+        ap (λ (b : Bool). if b then record { image = patched r.offset r.bytes (act_all_newer patch rs x).image; page_lsn = r.lsn } else act_all_newer patch rs x) test in
+        record {
+          image = ap (λ (y : Content). y.image) is ∙ ap (patched r.offset r.bytes) older.image
+              ∙ ap (λ (b : Bool). put (cond b (r ∷ filter (from_lsn (x.page_lsn + 1)) rs) (filter (from_lsn (x.page_lsn + 1)) rs)) x.image) (sym kept);
+          below = λ n lt e. subst (λ (y : Content). y.page_lsn < n) (sym is) (ltb-true r.lsn n (and_parts (nat_lt r.lsn n) _ e).0);
+        }
+    go false i older =
+        let le = ltb-false x.page_lsn r.lsn i in
+        let all : every (λ o. nat_le o.lsn x.page_lsn) (r ∷ rs) ≡ true = and_from _ _ (le-leb r.lsn x.page_lsn le) (every-less r.lsn x.page_lsn rs le rise.here) in
+        let is : act_all_newer patch (r ∷ rs) x ≡ x = passed-over patch (r ∷ rs) x all in
+        record {
+          image = ap (λ (y : Content). y.image) is ∙ ap (λ ys. put ys x.image) (sym (none-older (x.page_lsn + 1) x.page_lsn (r ∷ rs) (omega arith) all));
+          below = λ n lt e. subst (λ (y : Content). y.page_lsn < n) (sym is) lt;
+        }
+
+max-test : (a b n : ℕ) → nat_le (max a b) n ≡ (nat_le a n && nat_le b n)
+max-test a b n = go (nat_le a n) refl (nat_le b n) refl
+  where
+    go : (s : Bool) → nat_le a n ≡ s → (t : Bool) → nat_le b n ≡ t → nat_le (max a b) n ≡ (s && t)
+    go true i true j = let x = leb-true a n i in let y = leb-true b n j in le-leb (max a b) n (omega arith)
+    go true i false j = let y = leb-false b n j in lt-leb (max a b) n (omega arith)
+    go false i t j = let x = leb-false a n i in lt-leb (max a b) n (omega arith)
+
+both-wanted : (from k p : ℕ) (log : List LogRecord) → filter (from_lsn k) (records_from from log p) ≡ records_from (max from k) log p
+both-wanted from k p [] = refl
+both-wanted from k p (r ∷ log) = go (r.page == p) (nat_le from r.lsn) (nat_le k r.lsn) refl (nat_le (max from k) r.lsn) (max-test from k r.lsn) (both-wanted from k p log)
+  where
+    go : (b s t : Bool) → nat_le k r.lsn ≡ t → (m : Bool) → m ≡ (s && t) → filter (from_lsn k) (records_from from log p) ≡ records_from (max from k) log p
+        → filter (from_lsn k) (cond (b && s) (r ∷ records_from from log p) (records_from from log p)) ≡ cond (b && m) (r ∷ records_from (max from k) log p) (records_from (max from k) log p)
+    go false s t j m i ih = ih
+    go true true true j true i ih = rw j (ap (λ ys. r ∷ ys) ih)
+    go true true true j false i ih = cc
+    go true true false j true i ih = cc
+    go true true false j false i ih = rw j ih
+    go true false t j true i ih = cc
+    go true false t j false i ih = ih
+
+-- it is redo from the LSN after that of the page, or from the redo point where that is later
+pub by_lsn-is : (log : List LogRecord) (from p : ℕ) (x : Content) → Rise (records_from from log p) → (redo_by_lsn patch from log p x).image ≡ redo (max from (x.page_lsn + 1)) log p x.image
+by_lsn-is log from p x rise = (newer-of (records_from from log p) x rise).image ∙ ap (λ rs. put rs x.image) (both-wanted from (x.page_lsn + 1) p log)

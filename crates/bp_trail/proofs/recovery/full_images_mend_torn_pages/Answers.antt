@@ -1,0 +1,11 @@
+use Rattle.bp_trail.proofs.Crashes.{redo-whole, recovers-torn, redo-alone}
+use Rattle.bp_trail.proofs.recovery.full_images_mend_torn_pages.Goals as goal
+
+pub returns-clause-any : goal.returns-clause-any
+returns-clause-any c = redo-whole
+
+pub returns-clause-torn : goal.returns-clause-torn
+returns-clause-torn c = recovers-torn
+
+pub returns-clause-alone : goal.returns-clause-alone
+returns-clause-alone c = redo-alone

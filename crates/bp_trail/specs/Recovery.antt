@@ -1,0 +1,194 @@
+-- What a crash leaves, and what redo makes of it: the records of the log, put into the images that
+-- the device has.
+use Rattle.std.specs.Prelude.{◌≡◌, ◌⊎◌, ℕ, ◌+◌, ◌≤◌, min, nat_lt, nat_le, Bool, ◌&&◌, ◌==◌, if◌then◌else◌, IsTrue, IsFalse, List, [], ◌∷◌, ◌++◌, length, filter, filter_map, Option, Some, None}
+use Rattle.bp_page.specs.Patched.{patched}
+use Rattle.bp_trail.specs.declared.entries.Entry.{Entry}
+use Rattle.bp_trail.specs.declared.entries.Call.{Call}
+use Rattle.bp_trail.specs.declared.entries.Call.TheVariants.{Write}
+use Rattle.bp_trail.specs.declared.entries.Reply.TheVariants.{WriteFirst}
+use Rattle.bp_trail.specs.declared.records.LogRecord.{LogRecord}
+use Rattle.bp_trail.specs.Lists.{some, every, least_since, EachEntry}
+use Rattle.bp_trail.specs.Event.{page_of, writes, lsn_of, lsn_written}
+use Rattle.bp_trail.specs.Trail.{Trail}
+use Rattle.bp_trail.specs.Parameters.{Parameters}
+use Rattle.bp_trail.specs.Clock.{durable}
+use Rattle.bp_trail.specs.Saved.{began_saving, page_lsn}
+use Rattle.bp_trail.specs.Legal.{Legal}
+use Rattle.bp_trail.specs.Device.{BringsDue}
+use Rattle.bp_trail.specs.Standing.{Content}
+
+-- ---- the log
+
+-- a record tells a write. A list of records is newest first, as a trail is
+abbrev pub record_of : Call → LogRecord
+record_of (Write n p offset bytes lsn) = record { page = p; offset = offset; bytes = bytes; lsn = lsn }
+record_of _ = record { page = 0; offset = 0; bytes = []; lsn = 0 }
+
+-- the records of the writes of p
+abbrev pub record_written : ℕ → Entry → Option LogRecord
+record_written p e = if writes p e then Some (record_of e.call) else None
+
+abbrev pub records : ℕ → Trail → List LogRecord
+records p past = filter_map (record_written p) past
+
+-- the entries but for the writes beyond the end of the log
+abbrev pub within : ℕ → Trail → Trail
+within end past = filter (λ e. nat_le (lsn_of e.call) end) past
+
+-- what the log has of p from an LSN on
+abbrev pub wanted : ℕ → ℕ → LogRecord → Bool
+wanted from p r = (r.page == p) && nat_le from r.lsn
+
+abbrev pub records_from : ℕ → List LogRecord → ℕ → List LogRecord
+records_from from log p = filter (wanted from p) log
+
+-- no LSN is below an older one; and each is above every older one
+abbrev pub NeverFall : List LogRecord → Type 0
+NeverFall log = EachEntry (λ older r. IsTrue (every (λ o. nat_le o.lsn r.lsn) older)) log
+
+abbrev pub Rise : List LogRecord → Type 0
+Rise log = EachEntry (λ older r. IsTrue (every (λ o. nat_lt o.lsn r.lsn) older)) log
+
+-- the bytes of each record lie within a page of this size
+abbrev pub AllFit : ℕ → List LogRecord → Type 0
+AllFit size [] = Unit {0}
+AllFit size (r ∷ older) = (r.offset + length r.bytes ≤ size) × AllFit size older
+
+-- the oldest record has all bytes of a page of this size
+pub record BeginsWhole (size : ℕ) (log : List LogRecord) : Type 0 where
+  pub newer : List LogRecord
+  pub oldest : LogRecord
+  pub stands : log ≡ newer ++ oldest ∷ []
+  pub offset : oldest.offset ≡ 0
+  pub bytes : length oldest.bytes ≡ size
+
+-- ---- redo
+
+-- the bytes of a record put into an image, and those of each, the oldest first
+abbrev pub patch : LogRecord → List ℕ → List ℕ
+patch r image = patched r.offset r.bytes image
+
+abbrev pub put : List LogRecord → List ℕ → List ℕ
+put [] image = image
+put (r ∷ older) image = patch r (put older image)
+
+-- redo of p from an LSN on, into an image of p
+abbrev pub redo : ℕ → List LogRecord → ℕ → List ℕ → List ℕ
+redo from log p image = put (records_from from log p) image
+
+-- redo from an LSN on makes of this image what the log from `start` on makes of the first one
+pub record Mends (log : List LogRecord) (start from p : ℕ) (first image : List ℕ) : Type 0 where
+  pub from_start : start ≤ from
+  pub same : redo from log p image ≡ redo start log p first
+
+-- Redo by page LSN: a record is acted on only if its LSN is above that of the page, which it then
+-- is. To act is to `patch`, or to do in another way what the write did.
+abbrev pub act_newer : (LogRecord → List ℕ → List ℕ) → LogRecord → Content → Content
+act_newer act r x =
+    if nat_lt x.page_lsn r.lsn then record { image = act r x.image; page_lsn = r.lsn } else x
+
+abbrev pub act_all_newer : (LogRecord → List ℕ → List ℕ) → List LogRecord → Content → Content
+act_all_newer act [] x = x
+act_all_newer act (r ∷ older) x = act_newer act r (act_all_newer act older x)
+
+abbrev pub redo_by_lsn : (LogRecord → List ℕ → List ℕ) → ℕ → List LogRecord → ℕ → Content
+    → Content
+redo_by_lsn act from log p x = act_all_newer act (records_from from log p) x
+
+-- on the page as its write found it, each record does what its write did
+abbrev pub ActsAlike : (LogRecord → List ℕ → List ℕ) → List LogRecord → List ℕ → Type 0
+ActsAlike act log image = EachEntry (λ older r. act r (put older image) ≡ patch r (put older image)) log
+
+-- each record acted on, the oldest first, in whatever image
+abbrev pub act_all : (LogRecord → List ℕ → List ℕ) → List LogRecord → List ℕ → List ℕ
+act_all act [] image = image
+act_all act (r ∷ older) image = act r (act_all act older image)
+
+-- the oldest record of p from an LSN on makes the page anew: whatever the page has, to act on it
+-- gives what the page had after its write
+pub record MakesAnew (act : LogRecord → List ℕ → List ℕ) (log : List LogRecord) (start from p : ℕ)
+    (first : List ℕ) : Type 0 where
+  pub newer : List LogRecord
+  pub oldest : LogRecord
+  pub rest : List LogRecord
+  pub all : records_from start log p ≡ newer ++ oldest ∷ rest
+  pub needed : records_from from log p ≡ newer ++ oldest ∷ []
+  pub anew : (image : List ℕ) → act oldest image ≡ put (oldest ∷ rest) first
+
+-- ---- the device
+
+-- an image that went out of p, and no later write-out of p was safe. A write-out is safe if it ended
+-- well in `synced`: the trail when the last good sync of the device began, or the whole trail
+-- where the device keeps what it was given
+pub record WentOut (synced past : Trail) (p : ℕ) : Type 0 where
+  pub later : Trail
+  pub entry : Entry
+  pub earlier : Trail
+  pub ticket : ℕ
+  pub image : List ℕ
+  pub stands : past ≡ later ++ entry ∷ earlier
+  pub begins : entry.reply ≡ WriteFirst ticket p image
+  pub last : IsFalse (some (λ e. began_saving synced p e.reply) later)
+
+-- no write-out of p was safe
+abbrev pub NoneSafe : Trail → Trail → ℕ → Type 0
+NoneSafe synced past p = IsFalse (some (λ e. began_saving synced p e.reply) past)
+
+-- what the device may have of p after a crash: such an image, or what it had at first
+abbrev pub MayHave : (ℕ → List ℕ) → Trail → Trail → ℕ → List ℕ → Type 0
+MayHave first synced past p image =
+    ((out : WentOut synced past p) × (image ≡ out.image))
+    ⊎ (NoneSafe synced past p × (image ≡ first p))
+
+-- the same of a device that has page LSNs, each as it is when the image goes out
+abbrev pub MayHaveStamped : (ℕ → Content) → Trail → Trail → ℕ → Content → Type 0
+MayHaveStamped first synced past p x =
+    ((out : WentOut synced past p)
+    × (x ≡ record { image = out.image; page_lsn = page_lsn out.earlier p }))
+    ⊎ (NoneSafe synced past p × (x ≡ first p))
+
+-- ---- what an engine keeps
+
+-- each good read of p brought what was due
+abbrev pub HonestOf : (ℕ → List ℕ) → ℕ → Trail → Type 0
+HonestOf first p past = EachEntry (λ before e. page_of e.call ≡ p → BringsDue first before e) past
+
+-- the least LSN of the writes of p after which no write-out of it began that was safe
+abbrev pub first_unsafe : Trail → Trail → ℕ → Option ℕ
+first_unsafe synced past p =
+    least_since (lsn_written p) (λ e. began_saving synced p e.reply) past
+
+-- redo may begin at an LSN that is not above any of these
+abbrev pub IsRedoPoint : ℕ → Trail → Trail → ℕ → Type 0
+IsRedoPoint from synced past p = (least : ℕ) → first_unsafe synced past p ≡ Some least → from ≤ least
+
+-- From `start` on the log has of p the records of its writes, up to the log's end, in their order.
+-- After these may stand records whose write never came to be, none below the redo point.
+pub record LogHas (log : List LogRecord) (start from end : ℕ) (past : Trail) (p : ℕ) : Type 0 where
+  pub unwritten : List LogRecord
+  pub stands : records_from start log p ≡ unwritten ++ records p (within end past)
+  pub unwritten_from : IsTrue (every (λ r. nat_le from r.lsn) unwritten)
+
+-- What is so of page p where the pool is stopped after `past`. The device had `first` at first, and
+-- gave back of p what was written. The log has the records of p from `start` on, and ends at `end`,
+-- which is not below the durable mark. Redo begins at `from`.
+pub record Stopped (c : Parameters) (first : ℕ → List ℕ) (synced past : Trail)
+    (log : List LogRecord) (start from end p : ℕ) : Type 0 where
+  pub legal : Legal c past
+  pub honest : HonestOf first p past
+  pub mark : durable past ≤ end
+  pub has : LogHas log start from end past p
+  pub from_start : start ≤ from
+  pub point : IsRedoPoint from synced past p
+
+-- ---- a checkpoint
+
+-- the lesser of the next LSN and the least of the writes that have not gone out
+abbrev pub redo_point : Option ℕ → ℕ → ℕ
+redo_point None next = next
+redo_point (Some least) next = min least next
+
+-- no write has an LSN below this one
+abbrev pub WritesFrom : ℕ → Trail → Type 0
+WritesFrom next late =
+    EachEntry (λ before e. (p lsn : ℕ) → lsn_written p e ≡ Some lsn → next ≤ lsn) late
