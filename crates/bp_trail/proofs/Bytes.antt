@@ -1,6 +1,6 @@
 -- Bytes that are put into an image, and put again.
-use Rattle.std.proofs.Common.{◌≡◌, inl, inr, refl, sym, ap, ◌∙◌, ℕ, ◌+◌, ◌-◌, ◌≤◌, ◌<◌, nat_le, Bool, true, false, cond, List, [], ◌∷◌, ◌++◌, length, filter, take, drop, get_or, arith, length-append, length-drop}
-use Rattle.std.proofs.lemmas.List.{length-take, get_or-take, get_or-drop, get_or_append_left, get_or-append_right, ext_get_or}
+use Rattle.std.proofs.Common.{◌≡◌, inl, inr, refl, sym, ap, subst, ◌∙◌, ℕ, ◌+◌, ◌-◌, ◌≤◌, ◌<◌, nat_le, Bool, true, false, cond, List, [], ◌∷◌, ◌++◌, length, filter, take, drop, get_or, arith, length-append, length-drop, append-nil}
+use Rattle.std.proofs.lemmas.List.{length-take, get_or-take, get_or-drop, get_or_append_left, get_or-append_right, ext_get_or, drop_all}
 use Rattle.std.proofs.lemmas.Bool.{and_parts, cases_lt, leb-true, leb-false, lt-leb}
 use Rattle.bp_page.specs.Patched.{patched}
 use Rattle.bp_trail.specs.declared.records.LogRecord.{LogRecord}
@@ -50,6 +50,12 @@ patched-alike offset bytes a b i fa fb e = elim (cases_lt i offset) [
   ]
 ]
 
+-- bytes that are put over all of an image
+pub patched-whole : (offset : ℕ) (bytes image : List ℕ) → offset ≡ 0 → length bytes ≡ length image → patched offset bytes image ≡ bytes
+patched-whole offset bytes image z long =
+    subst (λ n. patched n bytes image ≡ bytes) (sym z)
+    (ap (λ xs. bytes ++ xs) (drop_all (0 + length bytes) image (omega arith)) ∙ append-nil bytes)
+
 -- ---- records that fit
 
 pub length-put : (size : ℕ) (log : List LogRecord) (image : List ℕ) → AllFit size log → length image ≡ size → length (put log image) ≡ size
@@ -66,6 +72,10 @@ filter-fit size p (r ∷ older) f = go (p r) (filter-fit size p older f.1)
     go : (b : Bool) → AllFit size (filter p older) → AllFit size (cond b (r ∷ filter p older) (filter p older))
     go true ih = (f.0, ih)
     go false ih = ih
+
+pub fit-parts : (size : ℕ) (newer older : List LogRecord) → AllFit size (newer ++ older) → AllFit size newer × AllFit size older
+fit-parts size [] older f = (tt, f)
+fit-parts size (r ∷ newer) older f = let h = fit-parts size newer older f.1 in ((f.0, h.0), h.1)
 
 -- ---- records from an LSN on
 

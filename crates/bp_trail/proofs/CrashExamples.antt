@@ -1,21 +1,24 @@
--- A crash that redo mends, and for each premise a crash that it does not mend without it. All of it computes.
-use Rattle.std.proofs.Common.{◌≡◌, inl, inr, refl, ap, ℕ, ◌+◌, ◌≤◌, nat_lt, true, ◌==◌, if◌then◌else◌, List, [], ◌∷◌, ◌++◌, get_or, Some, None, arith}
+-- Crashes from which redo recovers the page, and for each premise a crash from which it does not without it. All of it computes.
+use Rattle.std.proofs.Common.{◌≡◌, inl, inr, refl, sym, ap, ◌∙◌, ℕ, ◌+◌, ◌≤◌, nat_lt, true, false, ◌==◌, if◌then◌else◌, List, [], ◌∷◌, ◌++◌, get_or, Some, None, arith}
 use Rattle.std.proofs.lemmas.Option.{none-some}
+use Rattle.std.proofs.lemmas.Bool.{or_parts}
 use Rattle.bp_trail.specs.declared.entries.Entry.{Entry}
 use Rattle.bp_trail.specs.declared.entries.Call.TheVariants.{Mark, Fix, ReadEnd, WriteEnd, Write, Flush}
 use Rattle.bp_trail.specs.declared.entries.Reply.TheVariants.{Done, Load, WriteFirst, Fixed, Cleaned}
 use Rattle.bp_trail.specs.declared.records.LogRecord.{LogRecord}
 use Rattle.bp_trail.specs.Parameters.{Parameters}
-use Rattle.bp_trail.specs.Lists.{every}
+use Rattle.bp_trail.specs.Lists.{some, every}
 use Rattle.bp_trail.specs.Trail.{Trail}
 use Rattle.bp_trail.specs.Clock.{durable}
 use Rattle.bp_trail.specs.Places.{resident}
 use Rattle.bp_trail.specs.Images.{held, plain_map}
-use Rattle.bp_trail.specs.Saved.{IsRedoFrom}
+use Rattle.bp_trail.specs.Saved.{began_saving, IsRedoFrom}
 use Rattle.bp_trail.specs.Legal.{Legal}
+use Rattle.bp_trail.specs.Device.{HonestOf}
+use Rattle.bp_trail.specs.Recovery.GaveBack.{from_opening, since_used_again}
 use Rattle.bp_trail.specs.Pieces.{by}
 use Rattle.bp_trail.specs.Standing.{Content}
-use Rattle.bp_trail.specs.Recovery.{records, records_from, within, NeverFall, Rise, patch, redo, redo_by_lsn, ActsAlike, act_all, redo_point, NoneSafe, MayHave, MayHaveStamped, IsRedoPoint, HonestOf, LogHas, Stopped}
+use Rattle.bp_trail.specs.Recovery.{records, records_from, within, NeverFall, Rise, patch, redo, redo_by_lsn, AppliesAlike, apply_all, redo_point, NoneSafe, MayHave, MayHaveStamped, IsRedoPoint, UsedAgain, LogHas, Stopped}
 
 -- one frame, and a file of one page of two bytes
 abbrev c : Parameters
@@ -98,27 +101,27 @@ first_record = told 0 7 1
 abbrev second_record : LogRecord
 second_record = told 1 8 2
 
--- ---- crashes that are mended
+-- ---- crashes from which redo recovers
 
 -- the second write is in the log and not on the device; redo begins at it
-mended-stopped : Stopped c zeros written_twice written_twice (second_record ∷ first_record ∷ []) 0 2 2 0
-mended-stopped = record {
+recovered-stopped : Stopped c zeros written_twice written_twice (second_record ∷ first_record ∷ []) 0 2 2 0
+recovered-stopped = record {
   legal = lawful-twice;
-  honest = honest-twice;
+  gave_back = from_opening honest-twice;
   mark = omega arith;
   has = record { unwritten = []; stands = refl; unwritten_from = refl };
   from_start = omega arith;
   point = λ least e. (let is : 2 ≡ least = cc in omega arith);
 }
 
-mended-has : MayHave zeros written_twice written_twice 0 (7 ∷ 0 ∷ [])
-mended-has = inl (record { later = put_at 1 8 2 ∷ by 0 (WriteEnd 1 0 true) Cleaned ∷ []; entry = flush_of; earlier = marked_once; ticket = 1; image = 7 ∷ 0 ∷ []; stands = refl; begins = refl; last = refl }, refl)
+recovered-has : MayHave zeros written_twice written_twice 0 (7 ∷ 0 ∷ [])
+recovered-has = inl (record { later = put_at 1 8 2 ∷ by 0 (WriteEnd 1 0 true) Cleaned ∷ []; entry = flush_of; earlier = marked_once; ticket = 1; image = 7 ∷ 0 ∷ []; stands = refl; begins = refl; last = refl }, refl)
 
-mended : redo 2 (second_record ∷ first_record ∷ []) 0 (7 ∷ 0 ∷ []) ≡ 7 ∷ 8 ∷ []
-mended = refl
+recovered : redo 2 (second_record ∷ first_record ∷ []) 0 (7 ∷ 0 ∷ []) ≡ 7 ∷ 8 ∷ []
+recovered = refl
 
-mended-is_plain : plain_map zeros (within 2 written_twice) 0 ≡ 7 ∷ 8 ∷ []
-mended-is_plain = refl
+recovered-is_plain : plain_map zeros (within 2 written_twice) 0 ≡ 7 ∷ 8 ∷ []
+recovered-is_plain = refl
 
 -- where the log ends before it, it is not there
 ends-sooner : plain_map zeros (within 1 written_twice) 0 ≡ 7 ∷ 0 ∷ []
@@ -145,7 +148,7 @@ unsynced-has = inr (refl, refl)
 unsynced-stopped : Stopped c zeros marked_once saved_once (first_record ∷ []) 0 1 1 0
 unsynced-stopped = record {
   legal = lawful-saved;
-  honest = honest-saved;
+  gave_back = from_opening honest-saved;
   mark = omega arith;
   has = record { unwritten = []; stands = refl; unwritten_from = refl };
   from_start = omega arith;
@@ -155,7 +158,40 @@ unsynced-stopped = record {
 unsynced : redo 1 (first_record ∷ []) 0 (0 ∷ 0 ∷ []) ≡ 7 ∷ 0 ∷ []
 unsynced = refl
 
--- ---- each premise is needed: the others hold, and the page is not mended
+-- ---- what no crash of the model leaves, and what an engine may not take
+
+-- a lost write: a write-out that ended well is on a device that forgets nothing
+lost : (later : Trail) (entry : Entry) (earlier : Trail) (ticket : ℕ) (image : List ℕ) → saved_once ≡ later ++ entry ∷ earlier → entry.reply ≡ WriteFirst ticket 0 image
+    → some (λ e. began_saving saved_once 0 e.reply) later ≡ false → 0 ∷ 0 ∷ [] ≡ image → ⊥
+lost [] entry earlier ticket image stands begins last is = (let same : by 0 (WriteEnd 1 0 true) Cleaned ≡ entry = cc in cc)
+lost (d ∷ []) entry earlier ticket image stands begins last is =
+    let same : flush_of ≡ entry = cc in
+    let went : WriteFirst 1 0 (7 ∷ 0 ∷ []) ≡ WriteFirst ticket 0 image = ap (λ (e : Entry). e.reply) same ∙ begins in
+    let image_is : 7 ∷ 0 ∷ [] ≡ image = cc in
+    differ 0 (7 ∷ 0 ∷ []) (0 ∷ 0 ∷ []) (λ e. absurd (omega arith)) (image_is ∙ sym is)
+lost (d ∷ f ∷ later) entry earlier ticket image stands begins last is =
+    let same : flush_of ≡ f = cc in
+    let saves : began_saving saved_once 0 f.reply ≡ true = ap (λ (e : Entry). began_saving saved_once 0 e.reply) (sym same) in
+    let a = or_parts (began_saving saved_once 0 d.reply) _ last in
+    let b = or_parts (began_saving saved_once 0 f.reply) _ a.1 in
+    cc
+
+lost-write : MayHave zeros saved_once saved_once 0 (0 ∷ 0 ∷ []) → ⊥
+lost-write (inl (out, is)) = lost out.later out.entry out.earlier out.ticket out.image out.stands out.begins out.last is
+lost-write (inr (none, is)) = saved-not_first none
+
+-- an image ahead of the log: a log that ends below the durable mark
+ahead-of_log : Stopped c zeros going_out going_out [] 0 0 0 0 → ⊥
+ahead-of_log s = let le = s.mark in absurd (omega arith)
+
+-- a redo point that is one too late
+in-time : IsRedoPoint 1 written_once written_once 0
+in-time least e = (let is : 1 ≡ least = cc in omega arith)
+
+one-too_late : IsRedoPoint 2 written_once written_once 0 → ⊥
+one-too_late point = (let le = point 1 refl in absurd (omega arith))
+
+-- ---- each premise is needed: the others hold, and the page is not recovered
 
 -- mark: the log ends below the durable mark, and the image is ahead of it
 without-mark : Legal c going_out × HonestOf zeros 0 going_out × LogHas [] 0 0 0 going_out 0 × IsRedoPoint 0 going_out going_out 0 × MayHave zeros going_out going_out 0 (7 ∷ 0 ∷ [])
@@ -254,7 +290,7 @@ without-point = (lawful-once, honest-once, omega arith, record { unwritten = [];
 without-has_it : Stopped c zeros saved_once saved_once (first_record ∷ []) 0 2 1 0
     × (redo 2 (first_record ∷ []) 0 (0 ∷ 0 ∷ []) ≡ redo 0 (first_record ∷ []) 0 (0 ∷ 0 ∷ []) → ⊥)
 without-has_it = (
-  record { legal = lawful-saved; honest = honest-saved; mark = omega arith; has = record { unwritten = []; stands = refl; unwritten_from = refl }; from_start = omega arith; point = λ least e. absurd (none-some least e) },
+  record { legal = lawful-saved; gave_back = from_opening honest-saved; mark = omega arith; has = record { unwritten = []; stands = refl; unwritten_from = refl }; from_start = omega arith; point = λ least e. absurd (none-some least e) },
   differ 0 _ _ (λ e. absurd (omega arith)),
 )
 
@@ -285,13 +321,13 @@ without-never_fall = (
         };
       };
     };
-    honest = record {
+    gave_back = from_opening (record {
       here = λ i image h d. cc;
       before = record {
         here = λ i image h d. cc;
         before = record { here = λ i image h d. cc; before = record { here = λ i image h d. cc; before = record { here = λ i image h d. cc; before = honest-opened } } };
       };
-    };
+    });
     mark = omega arith;
     has = record { unwritten = []; stands = refl; unwritten_from = refl };
     from_start = omega arith;
@@ -301,7 +337,7 @@ without-never_fall = (
   differ 0 _ _ (λ e. absurd (omega arith)),
 )
 
--- Rise, for redo by page LSN: two writes have one LSN, and the page goes out between them. Redo that looks at no page LSN mends it
+-- Rise, for redo by page LSN: two writes have one LSN, and the page goes out between them. Redo that looks at no page LSN recovers it
 abbrev stamped_first : ℕ → Content
 stamped_first p = record { image = 0 ∷ 0 ∷ []; page_lsn = 0 }
 
@@ -316,7 +352,7 @@ without-rise : Stopped c zeros written_meanwhile written_meanwhile (told 0 8 1 �
 without-rise = (
   record {
     legal = record { here = record { client = refl; allowed = refl; reply = inl refl }; before = lawful-going };
-    honest = record { here = λ i image h d. cc; before = honest-going };
+    gave_back = from_opening (record { here = λ i image h d. cc; before = honest-going });
     mark = omega arith;
     has = record { unwritten = []; stands = refl; unwritten_from = refl };
     from_start = omega arith;
@@ -335,7 +371,7 @@ without-first_below : Rise (records_from 0 (first_record ∷ []) 0) × Stopped c
     × ((redo_by_lsn patch 0 (first_record ∷ []) 0 (record { image = 0 ∷ 0 ∷ []; page_lsn = 5 })).image ≡ redo 0 (first_record ∷ []) 0 (0 ∷ 0 ∷ []) → ⊥)
 without-first_below = (
   record { here = refl; before = tt },
-  record { legal = lawful-once; honest = honest-once; mark = omega arith; has = record { unwritten = []; stands = refl; unwritten_from = refl }; from_start = omega arith; point = λ least e. omega arith },
+  record { legal = lawful-once; gave_back = from_opening honest-once; mark = omega arith; has = record { unwritten = []; stands = refl; unwritten_from = refl }; from_start = omega arith; point = λ least e. omega arith },
   inr (refl, refl),
   differ 0 _ _ (λ e. absurd (omega arith)),
 )
@@ -347,11 +383,11 @@ add_one r image = (get_or image 0 0 + 1) ∷ get_or image 1 0 ∷ []
 abbrev counted : Trail
 counted = put_at 0 2 2 ∷ by 0 (Flush 0) (WriteFirst 1 0 (1 ∷ 0 ∷ [])) ∷ by 0 (Mark 1) Done ∷ put_at 0 1 1 ∷ opened
 
-counted-alike : ActsAlike add_one (records 0 counted) (0 ∷ 0 ∷ [])
+counted-alike : AppliesAlike add_one (records 0 counted) (0 ∷ 0 ∷ [])
 counted-alike = record { here = refl; before = record { here = refl; before = tt } }
 
-counted-mended : (redo_by_lsn add_one 0 (records 0 counted) 0 (record { image = 1 ∷ 0 ∷ []; page_lsn = 1 })).image ≡ 2 ∷ 0 ∷ []
-counted-mended = refl
+counted-recovered : (redo_by_lsn add_one 0 (records 0 counted) 0 (record { image = 1 ∷ 0 ∷ []; page_lsn = 1 })).image ≡ 2 ∷ 0 ∷ []
+counted-recovered = refl
 
 -- where the log has a whole page and then what was added, a torn page is made from the log alone
 abbrev begun_whole : Trail
@@ -360,14 +396,69 @@ begun_whole = put_at 0 2 2 ∷ by 0 (Write 0 0 0 (1 ∷ 0 ∷ []) 1) Done ∷ op
 abbrev whole_or_one_more : LogRecord → List ℕ → List ℕ
 whole_or_one_more r image = if r.lsn == 1 then r.bytes else add_one r image
 
-made-anew : act_all whole_or_one_more (records_from 1 (records 0 begun_whole) 0) (9 ∷ 9 ∷ []) ≡ 2 ∷ 0 ∷ []
+made-anew : apply_all whole_or_one_more (records_from 1 (records 0 begun_whole) 0) (9 ∷ 9 ∷ []) ≡ 2 ∷ 0 ∷ []
 made-anew = refl
 
--- a checkpoint: a write after it has an LSN below the one that was noted
+-- ---- a page that is used again
+
+-- The device has 7 0 of it. The pool was told of zeros, and the first write has all bytes
+abbrev old : ℕ → List ℕ
+old p = 7 ∷ 0 ∷ []
+
+abbrev whole_write : Entry
+whole_write = by 0 (Write 0 0 0 (3 ∷ 4 ∷ []) 2) Done
+
+abbrev used_again : Trail
+used_again = put_at 1 8 3 ∷ whole_write ∷ opened
+
+again : UsedAgain 2 old 3 used_again 0
+again = record {
+  later = put_at 1 8 3 ∷ [];
+  entry = whole_write;
+  earlier = opened;
+  stands = refl;
+  writes_it = refl;
+  offset = refl;
+  bytes = refl;
+  opening = refl;
+  logged = omega arith;
+  honest = record { here = λ i image h d. cc; before = tt };
+}
+
+again-stopped : Stopped c old used_again used_again (records 0 used_again) 0 2 3 0
+again-stopped = record {
+  legal = record {
+    here = record { client = refl; allowed = refl; reply = inl refl };
+    before = record { here = record { client = refl; allowed = refl; reply = inl refl }; before = lawful-opened };
+  };
+  gave_back = since_used_again again;
+  mark = omega arith;
+  has = record { unwritten = []; stands = refl; unwritten_from = refl };
+  from_start = omega arith;
+  point = λ least e. (let is : 2 ≡ least = cc in omega arith);
+}
+
+again-unread : HonestOf old 0 used_again → ⊥
+again-unread h = differ 0 (0 ∷ 0 ∷ []) (7 ∷ 0 ∷ []) (λ e. absurd (omega arith)) (h.before.before.here refl (7 ∷ 0 ∷ []) refl refl)
+
+again-redone : redo 2 (records 0 used_again) 0 (7 ∷ 0 ∷ []) ≡ 3 ∷ 8 ∷ []
+again-redone = refl
+
+again-held : held used_again 0 ≡ 3 ∷ 8 ∷ []
+again-held = refl
+
+-- where its first record has not all bytes, redo leaves old ones that no reader saw
+without-whole : Legal c (put_at 1 8 2 ∷ opened) × MayHave old (put_at 1 8 2 ∷ opened) (put_at 1 8 2 ∷ opened) 0 (7 ∷ 0 ∷ []) × IsRedoPoint 2 (put_at 1 8 2 ∷ opened) (put_at 1 8 2 ∷ opened) 0
+    × (held (put_at 1 8 2 ∷ opened) 0 ≡ 0 ∷ 8 ∷ []) × (redo 2 (second_record ∷ []) 0 (7 ∷ 0 ∷ []) ≡ 7 ∷ 8 ∷ [])
+without-whole = (record { here = record { client = refl; allowed = refl; reply = inl refl }; before = lawful-opened }, inr (refl, refl), λ least e. (let is : 2 ≡ least = cc in omega arith), refl, refl)
+
+-- ---- a checkpoint, and redo that is interrupted
+
+-- a write after a checkpoint has an LSN below the one that was noted
 without-writes_from : IsRedoFrom opened None × (IsRedoPoint (redo_point None 2) opened (put_at 0 7 1 ∷ opened) 0 → ⊥)
 without-writes_from = (λ p. refl, λ point. (let le = point 1 refl in absurd (omega arith)))
 
--- redo that is cut off: a record reaches beyond the page
+-- redo that stopped halfway: a record reaches beyond the page
 without-fit : redo 0 ([] ++ told 5 7 1 ∷ []) 0 (redo 0 (told 5 7 1 ∷ []) 0 []) ≡ redo 0 ([] ++ told 5 7 1 ∷ []) 0 [] → ⊥
 without-fit = differ 1 _ _ (λ e. absurd (omega arith))
 

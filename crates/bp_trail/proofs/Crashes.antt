@@ -1,11 +1,10 @@
 -- A checkpoint, redo that is cut off, a second crash, and pages that are torn.
-use Rattle.std.proofs.Common.{◌≡◌, ◌⊎◌, inl, inr, refl, sym, ap, subst, ◌∙◌, ℕ, ◌+◌, min, ◌≤◌, nat_le, Bool, true, false, ◌==◌, if◌then◌else◌, cond, ◌↔◌, Contains, List, [], ◌∷◌, ◌++◌, length, take, drop, reverse, get_or, suc, ◌<◌, append-nil, Option, Some, None, arith}
-use Rattle.std.proofs.lemmas.List.{drop_all, take-append-drop, reverse-append}
+use Rattle.std.proofs.Common.{◌≡◌, ◌⊎◌, inl, inr, refl, sym, ap, subst, ◌∙◌, ℕ, min, ◌≤◌, nat_le, Bool, true, false, ◌==◌, if◌then◌else◌, cond, ◌↔◌, Contains, List, [], ◌∷◌, ◌++◌, length, take, drop, reverse, get_or, suc, ◌<◌, Option, Some, None, arith}
+use Rattle.std.proofs.lemmas.List.{take-append-drop, reverse-append}
 use Rattle.std.proofs.Math.Seq.{drop-cons}
 use Rattle.std.proofs.lemmas.List.Elements.{filter-append}
 use Rattle.std.proofs.lemmas.Option.{none-some}
 use Rattle.std.proofs.lemmas.Bool.{eqb-true, and_from, leb-true, le-leb}
-use Rattle.bp_page.specs.Patched.{patched}
 use Rattle.bp_trail.specs.declared.entries.Entry.{Entry}
 use Rattle.bp_trail.specs.declared.entries.Reply.{Reply}
 use Rattle.bp_trail.specs.declared.entries.Reply.TheVariants.{WriteFirst}
@@ -17,14 +16,17 @@ use Rattle.bp_trail.specs.Trail.{Trail}
 use Rattle.bp_trail.specs.Clock.{durable}
 use Rattle.bp_trail.specs.Saved.{began_saving, first_lsn, IsRedoFrom}
 use Rattle.bp_trail.specs.Legal.{Legal}
-use Rattle.bp_trail.specs.Device.{Honest}
-use Rattle.bp_trail.specs.Recovery.{wanted, records, within, records_from, NeverFall, AllFit, BeginsWhole, put, redo, WentOut, NoneSafe, MayHave, ActsAlike, act_all, MakesAnew, Mends, IsRedoPoint, HonestOf, LogHas, Stopped, redo_point, WritesFrom}
+use Rattle.bp_trail.specs.Device.{HonestOf}
+use Rattle.bp_trail.specs.Recovery.{wanted, records, within, records_from, NeverFall, AllFit, BeginsWithFullImage, put, redo, WentOut, NoneSafe, MayHave, AppliesAlike, apply_all, MakesAnew, Recovers, GaveBack, IsRedoPoint, LogHas, Stopped, redo_point, WritesFrom}
+use Rattle.bp_trail.specs.Recovery.GaveBack.{from_opening, since_used_again}
 use Rattle.bp_trail.specs.Places.{resident}
 use Rattle.bp_trail.specs.Images.{held, plain_map}
 use Rattle.bp_trail.proofs.Elements.{contains-here, contains-later, contains-cases, contains-none}
-use Rattle.bp_trail.proofs.OnePage.{held-plain-of}
-use Rattle.bp_trail.proofs.Bytes.{length-put, from_lsn, ordered-zero, put-again, put-append}
-use Rattle.bp_trail.proofs.Recovered.{filter-every, refilter, AtLeast, plain-put, records-fit, legal-there, honest-there, is-plain, redo-plain, recovers, recovers-plain}
+use Rattle.bp_trail.proofs.Content.{held-plain}
+use Rattle.bp_trail.proofs.Bytes.{length-put, patched-whole, fit-parts, from_lsn, ordered-zero, put-again, put-append}
+use Rattle.bp_trail.proofs.Recovered.{filter-every, refilter, AtLeast, plain-put, legal-there}
+use Rattle.bp_trail.proofs.UsedAgain.{sent-sized}
+use Rattle.bp_trail.proofs.Redoing.{has-records, redo-plain, recovers, recovers-plain}
 use Rattle.bp_trail.proofs.Stamped.{every-filtered}
 
 -- ---- a checkpoint
@@ -72,9 +74,9 @@ redo-grows log added start from p image x le h is =
 
 -- a second run begins with what the first crash left, and redoes the log from its redo point
 pub stopped-again : (c : Parameters) (second : ℕ → List ℕ) (synced past : Trail) (log added : List LogRecord) (start from later end p : ℕ) (first image : List ℕ)
-    → Mends log start from p first (second p) → every (from_lsn from) added ≡ true
+    → Recovers log start from p first (second p) → every (from_lsn from) added ≡ true
     → Stopped c second synced past (added ++ log) from later end p → NeverFall (records_from from (added ++ log) p) → MayHave second synced past p image
-    → Mends (added ++ log) start later p first image
+    → Recovers (added ++ log) start later p first image
 stopped-again c second synced past log added start from later end p first image was h s rises may =
     let a = was.from_start in
     let b = s.from_start in
@@ -99,13 +101,8 @@ redo-cut_off newer older from p image fit =
 
 -- ---- pages that are torn
 
-patched-whole : (offset : ℕ) (bytes image : List ℕ) → offset ≡ 0 → length bytes ≡ length image → patched offset bytes image ≡ bytes
-patched-whole offset bytes image z long =
-    subst (λ n. patched n bytes image ≡ bytes) (sym z)
-    (ap (λ xs. bytes ++ xs) (drop_all (0 + length bytes) image (omega arith)) ∙ append-nil bytes)
-
 -- where all bytes of the page are in the oldest record, redo reads nothing of the image
-pub redo-whole : (log : List LogRecord) (from p : ℕ) (a b : List ℕ) → BeginsWhole (length a) (records_from from log p) → length b ≡ length a → redo from log p a ≡ redo from log p b
+pub redo-whole : (log : List LogRecord) (from p : ℕ) (a b : List ℕ) → BeginsWithFullImage (length a) (records_from from log p) → length b ≡ length a → redo from log p a ≡ redo from log p b
 redo-whole log from p a b w same =
     let at : (x : List ℕ) → length x ≡ length a → redo from log p x ≡ put w.newer w.oldest.bytes =
     λ x i. ap (λ rs. put rs x) w.stands ∙ put-append w.newer (w.oldest ∷ []) x ∙ ap (put w.newer) (patched-whole w.oldest.offset w.oldest.bytes x w.offset (w.bytes ∙ sym i)) in
@@ -132,22 +129,25 @@ some-out synced p (e ∷ past) = go e.reply refl (some-out synced p past)
         at false i = later-on (ap (began_saving synced p) is ∙ begun-not synced p (WriteFirst t q image) i) w
     go r is w = later-on (ap (began_saving synced p) is ∙ begun-not synced p r refl) w
 
-pub image-length : (c : Parameters) (first : ℕ → List ℕ) (synced past : Trail) (p : ℕ) (image : List ℕ) → Legal c past → HonestOf first p past → MayHave first synced past p image → length image ≡ length (first p)
-image-length c first synced past p image l h (inl (out, is)) =
-    let there = legal-there c first past out.later out.earlier out.entry p out.ticket out.image out.stands out.begins l in
-    let honest = honest-there c first past out.later out.earlier out.entry p out.ticket out.image out.stands out.begins l h in
-    ap length (is ∙ is-plain c first past out.later out.earlier out.entry p out.ticket out.image out.stands out.begins l h)
-    ∙ length-put (length (first p)) (records p out.earlier) (first p) (records-fit c first p out.earlier there.before honest.before) refl
-image-length c first synced past p image l h (inr (none, is)) = ap length is
+pub image-length : (c : Parameters) (first : ℕ → List ℕ) (synced : Trail) (end : ℕ) (past : Trail) (p : ℕ) (image : List ℕ) → Legal c past → GaveBack c.size first end past p → MayHave first synced past p image
+    → length image ≡ length (first p)
+image-length c first synced end past p image l (from_opening honest) (inl (out, is)) =
+    let h = has-records c first synced past p out l honest in
+    ap length (is ∙ h.image_is) ∙ length-put (length (first p)) (records p out.earlier) (first p) h.fit refl
+image-length c first synced end past p image l (since_used_again u) (inl (out, is)) =
+    ap length is
+    ∙ sent-sized c out.earlier out.entry out.ticket p out.image (legal-there c first past out.later out.earlier out.entry p out.ticket out.image out.stands out.begins l) out.begins
+    ∙ sym u.opening
+image-length c first synced end past p image l g (inr (none, is)) = ap length is
 
 pub recovers-torn : (c : Parameters) (first : ℕ → List ℕ) (synced past : Trail) (log : List LogRecord) (start from end p : ℕ) (torn : List ℕ)
-    → Stopped c first synced past log start from end p → NeverFall (records_from start log p) → BeginsWhole (length torn) (records_from from log p) → length torn ≡ length (first p)
+    → Stopped c first synced past log start from end p → NeverFall (records_from start log p) → BeginsWithFullImage (length torn) (records_from from log p) → length torn ≡ length (first p)
     → redo from log p torn ≡ redo start log p (first p)
 recovers-torn c first synced past log start from end p torn s rises w long = go (some-out synced p past)
   where
     by : (image : List ℕ) → MayHave first synced past p image → redo from log p torn ≡ redo start log p (first p)
     by image may =
-        let same = image-length c first synced past p image s.legal s.honest may in
+        let same = image-length c first synced end past p image s.legal s.gave_back may in
         redo-whole log from p torn image w (same ∙ sym long) ∙ recovers c first synced past log start from end p image s rises may
 
     go : WentOut synced past p ⊎ NoneSafe synced past p → redo from log p torn ≡ redo start log p (first p)
@@ -162,7 +162,7 @@ pub seen-again : (c d : Parameters) (first second : ℕ → List ℕ) (synced pa
     → Legal d again → HonestOf second p again → records p again ≡ newer ++ records_from from log p → resident again p ≡ true
     → held again p ≡ put newer (put s.has.unwritten (plain_map first (within end past) p))
 seen-again c d first second synced past again log newer start from end p s rises may l h told there =
-    held-plain-of d second again p l h there
+    held-plain d second again p l h there
     ∙ plain-put second p again
     ∙ ap (λ rs. put rs (second p)) told
     ∙ put-append newer (records_from from log p) (second p)
@@ -201,17 +201,6 @@ within-is end past e = (within-in end past e, λ h. within-from end past e h.0 h
 
 -- ---- redo, record by record
 
-pub redo-one : (from p : ℕ) (r : LogRecord) (older : List LogRecord) (image : List ℕ) → redo from (r ∷ older) p image ≡ redo from (r ∷ []) p (redo from older p image)
-redo-one from p r older image = go (wanted from p r)
-  where
-    go : (b : Bool) → put (cond b (r ∷ records_from from older p) (records_from from older p)) image ≡ put (cond b (r ∷ []) []) (redo from older p image)
-    go true = refl
-    go false = refl
-
-fit-parts : (size : ℕ) (newer older : List LogRecord) → AllFit size (newer ++ older) → AllFit size newer × AllFit size older
-fit-parts size [] older f = (tt, f)
-fit-parts size (r ∷ newer) older f = let h = fit-parts size newer older f.1 in ((f.0, h.0), h.1)
-
 -- where all fit, each does
 pub fit-at : (size from p : ℕ) (log : List LogRecord) (i : ℕ) (r : LogRecord) → i < length log → r ≡ get_or log i r → AllFit size (records_from from (reverse log) p) → AllFit size (records_from from (r ∷ []) p)
 fit-at size from p log i r below is fit =
@@ -223,34 +212,30 @@ fit-at size from p log i r below is fit =
     let all = subst (AllFit size) (ap (λ rs. records_from from rs p) cut ∙ parts) fit in
     (fit-parts size (records_from from (reverse rest) p) (records_from from (r ∷ []) p) (fit-parts size (records_from from (reverse rest) p ++ records_from from (r ∷ []) p) (records_from from (reverse (take i log)) p) all).0).1
 
-pub honest-of : (first : ℕ → List ℕ) (p : ℕ) (past : Trail) → Honest first past → HonestOf first p past
-honest-of first p [] h = tt
-honest-of first p (e ∷ past) h = record { here = λ i. h.here; before = honest-of first p past h.before }
-
 -- ---- redo from the log alone
 
-acted-anew : (act : LogRecord → List ℕ → List ℕ) (newer rest : List LogRecord) (oldest : LogRecord) (first image : List ℕ) → ActsAlike act (newer ++ oldest ∷ rest) first → act oldest image ≡ put (oldest ∷ rest) first
-    → act_all act (newer ++ oldest ∷ []) image ≡ put (newer ++ oldest ∷ rest) first
-acted-anew act [] rest oldest first image alike anew = anew
-acted-anew act (r ∷ newer) rest oldest first image alike anew = ap (act r) (acted-anew act newer rest oldest first image alike.before anew) ∙ alike.here
+applied-anew : (apply : LogRecord → List ℕ → List ℕ) (newer rest : List LogRecord) (oldest : LogRecord) (first image : List ℕ) → AppliesAlike apply (newer ++ oldest ∷ rest) first → apply oldest image ≡ put (oldest ∷ rest) first
+    → apply_all apply (newer ++ oldest ∷ []) image ≡ put (newer ++ oldest ∷ rest) first
+applied-anew apply [] rest oldest first image alike anew = anew
+applied-anew apply (r ∷ newer) rest oldest first image alike anew = ap (apply r) (applied-anew apply newer rest oldest first image alike.before anew) ∙ alike.here
 
-pub redo-alone : (act : LogRecord → List ℕ → List ℕ) (first : ℕ → List ℕ) (past : Trail) (log : List LogRecord) (start from end p : ℕ) (image : List ℕ)
-    → (h : LogHas log start from end past p) → ActsAlike act (records_from start log p) (first p) → MakesAnew act log start from p (first p)
-    → act_all act (records_from from log p) image ≡ put h.unwritten (plain_map first (within end past) p)
-redo-alone act first past log start from end p image h alike w =
-    ap (λ rs. act_all act rs image) w.needed
-    ∙ acted-anew act w.newer w.rest w.oldest (first p) image (subst (λ rs. ActsAlike act rs (first p)) w.all alike) (w.anew image)
+pub redo-alone : (apply : LogRecord → List ℕ → List ℕ) (first : ℕ → List ℕ) (past : Trail) (log : List LogRecord) (start from end p : ℕ) (image : List ℕ)
+    → (h : LogHas log start from end past p) → AppliesAlike apply (records_from start log p) (first p) → MakesAnew apply log start from p (first p)
+    → apply_all apply (records_from from log p) image ≡ put h.unwritten (plain_map first (within end past) p)
+redo-alone apply first past log start from end p image h alike w =
+    ap (λ rs. apply_all apply rs image) w.needed
+    ∙ applied-anew apply w.newer w.rest w.oldest (first p) image (subst (λ rs. AppliesAlike apply rs (first p)) w.all alike) (w.anew image)
     ∙ ap (λ rs. put rs (first p)) (sym w.all)
     ∙ redo-plain first past log start from end p h
 
 -- ---- a checkpoint, and a crash after it
 
-pub checkpoint-mends : (c : Parameters) (first : ℕ → List ℕ) (synced late : Trail) (log : List LogRecord) (least : Option ℕ) (next end p : ℕ) (image : List ℕ)
-    → Legal c (late ++ synced) → HonestOf first p (late ++ synced) → durable (late ++ synced) ≤ end
+pub checkpoint-recovers : (c : Parameters) (first : ℕ → List ℕ) (synced late : Trail) (log : List LogRecord) (least : Option ℕ) (next end p : ℕ) (image : List ℕ)
+    → Legal c (late ++ synced) → GaveBack c.size first end (late ++ synced) p → durable (late ++ synced) ≤ end
     → (h : LogHas log 0 (redo_point least next) end (late ++ synced) p) → NeverFall (records_from 0 log p)
     → IsRedoFrom synced least → WritesFrom next late → MayHave first synced (late ++ synced) p image
     → redo (redo_point least next) log p image ≡ put h.unwritten (plain_map first (within end (late ++ synced)) p)
-checkpoint-mends c first synced late log least next end p image l honest mark h rises redo_from from may =
+checkpoint-recovers c first synced late log least next end p image l g mark h rises redo_from from may =
     recovers-plain c first synced (late ++ synced) log 0 (redo_point least next) end p image
-    (record { legal = l; honest = honest; mark = mark; has = h; from_start = omega arith; point = checkpoint synced late least next p redo_from from })
+    (record { legal = l; gave_back = g; mark = mark; has = h; from_start = omega arith; point = checkpoint synced late least next p redo_from from })
     rises may

@@ -17,7 +17,7 @@ use Rattle.bp_trail.specs.Places.{residents, resident, loading, writing}
 use Rattle.bp_trail.specs.Saved.{unsaved}
 use Rattle.bp_trail.specs.Images.{held, plain_map}
 use Rattle.bp_trail.specs.Legal.{Legal, is_out}
-use Rattle.bp_trail.specs.Device.{due}
+use Rattle.bp_trail.specs.Device.{due, HonestOf}
 use Rattle.bp_trail.specs.Victim.{backward_distance, victim}
 use Rattle.bp_trail.specs.Sentences.{IsCandidate, IsFirst}
 use Rattle.bp_trail.specs.Safety.{EvictsSafely, WritesAreDurable}
@@ -142,7 +142,7 @@ answers : (c : Parameters) (past : Trail) → Legal c past → (who : ℕ) (call
 answers c past l who _ _ (page_read u q o) m n p image honest i j =
     let k : q ≡ p = cc in
     let content : held past q ≡ image = cc in
-    sym content ∙ held-plain c m past q l honest ((places c past l).pinned q (out-of_page who q u (passes_out past) o)) ∙ ap (plain_map m past) k
+    sym content ∙ held-plain c m past q l (subst (λ x. HonestOf m x past) (sym k) honest) ((places c past l).pinned q (out-of_page who q u (passes_out past) o)) ∙ ap (plain_map m past) k
 answers c past l who _ _ _ m n p image honest i j = cc
 
 pub each-answers : (c : Parameters) (past : Trail) → Legal c past → EachEntry AnswersPlain past
@@ -152,11 +152,11 @@ sends : (c : Parameters) (past : Trail) → Legal c past → (who : ℕ) (call :
 sends c past l who _ _ (fix_write q v n w g) m t p image honest i =
     let k : v ≡ p = cc in
     let sent : held past v ≡ image = cc in
-    sym sent ∙ held-plain c m past v l honest (candidate-resident c past v (victim-is c past v w).eligible) ∙ ap (plain_map m past) k
+    sym sent ∙ held-plain c m past v l (subst (λ x. HonestOf m x past) (sym k) honest) (candidate-resident c past v (victim-is c past v w).eligible) ∙ ap (plain_map m past) k
 sends c past l who _ _ (flush_write v r w g) m t p image honest i =
     let k : v ≡ p = cc in
     let sent : held past v ≡ image = cc in
-    sym sent ∙ held-plain c m past v l honest r ∙ ap (plain_map m past) k
+    sym sent ∙ held-plain c m past v l (subst (λ x. HonestOf m x past) (sym k) honest) r ∙ ap (plain_map m past) k
 sends c past l who _ _ _ m t p image honest i = cc
 
 pub each-sends : (c : Parameters) (past : Trail) → Legal c past → EachEntry SendsPlain past

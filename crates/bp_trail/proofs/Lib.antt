@@ -33,9 +33,10 @@ pub mod Comparing
 pub mod Logged
 pub mod InPieces
 pub mod Replies
-pub mod OnePage
 pub mod Bytes
 pub mod Recovered
+pub mod UsedAgain
+pub mod Redoing
 pub mod Stamped
 pub mod Crashes
 pub mod CrashExamples

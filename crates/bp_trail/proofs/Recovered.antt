@@ -1,5 +1,5 @@
--- Redo over what a crash leaves gives what the log gives over what there was at first.
-use Rattle.std.proofs.Common.{◌≡◌, inl, inr, refl, sym, ap, subst, ◌∙◌, ℕ, ◌+◌, min, max, ◌≤◌, nat_le, Bool, true, false, ◌&&◌, ◌==◌, if◌then◌else◌, cond, List, [], ◌∷◌, ◌++◌, length, filter, append_assoc, append-nil, unwrap_or, Option, Some, None, arith}
+-- What the records of writes make, what redo wants of the log, and what an image that went out has.
+use Rattle.std.proofs.Common.{◌≡◌, refl, sym, ap, subst, ◌∙◌, ℕ, ◌+◌, min, max, ◌≤◌, nat_le, Bool, true, false, ◌&&◌, ◌==◌, if◌then◌else◌, cond, List, [], ◌∷◌, ◌++◌, length, filter, append_assoc, unwrap_or, Option, Some, None, arith}
 use Rattle.std.specs.List.{cons_option}
 use Rattle.std.proofs.lemmas.List.Elements.{filter-append, filter_map-append}
 use Rattle.std.proofs.lemmas.Bool.{eqb-true, eq-eqb, and_parts, or_parts, leb-true, leb-false, le-leb}
@@ -16,19 +16,19 @@ use Rattle.bp_trail.specs.Trail.{Trail}
 use Rattle.bp_trail.specs.Clock.{durable}
 use Rattle.bp_trail.specs.Passes.{passes_out}
 use Rattle.bp_trail.specs.Places.{resident}
-use Rattle.bp_trail.specs.Saved.{began_saving}
 use Rattle.bp_trail.specs.Images.{held, plain_map}
 use Rattle.bp_trail.specs.Legal.{is_out, allowed, IsLawful, Legal}
-use Rattle.bp_trail.specs.Recovery.{record_of, record_written, records, within, records_from, NeverFall, AllFit, put, redo, MayHave, HonestOf, LogHas, Stopped}
+use Rattle.bp_trail.specs.Device.{HonestOf}
+use Rattle.bp_trail.specs.Recovery.{record_of, record_written, records, within, records_from, AllFit, put, redo}
 use Rattle.bp_trail.proofs.Lists.{greatest-with}
 use Rattle.bp_trail.proofs.Events.{event-of}
 use Rattle.bp_trail.proofs.Flights.{begin-writes}
 use Rattle.bp_trail.proofs.Places.{places, out-of_page}
 use Rattle.bp_trail.proofs.Ranges.{sized}
-use Rattle.bp_trail.proofs.OnePage.{held-plain-of, sends-plain-of}
+use Rattle.bp_trail.proofs.Content.{held-plain, sends-plain}
 use Rattle.bp_trail.proofs.WriteAhead.{written_lsn, write_ahead}
 use Rattle.bp_trail.proofs.Logged.{each_before}
-use Rattle.bp_trail.proofs.Bytes.{length-put, from_lsn, Ordered, ordered-never_fall, ordered-zero, put-again, put-append}
+use Rattle.bp_trail.proofs.Bytes.{length-put, from_lsn, Ordered, put-again, put-append}
 
 -- ---- records of writes
 
@@ -140,11 +140,11 @@ later-from from p stop (e ∷ later) rest n h =
 
 -- ---- writes lie within their pages
 
-record Placed (c : Parameters) (past : Trail) (p : ℕ) (r : LogRecord) : Type 0 where
-  inside : r.offset + length r.bytes ≤ c.size
-  there : resident past p ≡ true
+pub record Placed (c : Parameters) (past : Trail) (p : ℕ) (r : LogRecord) : Type 0 where
+  pub inside : r.offset + length r.bytes ≤ c.size
+  pub there : resident past p ≡ true
 
-placed : (c : Parameters) (past : Trail) (who p : ℕ) (call : Call) → Legal c past → allowed c past who call ≡ true → (is_write call && (page_of call == p)) ≡ true → Placed c past p (record_of call)
+pub placed : (c : Parameters) (past : Trail) (who p : ℕ) (call : Call) → Legal c past → allowed c past who call ≡ true → (is_write call && (page_of call == p)) ≡ true → Placed c past p (record_of call)
 placed c past who p (Write n q offset bytes lsn) l a w =
     let parts = and_parts (is_out (grant who q n) (passes_out past)) _ a in
     record {
@@ -162,7 +162,7 @@ records-fit c m p (e ∷ past) l h = go (records-fit c m p past l.before h.befor
     go older true w =
         let at = placed c past e.client p e.call l.before l.here.allowed w in
         let size : length (held past p) ≡ c.size = sized c past l.before p at.there in
-        let same : held past p ≡ put (records p past) (m p) = held-plain-of c m past p l.before h.before at.there ∙ plain-put m p past in
+        let same : held past p ≡ put (records p past) (m p) = held-plain c m past p l.before h.before at.there ∙ plain-put m p past in
         let long : length (held past p) ≡ length (m p) = ap length same ∙ length-put (length (m p)) (records p past) (m p) older refl in
         let in_page = at.inside in
         (omega arith, older)
@@ -191,7 +191,7 @@ wanted-split log start from p unwritten newer older stands le u n =
     ∙ ap (λ xs. unwritten ++ xs) (filter-append (from_lsn from) newer older ∙ ap (λ xs. xs ++ f older) (filter-every (from_lsn from) newer n))
 
 -- an image that has the older records of those that the log has
-redo-older : (log : List LogRecord) (start from p : ℕ) (x image : List ℕ) (unwritten newer older : List LogRecord)
+pub redo-older : (log : List LogRecord) (start from p : ℕ) (x image : List ℕ) (unwritten newer older : List LogRecord)
     → records_from start log p ≡ unwritten ++ (newer ++ older) → start ≤ from → every (from_lsn from) unwritten ≡ true → every (from_lsn from) newer ≡ true
     → AllFit (length x) older → Ordered from older → image ≡ put older x → redo from log p image ≡ redo start log p x
 redo-older log start from p x image unwritten newer older stands le u n fit rises is =
@@ -232,55 +232,4 @@ module _ (c : Parameters) (m : ℕ → List ℕ) (past later earlier : Trail) (e
   honest-there h = each_before _ later (e ∷ earlier) (subst (HonestOf m p) stands h)
 
   pub is-plain : HonestOf m p past → image ≡ put (records p earlier) (m p)
-  is-plain h = sends-plain-of c m earlier p e t image legal-there (honest-there h).before begins_it ∙ plain-put m p earlier
-
--- Redo from the redo point, over whatever image the device has, gives what redo from the start gives over the first one.
-pub recovers-ordered : (c : Parameters) (first : ℕ → List ℕ) (synced past : Trail) (log : List LogRecord) (start from end p : ℕ) (image : List ℕ)
-    → Stopped c first synced past log start from end p → Ordered from (records_from start log p) → MayHave first synced past p image → redo from log p image ≡ redo start log p (first p)
-recovers-ordered c first synced past log start from end p image s rises (inl (out, is)) =
-    let l = s.legal in
-    let u = s.has.unwritten in
-    let newer = records p (within end out.later) in
-    let older = records p out.earlier in
-    let cut = split c first past out.later out.earlier out.entry p out.ticket out.image out.stands out.begins l end s.mark in
-    let whole : records_from start log p ≡ u ++ (newer ++ older) = s.has.stands ∙ ap (λ rs. u ++ rs) cut in
-    let point : AtLeast from (least_since (lsn_written p) (λ d. began_saving synced p d.reply) (out.later ++ out.entry ∷ out.earlier)) = subst (λ s. AtLeast from (least_since (lsn_written p) (λ d. began_saving synced p d.reply) s)) out.stands s.point in
-    let kept = each_before _ newer older (each_before _ u (newer ++ older) (subst (Ordered from) whole rises)) in
-    let there = legal-there c first past out.later out.earlier out.entry p out.ticket out.image out.stands out.begins l in
-    let honest = honest-there c first past out.later out.earlier out.entry p out.ticket out.image out.stands out.begins l s.honest in
-    redo-older log start from p (first p) image u newer older whole s.from_start s.has.unwritten_from
-    (every-within (from_lsn from) p end out.later (later-from from p (λ d. began_saving synced p d.reply) out.later (out.entry ∷ out.earlier) out.last point))
-    (records-fit c first p out.earlier there.before honest.before)
-    kept
-    (is ∙ is-plain c first past out.later out.earlier out.entry p out.ticket out.image out.stands out.begins l s.honest)
-recovers-ordered c first synced past log start from end p image s rises (inr (none, is)) =
-    let u = s.has.unwritten in
-    let newer = records p (within end past) in
-    let none_more : newer ++ [] ≡ newer = append-nil newer in
-    let whole : records_from start log p ≡ u ++ (newer ++ []) = s.has.stands ∙ ap (λ rs. u ++ rs) (sym none_more) in
-    let point : AtLeast from (least_since (lsn_written p) (λ d. began_saving synced p d.reply) (past ++ [])) = subst (λ s. AtLeast from (least_since (lsn_written p) (λ d. began_saving synced p d.reply) s)) (sym (append-nil past)) s.point in
-    redo-older log start from p (first p) image u newer [] whole s.from_start s.has.unwritten_from
-    (every-within (from_lsn from) p end past (later-from from p (λ d. began_saving synced p d.reply) past [] none point))
-    tt tt is
-
--- which is what the plain map has from the writes within the log, with the records whose writes never came to be
-pub redo-plain : (first : ℕ → List ℕ) (past : Trail) (log : List LogRecord) (start from end p : ℕ) (h : LogHas log start from end past p) → redo start log p (first p) ≡ put h.unwritten (plain_map first (within end past) p)
-redo-plain first past log start from end p h =
-    ap (λ rs. put rs (first p)) h.stands ∙ put-append h.unwritten (records p (within end past)) (first p) ∙ ap (put h.unwritten) (sym (plain-put first p (within end past)))
-
-pub recovers : (c : Parameters) (first : ℕ → List ℕ) (synced past : Trail) (log : List LogRecord) (start from end p : ℕ) (image : List ℕ)
-    → Stopped c first synced past log start from end p → NeverFall (records_from start log p) → MayHave first synced past p image → redo from log p image ≡ redo start log p (first p)
-recovers c first synced past log start from end p image s rises may = recovers-ordered c first synced past log start from end p image s (ordered-never_fall from (records_from start log p) rises) may
-
-pub recovers-plain : (c : Parameters) (first : ℕ → List ℕ) (synced past : Trail) (log : List LogRecord) (start from end p : ℕ) (image : List ℕ)
-    → (s : Stopped c first synced past log start from end p) → NeverFall (records_from start log p) → MayHave first synced past p image → redo from log p image ≡ put s.has.unwritten (plain_map first (within end past) p)
-recovers-plain c first synced past log start from end p image s rises may = recovers c first synced past log start from end p image s rises may ∙ redo-plain first past log start from end p s.has
-
--- the whole log, in whatever order its LSNs are
-pub recovers-whole : (c : Parameters) (first : ℕ → List ℕ) (past : Trail) (log : List LogRecord) (end p : ℕ) (image : List ℕ)
-    → Legal c past → HonestOf first p past → durable past ≤ end → records_from 0 log p ≡ records p (within end past) → MayHave first past past p image
-    → redo 0 log p image ≡ plain_map first (within end past) p
-recovers-whole c first past log end p image l h mark stands may =
-    let has : LogHas log 0 0 end past p = record { unwritten = []; stands = stands; unwritten_from = refl } in
-    let s : Stopped c first past past log 0 0 end p = record { legal = l; honest = h; mark = mark; has = has; from_start = omega arith; point = λ least e. omega arith } in
-    recovers-ordered c first past past log 0 0 end p image s (ordered-zero (records_from 0 log p)) may ∙ redo-plain first past log 0 0 end p has
+  is-plain h = sends-plain c m earlier p e t image legal-there (honest-there h).before begins_it ∙ plain-put m p earlier

@@ -16,15 +16,17 @@ use Rattle.bp_trail.specs.Places.{resident}
 use Rattle.bp_trail.specs.Saved.{began_saving, unsaved, page_lsn}
 use Rattle.bp_trail.specs.Legal.{Legal}
 use Rattle.bp_trail.specs.Standing.{Content}
-use Rattle.bp_trail.specs.Recovery.{record_of, records, within, records_from, Rise, patch, put, act_newer, act_all_newer, redo, redo_by_lsn, ActsAlike, MayHaveStamped, Stopped}
+use Rattle.bp_trail.specs.Recovery.{record_of, records, within, records_from, Rise, patch, put, apply_newer, apply_all_newer, redo, redo_by_lsn, AppliesAlike, GaveBack, TellsNew, MayHaveStamped, Stopped}
+use Rattle.bp_trail.specs.Recovery.GaveBack.{from_opening, since_used_again}
 use Rattle.bp_trail.proofs.Lists.{greatest-with}
 use Rattle.bp_trail.proofs.Events.{Event, event-of}
 use Rattle.bp_trail.proofs.Events.Event.{fix_write, flush_write, read_good, page_written}
 use Rattle.bp_trail.proofs.Places.{places, out-of_page, unsaved-ended}
 use Rattle.bp_trail.proofs.WriteAhead.{written_lsn}
 use Rattle.bp_trail.proofs.Logged.{each_before}
-use Rattle.bp_trail.proofs.Bytes.{from_lsn, none-older}
-use Rattle.bp_trail.proofs.Recovered.{record-lsn, every-within, AtLeast, later-from, wanted-split, legal-there, split, is-plain}
+use Rattle.bp_trail.proofs.Bytes.{from_lsn, none-older, put-append}
+use Rattle.bp_trail.proofs.Recovered.{record-lsn, every-within, AtLeast, later-from, wanted-split, legal-there, split}
+use Rattle.bp_trail.proofs.Redoing.{HasRecords, Overwritten, has-records, has-again, over-newer, over-between, over-cut, over-put}
 
 abbrev entry : ℕ → Call → Reply → Entry
 entry who call reply = record { client = who; call = call; reply = reply }
@@ -164,35 +166,35 @@ rise-front : (newer older : List LogRecord) → Rise (newer ++ older) → Rise n
 rise-front [] older h = tt
 rise-front (r ∷ newer) older h = record { here = (every-append (λ o. nat_lt o.lsn r.lsn) newer older h.here).0; before = rise-front newer older h.before }
 
-act_all_newer-append : (act : LogRecord → List ℕ → List ℕ) (newer older : List LogRecord) (x : Content) → act_all_newer act (newer ++ older) x ≡ act_all_newer act newer (act_all_newer act older x)
-act_all_newer-append act [] older x = refl
-act_all_newer-append act (r ∷ newer) older x = ap (act_newer act r) (act_all_newer-append act newer older x)
+apply_all_newer-append : (apply : LogRecord → List ℕ → List ℕ) (newer older : List LogRecord) (x : Content) → apply_all_newer apply (newer ++ older) x ≡ apply_all_newer apply newer (apply_all_newer apply older x)
+apply_all_newer-append apply [] older x = refl
+apply_all_newer-append apply (r ∷ newer) older x = ap (apply_newer apply r) (apply_all_newer-append apply newer older x)
 
 -- records that the page has
-passed-over : (act : LogRecord → List ℕ → List ℕ) (rs : List LogRecord) (x : Content) → every (λ r. nat_le r.lsn x.page_lsn) rs ≡ true → act_all_newer act rs x ≡ x
-passed-over act [] x h = refl
-passed-over act (r ∷ rs) x h =
+passed-over : (apply : LogRecord → List ℕ → List ℕ) (rs : List LogRecord) (x : Content) → every (λ r. nat_le r.lsn x.page_lsn) rs ≡ true → apply_all_newer apply rs x ≡ x
+passed-over apply [] x h = refl
+passed-over apply (r ∷ rs) x h =
     let a = and_parts (nat_le r.lsn x.page_lsn) _ h in
     let test = le-ltb x.page_lsn r.lsn (leb-true r.lsn x.page_lsn a.0) in
-    ap (act_newer act r) (passed-over act rs x a.1) ∙ ap (λ (b : Bool). if b then record { image = act r x.image; page_lsn = r.lsn } else x) test
+    ap (apply_newer apply r) (passed-over apply rs x a.1) ∙ ap (λ (b : Bool). if b then record { image = apply r x.image; page_lsn = r.lsn } else x) test
 
 -- and records that it has not
-record Newer (act : LogRecord → List ℕ → List ℕ) (rs older : List LogRecord) (image : List ℕ) (x : Content) : Type 0 where
-  image_is : (act_all_newer act rs x).image ≡ put (rs ++ older) image
-  below : (n : ℕ) → x.page_lsn < n → every (λ o. nat_lt o.lsn n) rs ≡ true → (act_all_newer act rs x).page_lsn < n
+record Newer (apply : LogRecord → List ℕ → List ℕ) (rs older : List LogRecord) (image : List ℕ) (x : Content) : Type 0 where
+  image_is : (apply_all_newer apply rs x).image ≡ put (rs ++ older) image
+  below : (n : ℕ) → x.page_lsn < n → every (λ o. nat_lt o.lsn n) rs ≡ true → (apply_all_newer apply rs x).page_lsn < n
 
-all-newer : (act : LogRecord → List ℕ → List ℕ) (rs older : List LogRecord) (image : List ℕ) (x : Content) → x.image ≡ put older image → Rise rs → every (λ r. nat_lt x.page_lsn r.lsn) rs ≡ true → ActsAlike act (rs ++ older) image
-    → Newer act rs older image x
-all-newer act [] older image x is rise h alike = record { image_is = is; below = λ n lt e. lt }
-all-newer act (r ∷ rs) older image x is rise h alike =
+all-newer : (apply : LogRecord → List ℕ → List ℕ) (rs older : List LogRecord) (image : List ℕ) (x : Content) → x.image ≡ put older image → Rise rs → every (λ r. nat_lt x.page_lsn r.lsn) rs ≡ true → AppliesAlike apply (rs ++ older) image
+    → Newer apply rs older image x
+all-newer apply [] older image x is rise h alike = record { image_is = is; below = λ n lt e. lt }
+all-newer apply (r ∷ rs) older image x is rise h alike =
     let a = and_parts (nat_lt x.page_lsn r.lsn) _ h in
-    let before = all-newer act rs older image x is rise.before a.1 alike.before in
-    let test : nat_lt (act_all_newer act rs x).page_lsn r.lsn ≡ true = lt-ltb (act_all_newer act rs x).page_lsn r.lsn (before.below r.lsn (ltb-true x.page_lsn r.lsn a.0) rise.here) in
-    let acted : act_newer act r (act_all_newer act rs x) ≡ record { image = act r (act_all_newer act rs x).image; page_lsn = r.lsn } =
-    ap (λ (b : Bool). if b then record { image = act r (act_all_newer act rs x).image; page_lsn = r.lsn } else act_all_newer act rs x) test in
+    let before = all-newer apply rs older image x is rise.before a.1 alike.before in
+    let test : nat_lt (apply_all_newer apply rs x).page_lsn r.lsn ≡ true = lt-ltb (apply_all_newer apply rs x).page_lsn r.lsn (before.below r.lsn (ltb-true x.page_lsn r.lsn a.0) rise.here) in
+    let applied : apply_newer apply r (apply_all_newer apply rs x) ≡ record { image = apply r (apply_all_newer apply rs x).image; page_lsn = r.lsn } =
+    ap (λ (b : Bool). if b then record { image = apply r (apply_all_newer apply rs x).image; page_lsn = r.lsn } else apply_all_newer apply rs x) test in
     record {
-      image_is = ap (λ (y : Content). y.image) acted ∙ ap (act r) before.image_is ∙ alike.here;
-      below = λ n lt e. subst (λ (y : Content). y.page_lsn < n) (sym acted) (ltb-true r.lsn n (and_parts (nat_lt r.lsn n) _ e).0);
+      image_is = ap (λ (y : Content). y.image) applied ∙ ap (apply r) before.image_is ∙ alike.here;
+      below = λ n lt e. subst (λ (y : Content). y.page_lsn < n) (sym applied) (ltb-true r.lsn n (and_parts (nat_lt r.lsn n) _ e).0);
     }
 
 newer-above : (p least : ℕ) (earlier : Trail) (newer : List LogRecord) → Rise (newer ++ records p earlier) → every (λ r. nat_lt least r.lsn) newer ≡ true → every (λ r. nat_lt (written_lsn p earlier) r.lsn) newer ≡ true
@@ -204,59 +206,141 @@ newer-above p least earlier (r ∷ newer) rise h =
     let pos : 0 < r.lsn = omega arith in
     and_from _ _ (lt-ltb (written_lsn p earlier) r.lsn (lsn-below p r.lsn earlier older pos)) (newer-above p least earlier newer rise.before a.1)
 
-stamped-older : (act : LogRecord → List ℕ → List ℕ) (log : List LogRecord) (start from p : ℕ) (image : List ℕ) (x : Content) (unwritten newer older : List LogRecord)
+-- of the records that redo wants, those that the page has are passed over
+stamped-newer : (apply : LogRecord → List ℕ → List ℕ) (log : List LogRecord) (start from p : ℕ) (x : Content) (unwritten newer older : List LogRecord)
     → records_from start log p ≡ unwritten ++ (newer ++ older) → start ≤ from → every (from_lsn from) unwritten ≡ true → every (from_lsn from) newer ≡ true
-    → x.image ≡ put older image → every (λ r. nat_le r.lsn x.page_lsn) older ≡ true → Rise (unwritten ++ newer) → every (λ r. nat_lt x.page_lsn r.lsn) (unwritten ++ newer) ≡ true
-    → ActsAlike act (records_from start log p) image → (redo_by_lsn act from log p x).image ≡ redo start log p image
-stamped-older act log start from p image x unwritten newer older stands le u n is below rise above alike =
+    → every (λ r. nat_le r.lsn x.page_lsn) older ≡ true → redo_by_lsn apply from log p x ≡ apply_all_newer apply (unwritten ++ newer) x
+stamped-newer apply log start from p x unwritten newer older stands le u n below =
     let f = filter (from_lsn from) in
     let wants : records_from from log p ≡ (unwritten ++ newer) ++ f older = wanted-split log start from p unwritten newer older stands le u n ∙ sym (append_assoc unwritten newer (f older)) in
+    let over : apply_all_newer apply (f older) x ≡ x = passed-over apply (f older) x (every-filtered (λ r. nat_le r.lsn x.page_lsn) (from_lsn from) older below) in
+    ap (λ rs. apply_all_newer apply rs x) wants ∙ apply_all_newer-append apply (unwritten ++ newer) (f older) x ∙ ap (apply_all_newer apply (unwritten ++ newer)) over
+
+stamped-older : (apply : LogRecord → List ℕ → List ℕ) (log : List LogRecord) (start from p : ℕ) (image : List ℕ) (x : Content) (unwritten newer older : List LogRecord)
+    → records_from start log p ≡ unwritten ++ (newer ++ older) → start ≤ from → every (from_lsn from) unwritten ≡ true → every (from_lsn from) newer ≡ true
+    → x.image ≡ put older image → every (λ r. nat_le r.lsn x.page_lsn) older ≡ true → Rise (unwritten ++ newer) → every (λ r. nat_lt x.page_lsn r.lsn) (unwritten ++ newer) ≡ true
+    → AppliesAlike apply (records_from start log p) image → (redo_by_lsn apply from log p x).image ≡ redo start log p image
+stamped-older apply log start from p image x unwritten newer older stands le u n is below rise above alike =
     let joined : records_from start log p ≡ (unwritten ++ newer) ++ older = stands ∙ sym (append_assoc unwritten newer older) in
-    let over : act_all_newer act (f older) x ≡ x = passed-over act (f older) x (every-filtered (λ r. nat_le r.lsn x.page_lsn) (from_lsn from) older below) in
-    let made : redo_by_lsn act from log p x ≡ act_all_newer act (unwritten ++ newer) x =
-    ap (λ rs. act_all_newer act rs x) wants ∙ act_all_newer-append act (unwritten ++ newer) (f older) x ∙ ap (act_all_newer act (unwritten ++ newer)) over in
-    ap (λ (y : Content). y.image) made
-    ∙ (all-newer act (unwritten ++ newer) older image x is rise above (subst (λ rs. ActsAlike act rs image) joined alike)).image_is
+    ap (λ (y : Content). y.image) (stamped-newer apply log start from p x unwritten newer older stands le u n below)
+    ∙ (all-newer apply (unwritten ++ newer) older image x is rise above (subst (λ rs. AppliesAlike apply rs image) joined alike)).image_is
     ∙ ap (λ rs. put rs image) (sym joined)
+
+-- ---- over an image that is older than the write by which the page was used again
+
+newer-below : (apply : LogRecord → List ℕ → List ℕ) (rs : List LogRecord) (x : Content) (n : ℕ) → x.page_lsn < n → every (λ o. nat_lt o.lsn n) rs ≡ true → (apply_all_newer apply rs x).page_lsn < n
+newer-below apply [] x n lt h = lt
+newer-below apply (r ∷ rs) x n lt h =
+    let a = and_parts (nat_lt r.lsn n) _ h in
+    go (nat_lt (apply_all_newer apply rs x).page_lsn r.lsn) (ltb-true r.lsn n a.0) (newer-below apply rs x n lt a.1)
+  where
+    go : (b : Bool) → r.lsn < n → (apply_all_newer apply rs x).page_lsn < n
+        → (if b then record { image = apply r (apply_all_newer apply rs x).image; page_lsn = r.lsn } else apply_all_newer apply rs x).page_lsn < n
+    go true i ih = i
+    go false i ih = ih
+
+rise-above : (newer older : List LogRecord) (r : LogRecord) → Rise (newer ++ r ∷ older) → every (λ o. nat_lt r.lsn o.lsn) newer ≡ true
+rise-above [] older r h = refl
+rise-above (o ∷ newer) older r h = and_from _ _ (and_parts (nat_lt r.lsn o.lsn) _ (every-append (λ k. nat_lt k.lsn o.lsn) newer (r ∷ older) h.here).1).0 (rise-above newer older r h.before)
+
+stamped-over : (apply : LogRecord → List ℕ → List ℕ) (log : List LogRecord) (start from end size p : ℕ) (first : ℕ → List ℕ) (x : Content) (unwritten : List LogRecord) (write : Entry) (later earlier : Trail)
+    → Overwritten size first end p write later earlier x.image
+    → records_from start log p ≡ unwritten ++ (records p (within end later) ++ records p earlier) → start ≤ from → every (from_lsn from) unwritten ≡ true → every (from_lsn from) (records p (within end later)) ≡ true
+    → every (λ r. nat_le r.lsn x.page_lsn) (records p earlier) ≡ true → Rise (unwritten ++ records p (within end later)) → every (λ r. nat_lt x.page_lsn r.lsn) (unwritten ++ records p (within end later)) ≡ true
+    → AppliesAlike apply (records_from start log p) (first p) → ((image : List ℕ) → apply (record_of write.call) image ≡ (record_of write.call).bytes)
+    → (redo_by_lsn apply from log p x).image ≡ redo start log p (first p)
+stamped-over apply log start from end size p first x unwritten write later earlier o stands le u n below rise above alike new =
+    let older = records p earlier in
+    let nl = over-newer size first end p write later earlier x.image o in
+    let nk = over-between size first end p write later earlier x.image o in
+    let w = record_of write.call in
+    let z = apply_all_newer apply nk x in
+    let y : Content = record { image = apply w z.image; page_lsn = w.lsn } in
+    let cut : unwritten ++ records p (within end later) ≡ (unwritten ++ nl) ++ w ∷ nk = ap (λ rs. unwritten ++ rs) (over-cut size first end p write later earlier x.image o) ∙ sym (append_assoc unwritten nl (w ∷ nk)) in
+    let rising : Rise ((unwritten ++ nl) ++ w ∷ nk) = subst Rise cut rise in
+    let all_above = (every-append (λ r. nat_lt x.page_lsn r.lsn) (unwritten ++ nl) (w ∷ nk) (subst (λ rs. every (λ r. nat_lt x.page_lsn r.lsn) rs ≡ true) cut above)).1 in
+    let lt = newer-below apply nk x w.lsn (ltb-true x.page_lsn w.lsn (and_parts (nat_lt x.page_lsn w.lsn) _ all_above).0) (each_before _ (unwritten ++ nl) (w ∷ nk) rising).here in
+    let applied : apply_newer apply w z ≡ y = ap (λ (b : Bool). if b then y else z) (lt-ltb z.page_lsn w.lsn lt) in
+    let made : apply_all_newer apply ((unwritten ++ nl) ++ w ∷ nk) x ≡ apply_all_newer apply (unwritten ++ nl) y = apply_all_newer-append apply (unwritten ++ nl) (w ∷ nk) x ∙ ap (apply_all_newer apply (unwritten ++ nl)) applied in
+    let has : y.image ≡ put (w ∷ (nk ++ older)) (first p) =
+    new z.image ∙ sym (over-put size first end p write later earlier x.image o older (first p) o.earlier_fit o.opening) ∙ sym (put-append (w ∷ nk) older (first p)) in
+    let joined : records_from start log p ≡ (unwritten ++ nl) ++ w ∷ (nk ++ older) =
+    stands ∙ sym (append_assoc unwritten (records p (within end later)) older) ∙ ap (λ rs. rs ++ older) cut ∙ append_assoc (unwritten ++ nl) (w ∷ nk) older in
+    ap (λ (y : Content). y.image) (stamped-newer apply log start from p x unwritten (records p (within end later)) older stands le u n below ∙ ap (λ rs. apply_all_newer apply rs x) cut ∙ made)
+    ∙ (all-newer apply (unwritten ++ nl) (w ∷ (nk ++ older)) (first p) y has (rise-front (unwritten ++ nl) (w ∷ nk) rising) (rise-above (unwritten ++ nl) nk w rising) (subst (λ rs. AppliesAlike apply rs (first p)) joined alike)).image_is
+    ∙ ap (λ rs. put rs (first p)) (sym joined)
 
 begin-unsaved : (c : Parameters) (past : Trail) (who : ℕ) (call : Call) (reply : Reply) → Event c past who call reply → (p : ℕ) → begins_of p reply ≡ true → unsaved past p ≡ true
 begin-unsaved c past who _ _ (fix_write q v m w g) p h = subst (λ x. unsaved past x ≡ true) (eqb-true v p h) g.unsaved_page
 begin-unsaved c past who _ _ (flush_write v r w g) p h = subst (λ x. unsaved past x ≡ true) (eqb-true v p h) g.unsaved_page
 begin-unsaved c past who _ _ _ p h = cc
 
-pub recovers-by_lsn : (act : LogRecord → List ℕ → List ℕ) (c : Parameters) (first : ℕ → Content) (synced past : Trail) (log : List LogRecord) (start from end p : ℕ) (x : Content)
-    → Stopped c (λ q. (first q).image) synced past log start from end p → Rise (records_from start log p) → every (λ r. nat_lt (first p).page_lsn r.lsn) (records_from start log p) ≡ true
-    → ActsAlike act (records_from start log p) (first p).image → MayHaveStamped first synced past p x → (redo_by_lsn act from log p x).image ≡ redo start log p (first p).image
-recovers-by_lsn act c first synced past log start from end p x s rises firsts alike (inl (out, is)) =
-    let l = s.legal in
-    let m : ℕ → List ℕ = λ q. (first q).image in
-    let u = s.has.unwritten in
-    let newer = records p (within end out.later) in
-    let older = records p out.earlier in
-    let cut = split c m past out.later out.earlier out.entry p out.ticket out.image out.stands out.begins l end s.mark in
-    let whole : records_from start log p ≡ u ++ (newer ++ older) = s.has.stands ∙ ap (λ rs. u ++ rs) cut in
-    let joined : records_from start log p ≡ (u ++ newer) ++ older = whole ∙ sym (append_assoc u newer older) in
-    let point : AtLeast from (least_since (lsn_written p) (λ d. began_saving synced p d.reply) (out.later ++ out.entry ∷ out.earlier)) = subst (λ s. AtLeast from (least_since (lsn_written p) (λ d. began_saving synced p d.reply) s)) out.stands s.point in
-    let rising : Rise ((u ++ newer) ++ older) = subst Rise joined rises in
-    let there = legal-there c m past out.later out.earlier out.entry p out.ticket out.image out.stands out.begins l in
-    let begins : begins_of p out.entry.reply ≡ true = rw out.begins (eq-eqb p p refl) in
-    let dirty = begin-unsaved c out.earlier out.entry.client out.entry.call out.entry.reply (event-of c out.earlier out.entry there.here) p begins in
-    let top : page_lsn out.earlier p ≡ written_lsn p out.earlier = lsn-top c p out.earlier there.before (each_before _ (u ++ newer) older rising) dirty in
-    let above = newer-above p (first p).page_lsn out.earlier (u ++ newer) rising (every-append (λ r. nat_lt (first p).page_lsn r.lsn) (u ++ newer) older (subst (λ rs. every (λ r. nat_lt (first p).page_lsn r.lsn) rs ≡ true) joined firsts)).0 in
-    let lsn : x.page_lsn ≡ written_lsn p out.earlier = ap (λ (y : Content). y.page_lsn) is ∙ top in
-    stamped-older act log start from p (first p).image x u newer older whole s.from_start s.has.unwritten_from
-    (every-within (from_lsn from) p end out.later (later-from from p (λ d. began_saving synced p d.reply) out.later (out.entry ∷ out.earlier) out.last point))
-    (ap (λ (y : Content). y.image) is ∙ is-plain c m past out.later out.earlier out.entry p out.ticket out.image out.stands out.begins l s.honest)
-    (records-below p x.page_lsn out.earlier (omega arith))
-    (rise-front (u ++ newer) older rising)
-    (subst (λ n. every (λ r. nat_lt n r.lsn) (u ++ newer) ≡ true) (sym lsn) above)
-    alike
-recovers-by_lsn act c first synced past log start from end p x s rises firsts alike (inr (none, is)) =
+pub recovers-by_lsn : (apply : LogRecord → List ℕ → List ℕ) (c : Parameters) (first : ℕ → Content) (synced past : Trail) (log : List LogRecord) (start from end p : ℕ) (x : Content)
+    → (s : Stopped c (λ q. (first q).image) synced past log start from end p) → Rise (records_from start log p) → every (λ r. nat_lt (first p).page_lsn r.lsn) (records_from start log p) ≡ true
+    → AppliesAlike apply (records_from start log p) (first p).image → TellsNew apply s.gave_back → MayHaveStamped first synced past p x → (redo_by_lsn apply from log p x).image ≡ redo start log p (first p).image
+recovers-by_lsn apply c first synced past log start from end p x s rises firsts alike new (inl (out, is)) = go s.gave_back new
+  where
+    m : ℕ → List ℕ
+    m q = (first q).image
+
+    u : List LogRecord
+    u = s.has.unwritten
+
+    newer : List LogRecord
+    newer = records p (within end out.later)
+
+    older : List LogRecord
+    older = records p out.earlier
+
+    whole : records_from start log p ≡ u ++ (newer ++ older)
+    whole = s.has.stands ∙ ap (λ rs. u ++ rs) (split c m past out.later out.earlier out.entry p out.ticket out.image out.stands out.begins s.legal end s.mark)
+
+    joined : records_from start log p ≡ (u ++ newer) ++ older
+    joined = whole ∙ sym (append_assoc u newer older)
+
+    rising : Rise ((u ++ newer) ++ older)
+    rising = subst Rise joined rises
+
+    all_newer : every (from_lsn from) newer ≡ true
+    all_newer =
+        let point : AtLeast from (least_since (lsn_written p) (λ d. began_saving synced p d.reply) (out.later ++ out.entry ∷ out.earlier)) = subst (λ s. AtLeast from (least_since (lsn_written p) (λ d. began_saving synced p d.reply) s)) out.stands s.point in
+        every-within (from_lsn from) p end out.later (later-from from p (λ d. began_saving synced p d.reply) out.later (out.entry ∷ out.earlier) out.last point)
+
+    lsn : x.page_lsn ≡ written_lsn p out.earlier
+    lsn =
+        let there = legal-there c m past out.later out.earlier out.entry p out.ticket out.image out.stands out.begins s.legal in
+        let begins : begins_of p out.entry.reply ≡ true = rw out.begins (eq-eqb p p refl) in
+        let dirty = begin-unsaved c out.earlier out.entry.client out.entry.call out.entry.reply (event-of c out.earlier out.entry there.here) p begins in
+        ap (λ (y : Content). y.page_lsn) is ∙ lsn-top c p out.earlier there.before (each_before _ (u ++ newer) older rising) dirty
+
+    image : x.image ≡ out.image
+    image = ap (λ (y : Content). y.image) is
+
+    below : every (λ r. nat_le r.lsn x.page_lsn) older ≡ true
+    below = let same = lsn in records-below p x.page_lsn out.earlier (omega arith)
+
+    above : every (λ r. nat_lt x.page_lsn r.lsn) (u ++ newer) ≡ true
+    above =
+        let firsts_newer = (every-append (λ r. nat_lt (first p).page_lsn r.lsn) (u ++ newer) older (subst (λ rs. every (λ r. nat_lt (first p).page_lsn r.lsn) rs ≡ true) joined firsts)).0 in
+        subst (λ n. every (λ r. nat_lt n r.lsn) (u ++ newer) ≡ true) (sym lsn) (newer-above p (first p).page_lsn out.earlier (u ++ newer) rising firsts_newer)
+
+    has : HasRecords m p out.earlier out.image → (redo_by_lsn apply from log p x).image ≡ redo start log p (first p).image
+    has h =
+        stamped-older apply log start from p (first p).image x u newer older whole s.from_start s.has.unwritten_from all_newer (image ∙ h.image_is) below (rise-front (u ++ newer) older rising) above alike
+
+    go : (g : GaveBack c.size m end past p) → TellsNew apply g → (redo_by_lsn apply from log p x).image ≡ redo start log p (first p).image
+    go (from_opening honest) new = has (has-records c m synced past p out s.legal honest)
+    go (since_used_again again) new = elim (has-again c m synced end past p out s.legal again) [
+      | inl h ↦ has h
+      | inr o ↦ stamped-over apply log start from end c.size p m x u again.entry out.later out.earlier (subst (Overwritten c.size m end p again.entry out.later out.earlier) (sym image) o)
+          whole s.from_start s.has.unwritten_from all_newer below (rise-front (u ++ newer) older rising) above alike new
+    ]
+recovers-by_lsn apply c first synced past log start from end p x s rises firsts alike new (inr (none, is)) =
     let u = s.has.unwritten in
     let newer = records p (within end past) in
     let whole : records_from start log p ≡ u ++ (newer ++ []) = s.has.stands ∙ ap (λ rs. u ++ rs) (sym (append-nil newer)) in
     let point : AtLeast from (least_since (lsn_written p) (λ d. began_saving synced p d.reply) (past ++ [])) = subst (λ s. AtLeast from (least_since (lsn_written p) (λ d. began_saving synced p d.reply) s)) (sym (append-nil past)) s.point in
-    stamped-older act log start from p (first p).image x u newer [] whole s.from_start s.has.unwritten_from
+    stamped-older apply log start from p (first p).image x u newer [] whole s.from_start s.has.unwritten_from
     (every-within (from_lsn from) p end past (later-from from p (λ d. began_saving synced p d.reply) past [] none point))
     (ap (λ (y : Content). y.image) is) refl (subst Rise s.has.stands rises)
     (subst (λ (y : Content). every (λ r. nat_lt y.page_lsn r.lsn) (u ++ newer) ≡ true) (sym is) (subst (λ rs. every (λ r. nat_lt (first p).page_lsn r.lsn) rs ≡ true) s.has.stands firsts))
@@ -272,8 +356,8 @@ every-less m n (r ∷ rs) le h =
     and_from _ _ (le-leb r.lsn n (omega arith)) (every-less m n rs le a.1)
 
 record NewerOf (rs : List LogRecord) (x : Content) : Type 0 where
-  image : (act_all_newer patch rs x).image ≡ put (filter (from_lsn (x.page_lsn + 1)) rs) x.image
-  below : (n : ℕ) → x.page_lsn < n → every (λ o. nat_lt o.lsn n) rs ≡ true → (act_all_newer patch rs x).page_lsn < n
+  image : (apply_all_newer patch rs x).image ≡ put (filter (from_lsn (x.page_lsn + 1)) rs) x.image
+  below : (n : ℕ) → x.page_lsn < n → every (λ o. nat_lt o.lsn n) rs ≡ true → (apply_all_newer patch rs x).page_lsn < n
 
 newer-of : (rs : List LogRecord) (x : Content) → Rise rs → NewerOf rs x
 newer-of [] x rise = record { image = refl; below = λ n lt e. lt }
@@ -286,9 +370,9 @@ newer-of (r ∷ rs) x rise = go (nat_lt x.page_lsn r.lsn) refl (newer-of rs x ri
     go true i older =
         let above = ltb-true x.page_lsn r.lsn i in
         let kept : from_lsn (x.page_lsn + 1) r ≡ true = le-leb (x.page_lsn + 1) r.lsn (omega arith) in
-        let test : nat_lt (act_all_newer patch rs x).page_lsn r.lsn ≡ true = lt-ltb (act_all_newer patch rs x).page_lsn r.lsn (older.below r.lsn above rise.here) in
-        let is : act_newer patch r (act_all_newer patch rs x) ≡ record { image = patched r.offset r.bytes (act_all_newer patch rs x).image; page_lsn = r.lsn } =
-        ap (λ (b : Bool). if b then record { image = patched r.offset r.bytes (act_all_newer patch rs x).image; page_lsn = r.lsn } else act_all_newer patch rs x) test in
+        let test : nat_lt (apply_all_newer patch rs x).page_lsn r.lsn ≡ true = lt-ltb (apply_all_newer patch rs x).page_lsn r.lsn (older.below r.lsn above rise.here) in
+        let is : apply_newer patch r (apply_all_newer patch rs x) ≡ record { image = patched r.offset r.bytes (apply_all_newer patch rs x).image; page_lsn = r.lsn } =
+        ap (λ (b : Bool). if b then record { image = patched r.offset r.bytes (apply_all_newer patch rs x).image; page_lsn = r.lsn } else apply_all_newer patch rs x) test in
         record {
           image = ap (λ (y : Content). y.image) is ∙ ap (patched r.offset r.bytes) older.image
               ∙ ap (λ (b : Bool). put (cond b (r ∷ filter (from_lsn (x.page_lsn + 1)) rs) (filter (from_lsn (x.page_lsn + 1)) rs)) x.image) (sym kept);
@@ -297,7 +381,7 @@ newer-of (r ∷ rs) x rise = go (nat_lt x.page_lsn r.lsn) refl (newer-of rs x ri
     go false i older =
         let le = ltb-false x.page_lsn r.lsn i in
         let all : every (λ o. nat_le o.lsn x.page_lsn) (r ∷ rs) ≡ true = and_from _ _ (le-leb r.lsn x.page_lsn le) (every-less r.lsn x.page_lsn rs le rise.here) in
-        let is : act_all_newer patch (r ∷ rs) x ≡ x = passed-over patch (r ∷ rs) x all in
+        let is : apply_all_newer patch (r ∷ rs) x ≡ x = passed-over patch (r ∷ rs) x all in
         record {
           image = ap (λ (y : Content). y.image) is ∙ ap (λ ys. put ys x.image) (sym (none-older (x.page_lsn + 1) x.page_lsn (r ∷ rs) (omega arith) all));
           below = λ n lt e. subst (λ (y : Content). y.page_lsn < n) (sym is) lt;

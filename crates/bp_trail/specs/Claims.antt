@@ -9,12 +9,13 @@ use Rattle.bp_trail.specs.Passes.{reads_out}
 use Rattle.bp_trail.specs.Places.{resident}
 use Rattle.bp_trail.specs.Images.{held, plain_map}
 use Rattle.bp_trail.specs.Legal.{is_out}
-use Rattle.bp_trail.specs.Device.{due, Honest}
+use Rattle.bp_trail.specs.Device.{due, HonestOf}
 
--- with a device that gives back what was written, a resident page holds the plain map's image
+-- where each read of a page brought what was due, the page holds the plain map's image while it is
+-- resident
 abbrev pub HeldIsPlain : Trail → Type 0
 HeldIsPlain past =
-    (m : ℕ → List ℕ) (p : ℕ) → Honest m past → resident past p ≡ true
+    (m : ℕ → List ℕ) (p : ℕ) → HonestOf m p past → resident past p ≡ true
     → held past p ≡ plain_map m past p
 
 -- what each read that is out is due to give is known
@@ -31,14 +32,14 @@ FindsDue past e =
     (m : ℕ → List ℕ) (t p : ℕ) (image : Option (List ℕ)) → e.call ≡ ReadEnd t p image
     → IsSome (due m past p)
 
--- where the device was honest so far, the content that is answered is the plain map's
+-- where the device was honest of the page so far, the content that is answered is the plain map's
 abbrev pub AnswersPlain : Trail → Entry → Type 0
 AnswersPlain past e =
-    (m : ℕ → List ℕ) (n p : ℕ) (image : List ℕ) → Honest m past → e.call ≡ Read n p
+    (m : ℕ → List ℕ) (n p : ℕ) (image : List ℕ) → HonestOf m p past → e.call ≡ Read n p
     → e.reply ≡ Content image → image ≡ plain_map m past p
 
 -- and so is each image that goes out
 abbrev pub SendsPlain : Trail → Entry → Type 0
 SendsPlain past e =
-    (m : ℕ → List ℕ) (t p : ℕ) (image : List ℕ) → Honest m past → e.reply ≡ WriteFirst t p image
+    (m : ℕ → List ℕ) (t p : ℕ) (image : List ℕ) → HonestOf m p past → e.reply ≡ WriteFirst t p image
     → image ≡ plain_map m past p

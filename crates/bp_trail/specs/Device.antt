@@ -33,3 +33,7 @@ BringsDue m past e =
 
 abbrev pub Honest : (ℕ → List ℕ) → Trail → Type 0
 Honest m past = EachEntry (BringsDue m) past
+
+-- the same of the reads of p alone
+abbrev pub HonestOf : (ℕ → List ℕ) → ℕ → Trail → Type 0
+HonestOf m p past = EachEntry (λ before e. page_of e.call ≡ p → BringsDue m before e) past

@@ -14,7 +14,7 @@ use Rattle.bp_trail.specs.Parameters.{Parameters}
 use Rattle.bp_trail.specs.Clock.{durable}
 use Rattle.bp_trail.specs.Saved.{began_saving, page_lsn}
 use Rattle.bp_trail.specs.Legal.{Legal}
-use Rattle.bp_trail.specs.Device.{BringsDue}
+use Rattle.bp_trail.specs.Device.{BringsDue, HonestOf}
 use Rattle.bp_trail.specs.Standing.{Content}
 
 -- ---- the log
@@ -55,7 +55,7 @@ AllFit size [] = Unit {0}
 AllFit size (r ∷ older) = (r.offset + length r.bytes ≤ size) × AllFit size older
 
 -- the oldest record has all bytes of a page of this size
-pub record BeginsWhole (size : ℕ) (log : List LogRecord) : Type 0 where
+pub record BeginsWithFullImage (size : ℕ) (log : List LogRecord) : Type 0 where
   pub newer : List LogRecord
   pub oldest : LogRecord
   pub stands : log ≡ newer ++ oldest ∷ []
@@ -77,43 +77,43 @@ abbrev pub redo : ℕ → List LogRecord → ℕ → List ℕ → List ℕ
 redo from log p image = put (records_from from log p) image
 
 -- redo from an LSN on makes of this image what the log from `start` on makes of the first one
-pub record Mends (log : List LogRecord) (start from p : ℕ) (first image : List ℕ) : Type 0 where
+pub record Recovers (log : List LogRecord) (start from p : ℕ) (first image : List ℕ) : Type 0 where
   pub from_start : start ≤ from
   pub same : redo from log p image ≡ redo start log p first
 
 -- Redo by page LSN: a record is acted on only if its LSN is above that of the page, which it then
--- is. To act is to `patch`, or to do in another way what the write did.
-abbrev pub act_newer : (LogRecord → List ℕ → List ℕ) → LogRecord → Content → Content
-act_newer act r x =
-    if nat_lt x.page_lsn r.lsn then record { image = act r x.image; page_lsn = r.lsn } else x
+-- is. To apply is to `patch`, or to do in another way what the write did.
+abbrev pub apply_newer : (LogRecord → List ℕ → List ℕ) → LogRecord → Content → Content
+apply_newer apply r x =
+    if nat_lt x.page_lsn r.lsn then record { image = apply r x.image; page_lsn = r.lsn } else x
 
-abbrev pub act_all_newer : (LogRecord → List ℕ → List ℕ) → List LogRecord → Content → Content
-act_all_newer act [] x = x
-act_all_newer act (r ∷ older) x = act_newer act r (act_all_newer act older x)
+abbrev pub apply_all_newer : (LogRecord → List ℕ → List ℕ) → List LogRecord → Content → Content
+apply_all_newer apply [] x = x
+apply_all_newer apply (r ∷ older) x = apply_newer apply r (apply_all_newer apply older x)
 
 abbrev pub redo_by_lsn : (LogRecord → List ℕ → List ℕ) → ℕ → List LogRecord → ℕ → Content
     → Content
-redo_by_lsn act from log p x = act_all_newer act (records_from from log p) x
+redo_by_lsn apply from log p x = apply_all_newer apply (records_from from log p) x
 
 -- on the page as its write found it, each record does what its write did
-abbrev pub ActsAlike : (LogRecord → List ℕ → List ℕ) → List LogRecord → List ℕ → Type 0
-ActsAlike act log image = EachEntry (λ older r. act r (put older image) ≡ patch r (put older image)) log
+abbrev pub AppliesAlike : (LogRecord → List ℕ → List ℕ) → List LogRecord → List ℕ → Type 0
+AppliesAlike apply log image = EachEntry (λ older r. apply r (put older image) ≡ patch r (put older image)) log
 
 -- each record acted on, the oldest first, in whatever image
-abbrev pub act_all : (LogRecord → List ℕ → List ℕ) → List LogRecord → List ℕ → List ℕ
-act_all act [] image = image
-act_all act (r ∷ older) image = act r (act_all act older image)
+abbrev pub apply_all : (LogRecord → List ℕ → List ℕ) → List LogRecord → List ℕ → List ℕ
+apply_all apply [] image = image
+apply_all apply (r ∷ older) image = apply r (apply_all apply older image)
 
--- the oldest record of p from an LSN on makes the page anew: whatever the page has, to act on it
+-- the oldest record of p from an LSN on makes the page anew: whatever the page has, to apply on it
 -- gives what the page had after its write
-pub record MakesAnew (act : LogRecord → List ℕ → List ℕ) (log : List LogRecord) (start from p : ℕ)
+pub record MakesAnew (apply : LogRecord → List ℕ → List ℕ) (log : List LogRecord) (start from p : ℕ)
     (first : List ℕ) : Type 0 where
   pub newer : List LogRecord
   pub oldest : LogRecord
   pub rest : List LogRecord
   pub all : records_from start log p ≡ newer ++ oldest ∷ rest
   pub needed : records_from from log p ≡ newer ++ oldest ∷ []
-  pub anew : (image : List ℕ) → act oldest image ≡ put (oldest ∷ rest) first
+  pub anew : (image : List ℕ) → apply oldest image ≡ put (oldest ∷ rest) first
 
 -- ---- the device
 
@@ -149,9 +149,33 @@ MayHaveStamped first synced past p x =
 
 -- ---- what an engine keeps
 
--- each good read of p brought what was due
-abbrev pub HonestOf : (ℕ → List ℕ) → ℕ → Trail → Type 0
-HonestOf first p past = EachEntry (λ before e. page_of e.call ≡ p → BringsDue first before e) past
+-- Page p is used again: a write gives all of its bytes, whatever it had, and is within the log. Each
+-- good read of p since then brought what was due. Before that the reads may have brought anything.
+pub record UsedAgain (size : ℕ) (first : ℕ → List ℕ) (end : ℕ) (past : Trail) (p : ℕ) : Type 0 where
+  pub later : Trail
+  pub entry : Entry
+  pub earlier : Trail
+  pub stands : past ≡ later ++ entry ∷ earlier
+  pub writes_it : IsTrue (writes p entry)
+  pub offset : (record_of entry.call).offset ≡ 0
+  pub bytes : length (record_of entry.call).bytes ≡ size
+  pub opening : length (first p) ≡ size
+  pub logged : lsn_of entry.call ≤ end
+  pub honest : EachEntry (λ between e. page_of e.call ≡ p
+      → BringsDue first (between ++ entry ∷ earlier) e) later
+
+-- the device gave back of p what was written, from the opening on or since p was used again
+pub data GaveBack (size : ℕ) (first : ℕ → List ℕ) (end : ℕ) (past : Trail) (p : ℕ) : Type 0 where
+  from_opening : HonestOf first p past → GaveBack size first end past p
+  since_used_again : UsedAgain size first end past p → GaveBack size first end past p
+
+-- the first record of a page that is used again says that it is new: to apply it gives the page all
+-- of its bytes, whatever it has
+abbrev pub TellsNew : {size : ℕ} {first : ℕ → List ℕ} {end : ℕ} {past : Trail} {p : ℕ}
+    → (LogRecord → List ℕ → List ℕ) → GaveBack size first end past p → Type 0
+TellsNew apply (GaveBack.from_opening honest) = Unit {0}
+TellsNew apply (GaveBack.since_used_again u) =
+    (image : List ℕ) → apply (record_of u.entry.call) image ≡ (record_of u.entry.call).bytes
 
 -- the least LSN of the writes of p after which no write-out of it began that was safe
 abbrev pub first_unsafe : Trail → Trail → ℕ → Option ℕ
@@ -175,7 +199,7 @@ pub record LogHas (log : List LogRecord) (start from end : ℕ) (past : Trail) (
 pub record Stopped (c : Parameters) (first : ℕ → List ℕ) (synced past : Trail)
     (log : List LogRecord) (start from end p : ℕ) : Type 0 where
   pub legal : Legal c past
-  pub honest : HonestOf first p past
+  pub gave_back : GaveBack c.size first end past p
   pub mark : durable past ≤ end
   pub has : LogHas log start from end past p
   pub from_start : start ≤ from

@@ -22,7 +22,7 @@ ghost use Rattle.bp_trail.specs.References.{references, forgets, last, hist};
 ghost use Rattle.bp_trail.specs.Victim.{backward_distance, candidate, victim};
 ghost use Rattle.bp_trail.specs.PageMap.{reply_of};
 ghost use Rattle.bp_trail.specs.Legal.{is_out, Legal};
-ghost use Rattle.bp_trail.specs.Device.{due};
+ghost use Rattle.bp_trail.specs.Device.{due, Honest, HonestOf};
 ghost use Rattle.bp_trail.specs.Standing.{Standing, standing};
 ghost use Rattle.bp_trail.specs.Cuts.{Precedes, AfterEach, Piece, Chained, joined, ReadsSince};
 ghost use Rattle.bp_trail.specs.Pieces.{Manner};
@@ -278,13 +278,15 @@ pub fn read_ends_find_what_is_due()
     ensures out { (c : Parameters) (past : Trail) → Legal c past → ReadsAreKnown past }
 {}
 
-/// Over a device that gives back what was written, whatever was in it at the opening: after every legal trail a
-/// resident page holds the image of the plain map, and each content that was answered and each image that went out is
-/// the plain map's at that place.
+/// If the device gave back what was written to a page, whatever was in it at the opening: after every legal trail the
+/// page, if it is resident, holds the image of the plain map, and each content of it that was answered and each image
+/// of it that went out is the plain map's at that place. What the device gave of other pages is no matter. A device that
+/// gave back what was written did so of each page.
 pub fn pages_hold_the_plain_map()
     ensures held { (c : Parameters) (past : Trail) → Legal c past → HeldIsPlain past }
     ensures content { (c : Parameters) (past : Trail) → Legal c past → EachEntry AnswersPlain past }
     ensures sent { (c : Parameters) (past : Trail) → Legal c past → EachEntry SendsPlain past }
+    ensures each_page { (m : ℕ → List ℕ) (p : ℕ) (past : Trail) → Honest m past → HonestOf m p past }
 {}
 
 /// At each eviction of a legal trail the page is the victim, a candidate that comes before every other and that none

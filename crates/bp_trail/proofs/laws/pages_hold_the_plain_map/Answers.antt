@@ -1,4 +1,4 @@
-use Rattle.bp_trail.proofs.Content.{held-plain}
+use Rattle.bp_trail.proofs.Content.{held-plain, honest-of}
 use Rattle.bp_trail.proofs.LegalLaws.{each-answers, each-sends}
 use Rattle.bp_trail.proofs.laws.pages_hold_the_plain_map.Goals as goal
 
@@ -10,3 +10,6 @@ returns-clause-content c = each-answers
 
 pub returns-clause-sent : goal.returns-clause-sent
 returns-clause-sent c = each-sends
+
+pub returns-clause-each_page : goal.returns-clause-each_page
+returns-clause-each_page c = honest-of

@@ -1,5 +1,5 @@
 use Rattle.bp_trail.proofs.Crashes.{redo-cut_off, stopped-again}
-use Rattle.bp_trail.proofs.recovery.redo_may_be_cut_off.Goals as goal
+use Rattle.bp_trail.proofs.recovery.redo_may_be_interrupted.Goals as goal
 
 pub returns-clause-begun_again : goal.returns-clause-begun_again
 returns-clause-begun_again c = redo-cut_off

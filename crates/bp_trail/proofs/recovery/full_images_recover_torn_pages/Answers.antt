@@ -1,5 +1,5 @@
 use Rattle.bp_trail.proofs.Crashes.{redo-whole, recovers-torn, redo-alone}
-use Rattle.bp_trail.proofs.recovery.full_images_mend_torn_pages.Goals as goal
+use Rattle.bp_trail.proofs.recovery.full_images_recover_torn_pages.Goals as goal
 
 pub returns-clause-any : goal.returns-clause-any
 returns-clause-any c = redo-whole

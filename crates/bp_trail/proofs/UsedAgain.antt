@@ -1,0 +1,124 @@
+-- A page that is used again: from the write on that has all of its bytes it holds the plain map's image, whatever was read before.
+use Rattle.std.proofs.Common.{◌≡◌, ◌⊎◌, inl, inr, refl, sym, ap, subst, ◌∙◌, ℕ, Bool, true, false, ◌==◌, if◌then◌else◌, List, [], ◌∷◌, ◌++◌, length, append_assoc, Some, None}
+use Rattle.std.specs.List.{cons_option}
+use Rattle.std.proofs.lemmas.Bool.{or_parts}
+use Rattle.bp_page.specs.Patched.{patched}
+use Rattle.bp_trail.specs.declared.entries.Entry.{Entry}
+use Rattle.bp_trail.specs.declared.entries.Call.{Call}
+use Rattle.bp_trail.specs.declared.entries.Reply.{Reply}
+use Rattle.bp_trail.specs.declared.entries.Reply.TheVariants.{WriteFirst}
+use Rattle.bp_trail.specs.Parameters.{Parameters}
+use Rattle.bp_trail.specs.Lists.{EachEntry}
+use Rattle.bp_trail.specs.Event.{page_of, writes}
+use Rattle.bp_trail.specs.Trail.{Trail}
+use Rattle.bp_trail.specs.Places.{resident}
+use Rattle.bp_trail.specs.Images.{held, plain_map}
+use Rattle.bp_trail.specs.Legal.{IsLawful, Legal}
+use Rattle.bp_trail.specs.Device.{BringsDue}
+use Rattle.bp_trail.specs.Recovery.{record_of, records, AllFit, UsedAgain}
+use Rattle.bp_trail.proofs.Victim.{victim-is, candidate-resident}
+use Rattle.bp_trail.proofs.Events.{Event, event-of}
+use Rattle.bp_trail.proofs.Events.Event.{fix_write, flush_write, page_written}
+use Rattle.bp_trail.proofs.Ranges.{sized}
+use Rattle.bp_trail.proofs.Content.{FaithfulOf, faithful-with, sends-with, written_since_sent}
+use Rattle.bp_trail.proofs.Logged.{each_before}
+use Rattle.bp_trail.proofs.Bytes.{length-put, patched-whole}
+use Rattle.bp_trail.proofs.Recovered.{plain-put, placed}
+
+abbrev entry : ℕ → Call → Reply → Entry
+entry who call reply = record { client = who; call = call; reply = reply }
+
+-- ---- sizes
+
+-- each write lies within its page, whatever was read
+pub records-sized : (c : Parameters) (p : ℕ) (past : Trail) → Legal c past → AllFit c.size (records p past)
+records-sized c p [] l = tt
+records-sized c p (e ∷ past) l = go (records-sized c p past l.before) (writes p e) refl
+  where
+    go : AllFit c.size (records p past) → (b : Bool) → writes p e ≡ b → AllFit c.size (cons_option (if b then Some (record_of e.call) else None) (records p past))
+    go older false w = older
+    go older true w = ((placed c past e.client p e.call l.before l.here.allowed w).inside, older)
+
+pub plain-sized : (c : Parameters) (m : ℕ → List ℕ) (p : ℕ) (past : Trail) → Legal c past → length (m p) ≡ c.size → length (plain_map m past p) ≡ c.size
+plain-sized c m p past l e = ap length (plain-put m p past) ∙ length-put c.size (records p past) (m p) (records-sized c p past l) e
+
+sent-with-sized : (c : Parameters) (past : Trail) (who : ℕ) (call : Call) (reply : Reply) → Legal c past → Event c past who call reply → (t p : ℕ) (image : List ℕ) → reply ≡ WriteFirst t p image → length image ≡ c.size
+sent-with-sized c past who _ _ l (fix_write q v x w g) t p image i =
+    let went : held past v ≡ image = cc in
+    ap length (sym went) ∙ sized c past l v (candidate-resident c past v (victim-is c past v w).eligible)
+sent-with-sized c past who _ _ l (flush_write v r w g) t p image i =
+    let went : held past v ≡ image = cc in
+    ap length (sym went) ∙ sized c past l v r
+sent-with-sized c past who _ _ l _ t p image i = cc
+
+-- what goes out has the size of a page
+pub sent-sized : (c : Parameters) (past : Trail) (e : Entry) (t p : ℕ) (image : List ℕ) → Legal c (e ∷ past) → e.reply ≡ WriteFirst t p image → length image ≡ c.size
+sent-sized c past e t p image l i = sent-with-sized c past e.client e.call e.reply l.before (event-of c past e l.here) t p image i
+
+-- ---- what the page holds
+
+first-faithful : (c : Parameters) (m : ℕ → List ℕ) (q : ℕ) (past : Trail) (who : ℕ) (call : Call) (reply : Reply) → Legal c past → Event c past who call reply
+    → writes q (entry who call reply) ≡ true → (record_of call).offset ≡ 0 → length (record_of call).bytes ≡ c.size → length (m q) ≡ c.size → FaithfulOf m q (entry who call reply ∷ past)
+first-faithful c m q past who _ _ l (page_written n p offset bytes lsn o) w z long size = record {
+  holds = λ r. at (p == q) w r;
+  sends = λ k. let a = or_parts (p == q) (written_since_sent past q) k in cc;
+}
+  where
+    at : (b : Bool) → b ≡ true → resident past q ≡ true → (if b then patched offset bytes (held past q) else held past q) ≡ (if b then patched offset bytes (plain_map m past q) else plain_map m past q)
+    at true i r =
+        patched-whole offset bytes (held past q) z (long ∙ sym (sized c past l q r))
+        ∙ sym (patched-whole offset bytes (plain_map m past q) z (long ∙ sym (plain-sized c m q past l size)))
+    at false i r = cc
+first-faithful c m q past who _ _ l _ w z long size = cc
+
+-- over a device that gave back what was written since
+again-faithful : (c : Parameters) (m : ℕ → List ℕ) (q : ℕ) (later : Trail) (e : Entry) (earlier : Trail) → Legal c (later ++ e ∷ earlier)
+    → writes q e ≡ true → (record_of e.call).offset ≡ 0 → length (record_of e.call).bytes ≡ c.size → length (m q) ≡ c.size
+    → EachEntry (λ between d. page_of d.call ≡ q → BringsDue m (between ++ e ∷ earlier) d) later → FaithfulOf m q (later ++ e ∷ earlier)
+again-faithful c m q [] e earlier l w z long size h = first-faithful c m q earlier e.client e.call e.reply l.before (event-of c earlier e l.here) w z long size
+again-faithful c m q (d ∷ later) e earlier l w z long size h =
+    faithful-with c m q (later ++ e ∷ earlier) d.client l.before (again-faithful c m q later e earlier l.before w z long size h.before) d.call d.reply (event-of c (later ++ e ∷ earlier) d l.here) h.here
+
+-- while it is resident it holds the plain map's image
+pub again-holds : (c : Parameters) (m : ℕ → List ℕ) (past : Trail) (end p : ℕ) → Legal c past → UsedAgain c.size m end past p → resident past p ≡ true → held past p ≡ plain_map m past p
+again-holds c m past end p l u r =
+    let faithful = again-faithful c m p u.later u.entry u.earlier (subst (Legal c) u.stands l) u.writes_it u.offset u.bytes u.opening u.honest in
+    subst (λ s. held s p ≡ plain_map m s p) (sym u.stands) (faithful.holds (subst (λ s. resident s p ≡ true) u.stands r))
+
+-- what goes out since is the plain map's
+pub again-sends : (c : Parameters) (m : ℕ → List ℕ) (end q : ℕ) (past : Trail) (u : UsedAgain c.size m end past q) (newer between : Trail) (e : Entry) (t : ℕ) (image : List ℕ) → Legal c past
+    → u.later ≡ newer ++ e ∷ between → e.reply ≡ WriteFirst t q image → image ≡ plain_map m (between ++ u.entry ∷ u.earlier) q
+again-sends c m end q past u newer between e t image l cut i =
+    let since = between ++ u.entry ∷ u.earlier in
+    let stands : past ≡ newer ++ e ∷ since = u.stands ∙ ap (λ s. s ++ u.entry ∷ u.earlier) cut ∙ append_assoc newer (e ∷ between) (u.entry ∷ u.earlier) in
+    let there = each_before (IsLawful c) newer (e ∷ since) (subst (Legal c) stands l) in
+    let honest = (each_before _ newer (e ∷ between) (subst (EachEntry (λ between d. page_of d.call ≡ q → BringsDue m (between ++ u.entry ∷ u.earlier) d)) cut u.honest)).before in
+    let faithful = again-faithful c m q between u.entry u.earlier there.before u.writes_it u.offset u.bytes u.opening honest in
+    sends-with c m q since e.client there.before faithful e.call e.reply (event-of c since e there.here) t image i
+
+-- ---- where it stands
+
+-- of two elements of one list either is the newer one, or they are the same
+pub record NewerOne {X : Type 0} (xs us ys vs : List X) (a b : X) : Type 0 where
+  pub between : List X
+  pub front : us ≡ xs ++ a ∷ between
+  pub rest : ys ≡ between ++ b ∷ vs
+
+pub which-newer : {X : Type 0} (xs us ys vs : List X) (a b : X) → xs ++ a ∷ ys ≡ us ++ b ∷ vs → NewerOne xs us ys vs a b ⊎ ((a ≡ b) ⊎ NewerOne us xs vs ys b a)
+which-newer [] [] ys vs a b h = (let same : a ≡ b = cc in inr (inl same))
+which-newer [] (u ∷ us) ys vs a b h =
+    let same : a ≡ u = cc in
+    let rest : ys ≡ us ++ b ∷ vs = cc in
+    inl (record { between = us; front = ap (λ x. x ∷ us) (sym same); rest = rest })
+which-newer (x ∷ xs) [] ys vs a b h =
+    let same : x ≡ b = cc in
+    let rest : xs ++ a ∷ ys ≡ vs = cc in
+    inr (inr (record { between = xs; front = ap (λ y. y ∷ xs) same; rest = sym rest }))
+which-newer (x ∷ xs) (u ∷ us) ys vs a b h =
+    let same : x ≡ u = cc in
+    let rest : xs ++ a ∷ ys ≡ us ++ b ∷ vs = cc in
+    elim (which-newer xs us ys vs a b rest) [
+      | inl n ↦ inl (record { between = n.between; front = ap (λ y. y ∷ us) (sym same) ∙ ap (λ zs. x ∷ zs) n.front; rest = n.rest })
+      | inr (inl e) ↦ inr (inl e)
+      | inr (inr n) ↦ inr (inr (record { between = n.between; front = ap (λ y. y ∷ xs) same ∙ ap (λ zs. u ∷ zs) n.front; rest = n.rest }))
+    ]
