@@ -280,8 +280,8 @@ pub fn read_ends_find_what_is_due()
 
 /// If the device gave back what was written to a page, whatever was in it at the opening: after every legal trail the
 /// page, if it is resident, holds the image of the plain map, and each content of it that was answered and each image
-/// of it that went out is the plain map's at that place. What the device gave of other pages is no matter. A device that
-/// gave back what was written did so of each page.
+/// of it that went out is the plain map's at that place. What the device gave of other pages is no matter. A device
+/// that gave back what was written did so of each page.
 pub fn pages_hold_the_plain_map()
     ensures held { (c : Parameters) (past : Trail) → Legal c past → HeldIsPlain past }
     ensures content { (c : Parameters) (past : Trail) → Legal c past → EachEntry AnswersPlain past }

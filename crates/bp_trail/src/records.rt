@@ -1,5 +1,5 @@
-//! `LogRecord`: a record of a log that tells a write. `redo_record` and `redo_page` put such records into the image of a
-//! page, as an engine does after a crash. The laws of `recovery` say what the page then is.
+//! `LogRecord`: a record of a log that tells a write. `redo_record` and `redo_page` put such records into the image of
+//! a page, as an engine does after a crash. The laws of `recovery` say what the page then is.
 ghost use Rattle.std.specs.Prelude.{◌≡◌, ◌<◌, ℕ, [], ◌∷◌, IsOk, OnOk, OnErr, IfErr, length, reverse, take};
 ghost use Rattle.bp_page.specs.declared.refusals.Refusal.TheVariants.{OutOfPage};
 ghost use Rattle.bp_trail.specs.Recovery.{AllFit, records_from, redo};
@@ -22,8 +22,8 @@ pub struct LogRecord {
 
 /// Redo of one record: puts its bytes into the image of a page. A record of another page, or with an LSN below `from`,
 /// changes nothing. An engine that reads its log record by record calls this for each one, the oldest first, with its
-/// redo point for `from`; with the LSN after that of the page, if that is greater, this is redo by page LSN. It takes no
-/// memory.
+/// redo point for `from`. With the LSN after that of the page, if that is greater, this is redo by page LSN. It takes
+/// no memory.
 ///
 /// Fails with `OutOfPage` (45) if the bytes do not all lie within the image: then image and record are not of one page
 /// file, or one of them is damaged. The image is as it was.
@@ -51,8 +51,8 @@ pub fn redo_record(
     Ok(())
 }
 
-/// Redo of one page: puts the bytes of its records, from the LSN `from` on, into its image. The log is oldest first, and
-/// may have records of other pages, which are passed over. With a redo point for `from` the image is then what the
+/// Redo of one page: puts the bytes of its records, from the LSN `from` on, into its image. The log is oldest first,
+/// and may have records of other pages, which are passed over. With a redo point for `from` the image is then what the
 /// page had, as far as the log goes. It takes no memory, and goes over the log once.
 ///
 /// Fails with `OutOfPage` (45) at the first record whose bytes do not all lie within the image. Those before it are in

@@ -21,8 +21,8 @@ ghost use Rattle.bp_trail.specs.Recovery.{NeverFall, Rise, AllFit, BeginsWithFul
 /// image that it had at first. That is what the plain map has from the writes within the log, and after these any
 /// records whose write never came to be. So what the log has is there, and no more.
 ///
-/// The LSNs of the page's records may not fall. Redo of the whole log, from 0 on, takes them in any order. The log may be
-/// redone piece by piece, the oldest first.
+/// The LSNs of the page's records may not fall. Redo of the whole log, from 0 on, takes them in any order. The log may
+/// be redone piece by piece, the oldest first.
 pub fn redo_recovers_each_page()
     ensures recovered { (c : Parameters) (first : ℕ → List ℕ) (synced past : Trail)
         (log : List LogRecord) (start from end p : ℕ) (image : List ℕ) →
@@ -72,10 +72,10 @@ pub fn redone_pages_hold_the_plain_map()
         held again p ≡ put newer (put s.has.unwritten (plain_map first (within end past) p)) }
 {}
 
-/// Redo by page LSN recovers each page too: it applies a record only if its LSN is above the page LSN that the device
-/// has with the image, which is the one at the begin of the write-out. The LSNs of the page's records rise, and are
-/// above the page LSN at first. Each record is applied to the page as its write found it, so it may tell in any way
-/// what the write did, as by what it added; of a page that is used again the first one says that it is new. With records
+/// Redo by page LSN recovers each page too. It applies a record only if its LSN is above the page LSN that the device
+/// has with the image: the one at the begin of the write-out. The LSNs of the page's records rise, and are above the
+/// page LSN at first. A record may tell in any way what its write did, as by what it added, since it is applied to the
+/// page as its write found it. The first record of a page that is used again says that the page is new. With records
 /// that tell bytes this is redo from the LSN after that of the page, or from the redo point if that is later.
 pub fn redo_by_page_lsn_recovers_each_page()
     ensures recovered { (apply : LogRecord → List ℕ → List ℕ) (c : Parameters) (first : ℕ → Content)
@@ -91,8 +91,8 @@ pub fn redo_by_page_lsn_recovers_each_page()
 {}
 
 /// A checkpoint gives a redo point: the lesser of the LSN that came next when it began, and of the least LSN of the
-/// writes that had not gone out when the sync of the device began. Redo may begin there after a crash at any later time,
-/// even if the device has no more than what had ended well before that sync. It gives the plain map.
+/// writes that had not gone out when the sync of the device began. Redo may begin there after a crash at any later
+/// time, even if the device has no more than what had ended well before that sync. It gives the plain map.
 pub fn checkpoint_gives_a_redo_point()
     ensures point { (synced late : Trail) (least : Option ℕ) (next p : ℕ) → IsRedoFrom synced least →
         WritesFrom next late → IsRedoPoint (redo_point least next) synced (late ++ synced) p }

@@ -28,11 +28,16 @@ struct Log {
     last: Lsn,
     /// The number of clients that still add.
     adders: u64,
+    /// Whether the pool refused a write whose record the log has. Redo makes that write, so the pool has to end.
+    ended: bool,
 }
 
 impl Log {
     /// Appends a record, and returns its LSN.
     fn append(&mut self, page: PageNo) -> Result<Lsn, Refusal> {
+        if self.ended {
+            return Err(Refusal::WriteFailed);
+        }
         let place = self.last.number().wrapping_mul(8);
         let written = self.file.write_all_at(&page.number().to_le_bytes(), place);
         written.map_err(|_| Refusal::WriteFailed)?;
@@ -66,10 +71,12 @@ impl Adding {
         let (mut log, mut counter) = (self.log.lock(rt), [0; 8]);
         let read = pool.read_into(rt, &mut own.session, &pass, 0, &mut counter);
         let value = u64::from_le_bytes(counter).wrapping_add(1);
-        let written = match read.and_then(|()| log.append(page)) {
+        let appended = read.and_then(|()| log.append(page));
+        let written = match appended {
             Ok(lsn) => pool.write_from(rt, &mut own.session, &pass, 0, &value.to_le_bytes(), lsn),
             Err(refusal) => Err(refusal),
         };
+        log.ended = log.ended || (appended.is_ok() && written.is_err());
         // A pass can't be dropped: one that does not go back is spent as a note.
         let back = pool.unfix_draining(rt, &mut own.session, pass);
         let _ = back.map_err(|(pass, _)| pass.note());
@@ -104,8 +111,8 @@ impl<P: Port> Worker<P, SilentKeeper> for Adding {
         for _ in rt.forever() {
             Parker::new().park_timeout(rt, Duration::from_millis(1));
             let log = self.log.lock(rt);
-            if log.file.sync_data().is_err() {
-                // Records may be lost, even if the next sync passes: the mark stays where it is.
+            if log.ended || log.file.sync_data().is_err() {
+                // Records may be lost, even if the next sync passes, or the pool lacks a write: the mark stays.
                 self.latest = Err(Refusal::WriteFailed);
                 return;
             }
@@ -133,8 +140,13 @@ fn paths(rt: &HostRuntime) -> Result<(String, String), anyhow::Error> {
 /// Opens the log, which is made where it is not there.
 fn open_log(rt: &HostRuntime, path: &str) -> Result<SharedLog, anyhow::Error> {
     let file = fs::File::options().write(true).create(true).open(rt, path)?;
-    let (last, adders) = (Lsn::new(file.metadata()?.len() / 8), 1);
-    Ok(Arc::new(rt.alloc(), Mutex::new(Log { file, last, adders }))?)
+    let log = Log {
+        last: Lsn::new(file.metadata()?.len() / 8),
+        file,
+        adders: 1,
+        ended: false,
+    };
+    Ok(Arc::new(rt.alloc(), Mutex::new(log))?)
 }
 
 /// Opens a port on the page file for each of the two clients.

@@ -14,6 +14,7 @@ pub use Rattle.bp_trail.specs.Legal
 pub use Rattle.bp_trail.specs.Pieces
 pub use Rattle.bp_trail.specs.Script
 pub use Rattle.bp_trail.specs.Ends
+pub use Rattle.bp_trail.specs.Recovery
 -- What the calls of a core answer and leave, which pages are unsaved, and what is counted.
 pub use Rattle.bp_core.specs.CoreView
 pub use Rattle.bp_core.specs.Outcomes

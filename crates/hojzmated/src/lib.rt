@@ -17,6 +17,9 @@ pub use bp_core::{
 pub use bp_keeper::{Keeper, ListKeeper, RecordingKeeper, SilentKeeper};
 pub use bp_trail::{Call, Entry, Flushed, Grant, Reply, Totals, agrees};
 
+// Records of a log, and redo of them after a crash.
+pub use bp_trail::{LogRecord, redo_page, redo_record};
+
 // Ports, and page files.
 pub use bp_ports::{
     FilePort, MemDevice, MemPort, MigrateFault, OpenFault, Port, Progress, Store, Unwatched,
