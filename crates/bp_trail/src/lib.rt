@@ -21,7 +21,7 @@ pub use agreement::agrees;
 pub use ends::{Ended, Flushed, NotFlushed, refusal_of_read, reply_of_read};
 pub use entries::{Call, Entry, Grant, Reply};
 pub use log_bound::is_within_log;
-pub use records::{LogRecord, redo_page};
+pub use records::{LogRecord, redo_page, redo_record};
 pub use sameness::same_entry;
 pub use scripts::{Refused, Row, Step};
 pub use totals::Totals;
