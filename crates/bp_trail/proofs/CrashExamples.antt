@@ -18,7 +18,7 @@ use Rattle.bp_trail.specs.Device.{HonestOf}
 use Rattle.bp_trail.specs.Recovery.GaveBack.{from_opening, since_used_again}
 use Rattle.bp_trail.specs.Pieces.{by}
 use Rattle.bp_trail.specs.Standing.{Content}
-use Rattle.bp_trail.specs.Recovery.{records, records_from, within, NeverFall, Rise, patch, redo, redo_by_lsn, AppliesAlike, apply_all, redo_point, NoneSafe, MayHave, MayHaveStamped, IsRedoPoint, UsedAgain, LogHas, Stopped}
+use Rattle.bp_trail.specs.Recovery.{records, records_from, within, NeverFall, Rise, patch, redo, redo_by_lsn, AppliesAlike, apply_all, redo_point, NoneSafe, MayHave, MayHaveStamped, IsRedoPoint, UsedAgain, ReadBeyond, LogHas, Stopped}
 
 -- one frame, and a file of one page of two bytes
 abbrev c : Parameters
@@ -446,6 +446,13 @@ again-redone = refl
 
 again-held : held used_again 0 ≡ 3 ∷ 8 ∷ []
 again-held = refl
+
+-- where the log ends before that record, the page is as it was before
+again-unlogged : ReadBeyond 1 (whole_write ∷ opened) 0
+again-unlogged = record { later = whole_write ∷ []; read = by 0 (ReadEnd 0 0 (Some (0 ∷ 0 ∷ []))) (Fixed 0); earlier = by 0 (Fix 0) (Load 0 None) ∷ []; stands = refl; reads_it = refl; beyond = refl }
+
+again-before : plain_map old (within 1 (whole_write ∷ opened)) 0 ≡ 7 ∷ 0 ∷ []
+again-before = refl
 
 -- where its first record has not all bytes, redo leaves old ones that no reader saw
 without-whole : Legal c (put_at 1 8 2 ∷ opened) × MayHave old (put_at 1 8 2 ∷ opened) (put_at 1 8 2 ∷ opened) 0 (7 ∷ 0 ∷ []) × IsRedoPoint 2 (put_at 1 8 2 ∷ opened) (put_at 1 8 2 ∷ opened) 0

@@ -38,5 +38,6 @@ pub mod Recovered
 pub mod UsedAgain
 pub mod Redoing
 pub mod Stamped
+pub mod Beyond
 pub mod Crashes
 pub mod CrashExamples

@@ -114,7 +114,7 @@ refilter start from p le (r ∷ log) = go (r.page == p) (nat_le start r.lsn) ref
 abbrev pub AtLeast : ℕ → Option ℕ → Type 0
 AtLeast from o = (least : ℕ) → o ≡ Some least → from ≤ least
 
-least-parts : (from : ℕ) (v least : Option ℕ) → AtLeast from (or_less v least) → AtLeast from v × AtLeast from least
+pub least-parts : (from : ℕ) (v least : Option ℕ) → AtLeast from (or_less v least) → AtLeast from v × AtLeast from least
 least-parts from None least h = (λ n e. cc, h)
 least-parts from (Some n) None h = (h, λ m e. cc)
 least-parts from (Some n) (Some m) h =

@@ -98,11 +98,11 @@ lsn-none p (e ∷ past) h = go (writes p e) refl h (lsn-none p past)
         let older = ih h in
         omega arith
 
-load-away : (c : Parameters) (past : Trail) (who : ℕ) (call : Call) (reply : Reply) → Legal c past → Event c past who call reply → (p : ℕ) → loads p (entry who call reply) ≡ true → resident past p ≡ false
+pub load-away : (c : Parameters) (past : Trail) (who : ℕ) (call : Call) (reply : Reply) → Legal c past → Event c past who call reply → (p : ℕ) → loads p (entry who call reply) ≡ true → resident past p ≡ false
 load-away c past who _ _ l (read_good t q image o) p h = subst (λ x. resident past x ≡ false) (eqb-true q p h) ((places c past l).away q (out-of_page who q t (reads_out past) o))
 load-away c past who _ _ l _ p h = cc
 
-write-no_load : (c : Parameters) (past : Trail) (who : ℕ) (call : Call) (reply : Reply) → Event c past who call reply → (p : ℕ) → writes p (entry who call reply) ≡ true → loads p (entry who call reply) ≡ false
+pub write-no_load : (c : Parameters) (past : Trail) (who : ℕ) (call : Call) (reply : Reply) → Event c past who call reply → (p : ℕ) → writes p (entry who call reply) ≡ true → loads p (entry who call reply) ≡ false
 write-no_load c past who _ _ (page_written n q offset bytes lsn o) p h = refl
 write-no_load c past who _ _ _ p h = cc
 
@@ -270,7 +270,7 @@ stamped-over apply log start from end size p first x unwritten write later earli
     ∙ (all-newer apply (unwritten ++ nl) (w ∷ (nk ++ older)) (first p) y has (rise-front (unwritten ++ nl) (w ∷ nk) rising) (rise-above (unwritten ++ nl) nk w rising) (subst (λ rs. AppliesAlike apply rs (first p)) joined alike)).image_is
     ∙ ap (λ rs. put rs (first p)) (sym joined)
 
-begin-unsaved : (c : Parameters) (past : Trail) (who : ℕ) (call : Call) (reply : Reply) → Event c past who call reply → (p : ℕ) → begins_of p reply ≡ true → unsaved past p ≡ true
+pub begin-unsaved : (c : Parameters) (past : Trail) (who : ℕ) (call : Call) (reply : Reply) → Event c past who call reply → (p : ℕ) → begins_of p reply ≡ true → unsaved past p ≡ true
 begin-unsaved c past who _ _ (fix_write q v m w g) p h = subst (λ x. unsaved past x ≡ true) (eqb-true v p h) g.unsaved_page
 begin-unsaved c past who _ _ (flush_write v r w g) p h = subst (λ x. unsaved past x ≡ true) (eqb-true v p h) g.unsaved_page
 begin-unsaved c past who _ _ _ p h = cc

@@ -1,6 +1,6 @@
 -- What a crash leaves, and what redo makes of it: the records of the log, put into the images that
 -- the device has.
-use Rattle.std.specs.Prelude.{◌≡◌, ◌⊎◌, ℕ, ◌+◌, ◌≤◌, min, nat_lt, nat_le, Bool, ◌&&◌, ◌==◌, if◌then◌else◌, IsTrue, IsFalse, List, [], ◌∷◌, ◌++◌, length, filter, filter_map, Option, Some, None}
+use Rattle.std.specs.Prelude.{◌≡◌, ◌⊎◌, ℕ, ◌+◌, ◌≤◌, min, nat_lt, nat_le, Bool, not, ◌&&◌, ◌||◌, ◌==◌, if◌then◌else◌, IsTrue, IsFalse, List, [], ◌∷◌, ◌++◌, length, filter, filter_map, Option, Some, None}
 use Rattle.bp_page.specs.Patched.{patched}
 use Rattle.bp_trail.specs.declared.entries.Entry.{Entry}
 use Rattle.bp_trail.specs.declared.entries.Call.{Call}
@@ -8,7 +8,7 @@ use Rattle.bp_trail.specs.declared.entries.Call.TheVariants.{Write}
 use Rattle.bp_trail.specs.declared.entries.Reply.TheVariants.{WriteFirst}
 use Rattle.bp_trail.specs.declared.records.LogRecord.{LogRecord}
 use Rattle.bp_trail.specs.Lists.{some, every, least_since, EachEntry}
-use Rattle.bp_trail.specs.Event.{page_of, writes, lsn_of, lsn_written}
+use Rattle.bp_trail.specs.Event.{page_of, loads, writes, lsn_of, lsn_written}
 use Rattle.bp_trail.specs.Trail.{Trail}
 use Rattle.bp_trail.specs.Parameters.{Parameters}
 use Rattle.bp_trail.specs.Clock.{durable}
@@ -168,6 +168,15 @@ pub record UsedAgain (size : ℕ) (first : ℕ → List ℕ) (end : ℕ) (past :
 pub data GaveBack (size : ℕ) (first : ℕ → List ℕ) (end : ℕ) (past : Trail) (p : ℕ) : Type 0 where
   from_opening : HonestOf first p past → GaveBack size first end past p
   since_used_again : UsedAgain size first end past p → GaveBack size first end past p
+
+-- p was read anew, and all of its writes since are beyond the end of the log
+pub record ReadBeyond (end : ℕ) (past : Trail) (p : ℕ) : Type 0 where
+  pub later : Trail
+  pub read : Entry
+  pub earlier : Trail
+  pub stands : past ≡ later ++ read ∷ earlier
+  pub reads_it : IsTrue (loads p read)
+  pub beyond : IsTrue (every (λ e. not (writes p e) || nat_lt end (lsn_of e.call)) later)
 
 -- the first record of a page that is used again says that it is new: to apply it gives the page all
 -- of its bytes, whatever it has

@@ -14,7 +14,7 @@ ghost use Rattle.bp_trail.specs.Images.{held, plain_map};
 ghost use Rattle.bp_trail.specs.Legal.{Legal};
 ghost use Rattle.bp_trail.specs.Device.{HonestOf};
 ghost use Rattle.bp_trail.specs.Standing.{Content};
-ghost use Rattle.bp_trail.specs.Recovery.{NeverFall, Rise, AllFit, BeginsWithFullImage, MayHave, MayHaveStamped, UsedAgain, GaveBack, TellsNew, Stopped, IsRedoPoint, WritesFrom, records, records_from, within, patch, put, redo, redo_by_lsn, AppliesAlike, apply_all, MakesAnew, Recovers, LogHas, redo_point};
+ghost use Rattle.bp_trail.specs.Recovery.{NeverFall, Rise, AllFit, BeginsWithFullImage, MayHave, MayHaveStamped, UsedAgain, GaveBack, ReadBeyond, TellsNew, Stopped, IsRedoPoint, WritesFrom, records, records_from, within, patch, put, redo, redo_by_lsn, AppliesAlike, apply_all, MakesAnew, Recovers, LogHas, redo_point};
 
 /// Wherever a pool is stopped, redo recovers each page. Take whatever image of the page the device then has, and put
 /// the records of the log into it in order, from the redo point on. The page is then what the whole log makes of the
@@ -47,10 +47,19 @@ pub fn redo_recovers_each_page()
 /// these: the pool was told that it has zeros. If its first record then has all of its bytes, and the log reaches that
 /// record, redo recovers the page from whatever image the device has. Only the reads of that page since then have to
 /// bring what was written. While it is resident it holds the plain map's image.
+///
+/// If the log does not reach that record, redo recovers the page as it was before it was used again: of it nothing
+/// went out since.
 pub fn redo_recovers_pages_used_again()
     ensures recovered { (c : Parameters) (first : ℕ → List ℕ) (synced past : Trail)
         (log : List LogRecord) (start from end p : ℕ) (image : List ℕ) → Legal c past →
         UsedAgain c.size first end past p → durable past ≤ end →
+        (h : LogHas log start from end past p) → start ≤ from → IsRedoPoint from synced past p →
+        NeverFall (records_from start log p) → MayHave first synced past p image →
+        redo from log p image ≡ put h.unwritten (plain_map first (within end past) p) }
+    ensures unlogged { (c : Parameters) (first : ℕ → List ℕ) (synced past : Trail)
+        (log : List LogRecord) (start from end p : ℕ) (image : List ℕ) → Legal c past →
+        durable past ≤ end → (r : ReadBeyond end past p) → GaveBack c.size first end r.earlier p →
         (h : LogHas log start from end past p) → start ≤ from → IsRedoPoint from synced past p →
         NeverFall (records_from start log p) → MayHave first synced past p image →
         redo from log p image ≡ put h.unwritten (plain_map first (within end past) p) }
