@@ -1,5 +1,5 @@
 -- Files that are page files, and what a port to one reads and writes.
-use Rattle.std.specs.Prelude.{◌≡◌, ◌≢◌, ◌⊎◌, ℕ, Bool, true, false, ◌+◌, ◌*◌, ◌<◌, ◌≤◌, ◌/◌, ◌%◌, List, length, Result, Ok, Err}
+use Rattle.std.specs.Prelude.{◌≡◌, ◌≢◌, ◌⊎◌, ℕ, Bool, true, false, ◌+◌, ◌*◌, ◌<◌, ◌≤◌, ◌/◌, ◌%◌, List, length, Option, is_some, unwrap_or, Result, Ok, Err}
 use Rattle.std.specs.Result.{is_ok}
 use Rattle.bp_page.specs.Slots.{raw_slot, headed_slot, page_in}
 use Rattle.bp_page.specs.declared.refusals.PortFault.{PortFault}
@@ -63,6 +63,15 @@ FoundIn reads headed page start store (Err Device) after =
     (slot : List ℕ) × reads store start slot false after
 FoundIn reads headed page start store (Err fault) after = ⊥
 
+-- the same with the page LSN that stands with the image, or none where none does
+abbrev pub FoundWithLsn : {S : Type 0} → Transfer S → Bool → ℕ → ℕ → S
+    → Result (Option ℕ × List ℕ) PortFault → S → Type 0
+FoundWithLsn reads headed page start store (Ok found) after =
+    reads store start (slot_of headed page (unwrap_or found.0 0) found.1) true after
+    × (is_some found.0 ≡ headed)
+FoundWithLsn reads headed page start store (Err fault) after =
+    FoundIn reads headed page start store (Err fault) after
+
 -- what a write of a page gives, whose slot begins at this byte: all of the slot is written there,
 -- or the store fails
 abbrev pub WrittenBy : {S : Type 0} → Transfer S → ℕ → S → List ℕ → Result (Unit {0}) PortFault → S
@@ -90,6 +99,15 @@ ReadsStore reads port page found after =
     ReadsPage port page found after
     × (port.device.pages ≤ page → after.store ≡ port.store)
     × (page < port.device.pages → ReadsSlot reads port page found after)
+
+-- the same, and the page LSN is told
+abbrev pub ReadsWithLsn : {S : Type 0} → Transfer S → PortView S → ℕ
+    → Result (Option ℕ × List ℕ) PortFault → PortView S → Type 0
+ReadsWithLsn reads port page found after =
+    ReadsPage port page found after
+    × (port.device.pages ≤ page → after.store ≡ port.store)
+    × (page < port.device.pages →
+    FoundWithLsn reads port.headed page (place_of port page) port.store found after.store)
 
 abbrev pub WritesStore : {S : Type 0} → Transfer S → PortView S → ℕ → List ℕ → ℕ
     → Result (Unit {0}) PortFault → PortView S → Type 0

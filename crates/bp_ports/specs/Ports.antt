@@ -42,8 +42,7 @@ abbrev pub new_port : Geometry → PortView (Unit {0})
 new_port geometry = record { device = geometry; failures = 0; headed = false; store = tt }
 
 -- a read by a port to these pages: a failure is counted, and a page that the device lacks is one
-abbrev pub ReadsPage : {S : Type 0} → PortView S → ℕ → Result (List ℕ) PortFault → PortView S
-    → Type 0
+abbrev pub ReadsPage : {S A : Type 0} → PortView S → ℕ → Result A PortFault → PortView S → Type 0
 ReadsPage port page found after =
     Counts found port.failures after.failures × (port.device.pages ≤ page → IsFailure found)
 

@@ -3,7 +3,7 @@ ghost use Rattle.std.specs.Prelude.{◌≡◌, ◌≢◌, ◌<◌, ◌≤◌, �
 ghost use Rattle.bp_page.specs.Limits.{IsGeometry};
 ghost use Rattle.bp_page.specs.Slots.{slot_size};
 ghost use Rattle.bp_ports.specs.Ports.{PortView, has_headers};
-ghost use Rattle.bp_ports.specs.Files.{FoundIn, IsFileLength, IsOpenFault, ReadsStore, WritesStore, SyncsStore, place_of, room_of};
+ghost use Rattle.bp_ports.specs.Files.{FoundWithLsn, IsFileLength, IsOpenFault, ReadsStore, ReadsWithLsn, WritesStore, SyncsStore, place_of, room_of};
 
 use crate::failures::Failures;
 use crate::places::start_of;
@@ -137,6 +137,29 @@ impl<S: Store> FilePort<S> {
         })
     }
 
+    /// Reads a page, with the page LSN that stands in its slot: the one under which the image went out, from which on
+    /// redo by page LSN begins. `None` in version 1, whose slots have none. Else this is `Port::read`, with its faults:
+    /// `WrongPage` if another page's number stands there, `Memory` without memory for the image, else `Device`, which
+    /// is counted.
+    pub fn read_with_lsn(&mut self, page: PageNo) -> Result<(Option<Lsn>, Image), PortFault>
+        ensures size { IfOk result (λ found. length found.1 ≡ self.old.device.size) }
+        ensures wrong { result ≡ Err PortFault.WrongPage → self.old.headed ≡ true }
+        ensures same { (self.new.device ≡ self.old.device) × (self.new.headed ≡ self.old.headed) }
+        ensures gives { ReadsWithLsn S.reads self.old page result self.new }
+    {
+        let Some(start) = self.start(page) else {
+            return Err(self.count.add());
+        };
+        let size = self.device.size;
+        let read = match self.format {
+            Format::Plain => read_plain(&mut self.store, self.alloc, start, size),
+            Format::Headed => {
+                read_headed(&mut self.store, self.alloc, page, start, &mut self.buffer)
+            }
+        };
+        self.count.count_failure(read)
+    }
+
     /// Returns the byte at which a page's slot begins, or `None` where the file has no such page.
     fn start(&self, page: PageNo) -> Option<u64>
         ensures in_range { IsSome result ↔ (page < self.now.device.pages) }
@@ -146,23 +169,23 @@ impl<S: Store> FilePort<S> {
     }
 }
 
-/// Reads the slot of version 1 that begins at this byte, as the image itself. `Memory` where there is no memory for the
-/// image, and then nothing is read.
+/// Reads the slot of version 1 that begins at this byte, as the image itself, with no page LSN. `Memory` where there is
+/// no memory for the image, and then nothing is read.
 fn read_plain<S: Store>(
     store: &mut S,
     alloc: Global,
     start: u64,
     size: usize,
-) -> Result<Image, PortFault>
-    ensures size { IfOk result (λ image. length image ≡ size) }
+) -> Result<(Option<Lsn>, Image), PortFault>
+    ensures size { IfOk result (λ found. length found.1 ≡ size) }
     ensures never_wrong { result ≢ Err PortFault.WrongPage }
-    ensures found { (page : ℕ) → FoundIn S.reads false page start store.old result store.new }
+    ensures found { (page : ℕ) → FoundWithLsn S.reads false page start store.old result store.new }
 {
     let Ok(mut bytes) = vec![in alloc; 0u8; size] else {
         return Err(PortFault::Memory);
     };
     match store.read_slot(start, &mut bytes) {
-        Ok(()) => Ok(Image::from_vec(bytes)),
+        Ok(()) => Ok((None, Image::from_vec(bytes))),
         Err(_) => Err(PortFault::Device),
     }
 }
@@ -175,15 +198,15 @@ fn read_headed<S: Store>(
     page: PageNo,
     start: u64,
     slot: &mut [u8],
-) -> Result<Image, PortFault>
+) -> Result<(Option<Lsn>, Image), PortFault>
     requires header { 16 ≤ length slot.old }
-    ensures size { IfOk result (λ image. length slot.old ≡ 16 + length image) }
-    ensures found { FoundIn S.reads true page start store.old result store.new }
+    ensures size { IfOk result (λ found. length slot.old ≡ 16 + length found.1) }
+    ensures found { FoundWithLsn S.reads true page start store.old result store.new }
 {
     match store.read_slot(start, slot) {
         Ok(()) => {
-            let (_, image) = unslot2(alloc, page, slot)?;
-            Ok(image)
+            let (lsn, image) = unslot2(alloc, page, slot)?;
+            Ok((Some(lsn), image))
         }
         Err(_) => Err(PortFault::Device),
     }
@@ -211,17 +234,10 @@ impl<S: Store> Port for FilePort<S> {
     }
 
     fn read<R: Wait>(&mut self, _rt: &R, page: PageNo) -> Result<Image, PortFault> {
-        let Some(start) = self.start(page) else {
-            return Err(self.count.add());
-        };
-        let size = self.device.size;
-        let read = match self.format {
-            Format::Plain => read_plain(&mut self.store, self.alloc, start, size),
-            Format::Headed => {
-                read_headed(&mut self.store, self.alloc, page, start, &mut self.buffer)
-            }
-        };
-        self.count.count_failure(read)
+        match self.read_with_lsn(page) {
+            Ok((_, image)) => Ok(image),
+            Err(fault) => Err(fault),
+        }
     }
 
     // A slot of version 1 is the image's own bytes, and one of version 2 is made in the buffer, so a write takes no

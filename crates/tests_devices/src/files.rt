@@ -201,6 +201,36 @@ fn a_write_mends_a_slot_of_another_page(rt: HostRuntime) {
     fs::remove_file(&rt, path.as_path()).expect(&rt, "the file is removed");
 }
 
+/// Asserts that a page of a file of this version has the bytes of `NINE`, and which page LSN stands with them.
+fn expect_lsn<R: Files<File = File> + Abort + AllocGlobal>(
+    rt: &R,
+    name: &str,
+    format: Format,
+    page: u64,
+    lsn: Option<Lsn>,
+) {
+    let opened = FilePort::open(rt, rt.alloc(), name, 16, format);
+    let mut port = opened.expect(rt, "the page file");
+    let (found, image) = port.read_with_lsn(PageNo::new(page)).expect(rt, "the page");
+    assert_eq!(rt; found, lsn);
+    assert_eq!(rt; image.bytes(), NINE.as_slice());
+}
+
+// A write leaves the page LSN in a slot of version 2. The same bytes, as pages of version 1, have none.
+#[test]
+fn page_lsns_are_read_back(rt: HostRuntime) {
+    let path = scratch(&rt, process::id(rt.process()), "lsns");
+    let name = path.as_path().as_str();
+    fs::write(&rt, name, &four_slots()).expect(&rt, "the file");
+    let opened = FilePort::open(&rt, rt.alloc(), name, 16, Format::Headed);
+    let mut port = opened.expect(&rt, "the page file");
+    let written = port.write(&rt, PageNo::new(2), &image(&rt, &NINE), Lsn::new(77));
+    assert_eq!(rt; written, Ok(()));
+    expect_lsn(&rt, name, Format::Headed, 2, Some(Lsn::new(77)));
+    expect_lsn(&rt, name, Format::Plain, 5, None);
+    fs::remove_file(&rt, path.as_path()).expect(&rt, "the file is removed");
+}
+
 type FileOwner = OwnedPool<RecordingKeeper, FilePort>;
 
 /// Makes a pool of two frames over a new file of four slots, of which the slot of page 1 has the number of page 3.
