@@ -13,7 +13,7 @@ use Rattle.bp_trail.specs.Claims.{AnswersPlain}
 
 -- each reply is what the page map answers there; each page that leaves has no pins and is not
 -- unsaved, and is the eligible page that comes first, so that none is farther; no image goes out
--- beyond the durable log; and over an honest device each content is the plain map's
+-- beyond the durable log; and each content is the plain map's, if the device was honest of its page
 pub record KeepsRules (c : Parameters) (trail : List Entry) : Type 0 where
   pub replies : EachEntry (λ before e. MayReply c before e.call e.reply) (reverse trail)
   pub evictions : EachEntry (EvictsSafely c) (reverse trail)
